@@ -1,0 +1,30 @@
+-- The codes with which a wait ends, and the timeout that never comes (Win32 reference, the page of WaitForMultipleObjects).
+use Rattle.std.specs.Prelude.{ℕ, ◌+◌, Bool, ◌&&◌, ◌||◌, nat_lt, nat_le, ◌==◌}
+
+-- WAIT_OBJECT_0 and the index of the object
+abbrev pub object_code : ℕ → ℕ
+object_code index = index
+
+-- WAIT_ABANDONED_0 and the index of the mutex whose owner ended
+abbrev pub abandoned_code : ℕ → ℕ
+abandoned_code index = 0x80 + index
+
+-- WAIT_IO_COMPLETION
+abbrev pub io_completion_code : ℕ
+io_completion_code = 0xC0
+
+-- WAIT_TIMEOUT
+abbrev pub timeout_code : ℕ
+timeout_code = 0x102
+
+-- a sleep whose interval has passed ends with 0
+abbrev pub slept_code : ℕ
+slept_code = 0
+
+-- the codes that there are: an index below 64, 0x80 and such an index, WAIT_IO_COMPLETION, WAIT_TIMEOUT
+abbrev pub is_status_code : ℕ → Bool
+is_status_code code = nat_lt code 64 || (nat_le 128 code && nat_lt code 192) || code == 192 || code == 258
+
+-- INFINITE, the timeout without a deadline
+abbrev pub infinite : ℕ
+infinite = 0xFFFFFFFF

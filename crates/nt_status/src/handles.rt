@@ -1,0 +1,62 @@
+ghost use Rattle.std.specs.Prelude.{◌≡◌, ◌++◌, ◌∷◌, [], List, ℕ, IfOk, OnOk, OnErr, length};
+
+use crate::ids::Handle;
+use smallvec::SmallVec;
+use std::alloc::{AllocError, Global};
+use std::marker::Model;
+
+/// The handles that a wait names, in order. Up to eight take no memory.
+#[derive(Drop)]
+pub struct Handles {
+    items: SmallVec<Handle, 8>,
+}
+
+impl Model for Handles {
+    ghost use Rattle.std.specs.Prelude.{List, ℕ};
+
+    ghost Value = { List ℕ };
+
+    ghost view = { λ h. h.items.items };
+}
+
+impl Handles {
+    /// No handle.
+    pub fn new(alloc: Global) -> Self
+        ensures { result ≡ [] }
+    {
+        Handles {
+            items: SmallVec::new(alloc),
+        }
+    }
+
+    /// These handles, in this order.
+    pub fn from_slice(alloc: Global, handles: &[Handle]) -> Result<Self, AllocError>
+        ensures { IfOk result (λ these. these ≡ handles.now) }
+    {
+        Ok(Handles {
+            items: SmallVec::from_slice(alloc, handles)?,
+        })
+    }
+
+    /// Names one more handle, last.
+    pub fn push(&mut self, handle: Handle) -> Result<(), AllocError>
+        ensures ok { OnOk result (self.new ≡ self.old ++ handle ∷ []) }
+        ensures err { OnErr result (self.new ≡ self.old) }
+    {
+        self.items.push(handle)?;
+        Ok(())
+    }
+
+    /// The same handles in memory of their own.
+    pub fn copy(&self) -> Result<Self, AllocError>
+        ensures { IfOk result (λ copied. copied ≡ self.now) }
+    {
+        Handles::from_slice(*self.items.allocator(), self.items.as_slice())
+    }
+
+    pub fn as_slice(&self) -> &[Handle]
+        ensures { result.now ≡ self.now }
+    {
+        self.items.as_slice()
+    }
+}
