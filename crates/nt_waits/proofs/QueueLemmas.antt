@@ -1,0 +1,224 @@
+-- The queue of one handle after a block is added or taken out.
+use Rattle.std.proofs.Common.{◌≡◌, ◌≢◌, ◌⊎◌, ◌+◌, ◌-◌, ◌≤◌, ℕ, List, [], ◌∷◌, ◌++◌, length, Option, Some, None, true, false, cond, eqb, refl, sym, ap, ◌∙◌, inl, inr, arith, length-append}
+use Rattle.std.proofs.lemmas.Bool.{cases_eq, false≢true}
+use Rattle.std.proofs.lemmas.Option.{none-some, some_pair_parts}
+use Rattle.std.specs.Prelude.{IsSome}
+use Rattle.slab.specs.Slab.{Slab, get, ContainsKey, Updates}
+use Rattle.nt_waits.specs.declared.block.Block.{Block}
+use Rattle.nt_waits.specs.declared.block.Ends.{Ends}
+use Rattle.nt_waits.specs.Link.{Link, HasNumber, IsDistinct, without}
+use Rattle.nt_waits.specs.Chain.{IsChain}
+use Rattle.nt_waits.specs.Queue.{next_of, previous_of, owner_of, thread_of, next_at, previous_at, owner_at, links_from, links, IsQueue}
+use Rattle.nt_waits.proofs.ChainLemmas.{chain_owner, chain_previous, chain_next, chain_last_in, chain_kept, chain_unlinked, chain_linked, same_test, other_test, other_has}
+
+-- what is walked from the front is the chain
+links_from-chain : (next previous : Option ℕ → Option ℕ) (owner : ℕ → Option (ℕ × ℕ)) (thread : ℕ → ℕ) (handle : ℕ) → ((k t : ℕ) → owner k ≡ Some (t, handle) → thread k ≡ t) → (at : Option ℕ) (ls : List Link) → IsChain next previous owner handle at ls → links_from next thread (length ls) at ≡ ls
+links_from-chain next previous owner thread handle owned at [] chain = refl
+links_from-chain next previous owner thread handle owned at (link ∷ ls) chain =
+    let rest = links_from-chain next previous owner thread handle owned (Some link.number) ls chain.3 in
+    let whose = owned link.number link.thread chain.2 in
+    rw (chain.0, rest, whose)
+
+pub owner_of-thread : (block : Option Block) (t handle : ℕ) → owner_of block ≡ Some (t, handle) → thread_of block ≡ t
+owner_of-thread None t handle e = absurd (cc)
+owner_of-thread (Some block) t handle e = (some_pair_parts block.thread t block.handle handle e).0
+
+length-without : (number : ℕ) (ls : List Link) → HasNumber ls number → length (without number ls) + 1 ≡ length ls
+length-without number [] has = absurd has
+length-without number (link ∷ ls) has = elim (cases_eq link.number number) [
+  | inl same ↦ rw (same_test link.number number same) (omega arith)
+  | inr differs ↦ rw (other_test link.number number differs) (omega (arith, length-without number ls (other_has link ls number differs has)))
+]
+
+pub HasNumber-without : (number : ℕ) (ls : List Link) (k : ℕ) → HasNumber (without number ls) k → HasNumber ls k
+HasNumber-without number [] k = λ has. has
+HasNumber-without number (link ∷ ls) k = elim (eqb link.number number) as (λ b. HasNumber (cond b ls (link ∷ without number ls)) k → HasNumber (link ∷ ls) k) [
+  | true ↦ λ has. inr has
+  | false ↦ λ has. elim has [ inl here ↦ inl here | inr later ↦ inr (HasNumber-without number ls k later) ]
+]
+
+IsDistinct-without : (number : ℕ) (ls : List Link) → IsDistinct ls → IsDistinct (without number ls)
+IsDistinct-without number [] distinct = tt
+IsDistinct-without number (link ∷ ls) distinct = elim (eqb link.number number) as (λ b. IsDistinct (cond b ls (link ∷ without number ls))) [
+  | true ↦ distinct.1
+  | false ↦ (λ has. distinct.0 (HasNumber-without number ls link.number has), IsDistinct-without number ls distinct.1)
+]
+
+-- the walk from the first block gives the queue
+pub links_queue : (blocks : Slab Block) (ends : Ends) (handle : ℕ) (ls : List Link) → IsQueue blocks ends handle ls → links blocks ends ≡ ls
+links_queue blocks ends handle ls queue =
+    let counted = queue.counted in
+    rw (← counted) (links_from-chain (next_at blocks ends) (previous_at blocks ends) (owner_at blocks) (λ number. thread_of (get blocks number)) handle (λ k t. owner_of-thread (get blocks k) t handle) None ls queue.chain)
+
+owner_of-present : (block : Option Block) (p : ℕ × ℕ) → owner_of block ≡ Some p → IsSome block
+owner_of-present None p e = absurd (cc)
+owner_of-present (Some block) p e = refl
+
+present_by_owner : (block block' : Option Block) → owner_of block' ≡ owner_of block → IsSome block → IsSome block'
+present_by_owner None block' same there = absurd (cc)
+present_by_owner (Some block) block' same there = owner_of-present block' (block.thread, block.handle) same
+
+not_empty : (ls : List Link) (k : ℕ) → HasNumber ls k → 1 ≤ length ls
+not_empty [] k has = absurd has
+not_empty (link ∷ ls) k has = omega arith
+
+module _ (blocks : Slab Block) (ends : Ends) (handle : ℕ) (ls : List Link) (queue : IsQueue blocks ends handle ls) where
+  -- a block of the queue is of its handle
+  pub queue_owner : (k : ℕ) → HasNumber ls k → (thread : ℕ) × (owner_at blocks k ≡ Some (thread, handle))
+  queue_owner k has = chain_owner (next_at blocks ends) (previous_at blocks ends) (owner_at blocks) handle None ls k queue.chain has
+
+  pub queue_present : (k : ℕ) → HasNumber ls k → ContainsKey blocks k
+  queue_present k has = let whose = queue_owner k has in owner_of-present (get blocks k) (whose.0, handle) whose.1
+
+  pub queue_previous : (number x : ℕ) → HasNumber ls number → previous_at blocks ends (Some number) ≡ Some x → HasNumber ls x × (x ≢ number)
+  queue_previous number x has e =
+      let found = chain_previous (next_at blocks ends) (previous_at blocks ends) (owner_at blocks) handle None ls number x queue.chain queue.distinct (λ k _ f. none-some k f) has e in
+      (elim found.0 [ inl start ↦ absurd (none-some x start) | inr within ↦ within ], found.1)
+
+  pub queue_next : (number x : ℕ) → HasNumber ls number → next_at blocks ends (Some number) ≡ Some x → HasNumber ls x × (x ≢ number)
+  queue_next number x has e = chain_next (next_at blocks ends) (previous_at blocks ends) (owner_at blocks) handle None ls number x queue.chain queue.distinct has e
+
+  pub queue_last : (x : ℕ) → ends.last ≡ Some x → HasNumber ls x
+  queue_last x e = elim (chain_last_in (next_at blocks ends) (previous_at blocks ends) (owner_at blocks) handle None ls x queue.chain e) [
+    | inl start ↦ absurd (none-some x start)
+    | inr within ↦ within
+  ]
+
+  -- a queue none of whose blocks changed
+  pub queue_kept : (blocks' : Slab Block) → ((k : ℕ) → HasNumber ls k → get blocks' k ≡ get blocks k) → IsQueue blocks' ends handle ls
+  queue_kept blocks' same = record {
+    chain = chain_kept (next_at blocks ends) (previous_at blocks ends) (owner_at blocks) (next_at blocks' ends) (previous_at blocks' ends) (owner_at blocks') handle None ls refl refl (λ k has. (ap next_of (same k has), ap previous_of (same k has), ap owner_of (same k has))) queue.chain;
+    distinct = queue.distinct;
+    counted = queue.counted;
+  }
+
+-- a change of one block leaves what stands after and before the others
+next_at-update : (old new : Slab Block) (ends : Ends) (number : ℕ) (slot : Option Block) → Updates old new number slot → (x : Option ℕ) → x ≢ Some number → next_at new ends x ≡ next_at old ends x
+next_at-update old new ends number slot update None differs = refl
+next_at-update old new ends number slot update (Some k) differs = ap next_of (update.others k (λ e. differs (ap Some e)))
+
+previous_at-update : (old new : Slab Block) (ends : Ends) (number : ℕ) (slot : Option Block) → Updates old new number slot → (x : Option ℕ) → x ≢ Some number → previous_at new ends x ≡ previous_at old ends x
+previous_at-update old new ends number slot update None differs = refl
+previous_at-update old new ends number slot update (Some k) differs = ap previous_of (update.others k (λ e. differs (ap Some e)))
+
+next_at-ends : (blocks : Slab Block) (ends ends' : Ends) → ends'.first ≡ ends.first → (x : Option ℕ) → next_at blocks ends' x ≡ next_at blocks ends x
+next_at-ends blocks ends ends' same None = same
+next_at-ends blocks ends ends' same (Some k) = refl
+
+previous_at-ends : (blocks : Slab Block) (ends ends' : Ends) → ends'.last ≡ ends.last → (x : Option ℕ) → previous_at blocks ends' x ≡ previous_at blocks ends x
+previous_at-ends blocks ends ends' same None = same
+previous_at-ends blocks ends ends' same (Some k) = refl
+
+-- a block is taken out, and then its neighbours are made to name each other
+module _ (old gone : Slab Block) (ends : Ends) (handle : ℕ) (ls : List Link) (number : ℕ) (block : Block)
+    (queue : IsQueue old ends handle ls)
+    (has : HasNumber ls number)
+    (was : get old number ≡ Some block)
+    (removed : Updates old gone number None) where
+  before_is : previous_at old ends (Some number) ≡ block.previous
+  before_is = ap previous_of was
+
+  after_is : next_at old ends (Some number) ≡ block.next
+  after_is = ap next_of was
+
+  pub previous_there : (x : ℕ) → block.previous ≡ Some x → ContainsKey gone x
+  previous_there x e =
+      let found = queue_previous old ends handle ls queue number x has (before_is ∙ e) in
+      rw (removed.others x found.1) (queue_present old ends handle ls queue x found.0)
+
+  pub next_there : (mid : Slab Block) → ((k : ℕ) → owner_at mid k ≡ owner_at gone k) → (x : ℕ) → block.next ≡ Some x → ContainsKey mid x
+  next_there mid owners x e =
+      let found = queue_next old ends handle ls queue number x has (after_is ∙ e) in
+      present_by_owner (get gone x) (get mid x) (owners x) (rw (removed.others x found.1) (queue_present old ends handle ls queue x found.0))
+
+  module _ (mid new : Slab Block) (ends_mid ends_new ends_last : Ends)
+      (written : next_at mid ends_mid block.previous ≡ block.next)
+      (others : (x : Option ℕ) → x ≢ block.previous → next_at mid ends_mid x ≡ next_at gone ends x)
+      (backward : (x : Option ℕ) → previous_at mid ends_mid x ≡ previous_at gone ends x)
+      (owners : (k : ℕ) → owner_at mid k ≡ owner_at gone k)
+      (written_back : previous_at new ends_new block.next ≡ block.previous)
+      (others_back : (x : Option ℕ) → x ≢ block.next → previous_at new ends_new x ≡ previous_at mid ends_mid x)
+      (forward : (x : Option ℕ) → next_at new ends_new x ≡ next_at mid ends_mid x)
+      (owners_again : (k : ℕ) → owner_at new k ≡ owner_at mid k)
+      (first_kept : ends_last.first ≡ ends_new.first)
+      (last_kept : ends_last.last ≡ ends_new.last)
+      (counted : ends_last.count ≡ ends.count - 1) where
+    pub queue_detached : IsQueue new ends_last handle (without number ls)
+    queue_detached =
+        let next_is = next_at-ends new ends_new ends_last first_kept in
+        let previous_is = previous_at-ends new ends_new ends_last last_kept in
+        record {
+          chain = chain_unlinked (next_at old ends) (previous_at old ends) (owner_at old) (next_at new ends_last) (previous_at new ends_last) (owner_at new) handle number
+              (rw (before_is, after_is) (next_is block.previous ∙ forward block.previous ∙ written))
+              (λ x apart differs. next_is x ∙ forward x ∙ others x (λ e. apart (e ∙ sym before_is)) ∙ next_at-update old gone ends number None removed x differs)
+              (rw (before_is, after_is) (previous_is block.next ∙ written_back))
+              (λ x apart differs. previous_is x ∙ others_back x (λ e. apart (e ∙ sym after_is)) ∙ backward x ∙ previous_at-update old gone ends number None removed x differs)
+              (λ k differs. owners_again k ∙ owners k ∙ ap owner_of (removed.others k differs))
+              None ls has (λ e. none-some number e) (λ k _ e. none-some k e) queue.distinct queue.chain;
+          distinct = IsDistinct-without number ls queue.distinct;
+          counted = let shorter = length-without number ls has in let long = queue.counted in let some = not_empty ls number has in omega (arith, shorter, long, some, counted);
+        }
+
+  -- a block of another handle is none of those that were reached
+  pub detached_elsewhere : (mid new : Slab Block) → ((k : ℕ) → Some k ≢ block.previous → get mid k ≡ get gone k) → ((k : ℕ) → Some k ≢ block.next → get new k ≡ get mid k) → (k : ℕ) → ((thread : ℕ) → owner_at old k ≢ Some (thread, handle)) → get new k ≡ get old k
+  detached_elsewhere mid new kept kept_again k foreign =
+      let outside : (m : ℕ) → HasNumber ls m → k ≢ m = λ m within e. let whose = queue_owner old ends handle ls queue m within in foreign whose.0 (rw e whose.1) in
+      kept_again k (λ e. outside k (queue_next old ends handle ls queue number k has (after_is ∙ sym e)).0 refl)
+      ∙ kept k (λ e. outside k (queue_previous old ends handle ls queue number k has (before_is ∙ sym e)).0 refl)
+      ∙ removed.others k (λ e. outside number has e)
+
+IsDistinct-push : (ls : List Link) (link : Link) → (HasNumber ls link.number → ⊥) → IsDistinct ls → IsDistinct (ls ++ link ∷ [])
+IsDistinct-push [] link fresh distinct = (λ h. h, tt)
+IsDistinct-push (first ∷ ls) link fresh distinct =
+    (λ has. elim (HasNumber-push ls link first.number has) [ inl before ↦ distinct.0 before | inr here ↦ fresh (inl (sym here)) ], IsDistinct-push ls link (λ has. fresh (inr has)) distinct.1)
+  where
+    HasNumber-push : (ls : List Link) (link : Link) (k : ℕ) → HasNumber (ls ++ link ∷ []) k → HasNumber ls k ⊎ (link.number ≡ k)
+    HasNumber-push [] link k (inl here) = inr here
+    HasNumber-push [] link k (inr later) = absurd later
+    HasNumber-push (first ∷ ls) link k (inl here) = inl (inl here)
+    HasNumber-push (first ∷ ls) link k (inr later) = elim (HasNumber-push ls link k later) [ inl before ↦ inl (inr before) | inr last ↦ inr last ]
+
+-- a block is put under a new number, and then the last one is made to name it
+module _ (old put : Slab Block) (ends : Ends) (handle thread : ℕ) (ls : List Link) (number : ℕ)
+    (queue : IsQueue old ends handle ls)
+    (vacant : get old number ≡ None)
+    (stored : Updates old put number (Some (record { thread = thread; handle = handle; previous = ends.last; next = None }))) where
+  fresh_number : HasNumber ls number → ⊥
+  fresh_number has = let there = queue_present old ends handle ls queue number has in let gone : IsSome {T = Block} None = rw vacant at there in false≢true gone
+
+  last_differs : (x : ℕ) → ends.last ≡ Some x → x ≢ number
+  last_differs x e same = fresh_number (rw same at (queue_last old ends handle ls queue x e))
+
+  pub last_there : (x : ℕ) → ends.last ≡ Some x → ContainsKey put x
+  last_there x e = rw (stored.others x (last_differs x e)) (queue_present old ends handle ls queue x (queue_last old ends handle ls queue x e))
+
+  module _ (mid : Slab Block) (ends_mid ends_last : Ends)
+      (written : next_at mid ends_mid ends.last ≡ Some number)
+      (others : (x : Option ℕ) → x ≢ ends.last → next_at mid ends_mid x ≡ next_at put ends x)
+      (backward : (x : Option ℕ) → previous_at mid ends_mid x ≡ previous_at put ends x)
+      (owners : (k : ℕ) → owner_at mid k ≡ owner_at put k)
+      (first_kept : ends_last.first ≡ ends_mid.first)
+      (last_is : ends_last.last ≡ Some number)
+      (counted : ends_last.count ≡ ends.count + 1) where
+    pub queue_attached : IsQueue mid ends_last handle (ls ++ record { number = number; thread = thread } ∷ [])
+    queue_attached =
+        let next_is = next_at-ends mid ends_mid ends_last first_kept in
+        record {
+          chain = chain_linked (next_at old ends) (previous_at old ends) (owner_at old) (next_at mid ends_last) (previous_at mid ends_last) (owner_at mid) handle number thread
+              (next_is ends.last ∙ written)
+              (next_is (Some number) ∙ others (Some number) (λ e. last_differs number (sym e) refl) ∙ ap next_of stored.changed)
+              (λ x apart differs. next_is x ∙ others x apart ∙ next_at-update old put ends number _ stored x differs)
+              (backward (Some number) ∙ ap previous_of stored.changed)
+              last_is
+              (λ k differs. backward (Some k) ∙ ap previous_of (stored.others k differs))
+              (owners number ∙ ap owner_of stored.changed)
+              (λ k differs. owners k ∙ ap owner_of (stored.others k differs))
+              None ls (λ e. none-some number e) fresh_number queue.chain;
+          distinct = IsDistinct-push ls (record { number = number; thread = thread }) fresh_number queue.distinct;
+          counted = let long = queue.counted in let pushed = length-append ls (record { number = number; thread = thread } ∷ []) in omega (arith, long, pushed, counted);
+        }
+
+  pub attached_elsewhere : (mid : Slab Block) → ((k : ℕ) → Some k ≢ ends.last → get mid k ≡ get put k) → (k : ℕ) → k ≢ number → ((t : ℕ) → owner_at old k ≢ Some (t, handle)) → get mid k ≡ get old k
+  attached_elsewhere mid kept k differs foreign =
+      kept k (λ e. let whose = queue_owner old ends handle ls queue k (queue_last old ends handle ls queue k (sym e)) in foreign whose.0 whose.1)
+      ∙ stored.others k differs

@@ -1,0 +1,82 @@
+-- One handle more is linked or unlinked.
+use Rattle.std.proofs.Common.{◌≡◌, ◌<◌, ◌≤◌, ◌+◌, ◌*◌, ℕ, List, [], ◌∷◌, ◌++◌, length, get_or, set, refl, sym, inl, inr, arith}
+use Rattle.std.proofs.lemmas.Bool.{cases_eq}
+use Rattle.std.proofs.lemmas.List.{get_or-set_same, get_or-set_other, get_or_push, get_or_append_left}
+use Rattle.nt_waits.specs.Link.{HasNumber, IsDistinct, without}
+use Rattle.nt_waits.specs.Queues.{Lists, list_at}
+use Rattle.nt_waits.specs.Steps.{AreApart, IsOutside, AreUnlinked, AreLinked}
+use Rattle.nt_waits.proofs.SoundLemmas.{listed_within}
+
+pub record UnlinkedSoFar (old new : Lists) (handles numbers : List ℕ) (count : ℕ) : Type 0 where
+  pub unlinked : AreUnlinked old new handles numbers count
+  pub distinct : (h : ℕ) → IsDistinct (list_at new h)
+  pub at_least : count ≤ new.touched
+  pub at_most : new.touched ≤ 3 * count
+
+pub unlinked_none : (old : Lists) (handles numbers : List ℕ) → AreUnlinked old old handles numbers 0
+unlinked_none old handles numbers = record { done = λ j below. absurd (omega arith); others = λ handle outside. refl }
+
+module _ (old now new : Lists) (handles numbers : List ℕ) (i : ℕ)
+    (apart : AreApart handles)
+    (within : i < length handles) where
+  -- the handle at i is none of the earlier ones
+  outside_yet : IsOutside handles i (get_or handles i 0)
+  outside_yet j below = apart j i below within
+
+  pub unlinked_more : AreUnlinked old now handles numbers i
+      → HasNumber (list_at old (get_or handles i 0)) (get_or numbers i 0)
+      → new.lists ≡ set now.lists (get_or handles i 0) (without (get_or numbers i 0) (list_at now (get_or handles i 0)))
+      → AreUnlinked old new handles numbers (i + 1)
+  unlinked_more before has written =
+      let same = before.others (get_or handles i 0) outside_yet in
+      let there : HasNumber (list_at now (get_or handles i 0)) (get_or numbers i 0) = rw same has in
+      let listed = listed_within now.lists (get_or handles i 0) (get_or numbers i 0) there in
+      let here : list_at new (get_or handles i 0) ≡ without (get_or numbers i 0) (list_at old (get_or handles i 0)) =
+      rw (written, get_or-set_same now.lists (get_or handles i 0) (without (get_or numbers i 0) (list_at now (get_or handles i 0))) [] listed, same) refl in
+      record {
+        done = λ j below. elim (cases_eq j i) [
+          | inl last ↦ rw last here
+          | inr earlier ↦ let below_i : j < i = omega arith in rw (written, get_or-set_other now.lists (get_or handles i 0) (get_or handles j 0) (without (get_or numbers i 0) (list_at now (get_or handles i 0))) [] (apart j i below_i within)) (before.done j below_i)
+        ];
+        others = λ handle outside. rw (written, get_or-set_other now.lists (get_or handles i 0) handle (without (get_or numbers i 0) (list_at now (get_or handles i 0))) [] (λ e. outside i (omega arith) (sym e))) (before.others handle (λ j below. outside j (omega arith)));
+      }
+
+  -- the queue of the next handle is as it was
+  pub next_linked : AreUnlinked old now handles numbers i → HasNumber (list_at old (get_or handles i 0)) (get_or numbers i 0) → HasNumber (list_at now (get_or handles i 0)) (get_or numbers i 0)
+  next_linked before has = rw (before.others (get_or handles i 0) outside_yet) has
+
+pub record LinkedSoFar (old new : Lists) (thread : ℕ) (handles numbers : List ℕ) (capacity_old capacity_new : ℕ) (count : ℕ) : Type 0 where
+  pub linked : AreLinked old new thread handles numbers count
+  pub distinct : (h : ℕ) → IsDistinct (list_at new h)
+  pub numbered : length numbers ≡ count
+  pub same_handles : length new.lists ≡ length old.lists
+  pub used : new.used ≡ old.used + count
+  pub capacity : new.capacity ≡ old.capacity
+  pub places : capacity_new ≡ capacity_old
+  pub touched : new.touched ≡ old.touched
+
+pub linked_none : (old : Lists) (thread : ℕ) (handles numbers : List ℕ) → AreLinked old old thread handles numbers 0
+linked_none old thread handles numbers = record { done = λ j below. absurd (omega arith); others = λ handle outside. refl }
+
+module _ (old now new : Lists) (thread : ℕ) (handles numbers : List ℕ) (i number : ℕ)
+    (apart : AreApart handles)
+    (within : i < length handles)
+    (numbered : length numbers ≡ i)
+    (there : get_or handles i 0 < length now.lists) where
+  pub linked_more : AreLinked old now thread handles numbers i
+      → new.lists ≡ set now.lists (get_or handles i 0) (list_at now (get_or handles i 0) ++ record { number = number; thread = thread } ∷ [])
+      → AreLinked old new thread handles (numbers ++ number ∷ []) (i + 1)
+  linked_more before written =
+      let added = list_at now (get_or handles i 0) ++ record { number = number; thread = thread } ∷ [] in
+      let same = before.others (get_or handles i 0) (λ j below. apart j i below within) in
+      let here : list_at new (get_or handles i 0) ≡ list_at old (get_or handles i 0) ++ record { number = number; thread = thread } ∷ [] =
+      rw (written, get_or-set_same now.lists (get_or handles i 0) added [] there, same) refl in
+      record {
+        done = λ j below. elim (cases_eq j i) [
+          | inl last ↦ rw (last, get_or_push numbers number 0 i numbered) here
+          | inr earlier ↦
+              let below_i : j < i = omega arith in
+              rw (written, get_or-set_other now.lists (get_or handles i 0) (get_or handles j 0) added [] (apart j i below_i within), get_or_append_left numbers (number ∷ []) 0 j (omega (arith, numbered))) (before.done j below_i)
+        ];
+        others = λ handle outside. rw (written, get_or-set_other now.lists (get_or handles i 0) handle added [] (λ e. outside i (omega arith) (sym e))) (before.others handle (λ j below. outside j (omega arith)));
+      }

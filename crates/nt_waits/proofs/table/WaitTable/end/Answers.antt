@@ -1,0 +1,28 @@
+use Rattle.std.proofs.Common.{ap, sym, ◌∙◌}
+use Rattle.nt_waits.specs.Table.{slot_at}
+use Rattle.nt_waits.specs.Waits.{wait_of, queue_of, others}
+use Rattle.nt_waits.proofs.TableLemmas.{slot_within}
+use Rattle.nt_waits.proofs.ViewLemmas.{get-waits, waits-removed, get_or-threads, IsSome-mapped}
+use Rattle.nt_waits.proofs.table.WaitTable.end.Goals as goal
+
+pub take_wait-requires-clause-there : goal.take_wait-requires-clause-there
+take_wait-requires-clause-there c =
+    let items = c.self.inside.waits.items in
+    let shown = ap (λ v. wait_of v c.args.t) (sym c.self.view_is) ∙ get-waits items c.args.t in
+    IsSome-mapped (slot_at items c.args.t) (rw shown at c.requires)
+
+pub returns-clause-wait : goal.returns-clause-wait
+returns-clause-wait c = ap (λ v. wait_of v c.args.t) (sym c.self.view_is) ∙ get-waits c.self.inside.waits.items c.args.t ∙ c.take_wait.ensures.wait
+
+pub returns-clause-pending : goal.returns-clause-pending
+returns-clause-pending c =
+    let items = c.self.inside.waits.items in
+    let shown = ap (λ v. wait_of v c.args.t) (sym c.self.view_is) ∙ get-waits items c.args.t in
+    let within = slot_within items c.args.t (IsSome-mapped (slot_at items c.args.t) (rw shown at c.requires)) in
+    rw (c.take_wait.ensures.slots, ← c.self.view_is) (waits-removed items c.args.t within)
+
+pub returns-clause-queues : goal.returns-clause-queues
+returns-clause-queues c h =
+    get_or-threads c.take_wait.new.queues.lists h
+    ∙ c.take_wait.ensures.queues h
+    ∙ ap (others c.args.t) (sym (get_or-threads c.self.inside.queues.lists h) ∙ ap (λ v. queue_of v h) c.self.view_is)

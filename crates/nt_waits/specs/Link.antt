@@ -1,0 +1,35 @@
+-- What a queue shows of a wait block: its number, and the thread that waits.
+use Rattle.std.specs.Prelude.{◌≡◌, ℕ, ◌==◌, if◌then◌else◌, List, [], ◌∷◌, ◌⊎◌, Option, Some, None, refl}
+use Rattle.std.specs.Coded.{Coded, code_by, coded×, coded_ℕ}
+
+pub record Link : Type 0 where
+  pub number : ℕ
+  pub thread : ℕ
+
+abbrev pub link_code : Coded Link
+link_code = code_by (ℕ × ℕ) (coded× coded_ℕ coded_ℕ) (λ l. (l.number, l.thread)) (λ p. record { number = p.0; thread = p.1 }) (λ _. refl)
+
+-- one of these links has this number
+abbrev pub HasNumber : List Link → ℕ → Type 0
+HasNumber [] number = ⊥
+HasNumber (link ∷ links) number = (link.number ≡ number) ⊎ HasNumber links number
+
+-- no number stands twice
+abbrev pub IsDistinct : List Link → Type 0
+IsDistinct [] = Unit {0}
+IsDistinct (link ∷ links) = (HasNumber links link.number → ⊥) × IsDistinct links
+
+-- the links but for the one with this number, in their order
+abbrev pub without : ℕ → List Link → List Link
+without number [] = []
+without number (link ∷ links) = if link.number == number then links else link ∷ without number links
+
+-- the thread of the first link
+abbrev pub first_thread : List Link → Option ℕ
+first_thread [] = None
+first_thread (link ∷ links) = Some link.thread
+
+-- the thread of the link after the one with this number
+abbrev pub thread_after : List Link → ℕ → Option ℕ
+thread_after [] number = None
+thread_after (link ∷ links) number = if link.number == number then first_thread links else thread_after links number

@@ -1,0 +1,18 @@
+-- What `Queues` shows: the links of each handle, how many blocks there are and fit, for how many handles there is room, and how many blocks were reached.
+use Rattle.std.specs.Prelude.{ℕ, ◌+◌, ◌≤◌, List, [], slice_index_or}
+use Rattle.nt_waits.specs.Link.{Link}
+
+pub record Lists : Type 0 where
+  pub lists : List (List Link)
+  pub used : ℕ
+  pub capacity : ℕ
+  pub handle_room : ℕ
+  pub touched : ℕ
+
+-- the links of a handle, in the order in which they were made
+abbrev pub list_at : Lists → ℕ → List Link
+list_at queues handle = slice_index_or queues.lists handle []
+
+-- so many blocks fit with no allocation
+abbrev pub HasRoomFor : Lists → ℕ → Type 0
+HasRoomFor queues more = queues.used + more ≤ queues.capacity

@@ -1,0 +1,40 @@
+-- How the waits and the queues of a `WaitTable` lie in its fields. No public clause cites this module.
+use Rattle.std.specs.Prelude.{◌≡◌, ℕ, ◌+◌, ◌<◌, ◌≤◌, List, [], ◌∷◌, length, map, Option, Some, None, slice_index, slice_index_or, ◌⊎◌}
+use Rattle.nt_waits.specs.declared.wait.Wait.{Wait}
+use Rattle.nt_waits.specs.declared.pending.Pending.{Pending}
+use Rattle.nt_waits.specs.Link.{Link, IsDistinct}
+use Rattle.nt_waits.specs.Queues.{Lists, list_at}
+use Rattle.nt_waits.specs.Steps.{AreApart}
+use Rattle.nt_waits.specs.Waits.{AreOnce, Names}
+
+-- the link stands in the list
+abbrev pub HasLink : List Link → Link → Type 0
+HasLink [] link = ⊥
+HasLink (first ∷ links) link = (first ≡ link) ⊎ HasLink links link
+
+abbrev pub threads : List Link → List ℕ
+threads links = map (λ link. link.thread) links
+
+abbrev pub slot_at : List (Option Pending) → ℕ → Option Pending
+slot_at slots thread = slice_index_or slots thread None
+
+-- the waits in these places, the first of this thread
+abbrev pub waits_from : ℕ → List (Option Pending) → List (ℕ × Wait)
+waits_from thread [] = []
+waits_from thread (None ∷ slots) = waits_from (thread + 1) slots
+waits_from thread (Some pending ∷ slots) = (thread, pending.wait) ∷ waits_from (thread + 1) slots
+
+-- each handle of the wait has one block of the thread, under the number that the wait keeps
+pub record IsLinked (queues : Lists) (thread : ℕ) (pending : Pending) : Type 0 where
+  pub same_length : length pending.numbers.items ≡ length pending.wait.handles
+  pub few : length pending.wait.handles ≤ 64
+  pub apart : AreApart pending.wait.handles
+  pub linked : (j : ℕ) → j < length pending.wait.handles → HasLink (list_at queues (slice_index pending.wait.handles j)) (record { number = slice_index pending.numbers.items j; thread = thread })
+
+-- blocks and waits name each other
+pub record IsTable (queues : Lists) (slots : List (Option Pending)) : Type 0 where
+  pub linked : (thread : ℕ) (pending : Pending) → slot_at slots thread ≡ Some pending → IsLinked queues thread pending
+  pub owned : (handle : ℕ) (link : Link) → HasLink (list_at queues handle) link → (pending : Pending) × (slot_at slots link.thread ≡ Some pending) × Names pending.wait handle
+  pub distinct : (handle : ℕ) → IsDistinct (list_at queues handle)
+  pub once : (handle : ℕ) → AreOnce (threads (list_at queues handle))
+  pub small : length slots ≤ 65536

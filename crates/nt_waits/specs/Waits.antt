@@ -1,0 +1,67 @@
+-- What a `WaitTable` shows: the pending waits, the queue of each handle, and two counts.
+use Rattle.std.specs.Prelude.{◌≡◌, ℕ, ◌<◌, Bool, ◌==◌, List, [], ◌∷◌, length, if◌then◌else◌, Option, Some, None, slice_get, slice_index, slice_index_or, ◌⊎◌, refl}
+use Rattle.std.specs.Ordering.{nat_cmp}
+use Rattle.std.specs.FinMap as map
+use Rattle.std.specs.Coded.{Coded, code_by, coded×, coded_ℕ, coded_bool, coded_list, coded_option}
+use Rattle.nt_waits.specs.declared.wait.Wait.{Wait}
+
+pub record Waits : Type 0 where
+  pub pending : map.FinMap nat_cmp Wait
+  pub queues : List (List ℕ)
+  pub looked : ℕ
+  pub touched : ℕ
+
+abbrev pub wait_code : Coded Wait
+wait_code =
+    code_by (List ℕ × (Bool × (Bool × Option ℕ)))
+    (coded× (coded_list coded_ℕ) (coded× coded_bool (coded× coded_bool (coded_option coded_ℕ))))
+    (λ w. (w.handles, (w.all, (w.alertable, w.deadline))))
+    (λ p. record { handles = p.0; all = p.1.0; alertable = p.1.1.0; deadline = p.1.1.1 })
+    (λ _. refl)
+
+-- a table is stored as the tuple of its fields
+abbrev pub waits_code : Coded Waits
+waits_code =
+    code_by (map.FinMap nat_cmp Wait × (List (List ℕ) × (ℕ × ℕ)))
+    (coded× (map.code coded_ℕ wait_code) (coded× (coded_list (coded_list coded_ℕ)) (coded× coded_ℕ coded_ℕ)))
+    (λ w. (w.pending, (w.queues, (w.looked, w.touched))))
+    (λ p. record { pending = p.0; queues = p.1.0; looked = p.1.1.0; touched = p.1.1.1 })
+    (λ _. refl)
+
+-- the pending wait of a thread
+abbrev pub wait_of : Waits → ℕ → Option Wait
+wait_of table thread = map.get table.pending thread
+
+-- the threads that wait on a handle, in the order in which their waits began
+abbrev pub queue_of : Waits → ℕ → List ℕ
+queue_of table handle = slice_index_or table.queues handle []
+
+-- the queue without this thread, in the same order
+abbrev pub others : ℕ → List ℕ → List ℕ
+others thread [] = []
+others thread (first ∷ queue) = if first == thread then others thread queue else first ∷ others thread queue
+
+-- the thread after this one in the queue
+abbrev pub next_after : ℕ → List ℕ → Option ℕ
+next_after thread [] = None
+next_after thread (first ∷ queue) = if first == thread then slice_get queue 0 else next_after thread queue
+
+-- the thread stands in the queue
+abbrev pub IsMember : List ℕ → ℕ → Type 0
+IsMember [] thread = ⊥
+IsMember (first ∷ queue) thread = (first ≡ thread) ⊎ IsMember queue thread
+
+-- no thread stands twice
+abbrev pub AreOnce : List ℕ → Type 0
+AreOnce [] = Unit {0}
+AreOnce (first ∷ queue) = (IsMember queue first → ⊥) × AreOnce queue
+
+-- the wait names the handle
+abbrev pub Names : Wait → ℕ → Type 0
+Names wait handle = (j : ℕ) × (j < length wait.handles) × (slice_index wait.handles j ≡ handle)
+
+-- a thread stands in the queue of a handle exactly where its pending wait names it, and once
+pub record Agrees (table : Waits) : Type 0 where
+  pub listed : (thread handle : ℕ) (wait : Wait) → wait_of table thread ≡ Some wait → Names wait handle → IsMember (queue_of table handle) thread
+  pub named : (thread handle : ℕ) → IsMember (queue_of table handle) thread → (wait : Wait) × (wait_of table thread ≡ Some wait) × Names wait handle
+  pub once : (handle : ℕ) → AreOnce (queue_of table handle)

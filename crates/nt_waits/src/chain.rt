@@ -1,0 +1,174 @@
+//! The queue of one handle: a chain of blocks.
+ghost use Rattle.std.specs.Prelude.{◌≡◌, ◌≢◌, ℕ, ◌+◌, ◌<◌, ◌≤◌, ◌^◌, ◌++◌, ◌∷◌, [], Option, Some, None, vec_len, vec_capacity};
+ghost use Rattle.nt_waits.specs.Sound.{ends_at};
+ghost use Rattle.std.specs.Option.{ForSome, option_map};
+ghost use Rattle.slab.specs.Slab.{get, ContainsKey, Updates, slab_len, HasRoomFor};
+ghost use Rattle.nt_waits.specs.Queue.{changed, removed_by, next_at, previous_at, owner_at, thread_of, links, IsQueue};
+ghost use Rattle.nt_waits.specs.Link.{HasNumber, without};
+
+use crate::block::{Block, BlockNumber, Change, Ends};
+use nt_status::{Handle, ThreadId};
+use slab::Slab;
+
+/// Reaches a block, counts that, and changes the block. Answers what it was.
+fn reach(blocks: &mut Slab<Block>, touched: &mut u64, number: BlockNumber, change: Change) -> Block
+    requires there { ContainsKey blocks.old number }
+    requires countable { touched.old + 1 < 2 ^ 64 }
+    ensures was { get blocks.old number ≡ Some result }
+    ensures updates { Updates blocks.old blocks.new number (changed change result) }
+    ensures len { slab_len blocks.new + removed_by change ≡ slab_len blocks.old }
+    ensures capacity { blocks.new.capacity ≡ blocks.old.capacity }
+    ensures counted { touched.new ≡ touched.old + 1 }
+{
+    *touched += 1;
+    let key = number.get();
+    let block = blocks[key];
+    match change {
+        Change::SetNext(next) => blocks[key] = Block { next, ..block },
+        Change::SetPrevious(previous) => blocks[key] = Block { previous, ..block },
+        Change::Remove => {
+            blocks.remove(key);
+        }
+    }
+    block
+}
+
+/// Makes `to` the block after `at`; with no `at` the first one.
+fn set_next(
+    blocks: &mut Slab<Block>,
+    ends: &mut Ends,
+    touched: &mut u64,
+    at: Option<BlockNumber>,
+    to: Option<BlockNumber>,
+)
+    requires there { ForSome at (ContainsKey blocks.old) }
+    requires countable { touched.old + 1 < 2 ^ 64 }
+    ensures written { next_at blocks.new ends.new at ≡ to }
+    ensures others { (x : Option ℕ) → x ≢ at → next_at blocks.new ends.new x ≡ next_at blocks.old ends.old x }
+    ensures backward { (x : Option ℕ) → previous_at blocks.new ends.new x ≡ previous_at blocks.old ends.old x }
+    ensures owners { (k : ℕ) → owner_at blocks.new k ≡ owner_at blocks.old k }
+    ensures elsewhere { (k : ℕ) → Some k ≢ at → get blocks.new k ≡ get blocks.old k }
+    ensures len { slab_len blocks.new ≡ slab_len blocks.old }
+    ensures capacity { blocks.new.capacity ≡ blocks.old.capacity }
+    ensures count { ends.new.count ≡ ends.old.count }
+    ensures counted { touched.new ≤ touched.old + 1 }
+    ensures counts_up { touched.old ≤ touched.new }
+{
+    match at {
+        None => ends.first = to,
+        Some(number) => {
+            reach(blocks, touched, number, Change::SetNext(to));
+        }
+    }
+}
+
+/// Makes `to` the block before `at`; with no `at` the last one.
+fn set_previous(
+    blocks: &mut Slab<Block>,
+    ends: &mut Ends,
+    touched: &mut u64,
+    at: Option<BlockNumber>,
+    to: Option<BlockNumber>,
+)
+    requires there { ForSome at (ContainsKey blocks.old) }
+    requires countable { touched.old + 1 < 2 ^ 64 }
+    ensures written { previous_at blocks.new ends.new at ≡ to }
+    ensures others { (x : Option ℕ) → x ≢ at → previous_at blocks.new ends.new x ≡ previous_at blocks.old ends.old x }
+    ensures forward { (x : Option ℕ) → next_at blocks.new ends.new x ≡ next_at blocks.old ends.old x }
+    ensures owners { (k : ℕ) → owner_at blocks.new k ≡ owner_at blocks.old k }
+    ensures elsewhere { (k : ℕ) → Some k ≢ at → get blocks.new k ≡ get blocks.old k }
+    ensures len { slab_len blocks.new ≡ slab_len blocks.old }
+    ensures capacity { blocks.new.capacity ≡ blocks.old.capacity }
+    ensures count { ends.new.count ≡ ends.old.count }
+    ensures counted { touched.new ≤ touched.old + 1 }
+    ensures counts_up { touched.old ≤ touched.new }
+{
+    match at {
+        None => ends.last = to,
+        Some(number) => {
+            reach(blocks, touched, number, Change::SetPrevious(to));
+        }
+    }
+}
+
+/// Takes a block out of the queue of its handle.
+pub fn detach(
+    blocks: &mut Slab<Block>,
+    ends: &mut Ends,
+    touched: &mut u64,
+    handle: Handle,
+    number: BlockNumber,
+)
+    requires queue { IsQueue blocks.old ends.old handle (links blocks.old ends.old) }
+    requires linked { HasNumber (links blocks.old ends.old) number }
+    requires countable { touched.old + 3 < 2 ^ 64 }
+    ensures queue { IsQueue blocks.new ends.new handle (without number (links blocks.old ends.old)) }
+    ensures elsewhere { (k : ℕ) → ((thread : ℕ) → owner_at blocks.old k ≢ Some (thread, handle)) → get blocks.new k ≡ get blocks.old k }
+    ensures len { slab_len blocks.new + 1 ≡ slab_len blocks.old }
+    ensures capacity { blocks.new.capacity ≡ blocks.old.capacity }
+    ensures counted { touched.new ≤ touched.old + 3 }
+    ensures counts_up { touched.old + 1 ≤ touched.new }
+{
+    let block = reach(blocks, touched, number, Change::Remove);
+    set_next(blocks, ends, touched, block.previous, block.next);
+    set_previous(blocks, ends, touched, block.next, block.previous);
+    ends.count -= 1;
+}
+
+/// Puts a block for the thread at the end of the queue of the handle. Answers its number.
+pub fn attach(
+    blocks: &mut Slab<Block>,
+    ends: &mut Ends,
+    thread: ThreadId,
+    handle: Handle,
+) -> BlockNumber
+    requires queue { IsQueue blocks.old ends.old handle (links blocks.old ends.old) }
+    requires room { HasRoomFor blocks.old 1 }
+    requires countable { ends.old.count + 1 < 2 ^ 64 }
+    ensures queue { IsQueue blocks.new ends.new handle (links blocks.old ends.old ++ record { number = result; thread = thread } ∷ []) }
+    ensures elsewhere { (k : ℕ) → k ≢ result → ((thread : ℕ) → owner_at blocks.old k ≢ Some (thread, handle)) → get blocks.new k ≡ get blocks.old k }
+    ensures fresh { get blocks.old result ≡ None }
+    ensures len { slab_len blocks.new ≡ slab_len blocks.old + 1 }
+    ensures capacity { blocks.new.capacity ≡ blocks.old.capacity }
+{
+    let key = blocks.insert_reserved(Block {
+        thread,
+        handle,
+        previous: ends.last,
+        next: None,
+    });
+    let number = BlockNumber::new(key);
+    let mut touched = 0;
+    let last = ends.last;
+    set_next(blocks, ends, &mut touched, last, Some(number));
+    ends.last = Some(number);
+    ends.count += 1;
+    number
+}
+
+/// The thread of a block, if there is one.
+pub fn thread_in(blocks: &Slab<Block>, number: Option<BlockNumber>) -> Option<ThreadId>
+    requires { ForSome number (ContainsKey blocks.now) }
+    ensures { result ≡ option_map (λ k. thread_of (get blocks.now k)) number }
+{
+    match number {
+        Some(number) => Some(blocks[number.get()].thread),
+        None => None,
+    }
+}
+
+/// Makes ends, of no blocks, for each handle below `count`.
+pub fn add_ends(ends: &mut Vec<Ends>, count: usize)
+    requires { count ≤ vec_capacity ends.old }
+    ensures there { count ≤ vec_len ends.new }
+    ensures kept { (h : ℕ) → ends_at ends.new.items h ≡ ends_at ends.old.items h }
+    ensures capacity { vec_capacity ends.new ≡ vec_capacity ends.old }
+{
+    while ends.len() < count {
+        ends.push_reserved(Ends {
+            first: None,
+            last: None,
+            count: 0,
+        });
+    }
+}

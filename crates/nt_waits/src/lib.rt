@@ -1,0 +1,16 @@
+//! The pending waits of all threads: which threads wait, for what, and in which order for each handle.
+#![tactic(auto)]
+
+mod begin;
+mod block;
+mod chain;
+mod links;
+mod pending;
+mod place;
+mod queues;
+mod table;
+mod take;
+mod wait;
+
+pub use table::WaitTable;
+pub use wait::Wait;
