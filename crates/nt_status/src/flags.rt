@@ -1,19 +1,84 @@
-ghost use Rattle.std.specs.Prelude.{⊤, [], ◌∷◌, codes};
+ghost use Rattle.std.specs.Prelude.{◌≡◌, ◌↔◌, ⊤, [], ◌∷◌, codes, IsSome, IfSome, IsTrue};
+ghost use Rattle.std.specs.Int.RustNames.{bit_or};
+ghost use Rattle.nt_status.specs.Flags.{has_flag, only_known, event_bits, mutex_bits, timer_bits};
 
 use bitflags::{Flag, Flags, bitflag_items};
+use std::marker::Model;
+use std::ops::BitOr;
 
-/// How an event is created, by the flags of CreateEventEx.
+/// How an event is created, by the flags of CreateEventEx. It has no bit but those.
 #[derive(Clone, Copy, PartialEq, Eq, Debug)]
-pub struct EventFlags(u32);
+pub struct EventFlags(EventBits);
+
+impl Model for EventFlags {
+    ghost use Rattle.std.specs.Prelude.{ℕ, IsTrue};
+    ghost use Rattle.nt_status.specs.Flags.{only_known, event_bits};
+
+    ghost Value = { ℕ };
+
+    ghost view = { λ flags. flags.0.0 };
+
+    ghost invariant = { λ flags. IsTrue (only_known event_bits flags.0.0) };
+
+    ghost inverse = { λ bits. record { 0 = record { 0 = bits } } };
+}
+
+impl EventFlags {
+    /// CREATE_EVENT_MANUAL_RESET: a wait that the event satisfies leaves it set.
+    pub const MANUAL_RESET: EventFlags = EventFlags(EventBits::MANUAL_RESET);
+
+    /// CREATE_EVENT_INITIAL_SET: the event is created set.
+    pub const INITIAL_SET: EventFlags = EventFlags(EventBits::INITIAL_SET);
+
+    /// The flags with these bits, where each bit that is set names a flag.
+    pub fn from_bits(bits: u32) -> Option<Self>
+        ensures known { IsSome result ↔ IsTrue (only_known event_bits bits) }
+        ensures value { IfSome result (λ flags. flags ≡ bits) }
+    {
+        match EventBits::from_bits(bits) {
+            Some(known) => Some(EventFlags(known)),
+            None => None,
+        }
+    }
+
+    pub fn bits(self) -> u32
+        ensures { result ≡ self }
+    {
+        self.0.bits()
+    }
+
+    /// Whether each of the other's flags is among these.
+    pub fn contains(self, other: Self) -> bool
+        ensures { result ≡ has_flag self other }
+    {
+        self.0.contains(other.0)
+    }
+}
+
+impl BitOr for EventFlags {
+    ghost use Rattle.std.specs.Prelude.{◌≡◌};
+    ghost use Rattle.std.specs.Int.RustNames.{bit_or};
+
+    type Output = EventFlags;
+
+    ghost bitor_gives = { λ these others all. all ≡ bit_or these others };
+
+    fn bitor(self, other: Self) -> Self {
+        EventFlags(self.0.union(other.0))
+    }
+}
+
+#[derive(Clone, Copy, PartialEq, Eq, Debug)]
+struct EventBits(u32);
 
 bitflag_items! {
-    impl EventFlags: u32 {
+    impl EventBits: u32 {
         const MANUAL_RESET = 1;
         const INITIAL_SET = 2;
     }
 }
 
-impl Flags for EventFlags {
+impl Flags for EventBits {
     type Bits = u32;
 
     ghost exact = { ⊤ };
@@ -22,30 +87,88 @@ impl Flags for EventFlags {
 
     ghost set_of = { λ flags. flags.0 };
 
-    fn flags<'a>() -> &'a [Flag<EventFlags>] {
-        EventFlags::FLAGS
+    fn flags<'a>() -> &'a [Flag<EventBits>] {
+        EventBits::FLAGS
     }
 
     fn bits(&self) -> u32 {
         self.0
     }
 
-    fn from_bits_retain(bits: u32) -> EventFlags {
-        EventFlags(bits)
+    fn from_bits_retain(bits: u32) -> EventBits {
+        EventBits(bits)
     }
 }
 
-/// How a mutex is created, by the flags of CreateMutexEx.
+/// How a mutex is created, by the flags of CreateMutexEx. It has no bit but those.
 #[derive(Clone, Copy, PartialEq, Eq, Debug)]
-pub struct MutexFlags(u32);
+pub struct MutexFlags(MutexBits);
+
+impl Model for MutexFlags {
+    ghost use Rattle.std.specs.Prelude.{ℕ, IsTrue};
+    ghost use Rattle.nt_status.specs.Flags.{only_known, mutex_bits};
+
+    ghost Value = { ℕ };
+
+    ghost view = { λ flags. flags.0.0 };
+
+    ghost invariant = { λ flags. IsTrue (only_known mutex_bits flags.0.0) };
+
+    ghost inverse = { λ bits. record { 0 = record { 0 = bits } } };
+}
+
+impl MutexFlags {
+    /// CREATE_MUTEX_INITIAL_OWNER: the thread that creates the mutex owns it.
+    pub const INITIAL_OWNER: MutexFlags = MutexFlags(MutexBits::INITIAL_OWNER);
+
+    /// The flags with these bits, where each bit that is set names a flag.
+    pub fn from_bits(bits: u32) -> Option<Self>
+        ensures known { IsSome result ↔ IsTrue (only_known mutex_bits bits) }
+        ensures value { IfSome result (λ flags. flags ≡ bits) }
+    {
+        match MutexBits::from_bits(bits) {
+            Some(known) => Some(MutexFlags(known)),
+            None => None,
+        }
+    }
+
+    pub fn bits(self) -> u32
+        ensures { result ≡ self }
+    {
+        self.0.bits()
+    }
+
+    /// Whether each of the other's flags is among these.
+    pub fn contains(self, other: Self) -> bool
+        ensures { result ≡ has_flag self other }
+    {
+        self.0.contains(other.0)
+    }
+}
+
+impl BitOr for MutexFlags {
+    ghost use Rattle.std.specs.Prelude.{◌≡◌};
+    ghost use Rattle.std.specs.Int.RustNames.{bit_or};
+
+    type Output = MutexFlags;
+
+    ghost bitor_gives = { λ these others all. all ≡ bit_or these others };
+
+    fn bitor(self, other: Self) -> Self {
+        MutexFlags(self.0.union(other.0))
+    }
+}
+
+#[derive(Clone, Copy, PartialEq, Eq, Debug)]
+struct MutexBits(u32);
 
 bitflag_items! {
-    impl MutexFlags: u32 {
+    impl MutexBits: u32 {
         const INITIAL_OWNER = 1;
     }
 }
 
-impl Flags for MutexFlags {
+impl Flags for MutexBits {
     type Bits = u32;
 
     ghost exact = { ⊤ };
@@ -54,30 +177,88 @@ impl Flags for MutexFlags {
 
     ghost set_of = { λ flags. flags.0 };
 
-    fn flags<'a>() -> &'a [Flag<MutexFlags>] {
-        MutexFlags::FLAGS
+    fn flags<'a>() -> &'a [Flag<MutexBits>] {
+        MutexBits::FLAGS
     }
 
     fn bits(&self) -> u32 {
         self.0
     }
 
-    fn from_bits_retain(bits: u32) -> MutexFlags {
-        MutexFlags(bits)
+    fn from_bits_retain(bits: u32) -> MutexBits {
+        MutexBits(bits)
     }
 }
 
-/// How a waitable timer is created, by the flags of CreateWaitableTimerEx.
+/// How a waitable timer is created, by the flags of CreateWaitableTimerEx. It has no bit but those.
 #[derive(Clone, Copy, PartialEq, Eq, Debug)]
-pub struct TimerFlags(u32);
+pub struct TimerFlags(TimerBits);
+
+impl Model for TimerFlags {
+    ghost use Rattle.std.specs.Prelude.{ℕ, IsTrue};
+    ghost use Rattle.nt_status.specs.Flags.{only_known, timer_bits};
+
+    ghost Value = { ℕ };
+
+    ghost view = { λ flags. flags.0.0 };
+
+    ghost invariant = { λ flags. IsTrue (only_known timer_bits flags.0.0) };
+
+    ghost inverse = { λ bits. record { 0 = record { 0 = bits } } };
+}
+
+impl TimerFlags {
+    /// CREATE_WAITABLE_TIMER_MANUAL_RESET: a wait that the timer satisfies leaves it set.
+    pub const MANUAL_RESET: TimerFlags = TimerFlags(TimerBits::MANUAL_RESET);
+
+    /// The flags with these bits, where each bit that is set names a flag.
+    pub fn from_bits(bits: u32) -> Option<Self>
+        ensures known { IsSome result ↔ IsTrue (only_known timer_bits bits) }
+        ensures value { IfSome result (λ flags. flags ≡ bits) }
+    {
+        match TimerBits::from_bits(bits) {
+            Some(known) => Some(TimerFlags(known)),
+            None => None,
+        }
+    }
+
+    pub fn bits(self) -> u32
+        ensures { result ≡ self }
+    {
+        self.0.bits()
+    }
+
+    /// Whether each of the other's flags is among these.
+    pub fn contains(self, other: Self) -> bool
+        ensures { result ≡ has_flag self other }
+    {
+        self.0.contains(other.0)
+    }
+}
+
+impl BitOr for TimerFlags {
+    ghost use Rattle.std.specs.Prelude.{◌≡◌};
+    ghost use Rattle.std.specs.Int.RustNames.{bit_or};
+
+    type Output = TimerFlags;
+
+    ghost bitor_gives = { λ these others all. all ≡ bit_or these others };
+
+    fn bitor(self, other: Self) -> Self {
+        TimerFlags(self.0.union(other.0))
+    }
+}
+
+#[derive(Clone, Copy, PartialEq, Eq, Debug)]
+struct TimerBits(u32);
 
 bitflag_items! {
-    impl TimerFlags: u32 {
+    impl TimerBits: u32 {
         const MANUAL_RESET = 1;
     }
 }
 
-impl Flags for TimerFlags {
+impl Flags for TimerBits {
     type Bits = u32;
 
     ghost exact = { ⊤ };
@@ -86,15 +267,15 @@ impl Flags for TimerFlags {
 
     ghost set_of = { λ flags. flags.0 };
 
-    fn flags<'a>() -> &'a [Flag<TimerFlags>] {
-        TimerFlags::FLAGS
+    fn flags<'a>() -> &'a [Flag<TimerBits>] {
+        TimerBits::FLAGS
     }
 
     fn bits(&self) -> u32 {
         self.0
     }
 
-    fn from_bits_retain(bits: u32) -> TimerFlags {
-        TimerFlags(bits)
+    fn from_bits_retain(bits: u32) -> TimerBits {
+        TimerBits(bits)
     }
 }

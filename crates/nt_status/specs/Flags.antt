@@ -1,0 +1,37 @@
+-- Creation flags as bits (Win32 reference, the pages of CreateEventEx, CreateMutexEx and CreateWaitableTimerEx).
+use Rattle.std.specs.Prelude.{ℕ, Bool, ◌==◌}
+use Rattle.std.specs.Int.RustNames.{bit_and}
+
+-- CREATE_EVENT_MANUAL_RESET
+abbrev pub event_manual_reset : ℕ
+event_manual_reset = 1
+
+-- CREATE_EVENT_INITIAL_SET
+abbrev pub event_initial_set : ℕ
+event_initial_set = 2
+
+-- CREATE_MUTEX_INITIAL_OWNER
+abbrev pub mutex_initial_owner : ℕ
+mutex_initial_owner = 1
+
+-- CREATE_WAITABLE_TIMER_MANUAL_RESET
+abbrev pub timer_manual_reset : ℕ
+timer_manual_reset = 1
+
+-- the bits that name a flag of CreateEventEx, of CreateMutexEx, of CreateWaitableTimerEx
+abbrev pub event_bits : ℕ
+event_bits = 3
+
+abbrev pub mutex_bits : ℕ
+mutex_bits = 1
+
+abbrev pub timer_bits : ℕ
+timer_bits = 1
+
+-- the flag is among the flags
+abbrev pub has_flag : ℕ → ℕ → Bool
+has_flag flags flag = bit_and flags flag == flag
+
+-- no bit is set but known ones
+abbrev pub only_known : ℕ → ℕ → Bool
+only_known known bits = bit_and bits known == bits
