@@ -4,12 +4,12 @@ use Rattle.std.proofs.lemmas.Bool.{cases_eq, false≢true}
 use Rattle.std.proofs.lemmas.List.{get_or-set_same, get_or-set_other, map-append, length-map}
 use Rattle.std.proofs.lemmas.Option.{same_Some, none-some}
 use Rattle.std.proofs.lemmas.Map.Steps.{length-le_from_distinct_below}
-use Rattle.std.specs.Prelude.{◌^◌, IsSome}
+use Rattle.std.specs.Prelude.{◌^◌, IsSome, nat_eq}
 use Rattle.std.specs.List.{IsDistinct as NoneTwice, AllByRecursion, list_any}
 use Rattle.nt_waits.specs.declared.pending.Pending.{Pending}
-use Rattle.nt_waits.specs.Link.{Link, IsDistinct}
+use Rattle.nt_waits.specs.Link.{Link, AreNumbersOnce}
 use Rattle.nt_waits.specs.Queues.{Lists, list_at}
-use Rattle.nt_waits.specs.Steps.{AreApart, AreLinked}
+use Rattle.nt_waits.specs.Steps.{AreLinked}
 use Rattle.nt_waits.specs.Table.{HasLink, threads, slot_at, IsLinked, IsTable}
 use Rattle.nt_waits.specs.Waits.{IsMember, AreOnce, Names}
 use Rattle.nt_waits.proofs.ChainLemmas.{other_test}
@@ -82,9 +82,9 @@ module _ (old new : Lists) (slots : List (Option Pending)) (thread : ℕ) (pendi
     (within : thread < length slots)
     (same_length : length pending.numbers.items ≡ length pending.wait.handles)
     (few : length pending.wait.handles ≤ 64)
-    (apart : AreApart pending.wait.handles)
+    (apart : NoneTwice nat_eq pending.wait.handles)
     (linked : AreLinked old new thread pending.wait.handles pending.numbers.items (length pending.wait.handles))
-    (distinct : (h : ℕ) → IsDistinct (list_at new h)) where
+    (distinct : (h : ℕ) → AreNumbersOnce (list_at new h)) where
   -- no block is of the thread yet
   owner_differs : (h : ℕ) (link : Link) → HasLink (list_at old h) link → link.thread ≢ thread
   owner_differs h link has same = let owner = table.owned h link has in none-some owner.0 (sym free ∙ ap (slot_at slots) (sym same) ∙ owner.1)

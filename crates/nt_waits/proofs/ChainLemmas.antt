@@ -3,7 +3,7 @@ use Rattle.std.proofs.Common.{◌≡◌, ◌≢◌, ◌⊎◌, ℕ, List, [], �
 use Rattle.std.proofs.lemmas.Bool.{cases_eq}
 use Rattle.std.proofs.lemmas.Bool.Decides.{nat_tests}
 use Rattle.std.proofs.lemmas.Option.{same_Some, none-some}
-use Rattle.nt_waits.specs.Link.{Link, HasNumber, IsDistinct, without}
+use Rattle.nt_waits.specs.Link.{Link, HasNumber, AreNumbersOnce, without}
 use Rattle.nt_waits.specs.Chain.{IsChain}
 
 pub HasNumber-same : (links : List Link) (k m : ℕ) → k ≡ m → HasNumber links k → HasNumber links m
@@ -38,7 +38,7 @@ chain_owner next previous owner handle at (link ∷ links) number chain (inl sam
 chain_owner next previous owner handle at (link ∷ links) number chain (inr later) = chain_owner next previous owner handle (Some link.number) links number chain.3 later
 
 -- the block before one of the chain is in the chain too, or the one that it starts from, and is another one
-pub chain_previous : (next previous : Option ℕ → Option ℕ) (owner : ℕ → Option (ℕ × ℕ)) (handle : ℕ) (at : Option ℕ) (links : List Link) (number x : ℕ) → IsChain next previous owner handle at links → IsDistinct links → ((k : ℕ) → HasNumber links k → at ≡ Some k → ⊥) → HasNumber links number → previous (Some number) ≡ Some x → ((at ≡ Some x) ⊎ HasNumber links x) × (x ≢ number)
+pub chain_previous : (next previous : Option ℕ → Option ℕ) (owner : ℕ → Option (ℕ × ℕ)) (handle : ℕ) (at : Option ℕ) (links : List Link) (number x : ℕ) → IsChain next previous owner handle at links → AreNumbersOnce links → ((k : ℕ) → HasNumber links k → at ≡ Some k → ⊥) → HasNumber links number → previous (Some number) ≡ Some x → ((at ≡ Some x) ⊎ HasNumber links x) × (x ≢ number)
 chain_previous next previous owner handle at [] number x chain distinct apart has e = absurd has
 chain_previous next previous owner handle at (link ∷ links) number x chain distinct apart (inl same) e =
     let start : at ≡ Some x = cc in
@@ -48,7 +48,7 @@ chain_previous next previous owner handle at (link ∷ links) number x chain dis
     (inr (elim rest.0 [ inl start ↦ inl (same_Some link.number x start) | inr within ↦ inr within ]), rest.1)
 
 -- so is the block after it
-pub chain_next : (next previous : Option ℕ → Option ℕ) (owner : ℕ → Option (ℕ × ℕ)) (handle : ℕ) (at : Option ℕ) (links : List Link) (number x : ℕ) → IsChain next previous owner handle at links → IsDistinct links → HasNumber links number → next (Some number) ≡ Some x → HasNumber links x × (x ≢ number)
+pub chain_next : (next previous : Option ℕ → Option ℕ) (owner : ℕ → Option (ℕ × ℕ)) (handle : ℕ) (at : Option ℕ) (links : List Link) (number x : ℕ) → IsChain next previous owner handle at links → AreNumbersOnce links → HasNumber links number → next (Some number) ≡ Some x → HasNumber links x × (x ≢ number)
 chain_next next previous owner handle at [] number x chain distinct has e = absurd has
 chain_next next previous owner handle at (link ∷ []) number x chain distinct (inl same) e = absurd (cc)
 chain_next next previous owner handle at (link ∷ second ∷ links) number x chain distinct (inl same) e =
@@ -84,7 +84,7 @@ module _ (next previous : Option ℕ → Option ℕ) (owner : ℕ → Option (�
     behind_kept : (at : Option ℕ) (links : List Link) (k : ℕ) → previous (Some number) ≡ at → (at ≡ Some k → ⊥) → (k ≡ number → ⊥) → (next' (Some k) ≡ next (Some k)) × (owner' k ≡ owner k)
     behind_kept at links k back apart differs = (next_kept (Some k) (λ e. apart (sym (e ∙ back))) (λ e. differs (same_Some k number e)), owner_kept k differs)
 
-    unlinked_first : (at : Option ℕ) (link : Link) (links : List Link) → link.number ≡ number → ((k : ℕ) → HasNumber links k → at ≡ Some k → ⊥) → IsDistinct (link ∷ links) → IsChain next previous owner handle at (link ∷ links) → IsChain next' previous' owner' handle at links
+    unlinked_first : (at : Option ℕ) (link : Link) (links : List Link) → link.number ≡ number → ((k : ℕ) → HasNumber links k → at ≡ Some k → ⊥) → AreNumbersOnce (link ∷ links) → IsChain next previous owner handle at (link ∷ links) → IsChain next' previous' owner' handle at links
     unlinked_first at link [] same apart distinct chain = (cc, cc)
     unlinked_first at link (second ∷ links) same apart distinct chain =
         let back : previous (Some number) ≡ at = cc in
@@ -98,7 +98,7 @@ module _ (next previous : Option ℕ → Option ℕ) (owner : ℕ → Option (�
         (cc, cc, first_kept.1 ∙ chain.3.2, chain_kept (Some second.number) links first_kept.0 last kept chain.3.3)
 
     -- the chain without the block that was taken out
-    pub chain_unlinked : (at : Option ℕ) (links : List Link) → HasNumber links number → (at ≡ Some number → ⊥) → ((k : ℕ) → HasNumber links k → at ≡ Some k → ⊥) → IsDistinct links → IsChain next previous owner handle at links → IsChain next' previous' owner' handle at (without number links)
+    pub chain_unlinked : (at : Option ℕ) (links : List Link) → HasNumber links number → (at ≡ Some number → ⊥) → ((k : ℕ) → HasNumber links k → at ≡ Some k → ⊥) → AreNumbersOnce links → IsChain next previous owner handle at links → IsChain next' previous' owner' handle at (without number links)
     chain_unlinked at [] has outside apart distinct chain = absurd has
     chain_unlinked at (link ∷ links) has outside apart distinct chain =
         elim (cases_eq link.number number) [

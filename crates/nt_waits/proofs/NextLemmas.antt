@@ -4,7 +4,7 @@ use Rattle.std.specs.List.{position, position_or_len}
 use Rattle.std.proofs.lemmas.List.Quantifiers.{position-Some}
 use Rattle.std.proofs.lemmas.Bool.Decides.{nat_tests}
 use Rattle.nt_waits.specs.declared.pending.Pending.{Pending}
-use Rattle.nt_waits.specs.Link.{Link, IsDistinct, thread_after}
+use Rattle.nt_waits.specs.Link.{Link, AreNumbersOnce, thread_after}
 use Rattle.nt_waits.specs.Queues.{Lists, list_at}
 use Rattle.nt_waits.specs.Table.{HasLink, threads, slot_at, IsLinked, IsTable}
 use Rattle.nt_waits.specs.Waits.{IsMember, AreOnce, Names, next_after}
@@ -19,7 +19,7 @@ waiter queues slots handle t table member =
     let own = table.owned handle found.0 found.1 in
     (own.0, ap (λ u. slot_at slots u) (sym found.2) ∙ own.1, own.2)
 
-pub next_after-threads : (ls : List Link) (number thread : ℕ) → HasLink ls (record { number = number; thread = thread }) → IsDistinct ls → AreOnce (threads ls) → thread_after ls number ≡ next_after thread (threads ls)
+pub next_after-threads : (ls : List Link) (number thread : ℕ) → HasLink ls (record { number = number; thread = thread }) → AreNumbersOnce ls → AreOnce (threads ls) → thread_after ls number ≡ next_after thread (threads ls)
 next_after-threads [] number thread has distinct once = absurd has
 next_after-threads (first ∷ ls) number thread (inl here) distinct once =
     rw (same_test _ _ (ap (λ l. l.number) here), same_test _ _ (ap (λ l. l.thread) here)) (first_thread-threads ls)

@@ -6,7 +6,7 @@ use Rattle.std.specs.Prelude.{IsSome}
 use Rattle.slab.specs.Slab.{Slab, get, ContainsKey, Updates}
 use Rattle.nt_waits.specs.declared.block.Block.{Block}
 use Rattle.nt_waits.specs.declared.block.Ends.{Ends}
-use Rattle.nt_waits.specs.Link.{Link, HasNumber, IsDistinct, without}
+use Rattle.nt_waits.specs.Link.{Link, HasNumber, AreNumbersOnce, without}
 use Rattle.nt_waits.specs.Chain.{IsChain}
 use Rattle.nt_waits.specs.Queue.{next_of, previous_of, owner_of, thread_of, next_at, previous_at, owner_at, links_from, links, IsQueue}
 use Rattle.nt_waits.proofs.ChainLemmas.{chain_owner, chain_previous, chain_next, chain_last_in, chain_kept, chain_unlinked, chain_linked, same_test, other_test, other_has}
@@ -37,11 +37,11 @@ HasNumber-without number (link ∷ ls) k = elim (eqb link.number number) as (λ 
   | false ↦ λ has. elim has [ inl here ↦ inl here | inr later ↦ inr (HasNumber-without number ls k later) ]
 ]
 
-IsDistinct-without : (number : ℕ) (ls : List Link) → IsDistinct ls → IsDistinct (without number ls)
-IsDistinct-without number [] distinct = tt
-IsDistinct-without number (link ∷ ls) distinct = elim (eqb link.number number) as (λ b. IsDistinct (cond b ls (link ∷ without number ls))) [
+AreNumbersOnce-without : (number : ℕ) (ls : List Link) → AreNumbersOnce ls → AreNumbersOnce (without number ls)
+AreNumbersOnce-without number [] distinct = tt
+AreNumbersOnce-without number (link ∷ ls) distinct = elim (eqb link.number number) as (λ b. AreNumbersOnce (cond b ls (link ∷ without number ls))) [
   | true ↦ distinct.1
-  | false ↦ (λ has. distinct.0 (HasNumber-without number ls link.number has), IsDistinct-without number ls distinct.1)
+  | false ↦ (λ has. distinct.0 (HasNumber-without number ls link.number has), AreNumbersOnce-without number ls distinct.1)
 ]
 
 -- the walk from the first block gives the queue
@@ -155,7 +155,7 @@ module _ (old gone : Slab Block) (ends : Ends) (handle : ℕ) (ls : List Link) (
               (λ x apart differs. previous_is x ∙ others_back x (λ e. apart (e ∙ sym after_is)) ∙ backward x ∙ previous_at-update old gone ends number None removed x differs)
               (λ k differs. owners_again k ∙ owners k ∙ ap owner_of (removed.others k differs))
               None ls has (λ e. none-some number e) (λ k _ e. none-some k e) queue.distinct queue.chain;
-          distinct = IsDistinct-without number ls queue.distinct;
+          distinct = AreNumbersOnce-without number ls queue.distinct;
           counted = let shorter = length-without number ls has in let long = queue.counted in let some = not_empty ls number has in omega (arith, shorter, long, some, counted);
         }
 
@@ -167,10 +167,10 @@ module _ (old gone : Slab Block) (ends : Ends) (handle : ℕ) (ls : List Link) (
       ∙ kept k (λ e. outside k (queue_previous old ends handle ls queue number k has (before_is ∙ sym e)).0 refl)
       ∙ removed.others k (λ e. outside number has e)
 
-IsDistinct-push : (ls : List Link) (link : Link) → (HasNumber ls link.number → ⊥) → IsDistinct ls → IsDistinct (ls ++ link ∷ [])
-IsDistinct-push [] link fresh distinct = (λ h. h, tt)
-IsDistinct-push (first ∷ ls) link fresh distinct =
-    (λ has. elim (HasNumber-push ls link first.number has) [ inl before ↦ distinct.0 before | inr here ↦ fresh (inl (sym here)) ], IsDistinct-push ls link (λ has. fresh (inr has)) distinct.1)
+AreNumbersOnce-push : (ls : List Link) (link : Link) → (HasNumber ls link.number → ⊥) → AreNumbersOnce ls → AreNumbersOnce (ls ++ link ∷ [])
+AreNumbersOnce-push [] link fresh distinct = (λ h. h, tt)
+AreNumbersOnce-push (first ∷ ls) link fresh distinct =
+    (λ has. elim (HasNumber-push ls link first.number has) [ inl before ↦ distinct.0 before | inr here ↦ fresh (inl (sym here)) ], AreNumbersOnce-push ls link (λ has. fresh (inr has)) distinct.1)
   where
     HasNumber-push : (ls : List Link) (link : Link) (k : ℕ) → HasNumber (ls ++ link ∷ []) k → HasNumber ls k ⊎ (link.number ≡ k)
     HasNumber-push [] link k (inl here) = inr here
@@ -214,7 +214,7 @@ module _ (old put : Slab Block) (ends : Ends) (handle thread : ℕ) (ls : List L
               (owners number ∙ ap owner_of stored.changed)
               (λ k differs. owners k ∙ ap owner_of (stored.others k differs))
               None ls (λ e. none-some number e) fresh_number queue.chain;
-          distinct = IsDistinct-push ls (record { number = number; thread = thread }) fresh_number queue.distinct;
+          distinct = AreNumbersOnce-push ls (record { number = number; thread = thread }) fresh_number queue.distinct;
           counted = let long = queue.counted in let pushed = length-append ls (record { number = number; thread = thread } ∷ []) in omega (arith, long, pushed, counted);
         }
 

@@ -7,7 +7,7 @@ use Rattle.std.specs.Prelude.{IsSome}
 use Rattle.slab.specs.Slab.{Slab, get, ContainsKey}
 use Rattle.nt_waits.specs.declared.block.Block.{Block}
 use Rattle.nt_waits.specs.declared.block.Ends.{Ends}
-use Rattle.nt_waits.specs.Link.{Link, HasNumber, IsDistinct, first_thread, thread_after}
+use Rattle.nt_waits.specs.Link.{Link, HasNumber, AreNumbersOnce, first_thread, thread_after}
 use Rattle.nt_waits.specs.Queue.{links, owner_at, next_at, previous_at, next_of, thread_of, IsQueue}
 use Rattle.nt_waits.specs.Sound.{no_ends, ends_at, IsSound}
 use Rattle.nt_waits.proofs.QueueLemmas.{links_queue, queue_kept, queue_owner, queue_present, queue_next, owner_of-thread}
@@ -103,7 +103,7 @@ pub first_thread-links : (blocks : Slab Block) (e : Ends) (handle : ℕ) (ls : L
 first_thread-links blocks e handle [] queue = rw queue.chain.0 refl
 first_thread-links blocks e handle (link ∷ ls) queue = rw queue.chain.0 (ap Some (sym (owner_of-thread (get blocks link.number) link.thread handle queue.chain.2)))
 
-next_thread-chain : (next previous : Option ℕ → Option ℕ) (blocks : Slab Block) (handle : ℕ) (at : Option ℕ) (ls : List Link) (number : ℕ) → IsChain next previous (owner_at blocks) handle at ls → HasNumber ls number → IsDistinct ls → thread_after ls number ≡ option_map (λ k. thread_of (get blocks k)) (next (Some number))
+next_thread-chain : (next previous : Option ℕ → Option ℕ) (blocks : Slab Block) (handle : ℕ) (at : Option ℕ) (ls : List Link) (number : ℕ) → IsChain next previous (owner_at blocks) handle at ls → HasNumber ls number → AreNumbersOnce ls → thread_after ls number ≡ option_map (λ k. thread_of (get blocks k)) (next (Some number))
 next_thread-chain next previous blocks handle at [] number chain has distinct = absurd has
 next_thread-chain next previous blocks handle at (link ∷ ls) number chain has distinct = elim (cases_eq link.number number) [
   | inl same ↦ rw (same_test link.number number same) (here ls same chain.3)

@@ -1,15 +1,22 @@
 -- One handle more is linked or unlinked.
-use Rattle.std.proofs.Common.{◌≡◌, ◌<◌, ◌≤◌, ◌+◌, ◌*◌, ℕ, List, [], ◌∷◌, ◌++◌, length, get_or, set, refl, sym, inl, inr, arith}
-use Rattle.std.proofs.lemmas.Bool.{cases_eq}
+use Rattle.std.proofs.Common.{◌≡◌, ◌≢◌, ◌∙◌, ◌<◌, ◌≤◌, ◌+◌, ◌*◌, ℕ, List, [], ◌∷◌, ◌++◌, length, get_or, set, refl, sym, inl, inr, arith}
+use Rattle.std.proofs.lemmas.Bool.{cases_eq, eq-eqb, false≢true}
+use Rattle.std.proofs.lemmas.Map.Keys.{apart_from_distinct}
+use Rattle.std.specs.Prelude.{nat_eq}
+use Rattle.std.specs.List.{IsDistinct}
 use Rattle.std.proofs.lemmas.List.{get_or-set_same, get_or-set_other, get_or_push, get_or_append_left}
-use Rattle.nt_waits.specs.Link.{HasNumber, IsDistinct, without}
+use Rattle.nt_waits.specs.Link.{HasNumber, AreNumbersOnce, without}
 use Rattle.nt_waits.specs.Queues.{Lists, list_at}
-use Rattle.nt_waits.specs.Steps.{AreApart, IsOutside, AreUnlinked, AreLinked}
+use Rattle.nt_waits.specs.Steps.{IsOutside, AreUnlinked, AreLinked}
 use Rattle.nt_waits.proofs.SoundLemmas.{listed_within}
+
+-- distinct handles differ at any two places
+differ : (handles : List ℕ) (i j : ℕ) → IsDistinct nat_eq handles → i < j → j < length handles → get_or handles i 0 ≢ get_or handles j 0
+differ handles i j distinct before within same = false≢true (sym (apart_from_distinct nat_eq handles i j 0 distinct before within) ∙ eq-eqb _ _ same)
 
 pub record UnlinkedSoFar (old new : Lists) (handles numbers : List ℕ) (count : ℕ) : Type 0 where
   pub unlinked : AreUnlinked old new handles numbers count
-  pub distinct : (h : ℕ) → IsDistinct (list_at new h)
+  pub distinct : (h : ℕ) → AreNumbersOnce (list_at new h)
   pub at_least : count ≤ new.touched
   pub at_most : new.touched ≤ 3 * count
 
@@ -17,11 +24,11 @@ pub unlinked_none : (old : Lists) (handles numbers : List ℕ) → AreUnlinked o
 unlinked_none old handles numbers = record { done = λ j below. absurd (omega arith); others = λ handle outside. refl }
 
 module _ (old now new : Lists) (handles numbers : List ℕ) (i : ℕ)
-    (apart : AreApart handles)
+    (apart : IsDistinct nat_eq handles)
     (within : i < length handles) where
   -- the handle at i is none of the earlier ones
   outside_yet : IsOutside handles i (get_or handles i 0)
-  outside_yet j below = apart j i below within
+  outside_yet j below = differ handles j i apart below within
 
   pub unlinked_more : AreUnlinked old now handles numbers i
       → HasNumber (list_at old (get_or handles i 0)) (get_or numbers i 0)
@@ -36,7 +43,7 @@ module _ (old now new : Lists) (handles numbers : List ℕ) (i : ℕ)
       record {
         done = λ j below. elim (cases_eq j i) [
           | inl last ↦ rw last here
-          | inr earlier ↦ let below_i : j < i = omega arith in rw (written, get_or-set_other now.lists (get_or handles i 0) (get_or handles j 0) (without (get_or numbers i 0) (list_at now (get_or handles i 0))) [] (apart j i below_i within)) (before.done j below_i)
+          | inr earlier ↦ let below_i : j < i = omega arith in rw (written, get_or-set_other now.lists (get_or handles i 0) (get_or handles j 0) (without (get_or numbers i 0) (list_at now (get_or handles i 0))) [] (differ handles j i apart below_i within)) (before.done j below_i)
         ];
         others = λ handle outside. rw (written, get_or-set_other now.lists (get_or handles i 0) handle (without (get_or numbers i 0) (list_at now (get_or handles i 0))) [] (λ e. outside i (omega arith) (sym e))) (before.others handle (λ j below. outside j (omega arith)));
       }
@@ -47,7 +54,7 @@ module _ (old now new : Lists) (handles numbers : List ℕ) (i : ℕ)
 
 pub record LinkedSoFar (old new : Lists) (thread : ℕ) (handles numbers : List ℕ) (capacity_old capacity_new : ℕ) (count : ℕ) : Type 0 where
   pub linked : AreLinked old new thread handles numbers count
-  pub distinct : (h : ℕ) → IsDistinct (list_at new h)
+  pub distinct : (h : ℕ) → AreNumbersOnce (list_at new h)
   pub numbered : length numbers ≡ count
   pub same_handles : length new.lists ≡ length old.lists
   pub used : new.used ≡ old.used + count
@@ -59,7 +66,7 @@ pub linked_none : (old : Lists) (thread : ℕ) (handles numbers : List ℕ) → 
 linked_none old thread handles numbers = record { done = λ j below. absurd (omega arith); others = λ handle outside. refl }
 
 module _ (old now new : Lists) (thread : ℕ) (handles numbers : List ℕ) (i number : ℕ)
-    (apart : AreApart handles)
+    (apart : IsDistinct nat_eq handles)
     (within : i < length handles)
     (numbered : length numbers ≡ i)
     (there : get_or handles i 0 < length now.lists) where
@@ -68,7 +75,7 @@ module _ (old now new : Lists) (thread : ℕ) (handles numbers : List ℕ) (i nu
       → AreLinked old new thread handles (numbers ++ number ∷ []) (i + 1)
   linked_more before written =
       let added = list_at now (get_or handles i 0) ++ record { number = number; thread = thread } ∷ [] in
-      let same = before.others (get_or handles i 0) (λ j below. apart j i below within) in
+      let same = before.others (get_or handles i 0) (λ j below. differ handles j i apart below within) in
       let here : list_at new (get_or handles i 0) ≡ list_at old (get_or handles i 0) ++ record { number = number; thread = thread } ∷ [] =
       rw (written, get_or-set_same now.lists (get_or handles i 0) added [] there, same) refl in
       record {
@@ -76,7 +83,7 @@ module _ (old now new : Lists) (thread : ℕ) (handles numbers : List ℕ) (i nu
           | inl last ↦ rw (last, get_or_push numbers number 0 i numbered) here
           | inr earlier ↦
               let below_i : j < i = omega arith in
-              rw (written, get_or-set_other now.lists (get_or handles i 0) (get_or handles j 0) added [] (apart j i below_i within), get_or_append_left numbers (number ∷ []) 0 j (omega (arith, numbered))) (before.done j below_i)
+              rw (written, get_or-set_other now.lists (get_or handles i 0) (get_or handles j 0) added [] (differ handles j i apart below_i within), get_or_append_left numbers (number ∷ []) 0 j (omega (arith, numbered))) (before.done j below_i)
         ];
         others = λ handle outside. rw (written, get_or-set_other now.lists (get_or handles i 0) handle added [] (λ e. outside i (omega arith) (sym e))) (before.others handle (λ j below. outside j (omega arith)));
       }

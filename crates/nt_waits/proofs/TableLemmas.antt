@@ -5,7 +5,7 @@ use Rattle.std.proofs.lemmas.List.{get_or-set_same, get_or-set_other, get_or_pas
 use Rattle.std.proofs.lemmas.Option.{same_Some, none-some}
 use Rattle.std.specs.Prelude.{IsSome}
 use Rattle.nt_waits.specs.declared.pending.Pending.{Pending}
-use Rattle.nt_waits.specs.Link.{Link, HasNumber, IsDistinct, without}
+use Rattle.nt_waits.specs.Link.{Link, HasNumber, AreNumbersOnce, without}
 use Rattle.nt_waits.specs.Queues.{Lists, list_at}
 use Rattle.nt_waits.specs.Steps.{IsOutside, AreUnlinked}
 use Rattle.nt_waits.specs.Table.{HasLink, threads, slot_at, IsLinked, IsTable}
@@ -31,7 +31,7 @@ pub IsMember-same : (queue : List ℕ) (a b : ℕ) → a ≡ b → IsMember queu
 IsMember-same queue a b e member = rw (← e) member
 
 -- a link that stays is an old one, and not the one that was taken out
-pub HasLink-without : (number : ℕ) (ls : List Link) (link : Link) → IsDistinct ls → HasLink (without number ls) link → HasLink ls link × (link.number ≢ number)
+pub HasLink-without : (number : ℕ) (ls : List Link) (link : Link) → AreNumbersOnce ls → HasLink (without number ls) link → HasLink ls link × (link.number ≢ number)
 HasLink-without number [] link distinct = λ has. absurd has
 HasLink-without number (first ∷ ls) link distinct = elim (cases_eq first.number number) [
   | inl same ↦ rw (same_test first.number number same) (λ has. (inr has, λ e. distinct.0 (rw (same ∙ sym e) (HasNumber-link ls link has))))
@@ -55,7 +55,7 @@ others_absent thread [] absent = refl
 others_absent thread (first ∷ queue) absent = rw (other_test first thread (λ e. absent (inl e))) (ap (λ q. first ∷ q) (others_absent thread queue (λ m. absent (inr m))))
 
 -- without its block, a thread is out of the queue, and the others keep their order
-pub threads-without : (number thread : ℕ) (ls : List Link) → HasLink ls (record { number = number; thread = thread }) → IsDistinct ls → AreOnce (threads ls) → threads (without number ls) ≡ others thread (threads ls)
+pub threads-without : (number thread : ℕ) (ls : List Link) → HasLink ls (record { number = number; thread = thread }) → AreNumbersOnce ls → AreOnce (threads ls) → threads (without number ls) ≡ others thread (threads ls)
 threads-without number thread [] has distinct once = absurd has
 threads-without number thread (first ∷ ls) (inl here) distinct once =
     let same : first.thread ≡ thread = ap (λ l. l.thread) here in
@@ -81,7 +81,7 @@ AreOnce-others thread (first ∷ queue) once = elim (eqb first thread) as (λ b.
 ]
 
 -- two links with one number, or of one thread, are one
-link_of_number : (ls : List Link) (a b : Link) → IsDistinct ls → HasLink ls a → HasLink ls b → a.number ≡ b.number → a ≡ b
+link_of_number : (ls : List Link) (a b : Link) → AreNumbersOnce ls → HasLink ls a → HasLink ls b → a.number ≡ b.number → a ≡ b
 link_of_number [] a b distinct has_a has_b same = absurd has_a
 link_of_number (first ∷ ls) a b distinct (inl here) (inl there) same = sym here ∙ there
 link_of_number (first ∷ ls) a b distinct (inl here) (inr there) same = absurd (distinct.0 (rw (ap (λ l. l.number) here, same) (HasNumber-link ls b there)))
@@ -123,7 +123,7 @@ module _ (old new : Lists) (slots : List (Option Pending)) (thread : ℕ) (pendi
     (table : IsTable old slots)
     (there : slot_at slots thread ≡ Some pending)
     (unlinked : AreUnlinked old new pending.wait.handles pending.numbers.items (length pending.wait.handles))
-    (distinct : (h : ℕ) → IsDistinct (list_at new h)) where
+    (distinct : (h : ℕ) → AreNumbersOnce (list_at new h)) where
   mine : IsLinked old thread pending
   mine = table.linked thread pending there
 

@@ -15,9 +15,9 @@ HasNumber [] number = ⊥
 HasNumber (link ∷ links) number = (link.number ≡ number) ⊎ HasNumber links number
 
 -- no number stands twice
-abbrev pub IsDistinct : List Link → Type 0
-IsDistinct [] = Unit {0}
-IsDistinct (link ∷ links) = (HasNumber links link.number → ⊥) × IsDistinct links
+abbrev pub AreNumbersOnce : List Link → Type 0
+AreNumbersOnce [] = Unit {0}
+AreNumbersOnce (link ∷ links) = (HasNumber links link.number → ⊥) × AreNumbersOnce links
 
 -- the links but for the one with this number, in their order
 abbrev pub without : ℕ → List Link → List Link

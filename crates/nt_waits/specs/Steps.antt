@@ -1,11 +1,7 @@
 -- What becomes of the queues where one thread's blocks are linked or unlinked. No public clause cites this module.
-use Rattle.std.specs.Prelude.{◌≡◌, ◌≢◌, ℕ, ◌<◌, List, [], ◌∷◌, ◌++◌, length, slice_index}
+use Rattle.std.specs.Prelude.{◌≡◌, ◌≢◌, ℕ, ◌<◌, List, [], ◌∷◌, ◌++◌, slice_index}
 use Rattle.nt_waits.specs.Link.{without}
 use Rattle.nt_waits.specs.Queues.{Lists, list_at}
-
--- no handle stands twice
-abbrev pub AreApart : List ℕ → Type 0
-AreApart handles = (i j : ℕ) → i < j → j < length handles → slice_index handles i ≢ slice_index handles j
 
 -- none of the first `count` handles is this one
 abbrev pub IsOutside : List ℕ → ℕ → ℕ → Type 0

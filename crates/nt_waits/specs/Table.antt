@@ -1,10 +1,12 @@
 -- How the waits and the queues of a `WaitTable` lie in its fields. No public clause cites this module.
-use Rattle.std.specs.Prelude.{◌≡◌, ℕ, ◌+◌, ◌<◌, ◌≤◌, List, [], ◌∷◌, length, map, Option, Some, None, slice_index, slice_index_or, ◌⊎◌}
+use Rattle.std.specs.Prelude.{◌≡◌, ℕ, ◌+◌, ◌<◌, ◌≤◌, List, [], ◌∷◌, length, map as list_map, Option, Some, None, slice_index, slice_index_or, ◌⊎◌, nat_eq}
+use Rattle.std.specs.Ordering.{nat_cmp}
+use Rattle.std.specs.FinMap as map
 use Rattle.nt_waits.specs.declared.wait.Wait.{Wait}
 use Rattle.nt_waits.specs.declared.pending.Pending.{Pending}
-use Rattle.nt_waits.specs.Link.{Link, IsDistinct}
+use Rattle.nt_waits.specs.Link.{Link, AreNumbersOnce}
 use Rattle.nt_waits.specs.Queues.{Lists, list_at}
-use Rattle.nt_waits.specs.Steps.{AreApart}
+use Rattle.std.specs.List.{IsDistinct}
 use Rattle.nt_waits.specs.Waits.{AreOnce, Names}
 
 -- the link stands in the list
@@ -13,7 +15,7 @@ HasLink [] link = ⊥
 HasLink (first ∷ links) link = (first ≡ link) ⊎ HasLink links link
 
 abbrev pub threads : List Link → List ℕ
-threads links = map (λ link. link.thread) links
+threads links = list_map (λ link. link.thread) links
 
 abbrev pub slot_at : List (Option Pending) → ℕ → Option Pending
 slot_at slots thread = slice_index_or slots thread None
@@ -24,17 +26,26 @@ waits_from thread [] = []
 waits_from thread (None ∷ slots) = waits_from (thread + 1) slots
 waits_from thread (Some pending ∷ slots) = (thread, pending.wait) ∷ waits_from (thread + 1) slots
 
+-- the waits in the places of their threads
+abbrev pub waits_of : List (Option Pending) → map.FinMap nat_cmp Wait
+waits_of slots = map.from_entries (waits_from 0 slots)
+
 -- each handle of the wait has one block of the thread, under the number that the wait keeps
 pub record IsLinked (queues : Lists) (thread : ℕ) (pending : Pending) : Type 0 where
   pub same_length : length pending.numbers.items ≡ length pending.wait.handles
   pub few : length pending.wait.handles ≤ 64
-  pub apart : AreApart pending.wait.handles
+  pub apart : IsDistinct nat_eq pending.wait.handles
   pub linked : (j : ℕ) → j < length pending.wait.handles → HasLink (list_at queues (slice_index pending.wait.handles j)) (record { number = slice_index pending.numbers.items j; thread = thread })
 
 -- blocks and waits name each other
 pub record IsTable (queues : Lists) (slots : List (Option Pending)) : Type 0 where
   pub linked : (thread : ℕ) (pending : Pending) → slot_at slots thread ≡ Some pending → IsLinked queues thread pending
   pub owned : (handle : ℕ) (link : Link) → HasLink (list_at queues handle) link → (pending : Pending) × (slot_at slots link.thread ≡ Some pending) × Names pending.wait handle
-  pub distinct : (handle : ℕ) → IsDistinct (list_at queues handle)
+  pub distinct : (handle : ℕ) → AreNumbersOnce (list_at queues handle)
   pub once : (handle : ℕ) → AreOnce (threads (list_at queues handle))
   pub small : length slots ≤ 65536
+
+-- blocks and waits name each other, and the waits are counted
+pub record IsWhole (queues : Lists) (slots : List (Option Pending)) (count : ℕ) : Type 0 where
+  pub table : IsTable queues slots
+  pub counted : count ≡ map.len (waits_of slots)

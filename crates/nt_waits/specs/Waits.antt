@@ -1,8 +1,9 @@
 -- What a `WaitTable` shows: the pending waits, the queue of each handle, and two counts.
-use Rattle.std.specs.Prelude.{◌≡◌, ℕ, ◌<◌, Bool, ◌==◌, List, [], ◌∷◌, length, if◌then◌else◌, Option, Some, None, slice_get, slice_index, slice_index_or, ◌⊎◌, refl}
+use Rattle.std.specs.Prelude.{◌≡◌, ℕ, ◌+◌, ◌-◌, ◌^◌, min, ◌<◌, Bool, ◌==◌, List, [], ◌∷◌, length, if◌then◌else◌, Option, Some, None, slice_get, slice_index, slice_index_or, ◌⊎◌, refl}
 use Rattle.std.specs.Ordering.{nat_cmp}
 use Rattle.std.specs.FinMap as map
 use Rattle.std.specs.Coded.{Coded, code_by, coded×, coded_ℕ, coded_bool, coded_list, coded_option}
+use Rattle.nt_waits.specs.declared.wait.About.{About}
 use Rattle.nt_waits.specs.declared.wait.Wait.{Wait}
 
 pub record Waits : Type 0 where
@@ -61,7 +62,15 @@ abbrev pub Names : Wait → ℕ → Type 0
 Names wait handle = (j : ℕ) × (j < length wait.handles) × (slice_index wait.handles j ≡ handle)
 
 -- a thread stands in the queue of a handle exactly where its pending wait names it, and once
-pub record Agrees (table : Waits) : Type 0 where
-  pub listed : (thread handle : ℕ) (wait : Wait) → wait_of table thread ≡ Some wait → Names wait handle → IsMember (queue_of table handle) thread
-  pub named : (thread handle : ℕ) → IsMember (queue_of table handle) thread → (wait : Wait) × (wait_of table thread ≡ Some wait) × Names wait handle
-  pub once : (handle : ℕ) → AreOnce (queue_of table handle)
+pub record Agrees (pending : map.FinMap nat_cmp Wait) (queues : List (List ℕ)) : Type 0 where
+  pub listed : (thread handle : ℕ) (wait : Wait) → map.get pending thread ≡ Some wait → Names wait handle → IsMember (slice_index_or queues handle []) thread
+  pub named : (thread handle : ℕ) → IsMember (slice_index_or queues handle []) thread → (wait : Wait) × (map.get pending thread ≡ Some wait) × Names wait handle
+  pub once : (handle : ℕ) → AreOnce (slice_index_or queues handle [])
+
+-- what of a wait is told without a look
+abbrev pub about_of : Wait → About
+about_of wait = record { alertable = wait.alertable; deadline = wait.deadline }
+
+-- one more, but the count stops at the greatest u64
+abbrev pub counted_once : ℕ → ℕ
+counted_once count = min (count + 1) (2 ^ 64 - 1)

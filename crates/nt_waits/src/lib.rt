@@ -13,4 +13,4 @@ mod take;
 mod wait;
 
 pub use table::WaitTable;
-pub use wait::Wait;
+pub use wait::{About, Wait};

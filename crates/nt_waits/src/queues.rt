@@ -37,7 +37,7 @@ impl Model for Queues {
 }
 
 impl Queues {
-    ghost use Rattle.nt_waits.specs.Link.{HasNumber, IsDistinct, without, first_thread, thread_after};
+    ghost use Rattle.nt_waits.specs.Link.{HasNumber, AreNumbersOnce, without, first_thread, thread_after};
     ghost use Rattle.nt_waits.specs.Queues.{Lists, list_at, HasRoomFor};
 
     pub fn new(alloc: Global) -> Self
@@ -68,7 +68,7 @@ impl Queues {
         ensures used { self.new.used ≡ self.old.used + 1 }
         ensures capacity { self.new.capacity ≡ self.old.capacity }
         ensures touched { self.new.touched ≡ self.old.touched }
-        ensures distinct { (h : ℕ) → IsDistinct (list_at self.new h) }
+        ensures distinct { (h : ℕ) → AreNumbersOnce (list_at self.new h) }
     {
         let at = handle.get() as usize;
         let mut ends = self.ends[at];
@@ -86,7 +86,7 @@ impl Queues {
         ensures capacity { self.new.capacity ≡ self.old.capacity }
         ensures counted { self.new.touched ≤ self.old.touched + 3 }
         ensures counts_up { self.old.touched + 1 ≤ self.new.touched }
-        ensures distinct { (h : ℕ) → IsDistinct (list_at self.new h) }
+        ensures distinct { (h : ℕ) → AreNumbersOnce (list_at self.new h) }
     {
         let at = handle.get() as usize;
         let mut ends = self.ends[at];

@@ -1,14 +1,15 @@
 //! The pending waits of all threads.
-ghost use Rattle.std.specs.Prelude.{◌≡◌, ℕ, ◌+◌, ◌<◌, ◌≤◌, ◌*◌, ◌++◌, ◌∷◌, [], ◌^◌, length, slice_get, IsSome, Some, None, OnOk, OnErr, IfErr};
+ghost use Rattle.std.specs.Prelude.{nat_eq, ◌≡◌, ℕ, ◌<◌, ◌≤◌, ◌*◌, ◌++◌, ◌∷◌, [], length, slice_get, IsSome, Some, None, OnOk, OnErr, IfErr};
+ghost use Rattle.std.specs.List.{IsDistinct};
 ghost use Rattle.std.specs.FinMap as map;
-ghost use Rattle.std.specs.Option.{option_copied};
+ghost use Rattle.std.specs.Option.{option_copied, option_map};
 ghost use Rattle.std.specs.Borrow.{sem};
 
 use crate::begin::begin_wait;
 use crate::pending::Pending;
 use crate::queues::Queues;
 use crate::take::{next_in, take_wait, wait_in};
-use crate::wait::Wait;
+use crate::wait::{About, Wait};
 use nt_status::{Handle, Refusal, ThreadId};
 use std::alloc::Global;
 use std::marker::Model;
@@ -18,66 +19,70 @@ use std::marker::Model;
 pub struct WaitTable {
     queues: Queues,
     waits: Vec<Option<Pending>>,
+    count: usize,
     looked: u64,
 }
 
 impl Model for WaitTable {
     ghost use Rattle.std.specs.Prelude.{map as list_map};
-    ghost use Rattle.std.specs.FinMap as map;
     ghost use Rattle.nt_waits.specs.Waits.{Waits, waits_code};
 
     ghost Value = { Waits };
 
     ghost coded = { waits_code };
 
-    ghost use Rattle.nt_waits.specs.Table.{threads, waits_from, IsTable};
+    ghost use Rattle.nt_waits.specs.Table.{threads, waits_of, IsWhole};
 
     ghost view = { λ t. record {
-      pending = map.from_entries (waits_from 0 t.waits.items);
+      pending = waits_of t.waits.items;
       queues = list_map threads t.queues.lists;
       looked = t.looked;
       touched = t.queues.touched;
     } };
 
-    ghost invariant = { λ t. IsTable t.queues t.waits.items };
+    ghost invariant = { λ t. IsWhole t.queues t.waits.items t.count };
 }
 
 impl WaitTable {
     ghost use Rattle.nt_waits.specs.Looking.{LeavesLooked};
-    ghost use Rattle.nt_waits.specs.Waits.{Waits, wait_of, queue_of, others, Agrees, Names, IsMember, next_after};
-    ghost use Rattle.nt_waits.specs.Steps.{AreApart};
+    ghost use Rattle.nt_waits.specs.Waits.{wait_of, queue_of, about_of, others, Agrees, Names, IsMember, next_after};
 
     /// A table with no wait.
     pub fn new(alloc: Global) -> Self
         ensures pending { result.pending ≡ map.empty }
         ensures queues { result.queues ≡ [] }
         ensures looked { result.looked ≡ 0 }
+        ensures touched { result.touched ≡ 0 }
+        ensures agrees { Agrees result.pending result.queues }
     {
         WaitTable {
             queues: Queues::new(alloc),
             waits: Vec::new(alloc),
+            count: 0,
             looked: 0,
         }
     }
 
-    /// Begins the thread's wait, last in the queue of each handle that it names. Where memory is refused nothing changes.
+    /// Begins the thread's wait, last in the queue of each handle that it names. Refused only where memory is, and then nothing changes.
     pub fn begin(&mut self, t: ThreadId, wait: Wait) -> Result<(), Refusal>
         requires free { wait_of self.old t ≡ None }
         requires few { length wait.handles ≤ 64 }
-        requires apart { AreApart wait.handles }
+        requires distinct { IsDistinct nat_eq wait.handles }
         ensures pending { OnOk result (self.new.pending ≡ map.insert self.old.pending t wait) }
         ensures joined { OnOk result ((h : ℕ) → Names wait h → queue_of self.new h ≡ queue_of self.old h ++ t ∷ []) }
         ensures queues_kept { OnOk result ((h : ℕ) → (Names wait h → ⊥) → queue_of self.new h ≡ queue_of self.old h) }
         ensures looked { self.new.looked ≡ self.old.looked }
         ensures touched { self.new.touched ≡ self.old.touched }
+        ensures agrees { Agrees self.new.pending self.new.queues }
         ensures memory { IfErr result (λ refusal. refusal ≡ Refusal.Memory) }
         ensures err { OnErr result (self.new ≡ self.old) }
     {
         begin_wait(&mut self.queues, &mut self.waits, t, wait)?;
+        self.count += 1;
         Ok(())
     }
 
-    /// Ends the thread's wait, and hands it back.
+    /// Ends the thread's wait, and hands it back. The other threads keep their order in every queue.
     pub fn end(&mut self, t: ThreadId) -> Wait
         requires { IsSome (wait_of self.old t) }
         ensures wait { wait_of self.old t ≡ Some result }
@@ -86,23 +91,57 @@ impl WaitTable {
         ensures looked { self.new.looked ≡ self.old.looked }
         ensures at_least { length result.handles ≤ self.new.touched }
         ensures at_most { self.new.touched ≤ 4 * length result.handles }
+        ensures agrees { Agrees self.new.pending self.new.queues }
     {
+        self.count -= 1;
         take_wait(&mut self.queues, &mut self.waits, t)
     }
 
     /// The pending wait of the thread. Each call counts as a look.
     pub fn get(&mut self, t: ThreadId) -> Option<&Wait>
-        requires { self.old.looked + 1 < 2 ^ 64 }
         ensures* counted { sem 𝓛 (LeavesLooked self.entry) }
         ensures value { option_copied result ≡ wait_of self.old t }
     {
-        self.looked += 1;
+        self.looked = self.looked.saturating_add(1);
         wait_in(&self.waits, t)
+    }
+
+    /// How often `get` was called since the last `look_anew`, up to the greatest u64.
+    pub fn looked(&self) -> u64
+        ensures { result ≡ self.now.looked }
+    {
+        self.looked
+    }
+
+    /// Counts the looks from 0 again.
+    pub fn look_anew(&mut self)
+        ensures { self.new ≡ record self.old { looked = 0 } }
+    {
+        self.looked = 0;
+    }
+
+    /// Whether the thread's pending wait is alertable, and its deadline. This is no look.
+    pub fn about(&self, t: ThreadId) -> Option<About>
+        ensures { result ≡ option_map about_of (wait_of self.now t) }
+    {
+        let wait = wait_in(&self.waits, t)?;
+        Some(About {
+            alertable: wait.alertable,
+            deadline: wait.deadline,
+        })
+    }
+
+    /// How many waits are pending.
+    pub fn pending(&self) -> usize
+        ensures { result ≡ map.len self.now.pending }
+    {
+        self.count
     }
 
     /// The thread whose wait on the handle began first.
     pub fn first_on(&self, handle: Handle) -> Option<ThreadId>
-        ensures { result ≡ slice_get (queue_of self.now handle) 0 }
+        ensures first { result ≡ slice_get (queue_of self.now handle) 0 }
+        ensures agrees { Agrees self.now.pending self.now.queues }
     {
         self.queues.first(handle)
     }
@@ -115,17 +154,18 @@ impl WaitTable {
         next_in(&self.queues, &self.waits, handle, t)
     }
 
-    /// How many looks there were.
-    pub fn looked(&self) -> u64
-        ensures { result ≡ self.now.looked }
-    {
-        self.looked
-    }
-
     /// How many threads wait on the handle.
     pub fn blocks_on(&self, handle: Handle) -> usize
-        ensures { result ≡ length (queue_of self.now handle) }
+        ensures count { result ≡ length (queue_of self.now handle) }
+        ensures agrees { Agrees self.now.pending self.now.queues }
     {
         self.queues.count(handle)
+    }
+
+    /// How many blocks the last `end` reached. 0 before the first.
+    pub fn touched(&self) -> u64
+        ensures { result ≡ self.now.touched }
+    {
+        self.queues.touched()
     }
 }

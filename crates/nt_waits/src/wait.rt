@@ -1,11 +1,22 @@
-//! A wait, as it was begun.
+//! A wait, and what of it is told without a look.
 use nt_status::Handles;
 
 /// A thread's wait for one of its handles, or for all of them. A sleep has no handle.
 #[derive(Drop)]
 pub struct Wait {
     pub handles: Handles,
+    /// Whether every handle must be signaled at once, as bWaitAll of WaitForMultipleObjects.
     pub all: bool,
+    /// Whether an APC ends the wait, as bAlertable of WaitForMultipleObjectsEx.
     pub alertable: bool,
+    /// The moment at which the wait times out, in units of 100 ns. Without one it never does.
+    pub deadline: Option<u64>,
+}
+
+/// What of a wait is told without a look.
+#[derive(Clone, Copy, PartialEq, Eq, Debug)]
+pub struct About {
+    pub alertable: bool,
+    /// The moment at which the wait times out, in units of 100 ns.
     pub deadline: Option<u64>,
 }

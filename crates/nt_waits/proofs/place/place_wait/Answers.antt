@@ -11,7 +11,7 @@ returns-clause-table c =
     let items = c.args.waits.now.items in
     let within : c.args.t < length items = search rules in
     rw c.get.ensures (table_begun c.args.queues.now c.link_all.new.queues items c.args.t (record { wait = c.args.wait; numbers = c.link_all.new.numbers }) c.requires.table c.requires.free within
-    (rw c.as_slice.ensures at c.link_all.ensures.numbered) c.requires.few c.requires.apart (rw c.as_slice.ensures at c.link_all.ensures.linked) c.link_all.ensures.distinct)
+    (rw c.as_slice.ensures at c.link_all.ensures.numbered) c.requires.few c.requires.distinct (rw c.as_slice.ensures at c.link_all.ensures.linked) c.link_all.ensures.distinct)
 
 pub returns-clause-placed : goal.returns-clause-placed
 returns-clause-placed c =

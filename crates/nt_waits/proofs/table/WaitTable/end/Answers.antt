@@ -1,8 +1,11 @@
-use Rattle.std.proofs.Common.{ap, sym, ◌∙◌}
-use Rattle.nt_waits.specs.Table.{slot_at}
-use Rattle.nt_waits.specs.Waits.{wait_of, queue_of, others}
+use Rattle.std.proofs.Common.{arith, ℕ, ◌-◌, subst, ap, sym, ◌∙◌}
+use Rattle.std.specs.Prelude.{IsSome}
+use Rattle.nt_waits.specs.Table.{slot_at, waits_of}
+use Rattle.nt_waits.specs.Waits.{Waits, wait_of, queue_of, others}
 use Rattle.nt_waits.proofs.TableLemmas.{slot_within}
 use Rattle.nt_waits.proofs.ViewLemmas.{get-waits, waits-removed, get_or-threads, IsSome-mapped}
+use Rattle.nt_waits.proofs.AgreeLemmas.{agrees}
+use Rattle.nt_waits.proofs.CountLemmas.{len-some, len-ended}
 use Rattle.nt_waits.proofs.table.WaitTable.end.Goals as goal
 
 pub take_wait-requires-clause-there : goal.take_wait-requires-clause-there
@@ -26,3 +29,23 @@ returns-clause-queues c h =
     get_or-threads c.take_wait.new.queues.lists h
     ∙ c.take_wait.ensures.queues h
     ∙ ap (others c.args.t) (sym (get_or-threads c.self.inside.queues.lists h) ∙ ap (λ v. queue_of v h) c.self.view_is)
+
+pub overflow_sub-self : goal.overflow_sub-self
+overflow_sub-self c =
+    let waits = waits_of c.self.inside.waits.items in
+    let there = subst (λ (v : Waits). IsSome (wait_of v c.args.t)) (sym c.self.view_is) c.requires in
+    omega (arith, c.self.invariant.counted, len-some waits c.args.t there)
+
+pub invariant_of-self : goal.invariant_of-self
+invariant_of-self c =
+    let items = c.self.inside.waits.items in
+    let shown = ap (λ v. wait_of v c.args.t) (sym c.self.view_is) ∙ get-waits items c.args.t in
+    let within = slot_within items c.args.t (IsSome-mapped (slot_at items c.args.t) (rw shown at c.requires)) in
+    let there = subst (λ (v : Waits). IsSome (wait_of v c.args.t)) (sym c.self.view_is) c.requires in
+    record {
+      table = c.take_wait.ensures.table;
+      counted = rw (c.take_wait.ensures.slots, waits-removed items c.args.t within, len-ended (waits_of items) c.args.t there) (ap (λ (n : ℕ). n - 1) c.self.invariant.counted);
+    }
+
+pub returns-clause-agrees : goal.returns-clause-agrees
+returns-clause-agrees c = agrees c.take_wait.new.queues c.take_wait.new.waits.items c.take_wait.ensures.table

@@ -1,0 +1,12 @@
+use Rattle.nt_waits.proofs.AgreeLemmas.{agrees, table_none}
+use Rattle.nt_waits.proofs.CountLemmas.{len-none}
+use Rattle.nt_waits.proofs.table.WaitTable.new.Goals as goal
+
+pub invariant_of-result : goal.invariant_of-result
+invariant_of-result c = record {
+  table = table_none c.new.result c.new-2.result.items c.new.ensures.lists c.new-2.ensures.items;
+  counted = len-none c.new-2.result.items c.new-2.ensures.items;
+}
+
+pub returns-clause-agrees : goal.returns-clause-agrees
+returns-clause-agrees c = agrees c.new.result c.new-2.result.items (table_none c.new.result c.new-2.result.items c.new.ensures.lists c.new-2.ensures.items)
