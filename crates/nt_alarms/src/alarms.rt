@@ -1,0 +1,126 @@
+ghost use Rattle.std.specs.Prelude.{◌≡◌, ◌<◌, ◌++◌, ◌∷◌, ◌==◌, [], length, slice_set, Some, None, OnOk, OnErr, IfOk, MatchOption};
+
+use crate::tree::{Alarm, first_below, mend};
+use std::alloc::{AllocError, Global};
+use std::marker::Model;
+
+/// A moment for each place, or none: an alarm clock for every timer, or every thread.
+///
+/// Places are numbered from 0 in the order in which they were added. Setting and clearing an alarm
+/// takes steps in the logarithm of the number of places, and no memory; reading the earliest one
+/// step.
+#[derive(Drop)]
+pub struct Alarms {
+    alarms: Vec<Option<u64>>,
+    firsts: Vec<Option<Alarm>>,
+}
+
+impl Model for Alarms {
+    ghost use Rattle.std.specs.Prelude.{List, ℕ, Option};
+
+    ghost Value = { List (Option ℕ) };
+
+    ghost use Rattle.nt_alarms.specs.Tree.{IsTree};
+
+    ghost view = { λ a. a.alarms.items };
+
+    ghost invariant = { λ a. IsTree a.alarms.items a.firsts.items };
+}
+
+impl Alarms {
+    ghost use Rattle.nt_alarms.specs.Alarms.{alarm_at, IsQuiet, IsEarliest, NoneBefore, NoneAt, IsLowestAt};
+
+    /// No place.
+    pub fn new(alloc: Global) -> Self
+        ensures { result ≡ [] }
+    {
+        Alarms {
+            alarms: Vec::new(alloc),
+            firsts: Vec::new(alloc),
+        }
+    }
+
+    pub fn len(&self) -> usize
+        ensures { result ≡ length self.now }
+    {
+        self.alarms.len()
+    }
+
+    pub fn is_empty(&self) -> bool
+        ensures { result ≡ (length self.now == 0) }
+    {
+        self.alarms.is_empty()
+    }
+
+    /// Adds a place, last, with no alarm.
+    pub fn add(&mut self) -> Result<(), AllocError>
+        ensures ok { OnOk result (self.new ≡ self.old ++ None ∷ []) }
+        ensures err { OnErr result (self.new ≡ self.old) }
+    {
+        self.alarms.reserve(1)?;
+        self.firsts.push(None)?;
+        self.alarms.push_reserved(None);
+        Ok(())
+    }
+
+    /// Sets the alarm of this place to this moment, instead of the one that it had.
+    pub fn set(&mut self, place: usize, moment: u64)
+        requires { place < length self.old }
+        ensures { self.new ≡ slice_set self.old place (Some moment) }
+    {
+        self.alarms[place] = Some(moment);
+        mend(&self.alarms, &mut self.firsts, place);
+    }
+
+    /// Clears the alarm of this place, if it has one.
+    pub fn clear(&mut self, place: usize)
+        requires { place < length self.old }
+        ensures { self.new ≡ slice_set self.old place None }
+    {
+        self.alarms[place] = None;
+        mend(&self.alarms, &mut self.firsts, place);
+    }
+
+    /// The alarm of this place; none past the last place.
+    pub fn get(&self, place: usize) -> Option<u64>
+        ensures { result ≡ alarm_at self.now place }
+    {
+        if place < self.alarms.len() {
+            self.alarms[place]
+        } else {
+            None
+        }
+    }
+
+    /// The earliest alarm, where there is one.
+    pub fn earliest(&self) -> Option<u64>
+        ensures { MatchOption result (IsQuiet self.now) (λ moment. IsEarliest self.now moment) }
+    {
+        match first_below(&self.firsts, 0) {
+            Some(first) => Some(first.moment),
+            None => None,
+        }
+    }
+
+    /// The lowest place whose alarm is this moment, where no alarm is before it.
+    pub fn first_at(&self, moment: u64) -> Option<usize>
+        requires { NoneBefore self.now moment }
+        ensures { MatchOption result (NoneAt self.now moment) (λ place. IsLowestAt self.now moment place) }
+    {
+        match first_below(&self.firsts, 0) {
+            Some(first) if first.moment == moment => Some(first.place),
+            _ => None,
+        }
+    }
+
+    /// The same alarms in memory of their own.
+    pub fn copy(&self) -> Result<Self, AllocError>
+        ensures { IfOk result (λ copied. copied ≡ self.now) }
+    {
+        let alloc = *self.alarms.allocator();
+        Ok(Alarms {
+            alarms: Vec::from_slice(alloc, &self.alarms)?,
+            firsts: Vec::from_slice(alloc, &self.firsts)?,
+        })
+    }
+}
