@@ -1,5 +1,5 @@
 -- What taking an object leaves true.
-use Rattle.std.proofs.Common.{◌≡◌, ℕ, Bool, true, false, not, refl, sym, subst, arith, Option, Some, None, T}
+use Rattle.std.proofs.Common.{◌≡◌, ℕ, Bool, true, false, not, refl, sym, subst, arith, Some, None, T}
 use Rattle.std.specs.Prelude.{pos, ◌-ℤ◌, ◌<ℤ◌, ◌≤ℤ◌}
 use Rattle.std.specs.Int.Signed.{lt_z_yes, lt_z_no, lt_z}
 use Rattle.std.proofs.lemmas.Int.{ints}

@@ -1,16 +1,18 @@
 -- What an object of each kind is for a waiting thread, and how calls change it. Moments are in units of 100 ns.
-use Rattle.std.specs.Prelude.{◌≡◌, ℕ, ℤ, pos, ◌+◌, ◌-◌, ◌*◌, ◌/◌, ◌≤◌, ◌<◌, ◌+ℤ◌, ◌-ℤ◌, ◌≤ℤ◌, int_lt, int_le, Bool, true, false, ◌&&◌, ◌==◌, nat_lt, nat_le, option_map, if◌then◌else◌, IsSome}
+use Rattle.std.specs.Prelude.{◌≡◌, ℕ, ℤ, pos, ◌+◌, ◌-◌, ◌*◌, ◌/◌, ◌≤◌, ◌<◌, ◌+ℤ◌, ◌-ℤ◌, ◌≤ℤ◌, int_lt, int_le, Bool, true, false, ◌&&◌, ◌==◌, nat_lt, nat_le, option_map, if◌then◌else◌}
 use Rattle.std.specs.declared.option.Option.{Option}
 use Rattle.std.specs.declared.option.Option.TheVariants.{None, Some}
 use Rattle.nt_status.specs.Flags.{has_flag, event_manual_reset, event_initial_set, mutex_initial_owner, timer_manual_reset}
 use Rattle.nt_status.specs.declared.refusal.Refusal.{Refusal}
-use Rattle.nt_status.specs.declared.refusal.Refusal.TheVariants.{InvalidParameter, NotOwner, TooManyPosts}
+use Rattle.nt_status.specs.declared.refusal.Refusal.TheVariants.{InvalidParameter, TooManyPosts}
 use Rattle.nt_objects.specs.declared.object.Object.{Object}
 use Rattle.nt_objects.specs.declared.object.Object.TheVariants.{Event, Semaphore, Mutex, Timer, Thread}
 use Rattle.nt_objects.specs.declared.object.Armed.{Armed}
 use Rattle.nt_objects.specs.declared.object.Routine.{Routine}
 use Rattle.nt_objects.specs.declared.object.Taken.{Taken}
 use Rattle.nt_objects.specs.declared.object.Taken.TheVariants.{Plain, Abandoned}
+use Rattle.nt_objects.specs.declared.mutexes.Released.{Released}
+use Rattle.nt_objects.specs.declared.mutexes.Released.TheVariants.{Freed, StillOwned}
 
 -- ---- the five kinds
 
@@ -159,10 +161,19 @@ abbrev pub overflows : ℤ → Object → Bool
 overflows n (Semaphore count maximum) = int_lt maximum (count +ℤ n)
 overflows n _ = false
 
+-- why a release by n is refused: the first cause that holds (ReleaseSemaphore)
+abbrev pub release_refusal : ℤ → Object → Option Refusal
+release_refusal n o = if int_le n (pos 0) then Some InvalidParameter else if overflows n o then Some TooManyPosts else None
+
 -- the mutex after one release by its owner: one level less deep, free after the last
 abbrev pub unlocked : Object → Object
 unlocked (Mutex owner depth abandoned) = if nat_le depth 1 then Mutex None 0 false else Mutex owner (depth - 1) abandoned
 unlocked o = o
+
+-- what releasing it answered tells whether the mutex is free or still thread t's
+abbrev pub TellsOwner : Released → ℕ → Object → Type 0
+TellsOwner Freed t o = owner_of o ≡ None
+TellsOwner StillOwned t o = owner_of o ≡ Some t
 
 -- thread t ends: a mutex that it owns is free, and marked
 abbrev pub abandoned_by : ℕ → Object → Object

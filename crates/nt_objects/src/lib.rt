@@ -2,7 +2,11 @@
 #![tactic(auto)]
 
 mod events;
+mod mutexes;
 mod object;
+mod semaphores;
 mod threads;
+mod timers;
 
+pub use mutexes::Released;
 pub use object::{Armed, Object, Routine, Taken};

@@ -81,7 +81,8 @@ impl Moment {
     }
 
     pub fn get(self) -> u64
-        ensures { result ≡ self }
+        ensures value { result ≡ self }
+        ensures limit { result ≤ 2 ^ 62 }
     {
         self.0
     }
