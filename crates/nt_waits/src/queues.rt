@@ -1,5 +1,5 @@
 //! The queues of all handles, over blocks in a slab.
-ghost use Rattle.std.specs.Prelude.{◌≡◌, ℕ, ◌+◌, ◌<◌, ◌≤◌, ◌^◌, ◌++◌, ◌∷◌, [], length, slice_set, OnOk, OnErr};
+ghost use Rattle.std.specs.Prelude.{◌≡◌, ℕ, ◌+◌, ◌<◌, ◌≤◌, ◌^◌, ◌++◌, ◌∷◌, [], length, slice_set, IfOk, OnOk, OnErr};
 
 use crate::block::{Block, BlockNumber, Ends};
 use crate::chain::{add_ends, attach, detach, thread_in};
@@ -49,6 +49,18 @@ impl Queues {
             ends: Vec::new(alloc),
             touched: 0,
         }
+    }
+
+    /// The same queues in memory of their own.
+    pub fn copy(&self) -> Result<Self, AllocError>
+        ensures lists { IfOk result (λ copied. copied.lists ≡ self.now.lists) }
+        ensures touched { IfOk result (λ copied. copied.touched ≡ self.now.touched) }
+    {
+        Ok(Queues {
+            blocks: self.blocks.clone()?,
+            ends: self.ends.clone()?,
+            touched: self.touched,
+        })
     }
 
     /// Makes room for so many blocks more.

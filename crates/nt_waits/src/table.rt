@@ -1,5 +1,5 @@
 //! The pending waits of all threads.
-ghost use Rattle.std.specs.Prelude.{nat_eq, ◌≡◌, ℕ, ◌<◌, ◌≤◌, ◌*◌, ◌++◌, ◌∷◌, [], length, slice_get, IsSome, Some, None, OnOk, OnErr, IfErr};
+ghost use Rattle.std.specs.Prelude.{nat_eq, ◌≡◌, ℕ, ◌<◌, ◌≤◌, ◌*◌, ◌++◌, ◌∷◌, [], length, slice_get, IsSome, Some, None, IfOk, OnOk, OnErr, IfErr};
 ghost use Rattle.std.specs.List.{IsDistinct};
 ghost use Rattle.std.specs.FinMap as map;
 ghost use Rattle.std.specs.Option.{option_copied, option_map};
@@ -61,6 +61,20 @@ impl WaitTable {
             count: 0,
             looked: 0,
         }
+    }
+
+    /// An equal table in memory of its own.
+    pub fn copy(&self) -> Result<Self, Refusal>
+        ensures value { IfOk result (λ copied. copied ≡ self.now) }
+        ensures memory { IfErr result (λ refusal. refusal ≡ Refusal.Memory) }
+        ensures agrees { Agrees self.now.pending self.now.queues }
+    {
+        Ok(WaitTable {
+            queues: self.queues.copy()?,
+            waits: self.waits.clone()?,
+            count: self.count,
+            looked: self.looked,
+        })
     }
 
     /// Begins the thread's wait, last in the queue of each handle that it names. Refused only where memory is, and then nothing changes.

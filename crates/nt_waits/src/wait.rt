@@ -1,5 +1,8 @@
 //! A wait, and what of it is told without a look.
+ghost use Rattle.std.specs.Prelude.{◌≡◌};
+
 use nt_status::Handles;
+use std::alloc::AllocError;
 
 /// A thread's wait for one of its handles, or for all of them. A sleep has no handle.
 #[derive(Drop)]
@@ -11,6 +14,19 @@ pub struct Wait {
     pub alertable: bool,
     /// The moment at which the wait times out, in units of 100 ns. Without one it never does.
     pub deadline: Option<u64>,
+}
+
+impl Clone for Wait {
+    ghost is_clone = { λ wait copy. copy ≡ wait };
+
+    fn clone(&self) -> Result<Self, AllocError> {
+        Ok(Wait {
+            handles: self.handles.copy()?,
+            all: self.all,
+            alertable: self.alertable,
+            deadline: self.deadline,
+        })
+    }
 }
 
 /// What of a wait is told without a look.
