@@ -1,5 +1,5 @@
 -- A copy of the blocks, the ends and the places.
-use Rattle.std.proofs.Common.{◌≡◌, ◌≢◌, ◌<◌, ◌≤◌, ℕ, List, [], ◌∷◌, length, get_or, map, Option, Some, None, refl, sym, ap, subst, ◌∙◌, inl, inr, arith}
+use Rattle.std.proofs.Common.{◌≡◌, ℕ, List, [], ◌∷◌, length, get_or, map, Option, Some, None, refl, sym, ap, subst, ◌∙◌, inl, inr, arith}
 use Rattle.std.proofs.lemmas.Bool.{cases_lt}
 use Rattle.std.proofs.lemmas.List.{get_or_past}
 use Rattle.std.proofs.lemmas.Option.{same_Some, none-some}
@@ -7,7 +7,6 @@ use Rattle.std.proofs.lemmas.List.Elements.{AllZip-get_or, length_all_zip}
 use Rattle.std.specs.List.{AllZip, each_same}
 use Rattle.std.specs.Option.{option_map}
 use Rattle.std.specs.Prelude.{IsSomeAnd}
-use Rattle.std.specs.Ordering.{nat_cmp}
 use Rattle.std.specs.Cmp.{nat_cmp_total}
 use Rattle.std.specs.FinMap as finmap
 use Rattle.slab.specs.Slab.{Slab, IsSlotClone, IsSlabClone}
@@ -16,10 +15,12 @@ use Rattle.nt_waits.specs.declared.block.Ends.{Ends}
 use Rattle.nt_waits.specs.declared.wait.Wait.{Wait}
 use Rattle.nt_waits.specs.declared.pending.Pending.{Pending}
 use Rattle.nt_waits.specs.Queue.{links}
-use Rattle.nt_waits.specs.Queues.{Lists, list_at}
+use Rattle.nt_waits.specs.Queues.{Lists}
 use Rattle.nt_waits.specs.Table.{slot_at, waits_of, IsLinked, IsTable}
 use Rattle.nt_waits.specs.Waits.{Names}
 use Rattle.nt_waits.specs.Pending.{IsCopy}
+use Rattle.nt_waits.specs.Deadlines.{deadline_in}
+use Rattle.nt_waits.proofs.DeadlineLemmas.{AreAlarmed}
 use Rattle.nt_waits.proofs.ViewLemmas.{get-waits}
 use Rattle.nt_waits.specs.Sound.{IsSound}
 use Rattle.nt_waits.proofs.SoundLemmas.{sound_kept}
@@ -113,3 +114,7 @@ module _ (old new : Lists) (slots copy : List (Option Pending))
     once = rw lists table.once;
     small = rw long table.small;
   }
+
+  -- the alarms of the waits are those of the copy
+  pub alarmed_copied : (deadlines : List (Option ℕ)) → AreAlarmed deadlines slots → AreAlarmed deadlines copy
+  alarmed_copied deadlines alarmed t = alarmed t ∙ ap deadline_in (sym (shown_same t))

@@ -7,6 +7,9 @@ use Rattle.nt_waits.specs.declared.pending.Pending.{Pending}
 use Rattle.nt_waits.specs.Link.{Link, AreNumbersOnce}
 use Rattle.nt_waits.specs.Queues.{Lists, list_at}
 use Rattle.std.specs.List.{IsDistinct}
+use Rattle.std.specs.Option.{option_map}
+use Rattle.nt_alarms.specs.Alarms.{alarm_at}
+use Rattle.nt_waits.specs.Deadlines.{deadline_in}
 use Rattle.nt_waits.specs.Waits.{AreOnce, Names}
 
 -- the link stands in the list
@@ -45,7 +48,8 @@ pub record IsTable (queues : Lists) (slots : List (Option Pending)) : Type 0 whe
   pub once : (handle : ℕ) → AreOnce (threads (list_at queues handle))
   pub small : length slots ≤ 65536
 
--- blocks and waits name each other, and the waits are counted
-pub record IsWhole (queues : Lists) (slots : List (Option Pending)) (count : ℕ) : Type 0 where
+-- blocks and waits name each other, the waits are counted, and the alarm of each thread is the deadline of its wait
+pub record IsWhole (queues : Lists) (slots : List (Option Pending)) (deadlines : List (Option ℕ)) (count : ℕ) : Type 0 where
   pub table : IsTable queues slots
   pub counted : count ≡ map.len (waits_of slots)
+  pub alarmed : (thread : ℕ) → alarm_at deadlines thread ≡ deadline_in (option_map (λ pending. pending.wait) (slot_at slots thread))

@@ -4,6 +4,7 @@
 mod begin;
 mod block;
 mod chain;
+mod deadlines;
 mod links;
 mod pending;
 mod place;

@@ -1,15 +1,17 @@
 //! The pending waits of all threads.
-ghost use Rattle.std.specs.Prelude.{nat_eq, ◌≡◌, ℕ, ◌<◌, ◌≤◌, ◌*◌, ◌++◌, ◌∷◌, [], length, slice_get, IsSome, Some, None, IfOk, OnOk, OnErr, IfErr};
+ghost use Rattle.std.specs.Prelude.{nat_eq, ◌≡◌, ℕ, ◌<◌, ◌≤◌, ◌*◌, ◌++◌, ◌∷◌, [], length, slice_get, IsSome, Some, None, IfOk, OnOk, OnErr, IfErr, MatchOption};
 ghost use Rattle.std.specs.List.{IsDistinct};
 ghost use Rattle.std.specs.FinMap as map;
 ghost use Rattle.std.specs.Option.{option_copied, option_map};
 ghost use Rattle.std.specs.Borrow.{sem};
 
 use crate::begin::begin_wait;
+use crate::deadlines::{clear_alarm, reserve_alarm, set_alarm};
 use crate::pending::Pending;
 use crate::queues::Queues;
 use crate::take::{next_in, take_wait, wait_in};
 use crate::wait::{About, Wait};
+use nt_alarms::Alarms;
 use nt_status::{Handle, Refusal, ThreadId};
 use std::alloc::Global;
 use std::marker::Model;
@@ -19,6 +21,7 @@ use std::marker::Model;
 pub struct WaitTable {
     queues: Queues,
     waits: Vec<Option<Pending>>,
+    deadlines: Alarms,
     count: usize,
     looked: u64,
 }
@@ -40,11 +43,12 @@ impl Model for WaitTable {
       touched = t.queues.touched;
     } };
 
-    ghost invariant = { λ t. IsWhole t.queues t.waits.items t.count };
+    ghost invariant = { λ t. IsWhole t.queues t.waits.items t.deadlines t.count };
 }
 
 impl WaitTable {
     ghost use Rattle.nt_waits.specs.Looking.{LeavesLooked};
+    ghost use Rattle.nt_waits.specs.Deadlines.{NoDeadline, NoneEarlier, IsEarliestDeadline, NoneWithDeadline, IsFirstWithDeadline};
     ghost use Rattle.nt_waits.specs.Waits.{wait_of, queue_of, about_of, others, Agrees, Names, IsMember, next_after};
 
     /// A table with no wait.
@@ -58,6 +62,7 @@ impl WaitTable {
         WaitTable {
             queues: Queues::new(alloc),
             waits: Vec::new(alloc),
+            deadlines: Alarms::new(alloc),
             count: 0,
             looked: 0,
         }
@@ -66,12 +71,13 @@ impl WaitTable {
     /// An equal table in memory of its own.
     pub fn copy(&self) -> Result<Self, Refusal>
         ensures value { IfOk result (λ copied. copied ≡ self.now) }
+        ensures agrees { IfOk result (λ copied. Agrees copied.pending copied.queues) }
         ensures memory { IfErr result (λ refusal. refusal ≡ Refusal.Memory) }
-        ensures agrees { Agrees self.now.pending self.now.queues }
     {
         Ok(WaitTable {
             queues: self.queues.copy()?,
             waits: self.waits.clone()?,
+            deadlines: self.deadlines.copy()?,
             count: self.count,
             looked: self.looked,
         })
@@ -91,7 +97,10 @@ impl WaitTable {
         ensures memory { IfErr result (λ refusal. refusal ≡ Refusal.Memory) }
         ensures err { OnErr result (self.new ≡ self.old) }
     {
+        let deadline = wait.deadline;
+        reserve_alarm(&mut self.deadlines, t, deadline)?;
         begin_wait(&mut self.queues, &mut self.waits, t, wait)?;
+        set_alarm(&mut self.deadlines, t, deadline);
         self.count += 1;
         Ok(())
     }
@@ -108,6 +117,7 @@ impl WaitTable {
         ensures agrees { Agrees self.new.pending self.new.queues }
     {
         self.count -= 1;
+        clear_alarm(&mut self.deadlines, t);
         take_wait(&mut self.queues, &mut self.waits, t)
     }
 
@@ -150,6 +160,22 @@ impl WaitTable {
         ensures { result ≡ map.len self.now.pending }
     {
         self.count
+    }
+
+    /// The earliest deadline of a pending wait, in units of 100 ns, if one has a deadline.
+    pub fn earliest_deadline(&self) -> Option<u64>
+        ensures { MatchOption result (NoDeadline self.now.pending) (IsEarliestDeadline self.now.pending) }
+    {
+        self.deadlines.earliest()
+    }
+
+    /// The lowest thread whose pending wait has this deadline, where none has an earlier one.
+    pub fn first_with_deadline(&self, moment: u64) -> Option<ThreadId>
+        requires { NoneEarlier self.now.pending moment }
+        ensures { MatchOption result (NoneWithDeadline self.now.pending moment) (IsFirstWithDeadline self.now.pending moment) }
+    {
+        let place = self.deadlines.first_at(moment)?;
+        Some(ThreadId::new(place as u16))
     }
 
     /// The thread whose wait on the handle began first.

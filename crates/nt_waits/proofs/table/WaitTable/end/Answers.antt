@@ -4,6 +4,7 @@ use Rattle.nt_waits.specs.Table.{slot_at, waits_of}
 use Rattle.nt_waits.specs.Waits.{Waits, wait_of, queue_of, others}
 use Rattle.nt_waits.proofs.TableLemmas.{slot_within}
 use Rattle.nt_waits.proofs.ViewLemmas.{get-waits, waits-removed, get_or-threads, IsSome-mapped}
+use Rattle.nt_waits.proofs.DeadlineLemmas.{alarmed_ended}
 use Rattle.nt_waits.proofs.AgreeLemmas.{agrees}
 use Rattle.nt_waits.proofs.CountLemmas.{len-some, len-ended}
 use Rattle.nt_waits.proofs.table.WaitTable.end.Goals as goal
@@ -45,6 +46,7 @@ invariant_of-self c =
     record {
       table = c.take_wait.ensures.table;
       counted = rw (c.take_wait.ensures.slots, waits-removed items c.args.t within, len-ended (waits_of items) c.args.t there) (ap (λ (n : ℕ). n - 1) c.self.invariant.counted);
+      alarmed = rw c.take_wait.ensures.slots (alarmed_ended c.self.inside.deadlines c.clear_alarm.new.alarms items c.args.t c.self.invariant.alarmed within c.clear_alarm.ensures.here c.clear_alarm.ensures.others);
     }
 
 pub returns-clause-agrees : goal.returns-clause-agrees
