@@ -1,5 +1,5 @@
 -- Creation flags as bits (Win32 reference, the pages of CreateEventEx, CreateMutexEx and CreateWaitableTimerEx).
-use Rattle.std.specs.Prelude.{ℕ, Bool, ◌==◌}
+use Rattle.std.specs.Prelude.{ℕ, ◌+◌, Bool, ◌==◌}
 use Rattle.std.specs.Int.RustNames.{bit_and}
 
 -- CREATE_EVENT_MANUAL_RESET
@@ -18,15 +18,17 @@ mutex_initial_owner = 1
 abbrev pub timer_manual_reset : ℕ
 timer_manual_reset = 1
 
--- the bits that name a flag of CreateEventEx, of CreateMutexEx, of CreateWaitableTimerEx
+-- the bits that name a flag of CreateEventEx
 abbrev pub event_bits : ℕ
-event_bits = 3
+event_bits = event_manual_reset + event_initial_set
 
+-- the bits that name a flag of CreateMutexEx
 abbrev pub mutex_bits : ℕ
-mutex_bits = 1
+mutex_bits = mutex_initial_owner
 
+-- the bits that name a flag of CreateWaitableTimerEx
 abbrev pub timer_bits : ℕ
-timer_bits = 1
+timer_bits = timer_manual_reset
 
 -- the flag is among the flags
 abbrev pub has_flag : ℕ → ℕ → Bool

@@ -1,9 +1,36 @@
-ghost use Rattle.std.specs.Prelude.{◌≡◌, ◌++◌, ◌∷◌, [], List, ℕ, IfOk, OnOk, OnErr, length};
+ghost use Rattle.std.specs.Prelude.{◌≡◌, ◌++◌, ◌∷◌, [], IfOk, OnOk, OnErr};
 
-use crate::ids::Handle;
 use smallvec::SmallVec;
 use std::alloc::{AllocError, Global};
 use std::marker::Model;
+
+/// A handle, by its number.
+#[derive(Clone, Copy, Default, PartialEq, Eq, PartialOrd, Ord, Debug)]
+pub struct Handle(u32);
+
+impl Model for Handle {
+    ghost use Rattle.std.specs.Prelude.{ℕ};
+
+    ghost Value = { ℕ };
+
+    ghost view = { λ h. h.0 };
+
+    ghost inverse = { λ n. record { 0 = n } };
+}
+
+impl Handle {
+    pub fn new(number: u32) -> Self
+        ensures { result ≡ number }
+    {
+        Handle(number)
+    }
+
+    pub fn get(self) -> u32
+        ensures { result ≡ self }
+    {
+        self.0
+    }
+}
 
 /// The handles that a wait names, in order. Up to eight take no memory.
 #[derive(Drop)]
@@ -54,6 +81,7 @@ impl Handles {
         Handles::from_slice(*self.items.allocator(), self.items.as_slice())
     }
 
+    /// The handles, in order.
     pub fn as_slice(&self) -> &[Handle]
         ensures { result.now ≡ self.now }
     {

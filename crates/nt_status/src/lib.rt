@@ -1,14 +1,22 @@
 //! Statuses, refusals, creation flags, and the numbers of threads, handles and moments.
 #![tactic(auto)]
 
-mod flags;
+mod event_flags;
 mod handles;
-mod ids;
+mod moment;
+mod mutex_flags;
 mod refusal;
 mod status;
+#[cfg(test)]
+mod tests;
+mod thread_id;
+mod timer_flags;
 
-pub use flags::{EventFlags, MutexFlags, TimerFlags};
-pub use handles::Handles;
-pub use ids::{Handle, Moment, ThreadId};
+pub use event_flags::EventFlags;
+pub use handles::{Handle, Handles};
+pub use moment::Moment;
+pub use mutex_flags::MutexFlags;
 pub use refusal::Refusal;
 pub use status::Status;
+pub use thread_id::ThreadId;
+pub use timer_flags::TimerFlags;

@@ -65,6 +65,6 @@ impl From<AllocError> for Refusal {
     ghost from_gives = { λ _ refusal. refusal ≡ Memory };
 
     fn from(_refused: AllocError) -> Refusal {
-        Refusal::Memory
+        Self::Memory
     }
 }

@@ -1,5 +1,5 @@
 ghost use Rattle.std.specs.Prelude.{◌≡◌, ◌<◌, IsTrue};
-ghost use Rattle.nt_status.specs.Status.{object_code, abandoned_code, timeout_code, io_completion_code, is_status_code};
+ghost use Rattle.nt_status.specs.Status.{object_code, abandoned_code, is_status_code};
 
 use std::marker::Model;
 

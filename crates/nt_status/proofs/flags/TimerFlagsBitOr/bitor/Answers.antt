@@ -1,6 +1,0 @@
-use Rattle.nt_status.proofs.Known.{only_known-or}
-use Rattle.nt_status.specs.Flags.{timer_bits}
-use Rattle.nt_status.proofs.flags.TimerFlagsBitOr.bitor.Goals as goal
-
-pub invariant_of-result : goal.invariant_of-result
-invariant_of-result c = rw (c.union.ensures tt) (only_known-or timer_bits _ _ c.self.invariant c.other.invariant)

@@ -1,0 +1,6 @@
+use Rattle.nt_status.proofs.Known.{only_known-or}
+use Rattle.nt_status.specs.Flags.{mutex_bits}
+use Rattle.nt_status.proofs.mutex_flags.MutexFlagsBitOr.bitor.Goals as goal
+
+pub invariant_of-result : goal.invariant_of-result
+invariant_of-result c = rw (c.union.ensures tt) (only_known-or mutex_bits _ _ c.self.invariant c.other.invariant)
