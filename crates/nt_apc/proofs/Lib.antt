@@ -1,0 +1,4 @@
+pub mod ListLemmas
+pub mod QueueLemmas
+pub mod SoundLemmas
+pub mod ViewLemmas

@@ -1,0 +1,3 @@
+pub mod Inbox
+pub mod Place
+pub mod Queues
