@@ -11,6 +11,8 @@ mod place;
 mod queues;
 mod table;
 mod take;
+#[cfg(test)]
+mod tests;
 mod wait;
 
 pub use table::WaitTable;

@@ -116,11 +116,8 @@ impl Queues {
     pub fn first(&self, handle: Handle) -> Option<ThreadId>
         ensures { result ≡ first_thread (list_at self.now handle) }
     {
-        let at = handle.get() as usize;
-        if at >= self.ends.len() {
-            return None;
-        }
-        thread_in(&self.blocks, self.ends[at].first)
+        let ends = self.ends.get(handle.get() as usize)?;
+        thread_in(&self.blocks, ends.first)
     }
 
     /// The thread behind this block.

@@ -11,7 +11,6 @@ use crate::pending::Pending;
 use crate::queues::Queues;
 use crate::wait::Wait;
 use nt_status::{Handle, ThreadId};
-use std::mem;
 
 /// Takes the wait of the thread out of its place, and its blocks out of their queues.
 pub fn take_wait(queues: &mut Queues, waits: &mut Vec<Option<Pending>>, t: ThreadId) -> Wait
@@ -24,43 +23,30 @@ pub fn take_wait(queues: &mut Queues, waits: &mut Vec<Option<Pending>>, t: Threa
     ensures at_least { length result.handles ≤ queues.new.touched }
     ensures at_most { queues.new.touched ≤ 3 * length result.handles }
 {
-    let place = t.get() as usize;
-    match mem::replace(&mut waits[place], None) {
-        Some(Pending { wait, numbers }) => {
-            queues.touch_anew();
-            unlink_all(queues, wait.handles.as_slice(), numbers.as_slice());
-            wait
-        }
-        None => unreachable!(),
-    }
+    let Some(Pending { wait, numbers }) = waits[t.get() as usize].take() else {
+        unreachable!()
+    };
+    queues.touch_anew();
+    unlink_all(queues, wait.handles.as_slice(), numbers.as_slice());
+    wait
 }
 
 /// The wait of the thread, if it has one.
-pub fn wait_in(waits: &Vec<Option<Pending>>, t: ThreadId) -> Option<&Wait>
-    ensures { option_copied result ≡ option_map (λ p. p.wait) (slot_at waits.now.items t) }
+pub fn wait_in(waits: &[Option<Pending>], t: ThreadId) -> Option<&Wait>
+    ensures { option_copied result ≡ option_map (λ p. p.wait) (slot_at waits.now t) }
 {
-    let place = t.get() as usize;
-    if place >= waits.len() {
-        return None;
-    }
-    match &waits[place] {
-        Some(pending) => Some(&pending.wait),
-        None => None,
-    }
+    let pending = pending_in(waits, t)?;
+    Some(&pending.wait)
 }
 
 /// The thread's wait with its blocks, if it has one.
-fn pending_in(waits: &Vec<Option<Pending>>, t: ThreadId) -> Option<&Pending>
-    ensures { option_copied result ≡ slot_at waits.now.items t }
+fn pending_in(waits: &[Option<Pending>], t: ThreadId) -> Option<&Pending>
+    ensures { option_copied result ≡ slot_at waits.now t }
 {
-    let place = t.get() as usize;
-    if place >= waits.len() {
-        return None;
-    }
-    waits[place].as_ref()
+    waits.get(t.get() as usize)?.as_ref()
 }
 
-/// The place of this handle.
+/// The place of this handle among the handles of a wait.
 fn place_of(handles: &[Handle], handle: Handle) -> Option<usize>
     ensures { result ≡ position (λ named. named == handle) handles.now }
 {
@@ -70,11 +56,11 @@ fn place_of(handles: &[Handle], handle: Handle) -> Option<usize>
 /// The thread after this one in the queue of the handle.
 pub fn next_in(
     queues: &Queues,
-    waits: &Vec<Option<Pending>>,
+    waits: &[Option<Pending>],
     handle: Handle,
     t: ThreadId,
 ) -> Option<ThreadId>
-    requires table { IsTable queues.now waits.now.items }
+    requires table { IsTable queues.now waits.now }
     requires there { IsMember (threads (list_at queues.now handle)) t }
     ensures { result ≡ next_after t (threads (list_at queues.now handle)) }
 {

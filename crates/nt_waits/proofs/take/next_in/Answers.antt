@@ -13,19 +13,19 @@ use Rattle.nt_waits.proofs.take.next_in.Goals.{In-Some, In-Some-place_of, After-
 
 pub unreachable-requires : goal.unreachable-requires
 unreachable-requires c =
-    let found = waiter c.args.queues.now c.args.waits.now.items c.args.handle c.args.t c.requires.table c.requires.there in
-    let none : None ≡ slot_at c.args.waits.now.items c.args.t = c.in_default.ensures in
+    let found = waiter c.args.queues.now c.args.waits.now c.args.handle c.args.t c.requires.table c.requires.there in
+    let none : None ≡ slot_at c.args.waits.now c.args.t = c.in_default.ensures in
     let h : Some found.0 ≡ None = sym found.1 ∙ sym none in
     (cc)
 
 -- the wait that was found is the thread's
-there : (c : In-Some) → slot_at c.args.waits.now.items c.args.t ≡ Some c.in-Some.pending.now
+there : (c : In-Some) → slot_at c.args.waits.now c.args.t ≡ Some c.in-Some.pending.now
 there c = sym c.in-Some.ensures
 
 pub unreachable-requires-in_default-place_of : goal.unreachable-requires-in_default-place_of
 unreachable-requires-in_default-place_of c =
     let slot = there (goal.at.unreachable-requires-in_default-place_of c).In-Some in
-    let found = waiter c.args.queues.now c.args.waits.now.items c.args.handle c.args.t c.requires.table c.requires.there in
+    let found = waiter c.args.queues.now c.args.waits.now c.args.handle c.args.t c.requires.table c.requires.there in
     let same : Some found.0 ≡ Some c.in-Some.pending.now = sym found.1 ∙ slot in
     let same' : found.0 ≡ c.in-Some.pending.now = (cc) in
     let named = subst (λ (p : Pending). Names p.wait c.args.handle) same' found.2 in

@@ -6,10 +6,10 @@ use Rattle.nt_waits.proofs.table.WaitTable.about.Goals as goal
 
 pub returns-in_err-wait : goal.returns-in_err-wait
 returns-in_err-wait c =
-    let value = c.wait_in.ensures ∙ sym (get-waits c.self.inside.waits.items c.args.t) ∙ ap (λ v. wait_of v c.args.t) c.self.view_is in
+    let value = (rw c.deref.ensures.value at c.wait_in.ensures) ∙ sym (get-waits c.self.inside.waits.items c.args.t) ∙ ap (λ v. wait_of v c.args.t) c.self.view_is in
     c.from_residual.ensures ∙ ap (option_map about_of) (ap option_copied (sym c.in_err-wait.was) ∙ value)
 
 pub returns : goal.returns
 returns c =
-    let value = c.wait_in.ensures ∙ sym (get-waits c.self.inside.waits.items c.args.t) ∙ ap (λ v. wait_of v c.args.t) c.self.view_is in
+    let value = (rw c.deref.ensures.value at c.wait_in.ensures) ∙ sym (get-waits c.self.inside.waits.items c.args.t) ∙ ap (λ v. wait_of v c.args.t) c.self.view_is in
     ap (option_map about_of) (ap option_copied (sym c.in_ok-wait.was) ∙ value)
