@@ -19,6 +19,9 @@ impl Model for Moment {
 }
 
 impl Moment {
+    /// The dispatcher's moment 0.
+    pub const ZERO: Moment = Moment(0);
+
     /// The moment of this number, in units of 100 ns. None above 2^62.
     pub fn new(value: u64) -> Option<Self>
         ensures valid { IsSome result ↔ (value ≤ 2 ^ 62) }

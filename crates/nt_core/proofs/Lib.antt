@@ -1,0 +1,12 @@
+mod Taking
+mod Ready
+mod Tries
+mod Orders
+mod Keeping
+mod Walks
+mod Visiting
+mod Changing
+mod Accepting
+mod Replacing
+mod Beginning
+mod Unique

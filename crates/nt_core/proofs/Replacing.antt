@@ -1,0 +1,251 @@
+-- Calls that exchange one object, and serve the waits on it.
+use Rattle.std.proofs.Common.{◌≡◌, ◌≢◌, ◌<◌, ◌≤◌, ◌^◌, ℕ, zero, suc, ◌+◌, Bool, true, false, cond, not, ◌&&◌, List, [], ◌∷◌, ◌++◌, length, length-append, set, refl, sym, ap, ◌∙◌, subst, arith, inl, inr, ◌⊎◌, Some, None}
+use Rattle.std.specs.List.{filter, flat_map}
+use Rattle.std.proofs.lemmas.Bool.{cases_eq, false≢true}
+use Rattle.std.proofs.lemmas.List.{append-nil}
+use Rattle.std.proofs.lemmas.Bool.Decides.{nat_tests}
+use Rattle.std.proofs.Common.{◌==◌}
+use Rattle.nt_waits.specs.Waits.{IsMember, AreOnce, others}
+use Rattle.nt_objects.specs.declared.object.Object.{Object}
+use Rattle.nt_objects.specs.declared.object.Object.TheVariants.{Event, Semaphore, Mutex, Timer, Thread}
+use Rattle.nt_objects.specs.Object.{signaled, taken, is_event, with_set, due_of, IsLawfulObject}
+use Rattle.nt_core.specs.declared.call.Call.{Call}
+use Rattle.nt_core.specs.declared.call.Act.{Act}
+use Rattle.nt_core.specs.declared.call.Reply.{Reply}
+use Rattle.nt_core.specs.Rising.{AreRising}
+use Rattle.nt_core.specs.State.{State, object_at, with_object}
+use Rattle.nt_core.specs.Dispatcher.{Dispatcher, state}
+use Rattle.nt_core.specs.declared.call.Grant.{Grant}
+use Rattle.nt_core.specs.Serving.{is_ready, IsChanged, sequence, IsServed, Serve, Grants, granted}
+use Rattle.nt_core.specs.Change.{change, at, created}
+use Rattle.nt_core.specs.Steps.{Step, after_serving, answered, NothingDue}
+use Rattle.nt_core.specs.Visits.{FitOnlyIn}
+use Rattle.nt_core.specs.Lawful.{IsSound, IsSettled, IsLawful}
+use Rattle.nt_core.specs.Accepts.{IsFresh, IsServedAfter, Accepts}
+use Rattle.nt_core.proofs.Changing.{MayReplace, ChangedOnlyAt, one_changed, same_changed, fit_only_in, changed_at_one, sound_replaced, served_fewer, due_replaced, none_created, sound_created, served_unchanged, object_at-append, due_kept, known_event, set_as_before, object_at-set_same}
+use Rattle.nt_core.proofs.Accepting.{accepted, settled_after, reading_taken_by}
+use Rattle.nt_core.proofs.Walks.{others-IsMember, AreOnce-others}
+
+-- ---- a queue holds each thread once at most
+
+length-others : (t : ℕ) (q : List ℕ) → AreOnce q → length q ≤ length (others t q) + 1
+length-others t [] once = omega arith
+length-others t (x ∷ q) once = elim (cases_eq x t) [
+  | inl same ↦ rw (is_same x t same) (let here : length q ≤ length (others t q) = absent t q (λ m. once.0 (subst (λ (y : ℕ). IsMember q y) (sym same) m)) in omega (arith, here))
+  | inr other ↦ rw (is_other x t other) (let rest = length-others t q once.1 in omega (arith, rest))
+]
+  where
+    is_same : (a b : ℕ) → a ≡ b → (a == b) ≡ true
+    is_same a b e = grind (arith, nat_tests, e)
+
+    is_other : (a b : ℕ) → a ≢ b → (a == b) ≡ false
+    is_other a b e = grind (arith, nat_tests, e)
+
+    absent : (t : ℕ) (q : List ℕ) → (IsMember q t → ⊥) → length q ≤ length (others t q)
+    absent t [] none = omega arith
+    absent t (x ∷ q) none = rw (is_other x t (λ e. none (inl e))) (let rest = absent t q (λ m. none (inr m)) in omega (arith, rest))
+
+once_few : (n : ℕ) (q : List ℕ) → AreOnce q → ((u : ℕ) → IsMember q u → u < n) → length q ≤ n
+once_few zero [] once below = omega arith
+once_few zero (x ∷ q) once below = let lt = below x (inl refl) in absurd (omega (arith, lt))
+once_few (suc n) q once below =
+    let fewer = length-others n q once in
+    let rest = once_few n (others n q) (AreOnce-others n q once) smaller in
+    omega (arith, fewer, rest)
+  where
+    smaller : (u : ℕ) → IsMember (others n q) u → u < n
+    smaller u m = let parts = others-IsMember n u q m in let lt = below u parts.0 in let differs = parts.1 in omega (arith, lt, differs)
+
+pub queue_few : (d : Dispatcher) (h : ℕ) → IsSound d → length ((state d).queues h) ≤ 256
+queue_few d h sound =
+    let few = once_few d.threads ((state d).queues h) (sound.blocks.once h) (λ u m. let own = sound.blocks.named u h m in (sound.waits u own.0 own.1).known) in
+    let all = sound.few in
+    omega (arith, few, all)
+
+pub one_few : (d : Dispatcher) (h : ℕ) → IsSound d → length (sequence (state d) (h ∷ [])) < 2 ^ 64
+one_few d h sound = let few = queue_few d h sound in rw (append-nil ((state d).queues h)) (omega (arith, few))
+
+-- ---- one object is exchanged for another that satisfies more waits, and the waits on it are served
+
+pub replaced_fit : (d : Dispatcher) (h : ℕ) (o : Object) → IsLawful d → FitOnlyIn (sequence (state d) (h ∷ [])) (state (record d { objects = set d.objects h o }))
+replaced_fit d h o lawful = fit_only_in (h ∷ []) d (set d.objects h o) lawful.sound lawful.settled.served (changed_at_one d.objects h o)
+
+pub replaced_served : (old new : Dispatcher) (h : ℕ) (o : Object) → h < length old.objects → o ≢ object_at old.objects h → Serve (sequence (state old) (h ∷ [])) (state (record old { objects = set old.objects h o })) new.grants (state new) → IsSound new → new.table.looked ≤ length (sequence (state old) (h ∷ [])) → length new.grants ≤ new.table.looked → IsServedAfter old (state (record old { objects = set old.objects h o })) new
+replaced_served old new h o known differs serve sound most least = record {
+  handles = h ∷ [];
+  changed = one_changed old.objects h o known differs;
+  serves = serve;
+  sound = sound;
+  most = most;
+  least = least;
+}
+
+-- nothing is changed, or nothing that satisfies more waits
+pub idle_served : (old : Dispatcher) (mid : State) (new : Dispatcher) (handles : List ℕ) → IsFresh old → AreRising (IsChanged old.objects mid.objects) handles → new.grants ≡ old.grants → new.table.looked ≡ old.table.looked → state new ≡ mid → IsLawful new → IsServedAfter old mid new
+idle_served old mid new handles fresh changed grants looked is lawful = record {
+  handles = handles;
+  changed = changed;
+  serves = subst (λ (gs : List Grant). Serve (sequence (state old) handles) mid gs (state new)) (sym (grants ∙ fresh.no_grants)) (is, lawful.settled.served);
+  sound = lawful.sound;
+  most = let none : new.table.looked ≡ 0 = looked ∙ fresh.untested in omega (arith, none);
+  least = let none : length new.grants ≡ 0 = ap (λ gs. length gs) (grants ∙ fresh.no_grants) in omega (arith, none);
+}
+
+-- ---- events
+
+pub set_may_replace : (set : Bool) (o : Object) → is_event o ≡ true → MayReplace o (with_set set o)
+set_may_replace set (Event manual was) is = record { lawful = tt; thread = refl; ended = refl; unlimited = λ u below. below }
+set_may_replace set (Semaphore count maximum) is = absurd (false≢true is)
+set_may_replace set (Mutex owner depth abandoned) is = absurd (false≢true is)
+set_may_replace set (Timer manual was armed) is = absurd (false≢true is)
+set_may_replace set (Thread ended) is = absurd (false≢true is)
+
+due_with_set : (set : Bool) (o : Object) → is_event o ≡ true → due_of (with_set set o) ≡ due_of o
+due_with_set set (Event manual was) is = refl
+due_with_set set (Semaphore count maximum) is = refl
+due_with_set set (Mutex owner depth abandoned) is = refl
+due_with_set set (Timer manual was armed) is = absurd (false≢true is)
+due_with_set set (Thread ended) is = refl
+
+event_with_set : (set : Bool) (o : Object) → is_event o ≡ true → is_event (with_set set o) ≡ true
+event_with_set set (Event manual was) is = refl
+event_with_set set (Semaphore count maximum) is = is
+event_with_set set (Mutex owner depth abandoned) is = is
+event_with_set set (Timer manual was armed) is = absurd (false≢true is)
+event_with_set set (Thread ended) is = is
+
+signaled_with_set : (set : Bool) (o : Object) (t : ℕ) → is_event o ≡ true → signaled (with_set set o) t ≡ set
+signaled_with_set set (Event manual was) t is = refl
+signaled_with_set set (Semaphore count maximum) t is = absurd (false≢true is)
+signaled_with_set set (Mutex owner depth abandoned) t is = absurd (false≢true is)
+signaled_with_set set (Timer manual was armed) t is = absurd (false≢true is)
+signaled_with_set set (Thread ended) t is = absurd (false≢true is)
+
+with_set_same : (o : Object) (t : ℕ) → is_event o ≡ true → with_set (signaled o t) o ≡ o
+with_set_same (Event manual was) t is = refl
+with_set_same (Semaphore count maximum) t is = absurd (false≢true is)
+with_set_same (Mutex owner depth abandoned) t is = absurd (false≢true is)
+with_set_same (Timer manual was armed) t is = absurd (false≢true is)
+with_set_same (Thread ended) t is = absurd (false≢true is)
+
+set_differs : (o : Object) (t : ℕ) → is_event o ≡ true → signaled o t ≡ false → with_set true o ≢ o
+set_differs o t is unset e = false≢true (sym unset ∙ (sym (ap (λ x. signaled x t) e) ∙ signaled_with_set true o t is))
+
+-- the event was not set
+pub raised : (old new : Dispatcher) (t h : ℕ) → is_event (object_at old.objects h) ≡ true → signaled (object_at old.objects h) t ≡ false → Serve (sequence (state old) (h ∷ [])) (at (state old) h (with_set true)) new.grants (state new) → IsSound new → new.table.looked ≤ length (sequence (state old) (h ∷ [])) → length new.grants ≤ new.table.looked → IsServedAfter old (at (state old) h (with_set true)) new
+raised old new t h is unset serve sound most least =
+    replaced_served old new h (with_set true (object_at old.objects h)) (known_event old.objects h is) (set_differs (object_at old.objects h) t is unset) serve sound most least
+
+-- the event was set
+pub raised_idle : (old : Dispatcher) (t h : ℕ) → IsFresh old → is_event (object_at old.objects h) ≡ true → signaled (object_at old.objects h) t ≡ true → IsServedAfter old (at (state old) h (with_set true)) old
+raised_idle old t h fresh is was =
+    let o = object_at old.objects h in
+    let same : with_set true o ≡ o = ap (λ b. with_set b o) (sym was) ∙ with_set_same o t is in
+    let objects : with_object old.objects h (with_set true) ≡ old.objects = set_as_before old.objects h (with_set true o) same in
+    idle_served old (at (state old) h (with_set true)) old [] fresh (same_changed old.objects (with_object old.objects h (with_set true)) objects) refl refl (λ i. record (state old) { objects = sym objects i }) fresh.lawful
+
+-- what holds of a state at which an event was set, and waits are served
+pub raised_settled : (old new : Dispatcher) (h : ℕ) → IsFresh old → is_event (object_at old.objects h) ≡ true → IsServedAfter old (at (state old) h (with_set true)) new → IsLawful new
+raised_settled old new h fresh is after = record {
+  sound = after.sound;
+  settled = settled_after (sequence (state old) after.handles) (at (state old) h (with_set true)) (state new) new.grants after.serves fresh.lawful.settled.alerted
+      (due_replaced (state old) h (with_set true (object_at old.objects h)) old.now (due_with_set true (object_at old.objects h) is) fresh.lawful.settled.passed);
+}
+
+pub set_accepted : (old new : Dispatcher) (t h : ℕ) → IsFresh old → is_event (object_at old.objects h) ≡ true → IsServedAfter old (at (state old) h (with_set true)) new → Accepts old new t (Call.Act (Act.SetEvent h)) Reply.Done
+set_accepted old new t h fresh is after = accepted old new new t (Call.Act (Act.SetEvent h)) Reply.Done after refl refl refl (raised_settled old new h fresh is after) refl
+
+-- what is reset satisfies no more waits
+unready_reset : (os : List Object) (h u k : ℕ) → is_event (object_at os h) ≡ true → is_ready os u k ≡ false → is_ready (with_object os h (with_set false)) u k ≡ false
+unready_reset [] h u k is e = e
+unready_reset (o ∷ os) zero u zero is e = signaled_with_set false o u is
+unready_reset (o ∷ os) zero u (suc k) is e = e
+unready_reset (o ∷ os) (suc h) u zero is e = e
+unready_reset (o ∷ os) (suc h) u (suc k) is e = unready_reset os h u k is e
+
+pub reset_lawful : (d : Dispatcher) (h : ℕ) → IsLawful d → is_event (object_at d.objects h) ≡ true → IsLawful (record d { objects = with_object d.objects h (with_set false) })
+reset_lawful d h lawful is =
+    let o = object_at d.objects h in
+    record {
+      sound = sound_replaced d h (with_set false o) lawful.sound (set_may_replace false o is);
+      settled = record {
+        served = served_fewer (state d) (with_object d.objects h (with_set false)) lawful.settled.served (λ u k e. unready_reset d.objects h u k is e);
+        alerted = lawful.settled.alerted;
+        passed = due_replaced (state d) h (with_set false o) d.now (due_with_set false o is) lawful.settled.passed;
+      };
+    }
+
+pub reset_accepted : (old : Dispatcher) (t h : ℕ) → IsFresh old → is_event (object_at old.objects h) ≡ true → Accepts old (record old { objects = with_object old.objects h (with_set false) }) t (Call.Act (Act.ResetEvent h)) Reply.Done
+reset_accepted old t h fresh is = go (signaled (object_at old.objects h) t) refl
+  where
+    new : Dispatcher
+    new = record old { objects = with_object old.objects h (with_set false) }
+
+    whole : (handles : List ℕ) → AreRising (IsChanged old.objects new.objects) handles → Accepts old new t (Call.Act (Act.ResetEvent h)) Reply.Done
+    whole handles changed =
+        accepted old new new t (Call.Act (Act.ResetEvent h)) Reply.Done
+        (idle_served old (state new) new handles fresh changed refl refl refl (reset_lawful old h fresh.lawful is))
+        refl refl refl (reset_lawful old h fresh.lawful is) refl
+
+    go : (b : Bool) → signaled (object_at old.objects h) t ≡ b → Accepts old new t (Call.Act (Act.ResetEvent h)) Reply.Done
+    go true was = whole (h ∷ []) (one_changed old.objects h (with_set false (object_at old.objects h)) (known_event old.objects h is) (λ e. false≢true (sym (signaled_with_set false (object_at old.objects h) t is) ∙ (ap (λ x. signaled x t) e ∙ was))))
+    go false was = whole [] (same_changed old.objects new.objects (set_as_before old.objects h (with_set false (object_at old.objects h)) (ap (λ b. with_set b (object_at old.objects h)) (sym was) ∙ with_set_same (object_at old.objects h) t is)))
+
+event_taken : (o : Object) (t : ℕ) → is_event (taken o t) ≡ is_event o
+event_taken (Event manual set) t = refl
+event_taken (Semaphore count maximum) t = refl
+event_taken (Mutex None depth abandoned) t = refl
+event_taken (Mutex (Some owner) depth abandoned) t = refl
+event_taken (Timer manual set armed) t = refl
+event_taken (Thread ended) t = refl
+
+-- grants leave an event an event
+pub event_served : (threads : List ℕ) (s new : State) (gs : List Grant) (h : ℕ) → Grants threads s gs new → is_event (object_at new.objects h) ≡ is_event (object_at s.objects h)
+event_served threads s new [] h is = ap (λ (x : State). is_event (object_at x.objects h)) is
+event_served threads s new (g ∷ gs) h has = event_served threads (granted s g.thread has.1) new gs h has.3 ∙ reading_taken_by is_event (λ o t. event_taken o t) s.objects g.thread has.1 h
+
+-- it is still an event when waits are served
+pub still_event : (old mid : Dispatcher) (h : ℕ) → is_event (object_at old.objects h) ≡ true → IsServedAfter old (at (state old) h (with_set true)) mid → is_event (object_at mid.objects h) ≡ true
+still_event old mid h is after =
+    event_served (sequence (state old) after.handles) (at (state old) h (with_set true)) (state mid) mid.grants h after.serves.0
+    ∙ (ap is_event (object_at-set_same old.objects h (with_set true (object_at old.objects h)) (known_event old.objects h is)) ∙ event_with_set true (object_at old.objects h) is)
+
+-- a pulse is a set, and then the event is not set
+pub pulse_accepted : (old mid : Dispatcher) (t h : ℕ) → IsFresh old → is_event (object_at old.objects h) ≡ true → IsServedAfter old (at (state old) h (with_set true)) mid → Accepts old (record mid { objects = with_object mid.objects h (with_set false) }) t (Call.Act (Act.PulseEvent h)) Reply.Done
+pulse_accepted old mid t h fresh is after =
+    let still = still_event old mid h is after in
+    accepted old mid (record mid { objects = with_object mid.objects h (with_set false) }) t (Call.Act (Act.PulseEvent h)) Reply.Done after refl refl refl
+    (reset_lawful mid h (raised_settled old mid h fresh is after) still) refl
+
+-- ---- creations
+
+-- no object that was there changes
+created_only : (os : List Object) (o : Object) → ChangedOnlyAt [] os (os ++ o ∷ [])
+created_only os o h known = inl (object_at-append os (o ∷ []) h known)
+
+due_created : (os : List Object) (o : Object) (k : ℕ) → due_of o ≡ None → (due_of (object_at (os ++ o ∷ []) k) ≡ due_of (object_at os k)) ⊎ (due_of (object_at (os ++ o ∷ []) k) ≡ None)
+due_created [] o zero due = inr due
+due_created [] o (suc k) due = inl refl
+due_created (x ∷ os) o zero due = inl refl
+due_created (x ∷ os) o (suc k) due = due_created os o k due
+
+pub created_accepted : (old new : Dispatcher) (t : ℕ) (o : Object) (call : Call) (handle : ℕ) → IsFresh old → IsLawfulObject o → due_of o ≡ None → change (state old) t call ≡ created (state old) o → ((s : State) → after_serving call s ≡ s) → ((s : State) → answered (state old) s t call ≡ (Reply.Handle (length old.objects), s)) → handle ≡ length old.objects → new ≡ record old { objects = old.objects ++ o ∷ [] } → Accepts old new t call (Reply.Handle handle)
+created_accepted old new t o call handle fresh lawful due changes after answers is becomes =
+    subst (λ (x : Dispatcher). Accepts old x t call (Reply.Handle handle)) (sym becomes)
+    (subst (λ (h : ℕ). Accepts old d t call (Reply.Handle h)) (sym is)
+    (accepted old d d t call (Reply.Handle (length old.objects))
+    (subst (λ (s : State). IsServedAfter old s d) (sym changes) (idle_served old (created (state old) o) d [] fresh (none_created old.objects o) refl refl refl all))
+    (sym (after (state d))) refl refl all (sym (answers (state d)))))
+  where
+    d : Dispatcher
+    d = record old { objects = old.objects ++ o ∷ [] }
+
+    all : IsLawful d
+    all = record {
+      sound = sound_created old o fresh.lawful.sound lawful;
+      settled = record {
+        served = served_unchanged old (old.objects ++ o ∷ []) fresh.lawful.sound fresh.lawful.settled.served (created_only old.objects o);
+        alerted = fresh.lawful.settled.alerted;
+        passed = due_kept (state old) (state d) old.now (λ k. due_created old.objects o k due) refl fresh.lawful.settled.passed;
+      };
+    }

@@ -1,0 +1,129 @@
+-- What one visit does, from what the code of it says.
+use Rattle.std.proofs.Common.{◌≡◌, ◌≢◌, ℕ, ◌+◌, ◌≤◌, ◌<◌, ◌-◌, ◌^◌, Bool, true, false, List, [], ◌∷◌, ◌++◌, length, length-append, set, get_or, refl, sym, ap, ◌∙◌, subst, arith, Option, Some, None, is_some}
+use Rattle.std.specs.Prelude.{min}
+use Rattle.std.proofs.lemmas.List.{length-set}
+use Rattle.std.proofs.lemmas.Bool.{false≢true}
+use Rattle.std.specs.Ordering.{nat_cmp}
+use Rattle.std.specs.Cmp.{nat_cmp_total}
+use Rattle.std.specs.FinMap as map
+use Rattle.nt_waits.specs.declared.wait.Wait.{Wait}
+use Rattle.nt_waits.specs.Waits.{Waits, queue_of, others, Agrees, counted_once, Names}
+use Rattle.nt_objects.specs.declared.object.Object.{Object}
+use Rattle.nt_core.specs.declared.call.Grant.{Grant}
+use Rattle.nt_core.specs.State.{State, Pending, pends, object_at}
+use Rattle.nt_core.specs.Dispatcher.{Dispatcher, state}
+use Rattle.nt_core.specs.Serving.{fits, satisfied, grant_of, granted, status, IsTried, CanTake, is_ready}
+use Rattle.nt_core.specs.Refusals.{is_at_limit}
+use Rattle.nt_core.specs.Visits.{IsVisited}
+use Rattle.nt_core.specs.Lawful.{IsSoundWait, IsSound}
+use Rattle.nt_objects.specs.Object.{has_room, signaled, owned_by, IsLawfulObject}
+use Rattle.nt_objects.specs.declared.object.Object.TheVariants.{Event, Semaphore, Mutex, Timer, Thread}
+use Rattle.std.proofs.lemmas.Bool.Decides.{nat_tests}
+use Rattle.std.specs.Prelude.{slice_index}
+use Rattle.std.proofs.Common.{not, ◌&&◌, nat_lt, inl, inr}
+use Rattle.nt_core.proofs.Keeping.{TakesWell, objects_taken_well}
+use Rattle.nt_core.proofs.Walks.{get_removed}
+
+pub counted : (n : ℕ) → n + 1 < 2 ^ 64 → counted_once n ≡ n + 1
+counted n small = grind (arith, small)
+
+pub len_removed : (m : Pending) (t : ℕ) (w : Wait) → map.get m t ≡ Some w → map.len (map.remove m t) + 1 ≡ map.len m
+len_removed m t w e =
+    let has : map.contains_key m t ≡ true = ap (λ (o : Option Wait). is_some o) e in
+    let fewer : map.len (map.remove m t) ≡ map.len m - 1 = map.len-remove nat_cmp_total m t ∙ rw has refl in
+    let some : map.len m ≢ 0 = λ none.
+    let absent : Some w ≡ None = sym e ∙ (ap (λ n. map.get n t) (map.empty_of_len m none) ∙ map.get-empty nat_cmp t) in
+    (cc) in
+    omega arith
+
+-- a pending wait leaves room for its grant
+pub room_for : (d : Dispatcher) (t : ℕ) (w : Wait) → IsSound d → Some w ≡ map.get d.table.pending t → length d.grants < d.threads
+room_for d t w sound has = let one = len_removed d.table.pending t w (sym has) in omega (arith, one, sound.room)
+
+-- ---- a sound wait can take what it fits
+
+-- a lawful object that is signaled for t, and no mutex that t holds at the limit, can be taken
+room_of : (o : Object) (t : ℕ) → IsLawfulObject o → (owned_by o t && not (has_room o)) ≡ false → signaled o t ≡ true → has_room o ≡ true
+room_of (Event manual set) t lawful below ready = refl
+room_of (Semaphore count maximum) t lawful below ready = refl
+room_of (Mutex None depth abandoned) t lawful below ready = grind (arith, nat_tests, lawful)
+room_of (Mutex (Some owner) depth abandoned) t lawful below ready = go (has_room (Mutex (Some owner) depth abandoned)) refl
+  where
+    go : (b : Bool) → has_room (Mutex (Some owner) depth abandoned) ≡ b → b ≡ true
+    go true is = refl
+    go false is = let h : true ≡ false = sym (rw (ready, is) refl) ∙ below in absurd (false≢true (sym h))
+room_of (Timer manual set armed) t lawful below ready = refl
+room_of (Thread ended) t lawful below ready = refl
+
+pub can_take : (objects : List Object) (t threads : ℕ) (w : Wait) → ((h : ℕ) → IsLawfulObject (object_at objects h)) → IsSoundWait threads objects t w → CanTake objects t w.handles
+can_take objects t threads w lawful sound j below ready =
+    let h = slice_index w.handles j in
+    room_of (object_at objects h) t (lawful h) (sound.named h (j, below, refl)).1 ready
+
+-- ---- the visited wait stays
+
+pub looked_sound : (d : Dispatcher) (looked : ℕ) → IsSound d → IsSound (record d { table = record d.table { looked = looked } })
+looked_sound d looked sound = record {
+  few = sound.few;
+  waits = sound.waits;
+  blocks = sound.blocks;
+  hands = sound.hands;
+  objects = sound.objects;
+  own = sound.own;
+  room = sound.room;
+}
+
+pub visit_passed : (old : Dispatcher) (t : ℕ) (w : Wait) (objects : List Object) (table : Waits) → IsSound old → old.table.looked + 1 < 2 ^ 64 → Some w ≡ map.get old.table.pending t → fits old.objects t w ≡ false → objects ≡ old.objects → table ≡ record old.table { looked = counted_once old.table.looked } → IsVisited old (record old { objects = objects; table = table }) t × IsSound (record old { objects = objects; table = table })
+visit_passed old t w objects table sound small has unfit same looked =
+    let is : record old { objects = objects; table = table } ≡ record old { table = record old.table { looked = old.table.looked + 1 } } =
+    λ i. record old { objects = same i; table = (looked ∙ ap (λ n. record old.table { looked = n }) (counted old.table.looked small)) i } in
+    subst (λ (new : Dispatcher). IsVisited old new t × IsSound new) (sym is) (
+      inr (record {
+        unfit = ap (λ o. satisfied old.objects t o) (sym has) ∙ unfit;
+        stays = refl;
+        grants = refl;
+        looked = refl;
+      }),
+      looked_sound old (old.table.looked + 1) sound,
+    )
+
+-- ---- the visited wait ends
+
+pub state_same : (s r : State) → s.threads ≡ r.threads → s.objects ≡ r.objects → s.waits ≡ r.waits → ((h : ℕ) → s.queues h ≡ r.queues h) → s.apcs ≡ r.apcs → s.handing ≡ r.handing → s.now ≡ r.now → s ≡ r
+state_same s r threads objects waits queues apcs handing now =
+    λ i. record { threads = threads i; objects = objects i; waits = waits i; queues = λ h. queues h i; apcs = apcs i; handing = handing i; now = now i }
+
+pub visit_granted : (old : Dispatcher) (t code : ℕ) (w : Wait) (objects : List Object) (table : Waits) (grants : List Grant) → IsSound old → Some w ≡ map.get old.table.pending t → IsTried old.objects objects t w (Some code) → table.pending ≡ map.remove old.table.pending t → ((h : ℕ) → queue_of table h ≡ others t (queue_of old.table h)) → table.looked ≡ old.table.looked + 1 → Agrees table.pending table.queues → grants ≡ old.grants ++ record { thread = t; status = code } ∷ [] → IsVisited old (record old { objects = objects; table = table; handing = set old.handing t false; grants = grants }) t × IsSound (record old { objects = objects; table = table; handing = set old.handing t false; grants = grants })
+visit_granted old t code w objects table grants sound has tried waits queues looked agrees pushed =
+    let new : Dispatcher = record old { objects = objects; table = table; handing = set old.handing t false; grants = grants } in
+    let own = sound.waits t w (sym has) in
+    let well = subst (λ (os : List Object). TakesWell old.objects os t) (sym tried.2) (objects_taken_well old.objects t w own.apart (can_take old.objects t old.threads w sound.objects own) tried.0) in
+    let longer : length grants ≡ length old.grants + 1 = ap (λ gs. length gs) pushed ∙ length-append old.grants (record { thread = t; status = code } ∷ []) in
+    let fewer = len_removed old.table.pending t w (sym has) in
+    let same : map.len table.pending ≡ map.len (map.remove old.table.pending t) = ap (λ m. map.len m) waits in (
+      inl (record {
+        wait = w;
+        due = record { pends = sym has; fits = tried.0; status = refl };
+        becomes = state_same (state new) (granted (state old) t w) refl tried.2 waits queues refl refl refl;
+        grants = pushed ∙ ap (λ (s : ℕ). old.grants ++ record { thread = t; status = s } ∷ []) tried.1;
+        looked = looked;
+      }),
+      record {
+        few = sound.few;
+        waits = λ u v pends.
+            let before = get_removed old.table.pending t u v (ap (λ m. map.get m u) (sym waits) ∙ pends) in
+            let other = sound.waits u v before.1 in
+            record {
+              known = other.known;
+              runs = well.ended u ∙ other.runs;
+              few = other.few;
+              apart = other.apart;
+              named = λ h names. (subst (λ (n : ℕ). h < n) (sym well.length) (other.named h names).0, well.unlimited u before.0 h (other.named h names).1);
+            };
+        blocks = agrees;
+        hands = length-set old.handing t false ∙ sound.hands;
+        objects = well.lawful sound.objects;
+        own = λ u below. (subst (λ (n : ℕ). u < n) (sym well.length) (sound.own u below).0, well.threads u ∙ (sound.own u below).1);
+        room = omega (arith, sound.room, longer, fewer, same);
+      },
+    )

@@ -1,0 +1,12 @@
+use Rattle.std.proofs.Common.{take}
+use Rattle.nt_core.specs.Dispatcher.{state}
+use Rattle.nt_core.specs.Serving.{sequence}
+use Rattle.nt_core.specs.Visits.{Visits}
+use Rattle.nt_core.specs.Lawful.{IsSound}
+use Rattle.nt_core.proofs.machine.Machine.serve.Given as goal
+
+abbrev pub invariant-loop-handle : goal.invariant-loop-handle
+invariant-loop-handle l = record {
+  visits : Visits (sequence (state l.initial.self) (take l.handle-index l.changed)) l.initial.self l.self;
+  sound : IsSound l.self;
+}

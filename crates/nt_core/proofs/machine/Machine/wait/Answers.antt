@@ -1,0 +1,71 @@
+use Rattle.std.proofs.Common.{◌≡◌, ◌+◌, ◌<◌, ℕ, List, [], None, length, arith, sym, ap, ◌∙◌, subst, refl, false}
+use Rattle.std.specs.FinMap as fin
+use Rattle.nt_core.specs.declared.call.Call.{Call}
+use Rattle.nt_core.specs.declared.call.WaitCall.{WaitCall}
+use Rattle.nt_core.specs.declared.call.Reply.{Reply}
+use Rattle.nt_core.specs.State.{State, deadline_after}
+use Rattle.nt_core.specs.Dispatcher.{Dispatcher, state}
+use Rattle.nt_core.specs.Serving.{wait_for}
+use Rattle.nt_core.specs.Refusals.{refusal}
+use Rattle.nt_core.specs.Steps.{begun}
+use Rattle.nt_core.specs.Lawful.{IsSoundWait}
+use Rattle.nt_core.specs.Accepts.{Accepts}
+use Rattle.nt_core.proofs.Accepting.{ok_then, free_caller, sound_objects, sound_sleep, wait_accepted}
+use Rattle.nt_core.proofs.Beginning.{room_to_begin}
+use Rattle.nt_core.proofs.machine.Machine.wait.Goals as goal
+
+pub begin_wait-requires-clause-able : goal.begin_wait-requires-clause-able
+begin_wait-requires-clause-able c =
+    let s = state c.args.self.now in
+    let none = subst (λ (w : WaitCall). refusal s c.args.thread (Call.Wait w) ≡ None) c.in-Objects.is c.requires.free in
+    subst (λ (hs : List ℕ). IsSoundWait s.threads s.objects c.args.thread (wait_for hs c.in-Objects.all)) (sym c.as_slice.ensures)
+    (sound_objects s c.args.thread c.in-Objects.handles c.in-Objects.all c.in-Objects.alertable c.in-Objects.ms none)
+
+pub begin_wait-requires-clause-room : goal.begin_wait-requires-clause-room
+begin_wait-requires-clause-room c =
+    let d = c.args.self.now in
+    let caller = free_caller (state d) c.args.thread (Call.Wait c.args.call.now) c.requires.free in
+    let room = room_to_begin d c.args.thread (wait_for [] false) c.requires.fresh.lawful.sound caller.0 caller.2 in
+    let first : length d.grants ≡ 0 = ap (λ gs. length gs) c.requires.fresh.no_grants in
+    omega (arith, room, first)
+
+pub begin_wait-requires-in-Sleep-clause-able : goal.begin_wait-requires-in-Sleep-clause-able
+begin_wait-requires-in-Sleep-clause-able c =
+    let s = state c.args.self.now in
+    let caller = free_caller s c.args.thread (Call.Wait c.args.call.now) c.requires.free in
+    sound_sleep s c.args.thread caller.0 caller.1
+
+pub begin_wait-requires-in-Sleep-clause-room : goal.begin_wait-requires-in-Sleep-clause-room
+begin_wait-requires-in-Sleep-clause-room c =
+    let d = c.args.self.now in
+    let caller = free_caller (state d) c.args.thread (Call.Wait c.args.call.now) c.requires.free in
+    let room = room_to_begin d c.args.thread (wait_for [] false) c.requires.fresh.lawful.sound caller.0 caller.2 in
+    let first : length d.grants ≡ 0 = ap (λ gs. length gs) c.requires.fresh.no_grants in
+    omega (arith, room, first)
+
+pub returns-in-Objects-clause-ok : goal.returns-in-Objects-clause-ok
+returns-in-Objects-clause-ok c =
+    let old = c.args.self.now in
+    let new = c.begin_wait.new.self in
+    let began = c.begin_wait.ensures in
+    ok_then
+    (λ reply. (reply, state new) ≡ begun (state old) c.args.thread (record { handles = c.as_slice.result.now; all = c.in-Objects.all; alertable = c.in-Objects.alertable; deadline = deadline_after old.now c.in-Objects.ms }) c.in-Objects.ms)
+    (λ reply. Accepts old new c.args.thread (Call.Wait c.args.call.now) reply)
+    (λ reply begins.
+    subst (λ (w : WaitCall). Accepts old new c.args.thread (Call.Wait w) reply) (sym c.in-Objects.is)
+    (wait_accepted old new c.args.thread (WaitCall.Objects c.in-Objects.handles c.in-Objects.all c.in-Objects.ms c.in-Objects.alertable) reply c.requires.fresh began.grants began.looked began.lawful refl
+    (begins ∙ ap (λ (hs : List ℕ). begun (state old) c.args.thread (record { handles = hs; all = c.in-Objects.all; alertable = c.in-Objects.alertable; deadline = deadline_after old.now c.in-Objects.ms }) c.in-Objects.ms) c.as_slice.ensures)))
+    c.begin_wait.result began.begun
+
+pub returns-in-Sleep-clause-ok : goal.returns-in-Sleep-clause-ok
+returns-in-Sleep-clause-ok c =
+    let old = c.args.self.now in
+    let new = c.begin_wait-in-Sleep.new.self in
+    let began = c.begin_wait-in-Sleep.ensures in
+    ok_then
+    (λ reply. (reply, state new) ≡ begun (state old) c.args.thread (record { handles = []; all = false; alertable = c.in-Sleep.alertable; deadline = deadline_after old.now c.in-Sleep.ms }) c.in-Sleep.ms)
+    (λ reply. Accepts old new c.args.thread (Call.Wait c.args.call.now) reply)
+    (λ reply begins.
+    subst (λ (w : WaitCall). Accepts old new c.args.thread (Call.Wait w) reply) (sym c.in-Sleep.is)
+    (wait_accepted old new c.args.thread (WaitCall.Sleep c.in-Sleep.ms c.in-Sleep.alertable) reply c.requires.fresh began.grants began.looked began.lawful refl begins))
+    c.begin_wait-in-Sleep.result began.begun

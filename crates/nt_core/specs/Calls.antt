@@ -1,0 +1,20 @@
+-- What a call alone says.
+use Rattle.std.specs.Prelude.{ℕ, Bool, true, false}
+use Rattle.nt_core.specs.declared.call.Call.{Call}
+use Rattle.nt_core.specs.declared.call.Act.{Act}
+use Rattle.nt_core.specs.declared.call.WaitCall.{WaitCall}
+
+-- the acts that may want memory: creations
+abbrev pub act_grows : Act → Bool
+act_grows (Act.CreateEvent flags) = true
+act_grows _ = false
+
+-- the calls that may want memory
+abbrev pub grows : Call → Bool
+grows (Call.Act act) = act_grows act
+grows (Call.Wait wait) = true
+
+-- the timeout that a waiting call names, in milliseconds
+abbrev pub timeout_of : WaitCall → ℕ
+timeout_of (WaitCall.Objects handles all ms alertable) = ms
+timeout_of (WaitCall.Sleep ms alertable) = ms

@@ -1,0 +1,38 @@
+-- The dispatcher as its callers see it.
+use Rattle.std.specs.Prelude.{ℕ, Bool, List, [], replicate}
+use Rattle.nt_waits.specs.Waits.{Waits, queue_of}
+use Rattle.nt_objects.specs.declared.object.Object.{Object}
+use Rattle.nt_core.specs.declared.call.Grant.{Grant}
+use Rattle.nt_core.specs.State.{State}
+
+pub record Dispatcher : Type 0 where
+  pub threads : ℕ
+  pub objects : List Object
+  -- the pending waits, their queues, and how many pending waits the last call tested
+  pub table : Waits
+  pub handing : List Bool
+  pub now : ℕ
+  -- the waits that the last call or tick ended
+  pub grants : List Grant
+
+-- the state of the machine
+abbrev pub state : Dispatcher → State
+state d = record {
+  threads = d.threads;
+  objects = d.objects;
+  waits = d.table.pending;
+  queues = λ h. queue_of d.table h;
+  apcs = replicate d.threads [];
+  handing = d.handing;
+  now = d.now;
+}
+
+abbrev pub dispatcher_of : ℕ → List Object → Waits → List Bool → ℕ → List Grant → Dispatcher
+dispatcher_of threads objects table handing now grants = record {
+  threads = threads;
+  objects = objects;
+  table = table;
+  handing = handing;
+  now = now;
+  grants = grants;
+}

@@ -1,0 +1,52 @@
+-- What every call and tick leaves true.
+use Rattle.std.specs.Prelude.{◌≡◌, ◌↔◌, ℕ, ◌<◌, ◌≤◌, ◌+◌, Bool, true, false, not, ◌&&◌, List, [], ◌∷◌, length, slice_index_or, IsTrue, Some, nat_eq}
+use Rattle.std.specs.FinMap as map
+use Rattle.std.specs.FinMap.{get}
+use Rattle.nt_objects.specs.declared.object.Object.{Object}
+use Rattle.nt_objects.specs.Object.{IsLawfulObject, owned_by, has_ended, is_thread}
+use Rattle.nt_waits.specs.declared.wait.Wait.{Wait}
+use Rattle.nt_waits.specs.Waits.{IsMember, AreOnce, Names, Agrees}
+use Rattle.std.specs.List.{IsDistinct}
+use Rattle.nt_apc.specs.Queues.{has_apc}
+use Rattle.nt_core.specs.declared.call.Grant.{Grant}
+use Rattle.nt_core.specs.State.{State, Pending, object_at}
+use Rattle.nt_core.specs.Serving.{IsServed, IsAlerted}
+use Rattle.nt_core.specs.Refusals.{is_at_limit, wait_limit}
+use Rattle.nt_core.specs.Steps.{NothingDue}
+use Rattle.nt_core.specs.Dispatcher.{Dispatcher, state}
+
+-- no pending wait could end now: none fits, none is to be alerted, none has timed out, and no timer is to expire
+pub record IsSettled (s : State) : Type 0 where
+  pub served : IsServed s
+  pub alerted : (t : ℕ) → IsAlerted s t → ⊥
+  pub passed : NothingDue s s.now
+
+-- a mutex stands in a thread's list exactly where the thread owns it, and once
+pub record OwnersAgree (objects : List Object) (owned : List (List ℕ)) : Type 0 where
+  pub named : (t m : ℕ) → IsMember (slice_index_or owned t []) m ↔ IsTrue (owned_by (object_at objects m) t)
+  pub once : (t : ℕ) → AreOnce (slice_index_or owned t [])
+
+-- a running thread waits, for distinct objects that there are, no more than a wait may name; it can take each of them
+pub record IsSoundWait (threads : ℕ) (objects : List Object) (t : ℕ) (w : Wait) : Type 0 where
+  pub known : t < threads
+  pub runs : has_ended (object_at objects t) ≡ false
+  pub few : length w.handles ≤ wait_limit
+  pub apart : IsDistinct nat_eq w.handles
+  pub named : (h : ℕ) → Names w h → (h < length objects) × (is_at_limit objects t h ≡ false)
+
+-- what holds also between a change and the serving after it
+pub record IsSound (d : Dispatcher) : Type 0 where
+  pub few : d.threads ≤ 256
+  pub waits : (t : ℕ) (w : Wait) → get (state d).waits t ≡ Some w → IsSoundWait d.threads d.objects t w
+  -- wait blocks and pending waits name each other exactly
+  pub blocks : Agrees d.table.pending d.table.queues
+  pub hands : length d.handing ≡ d.threads
+  pub objects : (h : ℕ) → IsLawfulObject (object_at d.objects h)
+  -- the first objects are the threads' own
+  pub own : (t : ℕ) → t < d.threads → (t < length d.objects) × (is_thread (object_at d.objects t) ≡ true)
+  -- each pending wait can be granted
+  pub room : length d.grants + map.len (state d).waits ≤ d.threads
+
+pub record IsLawful (d : Dispatcher) : Type 0 where
+  pub sound : IsSound d
+  pub settled : IsSettled (state d)

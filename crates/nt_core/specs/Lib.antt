@@ -1,0 +1,12 @@
+pub mod Rising
+pub mod State
+pub mod Calls
+pub mod Serving
+pub mod Visits
+pub mod Change
+pub mod Refusals
+pub mod Steps
+pub mod Runs
+pub mod Dispatcher
+pub mod Lawful
+pub mod Accepts

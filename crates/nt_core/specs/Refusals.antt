@@ -1,0 +1,134 @@
+-- When a call is refused: the first cause that holds is the answer.
+use Rattle.std.specs.Prelude.{◌≡◌, ℕ, ◌+◌, ℤ, pos, Bool, true, false, not, ◌&&◌, ◌||◌, nat_le, nat_lt, int_lt, int_le, List, [], ◌∷◌, length, if◌then◌else◌, ◌==◌, IsTrue, MatchOption}
+use Rattle.std.specs.List.{list_any}
+use Rattle.std.specs.declared.option.Option.{Option}
+use Rattle.std.specs.declared.option.Option.TheVariants.{None, Some}
+use Rattle.nt_status.specs.Flags.{only_known, event_bits}
+use Rattle.nt_status.specs.declared.refusal.Refusal.{Refusal}
+use Rattle.nt_status.specs.declared.refusal.Refusal.TheVariants.{InvalidHandle, Memory, ThreadGone, InvalidParameter, NotOwner, TooManyPosts, ThreadWaiting, ThreadEnded, UnknownThread, RecursionLimit, HandleLimit}
+use Rattle.nt_objects.specs.declared.object.Object.{Object}
+use Rattle.nt_objects.specs.Object.{is_event, is_semaphore, is_mutex, is_timer, is_thread, has_ended, owned_by, has_room, overflows}
+use Rattle.nt_core.specs.declared.call.Call.{Call}
+use Rattle.nt_core.specs.declared.call.Act.{Act}
+use Rattle.nt_core.specs.declared.call.WaitCall.{WaitCall}
+use Rattle.nt_core.specs.Calls.{grows}
+use Rattle.nt_core.specs.State.{State, object_at, pends}
+
+-- a cause, and the refusal that answers it
+abbrev pub Cause : Type 0
+Cause = Bool × Refusal
+
+abbrev pub first_of_causes : List Cause → Option Refusal
+first_of_causes [] = None
+first_of_causes (c ∷ cs) = if c.0 then Some c.1 else first_of_causes cs
+
+-- handle numbers are below this
+abbrev pub handle_limit : ℕ
+handle_limit = 65536
+
+-- MAXIMUM_WAIT_OBJECTS, the most handles that a wait names
+abbrev pub wait_limit : ℕ
+wait_limit = 64
+
+-- no handle number is left
+abbrev pub is_full : List Object → Bool
+is_full objects = nat_le handle_limit (length objects)
+
+-- no object has this handle
+abbrev pub is_unknown : List Object → ℕ → Bool
+is_unknown objects h = nat_le (length objects) h
+
+-- no object has this handle, or none of this kind
+abbrev pub is_no : (Object → Bool) → List Object → ℕ → Bool
+is_no kind objects h = not (kind (object_at objects h))
+
+abbrev pub has_twice : List ℕ → Bool
+has_twice [] = false
+has_twice (h ∷ hs) = list_any (λ other. other == h) hs || has_twice hs
+
+-- a mutex that t holds at the greatest depth
+abbrev pub is_at_limit : List Object → ℕ → ℕ → Bool
+is_at_limit objects t h = owned_by (object_at objects h) t && not (has_room (object_at objects h))
+
+-- a mutex that t does not own
+abbrev pub is_foreign : List Object → ℕ → ℕ → Bool
+is_foreign objects t h = is_mutex (object_at objects h) && not (owned_by (object_at objects h) t)
+
+-- SignalObjectAndWait signals events, semaphores and mutexes
+abbrev pub may_signal : Object → Bool
+may_signal o = is_event o || is_semaphore o || is_mutex o
+
+-- ---- the causes of each kind of call, in order
+
+-- a creation whose arguments are lawful or not
+abbrev pub creation_causes : List Object → Bool → List Cause
+creation_causes objects lawful = (not lawful, InvalidParameter) ∷ (is_full objects, HandleLimit) ∷ []
+
+abbrev pub kind_causes : (Object → Bool) → List Object → ℕ → List Cause
+kind_causes kind objects h = (is_no kind objects h, InvalidHandle) ∷ []
+
+abbrev pub is_lawful_semaphore : ℤ → ℤ → Bool
+is_lawful_semaphore initial maximum = int_lt (pos 0) maximum && int_le (pos 0) initial && int_le initial maximum
+
+abbrev pub release_causes : List Object → ℕ → ℤ → List Cause
+release_causes objects h n =
+    (is_no is_semaphore objects h, InvalidHandle) ∷ (int_le n (pos 0), InvalidParameter) ∷ (overflows n (object_at objects h), TooManyPosts) ∷ []
+
+abbrev pub unlock_causes : List Object → ℕ → ℕ → List Cause
+unlock_causes objects t h = (is_no is_mutex objects h, InvalidHandle) ∷ (is_foreign objects t h, NotOwner) ∷ []
+
+abbrev pub arm_causes : List Object → ℕ → ℤ → List Cause
+arm_causes objects h period = (is_no is_timer objects h, InvalidHandle) ∷ (int_lt period (pos 0), InvalidParameter) ∷ []
+
+abbrev pub apc_causes : List Object → ℕ → List Cause
+apc_causes objects h = (is_unknown objects h || is_no is_thread objects h, InvalidHandle) ∷ (has_ended (object_at objects h), ThreadGone) ∷ []
+
+abbrev pub objects_causes : List Object → ℕ → List ℕ → List Cause
+objects_causes objects t handles =
+    (length handles == 0 || nat_lt wait_limit (length handles), InvalidParameter)
+    ∷ (list_any (is_unknown objects) handles, InvalidHandle)
+    ∷ (has_twice handles, InvalidParameter)
+    ∷ (list_any (is_at_limit objects t) handles, RecursionLimit)
+    ∷ []
+
+abbrev pub swap_causes : List Object → ℕ → ℕ → ℕ → List Cause
+swap_causes objects t h object =
+    (is_no may_signal objects h, InvalidHandle)
+    ∷ (is_unknown objects object, InvalidHandle)
+    ∷ (is_foreign objects t h, NotOwner)
+    ∷ (overflows (pos 1) (object_at objects h), TooManyPosts)
+    ∷ (is_at_limit objects t object, RecursionLimit)
+    ∷ []
+
+-- ---- the table of calls
+
+abbrev pub act_causes : List Object → ℕ → Act → List Cause
+act_causes objects t (Act.CreateEvent flags) = creation_causes objects (only_known event_bits flags)
+act_causes objects t (Act.SetEvent h) = kind_causes is_event objects h
+act_causes objects t (Act.ResetEvent h) = kind_causes is_event objects h
+act_causes objects t (Act.PulseEvent h) = kind_causes is_event objects h
+
+abbrev pub wait_causes : List Object → ℕ → WaitCall → List Cause
+wait_causes objects t (WaitCall.Objects handles all ms alertable) = objects_causes objects t handles
+wait_causes objects t (WaitCall.Sleep ms alertable) = []
+
+abbrev pub call_causes : List Object → ℕ → Call → List Cause
+call_causes objects t (Call.Act act) = act_causes objects t act
+call_causes objects t (Call.Wait wait) = wait_causes objects t wait
+
+-- the causes of every call come first
+abbrev pub causes : State → ℕ → Call → List Cause
+causes s who call =
+    (nat_le s.threads who, UnknownThread)
+    ∷ (has_ended (object_at s.objects who), ThreadEnded)
+    ∷ (pends s who, ThreadWaiting)
+    ∷ call_causes s.objects who call
+
+-- the refusal that a call must meet, if any
+abbrev pub refusal : State → ℕ → Call → Option Refusal
+refusal s who call = first_of_causes (causes s who call)
+
+-- want of memory is the last cause, of the calls that may want it
+abbrev pub IsRefusal : State → ℕ → Call → Refusal → Type 0
+IsRefusal s who call r =
+    MatchOption (refusal s who call) (IsTrue (grows call) × (r ≡ Memory)) (λ first. r ≡ first)

@@ -1,0 +1,60 @@
+use nt_apc::Apc;
+use nt_status::{Handle, Handles, Status, ThreadId};
+
+/// A call that never pends.
+#[derive(Clone, Copy, PartialEq, Eq, Debug)]
+pub enum Act {
+    /// CreateEvent, with the flags of CreateEventEx: 1 manual reset, 2 set at first.
+    CreateEvent(u32),
+    SetEvent(Handle),
+    ResetEvent(Handle),
+    PulseEvent(Handle),
+}
+
+/// A call that may pend. Timeouts are in milliseconds; 0xFFFFFFFF is INFINITE.
+#[derive(Drop)]
+pub enum WaitCall {
+    /// WaitForMultipleObjectsEx: for any of the objects, or for all.
+    Objects {
+        handles: Handles,
+        all: bool,
+        ms: u32,
+        alertable: bool,
+    },
+    /// SleepEx.
+    Sleep {
+        ms: u32,
+        alertable: bool,
+    },
+}
+
+/// What a thread asks of the dispatcher.
+#[derive(Drop)]
+pub enum Call {
+    Act(Act),
+    Wait(WaitCall),
+}
+
+/// What an accepted call answers.
+#[derive(Clone, Copy, PartialEq, Eq, Debug)]
+pub enum Reply {
+    /// The call is carried out and has nothing to tell.
+    Done,
+    /// The handle of the object that was created.
+    Handle(Handle),
+    /// The semaphore's count before it was released.
+    Previous(i32),
+    /// The caller's wait ended at once, with this status.
+    Status(Status),
+    /// The caller's wait pends. A later call or tick ends it.
+    Pended,
+    /// The oldest APC, or none.
+    Apc(Option<Apc>),
+}
+
+/// A pending wait that a call or tick ended.
+#[derive(Clone, Copy, PartialEq, Eq, Debug)]
+pub struct Grant {
+    pub thread: ThreadId,
+    pub status: Status,
+}

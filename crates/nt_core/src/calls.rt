@@ -1,0 +1,77 @@
+//! The table of calls: each is judged, and then made by the function for it.
+ghost use Rattle.std.specs.Prelude.{◌≡◌, None, IfOk, IfErr, OnOk, OnErr, IsTrue};
+ghost use Rattle.nt_status.specs.declared.refusal.Refusal.TheVariants.{Memory};
+ghost use Rattle.nt_core.specs.Calls.{act_grows, grows};
+ghost use Rattle.nt_core.specs.Dispatcher.{state};
+ghost use Rattle.nt_core.specs.Refusals.{refusal};
+ghost use Rattle.nt_core.specs.Steps.{Called};
+ghost use Rattle.nt_core.specs.Lawful.{IsLawful};
+ghost use Rattle.nt_core.specs.Accepts.{IsFresh, IsLocal, Accepts};
+ghost use Rattle.nt_core.specs.declared.call.Call.{Call};
+
+use crate::call::{Act, Call, Reply};
+use crate::machine::Machine;
+use nt_status::{EventFlags, Refusal, ThreadId};
+
+impl Machine {
+    /// An act that no cause refuses.
+    fn act(&mut self, thread: ThreadId, act: &Act) -> Result<Reply, Refusal>
+        requires fresh { IsFresh self.old }
+        requires free { refusal (state self.old) thread (Call.Act act.now) ≡ None }
+        ensures ok { IfOk result (λ reply. Accepts self.old self.new thread (Call.Act act.now) reply) }
+        ensures memory { IfErr result (λ refusal. refusal ≡ Memory) }
+        ensures grows { OnErr result (IsTrue (act_grows act.now)) }
+        ensures err { OnErr result (self.new ≡ self.old) }
+    {
+        match act {
+            Act::CreateEvent(flags) => {
+                let Some(flags) = EventFlags::from_bits(*flags) else {
+                    unreachable!()
+                };
+                Ok(Reply::Handle(self.create_event(thread, flags)?))
+            }
+            Act::SetEvent(event) => {
+                self.set_event(thread, *event);
+                Ok(Reply::Done)
+            }
+            Act::ResetEvent(event) => {
+                self.reset_event(thread, *event);
+                Ok(Reply::Done)
+            }
+            Act::PulseEvent(event) => {
+                self.pulse_event(thread, *event);
+                Ok(Reply::Done)
+            }
+        }
+    }
+
+    /// A call that no cause refuses.
+    fn accept(&mut self, thread: ThreadId, call: &Call) -> Result<Reply, Refusal>
+        requires fresh { IsFresh self.old }
+        requires free { refusal (state self.old) thread call.now ≡ None }
+        ensures ok { IfOk result (λ reply. Accepts self.old self.new thread call.now reply) }
+        ensures memory { IfErr result (λ refusal. refusal ≡ Memory) }
+        ensures grows { OnErr result (IsTrue (grows call.now)) }
+        ensures err { OnErr result (self.new ≡ self.old) }
+    {
+        match call {
+            Call::Act(act) => self.act(thread, act),
+            Call::Wait(wait) => self.wait(thread, wait),
+        }
+    }
+
+    /// Makes the call of this thread, or refuses it.
+    pub fn call(&mut self, who: u32, call: &Call) -> Result<Reply, Refusal>
+        requires { IsLawful self.old }
+        ensures called { Called (state self.old) who call.now result self.new.grants (state self.new) }
+        ensures lawful { IsLawful self.new }
+        ensures local { OnOk result (IsLocal (state self.old) who call.now self.new.table.looked self.new.grants) }
+        ensures untested { OnErr result (self.new.table.looked ≡ 0) }
+    {
+        self.tell_anew();
+        match self.refusal(who, call) {
+            Some(refusal) => Err(refusal),
+            None => self.accept(ThreadId::new(who as u16), call),
+        }
+    }
+}

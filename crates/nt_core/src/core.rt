@@ -1,0 +1,91 @@
+ghost use Rattle.std.specs.Prelude.{◌≡◌, ◌≤◌, [], IfOk, IfErr, OnOk, OnErr, MatchBool, nat_le, ◌&&◌};
+ghost use Rattle.std.specs.FinMap as map;
+ghost use Rattle.nt_status.specs.declared.refusal.Refusal.TheVariants.{InvalidParameter, Memory};
+ghost use Rattle.nt_core.specs.State.{opening, pends};
+ghost use Rattle.nt_core.specs.Steps.{Called};
+ghost use Rattle.nt_core.specs.Dispatcher.{state};
+ghost use Rattle.nt_core.specs.Lawful.{IsLawful};
+ghost use Rattle.nt_core.specs.Accepts.{IsLocal};
+
+use crate::call::{Call, Grant, Reply};
+use crate::machine::Machine;
+use nt_status::Refusal;
+use std::alloc::Global;
+use std::marker::Model;
+
+/// A dispatcher for a fixed number of threads, driven by one. Between two calls no pending wait could end.
+#[derive(Drop)]
+pub struct Core {
+    machine: Machine,
+}
+
+impl Model for Core {
+    ghost use Rattle.std.specs.Coded.{codes};
+    ghost use Rattle.nt_waits.specs.Waits.{waits_code};
+    ghost use Rattle.nt_core.specs.Dispatcher.{Dispatcher};
+    ghost use Rattle.nt_core.specs.Lawful.{IsLawful};
+
+    ghost Value = { Dispatcher };
+
+    ghost coded = { Prim.hlevel (codes, waits_code) };
+
+    ghost view = { λ c. c.machine };
+
+    ghost invariant = { λ c. IsLawful c.machine };
+}
+
+impl Core {
+    /// A dispatcher whose threads run and wait for nothing.
+    ///
+    /// Refused with 87 unless there are 1 to 256 threads, and with 8 where memory is refused.
+    pub fn new(alloc: Global, threads: u32) -> Result<Core, Refusal>
+        ensures ok { IfOk result (λ core. (1 ≤ threads) × (threads ≤ 256) × (state core ≡ opening threads) × (core.grants ≡ [])) }
+        ensures err { IfErr result (λ r. MatchBool (nat_le 1 threads && nat_le threads 256) (r ≡ Memory) (r ≡ InvalidParameter)) }
+    {
+        if threads == 0 || threads > 256 {
+            return Err(Refusal::InvalidParameter);
+        }
+        Ok(Core {
+            machine: Machine::new(alloc, threads)?,
+        })
+    }
+
+    /// Makes the call of this thread, and answers its reply or why it is refused. The pending waits that it ends are in
+    /// `grants`. A refused call changes nothing.
+    pub fn call(&mut self, who: u32, call: &Call) -> Result<Reply, Refusal>
+        ensures called { Called (state self.old) who call.now result self.new.grants (state self.new) }
+        ensures lawful { IsLawful self.new }
+        ensures local { OnOk result (IsLocal (state self.old) who call.now self.new.table.looked self.new.grants) }
+        ensures untested { OnErr result (self.new.table.looked ≡ 0) }
+    {
+        self.machine.call(who, call)
+    }
+
+    /// The pending waits that the last call ended, in the order in which they ended.
+    pub fn grants(&self) -> &[Grant]
+        ensures { result.now ≡ self.now.grants }
+    {
+        self.machine.grants()
+    }
+
+    /// How many waits pend.
+    pub fn pending(&self) -> usize
+        ensures { result ≡ map.len (state self.now).waits }
+    {
+        self.machine.pending()
+    }
+
+    /// Whether the wait of this thread pends. A number that no thread has waits for nothing.
+    pub fn is_waiting(&self, thread: u32) -> bool
+        ensures { result ≡ pends (state self.now) thread }
+    {
+        self.machine.is_waiting(thread)
+    }
+
+    /// How many pending waits the last call tested: at most those on objects that it changed.
+    pub fn tested(&self) -> u64
+        ensures { result ≡ self.now.table.looked }
+    {
+        self.machine.tested()
+    }
+}

@@ -1,0 +1,172 @@
+//! Whether a call is refused, and by which cause.
+ghost use Rattle.std.specs.Prelude.{◌≡◌};
+ghost use Rattle.std.specs.List.{list_any};
+ghost use Rattle.nt_status.specs.Flags.{only_known, event_bits};
+ghost use Rattle.nt_objects.specs.Object.{is_event, has_ended};
+ghost use Rattle.nt_core.specs.State.{object_at};
+ghost use Rattle.nt_core.specs.Dispatcher.{state};
+ghost use Rattle.nt_core.specs.Refusals.{first_of_causes, act_causes, wait_causes, objects_causes, creation_causes, refusal, is_no, is_unknown, has_twice, is_at_limit};
+
+use crate::call::{Act, Call, WaitCall};
+use crate::machine::Machine;
+use nt_objects::Object;
+use nt_status::{EventFlags, Handle, Refusal, ThreadId};
+
+/// MAXIMUM_WAIT_OBJECTS: the most handles that a wait names.
+const WAIT_LIMIT: usize = 64;
+
+/// Handle numbers are below this.
+const HANDLE_LIMIT: usize = 65536;
+
+/// Whether the handle names no event.
+fn is_no_event(objects: &[Object], handle: Handle) -> bool
+    ensures { result ≡ is_no is_event objects.now handle }
+{
+    match objects.get(handle.get() as usize) {
+        Some(object) => !object.is_event(),
+        None => true,
+    }
+}
+
+/// Whether the thread with this number has ended.
+fn has_ended(objects: &[Object], who: u32) -> bool
+    ensures { result ≡ has_ended (object_at objects.now who) }
+{
+    match objects.get(who as usize) {
+        Some(object) => object.has_ended(),
+        None => false,
+    }
+}
+
+/// Whether the handle is that of a mutex which the thread holds at the greatest depth.
+fn is_at_limit(objects: &[Object], thread: ThreadId, handle: Handle) -> bool
+    ensures { result ≡ is_at_limit objects.now thread handle }
+{
+    match objects.get(handle.get() as usize) {
+        Some(object) => object.is_owned_by(thread) && !object.has_room(),
+        None => false,
+    }
+}
+
+/// Whether one of the handles is that of a mutex which the thread holds at the greatest depth.
+fn has_limit(objects: &[Object], thread: ThreadId, handles: &[Handle]) -> bool
+    ensures { result ≡ list_any (is_at_limit objects.now thread) handles.now }
+{
+    handles
+        .iter()
+        .any(|handle| is_at_limit(objects, thread, *handle))
+}
+
+/// Whether a handle stands twice.
+fn has_twice(handles: &[Handle]) -> bool
+    ensures { result ≡ has_twice handles.now }
+{
+    match handles {
+        [] => false,
+        [first, rest @ ..] => rest.contains(first) || has_twice(rest),
+    }
+}
+
+/// Whether no object has one of these numbers.
+fn has_unknown(objects: &[Object], handles: &[Handle]) -> bool
+    ensures { result ≡ list_any (is_unknown objects.now) handles.now }
+{
+    handles
+        .iter()
+        .any(|handle| objects.len() <= handle.get() as usize)
+}
+
+/// Whether each bit is that of a flag of CreateEventEx.
+fn are_event_flags(bits: u32) -> bool
+    ensures { result ≡ only_known event_bits bits }
+{
+    EventFlags::from_bits(bits).is_some()
+}
+
+/// The refusal of a creation, whose flags are lawful or not.
+fn creation_refusal(objects: &[Object], lawful: bool) -> Option<Refusal>
+    ensures { result ≡ first_of_causes (creation_causes objects.now lawful) }
+{
+    if !lawful {
+        Some(Refusal::InvalidParameter)
+    } else if objects.len() >= HANDLE_LIMIT {
+        Some(Refusal::HandleLimit)
+    } else {
+        None
+    }
+}
+
+/// The refusal of an act by its own causes.
+fn act_refusal(objects: &[Object], thread: ThreadId, act: &Act) -> Option<Refusal>
+    ensures { result ≡ first_of_causes (act_causes objects.now thread act.now) }
+{
+    let _ = thread;
+    match act {
+        Act::CreateEvent(flags) => creation_refusal(objects, are_event_flags(*flags)),
+        Act::SetEvent(event) | Act::ResetEvent(event) | Act::PulseEvent(event) => {
+            if is_no_event(objects, *event) {
+                Some(Refusal::InvalidHandle)
+            } else {
+                None
+            }
+        }
+    }
+}
+
+/// The refusal of a wait for these handles.
+fn objects_refusal(objects: &[Object], thread: ThreadId, handles: &[Handle]) -> Option<Refusal>
+    ensures { result ≡ first_of_causes (objects_causes objects.now thread handles.now) }
+{
+    if handles.is_empty() || handles.len() > WAIT_LIMIT {
+        Some(Refusal::InvalidParameter)
+    } else if has_unknown(objects, handles) {
+        Some(Refusal::InvalidHandle)
+    } else if has_twice(handles) {
+        Some(Refusal::InvalidParameter)
+    } else if has_limit(objects, thread, handles) {
+        Some(Refusal::RecursionLimit)
+    } else {
+        None
+    }
+}
+
+/// The refusal of a waiting call by its own causes.
+fn wait_refusal(objects: &[Object], thread: ThreadId, wait: &WaitCall) -> Option<Refusal>
+    ensures { result ≡ first_of_causes (wait_causes objects.now thread wait.now) }
+{
+    match wait {
+        WaitCall::Objects {
+            handles,
+            all: _,
+            ms: _,
+            alertable: _,
+        } => objects_refusal(objects, thread, handles.as_slice()),
+        WaitCall::Sleep {
+            ms: _,
+            alertable: _,
+        } => None,
+    }
+}
+
+impl Machine {
+    /// The refusal that this call must meet, if any.
+    pub(crate) fn refusal(&self, who: u32, call: &Call) -> Option<Refusal>
+        ensures { result ≡ refusal (state self.now) who call.now }
+    {
+        if who >= self.threads {
+            return Some(Refusal::UnknownThread);
+        }
+        let objects = self.objects.as_slice();
+        if has_ended(objects, who) {
+            return Some(Refusal::ThreadEnded);
+        }
+        let thread = ThreadId::new(who as u16);
+        if self.waits.about(thread).is_some() {
+            return Some(Refusal::ThreadWaiting);
+        }
+        match call {
+            Call::Act(act) => act_refusal(objects, thread, act),
+            Call::Wait(wait) => wait_refusal(objects, thread, wait),
+        }
+    }
+}

@@ -1,0 +1,157 @@
+//! The parts of a dispatcher, and the serving of pending waits.
+ghost use Rattle.std.specs.Prelude.{◌≡◌, ◌+◌, ◌≤◌, ◌<◌, ◌^◌, ℕ, [], ◌∷◌, length, IsTrue, IfOk, IfErr};
+ghost use Rattle.std.specs.FinMap as map;
+ghost use Rattle.nt_status.specs.declared.refusal.Refusal.TheVariants.{Memory};
+ghost use Rattle.nt_core.specs.State.{pends, opening};
+ghost use Rattle.nt_core.specs.Dispatcher.{state};
+ghost use Rattle.nt_core.specs.Serving.{sequence, Serve};
+ghost use Rattle.nt_core.specs.Visits.{IsVisited, Visits, FitOnlyIn};
+ghost use Rattle.nt_core.specs.Lawful.{IsSound, IsLawful};
+ghost use Rattle.nt_core.specs.Accepts.{IsFresh};
+
+use crate::call::Grant;
+use crate::objects::running_threads;
+use crate::serving::try_wait;
+use nt_objects::Object;
+use nt_status::{Handle, Moment, Refusal, ThreadId};
+use nt_waits::WaitTable;
+use std::alloc::Global;
+use std::marker::Model;
+
+/// The parts of a dispatcher, also between a change and the serving after it.
+#[derive(Drop)]
+pub struct Machine {
+    pub(crate) threads: u32,
+    pub(crate) objects: Vec<Object>,
+    pub(crate) waits: WaitTable,
+    pub(crate) handing: Vec<bool>,
+    pub(crate) moment: Moment,
+    pub(crate) grants: Vec<Grant>,
+}
+
+impl Model for Machine {
+    ghost use Rattle.std.specs.Prelude.{◌≤◌, vec_capacity};
+    ghost use Rattle.nt_core.specs.Dispatcher.{Dispatcher, dispatcher_of};
+    ghost use Rattle.nt_waits.specs.Waits.{waits_code};
+    ghost use Rattle.std.specs.Coded.{codes};
+
+    ghost Value = { Dispatcher };
+
+    ghost coded = { Prim.hlevel (codes, waits_code) };
+
+    ghost view = { λ m. dispatcher_of m.threads m.objects.items m.waits m.handing.items m.moment m.grants.items };
+
+    ghost invariant = { λ m. (m.threads ≤ 256) × (m.threads ≤ vec_capacity m.grants) };
+}
+
+impl Machine {
+    /// Running threads that wait for nothing.
+    pub fn new(alloc: Global, threads: u32) -> Result<Self, Refusal>
+        requires { threads ≤ 256 }
+        ensures opening { IfOk result (λ m. state m ≡ opening threads) }
+        ensures grants { IfOk result (λ m. m.grants ≡ []) }
+        ensures lawful { IfOk result (λ m. IsLawful m) }
+        ensures memory { IfErr result (λ refusal. refusal ≡ Memory) }
+    {
+        let count = threads as usize;
+        let handing = vec![in alloc; false; count]?;
+        let grants = Vec::with_capacity(alloc, count)?;
+        Ok(Machine {
+            threads,
+            objects: running_threads(alloc, count)?,
+            waits: WaitTable::new(alloc),
+            handing,
+            moment: Moment::ZERO,
+            grants,
+        })
+    }
+
+    /// Tests the pending wait of this thread, and ends it where it fits.
+    fn visit(&mut self, thread: ThreadId)
+        requires pends { IsTrue (pends (state self.old) thread) }
+        requires sound { IsSound self.old }
+        requires countable { self.old.table.looked + 1 < 2 ^ 64 }
+        ensures visited { IsVisited self.old self.new thread }
+        ensures sound { IsSound self.new }
+    {
+        let Some(wait) = self.waits.get(thread) else {
+            unreachable!()
+        };
+        let handles = wait.handles.as_slice();
+        let Some(status) = try_wait(&mut self.objects, thread, handles, wait.all) else {
+            return;
+        };
+        let _ended = self.waits.end(thread);
+        self.handing[thread.get() as usize] = false;
+        self.grants.push_reserved(Grant { thread, status });
+    }
+
+    /// Visits the waits on this handle, in the order in which they began.
+    fn serve_on(&mut self, handle: Handle)
+        requires sound { IsSound self.old }
+        requires countable { self.old.table.looked + length ((state self.old).queues handle) < 2 ^ 64 }
+        ensures visits { Visits ((state self.old).queues handle) self.old self.new }
+        ensures sound { IsSound self.new }
+    {
+        let mut at = self.waits.first_on(handle);
+        while let Some(thread) = at {
+            at = self.waits.next_on(handle, thread);
+            self.visit(thread);
+        }
+    }
+
+    /// Grants what fits after the objects at these handles changed. The caller knows that a wait that fits names one of them.
+    pub fn serve(&mut self, changed: &[Handle])
+        requires sound { IsSound self.old }
+        requires local { FitOnlyIn (sequence (state self.old) changed.now) (state self.old) }
+        requires first { self.old.grants ≡ [] }
+        requires anew { self.old.table.looked ≡ 0 }
+        requires countable { length (sequence (state self.old) changed.now) < 2 ^ 64 }
+        ensures served { Serve (sequence (state self.old) changed.now) (state self.old) self.new.grants (state self.new) }
+        ensures sound { IsSound self.new }
+        ensures most { self.new.table.looked ≤ length (sequence (state self.old) changed.now) }
+        ensures least { length self.new.grants ≤ self.new.table.looked }
+    {
+        for handle in changed {
+            self.serve_on(*handle);
+        }
+    }
+}
+
+impl Machine {
+    /// Nothing is told yet of the call or tick that comes.
+    pub fn tell_anew(&mut self)
+        requires { IsLawful self.old }
+        ensures state { state self.new ≡ state self.old }
+        ensures fresh { IsFresh self.new }
+    {
+        self.grants.clear();
+        self.waits.look_anew();
+    }
+
+    pub fn grants(&self) -> &[Grant]
+        ensures { result.now ≡ self.now.grants }
+    {
+        self.grants.as_slice()
+    }
+
+    pub fn pending(&self) -> usize
+        ensures { result ≡ map.len (state self.now).waits }
+    {
+        self.waits.pending()
+    }
+
+    /// How many pending waits the last call tested.
+    pub fn tested(&self) -> u64
+        ensures { result ≡ self.now.table.looked }
+    {
+        self.waits.looked()
+    }
+
+    pub fn is_waiting(&self, thread: u32) -> bool
+        requires { IsLawful self.now }
+        ensures { result ≡ pends (state self.now) thread }
+    {
+        thread < self.threads && self.waits.about(ThreadId::new(thread as u16)).is_some()
+    }
+}

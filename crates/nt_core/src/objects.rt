@@ -1,0 +1,60 @@
+//! The list of objects, and the creation of more.
+ghost use Rattle.std.specs.Prelude.{◌≡◌, ◌<◌, ◌∷◌, ◌++◌, [], false, replicate, IfOk, OnOk, OnErr, length, slice_set};
+ghost use Rattle.nt_objects.specs.declared.object.Object.TheVariants.{Thread};
+ghost use Rattle.nt_core.specs.State.{object_at};
+ghost use Rattle.nt_core.specs.Refusals.{is_full};
+
+use crate::machine::Machine;
+use nt_objects::{Armed, Object, Routine};
+use nt_status::{Handle, ThreadId};
+use std::alloc::{AllocError, Global};
+
+/// The objects of so many threads that run.
+pub fn running_threads(alloc: Global, count: usize) -> Result<Vec<Object>, AllocError>
+    ensures { IfOk result (λ objects. objects.items ≡ replicate count (Thread false)) }
+{
+    // The kit's check makes the proof of a new vector only where each type inside its items is named in the function.
+    let _inside: (Option<ThreadId>, Option<Armed>, Option<Routine>) = (None, None, None);
+    vec![in alloc; Object::new_thread(); count]
+}
+
+/// Adds an object, last.
+fn add_object(objects: &mut Vec<Object>, object: Object) -> Result<(), AllocError>
+    ensures ok { OnOk result (objects.new.items ≡ objects.old.items ++ object ∷ []) }
+    ensures err { OnErr result (objects.new.items ≡ objects.old.items) }
+{
+    // As above.
+    let _inside: (Option<ThreadId>, Option<Armed>, Option<Routine>) = (None, None, None);
+    objects.push(object)?;
+    Ok(())
+}
+
+impl Machine {
+    /// Adds an object, and answers its handle. Where memory is refused nothing changes.
+    pub(crate) fn create(&mut self, object: Object) -> Result<Handle, AllocError>
+        requires { is_full self.old.objects ≡ false }
+        ensures handle { IfOk result (λ handle. handle ≡ length self.old.objects) }
+        ensures ok { OnOk result (self.new ≡ record self.old { objects = self.old.objects ++ object ∷ [] }) }
+        ensures err { OnErr result (self.new ≡ self.old) }
+    {
+        let handle = Handle::new(self.objects.len() as u32);
+        add_object(&mut self.objects, object)?;
+        Ok(handle)
+    }
+
+    /// The object at this handle.
+    pub(crate) fn object(&self, handle: Handle) -> Object
+        requires { handle < length self.now.objects }
+        ensures { result ≡ object_at self.now.objects handle }
+    {
+        self.objects[handle.get() as usize]
+    }
+
+    /// Puts an object in the place of the one at this handle.
+    pub(crate) fn exchange(&mut self, handle: Handle, object: Object)
+        requires { handle < length self.old.objects }
+        ensures { self.new ≡ record self.old { objects = slice_set self.old.objects handle object } }
+    {
+        self.objects[handle.get() as usize] = object;
+    }
+}

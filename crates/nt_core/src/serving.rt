@@ -1,0 +1,133 @@
+ghost use Rattle.std.specs.Prelude.{◌≡◌, ◌≤◌, ℕ, IsTrue, None, true, false, length};
+ghost use Rattle.std.specs.List.{position, list_all, list_any};
+ghost use Rattle.std.specs.List.{IsDistinct};
+ghost use Rattle.std.specs.Prelude.{nat_eq};
+ghost use Rattle.nt_objects.specs.Object.{has_room};
+ghost use Rattle.nt_core.specs.State.{object_at};
+ghost use Rattle.nt_core.specs.Serving.{is_ready, has_mark, status_at, take_at, take_each, wait_for, CanTake, IsTried};
+
+use nt_objects::Object;
+use nt_status::{Handle, Status, ThreadId};
+
+/// Whether the object at this handle is signaled for the thread. A number that no object has is not.
+fn is_ready(objects: &[Object], thread: ThreadId, handle: Handle) -> bool
+    ensures { result ≡ is_ready objects.now thread handle }
+{
+    match objects.get(handle.get() as usize) {
+        Some(object) => object.signaled_for(thread),
+        None => false,
+    }
+}
+
+/// Whether the object at this handle is a mutex with the mark.
+fn has_mark(objects: &[Object], handle: Handle) -> bool
+    ensures { result ≡ has_mark objects.now handle }
+{
+    match objects.get(handle.get() as usize) {
+        Some(object) => object.is_abandoned(),
+        None => false,
+    }
+}
+
+/// The least place of the handles whose object is signaled for the thread.
+fn ready_place(objects: &[Object], thread: ThreadId, handles: &[Handle]) -> Option<usize>
+    ensures { result ≡ position (is_ready objects.now thread) handles.now }
+{
+    handles
+        .iter()
+        .position(|handle| is_ready(objects, thread, *handle))
+}
+
+/// Whether the objects at all handles are signaled for the thread.
+fn are_ready(objects: &[Object], thread: ThreadId, handles: &[Handle]) -> bool
+    ensures { result ≡ list_all (is_ready objects.now thread) handles.now }
+{
+    handles
+        .iter()
+        .all(|handle| is_ready(objects, thread, *handle))
+}
+
+/// Whether one of the handles is that of a mutex with the mark.
+fn have_mark(objects: &[Object], handles: &[Handle]) -> bool
+    ensures { result ≡ list_any (has_mark objects.now) handles.now }
+{
+    handles.iter().any(|handle| has_mark(objects, *handle))
+}
+
+fn status_at(marked: bool, place: u32) -> Status
+    requires { place ≤ 63 }
+    ensures { result ≡ status_at marked place }
+{
+    if marked {
+        Status::abandoned(place)
+    } else {
+        Status::object(place)
+    }
+}
+
+/// The thread takes the object at this handle.
+fn take_at(objects: &mut [Object], thread: ThreadId, handle: Handle)
+    requires ready { IsTrue (is_ready objects.old thread handle) }
+    requires room { IsTrue (has_room (object_at objects.old handle)) }
+    ensures { objects.new ≡ take_at objects.old thread handle }
+{
+    let _taken = objects[handle.get() as usize].take_for(thread);
+}
+
+/// The thread takes the objects at these handles.
+fn take_each(objects: &mut [Object], thread: ThreadId, handles: &[Handle])
+    requires ready { list_all (is_ready objects.old thread) handles.now ≡ true }
+    requires apart { IsDistinct nat_eq handles.now }
+    requires room { CanTake objects.old thread handles.now }
+    ensures { objects.new ≡ take_each objects.old thread handles.now }
+{
+    for handle in handles {
+        take_at(objects, thread, *handle);
+    }
+}
+
+/// Where the objects satisfy a wait for any of these handles, takes the object at the least, and answers the status.
+fn try_any(objects: &mut [Object], thread: ThreadId, handles: &[Handle]) -> Option<Status>
+    requires few { length handles.now ≤ 64 }
+    requires room { CanTake objects.old thread handles.now }
+    ensures { IsTried objects.old objects.new thread (wait_for handles.now false) result }
+{
+    let place = ready_place(objects, thread, handles)?;
+    let handle = handles[place];
+    let marked = has_mark(objects, handle);
+    take_at(objects, thread, handle);
+    Some(status_at(marked, place as u32))
+}
+
+/// Where the objects satisfy a wait for all these handles, takes them, and answers the status.
+fn try_all(objects: &mut [Object], thread: ThreadId, handles: &[Handle]) -> Option<Status>
+    requires apart { IsDistinct nat_eq handles.now }
+    requires room { CanTake objects.old thread handles.now }
+    ensures { IsTried objects.old objects.new thread (wait_for handles.now true) result }
+{
+    if handles.is_empty() || !are_ready(objects, thread, handles) {
+        return None;
+    }
+    let marked = have_mark(objects, handles);
+    take_each(objects, thread, handles);
+    Some(status_at(marked, 0))
+}
+
+/// Where the objects satisfy a wait for any or all of these handles, takes what it takes of them, and answers its status.
+pub fn try_wait(
+    objects: &mut [Object],
+    thread: ThreadId,
+    handles: &[Handle],
+    all: bool,
+) -> Option<Status>
+    requires few { length handles.now ≤ 64 }
+    requires apart { IsDistinct nat_eq handles.now }
+    requires room { CanTake objects.old thread handles.now }
+    ensures { IsTried objects.old objects.new thread (wait_for handles.now all) result }
+{
+    if all {
+        try_all(objects, thread, handles)
+    } else {
+        try_any(objects, thread, handles)
+    }
+}

@@ -1,0 +1,154 @@
+//! How a thread's own wait begins.
+ghost use Rattle.std.specs.Prelude.{◌≡◌, ◌+◌, ◌<◌, [], None, true, false, OnOk, OnErr, IfOk, IfErr, is_some, IfSome, IfNone, length, slice_set};
+ghost use Rattle.std.specs.Option.{OnSome};
+ghost use Rattle.std.specs.FinMap as map;
+ghost use Rattle.nt_status.specs.declared.refusal.Refusal.TheVariants.{Memory};
+ghost use Rattle.nt_core.specs.State.{deadline_after, pending_too};
+ghost use Rattle.nt_core.specs.Dispatcher.{state};
+ghost use Rattle.nt_core.specs.Serving.{late_status, wait_for, fits, status, taken_by};
+ghost use Rattle.nt_core.specs.Steps.{begun, wait_of};
+ghost use Rattle.nt_core.specs.Refusals.{refusal};
+ghost use Rattle.nt_core.specs.declared.call.Call.{Call};
+ghost use Rattle.nt_core.specs.Lawful.{IsSoundWait, IsSound, IsLawful};
+ghost use Rattle.nt_core.specs.Accepts.{IsFresh, Accepts};
+
+use crate::call::{Reply, WaitCall};
+use crate::machine::Machine;
+use crate::serving::try_wait;
+use nt_status::{Handle, Handles, Moment, Refusal, Status, ThreadId};
+use nt_waits::Wait;
+
+/// INFINITE: the timeout without a deadline.
+const INFINITE: u32 = 0xFFFF_FFFF;
+
+/// The deadline of a wait that begins at this moment with a timeout in milliseconds.
+fn deadline_after(now: Moment, ms: u32) -> Option<u64>
+    ensures { result ≡ deadline_after now ms }
+{
+    if ms == INFINITE {
+        None
+    } else {
+        Some(now.get() + 10_000 * ms as u64)
+    }
+}
+
+/// The status of a wait whose interval has passed: a sleep's is 0.
+fn late_status(sleeps: bool) -> Status
+    ensures { result ≡ late_status sleeps }
+{
+    if sleeps {
+        Status::object(0)
+    } else {
+        Status::TIMEOUT
+    }
+}
+
+impl Machine {
+    /// The wait pends from now on. Where memory is refused nothing changes.
+    fn pend(&mut self, thread: ThreadId, wait: Wait) -> Result<(), Refusal>
+        requires idle { map.get self.old.table.pending thread ≡ None }
+        requires able { IsSoundWait self.old.threads self.old.objects thread wait }
+        requires room { length self.old.grants + map.len self.old.table.pending < self.old.threads }
+        requires sound { IsSound self.old }
+        ensures state { OnOk result (state self.new ≡ pending_too (state self.old) thread wait) }
+        ensures sound { IsSound self.new }
+        ensures grants { self.new.grants ≡ self.old.grants }
+        ensures looked { self.new.table.looked ≡ self.old.table.looked }
+        ensures memory { IfErr result (λ refusal. refusal ≡ Memory) }
+        ensures err { OnErr result (self.new ≡ self.old) }
+    {
+        self.waits.begin(thread, wait)?;
+        Ok(())
+    }
+
+    /// Whether the thread may take its APCs from now on.
+    pub(crate) fn hand(&mut self, thread: ThreadId, may: bool)
+        requires lawful { IsLawful self.old }
+        requires known { thread < self.old.threads }
+        ensures handing { self.new ≡ record self.old { handing = slice_set self.old.handing thread may } }
+        ensures lawful { IsLawful self.new }
+    {
+        self.handing[thread.get() as usize] = may;
+    }
+
+    /// Where the objects satisfy the caller's wait, takes them, and answers its status.
+    fn take_now(&mut self, thread: ThreadId, handles: &[Handle], all: bool) -> Option<Status>
+        requires idle { map.get self.old.table.pending thread ≡ None }
+        requires able { IsSoundWait self.old.threads self.old.objects thread (wait_for handles.now all) }
+        requires lawful { IsLawful self.old }
+        ensures fits { is_some result ≡ fits self.old.objects thread (wait_for handles.now all) }
+        ensures status { IfSome result (λ code. code ≡ status self.old.objects thread (wait_for handles.now all)) }
+        ensures taken { OnSome result (state self.new ≡ taken_by (state self.old) thread (wait_for handles.now all)) }
+        ensures lawful { IsLawful self.new }
+        ensures grants { self.new.grants ≡ self.old.grants }
+        ensures looked { self.new.table.looked ≡ self.old.table.looked }
+        ensures none { IfNone result (self.new ≡ self.old) }
+    {
+        let status = try_wait(&mut self.objects, thread, handles, all)?;
+        self.handing[thread.get() as usize] = false;
+        Some(status)
+    }
+
+    /// Begins the caller's wait for these handles, none for a sleep: it takes what it fits, or ends for its timeout of 0, or
+    /// pends. Where memory is refused nothing changes.
+    pub(crate) fn begin_wait(
+        &mut self,
+        thread: ThreadId,
+        handles: &[Handle],
+        all: bool,
+        ms: u32,
+        alertable: bool,
+    ) -> Result<Reply, Refusal>
+        requires idle { map.get self.old.table.pending thread ≡ None }
+        requires able { IsSoundWait self.old.threads self.old.objects thread (wait_for handles.now all) }
+        requires room { length self.old.grants + map.len self.old.table.pending < self.old.threads }
+        requires lawful { IsLawful self.old }
+        ensures begun { IfOk result (λ reply. (reply, state self.new) ≡ begun (state self.old) thread (record { handles = handles.now; all = all; alertable = alertable; deadline = deadline_after self.old.now ms }) ms) }
+        ensures lawful { IsLawful self.new }
+        ensures grants { self.new.grants ≡ self.old.grants }
+        ensures looked { self.new.table.looked ≡ self.old.table.looked }
+        ensures memory { IfErr result (λ refusal. refusal ≡ Memory) }
+        ensures err { OnErr result (self.new ≡ self.old) }
+    {
+        if let Some(status) = self.take_now(thread, handles, all) {
+            return Ok(Reply::Status(status));
+        }
+        if ms == 0 {
+            self.hand(thread, false);
+            return Ok(Reply::Status(late_status(handles.is_empty())));
+        }
+        let wait = Wait {
+            handles: Handles::from_slice(*self.objects.allocator(), handles)?,
+            all,
+            alertable,
+            deadline: deadline_after(self.moment, ms),
+        };
+        self.pend(thread, wait)?;
+        Ok(Reply::Pended)
+    }
+
+    /// A waiting call that no cause refuses.
+    pub(crate) fn wait(&mut self, thread: ThreadId, call: &WaitCall) -> Result<Reply, Refusal>
+        requires fresh { IsFresh self.old }
+        requires free { refusal (state self.old) thread (Call.Wait call.now) ≡ None }
+        ensures ok { IfOk result (λ reply. Accepts self.old self.new thread (Call.Wait call.now) reply) }
+        ensures memory { IfErr result (λ refusal. refusal ≡ Memory) }
+        ensures err { OnErr result (self.new ≡ self.old) }
+    {
+        match call {
+            WaitCall::Objects {
+                handles,
+                all,
+                ms,
+                alertable,
+            } => self.begin_wait(thread, handles.as_slice(), *all, *ms, *alertable),
+            WaitCall::Sleep { ms, alertable } => self.begin_wait(
+                thread,
+                &[],
+                false,
+                *ms,
+                *alertable,
+            ),
+        }
+    }
+}
