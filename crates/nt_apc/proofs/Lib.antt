@@ -1,4 +1,5 @@
 pub mod ListLemmas
+pub mod ListingLemmas
 pub mod QueueLemmas
 pub mod SoundLemmas
 pub mod ViewLemmas

@@ -16,13 +16,13 @@ use Rattle.nt_apc.specs.Place.{inbox_at, timer_at, place_at, thread_of, IsSound,
 use Rattle.nt_apc.proofs.QueueLemmas.{timed_count-le, has_from-push, count_from-push, is_from-same, is_from-other, has_from-without_from, has_from-without_from_other, count_from-without_from, has_from-oldest, count_from-oldest}
 use Rattle.nt_apc.proofs.ListLemmas.{one_if, count_by-none, list_any-from_count}
 
-inbox_set_same : (inboxes : List Contents) (t : ℕ) (inbox : Contents) → t < length inboxes → inbox_at (slice_set inboxes t inbox) t ≡ inbox
+pub inbox_set_same : (inboxes : List Contents) (t : ℕ) (inbox : Contents) → t < length inboxes → inbox_at (slice_set inboxes t inbox) t ≡ inbox
 inbox_set_same inboxes t inbox below = get_or-set_same inboxes t inbox _ below
 
-inbox_set_other : (inboxes : List Contents) (t u : ℕ) (inbox : Contents) → u ≢ t → inbox_at (slice_set inboxes t inbox) u ≡ inbox_at inboxes u
+pub inbox_set_other : (inboxes : List Contents) (t u : ℕ) (inbox : Contents) → u ≢ t → inbox_at (slice_set inboxes t inbox) u ≡ inbox_at inboxes u
 inbox_set_other inboxes t u inbox other = get_or-set_other inboxes t u inbox _ other
 
-inbox_set_at : (inboxes : List Contents) (t u : ℕ) (inbox : Contents) → t < length inboxes → u ≡ t → inbox_at (slice_set inboxes t inbox) u ≡ inbox
+pub inbox_set_at : (inboxes : List Contents) (t u : ℕ) (inbox : Contents) → t < length inboxes → u ≡ t → inbox_at (slice_set inboxes t inbox) u ≡ inbox
 inbox_set_at inboxes t u inbox below same = ap (λ v. inbox_at (slice_set inboxes t inbox) v) same ∙ inbox_set_same inboxes t inbox below
 
 pub some_same : {a b : ℕ} → Some a ≡ Some b → a ≡ b

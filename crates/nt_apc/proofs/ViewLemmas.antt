@@ -1,8 +1,8 @@
 -- The queues and the threads of places, as callers see them.
-use Rattle.std.proofs.Common.{zero, suc, replicate, arith, ◌≡◌, ◌≢◌, ℕ, ◌<◌, Bool, true, false, not, ◌==◌, List, [], ◌∷◌, length, map, slice_index_or, slice_set, Option, Some, None, refl, sym, ◌∙◌, ap, subst, inl, inr}
+use Rattle.std.proofs.Common.{◌≤◌, ◌+◌, ◌++◌, take, zero, suc, replicate, arith, ◌≡◌, ◌≢◌, ℕ, ◌<◌, Bool, true, false, not, ◌==◌, List, [], ◌∷◌, length, map, slice_index_or, slice_set, Option, Some, None, refl, sym, ◌∙◌, ap, subst, inl, inr}
 use Rattle.std.proofs.lemmas.Bool.{cases_eq, cases_Bool, ne_eqb}
 use Rattle.std.proofs.lemmas.List.Folds.{list_any_at, list_any_none}
-use Rattle.std.proofs.lemmas.List.{get_or-map as get_or-map_within, get_or-set_same, get_or-set_other, map-set, set-get_or, get_or_default, length-map, length-set, same_lists}
+use Rattle.std.proofs.lemmas.List.{get_or-map as get_or-map_within, get_or-set_same, get_or-set_other, map-set, set-get_or, get_or_default, length-map, length-set, same_lists, map-append, take_more, take_all}
 use Rattle.std.proofs.Math.ListN.{get_or-map}
 use Rattle.std.specs.Prelude.{slice_get, Contains, AllPairs}
 use Rattle.std.specs.List.{list_any}
@@ -11,10 +11,10 @@ use Rattle.std.proofs.Math.Seq.{map-set_same}
 use Rattle.nt_apc.specs.declared.apc.Queued.{Queued}
 use Rattle.nt_apc.specs.declared.place.Place.{Place}
 use Rattle.nt_apc.specs.Queues.{KeepsPlaces, queue_of, place_of, has_from, is_queued, without_from, withdrawn, withdrawn_at}
-use Rattle.nt_apc.proofs.SoundLemmas.{place_known, place_of_thread, some_same}
+use Rattle.nt_apc.proofs.SoundLemmas.{place_known, place_of_thread, some_same, sound_same}
 use Rattle.nt_apc.proofs.QueueLemmas.{without_from-none}
 use Rattle.nt_apc.specs.Inbox.{Contents}
-use Rattle.nt_apc.specs.Place.{inbox_at, timer_at, place_at, thread_of, queues_in, threads_in, flagged, reindexed, marked, moved_to, IsSound}
+use Rattle.nt_apc.specs.Place.{inbox_at, timer_at, place_at, thread_of, queues_in, threads_in, flagged, reindexed, marked, moved_to, IsSound, timers_in, KeepsSound}
 
 pub queue_of-queues_in : (inboxes : List Contents) (t : ℕ) → queue_of (queues_in inboxes) t ≡ (inbox_at inboxes t).queue
 queue_of-queues_in inboxes t = get_or-map (λ (inbox : Contents). inbox.queue) inboxes t (record { queue = []; timers = []; room = 0 })
@@ -174,3 +174,51 @@ is_empty-is (q ∷ queue) = ne_eqb (suc (length queue)) 0 (λ e. absurd (omega a
 -- a thread with a queue has an inbox
 pub has_inbox : (inboxes : List Contents) (t : ℕ) → t < length (queues_in inboxes) → t < length inboxes
 has_inbox inboxes t below = subst (λ n. t < n) (length-map inboxes (λ (inbox : Contents). inbox.queue)) below
+
+-- a timer with no place has no APC in any queue
+pub withdrawn_nowhere : (inboxes : List Contents) (places : List (Option Place)) → IsSound inboxes places → (m : ℕ) → place_at places m ≡ None →
+    withdrawn (queues_in inboxes) m ≡ queues_in inboxes
+withdrawn_nowhere inboxes places sound m nowhere =
+    same_lists (withdrawn (queues_in inboxes) m) (queues_in inboxes) (length-map (queues_in inboxes) (without_from m))
+    (λ k d below. at k d (subst (λ n. k < n) (length-map (queues_in inboxes) (without_from m)) below))
+  where
+    none : (k : ℕ) → has_from m (inbox_at inboxes k).queue ≡ false
+    none k = elim (cases_Bool (has_from m (inbox_at inboxes k).queue)) [
+      | inl has ↦ let there : thread_of (place_at places m) ≡ Some k = sound.at_place k m has in let gone : thread_of (place_at places m) ≡ None = ap thread_of nowhere in absurd (cc)
+      | inr fails ↦ fails
+    ]
+
+    at : (k : ℕ) (d : List Queued) → k < length (queues_in inboxes) → slice_index_or (withdrawn (queues_in inboxes) m) k d ≡ slice_index_or (queues_in inboxes) k d
+    at k d below =
+        let mapped : slice_index_or (withdrawn (queues_in inboxes) m) k d ≡ without_from m (queue_of (queues_in inboxes) k) = get_or-map_within (without_from m) (queues_in inboxes) k [] d below in
+        mapped
+        ∙ without_from-none m (queue_of (queues_in inboxes) k) (ap (has_from m) (queue_of-queues_in inboxes k) ∙ none k)
+        ∙ get_or_default (queues_in inboxes) k [] d below
+
+pub threads_kept : (old new : List (Option Place)) → ((m : ℕ) → place_at new m ≡ place_at old m) → (m : ℕ) → place_of (threads_in new) m ≡ place_of (threads_in old) m
+threads_kept old new kept m = place_of-threads_in new m ∙ ap thread_of (kept m) ∙ sym (place_of-threads_in old m)
+
+-- inboxes with the same queues and timers
+pub copied_sound : (inboxes inboxes' : List Contents) → queues_in inboxes' ≡ queues_in inboxes → timers_in inboxes' ≡ timers_in inboxes → KeepsSound inboxes inboxes'
+copied_sound inboxes inboxes' queues timers places sound =
+    sound_same inboxes inboxes' places places
+    (λ t. sym (queue_of-queues_in inboxes' t) ∙ ap (λ qs. slice_index_or qs t []) queues ∙ queue_of-queues_in inboxes t)
+    (λ t. sym (timers_at inboxes' t) ∙ ap (λ ts. slice_index_or ts t []) timers ∙ timers_at inboxes t)
+    (λ m. refl) sound
+  where
+    timers_at : (held : List Contents) (t : ℕ) → slice_index_or (timers_in held) t [] ≡ (inbox_at held t).timers
+    timers_at held t = get_or-map (λ (inbox : Contents). inbox.timers) held t (record { queue = []; timers = []; room = 0 })
+
+-- one more inbox is copied
+pub copied_more : {X : Type 0} (f : Contents → X) (inboxes copied : List Contents) (i : ℕ) (inbox d : Contents) →
+    map f copied ≡ take i (map f inboxes) → i < length inboxes → f inbox ≡ f (slice_index_or inboxes i d) → map f (copied ++ inbox ∷ []) ≡ take (i + 1) (map f inboxes)
+copied_more f inboxes copied i inbox d so_far below same =
+    map-append f copied (inbox ∷ [])
+    ∙ ap (λ xs. xs ++ f inbox ∷ []) so_far
+    ∙ ap (λ x. take i (map f inboxes) ++ x ∷ []) (same ∙ sym (get_or-map f inboxes i d))
+    ∙ sym (take_more (map f inboxes) i (f d) (rw (length-map inboxes f) below))
+
+-- all inboxes are copied
+pub copied_all : {X : Type 0} (f : Contents → X) (inboxes copied : List Contents) (i : ℕ) →
+    map f copied ≡ take i (map f inboxes) → length inboxes ≤ i → map f copied ≡ map f inboxes
+copied_all f inboxes copied i so_far past = so_far ∙ take_all i (map f inboxes) (rw (length-map inboxes f) past)

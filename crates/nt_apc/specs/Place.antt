@@ -1,5 +1,5 @@
 -- The inboxes of all threads, and where each timer has its place. No public clause cites this.
-use Rattle.std.specs.Prelude.{ℕ, ◌≡◌, ◌≤◌, Bool, true, false, ◌&&◌, ◌==◌, List, [], map, slice_index_or, slice_set, slice_get, Option, Some, None}
+use Rattle.std.specs.Prelude.{ℕ, ◌≡◌, ◌≤◌, Bool, true, false, ◌&&◌, ◌==◌, List, [], ◌∷◌, if◌then◌else◌, map, slice_index_or, slice_set, slice_get, Option, Some, None}
 use Rattle.nt_apc.specs.declared.apc.Queued.{Queued}
 use Rattle.nt_apc.specs.declared.place.Place.{Place}
 use Rattle.nt_apc.specs.Queues.{has_from, count_from}
@@ -22,6 +22,9 @@ thread_of (Some place) = Some place.thread
 
 abbrev pub queues_in : List Contents → List (List Queued)
 queues_in inboxes = map (λ inbox. inbox.queue) inboxes
+
+abbrev pub timers_in : List Contents → List (List ℕ)
+timers_in inboxes = map (λ inbox. inbox.timers) inboxes
 
 abbrev pub threads_in : List (Option Place) → List (Option ℕ)
 threads_in places = map thread_of places
@@ -60,3 +63,15 @@ marked places timer queued = slice_set places timer (flagged queued (place_at pl
 
 abbrev pub moved_to : List (Option Place) → ℕ → ℕ → List (Option Place)
 moved_to places timer index = slice_set places timer (reindexed index (place_at places timer))
+
+-- where t's inbox names the timer
+abbrev pub index_at : ℕ → Option Place → Option ℕ
+index_at t None = None
+index_at t (Some place) = if place.thread == t then Some place.index else None
+
+abbrev pub vacated : List (Option Place) → ℕ → List (Option Place)
+vacated places timer = slice_set places timer None
+
+abbrev pub all_vacated : List (Option Place) → List ℕ → List (Option Place)
+all_vacated places [] = places
+all_vacated places (timer ∷ timers) = all_vacated (vacated places timer) timers

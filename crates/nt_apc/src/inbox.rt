@@ -1,5 +1,5 @@
 //! One thread's queue, with a place kept free for each timer that was promised one.
-ghost use Rattle.std.specs.Prelude.{◌≡◌, ◌<◌, ◌++◌, ◌∷◌, ◌==◌, [], length, Some, None, OnOk, OnErr, IfOk};
+ghost use Rattle.std.specs.Prelude.{◌≡◌, ◌<◌, ◌++◌, ◌∷◌, ◌==◌, [], length, Some, None, OnOk, OnErr, IfOk, slice_get};
 ghost use Rattle.nt_apc.specs.Queues.{oldest, without_oldest, without_from};
 ghost use Rattle.nt_apc.specs.Inbox.{timed_count, GivesUp};
 
@@ -94,13 +94,19 @@ impl Inbox {
         self.queue.retain(|queued| !queued.is_from(timer));
     }
 
-    /// Gives up the place of the timer at this index. The last timer takes the index.
-    pub fn give_up(&mut self, index: usize)
+    /// Gives up the place of the timer at this index. The last timer takes the index, and is answered.
+    pub fn give_up(&mut self, index: usize) -> Option<Handle>
         requires { index < length self.old.timers }
+        ensures moved { result ≡ slice_get self.new.timers index }
         ensures queue { self.new.queue ≡ self.old.queue }
         ensures timers { GivesUp self.old.timers self.new.timers index }
     {
         let _timer = self.timers.swap_remove(index);
+        if index < self.timers.len() {
+            Some(self.timers[index])
+        } else {
+            None
+        }
     }
 
     /// Takes the oldest APC. A timer's place stays.

@@ -1,6 +1,6 @@
 //! Where each timer's APC has its place, by the timer's handle.
 ghost use Rattle.std.specs.Prelude.{◌≡◌, ℕ, ◌<◌, ◌+◌, None, OnOk, length, vec_len, vec_capacity};
-ghost use Rattle.nt_apc.specs.Place.{place_at, threads_in, marked, moved_to, stands_at};
+ghost use Rattle.nt_apc.specs.Place.{place_at, threads_in, marked, moved_to, stands_at, index_at, vacated, all_vacated};
 
 use nt_status::{Handle, ThreadId};
 use std::alloc::AllocError;
@@ -30,6 +30,35 @@ pub fn is_queued(places: &[Option<Place>], t: ThreadId, timer: Handle) -> bool
     match place_of(places, timer) {
         Some(place) => place.thread == t && place.queued,
         None => false,
+    }
+}
+
+/// Where t's inbox names this timer.
+pub fn index_at(places: &[Option<Place>], t: ThreadId, timer: Handle) -> Option<usize>
+    ensures { result ≡ index_at t (place_at places.now timer) }
+{
+    match place_of(places, timer) {
+        Some(place) if place.thread == t => Some(place.index),
+        _ => None,
+    }
+}
+
+/// Takes this timer's place away.
+pub fn vacate(places: &mut [Option<Place>], timer: Handle)
+    ensures { places.new ≡ vacated places.old timer }
+{
+    let at = timer.get() as usize;
+    if at < places.len() {
+        places[at] = None;
+    }
+}
+
+/// Takes these timers' places away.
+pub fn vacate_all(places: &mut [Option<Place>], timers: &[Handle])
+    ensures { places.new ≡ all_vacated places.old timers.now }
+{
+    for timer in timers {
+        vacate(places, *timer);
     }
 }
 

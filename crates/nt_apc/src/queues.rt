@@ -1,4 +1,4 @@
-ghost use Rattle.std.specs.Prelude.{◌≡◌, ◌≢◌, ◌<◌, ◌↔◌, ℕ, not, false, length, replicate, [], Some, None, OnOk, OnErr, IfOk, AllPairs, Contains};
+ghost use Rattle.std.specs.Prelude.{◌≡◌, ◌≢◌, ◌<◌, if◌then◌else◌, ◌↔◌, ℕ, not, false, length, replicate, [], Some, None, OnOk, OnErr, IfOk, AllPairs, Contains};
 ghost use Rattle.nt_apc.specs.Queues.{Apcs, KeepsPlaces, queue_of, has_apc, has_from, is_queued, oldest, apc_of, pushed, taken, cleared, withdrawn, withdrawn_at, place_of, is_at, given_up};
 
 use crate::apc::Apc;
@@ -60,6 +60,23 @@ impl ApcQueues {
         Ok(())
     }
 
+    /// Promises the timer's APC a place in `t`'s queue. A place that stands there is kept, with its
+    /// APC; one in another queue is given up, and its APC removed.
+    pub fn promise(&mut self, t: ThreadId, timer: Handle) -> Result<(), AllocError>
+        requires { t < length self.old.queues }
+        ensures queues { OnOk result (self.new.queues ≡ (if is_at t (place_of self.old.places timer) then self.old.queues else withdrawn self.old.queues timer)) }
+        ensures place { OnOk result (place_of self.new.places timer ≡ Some t) }
+        ensures others { OnOk result ((m : ℕ) → m ≢ timer → place_of self.new.places m ≡ place_of self.old.places m) }
+        ensures keeps { KeepsPlaces self.new }
+        ensures err { OnErr result (self.new ≡ self.old) }
+    {
+        if place::index_at(&self.places, t, timer).is_some() {
+            return Ok(());
+        }
+        linked::promise(&mut self.inboxes, &mut self.places, t, timer)?;
+        Ok(())
+    }
+
     /// Queues the APC of a timer, last, in the place that was promised in `t`'s queue.
     pub fn push_promised(&mut self, t: ThreadId, timer: Handle, apc: Apc)
         requires place { place_of self.old.places timer ≡ Some t }
@@ -89,6 +106,17 @@ impl ApcQueues {
         linked::withdraw(&mut self.inboxes, &mut self.places, t, timer);
     }
 
+    /// Gives up the timer's place in `t`'s queue, and removes its APC there.
+    pub fn forget(&mut self, t: ThreadId, timer: Handle)
+        ensures queues { self.new.queues ≡ withdrawn_at self.old.queues t timer }
+        ensures anywhere { place_of self.old.places timer ≡ Some t → self.new.queues ≡ withdrawn self.old.queues timer }
+        ensures place { place_of self.new.places timer ≡ given_up t (place_of self.old.places timer) }
+        ensures others { (m : ℕ) → m ≢ timer → place_of self.new.places m ≡ place_of self.old.places m }
+        ensures keeps { KeepsPlaces self.new }
+    {
+        linked::forget(&mut self.inboxes, &mut self.places, t, timer);
+    }
+
     /// Takes the oldest APC of `t`. A timer's place stays.
     pub fn next(&mut self, t: ThreadId) -> Option<Apc>
         requires { t < length self.old.queues }
@@ -101,6 +129,16 @@ impl ApcQueues {
             Some(queued) => Some(queued.apc),
             None => None,
         }
+    }
+
+    /// Empties `t`'s queue, and gives up all places in it.
+    pub fn clear(&mut self, t: ThreadId)
+        requires { t < length self.old.queues }
+        ensures queues { self.new.queues ≡ cleared self.old.queues t }
+        ensures places { (m : ℕ) → place_of self.new.places m ≡ given_up t (place_of self.old.places m) }
+        ensures keeps { KeepsPlaces self.new }
+    {
+        linked::clear(&mut self.inboxes, &mut self.places, t);
     }
 
     /// Whether no APC is queued to `t`.
@@ -129,5 +167,15 @@ impl ApcQueues {
         ensures listed { (m : ℕ) → Contains result.now m ↔ (place_of self.now.places m ≡ Some t) }
     {
         self.inboxes[t.get() as usize].timers()
+    }
+
+    /// The same queues and promises in memory of their own.
+    pub fn copy(&self) -> Result<Self, AllocError>
+        ensures { IfOk result (λ copied. copied ≡ self.now) }
+    {
+        let alloc = *self.inboxes.allocator();
+        let inboxes = linked::copy(alloc, &self.inboxes)?;
+        let places = Vec::from_slice(alloc, &self.places)?;
+        Ok(ApcQueues { inboxes, places })
     }
 }
