@@ -18,7 +18,7 @@ use Rattle.nt_core.specs.Refusals.{is_at_limit}
 use Rattle.nt_core.specs.Serving.{is_ready, is_sleep, fits, satisfied, is_due, IsChanged, sequence, IsServed, IsAlerted}
 use Rattle.nt_core.specs.Visits.{FitOnlyIn}
 use Rattle.nt_core.specs.Steps.{IsAwaited, NothingDue}
-use Rattle.nt_core.specs.Lawful.{IsSoundWait, IsSound, IsSettled, IsLawful}
+use Rattle.nt_core.specs.Lawful.{IsSoundWait, IsSound, IsSettled, IsLawful, MayReplace}
 use Rattle.nt_core.proofs.Taking.{fits_kept}
 
 -- ---- one object among the others
@@ -165,14 +165,6 @@ changed_at_one os h o k known = elim (cases_eq k h) [
 ]
 
 -- ---- soundness after one object is exchanged, or one is added
-
--- the object may stand in the place of the other: it is lawful, of the same kind where threads are concerned, and no
--- mutex at its owner's limit where the other was none
-pub record MayReplace (old new : Object) : Type 0 where
-  pub lawful : IsLawfulObject new
-  pub thread : is_thread new ≡ is_thread old
-  pub ended : has_ended new ≡ has_ended old
-  pub unlimited : (u : ℕ) → (owned_by old u && not (has_room old)) ≡ false → (owned_by new u && not (has_room new)) ≡ false
 
 reading_set : {X : Type 0} (f : Object → X) (os : List Object) (h : ℕ) (o : Object) → f o ≡ f (object_at os h) → (k : ℕ) → f (object_at (set os h o) k) ≡ f (object_at os k)
 reading_set f [] h o same k = refl

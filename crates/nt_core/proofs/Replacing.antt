@@ -8,7 +8,11 @@ use Rattle.std.proofs.Common.{◌==◌}
 use Rattle.nt_waits.specs.Waits.{IsMember, AreOnce, others}
 use Rattle.nt_objects.specs.declared.object.Object.{Object}
 use Rattle.nt_objects.specs.declared.object.Object.TheVariants.{Event, Semaphore, Mutex, Timer, Thread}
-use Rattle.nt_objects.specs.Object.{signaled, taken, is_event, with_set, due_of, IsLawfulObject}
+use Rattle.nt_objects.specs.Object.{signaled, taken, is_event, is_semaphore, is_mutex, owned_by, count_of, depth_of, depth_limit, mutex_of, with_set, released, unlocked, due_of, IsLawfulObject}
+use Rattle.std.specs.Prelude.{ℤ, pos, ◌+ℤ◌, ◌<ℤ◌, nat_le, nat_lt, if◌then◌else◌}
+use Rattle.nt_status.specs.Flags.{has_flag, mutex_initial_owner}
+use Rattle.std.proofs.lemmas.Int.{ints}
+use Rattle.std.proofs.Common.{◌-◌}
 use Rattle.nt_core.specs.declared.call.Call.{Call}
 use Rattle.nt_core.specs.declared.call.Act.{Act}
 use Rattle.nt_core.specs.declared.call.Reply.{Reply}
@@ -20,9 +24,9 @@ use Rattle.nt_core.specs.Serving.{is_ready, IsChanged, sequence, IsServed, Serve
 use Rattle.nt_core.specs.Change.{change, at, created}
 use Rattle.nt_core.specs.Steps.{Step, after_serving, answered, NothingDue}
 use Rattle.nt_core.specs.Visits.{FitOnlyIn}
-use Rattle.nt_core.specs.Lawful.{IsSound, IsSettled, IsLawful}
+use Rattle.nt_core.specs.Lawful.{IsSound, IsSettled, IsLawful, MayReplace}
 use Rattle.nt_core.specs.Accepts.{IsFresh, IsServedAfter, Accepts}
-use Rattle.nt_core.proofs.Changing.{MayReplace, ChangedOnlyAt, one_changed, same_changed, fit_only_in, changed_at_one, sound_replaced, served_fewer, due_replaced, none_created, sound_created, served_unchanged, object_at-append, due_kept, known_event, set_as_before, object_at-set_same}
+use Rattle.nt_core.proofs.Changing.{ChangedOnlyAt, one_changed, same_changed, fit_only_in, changed_at_one, sound_replaced, served_fewer, due_replaced, none_created, sound_created, served_unchanged, object_at-append, due_kept, known_event, known_object, set_as_before, object_at-set_same}
 use Rattle.nt_core.proofs.Accepting.{accepted, settled_after, reading_taken_by}
 use Rattle.nt_core.proofs.Walks.{others-IsMember, AreOnce-others}
 
@@ -80,6 +84,19 @@ replaced_served old new h o known differs serve sound most least = record {
   least = least;
 }
 
+-- what holds once the waits on it are served
+pub replaced_settled : (old new : Dispatcher) (h : ℕ) (o : Object) → IsFresh old → MayReplace (object_at old.objects h) o → IsServedAfter old (at (state old) h (λ _. o)) new → IsLawful new
+replaced_settled old new h o fresh may after = record {
+  sound = after.sound;
+  settled = settled_after (sequence (state old) after.handles) (at (state old) h (λ _. o)) (state new) new.grants after.serves fresh.lawful.settled.alerted
+      (due_replaced (state old) h o old.now may.due fresh.lawful.settled.passed);
+}
+
+-- a call that exchanges one object and answers at once
+pub replaced_accepted : (old new : Dispatcher) (t h : ℕ) (o : Object) (call : Call) (reply : Reply) → IsFresh old → MayReplace (object_at old.objects h) o → change (state old) t call ≡ at (state old) h (λ _. o) → state new ≡ after_serving call (state new) → (reply, state new) ≡ answered (state old) (state new) t call → IsServedAfter old (at (state old) h (λ _. o)) new → Accepts old new t call reply
+replaced_accepted old new t h o call reply fresh may changes after answers served =
+    accepted old new new t call reply (subst (λ (s : State). IsServedAfter old s new) (sym changes) served) after refl refl (replaced_settled old new h o fresh may served) answers
+
 -- nothing is changed, or nothing that satisfies more waits
 pub idle_served : (old : Dispatcher) (mid : State) (new : Dispatcher) (handles : List ℕ) → IsFresh old → AreRising (IsChanged old.objects mid.objects) handles → new.grants ≡ old.grants → new.table.looked ≡ old.table.looked → state new ≡ mid → IsLawful new → IsServedAfter old mid new
 idle_served old mid new handles fresh changed grants looked is lawful = record {
@@ -94,7 +111,7 @@ idle_served old mid new handles fresh changed grants looked is lawful = record {
 -- ---- events
 
 pub set_may_replace : (set : Bool) (o : Object) → is_event o ≡ true → MayReplace o (with_set set o)
-set_may_replace set (Event manual was) is = record { lawful = tt; thread = refl; ended = refl; unlimited = λ u below. below }
+set_may_replace set (Event manual was) is = record { lawful = tt; thread = refl; ended = refl; due = refl; unlimited = λ u below. below }
 set_may_replace set (Semaphore count maximum) is = absurd (false≢true is)
 set_may_replace set (Mutex owner depth abandoned) is = absurd (false≢true is)
 set_may_replace set (Timer manual was armed) is = absurd (false≢true is)
@@ -128,13 +145,8 @@ with_set_same (Mutex owner depth abandoned) t is = absurd (false≢true is)
 with_set_same (Timer manual was armed) t is = absurd (false≢true is)
 with_set_same (Thread ended) t is = absurd (false≢true is)
 
-set_differs : (o : Object) (t : ℕ) → is_event o ≡ true → signaled o t ≡ false → with_set true o ≢ o
+pub set_differs : (o : Object) (t : ℕ) → is_event o ≡ true → signaled o t ≡ false → with_set true o ≢ o
 set_differs o t is unset e = false≢true (sym unset ∙ (sym (ap (λ x. signaled x t) e) ∙ signaled_with_set true o t is))
-
--- the event was not set
-pub raised : (old new : Dispatcher) (t h : ℕ) → is_event (object_at old.objects h) ≡ true → signaled (object_at old.objects h) t ≡ false → Serve (sequence (state old) (h ∷ [])) (at (state old) h (with_set true)) new.grants (state new) → IsSound new → new.table.looked ≤ length (sequence (state old) (h ∷ [])) → length new.grants ≤ new.table.looked → IsServedAfter old (at (state old) h (with_set true)) new
-raised old new t h is unset serve sound most least =
-    replaced_served old new h (with_set true (object_at old.objects h)) (known_event old.objects h is) (set_differs (object_at old.objects h) t is unset) serve sound most least
 
 -- the event was set
 pub raised_idle : (old : Dispatcher) (t h : ℕ) → IsFresh old → is_event (object_at old.objects h) ≡ true → signaled (object_at old.objects h) t ≡ true → IsServedAfter old (at (state old) h (with_set true)) old
@@ -229,6 +241,13 @@ due_created [] o (suc k) due = inl refl
 due_created (x ∷ os) o zero due = inl refl
 due_created (x ∷ os) o (suc k) due = due_created os o k due
 
+pub mutex_undue : (flags t : ℕ) → due_of (mutex_of flags t) ≡ None
+mutex_undue flags t = go (has_flag flags mutex_initial_owner)
+  where
+    go : (b : Bool) → due_of (if b then Mutex (Some t) 1 false else Mutex None 0 false) ≡ None
+    go true = refl
+    go false = refl
+
 pub created_accepted : (old new : Dispatcher) (t : ℕ) (o : Object) (call : Call) (handle : ℕ) → IsFresh old → IsLawfulObject o → due_of o ≡ None → change (state old) t call ≡ created (state old) o → ((s : State) → after_serving call s ≡ s) → ((s : State) → answered (state old) s t call ≡ (Reply.Handle (length old.objects), s)) → handle ≡ length old.objects → new ≡ record old { objects = old.objects ++ o ∷ [] } → Accepts old new t call (Reply.Handle handle)
 created_accepted old new t o call handle fresh lawful due changes after answers is becomes =
     subst (λ (x : Dispatcher). Accepts old x t call (Reply.Handle handle)) (sym becomes)
@@ -249,3 +268,85 @@ created_accepted old new t o call handle fresh lawful due changes after answers 
         passed = due_kept (state old) (state d) old.now (λ k. due_created old.objects o k due) refl fresh.lawful.settled.passed;
       };
     }
+
+-- ---- semaphores
+
+semaphore_is_no_thread : (o : Object) → is_semaphore o ≡ true → o ≢ Thread false
+semaphore_is_no_thread o is e = false≢true (sym (ap is_semaphore e) ∙ is)
+
+pub known_semaphore : (os : List Object) (h : ℕ) → is_semaphore (object_at os h) ≡ true → h < length os
+known_semaphore os h is = known_object os h (semaphore_is_no_thread (object_at os h) is)
+
+pub released_may_replace : (n : ℤ) (o : Object) → is_semaphore o ≡ true → IsLawfulObject (released n o) → MayReplace o (released n o)
+released_may_replace n (Event manual was) is lawful = absurd (false≢true is)
+released_may_replace n (Semaphore count maximum) is lawful = record { lawful = lawful; thread = refl; ended = refl; due = refl; unlimited = λ u below. below }
+released_may_replace n (Mutex owner depth abandoned) is lawful = absurd (false≢true is)
+released_may_replace n (Timer manual was armed) is lawful = absurd (false≢true is)
+released_may_replace n (Thread ended) is lawful = absurd (false≢true is)
+
+pub released_differs : (n : ℤ) (o : Object) → is_semaphore o ≡ true → pos 0 <ℤ n → released n o ≢ o
+released_differs n (Event manual was) is positive e = absurd (false≢true is)
+released_differs n (Semaphore count maximum) is positive e =
+    let same : (count +ℤ n) ≡ count = ap count_of e in
+    absurd (omega (arith, ints, positive, same))
+released_differs n (Mutex owner depth abandoned) is positive e = absurd (false≢true is)
+released_differs n (Timer manual was armed) is positive e = absurd (false≢true is)
+released_differs n (Thread ended) is positive e = absurd (false≢true is)
+
+-- ---- mutexes
+
+owned_is_no_thread : (o : Object) (t : ℕ) → owned_by o t ≡ true → o ≢ Thread false
+owned_is_no_thread o t owns e = false≢true (sym (ap (λ x. owned_by x t) e) ∙ owns)
+
+pub known_mutex : (os : List Object) (h t : ℕ) → owned_by (object_at os h) t ≡ true → h < length os
+known_mutex os h t owns = known_object os h (owned_is_no_thread (object_at os h) t owns)
+
+pub owned_is_mutex : (o : Object) (t : ℕ) → owned_by o t ≡ true → is_mutex o ≡ true
+owned_is_mutex (Event manual was) t owns = owns
+owned_is_mutex (Semaphore count maximum) t owns = owns
+owned_is_mutex (Mutex owner depth abandoned) t owns = refl
+owned_is_mutex (Timer manual was armed) t owns = owns
+owned_is_mutex (Thread ended) t owns = owns
+
+pub unlocked_may_replace : (o : Object) (t : ℕ) → owned_by o t ≡ true → IsLawfulObject o → IsLawfulObject (unlocked o) → MayReplace o (unlocked o)
+unlocked_may_replace (Event manual was) t owns lawful after = absurd (false≢true owns)
+unlocked_may_replace (Semaphore count maximum) t owns lawful after = absurd (false≢true owns)
+unlocked_may_replace (Mutex None depth abandoned) t owns lawful after = absurd (false≢true owns)
+unlocked_may_replace (Mutex (Some owner) depth abandoned) t owns lawful after = go (nat_le depth 1) refl after
+  where
+    fewer : 0 < depth → depth ≤ depth_limit → nat_lt (depth - 1) depth_limit ≡ true
+    fewer some most = grind (arith, nat_tests, some, most)
+
+    never : (b : Bool) → (b && false) ≡ false
+    never true = refl
+    never false = refl
+
+    go : (b : Bool) → nat_le depth 1 ≡ b → IsLawfulObject (if b then Mutex None 0 false else Mutex (Some owner) (depth - 1) abandoned) → MayReplace (Mutex (Some owner) depth abandoned) (if nat_le depth 1 then Mutex None 0 false else Mutex (Some owner) (depth - 1) abandoned)
+    go true is has = rw is (record { lawful = refl; thread = refl; ended = refl; due = refl; unlimited = λ u below. refl })
+    go false is has = rw is (record {
+      lawful = has;
+      thread = refl;
+      ended = refl;
+      due = refl;
+      unlimited = λ u below. let room : nat_lt (depth - 1) depth_limit ≡ true = fewer lawful.0 lawful.1 in rw room (never (owner == u));
+    })
+unlocked_may_replace (Timer manual was armed) t owns lawful after = absurd (false≢true owns)
+unlocked_may_replace (Thread ended) t owns lawful after = absurd (false≢true owns)
+
+pub unlocked_differs : (o : Object) (t : ℕ) → owned_by o t ≡ true → IsLawfulObject o → unlocked o ≢ o
+unlocked_differs (Event manual was) t owns lawful e = absurd (false≢true owns)
+unlocked_differs (Semaphore count maximum) t owns lawful e = absurd (false≢true owns)
+unlocked_differs (Mutex None depth abandoned) t owns lawful e = absurd (false≢true owns)
+unlocked_differs (Mutex (Some owner) depth abandoned) t owns lawful e = go (nat_le depth 1) refl
+  where
+    smaller : depth - 1 ≡ depth → ⊥
+    smaller same = let some = lawful.0 in absurd (omega (arith, same, some))
+
+    zero_depth : 0 ≡ depth → ⊥
+    zero_depth same = let some = lawful.0 in absurd (omega (arith, same, some))
+
+    go : (b : Bool) → nat_le depth 1 ≡ b → ⊥
+    go true is = let free : Mutex None 0 false ≡ Mutex (Some owner) depth abandoned = rw is at e in zero_depth (ap depth_of free)
+    go false is = let less : Mutex (Some owner) (depth - 1) abandoned ≡ Mutex (Some owner) depth abandoned = rw is at e in smaller (ap depth_of less)
+unlocked_differs (Timer manual was armed) t owns lawful e = absurd (false≢true owns)
+unlocked_differs (Thread ended) t owns lawful e = absurd (false≢true owns)

@@ -7,6 +7,8 @@ use Rattle.nt_core.specs.declared.call.WaitCall.{WaitCall}
 -- the acts that may want memory: creations
 abbrev pub act_grows : Act → Bool
 act_grows (Act.CreateEvent flags) = true
+act_grows (Act.CreateSemaphore initial maximum) = true
+act_grows (Act.CreateMutex flags) = true
 act_grows _ = false
 
 -- the calls that may want memory

@@ -127,9 +127,13 @@ exited s t =
 
 abbrev pub act_change : State → ℕ → Act → State
 act_change s t (Act.CreateEvent flags) = created s (event_of flags)
+act_change s t (Act.CreateSemaphore initial maximum) = created s (Semaphore initial maximum)
+act_change s t (Act.CreateMutex flags) = created s (mutex_of flags t)
 act_change s t (Act.SetEvent h) = at s h (with_set true)
 act_change s t (Act.ResetEvent h) = at s h (with_set false)
 act_change s t (Act.PulseEvent h) = at s h (with_set true)
+act_change s t (Act.ReleaseSemaphore h n) = at s h (released n)
+act_change s t (Act.ReleaseMutex h) = at s h unlocked
 
 abbrev pub wait_change : State → WaitCall → State
 wait_change s _ = s
@@ -142,4 +146,7 @@ change s t (Call.Wait wait) = wait_change s wait
 -- what a call that can't pend answers, by the state before it
 abbrev pub act_reply : State → ℕ → Act → Reply
 act_reply s t (Act.CreateEvent flags) = Reply.Handle (length s.objects)
+act_reply s t (Act.CreateSemaphore initial maximum) = Reply.Handle (length s.objects)
+act_reply s t (Act.CreateMutex flags) = Reply.Handle (length s.objects)
+act_reply s t (Act.ReleaseSemaphore h n) = Reply.Previous (count_of (object_at s.objects h))
 act_reply s t _ = Reply.Done

@@ -3,7 +3,7 @@ use Rattle.std.specs.Prelude.{◌≡◌, ◌↔◌, ℕ, ◌<◌, ◌≤◌, ◌
 use Rattle.std.specs.FinMap as map
 use Rattle.std.specs.FinMap.{get}
 use Rattle.nt_objects.specs.declared.object.Object.{Object}
-use Rattle.nt_objects.specs.Object.{IsLawfulObject, owned_by, has_ended, is_thread}
+use Rattle.nt_objects.specs.Object.{IsLawfulObject, owned_by, has_room, has_ended, is_thread, due_of}
 use Rattle.nt_waits.specs.declared.wait.Wait.{Wait}
 use Rattle.nt_waits.specs.Waits.{IsMember, AreOnce, Names, Agrees}
 use Rattle.std.specs.List.{IsDistinct}
@@ -50,3 +50,12 @@ pub record IsSound (d : Dispatcher) : Type 0 where
 pub record IsLawful (d : Dispatcher) : Type 0 where
   pub sound : IsSound d
   pub settled : IsSettled (state d)
+
+-- the object may take the place of the other: it is lawful, a thread's object stays one, a timer keeps its due moment, and
+-- no thread comes to hold a mutex at the greatest depth
+pub record MayReplace (old new : Object) : Type 0 where
+  pub lawful : IsLawfulObject new
+  pub thread : is_thread new ≡ is_thread old
+  pub ended : has_ended new ≡ has_ended old
+  pub due : due_of new ≡ due_of old
+  pub unlimited : (u : ℕ) → (owned_by old u && not (has_room old)) ≡ false → (owned_by new u && not (has_room new)) ≡ false

@@ -3,11 +3,11 @@ use Rattle.std.specs.Prelude.{◌≡◌, ℕ, ◌+◌, ℤ, pos, Bool, true, fal
 use Rattle.std.specs.List.{list_any}
 use Rattle.std.specs.declared.option.Option.{Option}
 use Rattle.std.specs.declared.option.Option.TheVariants.{None, Some}
-use Rattle.nt_status.specs.Flags.{only_known, event_bits}
+use Rattle.nt_status.specs.Flags.{only_known, event_bits, mutex_bits}
 use Rattle.nt_status.specs.declared.refusal.Refusal.{Refusal}
 use Rattle.nt_status.specs.declared.refusal.Refusal.TheVariants.{InvalidHandle, Memory, ThreadGone, InvalidParameter, NotOwner, TooManyPosts, ThreadWaiting, ThreadEnded, UnknownThread, RecursionLimit, HandleLimit}
 use Rattle.nt_objects.specs.declared.object.Object.{Object}
-use Rattle.nt_objects.specs.Object.{is_event, is_semaphore, is_mutex, is_timer, is_thread, has_ended, owned_by, has_room, overflows}
+use Rattle.nt_objects.specs.Object.{is_event, is_semaphore, is_mutex, is_timer, is_thread, has_ended, owned_by, has_room, overflows, may_count}
 use Rattle.nt_core.specs.declared.call.Call.{Call}
 use Rattle.nt_core.specs.declared.call.Act.{Act}
 use Rattle.nt_core.specs.declared.call.WaitCall.{WaitCall}
@@ -67,9 +67,6 @@ creation_causes objects lawful = (not lawful, InvalidParameter) ∷ (is_full obj
 abbrev pub kind_causes : (Object → Bool) → List Object → ℕ → List Cause
 kind_causes kind objects h = (is_no kind objects h, InvalidHandle) ∷ []
 
-abbrev pub is_lawful_semaphore : ℤ → ℤ → Bool
-is_lawful_semaphore initial maximum = int_lt (pos 0) maximum && int_le (pos 0) initial && int_le initial maximum
-
 abbrev pub release_causes : List Object → ℕ → ℤ → List Cause
 release_causes objects h n =
     (is_no is_semaphore objects h, InvalidHandle) ∷ (int_le n (pos 0), InvalidParameter) ∷ (overflows n (object_at objects h), TooManyPosts) ∷ []
@@ -104,9 +101,13 @@ swap_causes objects t h object =
 
 abbrev pub act_causes : List Object → ℕ → Act → List Cause
 act_causes objects t (Act.CreateEvent flags) = creation_causes objects (only_known event_bits flags)
+act_causes objects t (Act.CreateSemaphore initial maximum) = creation_causes objects (may_count initial maximum)
+act_causes objects t (Act.CreateMutex flags) = creation_causes objects (only_known mutex_bits flags)
 act_causes objects t (Act.SetEvent h) = kind_causes is_event objects h
 act_causes objects t (Act.ResetEvent h) = kind_causes is_event objects h
 act_causes objects t (Act.PulseEvent h) = kind_causes is_event objects h
+act_causes objects t (Act.ReleaseSemaphore h n) = release_causes objects h n
+act_causes objects t (Act.ReleaseMutex h) = unlock_causes objects t h
 
 abbrev pub wait_causes : List Object → ℕ → WaitCall → List Cause
 wait_causes objects t (WaitCall.Objects handles all ms alertable) = objects_causes objects t handles

@@ -6,9 +6,16 @@ use nt_status::{Handle, Handles, Status, ThreadId};
 pub enum Act {
     /// CreateEvent, with the flags of CreateEventEx: 1 manual reset, 2 set at first.
     CreateEvent(u32),
+    /// CreateSemaphore.
+    CreateSemaphore { initial: i32, maximum: i32 },
+    /// CreateMutex, with the flag of CreateMutexEx: 1 owned by the caller.
+    CreateMutex(u32),
     SetEvent(Handle),
     ResetEvent(Handle),
     PulseEvent(Handle),
+    /// ReleaseSemaphore; it answers the count before.
+    ReleaseSemaphore { semaphore: Handle, count: i32 },
+    ReleaseMutex(Handle),
 }
 
 /// A call that may pend. Timeouts are in milliseconds; 0xFFFFFFFF is INFINITE.

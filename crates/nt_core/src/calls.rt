@@ -11,7 +11,7 @@ ghost use Rattle.nt_core.specs.declared.call.Call.{Call};
 
 use crate::call::{Act, Call, Reply};
 use crate::machine::Machine;
-use nt_status::{EventFlags, Refusal, ThreadId};
+use nt_status::{EventFlags, MutexFlags, Refusal, ThreadId};
 
 impl Machine {
     /// An act that no cause refuses.
@@ -29,6 +29,22 @@ impl Machine {
                     unreachable!()
                 };
                 Ok(Reply::Handle(self.create_event(thread, flags)?))
+            }
+            Act::CreateSemaphore { initial, maximum } => {
+                Ok(Reply::Handle(self.create_semaphore(thread, *initial, *maximum)?))
+            }
+            Act::CreateMutex(flags) => {
+                let Some(flags) = MutexFlags::from_bits(*flags) else {
+                    unreachable!()
+                };
+                Ok(Reply::Handle(self.create_mutex(thread, flags)?))
+            }
+            Act::ReleaseSemaphore { semaphore, count } => {
+                Ok(self.release_semaphore(thread, *semaphore, *count))
+            }
+            Act::ReleaseMutex(mutex) => {
+                self.release_mutex(thread, *mutex);
+                Ok(Reply::Done)
             }
             Act::SetEvent(event) => {
                 self.set_event(thread, *event);

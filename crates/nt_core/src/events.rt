@@ -50,8 +50,7 @@ impl Machine {
         let mut object = self.object(event);
         if !object.signaled_for(thread) {
             object.set();
-            self.exchange(event, object);
-            self.serve(&[event]);
+            self.replace(event, object);
         }
     }
 

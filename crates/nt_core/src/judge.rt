@@ -1,16 +1,16 @@
 //! Whether a call is refused, and by which cause.
 ghost use Rattle.std.specs.Prelude.{◌≡◌};
 ghost use Rattle.std.specs.List.{list_any};
-ghost use Rattle.nt_status.specs.Flags.{only_known, event_bits};
+ghost use Rattle.nt_status.specs.Flags.{only_known, event_bits, mutex_bits};
 ghost use Rattle.nt_objects.specs.Object.{is_event, has_ended};
 ghost use Rattle.nt_core.specs.State.{object_at};
 ghost use Rattle.nt_core.specs.Dispatcher.{state};
-ghost use Rattle.nt_core.specs.Refusals.{first_of_causes, act_causes, wait_causes, objects_causes, creation_causes, refusal, is_no, is_unknown, has_twice, is_at_limit};
+ghost use Rattle.nt_core.specs.Refusals.{first_of_causes, act_causes, wait_causes, objects_causes, creation_causes, release_causes, unlock_causes, refusal, is_no, is_unknown, has_twice, is_at_limit};
 
 use crate::call::{Act, Call, WaitCall};
 use crate::machine::Machine;
 use nt_objects::Object;
-use nt_status::{EventFlags, Handle, Refusal, ThreadId};
+use nt_status::{EventFlags, Handle, MutexFlags, Refusal, ThreadId};
 
 /// MAXIMUM_WAIT_OBJECTS: the most handles that a wait names.
 const WAIT_LIMIT: usize = 64;
@@ -83,6 +83,47 @@ fn are_event_flags(bits: u32) -> bool
     EventFlags::from_bits(bits).is_some()
 }
 
+/// Whether each bit is that of a flag of CreateMutexEx.
+fn are_mutex_flags(bits: u32) -> bool
+    ensures { result ≡ only_known mutex_bits bits }
+{
+    MutexFlags::from_bits(bits).is_some()
+}
+
+/// The refusal of a release of the semaphore at this handle.
+fn release_refusal(objects: &[Object], semaphore: Handle, count: i32) -> Option<Refusal>
+    ensures { result ≡ first_of_causes (release_causes objects.now semaphore count) }
+{
+    match objects.get(semaphore.get() as usize) {
+        Some(object) if object.is_semaphore() => {
+            if count <= 0 {
+                Some(Refusal::InvalidParameter)
+            } else if object.overflows(count) {
+                Some(Refusal::TooManyPosts)
+            } else {
+                None
+            }
+        }
+        _ => Some(Refusal::InvalidHandle),
+    }
+}
+
+/// The refusal of a release of the mutex at this handle.
+fn unlock_refusal(objects: &[Object], thread: ThreadId, mutex: Handle) -> Option<Refusal>
+    ensures { result ≡ first_of_causes (unlock_causes objects.now thread mutex) }
+{
+    match objects.get(mutex.get() as usize) {
+        Some(object) if object.is_mutex() => {
+            if object.is_owned_by(thread) {
+                None
+            } else {
+                Some(Refusal::NotOwner)
+            }
+        }
+        _ => Some(Refusal::InvalidHandle),
+    }
+}
+
 /// The refusal of a creation, whose flags are lawful or not.
 fn creation_refusal(objects: &[Object], lawful: bool) -> Option<Refusal>
     ensures { result ≡ first_of_causes (creation_causes objects.now lawful) }
@@ -100,9 +141,14 @@ fn creation_refusal(objects: &[Object], lawful: bool) -> Option<Refusal>
 fn act_refusal(objects: &[Object], thread: ThreadId, act: &Act) -> Option<Refusal>
     ensures { result ≡ first_of_causes (act_causes objects.now thread act.now) }
 {
-    let _ = thread;
     match act {
         Act::CreateEvent(flags) => creation_refusal(objects, are_event_flags(*flags)),
+        Act::CreateSemaphore { initial, maximum } => {
+            creation_refusal(objects, Object::new_semaphore(*initial, *maximum).is_ok())
+        }
+        Act::CreateMutex(flags) => creation_refusal(objects, are_mutex_flags(*flags)),
+        Act::ReleaseSemaphore { semaphore, count } => release_refusal(objects, *semaphore, *count),
+        Act::ReleaseMutex(mutex) => unlock_refusal(objects, thread, *mutex),
         Act::SetEvent(event) | Act::ResetEvent(event) | Act::PulseEvent(event) => {
             if is_no_event(objects, *event) {
                 Some(Refusal::InvalidHandle)

@@ -3,13 +3,15 @@
 
 mod call;
 mod calls;
-mod core;
+mod dispatcher;
 mod events;
 mod judge;
 mod machine;
+mod mutexes;
 mod objects;
+mod semaphores;
 mod serving;
 mod waiting;
 
 pub use call::{Act, Call, Grant, Reply, WaitCall};
-pub use core::Core;
+pub use dispatcher::Core;

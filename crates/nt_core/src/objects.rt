@@ -1,8 +1,12 @@
 //! The list of objects, and the creation of more.
-ghost use Rattle.std.specs.Prelude.{◌≡◌, ◌<◌, ◌∷◌, ◌++◌, [], false, replicate, IfOk, OnOk, OnErr, length, slice_set};
+ghost use Rattle.std.specs.Prelude.{◌≡◌, ◌≢◌, ◌<◌, ◌∷◌, ◌++◌, [], false, replicate, IfOk, OnOk, OnErr, length, slice_set};
 ghost use Rattle.nt_objects.specs.declared.object.Object.TheVariants.{Thread};
 ghost use Rattle.nt_core.specs.State.{object_at};
 ghost use Rattle.nt_core.specs.Refusals.{is_full};
+ghost use Rattle.nt_core.specs.Change.{at};
+ghost use Rattle.nt_core.specs.Dispatcher.{state};
+ghost use Rattle.nt_core.specs.Lawful.{MayReplace};
+ghost use Rattle.nt_core.specs.Accepts.{IsFresh, IsServedAfter};
 
 use crate::machine::Machine;
 use nt_objects::{Armed, Object, Routine};
@@ -56,5 +60,17 @@ impl Machine {
         ensures { self.new ≡ record self.old { objects = slice_set self.old.objects handle object } }
     {
         self.objects[handle.get() as usize] = object;
+    }
+
+    /// Puts another object in the place of the one at this handle, and serves the waits that name it.
+    pub(crate) fn replace(&mut self, handle: Handle, object: Object)
+        requires fresh { IsFresh self.old }
+        requires known { handle < length self.old.objects }
+        requires differs { object ≢ object_at self.old.objects handle }
+        requires may { MayReplace (object_at self.old.objects handle) object }
+        ensures { IsServedAfter self.old (at (state self.old) handle (λ _. object)) self.new }
+    {
+        self.exchange(handle, object);
+        self.serve(&[handle]);
     }
 }

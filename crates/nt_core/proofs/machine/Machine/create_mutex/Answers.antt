@@ -1,0 +1,29 @@
+use Rattle.std.proofs.Common.{◌≡◌, ◌≢◌, ℕ, ◌∷◌, [], ◌++◌, length, refl, sym, ap, ◌∙◌, subst, true, false}
+use Rattle.std.specs.Prelude.{pos, ◌<ℤ◌}
+use Rattle.nt_objects.specs.declared.object.Object.{Object}
+use Rattle.nt_objects.specs.declared.object.Object.TheVariants.{Semaphore}
+use Rattle.nt_objects.specs.Object.{mutex_of, released, unlocked, is_semaphore, is_mutex, owned_by, count_of, IsLawfulObject}
+use Rattle.nt_core.specs.State.{State, object_at}
+use Rattle.nt_core.specs.Dispatcher.{Dispatcher, state}
+use Rattle.nt_core.specs.Change.{at}
+use Rattle.nt_core.specs.Lawful.{MayReplace}
+use Rattle.nt_core.specs.declared.call.Act.{Act}
+use Rattle.nt_core.specs.declared.call.Call.{Call}
+use Rattle.nt_core.specs.declared.call.Reply.{Reply}
+use Rattle.nt_core.specs.Accepts.{IsServedAfter, Accepts}
+use Rattle.nt_core.proofs.Accepting.{ok_both}
+use Rattle.nt_core.proofs.Replacing.{created_accepted, mutex_undue, known_semaphore, known_mutex, owned_is_mutex, released_may_replace, released_differs, unlocked_may_replace, unlocked_differs, replaced_accepted}
+use Rattle.nt_core.proofs.machine.Machine.create_mutex.Goals as goal
+
+pub returns-clause-ok : goal.returns-clause-ok
+returns-clause-ok c =
+    let old = c.args.self.now in
+    let made = c.new_mutex.ensures in
+    ok_both
+    (λ handle. handle ≡ length old.objects)
+    (c.create.new.self ≡ record old { objects = old.objects ++ c.new_mutex.result ∷ [] })
+    (λ handle. Accepts old c.create.new.self c.args.thread (Call.Act (Act.CreateMutex c.args.flags)) (Reply.Handle handle))
+    (λ handle is becomes. created_accepted old c.create.new.self c.args.thread (mutex_of c.args.flags c.args.thread) (Call.Act (Act.CreateMutex c.args.flags)) handle c.requires.fresh
+    (subst IsLawfulObject made.mutex made.lawful) (mutex_undue c.args.flags c.args.thread) refl (λ s. refl) (λ s. refl) is
+    (becomes ∙ ap (λ (o : Object). record old { objects = old.objects ++ o ∷ [] }) made.mutex))
+    c.create.result c.create.ensures.handle c.create.ensures.ok

@@ -1,0 +1,36 @@
+use Rattle.std.proofs.Common.{◌≡◌, ◌≢◌, ℕ, ◌∷◌, [], ◌++◌, length, refl, sym, ap, ◌∙◌, subst, true, false}
+use Rattle.std.specs.Prelude.{ℤ, pos, ◌<ℤ◌}
+use Rattle.std.proofs.Common.{w32}
+use mir.Val.{to_z, of_z}
+use Rattle.std.proofs.lemmas.Int.{to_z-of_z}
+use Rattle.nt_objects.specs.declared.object.Object.{Object}
+use Rattle.nt_objects.specs.declared.object.Object.TheVariants.{Semaphore}
+use Rattle.nt_objects.specs.Object.{mutex_of, released, unlocked, is_semaphore, is_mutex, owned_by, count_of, IsLawfulObject}
+use Rattle.nt_core.specs.State.{State, object_at}
+use Rattle.nt_core.specs.Dispatcher.{Dispatcher, state}
+use Rattle.nt_core.specs.Change.{at}
+use Rattle.nt_core.specs.Lawful.{MayReplace}
+use Rattle.nt_core.specs.declared.call.Act.{Act}
+use Rattle.nt_core.specs.declared.call.Call.{Call}
+use Rattle.nt_core.specs.declared.call.Reply.{Reply}
+use Rattle.nt_core.specs.Accepts.{IsServedAfter, Accepts}
+use Rattle.nt_core.proofs.Accepting.{ok_both}
+use Rattle.nt_core.proofs.Replacing.{created_accepted, known_semaphore, known_mutex, owned_is_mutex, released_may_replace, released_differs, unlocked_may_replace, unlocked_differs, replaced_accepted}
+use Rattle.nt_core.proofs.machine.Machine.create_semaphore.Goals as goal
+
+pub returns-clause-ok : goal.returns-clause-ok
+returns-clause-ok c =
+    let old = c.args.self.now in
+    let o = Semaphore c.args.initial c.args.maximum in
+    let made = c.in-Ok.ensures in
+    let initial : to_z w32 (of_z w32 c.args.initial) ≡ c.args.initial = to_z-of_z w32 c.args.initial c.ranges.initial in
+    let maximum : to_z w32 (of_z w32 c.args.maximum) ≡ c.args.maximum = to_z-of_z w32 c.args.maximum c.ranges.maximum in
+    let is_o : c.in-Ok.semaphore ≡ o = made.semaphore ∙ (ap (λ (z : ℤ). Semaphore z (to_z w32 (of_z w32 c.args.maximum))) initial ∙ ap (λ (z : ℤ). Semaphore c.args.initial z) maximum) in
+    ok_both
+    (λ handle. handle ≡ length old.objects)
+    (c.create.new.self ≡ record old { objects = old.objects ++ c.in-Ok.semaphore ∷ [] })
+    (λ handle. Accepts old c.create.new.self c.args.thread (Call.Act (Act.CreateSemaphore c.args.initial c.args.maximum)) (Reply.Handle handle))
+    (λ handle is becomes. created_accepted old c.create.new.self c.args.thread o (Call.Act (Act.CreateSemaphore c.args.initial c.args.maximum)) handle c.requires.fresh
+    (subst IsLawfulObject is_o made.lawful) refl refl (λ s. refl) (λ s. refl) is
+    (becomes ∙ ap (λ (x : Object). record old { objects = old.objects ++ x ∷ [] }) is_o))
+    c.create.result c.create.ensures.handle c.create.ensures.ok
