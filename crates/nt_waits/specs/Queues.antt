@@ -1,7 +1,8 @@
--- What `Queues` shows: the links of each handle, how many blocks there are and fit, for how many handles there is room, and how many blocks were reached.
+-- What the private struct `Queues` shows. No public clause cites this module.
 use Rattle.std.specs.Prelude.{ℕ, ◌+◌, ◌≤◌, List, [], slice_index_or}
 use Rattle.nt_waits.specs.Link.{Link}
 
+-- the links of each handle, how many blocks there are and fit, for how many handles there is room, and how many blocks were reached
 pub record Lists : Type 0 where
   pub lists : List (List Link)
   pub used : ℕ

@@ -17,9 +17,11 @@ abbrev pub HasLink : List Link → Link → Type 0
 HasLink [] link = ⊥
 HasLink (first ∷ links) link = (first ≡ link) ⊎ HasLink links link
 
+-- the threads of the links
 abbrev pub threads : List Link → List ℕ
 threads links = list_map (λ link. link.thread) links
 
+-- what stands in the place of a thread; nothing past the last place
 abbrev pub slot_at : List (Option Pending) → ℕ → Option Pending
 slot_at slots thread = slice_index_or slots thread None
 

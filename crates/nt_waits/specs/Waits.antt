@@ -1,4 +1,4 @@
--- What a `WaitTable` shows: the pending waits, the queue of each handle, and two counts.
+-- What callers see of a `WaitTable`.
 use Rattle.std.specs.Prelude.{◌≡◌, ℕ, ◌+◌, ◌-◌, ◌^◌, min, ◌<◌, Bool, ◌==◌, List, [], ◌∷◌, length, if◌then◌else◌, Option, Some, None, slice_get, slice_index, slice_index_or, ◌⊎◌, refl}
 use Rattle.std.specs.Ordering.{nat_cmp}
 use Rattle.std.specs.FinMap as map
@@ -6,12 +6,14 @@ use Rattle.std.specs.Coded.{Coded, code_by, coded×, coded_ℕ, coded_bool, code
 use Rattle.nt_waits.specs.declared.wait.About.{About}
 use Rattle.nt_waits.specs.declared.wait.Wait.{Wait}
 
+-- the pending waits by thread; by handle number the threads that wait on it, in the order in which their waits began; the looks since the count was last set to 0; the blocks that the last end reached
 pub record Waits : Type 0 where
   pub pending : map.FinMap nat_cmp Wait
   pub queues : List (List ℕ)
   pub looked : ℕ
   pub touched : ℕ
 
+-- a wait is stored as the tuple of its fields
 abbrev pub wait_code : Coded Wait
 wait_code =
     code_by (List ℕ × (Bool × (Bool × Option ℕ)))

@@ -138,6 +138,7 @@ pub fn attach(
         next: None,
     });
     let number = BlockNumber::new(key);
+    // What a beginning wait reaches is not counted: only `end` tells how many blocks it reached.
     let mut touched = 0;
     let last = ends.last;
     set_next(blocks, ends, &mut touched, last, Some(number));

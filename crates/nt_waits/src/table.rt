@@ -17,6 +17,11 @@ use std::alloc::Global;
 use std::marker::Model;
 
 /// The pending waits, and for each handle the threads that wait on it, in the order in which their waits began.
+///
+/// A wait stands in the queue of each handle that it names, with a block of its own there. To begin
+/// or end a wait on n handles takes n steps, whatever else is pending, and with a deadline some more,
+/// in the logarithm of the number of threads. `next_on` takes at most n, and every other call but
+/// `copy` a few. Only `begin` and `copy` take memory.
 #[derive(Drop)]
 pub struct WaitTable {
     queues: Queues,
