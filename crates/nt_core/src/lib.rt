@@ -11,6 +11,8 @@ mod mutexes;
 mod objects;
 mod semaphores;
 mod serving;
+#[cfg(test)]
+mod tests;
 mod waiting;
 
 pub use call::{Act, Call, Grant, Reply, WaitCall};

@@ -1,0 +1,215 @@
+//! Scripts of calls: who asks for what of which objects, what it is answered, and which waits that ends.
+use crate::{Act, Call, Core, Grant, Reply, WaitCall};
+use nt_status::{Handle, Handles, Refusal};
+use std::alloc::{AllocError, Global};
+use std::process::Abort;
+use std::test::Fail;
+
+/// INFINITE, a timeout that never passes.
+pub const INF: u32 = 0xFFFF_FFFF;
+
+/// WAIT_TIMEOUT.
+pub const TIMEOUT: Answer = Answer::Status(0x102);
+
+/// What a thread asks. Timeouts are in milliseconds.
+#[derive(Clone, Copy)]
+pub enum Ask {
+    Event(u32),
+    Semaphore(i32, i32),
+    Mutex(u32),
+    Set,
+    Reset,
+    Pulse,
+    Release(i32),
+    Unlock,
+    Any(u32),
+    All(u32),
+    Sleep(u32),
+}
+
+/// What a call is answered, in the reference's numbers.
+#[derive(Clone, Copy, PartialEq, Eq, Debug)]
+pub enum Answer {
+    Done,
+    Handle(u32),
+    Previous(i32),
+    Status(u32),
+    Pended,
+    Apc,
+    Error(u32),
+}
+
+/// A call as a script shows it.
+#[derive(Clone, Copy)]
+pub struct ScriptLine<'a> {
+    who: u32,
+    ask: Ask,
+    objects: &'a [u32],
+    answer: Answer,
+    ended: &'a [(u16, u32)],
+}
+
+/// The caller, what it asks of these objects, what it is answered, and the threads whose waits end, with their statuses.
+pub fn line<'a>(
+    who: u32,
+    ask: Ask,
+    objects: &'a [u32],
+    answer: Answer,
+    ended: &'a [(u16, u32)],
+) -> ScriptLine<'a> {
+    ScriptLine {
+        who,
+        ask,
+        objects,
+        answer,
+        ended,
+    }
+}
+
+/// The first of these objects.
+fn first(objects: &[u32]) -> Handle {
+    match objects.first() {
+        Some(number) => Handle::new(*number),
+        None => Handle::new(u32::MAX),
+    }
+}
+
+/// A plain wait for these objects.
+fn wait_for(alloc: Global, objects: &[u32], all: bool, ms: u32) -> Result<Call, AllocError> {
+    let mut handles = Handles::new(alloc);
+    for number in objects {
+        handles.push(Handle::new(*number))?;
+    }
+    Ok(Call::Wait(WaitCall::Objects {
+        handles,
+        all,
+        ms,
+        alertable: false,
+    }))
+}
+
+fn call_of(alloc: Global, ask: Ask, objects: &[u32]) -> Result<Call, AllocError> {
+    let act = match ask {
+        Ask::Any(ms) => return wait_for(alloc, objects, false, ms),
+        Ask::All(ms) => return wait_for(alloc, objects, true, ms),
+        Ask::Sleep(ms) => {
+            return Ok(Call::Wait(WaitCall::Sleep {
+                ms,
+                alertable: false,
+            }));
+        }
+        Ask::Event(flags) => Act::CreateEvent(flags),
+        Ask::Semaphore(initial, maximum) => Act::CreateSemaphore { initial, maximum },
+        Ask::Mutex(flags) => Act::CreateMutex(flags),
+        Ask::Set => Act::SetEvent(first(objects)),
+        Ask::Reset => Act::ResetEvent(first(objects)),
+        Ask::Pulse => Act::PulseEvent(first(objects)),
+        Ask::Release(count) => Act::ReleaseSemaphore {
+            semaphore: first(objects),
+            count,
+        },
+        Ask::Unlock => Act::ReleaseMutex(first(objects)),
+    };
+    Ok(Call::Act(act))
+}
+
+fn answer_of(replied: Result<Reply, Refusal>) -> Answer {
+    match replied {
+        Ok(reply) => reply_of(&reply),
+        Err(refusal) => Answer::Error(refusal.number()),
+    }
+}
+
+fn reply_of(reply: &Reply) -> Answer {
+    match reply {
+        Reply::Done => Answer::Done,
+        Reply::Handle(handle) => Answer::Handle(handle.get()),
+        Reply::Previous(count) => Answer::Previous(*count),
+        Reply::Status(status) => Answer::Status(status.code()),
+        Reply::Pended => Answer::Pended,
+        Reply::Apc(_) => Answer::Apc,
+    }
+}
+
+/// Whether these waits ended, in this order.
+fn are_ended(grants: &[Grant], expected: &[(u16, u32)]) -> bool {
+    grants.len() == expected.len()
+        && grants.iter().zip(expected).all(|(grant, (thread, code))| {
+            grant.thread.get() == *thread && grant.status.code() == *code
+        })
+}
+
+/// A dispatcher, with a second try where memory is refused.
+pub fn open(rt: &(impl Abort + AllocGlobal), threads: u32) -> Result<Core, Refusal> {
+    match Core::new(rt.alloc(), threads) {
+        Ok(core) => Ok(core),
+        Err(refusal) => {
+            assert_eq!(rt; refusal.number(), 8);
+            Core::new(rt.alloc(), threads)
+        }
+    }
+}
+
+/// Makes the call, a second time where memory is refused. What was refused ended no wait, began none, and tested none.
+fn call_at_last(rt: &(impl Abort + AllocGlobal), core: &mut Core, who: u32, call: &Call) -> Answer {
+    let pending = core.pending();
+    let answer = answer_of(core.call(who, call));
+    if answer != Answer::Error(8) {
+        return answer;
+    }
+    assert!(rt; core.grants().is_empty());
+    assert_eq!(rt; core.pending(), pending);
+    assert_eq!(rt; core.tested(), 0);
+    answer_of(core.call(who, call))
+}
+
+/// Asks for this of these objects.
+pub fn answer_to(
+    rt: &(impl Abort + AllocGlobal),
+    core: &mut Core,
+    who: u32,
+    what: Ask,
+    objects: &[u32],
+) -> Result<Answer, AllocError> {
+    let call = match call_of(rt.alloc(), what, objects) {
+        Ok(call) => call,
+        Err(_) => call_of(rt.alloc(), what, objects)?,
+    };
+    Ok(call_at_last(rt, core, who, &call))
+}
+
+/// Makes the calls of the lines in turn, and looks at their answers and at the waits that they end.
+pub fn run_lines(
+    rt: &(impl Abort + AllocGlobal),
+    core: &mut Core,
+    lines: &[ScriptLine],
+) -> Result<(), AllocError> {
+    for i in 0..lines.len() {
+        let line = lines[i];
+        let answer = answer_to(rt, core, line.who, line.ask, line.objects)?;
+        assert_eq!(rt; answer, line.answer, "the line at {i}");
+        assert!(rt; are_ended(core.grants(), line.ended), "the line at {i}");
+    }
+    Ok(())
+}
+
+/// Looks whether exactly these threads wait.
+pub fn check_waiting(rt: &(impl Abort + AllocGlobal), core: &Core, waiting: &[u32]) {
+    assert_eq!(rt; core.pending(), waiting.len());
+    for thread in waiting {
+        assert!(rt; core.is_waiting(*thread), "thread {thread}");
+    }
+}
+
+/// Makes the calls of the lines on a new dispatcher, and looks who waits at the end.
+pub fn check(
+    rt: &(impl Abort + AllocGlobal),
+    threads: u32,
+    lines: &[ScriptLine],
+    waiting: &[u32],
+) -> Result<(), Fail> {
+    let mut core = open(rt, threads)?;
+    run_lines(rt, &mut core, lines)?;
+    check_waiting(rt, &core, waiting);
+    Ok(())
+}
