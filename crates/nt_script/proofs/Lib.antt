@@ -1,0 +1,16 @@
+pub mod Slices
+pub mod Pieces
+pub mod Splitting
+pub mod Texts
+pub mod Lines
+pub mod Numbers
+pub mod Names
+pub mod Parsing
+pub mod Faults
+pub mod Forms
+pub mod Parsed
+pub mod Few
+pub mod Opening
+pub mod Carrying
+pub mod Running
+pub mod Failures

@@ -1,0 +1,42 @@
+-- One line behind `threads`, with its witness.
+use Rattle.std.proofs.Common.{◌≡◌, ℕ, List, [], ◌∷◌, Option, None, Some, Result, Ok, Err, refl, ap, subst, ◌∙◌}
+use Rattle.nt_status.specs.declared.refusal.Refusal.{Refusal}
+use Rattle.nt_core.specs.declared.call.Act.{Act}
+use Rattle.nt_core.specs.declared.call.Call.{Call}
+use Rattle.nt_core.specs.declared.call.Reply.{Reply}
+use Rattle.nt_core.specs.declared.call.Grant.{Grant}
+use Rattle.nt_core.specs.Steps.{Called}
+use Rattle.nt_core.specs.Runs.{Turn, Calls}
+use Rattle.nt_script.specs.declared.parser.Statement.{Statement}
+use Rattle.nt_script.specs.declared.parser.Statement.TheVariants.{Create, Perform}
+use Rattle.nt_script.specs.Scope.{Scope}
+use Rattle.nt_script.specs.Transcript.{turn_text, binds, handle_of, IsLine}
+use Rattle.nt_script.specs.Progress.{Progress, Advances, add_tally, tally_of}
+
+binds-threads : (name : List ℕ) (handle : Option ℕ) (scope : Scope) → (binds name handle scope).threads ≡ scope.threads
+binds-threads name None scope = refl
+binds-threads name (Some handle) scope = refl
+
+module _ (number who : ℕ) (bytes : List ℕ) (call : Call) (result : Result Reply Refusal) (grants : List Grant) (text : List ℕ) (old mid new : Progress)
+    (same : mid ≡ old) (called : Called mid.state who call result grants new.state) (writes : text ≡ turn_text number result grants)
+    (tally : new.tally ≡ add_tally mid.tally (tally_of (Calls who call result grants ∷ []))) where
+  pub perform_line : IsLine old.scope (Perform who call) bytes → new.scope ≡ mid.scope
+      → Advances number bytes (Some old) (Calls who call result grants ∷ []) text (Some new)
+  perform_line read scope =
+      subst (λ (p : Progress). IsLine p.scope (Perform who call) bytes → Advances number bytes (Some p) (Calls who call result grants ∷ []) text (Some new)) same
+      (λ h. record {
+        gives = (Perform who call, h, (result, grants, record { turn = refl; output = writes }, scope));
+        goes = record { run = (new.state, called, refl); tally = tally; threads = ap (λ (s : Scope). s.threads) scope };
+      }) read
+
+module _ (number who : ℕ) (bytes : List ℕ) (act : Act) (result : Result Reply Refusal) (grants : List Grant) (text : List ℕ) (old mid new : Progress)
+    (same : mid ≡ old) (called : Called mid.state who (Call.Act act) result grants new.state) (writes : text ≡ turn_text number result grants)
+    (tally : new.tally ≡ add_tally mid.tally (tally_of (Calls who (Call.Act act) result grants ∷ []))) where
+  pub create_line : (name : List ℕ) → IsLine old.scope (Create who name act) bytes → new.scope ≡ binds name (handle_of result) mid.scope
+      → Advances number bytes (Some old) (Calls who (Call.Act act) result grants ∷ []) text (Some new)
+  create_line name read scope =
+      subst (λ (p : Progress). IsLine p.scope (Create who name act) bytes → Advances number bytes (Some p) (Calls who (Call.Act act) result grants ∷ []) text (Some new)) same
+      (λ h. record {
+        gives = (Create who name act, h, (result, grants, record { turn = refl; output = writes }, scope));
+        goes = record { run = (new.state, called, refl); tally = tally; threads = ap (λ (s : Scope). s.threads) scope ∙ binds-threads name (handle_of result) mid.scope };
+      }) read

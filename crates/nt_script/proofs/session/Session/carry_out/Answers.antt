@@ -1,0 +1,31 @@
+use Rattle.std.proofs.Common.{◌≡◌, [], ◌∷◌, ap}
+use Rattle.nt_core.specs.declared.call.Call.{Call}
+use Rattle.nt_core.specs.Runs.{Calls}
+use Rattle.nt_script.specs.Progress.{progress}
+use Rattle.nt_script.specs.Scope.{Bound}
+use Rattle.nt_script.proofs.Lines.{perform_line, create_line}
+use Rattle.nt_script.proofs.session.Session.carry_out.Goals as goal
+
+pub returns-in-Perform : goal.returns-in-Perform
+returns-in-Perform c =
+    let p = c.perform-answer in
+    let grants = p.new.self.core.grants in (
+      (
+        Calls c.in-Perform.who c.in-Perform.call p.result grants ∷ [],
+        perform_line c.args.number c.in-Perform.who c.args.line.now c.in-Perform.call p.result grants p.new.out.items (progress c.args.self.now) (progress c.make_room.new.self) (progress p.new.self)
+            c.in_ok-make_room.ensures.same p.ensures.step p.ensures.text p.ensures.tally (rw c.in-Perform.is at c.in_ok-statement.ensures.reads) (ap (λ (b : Bound). b.scope) p.ensures.bindings),
+      ),
+      p.ensures.counted,
+    )
+
+pub returns-in-Create : goal.returns-in-Create
+returns-in-Create c =
+    let p = c.create-answer in
+    let grants = p.new.self.core.grants in (
+      (
+        Calls c.in-Create.who (Call.Act c.in-Create.act) p.result grants ∷ [],
+        create_line c.args.number c.in-Create.who c.args.line.now c.in-Create.act p.result grants p.new.out.items (progress c.args.self.now) (progress c.make_room.new.self) (progress p.new.self)
+            c.in_ok-make_room.ensures.same p.ensures.step p.ensures.text p.ensures.tally c.in-Create.name (rw c.in-Create.is at c.in_ok-statement.ensures.reads) p.ensures.scope,
+      ),
+      p.ensures.counted,
+    )

@@ -1,0 +1,5 @@
+use Rattle.nt_script.proofs.Parsed.{reads_statement}
+use Rattle.nt_script.proofs.session.Session.read.Goals as goal
+
+pub returns-clause-reads : goal.returns-clause-reads
+returns-clause-reads c = reads_statement c.args.self.now.bindings.scope c.args.line.now c.parse.result c.parse.ensures.exact

@@ -1,0 +1,11 @@
+pub mod Device
+pub mod Counted
+pub mod Lines
+pub mod Words
+pub mod Scope
+pub mod Naming
+pub mod Grammar
+pub mod Reading
+pub mod Transcript
+pub mod Progress
+pub mod Running

@@ -1,0 +1,209 @@
+-- What a run of a script took, wrote and answered.
+use Rattle.std.specs.Prelude.{◌≡◌, ℕ, ◌+◌, ◌<◌, ◌≤◌, ◌⊎◌, List, [], ◌∷◌, ◌++◌, length, count_by, ⊤, Option, None, Some, Result, Ok, Err}
+use Rattle.std.specs.List.{flat_map, sum_by, AllByRecursion}
+use Rattle.std.specs.FinMap.{len}
+use Rattle.std.specs.Io.KnownBytes.{Consumes, Appends, Keeps, IsAtEnd}
+use Rattle.nt_script.specs.Device.{one_more, AppendsFront}
+use Rattle.nt_script.specs.Lines.{HasNoFeed, lines_of}
+use Rattle.nt_core.specs.Runs.{Turn}
+use Rattle.nt_script.specs.Transcript.{FaultIn, end_text}
+use Rattle.nt_script.specs.Progress.{Progress, Advances, AreCounted, CarriedOut, scope_of, is_refused, granted_by}
+use Rattle.nt_script.specs.declared.fault.ScriptFault.{ScriptFault}
+use Rattle.nt_script.specs.declared.fault.ScriptFault.TheVariants.{LineTooLong, ThreadsExpected}
+use Rattle.nt_script.specs.declared.fault.RunFault.{RunFault}
+use Rattle.nt_script.specs.declared.fault.RunFault.TheVariants.{Script, Read, Write, Memory}
+use Rattle.nt_script.specs.declared.runner.Taken.{Taken}
+use Rattle.nt_script.specs.declared.runner.Taken.TheVariants.{Line, LastLine, Nothing}
+use Rattle.nt_script.specs.declared.summary.Summary.{Summary}
+
+-- ---- a whole run
+
+-- where the bytes of a reader are known, they are these
+abbrev pub Has : Option (List ℕ) → List ℕ → Type 0
+Has None input = ⊤
+Has (Some bytes) input = bytes ≡ input
+
+abbrev pub end_of : Progress → List ℕ
+end_of now = end_text now.scope.threads now.state
+
+abbrev pub summary_of : List (List ℕ) → List Turn → Progress → Summary
+summary_of lines turns now =
+    record {
+      lines = length lines;
+      calls = length turns;
+      refused = count_by is_refused turns;
+      granted = sum_by granted_by turns;
+      pending = len now.state.waits;
+    }
+
+-- Every line of the input was carried out, and the end was written.
+pub record Completes (left held held' : Option (List ℕ)) (summary : Summary) : Type 0 where
+  pub input : List ℕ
+  pub turns : List Turn
+  pub text : List ℕ
+  pub end : Progress
+  pub has : Has left input
+  pub carried : CarriedOut (lines_of input) turns text (Some end)
+  pub written : Appends held held' (text ++ end_of end)
+  pub counts : summary ≡ summary_of (lines_of input) turns end
+
+-- The lines before this one were carried out, and this one was not.
+pub record Stops (left held held' : Option (List ℕ)) (number : ℕ) (IsCause : Option Progress → List (List ℕ) → Type 0) : Type 0 where
+  pub input : List ℕ
+  pub turns : List Turn
+  pub text : List ℕ
+  pub before : List (List ℕ)
+  pub after : List (List ℕ)
+  pub now : Option Progress
+  pub has : Has left input
+  pub lines : lines_of input ≡ before ++ after
+  pub place : number ≡ 1 + length before
+  pub carried : CarriedOut before turns text now
+  pub written : Appends held held' text
+  pub cause : IsCause now after
+
+-- the first fault of the next line; or the input ended with no `threads` line
+abbrev pub FaultNext : ScriptFault → Option Progress → List (List ℕ) → Type 0
+FaultNext fault now [] = (now ≡ None) × (fault ≡ ThreadsExpected)
+FaultNext fault now (bytes ∷ others) = FaultIn (scope_of now) bytes fault
+
+abbrev pub AnyCause : Option Progress → List (List ℕ) → Type 0
+AnyCause now after = Unit {0}
+
+-- The output of the line with this number, or of the end, was being written.
+abbrev pub WritesAt : ℕ → List (List ℕ) → List (List ℕ) → Option Progress → List ℕ → List ℕ → Type 0
+WritesAt number before after None text whole = (number ≡ length before) × (whole ≡ text)
+WritesAt number before after (Some now) text whole =
+    ((number ≡ length before) × (whole ≡ text)) ⊎ ((number ≡ 1 + length before) × (after ≡ []) × (whole ≡ text ++ end_of now))
+
+-- These lines were carried out, and not all of their output was written.
+pub record Breaks (left held held' : Option (List ℕ)) (number : ℕ) : Type 0 where
+  pub input : List ℕ
+  pub turns : List Turn
+  pub text : List ℕ
+  pub whole : List ℕ
+  pub before : List (List ℕ)
+  pub after : List (List ℕ)
+  pub now : Option Progress
+  pub has : Has left input
+  pub lines : lines_of input ≡ before ++ after
+  pub carried : CarriedOut before turns text now
+  pub place : WritesAt number before after now text whole
+  pub written : AppendsFront held held' whole
+
+abbrev pub Answers : Option (List ℕ) → Option (List ℕ) → Option (List ℕ) → Result Summary RunFault → Type 0
+Answers left held held' (Ok summary) = Completes left held held' summary
+Answers left held held' (Err (Script number fault)) = Stops left held held' number (FaultNext fault)
+Answers left held held' (Err (Read number)) = Stops left held held' number AnyCause
+Answers left held held' (Err (Memory number)) = Stops left held held' number AnyCause
+Answers left held held' (Err (Write number)) = Breaks left held held' number
+
+-- A device's count of failures grows by one where it is the fault, and stays otherwise.
+abbrev pub CountsFaults : {X : Type 0} → ℕ → ℕ → ℕ → ℕ → Result X RunFault → Type 0
+CountsFaults read read' written written' (Err (Read number)) = (read' ≡ one_more read) × (written' ≡ written)
+CountsFaults read read' written written' (Err (Write number)) = (read' ≡ read) × (written' ≡ one_more written)
+CountsFaults read read' written written' (Err (Script number fault)) = (read' ≡ read) × (written' ≡ written)
+CountsFaults read read' written written' (Err (Memory number)) = (read' ≡ read) × (written' ≡ written)
+CountsFaults read read' written written' (Ok x) = (read' ≡ read) × (written' ≡ written)
+
+-- The reader failed once where that is the fault, and the writer where that is; neither failed otherwise.
+abbrev pub CountsFailures : {X : Type 0} → ℕ → ℕ → ℕ → ℕ → Result X RunFault → Type 0
+CountsFailures read read' written written' (Err (Read number)) = (read' ≡ read + 1) × (written' ≡ written)
+CountsFailures read read' written written' (Err (Write number)) = (read' ≡ read) × (written' ≡ written + 1)
+CountsFailures read read' written written' (Err (Script number fault)) = (read' ≡ read) × (written' ≡ written)
+CountsFailures read read' written written' (Err (Memory number)) = (read' ≡ read) × (written' ≡ written)
+CountsFailures read read' written written' (Ok x) = (read' ≡ read) × (written' ≡ written)
+
+-- ---- one line
+
+-- lines, each with its LF
+abbrev pub with_feeds : List (List ℕ) → List ℕ
+with_feeds lines = flat_map (λ line. line ++ 10 ∷ []) lines
+
+-- One line was taken: with its LF, or as the last.
+abbrev pub TakesLine : Option (List ℕ) → Option (List ℕ) → List ℕ → Type 0
+TakesLine left left' line = HasNoFeed line × (Consumes left left' (line ++ 10 ∷ []) ⊎ (0 < length line × Consumes left left' line × IsAtEnd left'))
+
+-- This line was carried out and its text written.
+pub record Carries (number : ℕ) (old new : Option Progress) (held held' : Option (List ℕ)) (line : List ℕ) : Type 0 where
+  pub turns : List Turn
+  pub text : List ℕ
+  pub written : Appends held held' text
+  pub advances : Advances number line old turns text new
+  pub counted : AreCounted (number + 1) new
+
+-- A fault was found in the line; or its first bytes are too many.
+abbrev pub FindsFault : Option (List ℕ) → Option (List ℕ) → Option Progress → ScriptFault → Type 0
+FindsFault left left' old fault =
+    ((line : List ℕ) × TakesLine left left' line × FaultIn (scope_of old) line fault)
+    ⊎ ((line : List ℕ) × HasNoFeed line × (4096 < length line) × Consumes left left' line × (fault ≡ LineTooLong))
+
+-- the line was carried out, and its text not written whole
+pub record FailsIn (number : ℕ) (old new : Option Progress) (left left' held held' : Option (List ℕ)) : Type 0 where
+  pub line : List ℕ
+  pub turns : List Turn
+  pub text : List ℕ
+  pub taken : TakesLine left left' line
+  pub advances : Advances number line old turns text new
+  pub written : AppendsFront held held' text
+
+-- All of an output was written, or the front of it.
+abbrev pub WritesOutput : ℕ → List ℕ → Option (List ℕ) → Option (List ℕ) → ℕ → ℕ → Result (Unit {0}) RunFault → Type 0
+WritesOutput number output held held' failed failed' (Ok done) = Appends held held' output × (failed' ≡ failed)
+WritesOutput number output held held' failed failed' (Err (Write place)) = (place ≡ number) × AppendsFront held held' output × (failed' ≡ one_more failed)
+WritesOutput number output held held' failed failed' (Err fault) = ⊥
+
+-- A line was carried out and written, or why not.
+abbrev pub WritesLine : ℕ → List ℕ → Option Progress → Option Progress → Option (List ℕ) → Option (List ℕ) → Result (Unit {0}) RunFault → Type 0
+WritesLine number line old new held held' (Ok done) = Carries number old new held held' line
+WritesLine number line old new held held' (Err (Script place fault)) = (place ≡ number) × FaultIn (scope_of old) line fault × Keeps held held'
+WritesLine number line old new held held' (Err (Memory place)) = (place ≡ number) × Keeps held held'
+WritesLine number line old new held held' (Err (Write place)) = (place ≡ number) × ((turns : List Turn) × (text : List ℕ) × Advances number line old turns text new × AppendsFront held held' text)
+WritesLine number line old new held held' (Err (Read place)) = ⊥
+
+-- The next line was taken and carried out, or there was none, or why the run ends here.
+abbrev pub TakesNext : ℕ → Option Progress → Option Progress → Option (List ℕ) → Option (List ℕ) → Option (List ℕ) → Option (List ℕ) → Result Taken RunFault → Type 0
+TakesNext number old new left left' held held' (Ok Line) = (line : List ℕ) × HasNoFeed line × Consumes left left' (line ++ 10 ∷ []) × Carries number old new held held' line
+TakesNext number old new left left' held held' (Ok LastLine) =
+    (line : List ℕ) × HasNoFeed line × (0 < length line) × Consumes left left' line × IsAtEnd left' × Carries number old new held held' line
+TakesNext number old new left left' held held' (Ok Nothing) = Keeps left left' × IsAtEnd left' × Keeps held held' × (new ≡ old)
+TakesNext number old new left left' held held' (Err (Script place fault)) = (place ≡ number) × FindsFault left left' old fault × Keeps held held'
+TakesNext number old new left left' held held' (Err (Read place)) = (place ≡ number) × ((bytes : List ℕ) × Consumes left left' bytes) × Keeps held held'
+TakesNext number old new left left' held held' (Err (Memory place)) = (place ≡ number) × ((bytes : List ℕ) × Consumes left left' bytes) × Keeps held held'
+TakesNext number old new left left' held held' (Err (Write place)) = (place ≡ number) × FailsIn number old new left left' held held'
+
+-- These whole lines were taken and carried out so far.
+pub record SoFar (number : ℕ) (now : Option Progress) (left left' held held' : Option (List ℕ)) : Type 0 where
+  pub lines : List (List ℕ)
+  pub turns : List Turn
+  pub text : List ℕ
+  pub feedless : AllByRecursion HasNoFeed lines
+  pub place : number ≡ 1 + length lines
+  pub taken : Consumes left left' (with_feeds lines)
+  pub written : Appends held held' text
+  pub carried : CarriedOut lines turns text now
+  pub counted : AreCounted number now
+
+-- ---- the end
+
+-- All lines of the input were carried out.
+pub record Whole (count : ℕ) (now : Option Progress) (left held held' : Option (List ℕ)) : Type 0 where
+  pub input : List ℕ
+  pub turns : List Turn
+  pub text : List ℕ
+  pub has : Has left input
+  pub counted : count ≡ length (lines_of input)
+  pub carried : CarriedOut (lines_of input) turns text now
+  pub written : Appends held held' text
+
+abbrev pub summary_at : ℕ → Progress → Summary
+summary_at lines now =
+    record { lines = lines; calls = now.tally.calls; refused = now.tally.refused; granted = now.tally.granted; pending = len now.state.waits }
+
+-- The end was written behind so many lines, or why not.
+abbrev pub Ends : ℕ → Option Progress → Option (List ℕ) → Option (List ℕ) → Result Summary RunFault → Type 0
+Ends lines None held held' (Err (Script place fault)) = (place ≡ 1 + lines) × (fault ≡ ThreadsExpected) × Keeps held held'
+Ends lines (Some now) held held' (Ok summary) = (summary ≡ summary_at lines now) × Appends held held' (end_of now)
+Ends lines (Some now) held held' (Err (Memory place)) = (place ≡ 1 + lines) × Keeps held held'
+Ends lines (Some now) held held' (Err (Write place)) = (place ≡ 1 + lines) × AppendsFront held held' (end_of now)
+Ends lines now held held' result = ⊥

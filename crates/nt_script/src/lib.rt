@@ -1,0 +1,24 @@
+//! Scripts to transcripts.
+#![tactic(auto)]
+
+mod device;
+mod fault;
+mod input;
+mod output;
+mod parser;
+mod runner;
+mod scope;
+mod session;
+mod summary;
+mod tally;
+mod text;
+mod transcript;
+mod words;
+
+pub use device::{Counted, Sink, Source};
+pub use fault::{RunFault, ScriptFault};
+pub use runner::run;
+pub use summary::Summary;
+
+#[cfg(test)]
+mod tests;

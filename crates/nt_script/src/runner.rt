@@ -1,0 +1,194 @@
+//! Scripts to transcripts.
+
+ghost use Rattle.std.specs.Prelude.{◌≡◌, ◌+◌, ◌-◌, ◌<◌, ◌≤◌, ◌^◌, [], length, IfOk, None, vec_capacity};
+ghost use Rattle.nt_script.specs.Device.{to_come};
+ghost use Rattle.nt_script.specs.Progress.{AreCounted, progress_of};
+ghost use Rattle.nt_script.specs.Running.{Answers, CountsFailures, CountsFaults, TakesNext, WritesLine, WritesOutput, Ends};
+
+use crate::device::{Sink, Source};
+use crate::fault::{LineFault, RunFault, ScriptFault};
+use crate::input::{Ending, Input, MAX_LINE, ReadFault};
+use crate::output::{WriteFailed, write_whole};
+use crate::session::{Session, carry_out};
+use crate::summary::Summary;
+use std::alloc::{AllocError, Global};
+
+#[derive(Drop)]
+struct Runner {
+    input: Input,
+    line: Vec<u8>,
+    out: Vec<u8>,
+    session: Option<Session>,
+}
+
+/// What was taken from the input.
+#[derive(Clone, Copy, Debug, PartialEq, Eq)]
+enum Taken {
+    Line,
+    LastLine,
+    Nothing,
+}
+
+impl Runner {
+    fn new(alloc: Global) -> Result<Runner, AllocError>
+        ensures input { IfOk result (λ runner. runner.input ≡ []) }
+        ensures session { IfOk result (λ runner. runner.session ≡ None) }
+        ensures line { IfOk result (λ runner. 4097 ≤ vec_capacity runner.line) }
+    {
+        Ok(Runner {
+            input: Input::new(alloc)?,
+            line: Vec::with_capacity(alloc, MAX_LINE + 1)?,
+            out: Vec::new(alloc),
+            session: None,
+        })
+    }
+
+    /// Reads one line and carries it out. What it says is written before the next is read.
+    fn take_line<R: Source, W: Sink>(
+        &mut self,
+        alloc: Global,
+        number: u64,
+        reader: &mut R,
+        writer: &mut W,
+    ) -> Result<Taken, RunFault>
+        requires counted { AreCounted number (progress_of self.old.session) }
+        requires line { 4097 ≤ vec_capacity self.old.line }
+        ensures line { 4097 ≤ vec_capacity self.new.line }
+        ensures next { TakesNext number (progress_of self.old.session) (progress_of self.new.session) (to_come self.old.input (R.remaining reader.old)) (to_come self.new.input (R.remaining reader.new)) (W.contents writer.old) (W.contents writer.new) result }
+        ensures counts { CountsFaults (R.failed reader.old) (R.failed reader.new) (W.failed writer.old) (W.failed writer.new) result }
+    {
+        match self.input.read_line(reader, &mut self.line) {
+            Ok(Ending::Feed) => {
+                write_line(
+                    &mut self.session,
+                    alloc,
+                    number,
+                    self.line.as_slice(),
+                    &mut self.out,
+                    writer,
+                )?;
+                Ok(Taken::Line)
+            }
+            Ok(Ending::EndOfInput) => {
+                if self.line.is_empty() {
+                    return Ok(Taken::Nothing);
+                }
+                write_line(
+                    &mut self.session,
+                    alloc,
+                    number,
+                    self.line.as_slice(),
+                    &mut self.out,
+                    writer,
+                )?;
+                Ok(Taken::LastLine)
+            }
+            Err(ReadFault::Failed) => Err(RunFault::Read { line: number }),
+            Err(ReadFault::TooLong) => {
+                let fault = ScriptFault::LineTooLong;
+                Err(RunFault::Script {
+                    line: number,
+                    fault,
+                })
+            }
+        }
+    }
+
+    /// Writes which threads still wait, behind so many lines.
+    fn end<W: Sink>(&mut self, lines: u64, writer: &mut W) -> Result<Summary, RunFault>
+        requires { lines + 1 < 2 ^ 64 }
+        ensures lines { IfOk result (λ summary. summary.lines ≡ lines) }
+        ensures ends { Ends lines (progress_of self.old.session) (W.contents writer.old) (W.contents writer.new) result }
+        ensures counts { CountsFaults 0 0 (W.failed writer.old) (W.failed writer.new) result }
+    {
+        let line = lines + 1;
+        let Some(session) = &self.session else {
+            let fault = ScriptFault::ThreadsExpected;
+            return Err(RunFault::Script { line, fault });
+        };
+        self.out.clear();
+        match session.put_end(&mut self.out) {
+            Ok(()) => match write_output(line, self.out.as_slice(), writer) {
+                Ok(()) => Ok(session.summary(lines)),
+                Err(fault) => Err(fault),
+            },
+            Err(_) => Err(RunFault::Memory { line }),
+        }
+    }
+}
+
+/// Carries out a line, and writes what it says.
+fn write_line<W: Sink>(
+    session: &mut Option<Session>,
+    alloc: Global,
+    number: u64,
+    line: &[u8],
+    out: &mut Vec<u8>,
+    writer: &mut W,
+) -> Result<(), RunFault>
+    requires short { length line.now ≤ 4096 }
+    requires counted { AreCounted number (progress_of session.old) }
+    ensures line { WritesLine number line.now (progress_of session.old) (progress_of session.new) (W.contents writer.old) (W.contents writer.new) result }
+    ensures counts { CountsFaults 0 0 (W.failed writer.old) (W.failed writer.new) result }
+{
+    match carry_out(session, alloc, number, line, out) {
+        Ok(()) => write_output(number, out.as_slice(), writer),
+        Err(LineFault::Memory) => Err(RunFault::Memory { line: number }),
+        Err(LineFault::Script(fault)) => Err(RunFault::Script {
+            line: number,
+            fault,
+        }),
+    }
+}
+
+/// Writes the output of the line with this number.
+fn write_output<W: Sink>(number: u64, output: &[u8], writer: &mut W) -> Result<(), RunFault>
+    ensures { WritesOutput number output.now (W.contents writer.old) (W.contents writer.new) (W.failed writer.old) (W.failed writer.new) result }
+{
+    match write_whole(writer, output) {
+        Ok(()) => Ok(()),
+        Err(WriteFailed) => Err(RunFault::Write { line: number }),
+    }
+}
+
+/// Carries out the script line by line.
+fn run_lines<R: Source, W: Sink>(
+    alloc: Global,
+    reader: &mut R,
+    writer: &mut W,
+) -> Result<Summary, RunFault>
+    ensures answers { Answers (R.remaining reader.old) (W.contents writer.old) (W.contents writer.new) result }
+    ensures counts { CountsFaults (R.failed reader.old) (R.failed reader.new) (W.failed writer.old) (W.failed writer.new) result }
+    ensures lines { IfOk result (λ summary. summary.lines < 2 ^ 64 - 1) }
+{
+    let Ok(mut runner) = Runner::new(alloc) else {
+        return Err(RunFault::Memory { line: 1 });
+    };
+    for number in 1..u64::MAX {
+        match runner.take_line(alloc, number, reader, writer) {
+            Ok(Taken::Line) => {}
+            Ok(Taken::LastLine) => return runner.end(number, writer),
+            Ok(Taken::Nothing) => return runner.end(number - 1, writer),
+            Err(fault) => return Err(fault),
+        }
+    }
+    Err(RunFault::Memory { line: u64::MAX })
+}
+
+/// Carries out the script that the reader gives, and writes its transcript.
+///
+/// Each line that was read whole is carried out, and its output written, before the next is read. The writer is never
+/// flushed, and no failed read or write is tried again. A script of 2^64 - 1 lines is answered by `Memory` at its last.
+pub fn run<R: Source, W: Sink>(
+    alloc: Global,
+    reader: &mut R,
+    writer: &mut W,
+) -> Result<Summary, RunFault>
+    requires read_failures { R.failed reader.old < 2 ^ 64 - 1 }
+    requires write_failures { W.failed writer.old < 2 ^ 64 - 1 }
+    ensures answers { Answers (R.remaining reader.old) (W.contents writer.old) (W.contents writer.new) result }
+    ensures failures { CountsFailures (R.failed reader.old) (R.failed reader.new) (W.failed writer.old) (W.failed writer.new) result }
+    ensures lines { IfOk result (λ summary. summary.lines < 2 ^ 64 - 1) }
+{
+    run_lines(alloc, reader, writer)
+}

@@ -1,0 +1,68 @@
+//! What a script has bound.
+
+ghost use Rattle.std.specs.Prelude.{◌≡◌, ◌++◌, ◌∷◌, ◌<◌, [], None, OnOk, string_bytes};
+ghost use Rattle.nt_script.specs.Scope.{bound_in};
+
+use indexmap::IndexMap;
+use nt_status::Handle;
+use std::alloc::{AllocError, Global};
+use std::marker::Model;
+
+/// The number of threads, and the handle that each name stands for, in the order of first use.
+#[derive(Drop)]
+pub(crate) struct Bindings {
+    threads: u32,
+    names: IndexMap<String, Handle>,
+}
+
+impl Model for Bindings {
+    ghost use Rattle.std.specs.Prelude.{map, string_bytes};
+    ghost use Rattle.indexmap.specs.IndexMap.{spare};
+    ghost use Rattle.nt_script.specs.Scope.{Bound};
+
+    ghost Value = { Bound };
+
+    ghost view = { λ b. record { scope = record { threads = b.threads; names = map (λ entry. (string_bytes entry.0, entry.1)) b.names.entries }; room = spare b.names } };
+}
+
+impl Bindings {
+    ghost use Rattle.nt_script.specs.Transcript.{opened_scope};
+
+    pub(crate) fn new(alloc: Global, threads: u32) -> Bindings
+        ensures { result.scope ≡ opened_scope threads }
+    {
+        Bindings {
+            threads,
+            names: IndexMap::new(alloc),
+        }
+    }
+
+    pub(crate) fn threads(&self) -> u32
+        ensures { result ≡ self.now.scope.threads }
+    {
+        self.threads
+    }
+
+    pub(crate) fn get(&self, name: &str) -> Option<Handle>
+        ensures { result ≡ bound_in self.now.scope.names name.now }
+    {
+        self.names.get(name).copied()
+    }
+
+    /// Makes room for one name more.
+    pub(crate) fn reserve(&mut self) -> Result<(), AllocError>
+        ensures scope { self.new.scope ≡ self.old.scope }
+        ensures room { OnOk result (0 < self.new.room) }
+    {
+        self.names.reserve(1)
+    }
+
+    /// Binds a name that is free, where there is room for it.
+    pub(crate) fn bind(&mut self, name: String, handle: Handle)
+        requires room { 0 < self.old.room }
+        requires free { bound_in self.old.scope.names (string_bytes name) ≡ None }
+        ensures { self.new.scope ≡ record self.old.scope { names = self.old.scope.names ++ (string_bytes name, handle) ∷ [] } }
+    {
+        let _ = self.names.insert(name, handle);
+    }
+}

@@ -1,0 +1,290 @@
+//! What a script speaks to behind its `threads` line.
+
+ghost use Rattle.std.specs.Prelude.{◌≡◌, ◌+◌, ◌*◌, ◌-◌, ◌<◌, ◌≤◌, ◌^◌, ◌∷◌, [], ◌++◌, OnOk, OnErr, IfOk, IfErr, IfSome, length, None, Some, vec_len, vec_capacity, Result, Ok, Err};
+ghost use Rattle.std.specs.FinMap.{len};
+ghost use Rattle.nt_core.specs.Dispatcher.{state};
+ghost use Rattle.nt_core.specs.Steps.{Called};
+ghost use Rattle.nt_script.specs.Reading.{Gives, statement_of, opening_of};
+ghost use Rattle.nt_script.specs.Naming.{NamesFree};
+ghost use Rattle.nt_script.specs.Scope.{bound_in};
+ghost use Rattle.nt_script.specs.Transcript.{turn_text, handle_of, binds, ReadsOpening, ReadsStatement, opened_scope};
+ghost use Rattle.nt_script.specs.Progress.{Opens, AreCounted, LineAnswers, progress_of};
+
+use crate::fault::{LineFault, ScriptFault};
+use crate::parser::{Name, Statement, parse_opening, parse_statement};
+use crate::scope::Bindings;
+use crate::summary::Summary;
+use crate::tally::Tally;
+use crate::text::{put, put_number};
+use crate::transcript::{MOST_BYTES, put_turn};
+use crate::words::{Words, plain_text};
+use nt_core::{Act, Call, Core, Reply};
+use nt_status::{Handle, Refusal};
+use std::alloc::{AllocError, Global};
+
+/// How the line behind the last begins.
+const END: &[u8] = b"end: pending";
+
+/// The core, the names bound so far, and the count of calls.
+#[derive(Drop)]
+pub(crate) struct Session {
+    pub(crate) core: Core,
+    pub(crate) bindings: Bindings,
+    pub(crate) tally: Tally,
+}
+
+/// The handle that a creation answered.
+fn handle_of(answer: &Result<Reply, Refusal>) -> Option<Handle>
+    ensures { result ≡ handle_of answer.now }
+{
+    match answer {
+        Ok(Reply::Handle(handle)) => Some(*handle),
+        _ => None,
+    }
+}
+
+/// Parses a line before `threads`, which tells the number of threads or says nothing.
+fn parse_opening_line(line: &[u8]) -> Result<Option<u32>, ScriptFault>
+    requires { length line.now ≤ 4096 }
+    ensures exact { result ≡ opening_of line.now }
+    ensures range { IfOk result (λ threads. IfSome threads (λ n. (0 < n) × (n ≤ 256))) }
+{
+    parse_opening(Words::new(plain_text(line)?))
+}
+
+/// Reads a line before `threads`.
+fn read_opening(line: &[u8]) -> Result<Option<u32>, LineFault>
+    requires { length line.now ≤ 4096 }
+    ensures reads { ReadsOpening line.now result }
+    ensures range { IfOk result (λ threads. IfSome threads (λ n. (0 < n) × (n ≤ 256))) }
+{
+    match parse_opening_line(line) {
+        Ok(threads) => Ok(threads),
+        Err(fault) => Err(LineFault::Script(fault)),
+    }
+}
+
+/// Carries out a line before `threads`. The core is opened by the `threads` line.
+pub(crate) fn open(alloc: Global, line: &[u8]) -> Result<Option<Session>, LineFault>
+    requires { length line.now ≤ 4096 }
+    ensures { Opens line.now result }
+{
+    match read_opening(line)? {
+        Some(threads) => Ok(Some(Session::new(alloc, threads)?)),
+        None => Ok(None),
+    }
+}
+
+/// Makes one call. It ends no more waits than there were, and begins one at most.
+fn call_core(core: &mut Core, who: u32, call: &Call) -> Result<Reply, Refusal>
+    ensures called { Called (state core.old) who call.now result core.new.grants (state core.new) }
+    ensures counts { length core.new.grants + len (state core.new).waits ≤ len (state core.old).waits + 1 }
+{
+    core.call(who, call)
+}
+
+impl Session {
+    ghost use Rattle.nt_script.specs.Progress.{progress, LineAnswers, IsCounted, IsFresh, add_tally, tally_of};
+    ghost use Rattle.nt_core.specs.Runs.{Calls};
+
+    fn new(alloc: Global, threads: u32) -> Result<Session, AllocError>
+        requires range { (0 < threads) × (threads ≤ 256) }
+        ensures fresh { IfOk result (λ session. IsFresh (progress session)) }
+        ensures scope { IfOk result (λ session. session.bindings.scope ≡ opened_scope threads) }
+    {
+        match Core::new(alloc, threads) {
+            Ok(core) => Ok(Session {
+                core,
+                bindings: Bindings::new(alloc, threads),
+                tally: Tally::new(),
+            }),
+            Err(Refusal::Memory) => Err(AllocError),
+            Err(_) => unreachable!(),
+        }
+    }
+
+    /// Parses a line behind `threads`.
+    fn parse(&self, alloc: Global, line: &[u8]) -> Result<Statement, LineFault>
+        requires { length line.now ≤ 4096 }
+        ensures exact { Gives (λ statement. statement) result (statement_of self.now.bindings.scope line.now) }
+        ensures free { IfOk result (NamesFree self.now.bindings.scope) }
+    {
+        let words = Words::new(plain_text(line)?);
+        parse_statement(alloc, &self.bindings, words)
+    }
+
+    /// Reads a line behind `threads`.
+    fn read(&self, alloc: Global, line: &[u8]) -> Result<Statement, LineFault>
+        requires { length line.now ≤ 4096 }
+        ensures reads { ReadsStatement self.now.bindings.scope line.now result }
+        ensures free { IfOk result (NamesFree self.now.bindings.scope) }
+    {
+        self.parse(alloc, line)
+    }
+
+    /// Makes room for a turn's text, and for a name.
+    fn make_room(&mut self, out: &mut Vec<u8>) -> Result<(), AllocError>
+        requires { out.old.items ≡ [] }
+        ensures empty { out.new.items ≡ [] }
+        ensures text { OnOk result ((2 + len (state self.new.core).waits) * 96 ≤ vec_capacity out.new) }
+        ensures name { OnOk result (0 < self.new.bindings.room) }
+        ensures same { progress self.new ≡ progress self.old }
+    {
+        self.bindings.reserve()?;
+        let lines = self.core.pending().checked_add(2).ok_or(AllocError)?;
+        out.reserve(lines.checked_mul(MOST_BYTES).ok_or(AllocError)?)
+    }
+
+    /// Makes one call, and puts what came of it where there is room for it.
+    fn perform(
+        &mut self,
+        number: u64,
+        who: u32,
+        call: &Call,
+        out: &mut Vec<u8>,
+    ) -> Result<Reply, Refusal>
+        requires counted { IsCounted number (progress self.old) }
+        requires number { number < 2 ^ 64 }
+        requires empty { out.old.items ≡ [] }
+        requires room { (2 + len (state self.old.core).waits) * 96 ≤ vec_capacity out.old }
+        ensures step { Called (state self.old.core) who call.now result self.new.core.grants (state self.new.core) }
+        ensures text { out.new.items ≡ turn_text number result self.new.core.grants }
+        ensures tally { self.new.tally ≡ add_tally self.old.tally (tally_of (Calls who call.now result self.new.core.grants ∷ [])) }
+        ensures counted { IsCounted (number + 1) (progress self.new) }
+        ensures bindings { self.new.bindings ≡ self.old.bindings }
+    {
+        let answer = call_core(&mut self.core, who, call);
+        let grants = self.core.grants();
+        put_turn(out, number, &answer, grants);
+        self.tally.count(&answer, grants.len());
+        answer
+    }
+
+    /// Makes a creation's call, and binds its name where it answers a handle.
+    fn create(
+        &mut self,
+        number: u64,
+        who: u32,
+        name: Name,
+        act: Act,
+        out: &mut Vec<u8>,
+    ) -> Result<Reply, Refusal>
+        requires counted { IsCounted number (progress self.old) }
+        requires number { number < 2 ^ 64 }
+        requires empty { out.old.items ≡ [] }
+        requires room { (2 + len (state self.old.core).waits) * 96 ≤ vec_capacity out.old }
+        requires place { 0 < self.old.bindings.room }
+        requires free { bound_in self.old.bindings.scope.names name ≡ None }
+        ensures step { Called (state self.old.core) who (Call.Act act) result self.new.core.grants (state self.new.core) }
+        ensures text { out.new.items ≡ turn_text number result self.new.core.grants }
+        ensures tally { self.new.tally ≡ add_tally self.old.tally (tally_of (Calls who (Call.Act act) result self.new.core.grants ∷ [])) }
+        ensures counted { IsCounted (number + 1) (progress self.new) }
+        ensures scope { self.new.bindings.scope ≡ binds name (handle_of result) self.old.bindings.scope }
+    {
+        let answer = self.perform(number, who, &Call::Act(act), out);
+        if let Some(handle) = handle_of(&answer) {
+            self.bindings.bind(name.into_string(), handle);
+        }
+        answer
+    }
+
+    /// Carries out a line behind `threads`, and puts what it says into `out`.
+    pub(crate) fn carry_out(
+        &mut self,
+        alloc: Global,
+        number: u64,
+        line: &[u8],
+        out: &mut Vec<u8>,
+    ) -> Result<(), LineFault>
+        requires short { length line.now ≤ 4096 }
+        requires counted { IsCounted number (progress self.old) }
+        requires number { number < 2 ^ 64 }
+        requires empty { out.old.items ≡ [] }
+        ensures { LineAnswers number line.now (Some (progress self.old)) result out.new.items (Some (progress self.new)) }
+    {
+        let statement = self.read(alloc, line)?;
+        self.make_room(out)?;
+        match statement {
+            Statement::Blank => Ok(()),
+            Statement::Perform { who, call } => {
+                let _answer = self.perform(number, who, &call, out);
+                Ok(())
+            }
+            Statement::Create { who, name, act } => {
+                let _answer = self.create(number, who, name, act, out);
+                Ok(())
+            }
+        }
+    }
+}
+
+/// Carries out one line, and puts what it says into `out`.
+pub(crate) fn carry_out(
+    session: &mut Option<Session>,
+    alloc: Global,
+    number: u64,
+    line: &[u8],
+    out: &mut Vec<u8>,
+) -> Result<(), LineFault>
+    requires short { length line.now ≤ 4096 }
+    requires counted { AreCounted number (progress_of session.old) }
+    ensures { LineAnswers number line.now (progress_of session.old) result out.new.items (progress_of session.new) }
+{
+    out.clear();
+    match session {
+        Some(session) => session.carry_out(alloc, number, line, out),
+        None => {
+            *session = open(alloc, line)?;
+            Ok(())
+        }
+    }
+}
+
+impl Session {
+    ghost use Rattle.nt_script.specs.Progress.{progress};
+    ghost use Rattle.nt_script.specs.Running.{end_of, summary_at};
+    ghost use Rattle.nt_script.specs.Transcript.{waiting_text};
+
+    /// Puts the names of the threads that still wait, where there is room for them.
+    fn put_waiting(&self, out: &mut Vec<u8>)
+        requires { vec_len out.old + 22 * self.now.bindings.scope.threads ≤ vec_capacity out.old }
+        ensures items { out.new.items ≡ out.old.items ++ waiting_text (state self.now.core) self.now.bindings.scope.threads }
+        ensures len { vec_len out.new ≤ vec_len out.old + 22 * self.now.bindings.scope.threads }
+        ensures room { vec_capacity out.old ≤ vec_capacity out.new }
+    {
+        for thread in 0..self.bindings.threads() {
+            if self.core.is_waiting(thread) {
+                put(out, b" t");
+                put_number(out, u64::from(thread));
+            }
+        }
+    }
+
+    /// Puts the line behind the last.
+    pub(crate) fn put_end(&self, out: &mut Vec<u8>) -> Result<(), AllocError>
+        requires { out.old.items ≡ [] }
+        ensures { OnOk result (out.new.items ≡ end_of (progress self.now)) }
+    {
+        out.reserve(18 + 22 * self.bindings.threads() as usize)?;
+        put(out, END);
+        self.put_waiting(out);
+        if out.len() == END.len() {
+            put(out, b" none");
+        }
+        put(out, b"\n");
+        Ok(())
+    }
+
+    /// What the run came to, behind so many lines.
+    pub(crate) fn summary(&self, lines: u64) -> Summary
+        ensures { result ≡ summary_at lines (progress self.now) }
+    {
+        Summary {
+            lines,
+            calls: self.tally.calls,
+            refused: self.tally.refused,
+            granted: self.tally.granted,
+            pending: self.core.pending(),
+        }
+    }
+}
