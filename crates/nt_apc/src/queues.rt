@@ -48,6 +48,13 @@ impl ApcQueues {
         })
     }
 
+    /// How many threads there are.
+    pub fn threads(&self) -> usize
+        ensures { result ≡ length self.now.queues }
+    {
+        self.inboxes.len()
+    }
+
     /// Queues an APC to thread `t`, last, as QueueUserAPC does.
     pub fn push(&mut self, t: ThreadId, apc: Apc) -> Result<(), AllocError>
         requires { t < length self.old.queues }
