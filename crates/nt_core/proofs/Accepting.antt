@@ -149,15 +149,17 @@ object_at-replicate zero h = refl
 object_at-replicate (suc n) zero = refl
 object_at-replicate (suc n) (suc h) = object_at-replicate n h
 
-pub opening_lawful : (d : Dispatcher) → d.threads ≤ 256 → d.objects ≡ replicate d.threads (Thread false) → d.table.pending ≡ fin.empty → Agrees d.table.pending d.table.queues → length d.handing ≡ d.threads → d.grants ≡ [] → IsLawful d
-opening_lawful d few objects waits agrees hands grants = record {
+pub opening_lawful : (d : Dispatcher) → d.threads ≤ 256 → d.objects ≡ replicate d.threads (Thread false) → d.table.pending ≡ fin.empty → Agrees d.table.pending d.table.queues → length d.handing ≡ d.threads → length d.apcs.queues ≡ d.threads → d.grants ≡ [] → IsLawful d
+opening_lawful d few objects waits agrees hands inboxes grants = record {
   sound = record {
     few = few;
     waits = λ t w pends. nobody t w pends;
     blocks = agrees;
     hands = hands;
+    inboxes = inboxes;
     objects = λ h. subst IsLawfulObject (sym (running h)) tt;
     own = λ t below. (let len : length d.objects ≡ d.threads = ap (λ os. length os) objects ∙ length-replicate d.threads (Thread false) in omega (arith, len, below), ap is_thread (running t));
+    none_else = λ h beyond known. let len : length d.objects ≡ d.threads = ap (λ os. length os) objects ∙ length-replicate d.threads (Thread false) in absurd (omega (arith, len, beyond, known));
     room = let none : length d.grants ≡ 0 = ap (λ gs. length gs) grants in let empty : fin.len d.table.pending ≡ 0 = ap (λ m. fin.len m) waits ∙ fin.len-empty nat_cmp Wait in omega (arith, none, empty);
   };
   settled = record {
@@ -194,8 +196,10 @@ told_anew d table lawful is = subst (λ (v : Waits). IsFresh (record d { table =
       waits = lawful.sound.waits;
       blocks = lawful.sound.blocks;
       hands = lawful.sound.hands;
+      inboxes = lawful.sound.inboxes;
       objects = lawful.sound.objects;
       own = lawful.sound.own;
+      none_else = lawful.sound.none_else;
       room = let room = lawful.sound.room in omega (arith, room);
     };
     settled = lawful.settled;

@@ -86,8 +86,10 @@ sound_begun old table t w sound able idle room pending agrees = record {
   waits = λ u v pends. go u v (get_inserted old.table.pending t u w v (ap (λ m. fin.get m u) (sym pending) ∙ pends));
   blocks = agrees;
   hands = sound.hands;
+  inboxes = sound.inboxes;
   objects = sound.objects;
   own = sound.own;
+  none_else = sound.none_else;
   room = let more = len_inserted old.table.pending t w idle in let same : fin.len table.pending ≡ fin.len (fin.insert old.table.pending t w) = ap (λ m. fin.len m) pending in omega (arith, room, more, same);
 }
   where
@@ -186,11 +188,6 @@ ahead now ms v later e = go (ms == infinite) e
     go true h = (cc)
     go false h = let is : now + units ms ≡ v = (cc) in omega (arith, is, later)
 
-no_apcs : (n t : ℕ) → has_apc (replicate n []) t ≡ false
-no_apcs zero t = refl
-no_apcs (suc n) zero = refl
-no_apcs (suc n) (suc t) = no_apcs n t
-
 -- another thread's wait, where t's does not pend
 other_waits : (d : Dispatcher) (t u : ℕ) (v : Wait) → fin.get d.table.pending t ≡ None → fin.get d.table.pending u ≡ Some v → u ≢ t
 other_waits d t u v idle pends same = let h : None ≡ Some v = sym idle ∙ (ap (λ x. fin.get d.table.pending x) (sym same) ∙ pends) in absurd_none h
@@ -219,8 +216,10 @@ began_taken old objects t code w lawful able idle tried =
             };
         blocks = sound.blocks;
         hands = length-set old.handing t false ∙ sound.hands;
+        inboxes = sound.inboxes;
         objects = well.lawful sound.objects;
         own = λ u below. (subst (λ (n : ℕ). u < n) (sym well.length) (sound.own u below).0, well.threads u ∙ (sound.own u below).1);
+        none_else = λ h beyond known. well.threads h ∙ sound.none_else h beyond (subst (λ (n : ℕ). h < n) well.length known);
         room = sound.room;
       };
       settled = record {
@@ -238,8 +237,10 @@ handed_lawful old t may lawful = record {
     waits = lawful.sound.waits;
     blocks = lawful.sound.blocks;
     hands = length-set old.handing t may ∙ lawful.sound.hands;
+    inboxes = lawful.sound.inboxes;
     objects = lawful.sound.objects;
     own = lawful.sound.own;
+    none_else = lawful.sound.none_else;
     room = lawful.sound.room;
   };
   settled = record {
@@ -250,26 +251,22 @@ handed_lawful old t may lawful = record {
 }
 
 -- it pends
-pub began_pending : (old new : Dispatcher) (t ms : ℕ) (w : Wait) → IsLawful old → fits old.objects t w ≡ false → ms ≢ 0 → w.deadline ≡ deadline_after old.now ms → state new ≡ pending_too (state old) t w → IsSound new → IsLawful new
-began_pending old new t ms w lawful unfit later deadline becomes sound =
+pub began_pending : (old new : Dispatcher) (t ms : ℕ) (w : Wait) → IsLawful old → fits old.objects t w ≡ false → (w.alertable && has_apc old.apcs.queues t) ≡ false → ms ≢ 0 → w.deadline ≡ deadline_after old.now ms → state new ≡ pending_too (state old) t w → IsSound new → IsLawful new
+began_pending old new t ms w lawful unfit quiet later deadline becomes sound =
     record {
       sound = sound;
       settled = subst IsSettled (sym becomes) (record {
         served = served;
-        alerted = λ u alerted. no_alert (has_apc_at u) alerted.0 alerted.2;
+        alerted = λ u alerted. unalerted u alerted.0 alerted.2 (get_inserted old.table.pending t u w alerted.0 alerted.1);
         passed = passed;
       });
     }
   where
-    has_apc_at : (u : ℕ) → has_apc (replicate old.threads []) u ≡ false
-    has_apc_at u = no_apcs old.threads u
-
-    no_alert : {b : Bool} → b ≡ false → (v : Wait) → (v.alertable && b) ≡ true → ⊥
-    no_alert {b} is v e = both v.alertable e
-      where
-        both : (a : Bool) → (a && b) ≡ true → ⊥
-        both true f = false≢true (sym is ∙ f)
-        both false f = false≢true f
+    unalerted : (u : ℕ) (v : Wait) → (v.alertable && has_apc old.apcs.queues u) ≡ true → ((u ≡ t) × (w ≡ v)) ⊎ (fin.get old.table.pending u ≡ Some v) → ⊥
+    unalerted u v alert (inl same) =
+        let here : (w.alertable && has_apc old.apcs.queues t) ≡ true = ap (λ (x : Wait). x.alertable && has_apc old.apcs.queues t) same.1 ∙ (ap (λ (k : ℕ). v.alertable && has_apc old.apcs.queues k) (sym same.0) ∙ alert) in
+        false≢true (sym quiet ∙ here)
+    unalerted u v alert (inr older) = lawful.settled.alerted u (v, older, alert)
 
     served : (u : ℕ) → is_due (pending_too (state old) t w) u ≡ false
     served u = by (fin.get (fin.insert old.table.pending t w) u) refl

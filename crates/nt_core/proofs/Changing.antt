@@ -201,14 +201,16 @@ sound_replaced d h o sound may = record {
       };
   blocks = sound.blocks;
   hands = sound.hands;
+  inboxes = sound.inboxes;
   objects = property_set IsLawfulObject d.objects h o may.lawful sound.objects;
   own = λ t below. (subst (λ (n : ℕ). t < n) (sym (length-set d.objects h o)) (sound.own t below).0, reading_set is_thread d.objects h o may.thread t ∙ (sound.own t below).1);
+  none_else = λ k beyond known. reading_set is_thread d.objects h o may.thread k ∙ sound.none_else k beyond (subst (λ (n : ℕ). k < n) (length-set d.objects h o) known);
   room = sound.room;
 }
 
 -- one object more leaves all readings of objects that were there
-pub sound_created : (d : Dispatcher) (o : Object) → IsSound d → IsLawfulObject o → IsSound (record d { objects = d.objects ++ o ∷ [] })
-sound_created d o sound lawful = record {
+pub sound_created : (d : Dispatcher) (o : Object) → IsSound d → IsLawfulObject o → is_thread o ≡ false → IsSound (record d { objects = d.objects ++ o ∷ [] })
+sound_created d o sound lawful no_thread = record {
   few = sound.few;
   waits = λ t w pends.
       let own = sound.waits t w pends in
@@ -226,7 +228,9 @@ sound_created d o sound lawful = record {
       };
   blocks = sound.blocks;
   hands = sound.hands;
+  inboxes = sound.inboxes;
   objects = all d.objects sound.objects;
+  none_else = λ h beyond known. unlike d.objects h known (sound.none_else h beyond);
   own = λ t below.
       let before = sound.own t below in (
         let longer = length-append d.objects (o ∷ []) in omega (arith, longer, before.0),
@@ -235,6 +239,12 @@ sound_created d o sound lawful = record {
   room = sound.room;
 }
   where
+    unlike : (os : List Object) (h : ℕ) → h < length (os ++ o ∷ []) → (h < length os → is_thread (object_at os h) ≡ false) → is_thread (object_at (os ++ o ∷ []) h) ≡ false
+    unlike [] zero known none = no_thread
+    unlike [] (suc h) known none = absurd (omega (arith, known))
+    unlike (x ∷ os) zero known none = none (omega arith)
+    unlike (x ∷ os) (suc h) known none = unlike os h (omega (arith, known)) (λ below. none (omega (arith, below)))
+
     all : (os : List Object) → ((k : ℕ) → IsLawfulObject (object_at os k)) → (k : ℕ) → IsLawfulObject (object_at (os ++ o ∷ []) k)
     all [] has zero = lawful
     all [] has (suc k) = tt

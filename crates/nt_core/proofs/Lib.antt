@@ -10,3 +10,4 @@ mod Accepting
 mod Replacing
 mod Beginning
 mod Unique
+mod Alerting

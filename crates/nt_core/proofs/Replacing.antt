@@ -8,7 +8,7 @@ use Rattle.std.proofs.Common.{◌==◌}
 use Rattle.nt_waits.specs.Waits.{IsMember, AreOnce, others}
 use Rattle.nt_objects.specs.declared.object.Object.{Object}
 use Rattle.nt_objects.specs.declared.object.Object.TheVariants.{Event, Semaphore, Mutex, Timer, Thread}
-use Rattle.nt_objects.specs.Object.{signaled, taken, is_event, is_semaphore, is_mutex, owned_by, count_of, depth_of, depth_limit, mutex_of, with_set, released, unlocked, due_of, IsLawfulObject}
+use Rattle.nt_objects.specs.Object.{signaled, taken, is_thread, is_event, is_semaphore, is_mutex, owned_by, count_of, depth_of, depth_limit, mutex_of, with_set, released, unlocked, due_of, IsLawfulObject}
 use Rattle.std.specs.Prelude.{ℤ, pos, ◌+ℤ◌, ◌<ℤ◌, nat_le, nat_lt, if◌then◌else◌}
 use Rattle.nt_status.specs.Flags.{has_flag, mutex_initial_owner}
 use Rattle.std.proofs.lemmas.Int.{ints}
@@ -248,8 +248,15 @@ mutex_undue flags t = go (has_flag flags mutex_initial_owner)
     go true = refl
     go false = refl
 
-pub created_accepted : (old new : Dispatcher) (t : ℕ) (o : Object) (call : Call) (handle : ℕ) → IsFresh old → IsLawfulObject o → due_of o ≡ None → change (state old) t call ≡ created (state old) o → ((s : State) → after_serving call s ≡ s) → ((s : State) → answered (state old) s t call ≡ (Reply.Handle (length old.objects), s)) → handle ≡ length old.objects → new ≡ record old { objects = old.objects ++ o ∷ [] } → Accepts old new t call (Reply.Handle handle)
-created_accepted old new t o call handle fresh lawful due changes after answers is becomes =
+pub mutex_no_thread : (flags t : ℕ) → is_thread (mutex_of flags t) ≡ false
+mutex_no_thread flags t = go (has_flag flags mutex_initial_owner)
+  where
+    go : (b : Bool) → is_thread (if b then Mutex (Some t) 1 false else Mutex None 0 false) ≡ false
+    go true = refl
+    go false = refl
+
+pub created_accepted : (old new : Dispatcher) (t : ℕ) (o : Object) (call : Call) (handle : ℕ) → IsFresh old → IsLawfulObject o → is_thread o ≡ false → due_of o ≡ None → change (state old) t call ≡ created (state old) o → ((s : State) → after_serving call s ≡ s) → ((s : State) → answered (state old) s t call ≡ (Reply.Handle (length old.objects), s)) → handle ≡ length old.objects → new ≡ record old { objects = old.objects ++ o ∷ [] } → Accepts old new t call (Reply.Handle handle)
+created_accepted old new t o call handle fresh lawful no_thread due changes after answers is becomes =
     subst (λ (x : Dispatcher). Accepts old x t call (Reply.Handle handle)) (sym becomes)
     (subst (λ (h : ℕ). Accepts old d t call (Reply.Handle h)) (sym is)
     (accepted old d d t call (Reply.Handle (length old.objects))
@@ -261,7 +268,7 @@ created_accepted old new t o call handle fresh lawful due changes after answers 
 
     all : IsLawful d
     all = record {
-      sound = sound_created old o fresh.lawful.sound lawful;
+      sound = sound_created old o fresh.lawful.sound lawful no_thread;
       settled = record {
         served = served_unchanged old (old.objects ++ o ∷ []) fresh.lawful.sound fresh.lawful.settled.served (created_only old.objects o);
         alerted = fresh.lawful.settled.alerted;

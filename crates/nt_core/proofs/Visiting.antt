@@ -68,8 +68,10 @@ looked_sound d looked sound = record {
   waits = sound.waits;
   blocks = sound.blocks;
   hands = sound.hands;
+  inboxes = sound.inboxes;
   objects = sound.objects;
   own = sound.own;
+  none_else = sound.none_else;
   room = sound.room;
 }
 
@@ -122,8 +124,10 @@ visit_granted old t code w objects table grants sound has tried waits queues loo
             };
         blocks = agrees;
         hands = length-set old.handing t false ∙ sound.hands;
+        inboxes = sound.inboxes;
         objects = well.lawful sound.objects;
         own = λ u below. (subst (λ (n : ℕ). u < n) (sym well.length) (sound.own u below).0, well.threads u ∙ (sound.own u below).1);
+        none_else = λ h beyond known. well.threads h ∙ sound.none_else h beyond (subst (λ (n : ℕ). h < n) well.length known);
         room = omega (arith, sound.room, longer, fewer, same);
       },
     )

@@ -1,5 +1,5 @@
 -- What an accepted call does to the dispatcher.
-use Rattle.std.specs.Prelude.{◌≡◌, ℕ, ◌≤◌, Bool, not, ◌&&◌, ◌==◌, List, [], length}
+use Rattle.std.specs.Prelude.{◌≡◌, ℕ, ◌≤◌, Bool, not, ◌&&◌, ◌==◌, List, [], ◌++◌, length}
 use Rattle.std.specs.List.{filter}
 use Rattle.nt_status.specs.Status.{io_completion_code, timeout_code}
 use Rattle.nt_core.specs.declared.call.Call.{Call}
@@ -7,7 +7,7 @@ use Rattle.nt_core.specs.declared.call.Reply.{Reply}
 use Rattle.nt_core.specs.declared.call.Grant.{Grant}
 use Rattle.nt_core.specs.Rising.{AreRising}
 use Rattle.nt_core.specs.State.{State}
-use Rattle.nt_core.specs.Serving.{IsChanged, sequence, Serve}
+use Rattle.nt_core.specs.Serving.{IsChanged, sequence, Serve, Alert}
 use Rattle.nt_core.specs.Change.{change}
 use Rattle.nt_core.specs.Steps.{Step}
 use Rattle.nt_core.specs.Dispatcher.{Dispatcher, state}
@@ -33,6 +33,13 @@ pub record IsServedAfter (old : Dispatcher) (changed_to : State) (new : Dispatch
   pub sound : IsSound new
   pub most : new.table.looked ≤ length (sequence (state old) handles)
   pub least : length new.grants ≤ new.table.looked
+
+-- the waits that were to be alerted have ended, and no pending wait was tested for it
+pub record IsAlertedAfter (old new : Dispatcher) : Type 0 where
+  pub ended : List Grant
+  pub alerts : Alert (state old) ended (state new)
+  pub grants : new.grants ≡ old.grants ++ ended
+  pub looked : new.table.looked ≡ old.table.looked
 
 -- lawful, and nothing told yet of the call that comes
 pub record IsFresh (d : Dispatcher) : Type 0 where

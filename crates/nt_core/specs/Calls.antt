@@ -4,11 +4,12 @@ use Rattle.nt_core.specs.declared.call.Call.{Call}
 use Rattle.nt_core.specs.declared.call.Act.{Act}
 use Rattle.nt_core.specs.declared.call.WaitCall.{WaitCall}
 
--- the acts that may want memory: creations
+-- the acts that may want memory: creations, and queued APCs
 abbrev pub act_grows : Act → Bool
 act_grows (Act.CreateEvent flags) = true
 act_grows (Act.CreateSemaphore initial maximum) = true
 act_grows (Act.CreateMutex flags) = true
+act_grows (Act.QueueApc thread routine arg) = true
 act_grows _ = false
 
 -- the calls that may want memory

@@ -8,7 +8,7 @@ use Rattle.nt_objects.specs.declared.object.Armed.{Armed}
 use Rattle.nt_objects.specs.declared.object.Routine.{Routine}
 use Rattle.nt_objects.specs.Object.{event_of, mutex_of, timer_of, with_set, released, unlocked, abandoned_by, unset_by, armed_with, setting_of, due_of, rearmed, count_of}
 use Rattle.nt_apc.specs.declared.apc.Queued.{Queued}
-use Rattle.nt_apc.specs.Queues.{queue_of, has_apc, is_queued, pushed, withdrawn, cleared, oldest, without_oldest}
+use Rattle.nt_apc.specs.Queues.{queue_of, has_apc, is_queued, pushed, withdrawn, cleared, oldest, taken, apc_of}
 use Rattle.nt_core.specs.declared.call.Call.{Call}
 use Rattle.nt_core.specs.declared.call.Act.{Act}
 use Rattle.nt_core.specs.declared.call.WaitCall.{WaitCall}
@@ -96,15 +96,12 @@ may_take s t = slice_index_or s.handing t false && has_apc s.apcs t
 abbrev pub apc_taken : State → ℕ → State
 apc_taken s t =
     if may_take s t
-    then record s { apcs = slice_set s.apcs t (without_oldest (queue_of s.apcs t)) }
+    then record s { apcs = taken s.apcs t }
     else with_handing s t false
 
-abbrev pub apc_reply : Option Queued → Reply
-apc_reply None = Reply.Apc None
-apc_reply (Some q) = Reply.Apc (Some q.apc)
-
+-- what it finds
 abbrev pub apc_answered : State → ℕ → Reply
-apc_answered s t = if may_take s t then apc_reply (oldest (queue_of s.apcs t)) else Reply.Apc None
+apc_answered s t = Reply.Apc (if may_take s t then apc_of (oldest (queue_of s.apcs t)) else None)
 
 -- ---- signals of SignalObjectAndWait, and exit (Win32 reference: SignalObjectAndWait, Mutex Objects)
 
@@ -134,6 +131,8 @@ act_change s t (Act.ResetEvent h) = at s h (with_set false)
 act_change s t (Act.PulseEvent h) = at s h (with_set true)
 act_change s t (Act.ReleaseSemaphore h n) = at s h (released n)
 act_change s t (Act.ReleaseMutex h) = at s h unlocked
+act_change s t (Act.QueueApc h routine arg) = apc_queued s h routine arg
+act_change s t Act.NextApc = apc_taken s t
 
 abbrev pub wait_change : State → WaitCall → State
 wait_change s _ = s
@@ -149,4 +148,5 @@ act_reply s t (Act.CreateEvent flags) = Reply.Handle (length s.objects)
 act_reply s t (Act.CreateSemaphore initial maximum) = Reply.Handle (length s.objects)
 act_reply s t (Act.CreateMutex flags) = Reply.Handle (length s.objects)
 act_reply s t (Act.ReleaseSemaphore h n) = Reply.Previous (count_of (object_at s.objects h))
+act_reply s t Act.NextApc = apc_answered s t
 act_reply s t _ = Reply.Done

@@ -1,6 +1,7 @@
 -- The dispatcher as its callers see it.
-use Rattle.std.specs.Prelude.{ℕ, Bool, List, [], replicate}
+use Rattle.std.specs.Prelude.{ℕ, Bool, List}
 use Rattle.nt_waits.specs.Waits.{Waits, queue_of}
+use Rattle.nt_apc.specs.Queues.{Apcs}
 use Rattle.nt_objects.specs.declared.object.Object.{Object}
 use Rattle.nt_core.specs.declared.call.Grant.{Grant}
 use Rattle.nt_core.specs.State.{State}
@@ -10,6 +11,8 @@ pub record Dispatcher : Type 0 where
   pub objects : List Object
   -- the pending waits, their queues, and how many pending waits the last call tested
   pub table : Waits
+  -- each thread's queued APCs, and the places promised to timers
+  pub apcs : Apcs
   pub handing : List Bool
   pub now : ℕ
   -- the waits that the last call or tick ended
@@ -22,16 +25,17 @@ state d = record {
   objects = d.objects;
   waits = d.table.pending;
   queues = λ h. queue_of d.table h;
-  apcs = replicate d.threads [];
+  apcs = d.apcs.queues;
   handing = d.handing;
   now = d.now;
 }
 
-abbrev pub dispatcher_of : ℕ → List Object → Waits → List Bool → ℕ → List Grant → Dispatcher
-dispatcher_of threads objects table handing now grants = record {
+abbrev pub dispatcher_of : ℕ → List Object → Waits → Apcs → List Bool → ℕ → List Grant → Dispatcher
+dispatcher_of threads objects table apcs handing now grants = record {
   threads = threads;
   objects = objects;
   table = table;
+  apcs = apcs;
   handing = handing;
   now = now;
   grants = grants;

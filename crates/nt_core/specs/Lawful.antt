@@ -41,9 +41,11 @@ pub record IsSound (d : Dispatcher) : Type 0 where
   -- wait blocks and pending waits name each other exactly
   pub blocks : Agrees d.table.pending d.table.queues
   pub hands : length d.handing ≡ d.threads
+  pub inboxes : length d.apcs.queues ≡ d.threads
   pub objects : (h : ℕ) → IsLawfulObject (object_at d.objects h)
   -- the first objects are the threads' own
   pub own : (t : ℕ) → t < d.threads → (t < length d.objects) × (is_thread (object_at d.objects t) ≡ true)
+  pub none_else : (h : ℕ) → d.threads ≤ h → h < length d.objects → is_thread (object_at d.objects h) ≡ false
   -- each pending wait can be granted
   pub room : length d.grants + map.len (state d).waits ≤ d.threads
 

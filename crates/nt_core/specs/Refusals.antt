@@ -108,6 +108,8 @@ act_causes objects t (Act.ResetEvent h) = kind_causes is_event objects h
 act_causes objects t (Act.PulseEvent h) = kind_causes is_event objects h
 act_causes objects t (Act.ReleaseSemaphore h n) = release_causes objects h n
 act_causes objects t (Act.ReleaseMutex h) = unlock_causes objects t h
+act_causes objects t (Act.QueueApc h routine arg) = apc_causes objects h
+act_causes objects t Act.NextApc = []
 
 abbrev pub wait_causes : List Object → ℕ → WaitCall → List Cause
 wait_causes objects t (WaitCall.Objects handles all ms alertable) = objects_causes objects t handles

@@ -7,15 +7,29 @@ pub enum Act {
     /// CreateEvent, with the flags of CreateEventEx: 1 manual reset, 2 set at first.
     CreateEvent(u32),
     /// CreateSemaphore.
-    CreateSemaphore { initial: i32, maximum: i32 },
+    CreateSemaphore {
+        initial: i32,
+        maximum: i32,
+    },
     /// CreateMutex, with the flag of CreateMutexEx: 1 owned by the caller.
     CreateMutex(u32),
     SetEvent(Handle),
     ResetEvent(Handle),
     PulseEvent(Handle),
     /// ReleaseSemaphore; it answers the count before.
-    ReleaseSemaphore { semaphore: Handle, count: i32 },
+    ReleaseSemaphore {
+        semaphore: Handle,
+        count: i32,
+    },
     ReleaseMutex(Handle),
+    /// QueueUserAPC, to the thread that the handle names.
+    QueueApc {
+        thread: Handle,
+        routine: u64,
+        arg: u64,
+    },
+    /// Takes the caller's oldest APC, where its last ended wait ended for its APCs and it has not found none since.
+    NextApc,
 }
 
 /// A call that may pend. Timeouts are in milliseconds; 0xFFFFFFFF is INFINITE.

@@ -46,6 +46,15 @@ impl Machine {
                 self.release_mutex(thread, *mutex);
                 Ok(Reply::Done)
             }
+            Act::QueueApc {
+                thread: target,
+                routine,
+                arg,
+            } => {
+                self.queue_apc(thread, *target, *routine, *arg)?;
+                Ok(Reply::Done)
+            }
+            Act::NextApc => Ok(Reply::Apc(self.next_apc(thread))),
             Act::SetEvent(event) => {
                 self.set_event(thread, *event);
                 Ok(Reply::Done)

@@ -5,7 +5,7 @@ ghost use Rattle.nt_status.specs.Flags.{only_known, event_bits, mutex_bits};
 ghost use Rattle.nt_objects.specs.Object.{is_event, has_ended};
 ghost use Rattle.nt_core.specs.State.{object_at};
 ghost use Rattle.nt_core.specs.Dispatcher.{state};
-ghost use Rattle.nt_core.specs.Refusals.{first_of_causes, act_causes, wait_causes, objects_causes, creation_causes, release_causes, unlock_causes, refusal, is_no, is_unknown, has_twice, is_at_limit};
+ghost use Rattle.nt_core.specs.Refusals.{first_of_causes, act_causes, wait_causes, objects_causes, creation_causes, release_causes, unlock_causes, apc_causes, refusal, is_no, is_unknown, has_twice, is_at_limit};
 
 use crate::call::{Act, Call, WaitCall};
 use crate::machine::Machine;
@@ -124,6 +124,22 @@ fn unlock_refusal(objects: &[Object], thread: ThreadId, mutex: Handle) -> Option
     }
 }
 
+/// The refusal of an APC for the thread whose object has this handle.
+fn apc_refusal(objects: &[Object], thread: Handle) -> Option<Refusal>
+    ensures { result ≡ first_of_causes (apc_causes objects.now thread) }
+{
+    match objects.get(thread.get() as usize) {
+        Some(object) if object.is_thread() => {
+            if object.has_ended() {
+                Some(Refusal::ThreadGone)
+            } else {
+                None
+            }
+        }
+        _ => Some(Refusal::InvalidHandle),
+    }
+}
+
 /// The refusal of a creation, whose flags are lawful or not.
 fn creation_refusal(objects: &[Object], lawful: bool) -> Option<Refusal>
     ensures { result ≡ first_of_causes (creation_causes objects.now lawful) }
@@ -148,6 +164,12 @@ fn act_refusal(objects: &[Object], thread: ThreadId, act: &Act) -> Option<Refusa
         }
         Act::CreateMutex(flags) => creation_refusal(objects, are_mutex_flags(*flags)),
         Act::ReleaseSemaphore { semaphore, count } => release_refusal(objects, *semaphore, *count),
+        Act::NextApc => None,
+        Act::QueueApc {
+            thread,
+            routine: _,
+            arg: _,
+        } => apc_refusal(objects, *thread),
         Act::ReleaseMutex(mutex) => unlock_refusal(objects, thread, *mutex),
         Act::SetEvent(event) | Act::ResetEvent(event) | Act::PulseEvent(event) => {
             if is_no_event(objects, *event) {

@@ -1,6 +1,7 @@
 //! The dispatcher for one thread: objects, waits, and the calls on them.
 #![tactic(auto)]
 
+mod apcs;
 mod call;
 mod calls;
 mod dispatcher;

@@ -12,6 +12,7 @@ ghost use Rattle.nt_core.specs.Accepts.{IsFresh};
 use crate::call::Grant;
 use crate::objects::running_threads;
 use crate::serving::try_wait;
+use nt_apc::ApcQueues;
 use nt_objects::Object;
 use nt_status::{Handle, Moment, Refusal, ThreadId};
 use nt_waits::WaitTable;
@@ -24,6 +25,7 @@ pub struct Machine {
     pub(crate) threads: u32,
     pub(crate) objects: Vec<Object>,
     pub(crate) waits: WaitTable,
+    pub(crate) apcs: ApcQueues,
     pub(crate) handing: Vec<bool>,
     pub(crate) moment: Moment,
     pub(crate) grants: Vec<Grant>,
@@ -39,7 +41,7 @@ impl Model for Machine {
 
     ghost coded = { Prim.hlevel (codes, waits_code) };
 
-    ghost view = { λ m. dispatcher_of m.threads m.objects.items m.waits m.handing.items m.moment m.grants.items };
+    ghost view = { λ m. dispatcher_of m.threads m.objects.items m.waits m.apcs m.handing.items m.moment m.grants.items };
 
     ghost invariant = { λ m. (m.threads ≤ 256) × (m.threads ≤ vec_capacity m.grants) };
 }
@@ -56,10 +58,12 @@ impl Machine {
         let count = threads as usize;
         let handing = vec![in alloc; false; count]?;
         let grants = Vec::with_capacity(alloc, count)?;
+        let apcs = ApcQueues::new(alloc, count)?;
         Ok(Machine {
             threads,
             objects: running_threads(alloc, count)?,
             waits: WaitTable::new(alloc),
+            apcs,
             handing,
             moment: Moment::ZERO,
             grants,

@@ -1,8 +1,9 @@
 //! How a thread's own wait begins.
-ghost use Rattle.std.specs.Prelude.{◌≡◌, ◌+◌, ◌<◌, [], None, true, false, OnOk, OnErr, IfOk, IfErr, is_some, IfSome, IfNone, length, slice_set};
+ghost use Rattle.std.specs.Prelude.{◌≡◌, ◌&&◌, ◌+◌, ◌<◌, [], None, true, false, OnOk, OnErr, IfOk, IfErr, is_some, IfSome, IfNone, length, slice_set};
 ghost use Rattle.std.specs.Option.{OnSome};
 ghost use Rattle.std.specs.FinMap as map;
 ghost use Rattle.nt_status.specs.declared.refusal.Refusal.TheVariants.{Memory};
+ghost use Rattle.nt_apc.specs.Queues.{has_apc};
 ghost use Rattle.nt_core.specs.State.{deadline_after, pending_too};
 ghost use Rattle.nt_core.specs.Dispatcher.{state};
 ghost use Rattle.nt_core.specs.Serving.{late_status, wait_for, fits, status, taken_by};
@@ -71,6 +72,15 @@ impl Machine {
         self.handing[thread.get() as usize] = may;
     }
 
+    /// Whether a wait of this thread, alertable or not, ends for its queued APCs.
+    pub(crate) fn is_alerted(&self, thread: ThreadId, alertable: bool) -> bool
+        requires sound { IsSound self.now }
+        requires known { thread < self.now.threads }
+        ensures { result ≡ (alertable && has_apc self.now.apcs.queues thread) }
+    {
+        alertable && !self.apcs.is_empty(thread)
+    }
+
     /// Where the objects satisfy the caller's wait, takes them, and answers its status.
     fn take_now(&mut self, thread: ThreadId, handles: &[Handle], all: bool) -> Option<Status>
         requires idle { map.get self.old.table.pending thread ≡ None }
@@ -112,6 +122,10 @@ impl Machine {
     {
         if let Some(status) = self.take_now(thread, handles, all) {
             return Ok(Reply::Status(status));
+        }
+        if self.is_alerted(thread, alertable) {
+            self.hand(thread, true);
+            return Ok(Reply::Status(Status::IO_COMPLETION));
         }
         if ms == 0 {
             self.hand(thread, false);

@@ -18,6 +18,6 @@ returns-clause-ok c =
     (λ handle. handle ≡ length old.objects)
     (c.create.new.self ≡ record old { objects = old.objects ++ c.new_event.result ∷ [] })
     (λ handle. Accepts old c.create.new.self c.args.thread (Call.Act (Act.CreateEvent c.args.flags)) (Reply.Handle handle))
-    (λ handle is becomes. created_accepted old c.create.new.self c.args.thread (event_of c.args.flags) (Call.Act (Act.CreateEvent c.args.flags)) handle c.requires.fresh tt refl refl (λ s. refl) (λ s. refl) is
+    (λ handle is becomes. created_accepted old c.create.new.self c.args.thread (event_of c.args.flags) (Call.Act (Act.CreateEvent c.args.flags)) handle c.requires.fresh tt refl refl refl (λ s. refl) (λ s. refl) is
     (becomes ∙ ap (λ (o : Object). record old { objects = old.objects ++ o ∷ [] }) made.event))
     c.create.result c.create.ensures.handle c.create.ensures.ok

@@ -12,7 +12,7 @@ use Rattle.nt_core.specs.declared.call.Call.{Call}
 use Rattle.nt_core.specs.declared.call.Reply.{Reply}
 use Rattle.nt_core.specs.Accepts.{IsServedAfter, Accepts}
 use Rattle.nt_core.proofs.Accepting.{ok_both}
-use Rattle.nt_core.proofs.Replacing.{created_accepted, mutex_undue, known_semaphore, known_mutex, owned_is_mutex, released_may_replace, released_differs, unlocked_may_replace, unlocked_differs, replaced_accepted}
+use Rattle.nt_core.proofs.Replacing.{created_accepted, mutex_undue, mutex_no_thread, known_semaphore, known_mutex, owned_is_mutex, released_may_replace, released_differs, unlocked_may_replace, unlocked_differs, replaced_accepted}
 use Rattle.nt_core.proofs.machine.Machine.create_mutex.Goals as goal
 
 pub returns-clause-ok : goal.returns-clause-ok
@@ -24,6 +24,6 @@ returns-clause-ok c =
     (c.create.new.self ≡ record old { objects = old.objects ++ c.new_mutex.result ∷ [] })
     (λ handle. Accepts old c.create.new.self c.args.thread (Call.Act (Act.CreateMutex c.args.flags)) (Reply.Handle handle))
     (λ handle is becomes. created_accepted old c.create.new.self c.args.thread (mutex_of c.args.flags c.args.thread) (Call.Act (Act.CreateMutex c.args.flags)) handle c.requires.fresh
-    (subst IsLawfulObject made.mutex made.lawful) (mutex_undue c.args.flags c.args.thread) refl (λ s. refl) (λ s. refl) is
+    (subst IsLawfulObject made.mutex made.lawful) (mutex_no_thread c.args.flags c.args.thread) (mutex_undue c.args.flags c.args.thread) refl (λ s. refl) (λ s. refl) is
     (becomes ∙ ap (λ (o : Object). record old { objects = old.objects ++ o ∷ [] }) made.mutex))
     c.create.result c.create.ensures.handle c.create.ensures.ok

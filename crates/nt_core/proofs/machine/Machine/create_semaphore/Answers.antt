@@ -31,6 +31,6 @@ returns-clause-ok c =
     (c.create.new.self ≡ record old { objects = old.objects ++ c.in-Ok.semaphore ∷ [] })
     (λ handle. Accepts old c.create.new.self c.args.thread (Call.Act (Act.CreateSemaphore c.args.initial c.args.maximum)) (Reply.Handle handle))
     (λ handle is becomes. created_accepted old c.create.new.self c.args.thread o (Call.Act (Act.CreateSemaphore c.args.initial c.args.maximum)) handle c.requires.fresh
-    (subst IsLawfulObject is_o made.lawful) refl refl (λ s. refl) (λ s. refl) is
+    (subst IsLawfulObject is_o made.lawful) refl refl refl (λ s. refl) (λ s. refl) is
     (becomes ∙ ap (λ (x : Object). record old { objects = old.objects ++ x ∷ [] }) is_o))
     c.create.result c.create.ensures.handle c.create.ensures.ok

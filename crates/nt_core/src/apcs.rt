@@ -1,0 +1,121 @@
+//! Calls on APCs, and the waits that end for them.
+ghost use Rattle.std.specs.Prelude.{◌≡◌, ◌<◌, ◌∷◌, ◌++◌, [], ℕ, None, IsTrue, OnOk, OnErr, length};
+ghost use Rattle.nt_core.specs.declared.call.Act.{Act};
+ghost use Rattle.nt_core.specs.declared.call.Call.{Call};
+ghost use Rattle.nt_core.specs.declared.call.Reply.{Reply};
+ghost use Rattle.nt_apc.specs.Queues.{pushed, taken, oldest, apc_of, queue_of};
+ghost use Rattle.nt_core.specs.Change.{may_take};
+ghost use Rattle.std.specs.FinMap as map;
+ghost use Rattle.nt_core.specs.State.{pends, wait_over};
+ghost use Rattle.nt_core.specs.Dispatcher.{state};
+ghost use Rattle.nt_core.specs.Serving.{IsAlerted, ending};
+ghost use Rattle.nt_core.specs.Lawful.{IsSound};
+ghost use Rattle.nt_core.specs.Accepts.{IsFresh, IsAlertedAfter, Accepts};
+
+use crate::call::Grant;
+use crate::machine::Machine;
+use nt_apc::Apc;
+use nt_status::{Handle, Status, ThreadId};
+use std::alloc::AllocError;
+
+impl Machine {
+    /// Where this thread's wait pends, is alertable and an APC is queued for it, ends the wait. The caller knows that no
+    /// other thread is to be alerted.
+    fn alert(&mut self, thread: ThreadId)
+        requires sound { IsSound self.old }
+        requires known { thread < self.old.threads }
+        requires alone { (t : ℕ) → IsAlerted (state self.old) t → t ≡ thread }
+        ensures alerted { IsAlertedAfter self.old self.new }
+        ensures sound { IsSound self.new }
+    {
+        let Some(about) = self.waits.about(thread) else {
+            return;
+        };
+        if !self.is_alerted(thread, about.alertable) {
+            return;
+        }
+        self.end_wait(thread, Status::IO_COMPLETION, true);
+    }
+
+    /// Ends this thread's pending wait with a status, and says whether it may take its APCs then.
+    pub(crate) fn end_wait(&mut self, thread: ThreadId, status: Status, may: bool)
+        requires sound { IsSound self.old }
+        requires pends { IsTrue (pends (state self.old) thread) }
+        ensures over { state self.new ≡ wait_over (state self.old) thread may }
+        ensures grants { self.new.grants ≡ self.old.grants ++ ending status thread ∷ [] }
+        ensures looked { self.new.table.looked ≡ self.old.table.looked }
+        ensures sound { IsSound self.new }
+    {
+        let _ended = self.waits.end(thread);
+        self.handing[thread.get() as usize] = may;
+        self.grants.push_reserved(Grant { thread, status });
+    }
+
+    /// Queues an APC. Where memory is refused nothing changes.
+    fn post(&mut self, target: ThreadId, apc: Apc) -> Result<(), AllocError>
+        requires { target < length self.old.apcs.queues }
+        ensures ok { OnOk result (self.new ≡ record self.old { apcs = record self.old.apcs { queues = pushed self.old.apcs.queues target (record { apc = apc; timer = None }) } }) }
+        ensures err { OnErr result (self.new ≡ self.old) }
+    {
+        self.apcs.push(target, apc)?;
+        Ok(())
+    }
+
+    /// QueueUserAPC: the APC stands last in the thread's queue, and an alertable wait of it ends.
+    pub(crate) fn queue_apc(
+        &mut self,
+        thread: ThreadId,
+        target: Handle,
+        routine: u64,
+        arg: u64,
+    ) -> Result<(), AllocError>
+        requires fresh { IsFresh self.old }
+        requires known { target < self.old.threads }
+        ensures ok { OnOk result (Accepts self.old self.new thread (Call.Act (Act.QueueApc target routine arg)) Reply.Done) }
+        ensures err { OnErr result (self.new ≡ self.old) }
+    {
+        let _ = thread;
+        let target = ThreadId::new(target.get() as u16);
+        let apc = Apc {
+            routine,
+            arg,
+            at: None,
+        };
+        self.post(target, apc)?;
+        self.alert(target);
+        Ok(())
+    }
+
+    /// Whether the thread may take an APC, and has one.
+    fn may_take(&self, thread: ThreadId) -> bool
+        requires sound { IsSound self.now }
+        requires known { thread < self.now.threads }
+        ensures { result ≡ may_take (state self.now) thread }
+    {
+        self.handing[thread.get() as usize] && !self.apcs.is_empty(thread)
+    }
+
+    /// Takes the thread's oldest APC.
+    fn take_apc(&mut self, thread: ThreadId) -> Option<Apc>
+        requires { thread < length self.old.apcs.queues }
+        ensures oldest { result ≡ apc_of (oldest (queue_of self.old.apcs.queues thread)) }
+        ensures taken { self.new ≡ record self.old { apcs = record self.old.apcs { queues = taken self.old.apcs.queues thread } } }
+    {
+        self.apcs.next(thread)
+    }
+
+    /// The caller's oldest APC, where its last ended wait ended for its APCs and it has not found none since.
+    pub(crate) fn next_apc(&mut self, thread: ThreadId) -> Option<Apc>
+        requires fresh { IsFresh self.old }
+        requires known { thread < self.old.threads }
+        requires idle { map.get self.old.table.pending thread ≡ None }
+        ensures { Accepts self.old self.new thread (Call.Act Act.NextApc) (Reply.Apc result) }
+    {
+        if self.may_take(thread) {
+            self.take_apc(thread)
+        } else {
+            self.hand(thread, false);
+            None
+        }
+    }
+}
