@@ -1,5 +1,5 @@
 -- From the parts of an accepted call to the whole.
-use Rattle.std.proofs.Common.{◌≡◌, ◌≢◌, ◌<◌, ◌≤◌, ℕ, zero, suc, ◌+◌, Bool, true, false, cond, not, ◌&&◌, List, [], ◌∷◌, ◌++◌, length, refl, sym, ap, ◌∙◌, subst, arith, Option, Some, None, inl, inr, ◌⊎◌, map}
+use Rattle.std.proofs.Common.{◌≡◌, ◌<◌, ◌≤◌, ℕ, zero, suc, Bool, true, false, cond, List, [], ◌∷◌, length, refl, sym, ap, ◌∙◌, subst, arith, Option, Some, None, inl, inr}
 use Rattle.std.specs.Prelude.{slice_index, replicate}
 use Rattle.std.specs.List.{filter}
 use Rattle.std.specs.FinMap as fin
@@ -15,13 +15,13 @@ use Rattle.nt_core.specs.declared.call.Call.{Call}
 use Rattle.nt_core.specs.declared.call.Reply.{Reply}
 use Rattle.nt_core.specs.declared.call.Grant.{Grant}
 use Rattle.nt_core.specs.Rising.{AreRising}
-use Rattle.nt_core.specs.State.{State, object_at, pending_no_more}
+use Rattle.nt_core.specs.State.{State, object_at}
 use Rattle.nt_core.specs.Dispatcher.{Dispatcher, state}
-use Rattle.nt_core.specs.Serving.{is_due, satisfied, granted, take_at, take_each, objects_taken, least, IsChanged, sequence, Grants, IsServed, Serve, IsAlerted, Alert}
+use Rattle.nt_core.specs.Serving.{satisfied, granted, take_at, take_each, objects_taken, least, IsChanged, Grants, Serve, IsAlerted, Alert}
 use Rattle.nt_core.specs.Change.{change}
-use Rattle.nt_core.specs.Steps.{Step, IsAwaited, NothingDue, after_serving, answered}
-use Rattle.nt_core.specs.Lawful.{IsSound, IsSettled, IsLawful}
-use Rattle.nt_core.specs.Accepts.{is_by_objects, IsLocal, IsFresh, IsServedAfter, Accepts}
+use Rattle.nt_core.specs.Steps.{IsAwaited, NothingDue, after_serving, answered}
+use Rattle.nt_core.specs.Lawful.{IsSettled, IsLawful}
+use Rattle.nt_core.specs.Accepts.{is_by_objects, IsFresh, IsServedAfter, Accepts}
 use Rattle.std.proofs.Common.{◌||◌, is_some, ◌==◌, nat_lt}
 use Rattle.std.specs.Prelude.{nat_le, nat_eq, Result, Ok, Err, IfOk, OnOk}
 use Rattle.std.specs.List.{list_any, IsDistinct, AllByRecursion}

@@ -1,5 +1,5 @@
 -- Waits that end for an APC.
-use Rattle.std.proofs.Common.{◌≡◌, ◌≢◌, ◌<◌, ◌≤◌, ℕ, zero, suc, ◌+◌, Bool, true, false, not, ◌&&◌, List, [], ◌∷◌, ◌++◌, length, length-append, set, refl, sym, ap, ◌∙◌, subst, arith, Option, Some, None, is_some, inl, inr, ◌⊎◌, map}
+use Rattle.std.proofs.Common.{◌≡◌, ◌≢◌, ◌<◌, ◌≤◌, ℕ, ◌+◌, Bool, true, false, ◌&&◌, List, [], ◌∷◌, ◌++◌, length, length-append, set, refl, sym, ap, ◌∙◌, subst, arith, Option, Some, None, is_some, inl, inr, ◌⊎◌, map}
 use Rattle.std.specs.List.{filter, list_any}
 use Rattle.std.specs.Option.{option_map}
 use Rattle.nt_waits.specs.declared.wait.About.{About}
@@ -18,15 +18,14 @@ use Rattle.nt_core.specs.declared.call.Call.{Call}
 use Rattle.nt_core.specs.declared.call.Act.{Act}
 use Rattle.nt_core.specs.declared.call.Reply.{Reply}
 use Rattle.nt_core.specs.declared.call.Grant.{Grant}
-use Rattle.nt_core.specs.Rising.{AreRising}
 use Rattle.nt_core.specs.State.{State, pends, wait_over, waits_over, object_at}
 use Rattle.nt_core.specs.Dispatcher.{Dispatcher, state}
-use Rattle.nt_core.specs.Serving.{is_due, satisfied, IsServed, IsAlerted, Alert, ending}
+use Rattle.nt_core.specs.Serving.{satisfied, IsServed, IsAlerted, Alert, ending}
 use Rattle.nt_core.specs.Steps.{NothingDue, IsAwaited}
 use Rattle.nt_core.specs.Lawful.{IsSound, IsSettled, IsLawful}
 use Rattle.nt_core.specs.Accepts.{is_by_objects, IsAlertedAfter, IsFresh, Accepts}
-use Rattle.nt_core.proofs.Walks.{get_removed, get_same, get_other}
-use Rattle.nt_core.proofs.Visiting.{state_same, len_removed, room_for}
+use Rattle.nt_core.proofs.Walks.{get_removed}
+use Rattle.nt_core.proofs.Visiting.{state_same, len_removed}
 use Rattle.nt_core.proofs.Changing.{none_changed, same_changed}
 use Rattle.nt_core.proofs.Accepting.{IsCalm, accepted}
 use Rattle.nt_core.proofs.Replacing.{idle_served}

@@ -1,6 +1,6 @@
 -- A wait that begins.
-use Rattle.std.proofs.Common.{◌≡◌, ◌≢◌, ℕ, zero, suc, ◌+◌, ◌≤◌, ◌<◌, ◌-◌, Bool, true, false, cond, not, ◌&&◌, ◌||◌, List, [], ◌∷◌, ◌++◌, length, length-append, get_or, set, refl, sym, ap, ◌∙◌, subst, arith, Option, Some, None, is_some, inl, inr, ◌⊎◌, T, map, eqb, ◌==◌}
-use Rattle.std.specs.Prelude.{replicate, slice_index, if◌then◌else◌}
+use Rattle.std.proofs.Common.{◌≡◌, ◌≢◌, ℕ, zero, suc, ◌+◌, ◌≤◌, ◌<◌, ◌-◌, Bool, true, false, ◌&&◌, ◌||◌, List, [], ◌∷◌, ◌++◌, length, set, refl, sym, ap, ◌∙◌, subst, arith, Option, Some, None, is_some, inl, inr, ◌⊎◌, T, map, ◌==◌}
+use Rattle.std.specs.Prelude.{slice_index, if◌then◌else◌}
 use Rattle.std.specs.List.{list_any}
 use Rattle.std.specs.Ordering.{nat_cmp, eq_by_cmp, is_lt, MatchOrdering}
 use Rattle.std.specs.declared.cmp.Ordering.{Ordering}
@@ -8,22 +8,21 @@ use Rattle.std.specs.declared.cmp.Ordering.TheVariants.{Less, Equal, Greater}
 use Rattle.std.specs.Cmp.{nat_cmp_total, ranks, unsigned_tied}
 use Rattle.std.specs.FinMap as fin
 use Rattle.std.specs.FinMap.Entries.{is_sorted, below_all}
-use Rattle.std.proofs.lemmas.Bool.{cases_eq, false≢true, eqb-true, eq-eqb}
+use Rattle.std.proofs.lemmas.Bool.{false≢true, eqb-true, eq-eqb}
 use Rattle.std.proofs.lemmas.Bool.Decides.{nat_tests}
 use Rattle.nt_waits.specs.declared.wait.Wait.{Wait}
 use Rattle.nt_waits.specs.Waits.{Waits, queue_of, Agrees, Names}
-use Rattle.nt_core.specs.State.{State, Pending, names, pending_too}
+use Rattle.nt_core.specs.State.{Pending, names, pending_too}
 use Rattle.nt_core.specs.Dispatcher.{Dispatcher, state}
 use Rattle.nt_core.specs.Lawful.{IsSoundWait, IsSound}
 use Rattle.std.proofs.lemmas.List.{length-set}
-use Rattle.nt_status.specs.Status.{io_completion_code, infinite}
+use Rattle.nt_status.specs.Status.{infinite}
 use Rattle.nt_apc.specs.Queues.{has_apc}
 use Rattle.nt_objects.specs.declared.object.Object.{Object}
 use Rattle.nt_objects.specs.Object.{due_of, units}
-use Rattle.nt_core.specs.declared.call.Reply.{Reply}
-use Rattle.nt_core.specs.State.{object_at, with_handing, deadline_after}
-use Rattle.nt_core.specs.Serving.{fits, is_ready, is_sleep, satisfied, is_due, taken_by, late_status, IsTried}
-use Rattle.nt_core.specs.Steps.{begun, IsAwaited}
+use Rattle.nt_core.specs.State.{object_at, deadline_after}
+use Rattle.nt_core.specs.Serving.{fits, is_ready, satisfied, is_due, IsTried}
+use Rattle.nt_core.specs.Steps.{IsAwaited}
 use Rattle.nt_core.specs.Lawful.{IsSettled, IsLawful}
 use Rattle.nt_core.proofs.Taking.{unready_after}
 use Rattle.nt_core.proofs.Keeping.{TakesWell, objects_taken_well}

@@ -1,24 +1,22 @@
 -- What changes where objects are changed, and what then stays true.
-use Rattle.std.proofs.Common.{◌≡◌, ◌≢◌, ◌<◌, ◌≤◌, ℕ, zero, suc, ◌+◌, Bool, true, false, cond, not, ◌&&◌, ◌||◌, List, [], ◌∷◌, ◌++◌, length, length-append, get_or, set, refl, sym, ap, ◌∙◌, subst, arith, Option, Some, None, inl, inr, ◌⊎◌, map}
-use Rattle.std.specs.Prelude.{slice_index, replicate}
+use Rattle.std.proofs.Common.{◌≡◌, ◌≢◌, ◌<◌, ℕ, zero, suc, Bool, true, false, not, ◌&&◌, List, [], ◌∷◌, ◌++◌, length, length-append, get_or, set, refl, sym, ap, ◌∙◌, subst, arith, Option, Some, None, inl, inr, ◌⊎◌}
 use Rattle.std.specs.List.{list_any, list_all, flat_map}
 use Rattle.std.specs.FinMap as fin
-use Rattle.std.specs.Ordering.{nat_cmp}
 use Rattle.std.proofs.lemmas.Bool.{cases_eq, false≢true}
 use Rattle.std.proofs.lemmas.List.{get_or-set_other, length-set}
 use Rattle.nt_waits.specs.declared.wait.Wait.{Wait}
-use Rattle.nt_waits.specs.Waits.{IsMember, Names, Agrees}
+use Rattle.nt_waits.specs.Waits.{IsMember}
 use Rattle.nt_objects.specs.declared.object.Object.{Object}
-use Rattle.nt_objects.specs.declared.object.Object.TheVariants.{Event, Semaphore, Mutex, Timer, Thread}
-use Rattle.nt_objects.specs.Object.{signaled, is_event, is_thread, has_ended, has_room, owned_by, due_of, with_set, IsLawfulObject}
+use Rattle.nt_objects.specs.declared.object.Object.TheVariants.{Thread}
+use Rattle.nt_objects.specs.Object.{signaled, is_event, is_thread, has_ended, has_room, owned_by, due_of, IsLawfulObject}
 use Rattle.nt_core.specs.Rising.{AreRising}
-use Rattle.nt_core.specs.State.{State, object_at, with_object, Pending}
+use Rattle.nt_core.specs.State.{State, object_at}
 use Rattle.nt_core.specs.Dispatcher.{Dispatcher, state}
 use Rattle.nt_core.specs.Refusals.{is_at_limit}
-use Rattle.nt_core.specs.Serving.{is_ready, is_sleep, fits, satisfied, is_due, IsChanged, sequence, IsServed, IsAlerted}
+use Rattle.nt_core.specs.Serving.{is_ready, fits, satisfied, is_due, IsChanged, sequence, IsServed}
 use Rattle.nt_core.specs.Visits.{FitOnlyIn}
-use Rattle.nt_core.specs.Steps.{IsAwaited, NothingDue}
-use Rattle.nt_core.specs.Lawful.{IsSoundWait, IsSound, IsSettled, IsLawful, MayReplace}
+use Rattle.nt_core.specs.Steps.{NothingDue}
+use Rattle.nt_core.specs.Lawful.{IsSound, MayReplace}
 use Rattle.nt_core.proofs.Taking.{fits_kept}
 
 -- ---- one object among the others

@@ -1,6 +1,5 @@
 -- Calls that exchange one object, and serve the waits on it.
-use Rattle.std.proofs.Common.{◌≡◌, ◌≢◌, ◌<◌, ◌≤◌, ◌^◌, ℕ, zero, suc, ◌+◌, Bool, true, false, cond, not, ◌&&◌, List, [], ◌∷◌, ◌++◌, length, length-append, set, refl, sym, ap, ◌∙◌, subst, arith, inl, inr, ◌⊎◌, Some, None}
-use Rattle.std.specs.List.{filter, flat_map}
+use Rattle.std.proofs.Common.{◌≡◌, ◌≢◌, ◌<◌, ◌≤◌, ◌^◌, ℕ, zero, suc, ◌+◌, Bool, true, false, ◌&&◌, List, [], ◌∷◌, ◌++◌, length, set, refl, sym, ap, ◌∙◌, subst, arith, inl, inr, ◌⊎◌, Some, None}
 use Rattle.std.proofs.lemmas.Bool.{cases_eq, false≢true}
 use Rattle.std.proofs.lemmas.List.{append-nil}
 use Rattle.std.proofs.lemmas.Bool.Decides.{nat_tests}
@@ -20,11 +19,11 @@ use Rattle.nt_core.specs.Rising.{AreRising}
 use Rattle.nt_core.specs.State.{State, object_at, with_object}
 use Rattle.nt_core.specs.Dispatcher.{Dispatcher, state}
 use Rattle.nt_core.specs.declared.call.Grant.{Grant}
-use Rattle.nt_core.specs.Serving.{is_ready, IsChanged, sequence, IsServed, Serve, Grants, granted}
+use Rattle.nt_core.specs.Serving.{is_ready, IsChanged, sequence, Serve, Grants, granted}
 use Rattle.nt_core.specs.Change.{change, at, created}
-use Rattle.nt_core.specs.Steps.{Step, after_serving, answered, NothingDue}
+use Rattle.nt_core.specs.Steps.{after_serving, answered}
 use Rattle.nt_core.specs.Visits.{FitOnlyIn}
-use Rattle.nt_core.specs.Lawful.{IsSound, IsSettled, IsLawful, MayReplace}
+use Rattle.nt_core.specs.Lawful.{IsSound, IsLawful, MayReplace}
 use Rattle.nt_core.specs.Accepts.{IsFresh, IsServedAfter, Accepts}
 use Rattle.nt_core.proofs.Changing.{ChangedOnlyAt, one_changed, same_changed, fit_only_in, changed_at_one, sound_replaced, served_fewer, due_replaced, none_created, sound_created, served_unchanged, object_at-append, due_kept, known_event, known_object, set_as_before, object_at-set_same}
 use Rattle.nt_core.proofs.Accepting.{accepted, settled_after, reading_taken_by}

@@ -1,17 +1,13 @@
 -- What taking and granting keep.
-use Rattle.std.proofs.Common.{◌≡◌, ℕ, zero, suc, Bool, true, false, cond, not, ◌&&◌, ◌||◌, List, [], ◌∷◌, length, refl, sym, ap, ◌∙◌, subst, arith, Option, Some, None, T, eqb, is_some, ◌==◌}
-use Rattle.std.specs.Prelude.{pos, ◌-ℤ◌, ◌<ℤ◌, ◌≤ℤ◌, slice_index}
-use Rattle.std.specs.Int.Signed.{lt_z_yes, lt_z_no, lt_z}
-use Rattle.std.proofs.lemmas.Int.{ints}
+use Rattle.std.proofs.Common.{◌≡◌, ℕ, zero, suc, Bool, true, false, cond, not, ◌&&◌, ◌||◌, List, [], ◌∷◌, refl, Option, Some, None, is_some}
+use Rattle.std.specs.Prelude.{slice_index}
 use Rattle.std.specs.List.{list_any, list_all}
 use Rattle.std.specs.Ordering.{nat_cmp, eq_by_cmp}
 use Rattle.std.specs.Cmp.{nat_cmp_total}
 use Rattle.std.specs.FinMap as map
 use Rattle.nt_waits.specs.declared.wait.Wait.{Wait}
 use Rattle.nt_objects.specs.declared.object.Object.{Object}
-use Rattle.nt_objects.specs.declared.object.Object.TheVariants.{Event, Semaphore, Mutex, Timer, Thread}
-use Rattle.nt_objects.specs.Object.{signaled, taken}
-use Rattle.nt_core.specs.State.{State, Pending, object_at, pends}
+use Rattle.nt_core.specs.State.{State, Pending, pends}
 use Rattle.nt_objects.proofs.Taking.{unsignaled_taken}
 use Rattle.nt_core.specs.Serving.{is_ready, is_sleep, fits, least, take_at, take_each, objects_taken, granted, satisfied, is_due}
 

@@ -1,5 +1,5 @@
 -- What was tried, from what each way of waiting does.
-use Rattle.std.proofs.Common.{◌≡◌, ◌≢◌, ℕ, zero, suc, ◌++◌, ◌+◌, ◌<◌, ◌≤◌, Bool, true, false, cond, not, ◌&&◌, eqb, List, [], ◌∷◌, length, get_or, refl, sym, ap, ◌∙◌, Option, Some, None}
+use Rattle.std.proofs.Common.{◌≡◌, ◌≢◌, ℕ, zero, suc, ◌++◌, ◌<◌, true, false, eqb, List, [], ◌∷◌, length, get_or, refl, sym, ap, ◌∙◌, Some}
 use Rattle.std.specs.List.{list_any, list_all, IsDistinct}
 use Rattle.std.specs.Prelude.{nat_eq}
 use Rattle.std.proofs.lemmas.Bool.{eq-eqb, false≢true}
@@ -8,7 +8,7 @@ use Rattle.nt_waits.specs.declared.wait.Wait.{Wait}
 use Rattle.nt_objects.specs.declared.object.Object.{Object}
 use Rattle.nt_objects.specs.Object.{signaled}
 use Rattle.nt_core.specs.State.{object_at}
-use Rattle.nt_core.specs.Serving.{is_ready, has_mark, fits, least, status, status_at, take_at, take_each, objects_taken, IsTried}
+use Rattle.nt_core.specs.Serving.{is_ready, has_mark, least, status, status_at, take_at, take_each, IsTried}
 
 pub tried_any : (old new : List Object) (t : ℕ) (w : Wait) (ended : ℕ) → w.all ≡ false → list_any (is_ready old t) w.handles ≡ true → ended ≡ status_at (has_mark old (get_or w.handles (least old t w) 0)) (least old t w) → new ≡ take_at old t (get_or w.handles (least old t w) 0) → IsTried old new t w (Some ended)
 tried_any old new t w ended any ready status taken = (rw any ready, status ∙ rw any refl, taken ∙ rw any refl)

@@ -1,26 +1,24 @@
 -- What one visit does, from what the code of it says.
-use Rattle.std.proofs.Common.{◌≡◌, ◌≢◌, ℕ, ◌+◌, ◌≤◌, ◌<◌, ◌-◌, ◌^◌, Bool, true, false, List, [], ◌∷◌, ◌++◌, length, length-append, set, get_or, refl, sym, ap, ◌∙◌, subst, arith, Option, Some, None, is_some}
-use Rattle.std.specs.Prelude.{min}
+use Rattle.std.proofs.Common.{◌≡◌, ◌≢◌, ℕ, ◌+◌, ◌<◌, ◌-◌, ◌^◌, Bool, true, false, List, [], ◌∷◌, ◌++◌, length, length-append, set, refl, sym, ap, ◌∙◌, subst, arith, Option, Some, None, is_some}
 use Rattle.std.proofs.lemmas.List.{length-set}
 use Rattle.std.proofs.lemmas.Bool.{false≢true}
 use Rattle.std.specs.Ordering.{nat_cmp}
 use Rattle.std.specs.Cmp.{nat_cmp_total}
 use Rattle.std.specs.FinMap as map
 use Rattle.nt_waits.specs.declared.wait.Wait.{Wait}
-use Rattle.nt_waits.specs.Waits.{Waits, queue_of, others, Agrees, counted_once, Names}
+use Rattle.nt_waits.specs.Waits.{Waits, queue_of, others, Agrees, counted_once}
 use Rattle.nt_objects.specs.declared.object.Object.{Object}
 use Rattle.nt_core.specs.declared.call.Grant.{Grant}
-use Rattle.nt_core.specs.State.{State, Pending, pends, object_at}
+use Rattle.nt_core.specs.State.{State, Pending, object_at}
 use Rattle.nt_core.specs.Dispatcher.{Dispatcher, state}
-use Rattle.nt_core.specs.Serving.{fits, satisfied, grant_of, granted, status, IsTried, CanTake, is_ready}
-use Rattle.nt_core.specs.Refusals.{is_at_limit}
+use Rattle.nt_core.specs.Serving.{fits, satisfied, granted, IsTried, CanTake}
 use Rattle.nt_core.specs.Visits.{IsVisited}
 use Rattle.nt_core.specs.Lawful.{IsSoundWait, IsSound}
 use Rattle.nt_objects.specs.Object.{has_room, signaled, owned_by, IsLawfulObject}
 use Rattle.nt_objects.specs.declared.object.Object.TheVariants.{Event, Semaphore, Mutex, Timer, Thread}
 use Rattle.std.proofs.lemmas.Bool.Decides.{nat_tests}
 use Rattle.std.specs.Prelude.{slice_index}
-use Rattle.std.proofs.Common.{not, ◌&&◌, nat_lt, inl, inr}
+use Rattle.std.proofs.Common.{not, ◌&&◌, inl, inr}
 use Rattle.nt_core.proofs.Keeping.{TakesWell, objects_taken_well}
 use Rattle.nt_core.proofs.Walks.{get_removed}
 

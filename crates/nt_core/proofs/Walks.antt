@@ -1,5 +1,5 @@
 -- Visits one after another.
-use Rattle.std.proofs.Common.{◌≡◌, ◌≢◌, ℕ, zero, suc, ◌+◌, ◌-◌, ◌≤◌, ◌<◌, Bool, true, false, cond, eqb, List, [], ◌∷◌, ◌++◌, length, length-append, get_or, take, append_assoc, refl, sym, ap, ◌∙◌, subst, arith, Option, Some, None, is_some, inl, inr, ◌⊎◌}
+use Rattle.std.proofs.Common.{◌≡◌, ◌≢◌, ℕ, suc, ◌+◌, ◌≤◌, ◌<◌, Bool, true, false, eqb, List, [], ◌∷◌, ◌++◌, length, length-append, get_or, take, append_assoc, refl, sym, ap, ◌∙◌, subst, arith, Option, Some, None, is_some, inl, inr, ◌⊎◌}
 use Rattle.std.specs.List.{find, filter}
 use Rattle.std.specs.Prelude.{slice_get}
 use Rattle.std.specs.Ordering.{nat_cmp, eq_by_cmp}
@@ -11,13 +11,12 @@ use Rattle.std.proofs.lemmas.List.Folds.{length-flat_map-take}
 use Rattle.std.proofs.lemmas.Grind.{flat_map-append}
 use Rattle.std.proofs.lemmas.Bool.Decides.{nat_tests}
 use Rattle.nt_waits.specs.declared.wait.Wait.{Wait}
-use Rattle.nt_waits.specs.Waits.{IsMember, AreOnce, others, next_after, Names, Agrees}
+use Rattle.nt_waits.specs.Waits.{IsMember, AreOnce, others, next_after, Agrees}
 use Rattle.nt_core.specs.declared.call.Grant.{Grant}
-use Rattle.nt_objects.specs.declared.object.Object.{Object}
 use Rattle.nt_core.specs.State.{State, Pending, pends}
 use Rattle.nt_core.specs.Dispatcher.{Dispatcher, state}
-use Rattle.nt_core.specs.Serving.{is_due, IsDue, satisfied, granted, grant_of, Grants, IsServed, Serve, sequence, IsTried, fits}
-use Rattle.nt_core.specs.Visits.{IsGranted, IsPassed, IsVisited, Visits, FitOnlyIn}
+use Rattle.nt_core.specs.Serving.{is_due, IsDue, satisfied, granted, grant_of, Grants, IsServed, Serve, sequence}
+use Rattle.nt_core.specs.Visits.{IsVisited, Visits, FitOnlyIn}
 use Rattle.nt_core.specs.Lawful.{IsSound}
 use Rattle.nt_core.proofs.Taking.{undue_granted, idle_granted, undue_idle}
 use Rattle.nt_core.proofs.Orders.{find_before, find_after, find_none_kept, find_none_member, find-filter, filter-filter, filter_whole, length-filter-le}

@@ -1,5 +1,5 @@
 -- What every call and tick leaves true.
-use Rattle.std.specs.Prelude.{◌≡◌, ◌↔◌, ℕ, ◌<◌, ◌≤◌, ◌+◌, Bool, true, false, not, ◌&&◌, List, [], ◌∷◌, length, slice_index_or, IsTrue, Some, nat_eq}
+use Rattle.std.specs.Prelude.{◌≡◌, ◌↔◌, ℕ, ◌<◌, ◌≤◌, ◌+◌, true, false, not, ◌&&◌, List, [], length, slice_index_or, IsTrue, Some, nat_eq}
 use Rattle.std.specs.FinMap as map
 use Rattle.std.specs.FinMap.{get}
 use Rattle.nt_objects.specs.declared.object.Object.{Object}
@@ -7,9 +7,7 @@ use Rattle.nt_objects.specs.Object.{IsLawfulObject, owned_by, has_room, has_ende
 use Rattle.nt_waits.specs.declared.wait.Wait.{Wait}
 use Rattle.nt_waits.specs.Waits.{IsMember, AreOnce, Names, Agrees}
 use Rattle.std.specs.List.{IsDistinct}
-use Rattle.nt_apc.specs.Queues.{has_apc}
-use Rattle.nt_core.specs.declared.call.Grant.{Grant}
-use Rattle.nt_core.specs.State.{State, Pending, object_at}
+use Rattle.nt_core.specs.State.{State, object_at}
 use Rattle.nt_core.specs.Serving.{IsServed, IsAlerted}
 use Rattle.nt_core.specs.Refusals.{is_at_limit, wait_limit}
 use Rattle.nt_core.specs.Steps.{NothingDue}

@@ -10,3 +10,4 @@ pub mod Runs
 pub mod Dispatcher
 pub mod Lawful
 pub mod Accepts
+pub mod Laws

@@ -1,5 +1,5 @@
 -- When a call is refused: the first cause that holds is the answer.
-use Rattle.std.specs.Prelude.{◌≡◌, ℕ, ◌+◌, ℤ, pos, Bool, true, false, not, ◌&&◌, ◌||◌, nat_le, nat_lt, int_lt, int_le, List, [], ◌∷◌, length, if◌then◌else◌, ◌==◌, IsTrue, MatchOption}
+use Rattle.std.specs.Prelude.{◌≡◌, ℕ, ℤ, pos, Bool, false, not, ◌&&◌, ◌||◌, nat_le, nat_lt, int_lt, int_le, List, [], ◌∷◌, length, if◌then◌else◌, ◌==◌, IsTrue, MatchOption}
 use Rattle.std.specs.List.{list_any}
 use Rattle.std.specs.declared.option.Option.{Option}
 use Rattle.std.specs.declared.option.Option.TheVariants.{None, Some}

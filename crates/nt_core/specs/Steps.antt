@@ -1,14 +1,13 @@
 -- The steps of the machine.
-use Rattle.std.specs.Prelude.{◌≡◌, ◌⊎◌, ℕ, ◌≤◌, ◌<◌, Bool, true, false, ◌&&◌, List, [], ◌∷◌, ◌++◌, if◌then◌else◌, ◌==◌}
+use Rattle.std.specs.Prelude.{◌≡◌, ◌⊎◌, ℕ, ◌≤◌, ◌<◌, true, false, ◌&&◌, List, [], ◌∷◌, ◌++◌, if◌then◌else◌, ◌==◌}
 use Rattle.std.specs.FinMap.{get}
-use Rattle.std.specs.declared.option.Option.{Option}
 use Rattle.std.specs.declared.option.Option.TheVariants.{None, Some}
 use Rattle.std.specs.declared.result.Result.{Result}
 use Rattle.std.specs.declared.result.Result.TheVariants.{Ok, Err}
 use Rattle.nt_status.specs.declared.refusal.Refusal.{Refusal}
 use Rattle.nt_status.specs.declared.refusal.Refusal.TheVariants.{MomentBack}
 use Rattle.nt_status.specs.Status.{io_completion_code}
-use Rattle.nt_objects.specs.Object.{with_set, due_of}
+use Rattle.nt_objects.specs.Object.{with_set}
 use Rattle.nt_waits.specs.declared.wait.Wait.{Wait}
 use Rattle.nt_apc.specs.Queues.{has_apc}
 use Rattle.nt_core.specs.declared.call.Call.{Call}
@@ -18,7 +17,7 @@ use Rattle.nt_core.specs.declared.call.Reply.{Reply}
 use Rattle.nt_core.specs.declared.call.Grant.{Grant}
 use Rattle.nt_core.specs.Calls.{timeout_of}
 use Rattle.nt_core.specs.Rising.{AreRising}
-use Rattle.nt_core.specs.State.{State, object_at, with_handing, pending_too, deadline_after}
+use Rattle.nt_core.specs.State.{State, with_handing, pending_too, deadline_after}
 use Rattle.nt_core.specs.Serving.{fits, status, taken_by, IsChanged, sequence, Serve, Alert, TimeOut, late_status, is_sleep}
 use Rattle.nt_core.specs.Change.{at, change, act_reply, all_expired, IsTimerDue}
 use Rattle.nt_core.specs.Refusals.{refusal, IsRefusal}

@@ -7,6 +7,7 @@ mod calls;
 mod dispatcher;
 mod events;
 mod judge;
+mod laws;
 mod machine;
 mod mutexes;
 mod objects;
@@ -18,3 +19,4 @@ mod waiting;
 
 pub use call::{Act, Call, Grant, Reply, WaitCall};
 pub use dispatcher::Core;
+pub use laws::serves_one_way;

@@ -1,6 +1,6 @@
-use Rattle.std.proofs.Common.{◌≡◌, ◌≢◌, ◌<◌, ◌≤◌, ◌+◌, ℕ, get_or, take, true, length, arith, sym, ap, ◌∙◌}
+use Rattle.std.proofs.Common.{◌≡◌, ◌≢◌, ◌<◌, ◌+◌, get_or, take, length, arith, sym, ap, ◌∙◌}
 use Rattle.std.proofs.lemmas.List.{take_more, get_or_read}
-use Rattle.nt_core.specs.Serving.{is_ready, take_at, take_each}
+use Rattle.nt_core.specs.Serving.{take_at, take_each}
 use Rattle.nt_objects.specs.Object.{has_room}
 use Rattle.nt_core.proofs.Tries.{take_each_more, ready_other, object_taken_other, differ}
 use Rattle.nt_core.proofs.serving.take_each.Goals as goal

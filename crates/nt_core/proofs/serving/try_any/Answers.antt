@@ -1,7 +1,7 @@
-use Rattle.std.proofs.Common.{◌≡◌, sym, ap, ◌∙◌, refl, get_or, false, List, ℕ, cond}
+use Rattle.std.proofs.Common.{◌≡◌, sym, ap, ◌∙◌, refl, get_or, false}
 use Rattle.std.specs.List.{position, position_or_len}
 use Rattle.nt_core.specs.Serving.{is_ready, take_at, fits, status_at, has_mark, wait_for}
-use Rattle.nt_core.proofs.Ready.{FirstPass, first_pass, no_position, item_at}
+use Rattle.nt_core.proofs.Ready.{first_pass, no_position, item_at}
 use Rattle.std.proofs.lemmas.List.{get_or_read}
 use Rattle.nt_core.proofs.Tries.{tried_any}
 use Rattle.nt_core.proofs.serving.try_any.Goals as goal

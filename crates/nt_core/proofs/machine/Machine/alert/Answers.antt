@@ -1,8 +1,7 @@
-use Rattle.std.proofs.Common.{◌≡◌, ◌&&◌, None, Some, true, false, sym, ap, ◌∙◌, subst}
+use Rattle.std.proofs.Common.{sym, ap, ◌∙◌}
 use Rattle.std.specs.Option.{option_map}
 use Rattle.std.specs.FinMap as fin
 use Rattle.nt_waits.specs.Waits.{about_of}
-use Rattle.nt_apc.specs.Queues.{has_apc}
 use Rattle.nt_core.specs.Dispatcher.{Dispatcher, state}
 use Rattle.nt_core.proofs.Alerting.{calm_idle, calm_quiet, alerted_here, none_alerted, one_alerted}
 use Rattle.nt_core.proofs.machine.Machine.alert.Goals as goal

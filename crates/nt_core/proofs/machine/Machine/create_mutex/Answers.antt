@@ -1,18 +1,12 @@
-use Rattle.std.proofs.Common.{◌≡◌, ◌≢◌, ℕ, ◌∷◌, [], ◌++◌, length, refl, sym, ap, ◌∙◌, subst, true, false}
-use Rattle.std.specs.Prelude.{pos, ◌<ℤ◌}
+use Rattle.std.proofs.Common.{◌≡◌, ◌∷◌, [], ◌++◌, length, refl, ap, ◌∙◌, subst}
 use Rattle.nt_objects.specs.declared.object.Object.{Object}
-use Rattle.nt_objects.specs.declared.object.Object.TheVariants.{Semaphore}
-use Rattle.nt_objects.specs.Object.{mutex_of, released, unlocked, is_semaphore, is_mutex, owned_by, count_of, IsLawfulObject}
-use Rattle.nt_core.specs.State.{State, object_at}
-use Rattle.nt_core.specs.Dispatcher.{Dispatcher, state}
-use Rattle.nt_core.specs.Change.{at}
-use Rattle.nt_core.specs.Lawful.{MayReplace}
+use Rattle.nt_objects.specs.Object.{mutex_of, IsLawfulObject}
 use Rattle.nt_core.specs.declared.call.Act.{Act}
 use Rattle.nt_core.specs.declared.call.Call.{Call}
 use Rattle.nt_core.specs.declared.call.Reply.{Reply}
-use Rattle.nt_core.specs.Accepts.{IsServedAfter, Accepts}
+use Rattle.nt_core.specs.Accepts.{Accepts}
 use Rattle.nt_core.proofs.Accepting.{ok_both}
-use Rattle.nt_core.proofs.Replacing.{created_accepted, mutex_undue, mutex_no_thread, known_semaphore, known_mutex, owned_is_mutex, released_may_replace, released_differs, unlocked_may_replace, unlocked_differs, replaced_accepted}
+use Rattle.nt_core.proofs.Replacing.{created_accepted, mutex_undue, mutex_no_thread}
 use Rattle.nt_core.proofs.machine.Machine.create_mutex.Goals as goal
 
 pub returns-clause-ok : goal.returns-clause-ok

@@ -1,5 +1,5 @@
-use Rattle.std.proofs.Common.{ℕ, set, sym, subst}
-use Rattle.nt_core.specs.Dispatcher.{Dispatcher, dispatcher_of}
+use Rattle.std.proofs.Common.{sym, subst}
+use Rattle.nt_core.specs.Dispatcher.{dispatcher_of}
 use Rattle.nt_core.specs.Lawful.{IsLawful}
 use Rattle.nt_core.proofs.Beginning.{handed_lawful}
 use Rattle.nt_core.proofs.machine.Machine.hand.Goals as goal

@@ -1,7 +1,6 @@
-use Rattle.std.proofs.Common.{◌≡◌, ◌≤◌, sym, ap, ◌∙◌, subst, arith, true, false, nat_lt}
+use Rattle.std.proofs.Common.{◌≡◌, ◌≤◌, sym, ap, ◌∙◌, arith, false, nat_lt}
 use Rattle.std.proofs.lemmas.Bool.Decides.{nat_tests}
-use Rattle.nt_core.specs.Dispatcher.{Dispatcher, state}
-use Rattle.nt_core.specs.State.{pends}
+use Rattle.nt_core.specs.Dispatcher.{Dispatcher}
 use Rattle.nt_core.proofs.Beginning.{nobody_beyond}
 use Rattle.nt_core.proofs.machine.Machine.is_waiting.Goals as goal
 

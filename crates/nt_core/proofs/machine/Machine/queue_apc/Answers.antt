@@ -1,4 +1,4 @@
-use Rattle.std.proofs.Common.{◌≡◌, ℕ, None, sym, ap, ◌∙◌, subst}
+use Rattle.std.proofs.Common.{◌≡◌, ℕ, None, sym, ◌∙◌, subst}
 use Rattle.nt_apc.specs.Queues.{pushed}
 use Rattle.nt_apc.specs.declared.apc.Queued.{Queued}
 use Rattle.nt_core.specs.Dispatcher.{Dispatcher, state}

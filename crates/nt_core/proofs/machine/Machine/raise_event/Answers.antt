@@ -1,7 +1,7 @@
-use Rattle.std.proofs.Common.{◌≡◌, ℕ, true, false, sym, ap, ◌∙◌, subst}
+use Rattle.std.proofs.Common.{◌≡◌, true, false, sym, ap, ◌∙◌, subst}
 use Rattle.nt_objects.specs.declared.object.Object.{Object}
 use Rattle.nt_objects.specs.Object.{with_set, signaled}
-use Rattle.nt_core.specs.State.{State, object_at}
+use Rattle.nt_core.specs.State.{object_at}
 use Rattle.nt_core.specs.Dispatcher.{state}
 use Rattle.nt_core.specs.Change.{at}
 use Rattle.nt_core.specs.Lawful.{MayReplace}

@@ -1,4 +1,4 @@
-use Rattle.std.proofs.Common.{◌≡◌, ℕ, List, [], ◌∷◌, ◌<◌, ◌≤◌, ◌^◌, length, set, sym, subst}
+use Rattle.std.proofs.Common.{[], ◌∷◌, ◌<◌, ◌≤◌, ◌^◌, length, sym, subst}
 use Rattle.nt_core.specs.Dispatcher.{Dispatcher, state}
 use Rattle.nt_core.specs.Serving.{sequence, Serve}
 use Rattle.nt_core.specs.Visits.{FitOnlyIn}

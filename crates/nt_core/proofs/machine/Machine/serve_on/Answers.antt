@@ -1,4 +1,4 @@
-use Rattle.std.proofs.Common.{List, ℕ, ◌≡◌, ◌<◌, ◌≤◌, ◌+◌, ◌-◌, length, arith, subst, sym, ap, ◌∙◌, Option, Some, None}
+use Rattle.std.proofs.Common.{ℕ, ◌<◌, ◌+◌, ◌-◌, length, arith, subst, sym, ap, ◌∙◌, Option, Some}
 use Rattle.std.specs.Prelude.{slice_get}
 use Rattle.nt_waits.specs.Waits.{IsMember, next_after}
 use Rattle.nt_core.specs.Dispatcher.{Dispatcher, state}

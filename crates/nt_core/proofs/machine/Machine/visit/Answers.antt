@@ -1,4 +1,4 @@
-use Rattle.std.proofs.Common.{◌≡◌, ◌+◌, ◌≤◌, ◌<◌, ◌^◌, ℕ, List, Some, None, true, length, refl, sym, subst, ap, ◌∙◌, arith, rules, false, set}
+use Rattle.std.proofs.Common.{◌≡◌, ◌+◌, ◌≤◌, ◌<◌, ◌^◌, ℕ, List, Some, None, length, sym, subst, ap, ◌∙◌, arith, false, set}
 use Rattle.std.specs.FinMap as map
 use Rattle.std.specs.Vec.{with_items, vec_capacity}
 use Rattle.std.proofs.lemmas.List.{with_items_is}
@@ -7,7 +7,7 @@ use Rattle.nt_objects.specs.declared.object.Object.{Object}
 use Rattle.nt_core.specs.Dispatcher.{Dispatcher, dispatcher_of}
 use Rattle.nt_core.specs.Serving.{IsTried, CanTake, wait_for}
 use Rattle.nt_core.specs.Visits.{IsVisited}
-use Rattle.nt_core.specs.Lawful.{IsSound, IsSoundWait}
+use Rattle.nt_core.specs.Lawful.{IsSound}
 use Rattle.nt_core.proofs.Visiting.{visit_granted, visit_passed, can_take, counted, room_for}
 use Rattle.nt_core.proofs.machine.Machine.visit.Goals as goal
 

@@ -1,10 +1,8 @@
-use Rattle.std.proofs.Common.{◌≡◌, ◌+◌, ◌<◌, ℕ, List, [], None, length, arith, sym, ap, ◌∙◌, subst, refl, false}
-use Rattle.std.specs.FinMap as fin
+use Rattle.std.proofs.Common.{◌≡◌, ℕ, List, [], None, length, arith, sym, ap, ◌∙◌, subst, refl, false}
 use Rattle.nt_core.specs.declared.call.Call.{Call}
 use Rattle.nt_core.specs.declared.call.WaitCall.{WaitCall}
-use Rattle.nt_core.specs.declared.call.Reply.{Reply}
-use Rattle.nt_core.specs.State.{State, deadline_after}
-use Rattle.nt_core.specs.Dispatcher.{Dispatcher, state}
+use Rattle.nt_core.specs.State.{deadline_after}
+use Rattle.nt_core.specs.Dispatcher.{state}
 use Rattle.nt_core.specs.Serving.{wait_for}
 use Rattle.nt_core.specs.Refusals.{refusal}
 use Rattle.nt_core.specs.Steps.{begun}

@@ -1,0 +1,8 @@
+//! Laws of the definitions, as contracts of functions that do nothing.
+ghost use Rattle.nt_core.specs.Laws.{ServesOneWay};
+
+/// The order of grants leaves no choice: which waits a change ends, with which statuses, and the state after it are a
+/// function of the state and of the sequence of the waits on changed objects.
+pub fn serves_one_way()
+    ensures { ServesOneWay }
+{}
