@@ -1,0 +1,45 @@
+/* Counts a program's allocations, and refuses one of them. Preloaded by bench/allocations.
+   REFUSE: the number of the allocation that is refused, counting from 1; 0 for none. The count goes to descriptor 9. */
+#define _GNU_SOURCE
+#include <errno.h>
+#include <stdio.h>
+#include <stdlib.h>
+#include <unistd.h>
+
+extern void *__libc_malloc(size_t);
+extern void *__libc_calloc(size_t, size_t);
+extern void *__libc_realloc(void *, size_t);
+extern void *__libc_memalign(size_t, size_t);
+
+static long made;
+static long refused = -1;
+
+static int is_refused(void)
+{
+    if (refused < 0) {
+        const char *word = getenv("REFUSE");
+        refused = word ? atol(word) : 0;
+    }
+    return ++made == refused;
+}
+
+void *malloc(size_t size) { return is_refused() ? NULL : __libc_malloc(size); }
+void *calloc(size_t count, size_t size) { return is_refused() ? NULL : __libc_calloc(count, size); }
+void *realloc(void *old, size_t size) { return is_refused() ? NULL : __libc_realloc(old, size); }
+void *aligned_alloc(size_t align, size_t size) { return is_refused() ? NULL : __libc_memalign(align, size); }
+
+int posix_memalign(void **to, size_t align, size_t size)
+{
+    if (is_refused())
+        return ENOMEM;
+    *to = __libc_memalign(align, size);
+    return *to ? 0 : ENOMEM;
+}
+
+__attribute__((destructor)) static void tell(void)
+{
+    char text[32];
+    int length = snprintf(text, sizeof text, "%ld", made);
+    if (write(9, text, (size_t)length) < 0)
+        return;
+}
