@@ -1,5 +1,6 @@
 //! Scripts of calls with the answers of the Win32 reference. Each test passes also where one growth is refused: run them
 //! with each of the first 40 allocations failing in turn.
+mod apcs;
 mod events;
 mod mutexes;
 mod script;

@@ -1,5 +1,6 @@
 //! Scripts of calls: who asks for what of which objects, what it is answered, and which waits that ends.
 use crate::{Act, Call, Core, Grant, Reply, WaitCall};
+use nt_apc::Apc;
 use nt_status::{Handle, Handles, Refusal};
 use std::alloc::{AllocError, Global};
 use std::process::Abort;
@@ -22,9 +23,13 @@ pub enum Ask {
     Pulse,
     Release(i32),
     Unlock,
+    Apc(u64, u64),
+    Next,
     Any(u32),
     All(u32),
     Sleep(u32),
+    AlertableAny(u32),
+    AlertableSleep(u32),
 }
 
 /// What a call is answered, in the reference's numbers.
@@ -35,7 +40,11 @@ pub enum Answer {
     Previous(i32),
     Status(u32),
     Pended,
-    Apc,
+    /// The routine and argument of an APC that a thread queued.
+    ThreadApc(u64, u64),
+    /// The same of a timer's, and its due moment.
+    TimerApc(u64, u64, u64),
+    NoApc,
     Error(u32),
 }
 
@@ -74,8 +83,13 @@ fn first(objects: &[u32]) -> Handle {
     }
 }
 
-/// A plain wait for these objects.
-fn wait_for(alloc: Global, objects: &[u32], all: bool, ms: u32) -> Result<Call, AllocError> {
+fn wait_for(
+    alloc: Global,
+    objects: &[u32],
+    all: bool,
+    ms: u32,
+    alertable: bool,
+) -> Result<Call, AllocError> {
     let mut handles = Handles::new(alloc);
     for number in objects {
         handles.push(Handle::new(*number))?;
@@ -84,20 +98,21 @@ fn wait_for(alloc: Global, objects: &[u32], all: bool, ms: u32) -> Result<Call, 
         handles,
         all,
         ms,
-        alertable: false,
+        alertable,
     }))
+}
+
+fn sleep_for(ms: u32, alertable: bool) -> Call {
+    Call::Wait(WaitCall::Sleep { ms, alertable })
 }
 
 fn call_of(alloc: Global, ask: Ask, objects: &[u32]) -> Result<Call, AllocError> {
     let act = match ask {
-        Ask::Any(ms) => return wait_for(alloc, objects, false, ms),
-        Ask::All(ms) => return wait_for(alloc, objects, true, ms),
-        Ask::Sleep(ms) => {
-            return Ok(Call::Wait(WaitCall::Sleep {
-                ms,
-                alertable: false,
-            }));
-        }
+        Ask::Any(ms) => return wait_for(alloc, objects, false, ms, false),
+        Ask::All(ms) => return wait_for(alloc, objects, true, ms, false),
+        Ask::Sleep(ms) => return Ok(sleep_for(ms, false)),
+        Ask::AlertableAny(ms) => return wait_for(alloc, objects, false, ms, true),
+        Ask::AlertableSleep(ms) => return Ok(sleep_for(ms, true)),
         Ask::Event(flags) => Act::CreateEvent(flags),
         Ask::Semaphore(initial, maximum) => Act::CreateSemaphore { initial, maximum },
         Ask::Mutex(flags) => Act::CreateMutex(flags),
@@ -109,6 +124,12 @@ fn call_of(alloc: Global, ask: Ask, objects: &[u32]) -> Result<Call, AllocError>
             count,
         },
         Ask::Unlock => Act::ReleaseMutex(first(objects)),
+        Ask::Apc(routine, arg) => Act::QueueApc {
+            thread: first(objects),
+            routine,
+            arg,
+        },
+        Ask::Next => Act::NextApc,
     };
     Ok(Call::Act(act))
 }
@@ -120,6 +141,13 @@ fn answer_of(replied: Result<Reply, Refusal>) -> Answer {
     }
 }
 
+fn apc_of(apc: &Apc) -> Answer {
+    match &apc.at {
+        None => Answer::ThreadApc(apc.routine, apc.arg),
+        Some(at) => Answer::TimerApc(apc.routine, apc.arg, at.get()),
+    }
+}
+
 fn reply_of(reply: &Reply) -> Answer {
     match reply {
         Reply::Done => Answer::Done,
@@ -127,7 +155,8 @@ fn reply_of(reply: &Reply) -> Answer {
         Reply::Previous(count) => Answer::Previous(*count),
         Reply::Status(status) => Answer::Status(status.code()),
         Reply::Pended => Answer::Pended,
-        Reply::Apc(_) => Answer::Apc,
+        Reply::Apc(None) => Answer::NoApc,
+        Reply::Apc(Some(apc)) => apc_of(apc),
     }
 }
 
