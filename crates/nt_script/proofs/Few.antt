@@ -17,7 +17,7 @@ use Rattle.nt_core.specs.Calls.{timeout_of}
 use Rattle.nt_core.specs.Rising.{IsRising}
 use Rattle.nt_core.specs.State.{State, Pending, wait_over, waits_over}
 use Rattle.nt_core.specs.Serving.{fits, granted, Grants, Alert}
-use Rattle.nt_core.specs.Change.{change}
+use Rattle.nt_core.specs.Change.{change, may_take}
 use Rattle.nt_core.specs.Steps.{Called, Step, after_serving, answered, begun, wait_of}
 
 len_removed : (m : Pending) (t : ℕ) (w : Wait) → map.get m t ≡ Some w → map.len (map.remove m t) + 1 ≡ map.len m
@@ -71,8 +71,13 @@ alert-len old new grants h =
 
 -- ---- a call
 
+either-len : (b : Bool) (n : ℕ) (x y : State) → map.len x.waits ≡ n → map.len y.waits ≡ n → map.len (cond b x y).waits ≡ n
+either-len true n x y p q = p
+either-len false n x y p q = q
+
 change-len : (s : State) (t : ℕ) (call : Call) → map.len (change s t call).waits ≡ map.len s.waits
 change-len s t (Call.Act (Act.CreateEvent flags)) = refl
+change-len s t (Call.Act Act.NextApc) = either-len (may_take s t) (map.len s.waits) _ _ refl refl
 change-len s t call = refl
 
 after-len : (call : Call) (s : State) → map.len (after_serving call s).waits ≡ map.len s.waits

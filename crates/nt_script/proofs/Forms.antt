@@ -1,5 +1,5 @@
 -- The parser reads a statement only where the words are that statement.
-use Rattle.std.proofs.Common.{◌≡◌, ℕ, ◌+◌, ◌*◌, Bool, true, false, cond, List, [], ◌∷◌, ◌++◌, length, nat_le, Option, Some, None, Result, Ok, Err, refl, sym, ap, subst, ◌∙◌, append-nil, codes}
+use Rattle.std.proofs.Common.{◌≡◌, ℕ, ℤ, ◌+◌, ◌-◌, ◌*◌, ◌^◌, Bool, true, false, cond, List, [], ◌∷◌, ◌++◌, length, nat_le, Option, Some, None, Result, Ok, Err, refl, sym, ap, subst, ◌∙◌, append-nil, if◌then◌else◌, codes}
 use Rattle.std.specs.List.{list_all}
 use Rattle.std.specs.Str.{bytes_eq}
 use Rattle.std.proofs.lemmas.Slice.Eq.{bytes_eq-Decides}
@@ -8,13 +8,19 @@ use Rattle.nt_core.specs.declared.call.Act.{Act}
 use Rattle.nt_core.specs.declared.call.WaitCall.{WaitCall}
 use Rattle.nt_script.specs.Words.{text_of, words_of, is_plain, caller_of}
 use Rattle.nt_script.specs.Scope.{Scope}
-use Rattle.nt_script.specs.Grammar.{Place, NamePlace, ObjectPlace, NumberPlace, TimePlace, ModePlace, blame, is_word, free_name_in, object_in, number_in, time_in, mode_in, Part, Caller, Word, NewName, Object, Number, Time, Plain, Spells, word_if, one_if, objects, IsStatement, IsOpening, IsPlainLine}
-use Rattle.nt_script.specs.Reading.{◌>>=◌, or_fault, word_at, end_at, option_at, value_at, number_at, free_name_at, object_at, time_at, mode_at, objects_at, event_at, only_object_at, any_at, act_at, statement_at, threads_at, opening_at, plain_text, short_line, opening_of, statement_of}
+use Rattle.nt_script.specs.Keywords.{keyword_among, keyword_of, keywords}
+use Rattle.nt_script.specs.Keywords as keyword
+use Rattle.nt_script.specs.Grammar.{Place, NamePlace, ObjectPlace, NumberPlace, SignedPlace, TimePlace, ModePlace, ValuePlace, blame, is_word, free_name_in, object_in, number_in, signed_in, time_in, mode_in, Part, Caller, Word, NewName, Object, Number, Signed, Time, Mode, Says, Spells, word_if, one_if, objects, begins, value, IsStatement, IsOpening, IsPlainLine}
+use Rattle.nt_script.specs.Reading.{◌>>=◌, or_fault, word_at, end_at, option_at, value_at, number_at, signed_at, free_name_at, object_at, time_at, mode_at, objects_at, event_at, semaphore_at, mutex_at, only_object_at, act_on, release_at, apc_at, objects_wait_at, sleep_at, bare_at, call_at, caller_at, statement_at, threads_at, opening_at, plain_text, short_line, opening_of, statement_of}
 use Rattle.nt_script.specs.Transcript.{IsLine, IsOpeningLine, IsBlankLine}
 use Rattle.nt_script.specs.declared.fault.ScriptFault.{ScriptFault}
 use Rattle.nt_script.specs.declared.fault.ScriptFault.TheVariants.{ThreadsExpected}
+use Rattle.nt_script.specs.declared.keyword.Keyword.{Keyword}
 use Rattle.nt_script.specs.declared.parser.Statement.{Statement}
 use Rattle.nt_script.specs.declared.parser.Statement.TheVariants.{Blank, Create, Perform}
+
+abbrev Words : Type 0
+Words = List (List ℕ)
 
 abbrev taken_as : {A : Type 0} → A → Result A ScriptFault
 taken_as x = Ok x
@@ -25,41 +31,73 @@ ok_is x y e = cc
 err_is : {A : Type 0} (x : A) (fault : ScriptFault) → Err fault ≡ taken_as x → ⊥
 err_is x fault e = absurd (cc)
 
+-- ---- places
+
+-- one word said this, and the rest was read to the end
+record Step (scope : Scope) (A B : Type 0) (part : A → Part) (k : A → Words → Result B ScriptFault) (words : Words) (y : B) : Type 0 where
+  first : A
+  rest : Words
+  spells : (parts : List Part) → Spells scope parts rest → Spells scope (part first ∷ parts) words
+  after : k first rest ≡ Ok y
+
+step : {A B : Type 0} (scope : Scope) (read : List ℕ → Option A) (place : Place) (part : A → Part) → ((x : A) (word : List ℕ) → read word ≡ Some x → Says scope (part x) word)
+    → (k : A → Words → Result B ScriptFault) (words : Words) (y : B) → (value_at read place words >>= λ r. k r.0 r.1) ≡ Ok y → Step scope A B part k words y
+step scope read place part says k [] y e = absurd (err_is y _ e)
+step scope read place part says k (word ∷ words) y e = by (read word) refl
+  where
+    by : (o : Option _) → read word ≡ o → Step scope _ _ part k (word ∷ words) y
+    by None is = absurd (err_is y (blame place word) (rw is at e))
+    by (Some x) is = record { first = x; rest = words; spells = λ parts h. (says x word is, h); after = rw is at e }
+
+module _ {B : Type 0} (scope : Scope) (words : Words) (y : B) where
+  name_step : (k : List ℕ → Words → Result B ScriptFault) → (free_name_at scope words >>= λ r. k r.0 r.1) ≡ Ok y → Step scope (List ℕ) B (λ name. NewName name) k words y
+  unfolding free_name_at
+  name_step k e = step scope (free_name_in scope) NamePlace (λ name. NewName name) (λ x word is. is) k words y e
+
+  object_step : (k : ℕ → Words → Result B ScriptFault) → (object_at scope words >>= λ r. k r.0 r.1) ≡ Ok y → Step scope ℕ B (λ handle. Object handle) k words y
+  unfolding object_at
+  object_step k e = step scope (object_in scope) ObjectPlace (λ handle. Object handle) (λ x word is. is) k words y e
+
+  number_step : (least most : ℕ) (k : ℕ → Words → Result B ScriptFault) → (number_at least most words >>= λ r. k r.0 r.1) ≡ Ok y → Step scope ℕ B (λ n. Number least most n) k words y
+  unfolding number_at
+  number_step least most k e = step scope (number_in least most) (NumberPlace least most) (λ n. Number least most n) (λ x word is. is) k words y e
+
+  signed_step : (half : ℕ) (k : ℤ → Words → Result B ScriptFault) → (signed_at half words >>= λ r. k r.0 r.1) ≡ Ok y → Step scope ℤ B (λ n. Signed half n) k words y
+  unfolding signed_at
+  signed_step half k e = step scope (signed_in half) (SignedPlace half) (λ n. Signed half n) (λ x word is. is) k words y e
+
+  time_step : (k : ℕ → Words → Result B ScriptFault) → (time_at words >>= λ r. k r.0 r.1) ≡ Ok y → Step scope ℕ B (λ ms. Time ms) k words y
+  unfolding time_at
+  time_step k e = step scope time_in TimePlace (λ ms. Time ms) (λ x word is. is) k words y e
+
+  mode_step : (k : Bool → Words → Result B ScriptFault) → (mode_at words >>= λ r. k r.0 r.1) ≡ Ok y → Step scope Bool B (λ alertable. Mode alertable) k words y
+  unfolding mode_at
+  mode_step k e = step scope mode_in ModePlace (λ alertable. Mode alertable) (λ x word is. is) k words y e
+
+-- ---- what stands behind the places
+
+record Ended (scope : Scope) (B : Type 0) (words : Words) (x y : B) : Type 0 where
+  spells : Spells scope [] words
+  same : x ≡ y
+
+ended : {B : Type 0} (scope : Scope) (words : Words) (x y : B) → (end_at words >>= λ ended. Ok x) ≡ Ok y → Ended scope B words x y
+ended scope [] x y e = record { spells = tt; same = ok_is x y e }
+ended scope (word ∷ words) x y e = absurd (err_is y _ e)
+
 -- the parts of a reading that gave something
-record Bound (A B : Type 0) (read : Result A ScriptFault) (next : A → Result B ScriptFault) (y : B) : Type 0 where
+record Bound (A B : Type 0) (read : Result A ScriptFault) (f : A → B) (y : B) : Type 0 where
   first : A
   reads : read ≡ Ok first
-  then : next first ≡ Ok y
+  same : f first ≡ y
 
-bound : {A B : Type 0} (read : Result A ScriptFault) (next : A → Result B ScriptFault) (y : B) → (read >>= next) ≡ Ok y → Bound A B read next y
-bound (Ok x) next y e = record { first = x; reads = refl; then = e }
-bound (Err fault) next y e = absurd (err_is y fault e)
-
-record Taken (A : Type 0) (read : List ℕ → Option A) (words : List (List ℕ)) (x : A) (rest : List (List ℕ)) : Type 0 where
-  word : List ℕ
-  front : words ≡ word ∷ rest
-  says : read word ≡ Some x
-
-taken : {A : Type 0} (read : List ℕ → Option A) (place : Place) (words : List (List ℕ)) (x : A) (rest : List (List ℕ)) → value_at read place words ≡ Ok (x, rest) → Taken A read words x rest
-taken read place [] x rest e = absurd (err_is (x, rest) _ e)
-taken read place (word ∷ words) x rest e = by (read word) refl
-  where
-    by : (o : Option _) → read word ≡ o → Taken _ read (word ∷ words) x rest
-    by None is = absurd (err_is (x, rest) (blame place word) (rw is at e))
-    by (Some y) is =
-        let same = ok_is (y, words) (x, rest) (rw is at e) in
-        record { word = word; front = ap (λ t. word ∷ t.1) same; says = is ∙ ap (λ t. Some t.0) same }
-
-ended : (words : List (List ℕ)) → end_at words ≡ Ok tt → words ≡ []
-ended [] e = refl
-ended (word ∷ words) e = absurd (err_is tt _ e)
+bound : {A B : Type 0} (read : Result A ScriptFault) (f : A → B) (y : B) → (read >>= λ x. Ok (f x)) ≡ Ok y → Bound A B read f y
+bound (Ok x) f y e = record { first = x; reads = refl; same = ok_is (f x) y e }
+bound (Err fault) f y e = absurd (err_is y fault e)
 
 bytes_eq-true : (xs ys : List ℕ) → bytes_eq xs ys ≡ true → xs ≡ ys
 bytes_eq-true xs ys = (bytes_eq-Decides xs ys).0
 
--- ---- each line
-
-option_spelled : (scope : Scope) (text : List ℕ) (parts : List Part) (words : List (List ℕ)) → Spells scope parts (option_at text words).1 → Spells scope (word_if (option_at text words).0 text ++ parts) words
+option_spelled : (scope : Scope) (text : List ℕ) (parts : List Part) (words : Words) → Spells scope parts (option_at text words).1 → Spells scope (word_if (option_at text words).0 text ++ parts) words
 option_spelled scope text parts [] h = h
 option_spelled scope text parts (word ∷ words) h = by (bytes_eq word text) refl
   where
@@ -71,160 +109,212 @@ option_spelled scope text parts (word ∷ words) h = by (bytes_eq word text) ref
         let rest : Spells scope parts (word ∷ words) = rw e at h in
         rw e rest
 
+last_option : (scope : Scope) (text : List ℕ) (words : Words) → Spells scope [] (option_at text words).1 → Spells scope (word_if (option_at text words).0 text) words
+last_option scope text words h = let all : Spells scope (word_if (option_at text words).0 text ++ []) words = option_spelled scope text [] words h in rw append-nil at all
+
 flags_of : (manual set : Bool) → (cond manual 1 0) + (cond set 2 0) ≡ one_if manual + 2 * one_if set
 flags_of true true = refl
 flags_of true false = refl
 flags_of false true = refl
 flags_of false false = refl
 
-abbrev said : Scope → Statement → ℕ → List ℕ → List (List ℕ) → Type 0
-said scope statement who keyword words = (first : List ℕ) → caller_of first ≡ Some who → IsStatement scope statement (first ∷ keyword ∷ words)
-
-abbrev options_of : ℕ → List ℕ → List (List ℕ) → Result Statement ScriptFault
-options_of who name rest =
-    let manual = option_at (codes "manual") rest in
-    let set = option_at (codes "set") manual.1 in
-    end_at set.1 >>= λ ended. Ok (Create who name (Act.CreateEvent ((cond manual.0 1 0) + (cond set.0 2 0))))
-
-event_said : (scope : Scope) (who : ℕ) (keyword : List ℕ) (words : List (List ℕ)) (st : Statement) → keyword ≡ codes "event" → event_at scope who words ≡ Ok st → said scope st who keyword words
-unfolding event_at free_name_at
-event_said scope who keyword words st is e first caller =
-    let name = bound (free_name_at scope words) (λ name. options_of who name.0 name.1) st e in
-    let there = taken (free_name_in scope) NamePlace words (name.first).0 (name.first).1 name.reads in
-    let manual = option_at (codes "manual") (name.first).1 in
-    let set = option_at (codes "set") manual.1 in
-    let end = bound (end_at set.1) (λ ended. Ok (Create who (name.first).0 (Act.CreateEvent ((cond manual.0 1 0) + (cond set.0 2 0))))) st name.then in
-    let none : set.1 ≡ [] = ended set.1 end.reads in
-    let statement : Create who (name.first).0 (Act.CreateEvent ((cond manual.0 1 0) + (cond set.0 2 0))) ≡ st = ok_is _ _ end.then in
-    let last : Spells scope [] set.1 = subst (Spells scope []) (sym none) tt in
-    let options : Spells scope (word_if manual.0 (codes "manual") ++ (word_if set.0 (codes "set") ++ [])) (name.first).1 =
-    option_spelled scope (codes "manual") (word_if set.0 (codes "set") ++ []) (name.first).1 (option_spelled scope (codes "set") [] manual.1 last) in
-    let here : Spells scope (word_if manual.0 (codes "manual") ++ word_if set.0 (codes "set")) (name.first).1 = rw append-nil at options in
-    subst (λ (st : Statement). IsStatement scope st (first ∷ keyword ∷ words)) statement
-    (manual.0, set.0, flags_of manual.0 set.0, (caller, (is, subst (Spells scope (NewName (name.first).0 ∷ (word_if manual.0 (codes "manual") ++ word_if set.0 (codes "set")))) (sym there.front) (there.says, here))))
-
-record OneObject (scope : Scope) (words : List (List ℕ)) (object : ℕ) : Type 0 where
-  word : List ℕ
-  front : words ≡ word ∷ []
-  says : object_in scope word ≡ Some object
-
-one_object : (scope : Scope) (words : List (List ℕ)) (object : ℕ) → only_object_at scope words ≡ Ok object → OneObject scope words object
-unfolding only_object_at object_at
-one_object scope words object e =
-    let taking = bound (object_at scope words) (λ object. end_at object.1 >>= λ ended. Ok object.0) object e in
-    let there = taken (object_in scope) ObjectPlace words (taking.first).0 (taking.first).1 taking.reads in
-    let end = bound (end_at (taking.first).1) (λ ended. Ok (taking.first).0) object taking.then in
-    let none = ended (taking.first).1 end.reads in
-    let same : (taking.first).0 ≡ object = ok_is _ _ end.then in
-    record { word = there.word; front = there.front ∙ ap (λ (rest : List (List ℕ)). there.word ∷ rest) none; says = there.says ∙ ap Some same }
-
-object_said : (scope : Scope) (f : ℕ → Statement) (words : List (List ℕ)) (st : Statement) → (only_object_at scope words >>= λ object. Ok (f object)) ≡ Ok st → (object : ℕ) × OneObject scope words object × (f object ≡ st)
-object_said scope f words st e =
-    let object = bound (only_object_at scope words) (λ object. Ok (f object)) st e in
-    (object.first, one_object scope words object.first object.reads, ok_is _ _ object.then)
-
-objects_said : (scope : Scope) (words : List (List ℕ)) (handles : List ℕ) → objects_at scope words ≡ Ok handles → Spells scope (objects handles) words
+objects_said : (scope : Scope) (words : Words) (handles : List ℕ) → objects_at scope words ≡ Ok handles → Spells scope (objects handles) words
 unfolding objects_at
 objects_said scope [] handles e = subst (λ (hs : List ℕ). Spells scope (objects hs) []) (ok_is [] handles e) tt
-objects_said scope (word ∷ words) handles e =
-    let one = bound (or_fault (object_in scope word) (blame ObjectPlace word)) (λ handle. objects_at scope words >>= λ handles. Ok (handle ∷ handles)) handles e in
-    let more = bound (objects_at scope words) (λ handles. Ok (one.first ∷ handles)) handles one.then in
-    let all : Spells scope (objects (one.first ∷ more.first)) (word ∷ words) = (there (object_in scope word) one.first (blame ObjectPlace word) one.reads, objects_said scope words more.first more.reads) in
-    subst (λ (hs : List ℕ). Spells scope (objects hs) (word ∷ words)) (ok_is _ _ more.then) all
+objects_said scope (word ∷ words) handles e = by (object_in scope word) (objects_at scope words) refl refl (objects_said scope words)
   where
-    there : (o : Option ℕ) (x : ℕ) (fault : ScriptFault) → or_fault o fault ≡ Ok x → o ≡ Some x
-    there None x fault h = absurd (err_is x fault h)
-    there (Some y) x fault h = ap Some (ok_is y x h)
+    by : (o : Option ℕ) (read : Result (List ℕ) ScriptFault) → object_in scope word ≡ o → objects_at scope words ≡ read → ((hs : List ℕ) → objects_at scope words ≡ Ok hs → Spells scope (objects hs) words) → Spells scope (objects handles) (word ∷ words)
+    by None read is reads more = absurd (err_is handles (blame ObjectPlace word) (rw is at e))
+    by (Some handle) (Err fault) is reads more = absurd (err_is handles fault (rw reads at (rw is at e)))
+    by (Some handle) (Ok hs) is reads more =
+        let same : handle ∷ hs ≡ handles = ok_is (handle ∷ hs) handles (rw reads at (rw is at e)) in
+        let all : Spells scope (objects (handle ∷ hs)) (word ∷ words) = (is, more hs reads) in
+        subst (λ (hs : List ℕ). Spells scope (objects hs) (word ∷ words)) same all
 
-set_said : (scope : Scope) (who : ℕ) (keyword : List ℕ) (words : List (List ℕ)) (st : Statement) → keyword ≡ codes "set" → (only_object_at scope words >>= λ object. Ok (Perform who (Call.Act (Act.SetEvent object)))) ≡ Ok st → said scope st who keyword words
-set_said scope who keyword words st is e first caller =
-    let one = object_said scope (λ object. Perform who (Call.Act (Act.SetEvent object))) words st e in
-    subst (λ (st : Statement). IsStatement scope st (first ∷ keyword ∷ words)) one.2
-    (caller, (is, subst (Spells scope (Object one.0 ∷ [])) (sym one.1.front) (one.1.says, tt)))
+-- ---- each line
 
-reset_said : (scope : Scope) (who : ℕ) (keyword : List ℕ) (words : List (List ℕ)) (st : Statement) → keyword ≡ codes "reset" → (only_object_at scope words >>= λ object. Ok (Perform who (Call.Act (Act.ResetEvent object)))) ≡ Ok st → said scope st who keyword words
-reset_said scope who keyword words st is e first caller =
-    let one = object_said scope (λ object. Perform who (Call.Act (Act.ResetEvent object))) words st e in
-    subst (λ (st : Statement). IsStatement scope st (first ∷ keyword ∷ words)) one.2
-    (caller, (is, subst (Spells scope (Object one.0 ∷ [])) (sym one.1.front) (one.1.says, tt)))
+-- the statement behind any caller
+abbrev Behind : Scope → ℕ → Keyword → Statement → Words → Type 0
+Behind scope who k st words = (first : List ℕ) → caller_of first ≡ Some who → IsStatement scope st (first ∷ keyword.text_of k ∷ words)
 
-any_said : (scope : Scope) (who : ℕ) (keyword : List ℕ) (words : List (List ℕ)) (st : Statement) → keyword ≡ codes "any" → any_at scope who words ≡ Ok st → said scope st who keyword words
-unfolding any_at time_at mode_at
-any_said scope who keyword words st is e first caller =
-    let time = bound (time_at words) (λ time. mode_at time.1 >>= λ mode. (objects_at scope mode.1 >>= λ handles. Ok (Perform who (Call.Wait (WaitCall.Objects handles false time.0 false))))) st e in
-    let ms = (time.first).0 in
-    let time_word = taken time_in TimePlace words ms (time.first).1 time.reads in
-    let mode = bound (mode_at (time.first).1) (λ mode. objects_at scope mode.1 >>= λ handles. Ok (Perform who (Call.Wait (WaitCall.Objects handles false ms false)))) st time.then in
-    let mode_word = taken mode_in ModePlace (time.first).1 (mode.first).0 (mode.first).1 mode.reads in
-    let handles = bound (objects_at scope (mode.first).1) (λ handles. Ok (Perform who (Call.Wait (WaitCall.Objects handles false ms false)))) st mode.then in
-    let objects_spelled = objects_said scope (mode.first).1 handles.first handles.reads in
-    let statement : Perform who (Call.Wait (WaitCall.Objects handles.first false ms false)) ≡ st = ok_is _ _ handles.then in
-    let from_mode : Spells scope (Plain ∷ objects handles.first) (time.first).1 = subst (Spells scope (Plain ∷ objects handles.first)) (sym mode_word.front) (mode_word.says, objects_spelled) in
-    let from_time : Spells scope (Time ms ∷ Plain ∷ objects handles.first) words = subst (Spells scope (Time ms ∷ Plain ∷ objects handles.first)) (sym time_word.front) (time_word.says, from_mode) in
-    subst (λ (st : Statement). IsStatement scope st (first ∷ keyword ∷ words)) statement (caller, (is, from_time))
+module _ (scope : Scope) (who : ℕ) (words : Words) (st : Statement) where
+  event_options : List ℕ → Words → Result Statement ScriptFault
+  event_options name rest =
+      let manual = option_at (codes "manual") rest in
+      let set = option_at (codes "set") manual.1 in
+      end_at set.1 >>= λ ended. Ok (Create who name (Act.CreateEvent ((if manual.0 then 1 else 0) + (if set.0 then 2 else 0))))
+
+  event : event_at scope who words ≡ Ok st → Behind scope who Keyword.Event st words
+  unfolding event_at event_options
+  event e first caller =
+      let name = name_step scope words st event_options e in
+      let manual = option_at (codes "manual") name.rest in
+      let set = option_at (codes "set") manual.1 in
+      let end = ended scope set.1 (Create who name.first (Act.CreateEvent ((cond manual.0 1 0) + (cond set.0 2 0)))) st name.after in
+      let options = option_spelled scope (codes "manual") (word_if set.0 (codes "set")) name.rest (last_option scope (codes "set") manual.1 end.spells) in
+      subst (λ (st : Statement). IsStatement scope st (first ∷ keyword.text_of Keyword.Event ∷ words)) end.same
+      (manual.0, set.0, flags_of manual.0 set.0, (caller, (refl, name.spells _ options)))
+
+  semaphore : semaphore_at scope who words ≡ Ok st → Behind scope who Keyword.Semaphore st words
+  unfolding semaphore_at
+  semaphore e first caller =
+      let name = name_step scope words st (λ name rest. signed_at (2 ^ 31) rest >>= λ initial. (signed_at (2 ^ 31) initial.1 >>= λ maximum. (end_at maximum.1 >>= λ ended. Ok (Create who name (Act.CreateSemaphore initial.0 maximum.0))))) e in
+      let initial = signed_step scope name.rest st (2 ^ 31) (λ initial rest. signed_at (2 ^ 31) rest >>= λ maximum. (end_at maximum.1 >>= λ ended. Ok (Create who name.first (Act.CreateSemaphore initial maximum.0)))) name.after in
+      let maximum = signed_step scope initial.rest st (2 ^ 31) (λ maximum rest. end_at rest >>= λ ended. Ok (Create who name.first (Act.CreateSemaphore initial.first maximum))) initial.after in
+      let end = ended scope maximum.rest (Create who name.first (Act.CreateSemaphore initial.first maximum.first)) st maximum.after in
+      subst (λ (st : Statement). IsStatement scope st (first ∷ keyword.text_of Keyword.Semaphore ∷ words)) end.same (caller, (refl, name.spells (Signed (2 ^ 31) initial.first ∷ Signed (2 ^ 31) maximum.first ∷ []) (initial.spells (Signed (2 ^ 31) maximum.first ∷ []) (maximum.spells [] end.spells))))
+
+  mutex : mutex_at scope who words ≡ Ok st → Behind scope who Keyword.Mutex st words
+  unfolding mutex_at
+  mutex e first caller =
+      let name = name_step scope words st (λ name rest. end_at (option_at (codes "owned") rest).1 >>= λ ended. Ok (Create who name (Act.CreateMutex (cond (option_at (codes "owned") rest).0 1 0)))) e in
+      let owned = option_at (codes "owned") name.rest in
+      let end = ended scope owned.1 (Create who name.first (Act.CreateMutex (cond owned.0 1 0))) st name.after in
+      subst (λ (st : Statement). IsStatement scope st (first ∷ keyword.text_of Keyword.Mutex ∷ words)) end.same (owned.0, refl, (caller, (refl, name.spells _ (last_option scope (codes "owned") name.rest end.spells))))
+
+  -- one object, and the act on it
+  act : (k : Keyword) (f : ℕ → Act) → ((handle : ℕ) (first : List ℕ) → caller_of first ≡ Some who → Spells scope (Object handle ∷ []) words → IsStatement scope (Perform who (Call.Act (f handle))) (first ∷ keyword.text_of k ∷ words))
+      → act_on scope who f words ≡ Ok st → Behind scope who k st words
+  unfolding only_object_at
+  act k f makes e first caller =
+      let made = bound (only_object_at scope words) (λ object. Perform who (Call.Act (f object))) st e in
+      let object = object_step scope words made.first (λ object rest. end_at rest >>= λ ended. Ok object) made.reads in
+      let end = ended scope object.rest object.first made.first object.after in
+      subst (λ (st : Statement). IsStatement scope st (first ∷ keyword.text_of k ∷ words)) made.same
+      (makes made.first first caller (subst (λ (handle : ℕ). Spells scope (Object handle ∷ []) words) end.same (object.spells [] end.spells)))
+
+  release : release_at scope who words ≡ Ok st → Behind scope who Keyword.Release st words
+  unfolding release_at
+  release e first caller =
+      let object = object_step scope words st (λ object rest. signed_at (2 ^ 31) rest >>= λ count. (end_at count.1 >>= λ ended. Ok (Perform who (Call.Act (Act.ReleaseSemaphore object count.0))))) e in
+      let count = signed_step scope object.rest st (2 ^ 31) (λ count rest. end_at rest >>= λ ended. Ok (Perform who (Call.Act (Act.ReleaseSemaphore object.first count)))) object.after in
+      let end = ended scope count.rest (Perform who (Call.Act (Act.ReleaseSemaphore object.first count.first))) st count.after in
+      subst (λ (st : Statement). IsStatement scope st (first ∷ keyword.text_of Keyword.Release ∷ words)) end.same (caller, (refl, object.spells (Signed (2 ^ 31) count.first ∷ []) (count.spells [] end.spells)))
+
+  apc : apc_at scope who words ≡ Ok st → Behind scope who Keyword.Apc st words
+  unfolding apc_at
+  apc e first caller =
+      let object = object_step scope words st (λ object rest. number_at 0 (2 ^ 64 - 1) rest >>= λ apc. (number_at 0 (2 ^ 64 - 1) apc.1 >>= λ arg. (end_at arg.1 >>= λ ended. Ok (Perform who (Call.Act (Act.QueueApc object apc.0 arg.0)))))) e in
+      let apc = number_step scope object.rest st 0 (2 ^ 64 - 1) (λ apc rest. number_at 0 (2 ^ 64 - 1) rest >>= λ arg. (end_at arg.1 >>= λ ended. Ok (Perform who (Call.Act (Act.QueueApc object.first apc arg.0))))) object.after in
+      let arg = number_step scope apc.rest st 0 (2 ^ 64 - 1) (λ arg rest. end_at rest >>= λ ended. Ok (Perform who (Call.Act (Act.QueueApc object.first apc.first arg)))) apc.after in
+      let end = ended scope arg.rest (Perform who (Call.Act (Act.QueueApc object.first apc.first arg.first))) st arg.after in
+      subst (λ (st : Statement). IsStatement scope st (first ∷ keyword.text_of Keyword.Apc ∷ words)) end.same (caller, (refl, object.spells (value apc.first ∷ value arg.first ∷ []) (apc.spells (value arg.first ∷ []) (arg.spells [] end.spells))))
+
+  objects_wait : (k : Keyword) (all : Bool)
+      → ((handles : List ℕ) (ms : ℕ) (mode : Bool) (first : List ℕ) → caller_of first ≡ Some who → Spells scope (Time ms ∷ Mode mode ∷ objects handles) words → IsStatement scope (Perform who (Call.Wait (WaitCall.Objects handles all ms mode))) (first ∷ keyword.text_of k ∷ words))
+      → objects_wait_at scope who all words ≡ Ok st → Behind scope who k st words
+  unfolding objects_wait_at
+  objects_wait k all makes e first caller =
+      let time = time_step scope words st (λ ms rest. mode_at rest >>= λ mode. (objects_at scope mode.1 >>= λ handles. Ok (Perform who (Call.Wait (WaitCall.Objects handles all ms mode.0))))) e in
+      let mode = mode_step scope time.rest st (λ mode rest. objects_at scope rest >>= λ handles. Ok (Perform who (Call.Wait (WaitCall.Objects handles all time.first mode)))) time.after in
+      let handles = bound (objects_at scope mode.rest) (λ handles. Perform who (Call.Wait (WaitCall.Objects handles all time.first mode.first))) st mode.after in
+      subst (λ (st : Statement). IsStatement scope st (first ∷ keyword.text_of k ∷ words)) handles.same
+      (makes handles.first time.first mode.first first caller (time.spells (Mode mode.first ∷ objects handles.first) (mode.spells (objects handles.first) (objects_said scope mode.rest handles.first handles.reads))))
+
+  sleep : sleep_at who words ≡ Ok st → Behind scope who Keyword.Sleep st words
+  unfolding sleep_at
+  sleep e first caller =
+      let time = time_step scope words st (λ ms rest. mode_at rest >>= λ mode. (end_at mode.1 >>= λ ended. Ok (Perform who (Call.Wait (WaitCall.Sleep ms mode.0))))) e in
+      let mode = mode_step scope time.rest st (λ mode rest. end_at rest >>= λ ended. Ok (Perform who (Call.Wait (WaitCall.Sleep time.first mode)))) time.after in
+      let end = ended scope mode.rest (Perform who (Call.Wait (WaitCall.Sleep time.first mode.first))) st mode.after in
+      subst (λ (st : Statement). IsStatement scope st (first ∷ keyword.text_of Keyword.Sleep ∷ words)) end.same (caller, (refl, time.spells (Mode mode.first ∷ []) (mode.spells [] end.spells)))
+
+  bare : (k : Keyword) (call : Call) → ((first : List ℕ) → caller_of first ≡ Some who → Spells scope [] words → IsStatement scope (Perform who call) (first ∷ keyword.text_of k ∷ words))
+      → bare_at who call words ≡ Ok st → Behind scope who k st words
+  bare k call makes e first caller =
+      let end = ended scope words (Perform who call) st e in
+      subst (λ (st : Statement). IsStatement scope st (first ∷ keyword.text_of k ∷ words)) end.same (makes first caller end.spells)
 
 -- ---- the line of a keyword
 
-branch : {A : Type 0} (b : Bool) (x y : Result A ScriptFault) (z : A) (P : Type 0) → (b ≡ true → x ≡ Ok z → P) → (y ≡ Ok z → P) → cond b x y ≡ Ok z → P
-branch true x y z P p q e = p refl e
-branch false x y z P p q e = q e
+call_said : (scope : Scope) (who : ℕ) (k : Keyword) (words : Words) (st : Statement) → call_at scope who k words ≡ Ok st → Behind scope who k st words
+unfolding call_at
+call_said scope who Keyword.Event words st e = event scope who words st e
+call_said scope who Keyword.Semaphore words st e = semaphore scope who words st e
+call_said scope who Keyword.Mutex words st e = mutex scope who words st e
+call_said scope who Keyword.Set words st e = act scope who words st Keyword.Set (λ object. Act.SetEvent object) (λ handle first caller spelled. (caller, (refl, spelled))) e
+call_said scope who Keyword.Reset words st e = act scope who words st Keyword.Reset (λ object. Act.ResetEvent object) (λ handle first caller spelled. (caller, (refl, spelled))) e
+call_said scope who Keyword.Pulse words st e = act scope who words st Keyword.Pulse (λ object. Act.PulseEvent object) (λ handle first caller spelled. (caller, (refl, spelled))) e
+call_said scope who Keyword.Release words st e = release scope who words st e
+call_said scope who Keyword.Unlock words st e = act scope who words st Keyword.Unlock (λ object. Act.ReleaseMutex object) (λ handle first caller spelled. (caller, (refl, spelled))) e
+call_said scope who Keyword.Apc words st e = apc scope who words st e
+call_said scope who Keyword.Any words st e = objects_wait scope who words st Keyword.Any false (λ handles ms mode first caller spelled. (caller, (refl, spelled))) e
+call_said scope who Keyword.All words st e = objects_wait scope who words st Keyword.All true (λ handles ms mode first caller spelled. (caller, (refl, spelled))) e
+call_said scope who Keyword.Sleep words st e = sleep scope who words st e
+call_said scope who Keyword.Next words st e = bare scope who words st Keyword.Next (Call.Act Act.NextApc) (λ first caller spelled. (caller, (refl, spelled))) e
 
-act_said : (scope : Scope) (who : ℕ) (keyword : List ℕ) (words : List (List ℕ)) (st : Statement) → act_at scope who keyword words ≡ Ok st → said scope st who keyword words
-unfolding act_at
-act_said scope who keyword words st =
-    branch (is_word keyword (codes "event")) _ _ st _ (λ is e. event_said scope who keyword words st (bytes_eq-true _ _ is) e)
-    (branch (is_word keyword (codes "set")) _ _ st _ (λ is e. set_said scope who keyword words st (bytes_eq-true _ _ is) e)
-    (branch (is_word keyword (codes "reset")) _ _ st _ (λ is e. reset_said scope who keyword words st (bytes_eq-true _ _ is) e)
-    (branch (is_word keyword (codes "any")) _ _ st _ (λ is e. any_said scope who keyword words st (bytes_eq-true _ _ is) e)
-    (λ e. absurd (err_is st _ e)))))
+-- a keyword is its text
+keyword_said : (ks : List Keyword) (word : List ℕ) (k : Keyword) → keyword_among ks word ≡ Some k → word ≡ keyword.text_of k
+keyword_said [] word k e = let bad : None ≡ Some k = e in absurd (cc)
+keyword_said (one ∷ others) word k e = by (keyword_said others word k) (bytes_eq word (keyword.text_of one)) refl
+  where
+    by : (keyword_among others word ≡ Some k → word ≡ keyword.text_of k) → (b : Bool) → bytes_eq word (keyword.text_of one) ≡ b → word ≡ keyword.text_of k
+    by more true is =
+        let same : Some one ≡ Some k = rw is at e in
+        let one_is : one ≡ k = (cc) in
+        bytes_eq-true word (keyword.text_of one) is ∙ ap keyword.text_of one_is
+    by more false is = more (rw is at e)
 
-statement_said : (scope : Scope) (words : List (List ℕ)) (st : Statement) → statement_at scope words ≡ Ok st → IsStatement scope st words
+caller_said : (scope : Scope) (who : ℕ) (first : List ℕ) (words : Words) (st : Statement) → caller_of first ≡ Some who → caller_at scope who words ≡ Ok st → IsStatement scope st (first ∷ words)
+unfolding caller_at
+caller_said scope who first [] st caller e = absurd (err_is st _ e)
+caller_said scope who first (word ∷ words) st caller e = by (keyword_of word) refl
+  where
+    by : (o : Option Keyword) → keyword_of word ≡ o → IsStatement scope st (first ∷ word ∷ words)
+    by None is = absurd (err_is st _ (rw is at e))
+    by (Some k) is =
+        let text = keyword_said keywords word k is in
+        subst (λ (word : List ℕ). IsStatement scope st (first ∷ word ∷ words)) (sym text) (call_said scope who k words st (rw is at e) first caller)
+
+statement_said : (scope : Scope) (words : Words) (st : Statement) → statement_at scope words ≡ Ok st → IsStatement scope st words
 unfolding statement_at
-statement_said scope [] st e = subst (λ (st : Statement). IsStatement scope st []) (ok_is Blank st e) tt
-statement_said scope (first ∷ words) st e = by (caller_of first) refl words e
+statement_said scope [] st e = subst (λ (st : Statement). IsStatement scope st []) (ok_is Blank st e) (let blank : Spells scope [] [] = tt in blank)
+statement_said scope (first ∷ words) st e = by (caller_of first) refl
   where
-    by : (o : Option ℕ) → caller_of first ≡ o → (words : List (List ℕ)) → statement_at scope (first ∷ words) ≡ Ok st → IsStatement scope st (first ∷ words)
-    by None is words h = absurd (err_is st _ (rw is at h))
-    by (Some who) is [] h = absurd (err_is st _ (rw is at h))
-    by (Some who) is (keyword ∷ rest) h = act_said scope who keyword rest st (rw is at h) first is
+    by : (o : Option ℕ) → caller_of first ≡ o → IsStatement scope st (first ∷ words)
+    by None caller = absurd (err_is st _ (rw caller at e))
+    by (Some who) caller = caller_said scope who first words st caller (rw caller at e)
 
-opening_said : (words : List (List ℕ)) (threads : ℕ) → opening_at words ≡ Ok (Some threads) → IsOpening threads words
-unfolding opening_at threads_at number_at
+-- ---- before `threads`
+
+opened_by : (words : Words) (found : Option ℕ) → threads_at words ≡ Ok found → (threads : ℕ) × (found ≡ Some threads) × Spells (record { threads = 0; names = [] }) (Number 1 256 threads ∷ []) words
+unfolding threads_at
+opened_by words found e =
+    let n = number_step (record { threads = 0; names = [] }) words found 1 256 (λ n rest. end_at rest >>= λ ended. Ok (Some n)) e in
+    let end = ended (record { threads = 0; names = [] }) n.rest (Some n.first) found n.after in
+    (n.first, sym end.same, n.spells [] end.spells)
+
+opening_said : (words : Words) (threads : ℕ) → opening_at words ≡ Ok (Some threads) → IsOpening threads words
+unfolding opening_at
 opening_said [] threads e = let bad : None ≡ Some threads = ok_is None (Some threads) e in absurd (cc)
-opening_said (first ∷ words) threads e =
-    branch (is_word first (codes "threads")) (threads_at words) (Err ThreadsExpected) (Some threads) (IsOpening threads (first ∷ words)) opened (λ h. absurd (err_is (Some threads) _ h)) e
+opening_said (first ∷ words) threads e = by (is_word first (codes "threads")) refl
   where
-    opened : is_word first (codes "threads") ≡ true → threads_at words ≡ Ok (Some threads) → IsOpening threads (first ∷ words)
-    opened is e =
-        let n = bound (number_at 1 256 words) (λ n. end_at n.1 >>= λ ended. Ok (Some n.0)) (Some threads) e in
-        let there = taken (number_in 1 256) (NumberPlace 1 256) words (n.first).0 (n.first).1 n.reads in
-        let end = bound (end_at (n.first).1) (λ ended. Ok (Some (n.first).0)) (Some threads) n.then in
-        let none = ended (n.first).1 end.reads in
-        let same : Some (n.first).0 ≡ Some threads = ok_is _ _ end.then in
-        let says : number_in 1 256 there.word ≡ Some threads = there.says ∙ same in
-        let front : words ≡ there.word ∷ [] = there.front ∙ ap (λ (rest : List (List ℕ)). there.word ∷ rest) none in
-        (bytes_eq-true _ _ is, subst (Spells (record { threads = 0; names = [] }) (Number 1 256 threads ∷ [])) (sym front) (says, tt))
+    by : (b : Bool) → is_word first (codes "threads") ≡ b → IsOpening threads (first ∷ words)
+    by true is =
+        let opened = opened_by words (Some threads) (rw is at e) in
+        let same : opened.0 ≡ threads = let h : Some threads ≡ Some opened.0 = opened.1 in (cc) in
+        (bytes_eq-true _ _ is, subst (λ (n : ℕ). Spells (record { threads = 0; names = [] }) (Number 1 256 n ∷ []) words) same opened.2)
+    by false is = absurd (err_is (Some threads) ThreadsExpected (rw is at e))
 
-blank_said : (words : List (List ℕ)) → opening_at words ≡ Ok None → words ≡ []
-unfolding opening_at threads_at number_at
+blank_said : (words : Words) → opening_at words ≡ Ok None → words ≡ []
+unfolding opening_at
 blank_said [] e = refl
-blank_said (first ∷ words) e =
-    branch (is_word first (codes "threads")) (threads_at words) (Err ThreadsExpected) None (first ∷ words ≡ []) opened (λ h. absurd (err_is {A = Option ℕ} None _ h)) e
+blank_said (first ∷ words) e = by (is_word first (codes "threads")) refl
   where
-    opened : is_word first (codes "threads") ≡ true → threads_at words ≡ Ok None → first ∷ words ≡ []
-    opened is e =
-        let n = bound (number_at 1 256 words) (λ n. end_at n.1 >>= λ ended. Ok (Some n.0)) None e in
-        let end = bound (end_at (n.first).1) (λ ended. Ok (Some (n.first).0)) None n.then in
-        let same : Some (n.first).0 ≡ None = ok_is _ _ end.then in
+    by : (b : Bool) → is_word first (codes "threads") ≡ b → first ∷ words ≡ []
+    by true is =
+        let opened = opened_by words None (rw is at e) in
+        let bad : None ≡ Some opened.0 = opened.1 in
         absurd (cc)
+    by false is = absurd (err_is {A = Option ℕ} None ThreadsExpected (rw is at e))
 
 -- ---- a whole line
 
-record Read (A : Type 0) (parse : List (List ℕ) → Result A ScriptFault) (bytes : List ℕ) (x : A) : Type 0 where
+record Read (A : Type 0) (parse : Words → Result A ScriptFault) (bytes : List ℕ) (x : A) : Type 0 where
   plain : IsPlainLine bytes
   reads : parse (words_of (text_of bytes)) ≡ Ok x
 
-line : {A : Type 0} (parse : List (List ℕ) → Result A ScriptFault) (bytes : List ℕ) (x : A) → (short_line bytes >>= λ line. (plain_text line >>= λ text. parse (words_of text))) ≡ Ok x → Read A parse bytes x
+line : {A : Type 0} (parse : Words → Result A ScriptFault) (bytes : List ℕ) (x : A) → (short_line bytes >>= λ line. (plain_text line >>= λ text. parse (words_of text))) ≡ Ok x → Read A parse bytes x
 unfolding plain_text
 line parse bytes x e = by (nat_le (length bytes) 4096) (list_all is_plain (text_of bytes)) refl refl e
   where

@@ -1,17 +1,20 @@
 -- The lines of a script: which words make which statement, and the first fault of words that make none.
-use Rattle.std.specs.Prelude.{◌≡◌, ℕ, ◌+◌, ◌*◌, ◌-◌, ◌^◌, ◌&&◌, nat_lt, nat_le, is_some, not, Bool, true, false, List, [], ◌∷◌, ◌++◌, length, Option, Some, None, if◌then◌else◌, codes}
+use Rattle.std.specs.Prelude.{◌≡◌, ℕ, ℤ, pos, neg_ℤ, ◌+◌, ◌*◌, ◌-◌, ◌^◌, ◌&&◌, ◌==◌, nat_lt, nat_le, is_some, not, option_map, drop, Bool, true, false, List, [], ◌∷◌, ◌++◌, length, Option, Some, None, if◌then◌else◌, codes}
 use Rattle.std.specs.List.{list_all}
 use Rattle.std.specs.Str.{bytes_eq}
 use Rattle.nt_status.specs.Status.{infinite}
 use Rattle.nt_core.specs.declared.call.Call.{Call}
 use Rattle.nt_core.specs.declared.call.Act.{Act}
 use Rattle.nt_core.specs.declared.call.WaitCall.{WaitCall}
-use Rattle.nt_script.specs.Words.{text_of, words_of, is_plain, is_digit, are_digits, number_of, caller_of, is_name, up_to}
+use Rattle.nt_script.specs.Words.{words_of, text_of, is_plain, is_digit, are_digits, number_of, caller_of, is_name, up_to}
 use Rattle.nt_script.specs.Scope.{Scope, bound_in}
 use Rattle.nt_script.specs.declared.fault.ScriptFault.{ScriptFault}
 use Rattle.nt_script.specs.declared.fault.ScriptFault.TheVariants.{LineTooLong, BadByte, ThreadsExpected, UnknownWord, MissingWord, BadNumber, BadName, NameTaken, UnknownName, ExtraWord}
 use Rattle.nt_script.specs.declared.parser.Statement.{Statement}
 use Rattle.nt_script.specs.declared.parser.Statement.TheVariants.{Blank, Create, Perform}
+use Rattle.nt_script.specs.declared.keyword.Keyword.{Keyword}
+use Rattle.nt_script.specs.Keywords.{keyword_of}
+use Rattle.nt_script.specs.Keywords as keyword
 
 -- ---- what one word may say
 
@@ -44,12 +47,25 @@ object_in scope word = if are_digits word then number_in 0 (2 ^ 32 - 1) word els
 abbrev pub is_word : List ℕ → List ℕ → Bool
 is_word word text = bytes_eq word text
 
--- no other timeout than the one that never comes
-abbrev pub time_in : List ℕ → Option ℕ
-time_in word = if is_word word (codes "inf") then Some infinite else None
+-- whether a word begins with `-`
+abbrev pub is_negative : List ℕ → Bool
+is_negative [] = false
+is_negative (first ∷ others) = first == 45
 
-abbrev pub mode_in : List ℕ → Option (Unit {0})
-mode_in word = if is_word word (codes "plain") then Some tt else None
+-- a signed number: `-` may stand before its digits; `half` is how many negative ones there are
+abbrev pub signed_in : ℕ → List ℕ → Option ℤ
+signed_in half word =
+    if is_negative word
+    then option_map (λ n. neg_ℤ (pos n)) (number_in 0 half (drop 1 word))
+    else option_map (λ n. pos n) (number_in 0 (half - 1) word)
+
+-- milliseconds, or `inf`
+abbrev pub time_in : List ℕ → Option ℕ
+time_in word = if is_word word (codes "inf") then Some infinite else number_in 0 (2 ^ 32 - 1) word
+
+-- whether the wait is alertable
+abbrev pub mode_in : List ℕ → Option Bool
+mode_in word = if is_word word (codes "plain") then Some false else (if is_word word (codes "alertable") then Some true else None)
 
 -- ---- statements, as words
 
@@ -60,8 +76,9 @@ pub data Part : Type 0 where
   NewName : List ℕ → Part
   Object : ℕ → Part
   Number : ℕ → ℕ → ℕ → Part
+  Signed : ℕ → ℤ → Part
   Time : ℕ → Part
-  Plain : Part
+  Mode : Bool → Part
 
 -- the word says that
 abbrev pub Says : Scope → Part → List ℕ → Type 0
@@ -70,8 +87,9 @@ Says scope (Word text) word = word ≡ text
 Says scope (NewName name) word = free_name_in scope word ≡ Some name
 Says scope (Object handle) word = object_in scope word ≡ Some handle
 Says scope (Number least most n) word = number_in least most word ≡ Some n
+Says scope (Signed half n) word = signed_in half word ≡ Some n
 Says scope (Time ms) word = time_in word ≡ Some ms
-Says scope Plain word = mode_in word ≡ Some tt
+Says scope (Mode alertable) word = mode_in word ≡ Some alertable
 
 -- the words say these parts, one each
 abbrev pub Spells : Scope → List Part → List (List ℕ) → Type 0
@@ -89,6 +107,14 @@ abbrev pub objects : List ℕ → List Part
 objects [] = []
 objects (handle ∷ handles) = Object handle ∷ objects handles
 
+-- a caller, and a keyword
+abbrev pub begins : ℕ → Keyword → List Part → List Part
+begins who k parts = Caller who ∷ Word (keyword.text_of k) ∷ parts
+
+-- 2 ^ 64 - 1 is the greatest routine and argument
+abbrev pub value : ℕ → Part
+value n = Number 0 (2 ^ 64 - 1) n
+
 -- the words are this statement
 abbrev pub IsStatement : Scope → Statement → List (List ℕ) → Type 0
 -- (nothing)
@@ -96,13 +122,29 @@ IsStatement scope Blank words = Spells scope [] words
 -- tN event NAME [manual] [set]
 IsStatement scope (Create who name (Act.CreateEvent flags)) words =
     (manual set : Bool) × (flags ≡ one_if manual + 2 * one_if set)
-    × Spells scope (Caller who ∷ Word (codes "event") ∷ NewName name ∷ (word_if manual (codes "manual") ++ word_if set (codes "set"))) words
--- tN set OBJ
-IsStatement scope (Perform who (Call.Act (Act.SetEvent handle))) words = Spells scope (Caller who ∷ Word (codes "set") ∷ Object handle ∷ []) words
--- tN reset OBJ
-IsStatement scope (Perform who (Call.Act (Act.ResetEvent handle))) words = Spells scope (Caller who ∷ Word (codes "reset") ∷ Object handle ∷ []) words
--- tN any TIME MODE OBJ..
-IsStatement scope (Perform who (Call.Wait (WaitCall.Objects handles false ms false))) words = Spells scope (Caller who ∷ Word (codes "any") ∷ Time ms ∷ Plain ∷ objects handles) words
+    × Spells scope (begins who Keyword.Event (NewName name ∷ (word_if manual (codes "manual") ++ word_if set (codes "set")))) words
+-- tN semaphore NAME INIT MAX
+IsStatement scope (Create who name (Act.CreateSemaphore initial maximum)) words = Spells scope (begins who Keyword.Semaphore (NewName name ∷ Signed (2 ^ 31) initial ∷ Signed (2 ^ 31) maximum ∷ [])) words
+-- tN mutex NAME [owned]
+IsStatement scope (Create who name (Act.CreateMutex flags)) words = (owned : Bool) × (flags ≡ one_if owned) × Spells scope (begins who Keyword.Mutex (NewName name ∷ word_if owned (codes "owned"))) words
+-- tN set OBJ, tN reset OBJ, tN pulse OBJ
+IsStatement scope (Perform who (Call.Act (Act.SetEvent handle))) words = Spells scope (begins who Keyword.Set (Object handle ∷ [])) words
+IsStatement scope (Perform who (Call.Act (Act.ResetEvent handle))) words = Spells scope (begins who Keyword.Reset (Object handle ∷ [])) words
+IsStatement scope (Perform who (Call.Act (Act.PulseEvent handle))) words = Spells scope (begins who Keyword.Pulse (Object handle ∷ [])) words
+-- tN release OBJ COUNT
+IsStatement scope (Perform who (Call.Act (Act.ReleaseSemaphore handle count))) words = Spells scope (begins who Keyword.Release (Object handle ∷ Signed (2 ^ 31) count ∷ [])) words
+-- tN unlock OBJ
+IsStatement scope (Perform who (Call.Act (Act.ReleaseMutex handle))) words = Spells scope (begins who Keyword.Unlock (Object handle ∷ [])) words
+-- tN apc OBJ ROUTINE ARG
+IsStatement scope (Perform who (Call.Act (Act.QueueApc handle apc arg))) words = Spells scope (begins who Keyword.Apc (Object handle ∷ value apc ∷ value arg ∷ [])) words
+-- tN next
+IsStatement scope (Perform who (Call.Act Act.NextApc)) words = Spells scope (begins who Keyword.Next []) words
+-- tN any TIME MODE OBJ.., tN all TIME MODE OBJ..
+IsStatement scope (Perform who (Call.Wait (WaitCall.Objects handles false ms alertable))) words = Spells scope (begins who Keyword.Any (Time ms ∷ Mode alertable ∷ objects handles)) words
+IsStatement scope (Perform who (Call.Wait (WaitCall.Objects handles true ms alertable))) words = Spells scope (begins who Keyword.All (Time ms ∷ Mode alertable ∷ objects handles)) words
+-- tN sleep TIME MODE
+IsStatement scope (Perform who (Call.Wait (WaitCall.Sleep ms alertable))) words = Spells scope (begins who Keyword.Sleep (Time ms ∷ Mode alertable ∷ [])) words
+-- no other act makes an object, and those that do are no lines without a name
 IsStatement scope statement words = ⊥
 
 -- the words tell how many threads there are: threads N
@@ -116,6 +158,7 @@ pub data Place : Type 0 where
   NamePlace : Place
   ObjectPlace : Place
   NumberPlace : ℕ → ℕ → Place
+  SignedPlace : ℕ → Place
   TimePlace : Place
   ModePlace : Place
 
@@ -123,6 +166,7 @@ abbrev pub fits : Scope → Place → List ℕ → Bool
 fits scope NamePlace word = is_some (free_name_in scope word)
 fits scope ObjectPlace word = is_some (object_in scope word)
 fits scope (NumberPlace least most) word = is_some (number_in least most word)
+fits scope (SignedPlace half) word = is_some (signed_in half word)
 fits scope TimePlace word = is_some (time_in word)
 fits scope ModePlace word = is_some (mode_in word)
 
@@ -135,8 +179,12 @@ abbrev pub blame : Place → List ℕ → ScriptFault
 blame NamePlace word = if is_name word then NameTaken else BadName
 blame ObjectPlace word = if are_digits word then BadNumber else UnknownName
 blame (NumberPlace least most) word = BadNumber
+blame (SignedPlace half) word = BadNumber
 blame TimePlace word = if begins_with_digit word then BadNumber else UnknownWord
 blame ModePlace word = UnknownWord
+
+abbrev pub ValuePlace : Place
+ValuePlace = NumberPlace 0 (2 ^ 64 - 1)
 
 -- what may stand behind the places: these words in this order, each or not; or one word of a kind, any number of times
 pub data Behind : Type 0 where
@@ -148,9 +196,6 @@ pub record Shape : Type 0 where
   pub places : List Place
   pub behind : Behind
 
-abbrev pub shape : List Place → Behind → Option Shape
-shape places behind = Some (record { places = places; behind = behind })
-
 abbrev pub options_fault : List (List ℕ) → List (List ℕ) → Option ScriptFault
 options_fault [] [] = None
 options_fault [] (word ∷ words) = Some ExtraWord
@@ -161,42 +206,63 @@ abbrev pub each_fault : Scope → Place → List (List ℕ) → Option ScriptFau
 each_fault scope place [] = None
 each_fault scope place (word ∷ words) = if fits scope place word then each_fault scope place words else Some (blame place word)
 
+-- the first place that lacks its word, or the first word that may not stand where it does; then what is said of the words behind
+abbrev pub places_fault : Scope → List Place → (List (List ℕ) → Option ScriptFault) → List (List ℕ) → Option ScriptFault
+places_fault scope [] behind words = behind words
+places_fault scope (place ∷ places) behind [] = Some MissingWord
+places_fault scope (place ∷ places) behind (word ∷ words) = if fits scope place word then places_fault scope places behind words else Some (blame place word)
+
 abbrev pub behind_fault : Scope → Behind → List (List ℕ) → Option ScriptFault
 behind_fault scope (Options options) words = options_fault options words
 behind_fault scope (Each place) words = each_fault scope place words
 
--- the first place that lacks its word, or the first word that may not stand where it does
-abbrev pub places_fault : Scope → List Place → Behind → List (List ℕ) → Option ScriptFault
-places_fault scope [] behind words = behind_fault scope behind words
-places_fault scope (place ∷ places) behind [] = Some MissingWord
-places_fault scope (place ∷ places) behind (word ∷ words) = if fits scope place word then places_fault scope places behind words else Some (blame place word)
+abbrev pub shape_fault : Scope → Shape → List (List ℕ) → Option ScriptFault
+shape_fault scope shape words = places_fault scope shape.places (behind_fault scope shape.behind) words
+
+abbrev pub shape : List Place → Behind → Shape
+shape places behind = record { places = places; behind = behind }
+
+-- these places and no more
+abbrev pub only : List Place → Shape
+only places = shape places (Options [])
 
 -- the line of each keyword
-abbrev pub shape_of : List ℕ → Option Shape
-shape_of keyword =
-    if is_word keyword (codes "event") then shape (NamePlace ∷ []) (Options (codes "manual" ∷ codes "set" ∷ []))
-    else (if is_word keyword (codes "set") then shape (ObjectPlace ∷ []) (Options [])
-    else (if is_word keyword (codes "reset") then shape (ObjectPlace ∷ []) (Options [])
-    else (if is_word keyword (codes "any") then shape (TimePlace ∷ ModePlace ∷ []) (Each ObjectPlace)
-    else None)))
+abbrev pub shape_of : Keyword → Shape
+shape_of Keyword.Event = shape (NamePlace ∷ []) (Options (codes "manual" ∷ codes "set" ∷ []))
+shape_of Keyword.Semaphore = only (NamePlace ∷ SignedPlace (2 ^ 31) ∷ SignedPlace (2 ^ 31) ∷ [])
+shape_of Keyword.Mutex = shape (NamePlace ∷ []) (Options (codes "owned" ∷ []))
+shape_of Keyword.Set = only (ObjectPlace ∷ [])
+shape_of Keyword.Reset = only (ObjectPlace ∷ [])
+shape_of Keyword.Pulse = only (ObjectPlace ∷ [])
+shape_of Keyword.Release = only (ObjectPlace ∷ SignedPlace (2 ^ 31) ∷ [])
+shape_of Keyword.Unlock = only (ObjectPlace ∷ [])
+shape_of Keyword.Apc = only (ObjectPlace ∷ ValuePlace ∷ ValuePlace ∷ [])
+shape_of Keyword.Any = shape (TimePlace ∷ ModePlace ∷ []) (Each ObjectPlace)
+shape_of Keyword.All = shape (TimePlace ∷ ModePlace ∷ []) (Each ObjectPlace)
+shape_of Keyword.Sleep = only (TimePlace ∷ ModePlace ∷ [])
+shape_of Keyword.Next = only []
 
-abbrev pub shape_fault : Scope → Option Shape → List (List ℕ) → Option ScriptFault
-shape_fault scope None words = Some UnknownWord
-shape_fault scope (Some shape) words = places_fault scope shape.places shape.behind words
+-- the words behind a keyword, if it is one
+abbrev pub keyword_fault : Scope → Option Keyword → List (List ℕ) → Option ScriptFault
+keyword_fault scope None words = Some UnknownWord
+keyword_fault scope (Some keyword) words = shape_fault scope (shape_of keyword) words
 
-abbrev pub keyword_fault : Scope → List (List ℕ) → Option ScriptFault
-keyword_fault scope [] = Some MissingWord
-keyword_fault scope (keyword ∷ words) = shape_fault scope (shape_of keyword) words
+-- the words behind a caller
+abbrev pub caller_fault : Scope → List (List ℕ) → Option ScriptFault
+caller_fault scope [] = Some MissingWord
+caller_fault scope (word ∷ words) = keyword_fault scope (keyword_of word) words
 
 -- the first fault of a line's words behind `threads`
 abbrev pub words_fault : Scope → List (List ℕ) → Option ScriptFault
 words_fault scope [] = None
-words_fault scope (first ∷ words) = if is_some (caller_of first) then keyword_fault scope words else Some UnknownWord
+words_fault scope (first ∷ words) =
+    if is_some (caller_of first) then caller_fault scope words else Some UnknownWord
 
 -- the first fault of a line's words before `threads`, and on the `threads` line
 abbrev pub opening_fault : List (List ℕ) → Option ScriptFault
 opening_fault [] = None
-opening_fault (first ∷ words) = if is_word first (codes "threads") then places_fault (record { threads = 0; names = [] }) (NumberPlace 1 256 ∷ []) (Options []) words else Some ThreadsExpected
+opening_fault (first ∷ words) =
+    if is_word first (codes "threads") then shape_fault (record { threads = 0; names = [] }) (only (NumberPlace 1 256 ∷ [])) words else Some ThreadsExpected
 
 -- ---- a whole line
 

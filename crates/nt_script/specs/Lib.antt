@@ -4,6 +4,7 @@ pub mod Lines
 pub mod Words
 pub mod Scope
 pub mod Naming
+pub mod Keywords
 pub mod Grammar
 pub mod Reading
 pub mod Transcript

@@ -1,10 +1,12 @@
 -- How the parser reads a line, word by word from the left, up to the first fault.
-use Rattle.std.specs.Prelude.{◌≡◌, ℕ, ◌+◌, ◌-◌, ◌^◌, nat_le, is_some, Bool, true, false, List, [], ◌∷◌, length, Option, Some, None, Result, Ok, Err, if◌then◌else◌, codes}
+use Rattle.std.specs.Prelude.{◌≡◌, ℕ, ℤ, ◌+◌, ◌-◌, ◌^◌, nat_le, is_some, Bool, true, false, List, [], ◌∷◌, length, Option, Some, None, Result, Ok, Err, if◌then◌else◌, codes}
 use Rattle.std.specs.List.{list_all}
 use Rattle.std.specs.Str.{bytes_eq}
 use Rattle.nt_script.specs.Words.{text_of, words_of, is_plain, caller_of}
 use Rattle.nt_script.specs.Scope.{Scope}
-use Rattle.nt_script.specs.Grammar.{Place, NamePlace, ObjectPlace, NumberPlace, TimePlace, ModePlace, blame, is_word, number_in, free_name_in, object_in, time_in, mode_in}
+use Rattle.nt_script.specs.Grammar.{Place, NamePlace, ObjectPlace, NumberPlace, SignedPlace, TimePlace, ModePlace, blame, is_word, number_in, signed_in, free_name_in, object_in, time_in, mode_in}
+use Rattle.nt_script.specs.declared.keyword.Keyword.{Keyword}
+use Rattle.nt_script.specs.Keywords.{keyword_of}
 use Rattle.nt_script.specs.declared.fault.ScriptFault.{ScriptFault}
 use Rattle.nt_script.specs.declared.fault.ScriptFault.TheVariants.{LineTooLong, BadByte, ThreadsExpected, UnknownWord, MissingWord, ExtraWord}
 use Rattle.nt_script.specs.declared.parser.Statement.{Statement}
@@ -78,10 +80,13 @@ free_name_at scope words = value_at (free_name_in scope) NamePlace words
 unfoldable pub object_at : Scope → List (List ℕ) → Result (ℕ × List (List ℕ)) ScriptFault
 object_at scope words = value_at (object_in scope) ObjectPlace words
 
+unfoldable pub signed_at : ℕ → List (List ℕ) → Result (ℤ × List (List ℕ)) ScriptFault
+signed_at half words = value_at (signed_in half) (SignedPlace half) words
+
 unfoldable pub time_at : List (List ℕ) → Result (ℕ × List (List ℕ)) ScriptFault
 time_at words = value_at time_in TimePlace words
 
-unfoldable pub mode_at : List (List ℕ) → Result (Unit {0} × List (List ℕ)) ScriptFault
+unfoldable pub mode_at : List (List ℕ) → Result (Bool × List (List ℕ)) ScriptFault
 mode_at words = value_at mode_in ModePlace words
 
 -- all the words that are left, as objects
@@ -103,6 +108,23 @@ event_at scope who words = do
   ended ← end_at set.1
   Ok (Create who name.0 (Act.CreateEvent ((if manual.0 then 1 else 0) + (if set.0 then 2 else 0))))
 
+-- tN semaphore NAME INIT MAX
+unfoldable pub semaphore_at : Scope → ℕ → List (List ℕ) → Result Statement ScriptFault
+semaphore_at scope who words = do
+  name ← free_name_at scope words
+  initial ← signed_at (2 ^ 31) name.1
+  maximum ← signed_at (2 ^ 31) initial.1
+  ended ← end_at maximum.1
+  Ok (Create who name.0 (Act.CreateSemaphore initial.0 maximum.0))
+
+-- tN mutex NAME [owned]
+unfoldable pub mutex_at : Scope → ℕ → List (List ℕ) → Result Statement ScriptFault
+mutex_at scope who words = do
+  name ← free_name_at scope words
+  let owned = option_at (codes "owned") name.1
+  ended ← end_at owned.1
+  Ok (Create who name.0 (Act.CreateMutex (if owned.0 then 1 else 0)))
+
 -- one object, and nothing behind it
 unfoldable pub only_object_at : Scope → List (List ℕ) → Result ℕ ScriptFault
 only_object_at scope words = do
@@ -110,29 +132,73 @@ only_object_at scope words = do
   ended ← end_at object.1
   Ok object.0
 
--- tN any TIME MODE OBJ..
-unfoldable pub any_at : Scope → ℕ → List (List ℕ) → Result Statement ScriptFault
-any_at scope who words = do
+-- an act on one object
+abbrev pub act_on : Scope → ℕ → (ℕ → Act) → List (List ℕ) → Result Statement ScriptFault
+act_on scope who act words = only_object_at scope words >>= λ object. Ok (Perform who (Call.Act (act object)))
+
+-- tN release OBJ COUNT
+unfoldable pub release_at : Scope → ℕ → List (List ℕ) → Result Statement ScriptFault
+release_at scope who words = do
+  semaphore ← object_at scope words
+  count ← signed_at (2 ^ 31) semaphore.1
+  ended ← end_at count.1
+  Ok (Perform who (Call.Act (Act.ReleaseSemaphore semaphore.0 count.0)))
+
+-- tN apc OBJ ROUTINE ARG
+unfoldable pub apc_at : Scope → ℕ → List (List ℕ) → Result Statement ScriptFault
+apc_at scope who words = do
+  thread ← object_at scope words
+  routine ← number_at 0 (2 ^ 64 - 1) thread.1
+  arg ← number_at 0 (2 ^ 64 - 1) routine.1
+  ended ← end_at arg.1
+  Ok (Perform who (Call.Act (Act.QueueApc thread.0 routine.0 arg.0)))
+
+-- tN any TIME MODE OBJ.., tN all TIME MODE OBJ..
+unfoldable pub objects_wait_at : Scope → ℕ → Bool → List (List ℕ) → Result Statement ScriptFault
+objects_wait_at scope who all words = do
   time ← time_at words
   mode ← mode_at time.1
   handles ← objects_at scope mode.1
-  Ok (Perform who (Call.Wait (WaitCall.Objects handles false time.0 false)))
+  Ok (Perform who (Call.Wait (WaitCall.Objects handles all time.0 mode.0)))
 
--- tN event .., tN set OBJ, tN reset OBJ, tN any ..
-unfoldable pub act_at : Scope → ℕ → List ℕ → List (List ℕ) → Result Statement ScriptFault
-act_at scope who keyword words =
-    if is_word keyword (codes "event") then event_at scope who words
-    else (if is_word keyword (codes "set") then (only_object_at scope words >>= λ object. Ok (Perform who (Call.Act (Act.SetEvent object))))
-    else (if is_word keyword (codes "reset") then (only_object_at scope words >>= λ object. Ok (Perform who (Call.Act (Act.ResetEvent object))))
-    else (if is_word keyword (codes "any") then any_at scope who words
-    else Err UnknownWord)))
+-- tN sleep TIME MODE
+unfoldable pub sleep_at : ℕ → List (List ℕ) → Result Statement ScriptFault
+sleep_at who words = do
+  time ← time_at words
+  mode ← mode_at time.1
+  ended ← end_at mode.1
+  Ok (Perform who (Call.Wait (WaitCall.Sleep time.0 mode.0)))
+
+-- a call that needs no more words
+abbrev pub bare_at : ℕ → Call → List (List ℕ) → Result Statement ScriptFault
+bare_at who call words = end_at words >>= λ ended. Ok (Perform who call)
+
+-- the line of each keyword
+unfoldable pub call_at : Scope → ℕ → Keyword → List (List ℕ) → Result Statement ScriptFault
+call_at scope who Keyword.Event words = event_at scope who words
+call_at scope who Keyword.Semaphore words = semaphore_at scope who words
+call_at scope who Keyword.Mutex words = mutex_at scope who words
+call_at scope who Keyword.Set words = act_on scope who (λ object. Act.SetEvent object) words
+call_at scope who Keyword.Reset words = act_on scope who (λ object. Act.ResetEvent object) words
+call_at scope who Keyword.Pulse words = act_on scope who (λ object. Act.PulseEvent object) words
+call_at scope who Keyword.Release words = release_at scope who words
+call_at scope who Keyword.Unlock words = act_on scope who (λ object. Act.ReleaseMutex object) words
+call_at scope who Keyword.Apc words = apc_at scope who words
+call_at scope who Keyword.Any words = objects_wait_at scope who false words
+call_at scope who Keyword.All words = objects_wait_at scope who true words
+call_at scope who Keyword.Sleep words = sleep_at who words
+call_at scope who Keyword.Next words = bare_at who (Call.Act Act.NextApc) words
+
+-- behind a caller
+unfoldable pub caller_at : Scope → ℕ → List (List ℕ) → Result Statement ScriptFault
+caller_at scope who words = do
+  word ← word_at words
+  keyword ← or_fault (keyword_of word.0) UnknownWord
+  call_at scope who keyword word.1
 
 unfoldable pub statement_at : Scope → List (List ℕ) → Result Statement ScriptFault
 statement_at scope [] = Ok Blank
-statement_at scope (first ∷ words) = do
-  who ← or_fault (caller_of first) UnknownWord
-  keyword ← word_at words
-  act_at scope who keyword.0 keyword.1
+statement_at scope (first ∷ words) = or_fault (caller_of first) UnknownWord >>= λ who. caller_at scope who words
 
 unfoldable pub threads_at : List (List ℕ) → Result (Option ℕ) ScriptFault
 threads_at words = do

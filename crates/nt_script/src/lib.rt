@@ -4,8 +4,10 @@
 mod device;
 mod fault;
 mod input;
+mod keyword;
 mod output;
 mod parser;
+mod places;
 mod runner;
 mod scope;
 mod session;

@@ -1,21 +1,18 @@
 //! From the words of a line to what it says: a function for each line of the grammar.
 
-ghost use Rattle.std.specs.Prelude.{◌≡◌, ◌≤◌, ◌<◌, ◌^◌, length, IfOk, IfSome, None, string_bytes};
-ghost use Rattle.nt_script.specs.Scope.{bound_in};
+ghost use Rattle.std.specs.Prelude.{◌≡◌, ◌≤◌, ◌<◌, IfOk, IfSome, string_bytes};
 ghost use Rattle.nt_script.specs.Naming.{NamesFree};
-ghost use Rattle.nt_script.specs.Grammar.{number_in, named_object, object_in};
-ghost use Rattle.nt_script.specs.Reading.{Takes, Gives, number_at, free_name_at, object_at, objects_at, event_at, only_object_at, time_at, mode_at, any_at, act_at, statement_at, opening_at, threads_at};
+ghost use Rattle.nt_script.specs.Scope.{Scope};
+ghost use Rattle.nt_script.specs.Reading.{Gives, objects_at, event_at, semaphore_at, mutex_at, only_object_at, release_at, apc_at, objects_wait_at, sleep_at, bare_at, call_at, caller_at, statement_at, opening_at, threads_at};
 
 use crate::fault::{LineFault, ScriptFault};
+use crate::keyword::Keyword;
 use crate::scope::Bindings;
-use crate::words::{Words, are_digits, caller_of, name_of, number_of};
+use crate::words::{Words, caller_of};
 use nt_core::{Act, Call, WaitCall};
 use nt_status::{Handle, Handles};
 use std::alloc::{AllocError, Global};
 use std::marker::Model;
-
-/// The timeout that never comes.
-const INFINITE: u32 = u32::MAX;
 
 /// A name that a creation is to bind.
 #[derive(Debug, Drop)]
@@ -55,97 +52,6 @@ pub(crate) enum Statement {
     Perform { who: u32, call: Call },
 }
 
-impl<'a> Words<'a> {
-    #[tactic(auto, unfolding(crate::specs::Reading::number_at))]
-    fn number(&mut self, least: u64, most: u64) -> Result<u64, ScriptFault>
-        ensures exact { Takes (λ n. n) result self.new (number_at least most self.old) }
-        ensures range { IfOk result (λ n. (least ≤ n) × (n ≤ most)) }
-    {
-        let word = self.next()?;
-        number_in(word, least, most).ok_or(ScriptFault::BadNumber)
-    }
-
-    #[tactic(auto, unfolding(crate::specs::Reading::free_name_at))]
-    fn free_name(&mut self, bindings: &Bindings) -> Result<&'a str, ScriptFault>
-        ensures exact { Takes (λ name. name.now) result self.new (free_name_at bindings.now.scope self.old) }
-        ensures free { IfOk result (λ name. bound_in bindings.now.scope.names name.now ≡ None) }
-    {
-        let word = self.next()?;
-        let Some(name) = name_of(word) else {
-            return Err(ScriptFault::BadName);
-        };
-        if bindings.get(name).is_some() {
-            return Err(ScriptFault::NameTaken);
-        }
-        Ok(name)
-    }
-
-    #[tactic(auto, unfolding(crate::specs::Reading::object_at))]
-    fn object(&mut self, bindings: &Bindings) -> Result<Handle, ScriptFault>
-        ensures { Takes (λ handle. handle) result self.new (object_at bindings.now.scope self.old) }
-    {
-        let word = self.next()?;
-        match object_in(bindings, word) {
-            Some(handle) => Ok(handle),
-            None if are_digits(word) => Err(ScriptFault::BadNumber),
-            None => Err(ScriptFault::UnknownName),
-        }
-    }
-
-    #[tactic(auto, unfolding(crate::specs::Reading::time_at))]
-    fn time(&mut self) -> Result<u32, ScriptFault>
-        ensures { Takes (λ ms. ms) result self.new (time_at self.old) }
-    {
-        match self.next()? {
-            word if word == b"inf".as_slice() => Ok(INFINITE),
-            [b'0'..=b'9', ..] => Err(ScriptFault::BadNumber),
-            _ => Err(ScriptFault::UnknownWord),
-        }
-    }
-
-    #[tactic(auto, unfolding(crate::specs::Reading::mode_at))]
-    fn mode(&mut self) -> Result<(), ScriptFault>
-        ensures { Takes (λ _. tt) result self.new (mode_at self.old) }
-    {
-        if self.next()? == b"plain".as_slice() {
-            Ok(())
-        } else {
-            Err(ScriptFault::UnknownWord)
-        }
-    }
-}
-
-fn number_in(word: &[u8], least: u64, most: u64) -> Option<u64>
-    ensures exact { result ≡ number_in least most word.now }
-    ensures range { IfSome result (λ n. (least ≤ n) × (n ≤ most)) }
-{
-    match number_of(word, 20) {
-        Some(n) if least <= n && n <= most => Some(n),
-        _ => None,
-    }
-}
-
-/// The handle that a word means: digits alone are a handle's number.
-fn object_in(bindings: &Bindings, word: &[u8]) -> Option<Handle>
-    ensures { result ≡ object_in bindings.now.scope word.now }
-{
-    if are_digits(word) {
-        let number = number_in(word, 0, u64::from(u32::MAX))?;
-        return Some(Handle::new(number as u32));
-    }
-    named_object(bindings, word)
-}
-
-/// A thread's object, or what a name stands for.
-fn named_object(bindings: &Bindings, word: &[u8]) -> Option<Handle>
-    ensures { result ≡ named_object bindings.now.scope word.now }
-{
-    if let Some(thread) = caller_of(word) {
-        return (thread < bindings.threads()).then_some(Handle::new(thread));
-    }
-    bindings.get(name_of(word)?)
-}
-
 #[tactic(auto, unfolding(crate::specs::Reading::opening_at))]
 pub(crate) fn parse_opening(mut words: Words) -> Result<Option<u32>, ScriptFault>
     ensures exact { result ≡ opening_at words.entry }
@@ -168,16 +74,7 @@ fn threads(mut words: Words) -> Result<Option<u32>, ScriptFault>
     Ok(Some(count as u32))
 }
 
-/// One object, and nothing behind it.
-#[tactic(auto, unfolding(crate::specs::Reading::only_object_at))]
-fn only_object(bindings: &Bindings, mut words: Words) -> Result<Handle, ScriptFault>
-    ensures { result ≡ only_object_at bindings.now.scope words.entry }
-{
-    let object = words.object(bindings)?;
-    words.end()?;
-    Ok(object)
-}
-
+/// `tN event NAME [manual] [set]`
 #[tactic(auto, unfolding(crate::specs::Reading::event_at))]
 fn event(
     alloc: Global,
@@ -194,35 +91,112 @@ fn event(
     words.end()?;
     let flags = if manual { 1 } else { 0 } + if set { 2 } else { 0 };
     let name = Name::new(alloc, name)?;
-    Ok(Statement::Create {
-        who,
-        name,
-        act: Act::CreateEvent(flags),
-    })
+    let act = Act::CreateEvent(flags);
+    Ok(Statement::Create { who, name, act })
 }
 
-#[tactic(auto, unfolding(crate::specs::Reading::any_at))]
-fn any(
+/// `tN semaphore NAME INIT MAX`
+#[tactic(auto, unfolding(crate::specs::Reading::semaphore_at))]
+fn semaphore(
     alloc: Global,
     bindings: &Bindings,
     who: u32,
     mut words: Words,
 ) -> Result<Statement, LineFault>
-    ensures exact { Gives (λ statement. statement) result (any_at bindings.now.scope who words.entry) }
+    ensures exact { Gives (λ statement. statement) result (semaphore_at bindings.now.scope who words.entry) }
+    ensures free { IfOk result (NamesFree bindings.now.scope) }
+{
+    let name = words.free_name(bindings)?;
+    let initial = words.signed32()?;
+    let maximum = words.signed32()?;
+    words.end()?;
+    let name = Name::new(alloc, name)?;
+    let act = Act::CreateSemaphore { initial, maximum };
+    Ok(Statement::Create { who, name, act })
+}
+
+/// `tN mutex NAME [owned]`
+#[tactic(auto, unfolding(crate::specs::Reading::mutex_at))]
+fn mutex(
+    alloc: Global,
+    bindings: &Bindings,
+    who: u32,
+    mut words: Words,
+) -> Result<Statement, LineFault>
+    ensures exact { Gives (λ statement. statement) result (mutex_at bindings.now.scope who words.entry) }
+    ensures free { IfOk result (NamesFree bindings.now.scope) }
+{
+    let name = words.free_name(bindings)?;
+    let owned = words.option(b"owned");
+    words.end()?;
+    let name = Name::new(alloc, name)?;
+    let act = Act::CreateMutex(if owned { 1 } else { 0 });
+    Ok(Statement::Create { who, name, act })
+}
+
+/// One object, and nothing behind it.
+#[tactic(auto, unfolding(crate::specs::Reading::only_object_at))]
+fn only_object(bindings: &Bindings, mut words: Words) -> Result<Handle, ScriptFault>
+    ensures { result ≡ only_object_at bindings.now.scope words.entry }
+{
+    let object = words.object(bindings)?;
+    words.end()?;
+    Ok(object)
+}
+
+/// `tN release OBJ COUNT`
+#[tactic(auto, unfolding(crate::specs::Reading::release_at))]
+fn release(bindings: &Bindings, who: u32, mut words: Words) -> Result<Statement, ScriptFault>
+    ensures exact { result ≡ release_at bindings.now.scope who words.entry }
+    ensures free { IfOk result (NamesFree bindings.now.scope) }
+{
+    let semaphore = words.object(bindings)?;
+    let count = words.signed32()?;
+    words.end()?;
+    let call = Call::Act(Act::ReleaseSemaphore { semaphore, count });
+    Ok(Statement::Perform { who, call })
+}
+
+/// `tN apc OBJ ROUTINE ARG`
+#[tactic(auto, unfolding(crate::specs::Reading::apc_at))]
+fn apc(bindings: &Bindings, who: u32, mut words: Words) -> Result<Statement, ScriptFault>
+    ensures exact { result ≡ apc_at bindings.now.scope who words.entry }
+    ensures free { IfOk result (NamesFree bindings.now.scope) }
+{
+    let thread = words.object(bindings)?;
+    let routine = words.number(0, u64::MAX)?;
+    let arg = words.number(0, u64::MAX)?;
+    words.end()?;
+    let call = Call::Act(Act::QueueApc {
+        thread,
+        routine,
+        arg,
+    });
+    Ok(Statement::Perform { who, call })
+}
+
+/// `tN any TIME MODE OBJ..`, `tN all TIME MODE OBJ..`
+#[tactic(auto, unfolding(crate::specs::Reading::objects_wait_at))]
+fn objects_wait(
+    alloc: Global,
+    bindings: &Bindings,
+    who: u32,
+    all: bool,
+    mut words: Words,
+) -> Result<Statement, LineFault>
+    ensures exact { Gives (λ statement. statement) result (objects_wait_at bindings.now.scope who all words.entry) }
     ensures free { IfOk result (NamesFree bindings.now.scope) }
 {
     let ms = words.time()?;
-    words.mode()?;
+    let alertable = words.mode()?;
     let handles = objects(alloc, bindings, words)?;
-    Ok(Statement::Perform {
-        who,
-        call: Call::Wait(WaitCall::Objects {
-            handles,
-            all: false,
-            ms,
-            alertable: false,
-        }),
-    })
+    let call = Call::Wait(WaitCall::Objects {
+        handles,
+        all,
+        ms,
+        alertable,
+    });
+    Ok(Statement::Perform { who, call })
 }
 
 #[tactic(auto, using(crate::proofs::Parsing::objects_next, crate::proofs::Parsing::objects_fail, crate::proofs::Parsing::objects_end))]
@@ -237,32 +211,82 @@ fn objects(alloc: Global, bindings: &Bindings, mut words: Words) -> Result<Handl
     Ok(handles)
 }
 
-#[tactic(auto, unfolding(crate::specs::Reading::act_at))]
-fn act(
+/// `tN sleep TIME MODE`
+#[tactic(auto, unfolding(crate::specs::Reading::sleep_at))]
+fn sleep(who: u32, mut words: Words) -> Result<Statement, ScriptFault>
+    ensures exact { result ≡ sleep_at who words.entry }
+    ensures free { (scope : Scope) → IfOk result (NamesFree scope) }
+{
+    let ms = words.time()?;
+    let alertable = words.mode()?;
+    words.end()?;
+    let call = Call::Wait(WaitCall::Sleep { ms, alertable });
+    Ok(Statement::Perform { who, call })
+}
+
+/// A call that needs no more words.
+fn bare(who: u32, call: Call, words: Words) -> Result<Statement, ScriptFault>
+    ensures exact { result ≡ bare_at who call words.entry }
+    ensures free { (scope : Scope) → IfOk result (NamesFree scope) }
+{
+    words.end()?;
+    Ok(Statement::Perform { who, call })
+}
+
+/// An act on one object.
+fn act_on(who: u32, act: Act) -> Statement
+    ensures { result ≡ Statement.Perform who (Call.Act act) }
+{
+    let call = Call::Act(act);
+    Statement::Perform { who, call }
+}
+
+/// The line of a keyword.
+#[tactic(auto, unfolding(crate::specs::Reading::call_at))]
+fn parse_call(
     alloc: Global,
     bindings: &Bindings,
     who: u32,
-    keyword: &[u8],
+    keyword: Keyword,
     words: Words,
 ) -> Result<Statement, LineFault>
-    ensures exact { Gives (λ statement. statement) result (act_at bindings.now.scope who keyword.now words.entry) }
+    ensures exact { Gives (λ statement. statement) result (call_at bindings.now.scope who keyword words.entry) }
     ensures free { IfOk result (NamesFree bindings.now.scope) }
 {
-    if keyword == b"event".as_slice() {
-        event(alloc, bindings, who, words)
-    } else if keyword == b"set".as_slice() {
-        let call = Call::Act(Act::SetEvent(only_object(bindings, words)?));
-        Ok(Statement::Perform { who, call })
-    } else if keyword == b"reset".as_slice() {
-        let call = Call::Act(Act::ResetEvent(only_object(bindings, words)?));
-        Ok(Statement::Perform { who, call })
-    } else if keyword == b"any".as_slice() {
-        any(alloc, bindings, who, words)
-    } else {
-        Err(LineFault::Script(ScriptFault::UnknownWord))
+    match keyword {
+        Keyword::Event => event(alloc, bindings, who, words),
+        Keyword::Semaphore => semaphore(alloc, bindings, who, words),
+        Keyword::Mutex => mutex(alloc, bindings, who, words),
+        Keyword::Set => Ok(act_on(who, Act::SetEvent(only_object(bindings, words)?))),
+        Keyword::Reset => Ok(act_on(who, Act::ResetEvent(only_object(bindings, words)?))),
+        Keyword::Pulse => Ok(act_on(who, Act::PulseEvent(only_object(bindings, words)?))),
+        Keyword::Release => Ok(release(bindings, who, words)?),
+        Keyword::Unlock => Ok(act_on(who, Act::ReleaseMutex(only_object(bindings, words)?))),
+        Keyword::Apc => Ok(apc(bindings, who, words)?),
+        Keyword::Any => objects_wait(alloc, bindings, who, false, words),
+        Keyword::All => objects_wait(alloc, bindings, who, true, words),
+        Keyword::Sleep => Ok(sleep(who, words)?),
+        Keyword::Next => Ok(bare(who, Call::Act(Act::NextApc), words)?),
     }
 }
 
+/// A line behind its caller.
+#[tactic(auto, unfolding(crate::specs::Reading::caller_at))]
+fn parse_caller_line(
+    alloc: Global,
+    bindings: &Bindings,
+    who: u32,
+    mut words: Words,
+) -> Result<Statement, LineFault>
+    ensures exact { Gives (λ statement. statement) result (caller_at bindings.now.scope who words.entry) }
+    ensures free { IfOk result (NamesFree bindings.now.scope) }
+{
+    let word = words.next()?;
+    let keyword = Keyword::of(word).ok_or(ScriptFault::UnknownWord)?;
+    parse_call(alloc, bindings, who, keyword, words)
+}
+
+/// A line behind `threads`.
 #[tactic(auto, unfolding(crate::specs::Reading::statement_at))]
 pub(crate) fn parse_statement(
     alloc: Global,
@@ -276,6 +300,5 @@ pub(crate) fn parse_statement(
         return Ok(Statement::Blank);
     };
     let who = caller_of(first).ok_or(ScriptFault::UnknownWord)?;
-    let keyword = words.next()?;
-    act(alloc, bindings, who, keyword, words)
+    parse_caller_line(alloc, bindings, who, words)
 }

@@ -73,15 +73,17 @@ impl Runner {
                 if self.line.is_empty() {
                     return Ok(Taken::Nothing);
                 }
-                write_line(
+                match write_line(
                     &mut self.session,
                     alloc,
                     number,
                     self.line.as_slice(),
                     &mut self.out,
                     writer,
-                )?;
-                Ok(Taken::LastLine)
+                ) {
+                    Ok(()) => Ok(Taken::LastLine),
+                    Err(fault) => Err(fault),
+                }
             }
             Err(ReadFault::Failed) => Err(RunFault::Read { line: number }),
             Err(ReadFault::TooLong) => {

@@ -1,0 +1,58 @@
+//! The keywords behind a caller.
+
+ghost use Rattle.std.specs.Prelude.{◌≡◌};
+ghost use Rattle.nt_script.specs.Keywords.{keyword_of};
+
+/// What a line behind `threads` is about, by the word after its caller.
+#[derive(Clone, Copy, Debug, PartialEq, Eq)]
+pub(crate) enum Keyword {
+    Event,
+    Semaphore,
+    Mutex,
+    Set,
+    Reset,
+    Pulse,
+    Release,
+    Unlock,
+    Apc,
+    Any,
+    All,
+    Sleep,
+    Next,
+}
+
+impl Keyword {
+    pub(crate) fn of(word: &[u8]) -> Option<Keyword>
+        ensures { result ≡ keyword_of word.now }
+    {
+        if word == b"event".as_slice() {
+            Some(Keyword::Event)
+        } else if word == b"semaphore".as_slice() {
+            Some(Keyword::Semaphore)
+        } else if word == b"mutex".as_slice() {
+            Some(Keyword::Mutex)
+        } else if word == b"set".as_slice() {
+            Some(Keyword::Set)
+        } else if word == b"reset".as_slice() {
+            Some(Keyword::Reset)
+        } else if word == b"pulse".as_slice() {
+            Some(Keyword::Pulse)
+        } else if word == b"release".as_slice() {
+            Some(Keyword::Release)
+        } else if word == b"unlock".as_slice() {
+            Some(Keyword::Unlock)
+        } else if word == b"apc".as_slice() {
+            Some(Keyword::Apc)
+        } else if word == b"any".as_slice() {
+            Some(Keyword::Any)
+        } else if word == b"all".as_slice() {
+            Some(Keyword::All)
+        } else if word == b"sleep".as_slice() {
+            Some(Keyword::Sleep)
+        } else if word == b"next".as_slice() {
+            Some(Keyword::Next)
+        } else {
+            None
+        }
+    }
+}
