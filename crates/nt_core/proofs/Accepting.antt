@@ -160,6 +160,7 @@ opening_lawful d few objects waits agrees hands inboxes grants = record {
     objects = λ h. subst IsLawfulObject (sym (running h)) tt;
     own = λ t below. (let len : length d.objects ≡ d.threads = ap (λ os. length os) objects ∙ length-replicate d.threads (Thread false) in omega (arith, len, below), ap is_thread (running t));
     none_else = λ h beyond known. let len : length d.objects ≡ d.threads = ap (λ os. length os) objects ∙ length-replicate d.threads (Thread false) in absurd (omega (arith, len, beyond, known));
+    unarmed = λ h. ap due_of (running h);
     room = let none : length d.grants ≡ 0 = ap (λ gs. length gs) grants in let empty : fin.len d.table.pending ≡ 0 = ap (λ m. fin.len m) waits ∙ fin.len-empty nat_cmp Wait in omega (arith, none, empty);
   };
   settled = record {
@@ -200,6 +201,7 @@ told_anew d table lawful is = subst (λ (v : Waits). IsFresh (record d { table =
       objects = lawful.sound.objects;
       own = lawful.sound.own;
       none_else = lawful.sound.none_else;
+      unarmed = lawful.sound.unarmed;
       room = let room = lawful.sound.room in omega (arith, room);
     };
     settled = lawful.settled;

@@ -49,6 +49,7 @@ ended_sound old table t code may w grants sound has waits agrees pushed =
       objects = sound.objects;
       own = sound.own;
       none_else = sound.none_else;
+      unarmed = sound.unarmed;
       room = omega (arith, sound.room, longer, fewer, same);
     }
 
@@ -149,11 +150,11 @@ over_pending s (t ∷ ts) may u v e =
     apart differs absent (inl same) = differs (sym same)
     apart differs absent (inr later) = absent later
 
-over_objects : (s : State) (ts : List ℕ) (may : Bool) → (waits_over s ts may).objects ≡ s.objects
+pub over_objects : (s : State) (ts : List ℕ) (may : Bool) → (waits_over s ts may).objects ≡ s.objects
 over_objects s [] may = refl
 over_objects s (t ∷ ts) may = over_objects (wait_over s t may) ts may
 
-over_apcs : (s : State) (ts : List ℕ) (may : Bool) → (waits_over s ts may).apcs ≡ s.apcs
+pub over_apcs : (s : State) (ts : List ℕ) (may : Bool) → (waits_over s ts may).apcs ≡ s.apcs
 over_apcs s [] may = refl
 over_apcs s (t ∷ ts) may = over_apcs (wait_over s t may) ts may
 
@@ -210,6 +211,7 @@ posted_sound d t q sound = record {
   objects = sound.objects;
   own = sound.own;
   none_else = sound.none_else;
+  unarmed = sound.unarmed;
   room = sound.room;
 }
 
@@ -265,6 +267,7 @@ taken_lawful d t lawful idle = record {
     objects = lawful.sound.objects;
     own = lawful.sound.own;
     none_else = lawful.sound.none_else;
+    unarmed = lawful.sound.unarmed;
     room = lawful.sound.room;
   };
   settled = record {

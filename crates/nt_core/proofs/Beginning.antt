@@ -89,6 +89,7 @@ sound_begun old table t w sound able idle room pending agrees = record {
   objects = sound.objects;
   own = sound.own;
   none_else = sound.none_else;
+  unarmed = sound.unarmed;
   room = let more = len_inserted old.table.pending t w idle in let same : fin.len table.pending ≡ fin.len (fin.insert old.table.pending t w) = ap (λ m. fin.len m) pending in omega (arith, room, more, same);
 }
   where
@@ -219,6 +220,7 @@ began_taken old objects t code w lawful able idle tried =
         objects = well.lawful sound.objects;
         own = λ u below. (subst (λ (n : ℕ). u < n) (sym well.length) (sound.own u below).0, well.threads u ∙ (sound.own u below).1);
         none_else = λ h beyond known. well.threads h ∙ sound.none_else h beyond (subst (λ (n : ℕ). h < n) well.length known);
+        unarmed = λ h. well.due h ∙ sound.unarmed h;
         room = sound.room;
       };
       settled = record {
@@ -240,6 +242,7 @@ handed_lawful old t may lawful = record {
     objects = lawful.sound.objects;
     own = lawful.sound.own;
     none_else = lawful.sound.none_else;
+    unarmed = lawful.sound.unarmed;
     room = lawful.sound.room;
   };
   settled = record {

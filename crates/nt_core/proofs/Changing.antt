@@ -203,12 +203,13 @@ sound_replaced d h o sound may = record {
   objects = property_set IsLawfulObject d.objects h o may.lawful sound.objects;
   own = λ t below. (subst (λ (n : ℕ). t < n) (sym (length-set d.objects h o)) (sound.own t below).0, reading_set is_thread d.objects h o may.thread t ∙ (sound.own t below).1);
   none_else = λ k beyond known. reading_set is_thread d.objects h o may.thread k ∙ sound.none_else k beyond (subst (λ (n : ℕ). k < n) (length-set d.objects h o) known);
+  unarmed = λ k. reading_set due_of d.objects h o may.due k ∙ sound.unarmed k;
   room = sound.room;
 }
 
 -- one object more leaves all readings of objects that were there
-pub sound_created : (d : Dispatcher) (o : Object) → IsSound d → IsLawfulObject o → is_thread o ≡ false → IsSound (record d { objects = d.objects ++ o ∷ [] })
-sound_created d o sound lawful no_thread = record {
+pub sound_created : (d : Dispatcher) (o : Object) → IsSound d → IsLawfulObject o → is_thread o ≡ false → due_of o ≡ None → IsSound (record d { objects = d.objects ++ o ∷ [] })
+sound_created d o sound lawful no_thread due = record {
   few = sound.few;
   waits = λ t w pends.
       let own = sound.waits t w pends in
@@ -229,6 +230,7 @@ sound_created d o sound lawful no_thread = record {
   inboxes = sound.inboxes;
   objects = all d.objects sound.objects;
   none_else = λ h beyond known. unlike d.objects h known (sound.none_else h beyond);
+  unarmed = undue d.objects sound.unarmed;
   own = λ t below.
       let before = sound.own t below in (
         let longer = length-append d.objects (o ∷ []) in omega (arith, longer, before.0),
@@ -237,6 +239,12 @@ sound_created d o sound lawful no_thread = record {
   room = sound.room;
 }
   where
+    undue : (os : List Object) → ((k : ℕ) → due_of (object_at os k) ≡ None) → (k : ℕ) → due_of (object_at (os ++ o ∷ []) k) ≡ None
+    undue [] none zero = due
+    undue [] none (suc k) = refl
+    undue (x ∷ os) none zero = none zero
+    undue (x ∷ os) none (suc k) = undue os (λ j. none (suc j)) k
+
     unlike : (os : List Object) (h : ℕ) → h < length (os ++ o ∷ []) → (h < length os → is_thread (object_at os h) ≡ false) → is_thread (object_at (os ++ o ∷ []) h) ≡ false
     unlike [] zero known none = no_thread
     unlike [] (suc h) known none = absurd (omega (arith, known))

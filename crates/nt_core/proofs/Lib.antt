@@ -11,3 +11,4 @@ mod Replacing
 mod Beginning
 mod Unique
 mod Alerting
+mod Ticking

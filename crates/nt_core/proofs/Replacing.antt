@@ -267,7 +267,7 @@ created_accepted old new t o call handle fresh lawful no_thread due changes afte
 
     all : IsLawful d
     all = record {
-      sound = sound_created old o fresh.lawful.sound lawful no_thread;
+      sound = sound_created old o fresh.lawful.sound lawful no_thread due;
       settled = record {
         served = served_unchanged old (old.objects ++ o ∷ []) fresh.lawful.sound fresh.lawful.settled.served (created_only old.objects o);
         alerted = fresh.lawful.settled.alerted;

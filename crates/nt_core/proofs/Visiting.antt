@@ -70,6 +70,7 @@ looked_sound d looked sound = record {
   objects = sound.objects;
   own = sound.own;
   none_else = sound.none_else;
+  unarmed = sound.unarmed;
   room = sound.room;
 }
 
@@ -126,6 +127,7 @@ visit_granted old t code w objects table grants sound has tried waits queues loo
         objects = well.lawful sound.objects;
         own = λ u below. (subst (λ (n : ℕ). u < n) (sym well.length) (sound.own u below).0, well.threads u ∙ (sound.own u below).1);
         none_else = λ h beyond known. well.threads h ∙ sound.none_else h beyond (subst (λ (n : ℕ). h < n) well.length known);
+        unarmed = λ h. well.due h ∙ sound.unarmed h;
         room = omega (arith, sound.room, longer, fewer, same);
       },
     )

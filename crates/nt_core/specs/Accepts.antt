@@ -1,13 +1,14 @@
 -- What an accepted call does to the dispatcher.
-use Rattle.std.specs.Prelude.{◌≡◌, ℕ, ◌≤◌, Bool, not, ◌&&◌, ◌==◌, List, [], ◌++◌, length}
+use Rattle.std.specs.Prelude.{◌≡◌, ℕ, ◌<◌, ◌≤◌, Bool, not, ◌&&◌, ◌==◌, List, [], ◌++◌, length}
 use Rattle.std.specs.List.{filter}
+use Rattle.std.specs.FinMap.{len}
 use Rattle.nt_status.specs.Status.{io_completion_code, timeout_code}
 use Rattle.nt_core.specs.declared.call.Call.{Call}
 use Rattle.nt_core.specs.declared.call.Reply.{Reply}
 use Rattle.nt_core.specs.declared.call.Grant.{Grant}
 use Rattle.nt_core.specs.Rising.{AreRising}
 use Rattle.nt_core.specs.State.{State}
-use Rattle.nt_core.specs.Serving.{IsChanged, sequence, Serve, Alert}
+use Rattle.nt_core.specs.Serving.{IsChanged, sequence, Serve, Alert, TimeOut, IsLate}
 use Rattle.nt_core.specs.Change.{change}
 use Rattle.nt_core.specs.Steps.{Step}
 use Rattle.nt_core.specs.Dispatcher.{Dispatcher, state}
@@ -40,6 +41,14 @@ pub record IsAlertedAfter (old new : Dispatcher) : Type 0 where
   pub alerts : Alert (state old) ended (state new)
   pub grants : new.grants ≡ old.grants ++ ended
   pub looked : new.table.looked ≡ old.table.looked
+
+-- the pending waits with this deadline have ended, and there were some where one was late
+pub record IsTimedOutAfter (old : Dispatcher) (deadline : ℕ) (new : Dispatcher) : Type 0 where
+  pub ended : List Grant
+  pub timed : TimeOut (state old) deadline ended (state new)
+  pub grants : new.grants ≡ old.grants ++ ended
+  pub looked : new.table.looked ≡ old.table.looked
+  pub fewer : (t : ℕ) → IsLate (state old) deadline t → len (state new).waits < len (state old).waits
 
 -- lawful, and nothing told yet of the call that comes
 pub record IsFresh (d : Dispatcher) : Type 0 where

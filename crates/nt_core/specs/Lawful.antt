@@ -1,4 +1,5 @@
 -- What every call and tick leaves true.
+use Rattle.std.specs.declared.option.Option.TheVariants.{None}
 use Rattle.std.specs.Prelude.{◌≡◌, ◌↔◌, ℕ, ◌<◌, ◌≤◌, ◌+◌, true, false, not, ◌&&◌, List, [], length, slice_index_or, IsTrue, Some, nat_eq}
 use Rattle.std.specs.FinMap as map
 use Rattle.std.specs.FinMap.{get}
@@ -44,6 +45,8 @@ pub record IsSound (d : Dispatcher) : Type 0 where
   -- the first objects are the threads' own
   pub own : (t : ℕ) → t < d.threads → (t < length d.objects) × (is_thread (object_at d.objects t) ≡ true)
   pub none_else : (h : ℕ) → d.threads ≤ h → h < length d.objects → is_thread (object_at d.objects h) ≡ false
+  -- no call arms a timer yet
+  pub unarmed : (h : ℕ) → due_of (object_at d.objects h) ≡ None
   -- each pending wait can be granted
   pub room : length d.grants + map.len (state d).waits ≤ d.threads
 

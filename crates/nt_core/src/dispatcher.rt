@@ -2,14 +2,14 @@ ghost use Rattle.std.specs.Prelude.{◌≡◌, ◌≤◌, [], IfOk, IfErr, OnOk,
 ghost use Rattle.std.specs.FinMap as map;
 ghost use Rattle.nt_status.specs.declared.refusal.Refusal.TheVariants.{InvalidParameter, Memory};
 ghost use Rattle.nt_core.specs.State.{opening, pends};
-ghost use Rattle.nt_core.specs.Steps.{Called};
+ghost use Rattle.nt_core.specs.Steps.{Called, Ticked};
 ghost use Rattle.nt_core.specs.Dispatcher.{state};
 ghost use Rattle.nt_core.specs.Lawful.{IsLawful};
 ghost use Rattle.nt_core.specs.Accepts.{IsLocal};
 
 use crate::call::{Call, Grant, Reply};
 use crate::machine::Machine;
-use nt_status::Refusal;
+use nt_status::{Moment, Refusal};
 use std::alloc::Global;
 use std::marker::Model;
 
@@ -61,7 +61,26 @@ impl Core {
         self.machine.call(who, call)
     }
 
-    /// The pending waits that the last call ended, in the order in which they ended.
+    /// Lets all moments up to `m`, counted in 100 ns, pass. The pending waits whose deadlines come end, each as at its own
+    /// moment, and are in `grants`.
+    ///
+    /// A moment before the present one is refused, and changes nothing.
+    pub fn tick(&mut self, m: Moment) -> Result<Reply, Refusal>
+        ensures ticked { Ticked (state self.old) m result self.new.grants (state self.new) }
+        ensures lawful { IsLawful self.new }
+        ensures untested { self.new.table.looked ≡ 0 }
+    {
+        self.machine.tick(m)
+    }
+
+    /// The present moment, counted in 100 ns: that of the last tick.
+    pub fn now(&self) -> Moment
+        ensures { result ≡ (state self.now).now }
+    {
+        self.machine.moment()
+    }
+
+    /// The pending waits that the last call or tick ended, in the order in which they ended.
     pub fn grants(&self) -> &[Grant]
         ensures { result.now ≡ self.now.grants }
     {

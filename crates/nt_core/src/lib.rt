@@ -15,6 +15,7 @@ mod semaphores;
 mod serving;
 #[cfg(test)]
 mod tests;
+mod ticks;
 mod waiting;
 
 pub use call::{Act, Call, Grant, Reply, WaitCall};

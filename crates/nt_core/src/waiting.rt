@@ -34,7 +34,7 @@ fn deadline_after(now: Moment, ms: u32) -> Option<u64>
 }
 
 /// The status of a wait whose interval has passed: a sleep's is 0.
-fn late_status(sleeps: bool) -> Status
+pub(crate) fn late_status(sleeps: bool) -> Status
     ensures { result ≡ late_status sleeps }
 {
     if sleeps {

@@ -1,0 +1,308 @@
+-- Deadlines that come.
+use Rattle.std.proofs.Common.{◌≡◌, ◌≢◌, ◌<◌, ◌≤◌, ℕ, zero, suc, ◌+◌, Bool, true, false, List, [], ◌∷◌, ◌++◌, length, length-append, append_assoc, refl, sym, ap, ◌∙◌, subst, arith, Option, Some, None, inl, inr, ◌⊎◌, map}
+use Rattle.std.specs.FinMap as fin
+use Rattle.std.proofs.lemmas.Bool.{cases_eq}
+use Rattle.std.proofs.lemmas.List.{append-nil}
+use Rattle.std.specs.Prelude.{nat_le}
+use Rattle.std.proofs.lemmas.Bool.Decides.{nat_tests}
+use Rattle.nt_waits.specs.declared.wait.Wait.{Wait}
+use Rattle.nt_waits.specs.Waits.{IsMember}
+use Rattle.nt_waits.specs.Deadlines.{deadline_in, deadline_of, NoneEarlier, NoneWithDeadline, IsEarliestDeadline, IsFirstWithDeadline, NoDeadline}
+use Rattle.nt_objects.specs.Object.{due_of}
+use Rattle.nt_core.specs.declared.call.Grant.{Grant}
+use Rattle.nt_core.specs.Rising.{IsRising, AreRising}
+use Rattle.nt_core.specs.State.{State, object_at, wait_over, waits_over}
+use Rattle.nt_core.specs.Dispatcher.{Dispatcher, state}
+use Rattle.nt_core.specs.Serving.{IsServed, IsLate, TimeOut, ending, late_status, sleeps}
+use Rattle.nt_core.specs.Steps.{IsAwaited, IsNextMoment, NothingDue, MomentPasses, MomentsPass, Ticked}
+use Rattle.nt_core.specs.Lawful.{IsSound, IsSettled, IsLawful}
+use Rattle.nt_core.specs.Accepts.{IsTimedOutAfter, IsFresh}
+use Rattle.nt_core.proofs.Visiting.{len_removed}
+use Rattle.nt_core.proofs.Walks.{get_other}
+use Rattle.nt_core.proofs.Accepting.{IsCalm, no_alert}
+use Rattle.nt_core.proofs.Alerting.{over_pending, over_objects, over_apcs}
+use Rattle.std.specs.Prelude.{Ok}
+use Rattle.std.proofs.Common.{◌&&◌}
+use Rattle.nt_apc.specs.declared.apc.Queued.{Queued}
+use Rattle.nt_apc.specs.Queues.{has_apc}
+use Rattle.nt_core.specs.declared.call.Reply.{Reply}
+use Rattle.nt_core.specs.Serving.{satisfied}
+use Rattle.nt_core.specs.Change.{IsTimerDue}
+
+-- ---- deadlines in the map
+
+pub late_of : (s : State) (u t : ℕ) → deadline_of s.waits t ≡ Some u → IsLate s u t
+late_of s u t has = go (fin.get s.waits t) refl has
+  where
+    go : (o : Option Wait) → fin.get s.waits t ≡ o → deadline_in o ≡ Some u → IsLate s u t
+    go None e h = (cc)
+    go (Some w) e h = (w, e, h)
+
+pub deadline_late : (s : State) (u t : ℕ) → IsLate s u t → deadline_of s.waits t ≡ Some u
+deadline_late s u t late = ap deadline_in late.1 ∙ late.2
+
+-- what is awaited is a deadline, where no timer is armed
+pub awaited_late : (d : Dispatcher) (v : ℕ) → IsSound d → IsAwaited (state d) v → (t : ℕ) × IsLate (state d) v t
+awaited_late d v sound (inl timer) = no_timer (sym (sound.unarmed timer.0) ∙ timer.1)
+  where
+    no_timer : {P : Type 0} → None ≡ Some v → P
+    no_timer h = (cc)
+awaited_late d v sound (inr late) = (late.0, (late.1, late.2, late.3))
+
+pub next_deadline : (d : Dispatcher) (m u : ℕ) → IsSound d → IsEarliestDeadline d.table.pending u → u ≤ m → IsNextMoment (state d) m u
+next_deadline d m u sound earliest le =
+    let late = late_of (state d) u (earliest.has).0 (earliest.has).1 in
+    (inr ((earliest.has).0, late.0, late.1, late.2), le, λ v awaited.
+      let own = awaited_late d v sound awaited in
+      earliest.least own.0 v (deadline_late (state d) v own.0 own.1))
+
+pub none_next : (d : Dispatcher) (m u : ℕ) → IsSound d → IsEarliestDeadline d.table.pending u → m < u → NothingDue (state d) m
+none_next d m u sound earliest lt v awaited =
+    let own = awaited_late d v sound awaited in
+    let least = earliest.least own.0 v (deadline_late (state d) v own.0 own.1) in
+    omega (arith, least, lt)
+
+pub none_at_all : (d : Dispatcher) (m : ℕ) → IsSound d → NoDeadline d.table.pending → NothingDue (state d) m
+none_at_all d m sound none v awaited =
+    let own = awaited_late d v sound awaited in
+    no_deadline (sym (none own.0) ∙ deadline_late (state d) v own.0 own.1)
+  where
+    no_deadline : {P : Type 0} → None ≡ Some v → P
+    no_deadline h = (cc)
+
+-- ---- the waits with one deadline, one after another
+
+-- the waits of these threads have timed out so far; all that are late still are of greater threads
+pub record LateSoFar (old now : Dispatcher) (u : ℕ) : Type 0 where
+  pub threads : List ℕ
+  pub rising : IsRising threads
+  pub late : (x : ℕ) → IsMember threads x → IsLate (state old) u x
+  pub grants : now.grants ≡ old.grants ++ map (λ t. ending (late_status (sleeps (fin.get old.table.pending t))) t) threads
+  pub over : state now ≡ waits_over (state old) threads false
+  pub above : (x : ℕ) → IsLate (state now) u x → (y : ℕ) → IsMember threads y → y < x
+  pub looked : now.table.looked ≡ old.table.looked
+  pub count : fin.len now.table.pending + length threads ≡ fin.len old.table.pending
+  pub sound : IsSound now
+
+pub late_none : (d : Dispatcher) (u : ℕ) → IsSound d → LateSoFar d d u
+late_none d u sound = record {
+  threads = [];
+  rising = tt;
+  late = λ x m. absurd m;
+  grants = sym (append-nil d.grants);
+  over = refl;
+  above = λ x late y m. absurd m;
+  looked = refl;
+  count = omega arith;
+  sound = sound;
+}
+
+member_append : (xs : List ℕ) (t x : ℕ) → IsMember (xs ++ t ∷ []) x → IsMember xs x ⊎ (t ≡ x)
+member_append [] t x (inl same) = inr same
+member_append [] t x (inr m) = absurd m
+member_append (y ∷ xs) t x (inl same) = inl (inl same)
+member_append (y ∷ xs) t x (inr m) = elim (member_append xs t x m) [
+  | inl before ↦ inl (inr before)
+  | inr last ↦ inr last
+]
+
+rising_append : (xs : List ℕ) (t : ℕ) → IsRising xs → ((y : ℕ) → IsMember xs y → y < t) → IsRising (xs ++ t ∷ [])
+rising_append [] t rising below = (λ y m. absurd m, tt)
+rising_append (x ∷ xs) t rising below = (λ y m. after y (member_append xs t y m), rising_append xs t rising.1 (λ y m. below y (inr m)))
+  where
+    after : (y : ℕ) → IsMember xs y ⊎ (t ≡ y) → x < y
+    after y (inl m) = rising.0 y m
+    after y (inr same) = subst (λ (k : ℕ). x < k) same (below x (inl refl))
+
+over_append : (s : State) (ts : List ℕ) (t : ℕ) (may : Bool) → waits_over s (ts ++ t ∷ []) may ≡ wait_over (waits_over s ts may) t may
+over_append s [] t may = refl
+over_append s (x ∷ ts) t may = over_append (wait_over s x may) ts t may
+
+map_append : (f : ℕ → Grant) (xs : List ℕ) (t : ℕ) → map f (xs ++ t ∷ []) ≡ map f xs ++ f t ∷ []
+map_append f [] t = refl
+map_append f (x ∷ xs) t = ap (λ ys. f x ∷ ys) (map_append f xs t)
+
+pub late_next : (old now new : Dispatcher) (u t : ℕ) → LateSoFar old now u → IsFirstWithDeadline now.table.pending u t → state new ≡ wait_over (state now) t false → new.grants ≡ now.grants ++ ending (late_status (sleeps (fin.get now.table.pending t))) t ∷ [] → new.table.looked ≡ now.table.looked → IsSound new → LateSoFar old new u
+late_next old now new u t far first over grants looked sound =
+    let here = late_of (state now) u t first.has in
+    let before = over_pending (state old) far.threads false t here.0 (ap (λ (s : State). fin.get s.waits t) (sym far.over) ∙ here.1) in
+    let same : fin.get now.table.pending t ≡ fin.get old.table.pending t = here.1 ∙ sym before.0 in
+    let f : ℕ → Grant = λ x. ending (late_status (sleeps (fin.get old.table.pending x))) x in
+    let waits : new.table.pending ≡ fin.remove now.table.pending t = ap (λ (s : State). s.waits) over in
+    let fewer = len_removed now.table.pending t here.0 here.1 in
+    let len : fin.len new.table.pending ≡ fin.len (fin.remove now.table.pending t) = ap (λ m. fin.len m) waits in
+    let longer = length-append far.threads (t ∷ []) in
+    let counted = far.count in
+    record {
+      threads = far.threads ++ t ∷ [];
+      rising = rising_append far.threads t far.rising (far.above t here);
+      late = λ x m. elim (member_append far.threads t x m) [
+        | inl earlier ↦ far.late x earlier
+        | inr last ↦ subst (λ (k : ℕ). IsLate (state old) u k) last (here.0, before.0, here.2)
+      ];
+      grants = grants ∙ (ap (λ (o : Option Wait). now.grants ++ ending (late_status (sleeps o)) t ∷ []) same ∙ (ap (λ gs. gs ++ f t ∷ []) far.grants ∙ (append_assoc old.grants (map f far.threads) (f t ∷ []) ∙ ap (λ gs. old.grants ++ gs) (sym (map_append f far.threads t)))));
+      over = over ∙ (ap (λ (s : State). wait_over s t false) far.over ∙ sym (over_append (state old) far.threads t false));
+      above = λ x late y m.
+        let still = over_pending (state now) (t ∷ []) false x late.0 (ap (λ (s : State). fin.get s.waits x) (sym over) ∙ late.1) in
+        let differs : x ≢ t = λ e. still.1 (inl (sym e)) in
+        let lates : IsLate (state now) u x = (late.0, still.0, late.2) in
+        let least : t ≤ x = not_below first x (deadline_late (state now) u x lates) in
+        elim (member_append far.threads t y m) [
+          | inl earlier ↦ far.above x lates y earlier
+          | inr last ↦ subst (λ (k : ℕ). k < x) last (omega (arith, least, differs))
+        ];
+      looked = looked ∙ far.looked;
+      count = omega (arith, fewer, len, longer, counted);
+      sound = sound;
+    }
+  where
+    not_below : IsFirstWithDeadline now.table.pending u t → (x : ℕ) → deadline_of now.table.pending x ≡ Some u → t ≤ x
+    not_below is x has = go (nat_le t x) refl
+      where
+        go : (b : Bool) → nat_le t x ≡ b → t ≤ x
+        go true le = grind (arith, nat_tests, le)
+        go false gt = let below : x < t = grind (arith, nat_tests, gt) in absurd (is.none_below x below has)
+
+-- who waits no more had timed out
+gone_member : (s : State) (ts : List ℕ) (may : Bool) (x : ℕ) (v : Wait) → fin.get s.waits x ≡ Some v → fin.get (waits_over s ts may).waits x ≡ None → IsMember ts x
+gone_member s [] may x v has none = let h : Some v ≡ None = sym has ∙ none in absurd_some h
+  where
+    absurd_some : {P : Type 0} → Some v ≡ None → P
+    absurd_some h = (cc)
+gone_member s (t ∷ ts) may x v has none = elim (cases_eq x t) [
+  | inl same ↦ inl (sym same)
+  | inr differs ↦ inr (gone_member (wait_over s t may) ts may x v (get_other s.waits t x differs ∙ has) none)
+]
+
+-- none is late any more
+pub late_end : (old now : Dispatcher) (u : ℕ) → LateSoFar old now u → NoneWithDeadline now.table.pending u → IsTimedOutAfter old u now
+late_end old now u far none = record {
+    ended = map (λ t. ending (late_status (sleeps (fin.get old.table.pending t))) t) far.threads;
+    timed = record {
+      threads = far.threads;
+      late = record { rising = far.rising; exactly = λ x. (λ m. far.late x m, λ late. gone x late (fin.get now.table.pending x) refl) };
+      ends = refl;
+      leaves = far.over;
+    };
+    grants = far.grants;
+    looked = far.looked;
+    fewer = λ t late. some t (gone t late (fin.get now.table.pending t) refl) far.count;
+  }
+  where
+    gone : (x : ℕ) → IsLate (state old) u x → (o : Option Wait) → fin.get now.table.pending x ≡ o → IsMember far.threads x
+    gone x late None e = gone_member (state old) far.threads false x late.0 late.1 (ap (λ (s : State). fin.get s.waits x) (sym far.over) ∙ e)
+    gone x late (Some v) e =
+        let before = over_pending (state old) far.threads false x v (ap (λ (s : State). fin.get s.waits x) (sym far.over) ∙ e) in
+        let both : Some v ≡ Some late.0 = sym before.0 ∙ late.1 in
+        let same : v ≡ late.0 = (cc) in
+        absurd (none x (ap deadline_in e ∙ (ap (λ (w : Wait). w.deadline) same ∙ late.2)))
+
+    some : (x : ℕ) → IsMember far.threads x → fin.len now.table.pending + length far.threads ≡ fin.len old.table.pending → fin.len now.table.pending < fin.len old.table.pending
+    some x m count = let longer = nonempty x far.threads m in omega (arith, longer, count)
+      where
+        nonempty : (x : ℕ) (ts : List ℕ) → IsMember ts x → 0 < length ts
+        nonempty x [] m = absurd m
+        nonempty x (t ∷ ts) m = omega arith
+
+pub none_earlier_kept : (old now : Dispatcher) (u : ℕ) → LateSoFar old now u → NoneEarlier old.table.pending u → NoneEarlier now.table.pending u
+none_earlier_kept old now u far none t v has =
+    let late = late_of (state now) v t has in
+    let before = over_pending (state old) far.threads false t late.0 (ap (λ (s : State). fin.get s.waits t) (sym far.over) ∙ late.1) in
+    none t v (ap deadline_in before.0 ∙ late.2)
+
+-- ---- a tick
+
+-- these moments have passed on the way to m
+abbrev pub Passed : State → ℕ → List ℕ → List Grant → State → Type 0
+Passed old m [] grants new = (grants ≡ []) × (new ≡ old)
+Passed old m (u ∷ us) grants new =
+    (here later : List Grant) × (mid : State) × IsNextMoment old m u × MomentPasses old m u here mid × Passed mid m us later new × (grants ≡ here ++ later)
+
+Passed-then : (us : List ℕ) (old mid new : State) (m u : ℕ) (gs here : List Grant) → Passed old m us gs mid → IsNextMoment mid m u → MomentPasses mid m u here new → Passed old m (us ++ u ∷ []) (gs ++ here) new
+Passed-then [] old mid new m u gs here far next passes =
+    (here, [], new, subst (λ (s : State). IsNextMoment s m u) far.1 next, subst (λ (s : State). MomentPasses s m u here new) far.1 passes, (refl, refl), ap (λ xs. xs ++ here) far.0 ∙ sym (append-nil here))
+Passed-then (v ∷ us) old mid new m u gs here far next passes =
+    (far.0, far.1 ++ here, far.2, far.3, far.4, Passed-then us far.2 mid new m u far.1 here far.5 next passes, ap (λ xs. xs ++ here) far.6 ∙ append_assoc far.0 far.1 here)
+
+Passed-end : (us : List ℕ) (old mid : State) (m : ℕ) (gs : List Grant) → Passed old m us gs mid → NothingDue mid m → MomentsPass old m us gs (record mid { now = m })
+Passed-end [] old mid m gs far none = (subst (λ (s : State). NothingDue s m) far.1 none, far.0, ap (λ (s : State). record s { now = m }) far.1)
+Passed-end (u ∷ us) old mid m gs far none = (far.0, far.1, far.2, far.3, far.4, Passed-end us far.2 mid m far.1 far.5 none, far.6)
+
+-- the tick from `old` to m has come to `now`
+pub record TickSoFar (old now : Dispatcher) (m : ℕ) : Type 0 where
+  pub moments : List ℕ
+  pub passed : Passed (state old) m moments now.grants (state now)
+  pub sound : IsSound now
+  pub served : IsServed (state now)
+  pub calm : IsCalm (state now)
+  pub looked : now.table.looked ≡ 0
+
+pub tick_first : (d : Dispatcher) (m : ℕ) → IsFresh d → TickSoFar d d m
+tick_first d m fresh = record {
+  moments = [];
+  passed = (fresh.no_grants, refl);
+  sound = fresh.lawful.sound;
+  served = fresh.lawful.settled.served;
+  calm = fresh.lawful.settled.alerted;
+  looked = fresh.untested;
+}
+
+-- no timer is due where none is armed
+no_timers : (d : Dispatcher) (u : ℕ) → IsSound d → AreRising (IsTimerDue (state d) u) []
+no_timers d u sound = record { rising = tt; exactly = λ h. (λ m. absurd m, λ due. unarmed (sym (sound.unarmed h) ∙ due)) }
+  where
+    unarmed : None ≡ Some u → ⊥
+    unarmed h = (cc)
+
+pub tick_next : (old now new : Dispatcher) (m u : ℕ) → TickSoFar old now m → IsNextMoment (state now) m u → IsTimedOutAfter now u new → IsSound new → TickSoFar old new m
+tick_next old now new m u far next timed sound = record {
+    moments = far.moments ++ u ∷ [];
+    passed = subst (λ (gs : List Grant). Passed (state old) m (far.moments ++ u ∷ []) gs (state new)) (sym timed.grants)
+      (Passed-then far.moments (state old) (state now) (state new) m u now.grants timed.ended far.passed next (record {
+        timers = [];
+        served = [];
+        calm = state now;
+        alerted = [];
+        woken = state now;
+        timed = timed.ended;
+        due = no_timers now u far.sound;
+        serves = (refl, far.served);
+        alerts = no_alert (state now) (state now) refl far.calm;
+        times_out = timed.timed;
+        in_order = refl;
+      }));
+    sound = sound;
+    served = subst IsServed (sym timed.timed.leaves) (λ x. unfit x (fin.get over.waits x) refl);
+    calm = subst IsCalm (sym timed.timed.leaves) (λ x alerted.
+      let before = over_pending (state now) timed.timed.threads false x alerted.0 alerted.1 in
+      far.calm x (alerted.0, before.0, subst (λ (qs : List (List Queued)). ((alerted.0).alertable && has_apc qs x) ≡ true) (over_apcs (state now) timed.timed.threads false) alerted.2));
+    looked = timed.looked ∙ far.looked;
+  }
+  where
+    over : State
+    over = waits_over (state now) timed.timed.threads false
+
+    unfit : (x : ℕ) (o : Option Wait) → fin.get over.waits x ≡ o → satisfied over.objects x o ≡ false
+    unfit x None e = refl
+    unfit x (Some w) e =
+        let before = over_pending (state now) timed.timed.threads false x w e in
+        ap (λ os. satisfied os x (Some w)) (over_objects (state now) timed.timed.threads false) ∙ (ap (λ o. satisfied now.objects x o) (sym before.0) ∙ far.served x)
+
+-- nothing up to m is due any more
+pub tick_end : (old now : Dispatcher) (m : ℕ) → old.now ≤ m → TickSoFar old now m → NothingDue (state now) m → Ticked (state old) m (Ok Reply.Done) now.grants (state (record now { now = m })) × IsLawful (record now { now = m })
+tick_end old now m forward far none =
+    ((forward, refl, (far.moments, Passed-end far.moments (state old) (state now) m now.grants far.passed none)), record {
+      sound = record {
+        few = far.sound.few;
+        waits = far.sound.waits;
+        blocks = far.sound.blocks;
+        hands = far.sound.hands;
+        inboxes = far.sound.inboxes;
+        objects = far.sound.objects;
+        own = far.sound.own;
+        none_else = far.sound.none_else;
+        unarmed = far.sound.unarmed;
+        room = far.sound.room;
+      };
+      settled = record { served = far.served; alerted = far.calm; passed = none };
+    })

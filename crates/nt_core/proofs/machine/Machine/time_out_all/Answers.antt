@@ -1,0 +1,36 @@
+use Rattle.std.proofs.Common.{◌≡◌, ◌<◌, ◌≤◌, ℕ, sym, ap, ◌∙◌, subst, arith}
+use Rattle.std.specs.FinMap as fin
+use Rattle.nt_waits.specs.Deadlines.{NoneEarlier, NoneWithDeadline, IsFirstWithDeadline}
+use Rattle.nt_core.specs.Dispatcher.{Dispatcher, dispatcher_of, state}
+use Rattle.nt_core.specs.Steps.{IsNextMoment, NothingDue, Ticked}
+use Rattle.nt_core.specs.Lawful.{IsSound, IsLawful}
+use Rattle.nt_core.specs.State.{State}
+use Rattle.nt_core.proofs.Visiting.{len_removed}
+use Rattle.nt_core.proofs.Ticking.{late_of, late_none, late_next, late_end, none_earlier_kept}
+use Rattle.nt_core.proofs.machine.Machine.time_out_all.Goals as goal
+
+pub first_with_deadline-requires : goal.first_with_deadline-requires
+first_with_deadline-requires c =
+    subst (λ (x : Dispatcher). NoneEarlier x.table.pending c.args.deadline) (sym c.self.view_is)
+    (none_earlier_kept c.args.self.now c.loop-thread.self c.args.deadline c.loop-thread.invariant c.requires.earliest)
+
+pub loop-thread-smaller : goal.loop-thread-smaller
+loop-thread-smaller c =
+    let before = c.loop-thread.self in
+    let first : IsFirstWithDeadline before.table.pending c.args.deadline c.in-Some.thread = subst (λ (x : Dispatcher). IsFirstWithDeadline x.table.pending c.args.deadline c.in-Some.thread) c.self.view_is c.in-Some.ensures in
+    let late = late_of (state before) c.args.deadline c.in-Some.thread first.has in
+    let fewer = len_removed before.table.pending c.in-Some.thread late.0 late.1 in
+    let same : fin.len c.time_out.new.self.table.pending ≡ fin.len (fin.remove before.table.pending c.in-Some.thread) = ap (λ (s : State). fin.len s.waits) c.time_out.ensures.over in
+    let less : fin.len c.time_out.new.self.table.pending < fin.len before.table.pending = omega (arith, fewer, same) in
+    less
+
+pub loop-thread-preserved : goal.loop-thread-preserved
+loop-thread-preserved c =
+    let first : IsFirstWithDeadline c.loop-thread.self.table.pending c.args.deadline c.in-Some.thread = subst (λ (x : Dispatcher). IsFirstWithDeadline x.table.pending c.args.deadline c.in-Some.thread) c.self.view_is c.in-Some.ensures in
+    let out = c.time_out.ensures in
+    late_next c.args.self.now c.loop-thread.self c.time_out.new.self c.args.deadline c.in-Some.thread c.loop-thread.invariant first out.over out.grants out.looked out.sound
+
+pub returns-clause-timed : goal.returns-clause-timed
+returns-clause-timed c =
+    let none : NoneWithDeadline c.loop-thread.self.table.pending c.args.deadline = subst (λ (x : Dispatcher). NoneWithDeadline x.table.pending c.args.deadline) c.self.view_is c.in_default.ensures in
+    late_end c.args.self.now c.loop-thread.self c.args.deadline c.loop-thread.invariant none
