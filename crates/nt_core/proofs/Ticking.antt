@@ -1,5 +1,5 @@
 -- Deadlines that come.
-use Rattle.std.proofs.Common.{◌≡◌, ◌≢◌, ◌<◌, ◌≤◌, ℕ, zero, suc, ◌+◌, Bool, true, false, List, [], ◌∷◌, ◌++◌, length, length-append, append_assoc, refl, sym, ap, ◌∙◌, subst, arith, Option, Some, None, inl, inr, ◌⊎◌, map}
+use Rattle.std.proofs.Common.{◌≡◌, ◌≢◌, ◌<◌, ◌≤◌, ℕ, ◌+◌, Bool, true, false, List, [], ◌∷◌, ◌++◌, length, length-append, append_assoc, refl, sym, ap, ◌∙◌, subst, arith, Option, Some, None, inl, inr, ◌⊎◌, map}
 use Rattle.std.specs.FinMap as fin
 use Rattle.std.proofs.lemmas.Bool.{cases_eq}
 use Rattle.std.proofs.lemmas.List.{append-nil}
@@ -8,14 +8,13 @@ use Rattle.std.proofs.lemmas.Bool.Decides.{nat_tests}
 use Rattle.nt_waits.specs.declared.wait.Wait.{Wait}
 use Rattle.nt_waits.specs.Waits.{IsMember}
 use Rattle.nt_waits.specs.Deadlines.{deadline_in, deadline_of, NoneEarlier, NoneWithDeadline, IsEarliestDeadline, IsFirstWithDeadline, NoDeadline}
-use Rattle.nt_objects.specs.Object.{due_of}
 use Rattle.nt_core.specs.declared.call.Grant.{Grant}
 use Rattle.nt_core.specs.Rising.{IsRising, AreRising}
-use Rattle.nt_core.specs.State.{State, object_at, wait_over, waits_over}
+use Rattle.nt_core.specs.State.{State, wait_over, waits_over}
 use Rattle.nt_core.specs.Dispatcher.{Dispatcher, state}
-use Rattle.nt_core.specs.Serving.{IsServed, IsLate, TimeOut, ending, late_status, sleeps}
+use Rattle.nt_core.specs.Serving.{IsServed, IsLate, ending, late_status, sleeps}
 use Rattle.nt_core.specs.Steps.{IsAwaited, IsNextMoment, NothingDue, MomentPasses, MomentsPass, Ticked}
-use Rattle.nt_core.specs.Lawful.{IsSound, IsSettled, IsLawful}
+use Rattle.nt_core.specs.Lawful.{IsSound, IsLawful}
 use Rattle.nt_core.specs.Accepts.{IsTimedOutAfter, IsFresh}
 use Rattle.nt_core.proofs.Visiting.{len_removed}
 use Rattle.nt_core.proofs.Walks.{get_other}
@@ -51,10 +50,13 @@ awaited_late d v sound (inr late) = (late.0, (late.1, late.2, late.3))
 
 pub next_deadline : (d : Dispatcher) (m u : ℕ) → IsSound d → IsEarliestDeadline d.table.pending u → u ≤ m → IsNextMoment (state d) m u
 next_deadline d m u sound earliest le =
-    let late = late_of (state d) u (earliest.has).0 (earliest.has).1 in
-    (inr ((earliest.has).0, late.0, late.1, late.2), le, λ v awaited.
-      let own = awaited_late d v sound awaited in
-      earliest.least own.0 v (deadline_late (state d) v own.0 own.1))
+    let late = late_of (state d) u (earliest.has).0 (earliest.has).1 in (
+      inr ((earliest.has).0, late.0, late.1, late.2),
+      le,
+      λ v awaited.
+          let own = awaited_late d v sound awaited in
+          earliest.least own.0 v (deadline_late (state d) v own.0 own.1),
+    )
 
 pub none_next : (d : Dispatcher) (m u : ℕ) → IsSound d → IsEarliestDeadline d.table.pending u → m < u → NothingDue (state d) m
 none_next d m u sound earliest lt v awaited =
@@ -143,14 +145,14 @@ late_next old now new u t far first over grants looked sound =
       grants = grants ∙ (ap (λ (o : Option Wait). now.grants ++ ending (late_status (sleeps o)) t ∷ []) same ∙ (ap (λ gs. gs ++ f t ∷ []) far.grants ∙ (append_assoc old.grants (map f far.threads) (f t ∷ []) ∙ ap (λ gs. old.grants ++ gs) (sym (map_append f far.threads t)))));
       over = over ∙ (ap (λ (s : State). wait_over s t false) far.over ∙ sym (over_append (state old) far.threads t false));
       above = λ x late y m.
-        let still = over_pending (state now) (t ∷ []) false x late.0 (ap (λ (s : State). fin.get s.waits x) (sym over) ∙ late.1) in
-        let differs : x ≢ t = λ e. still.1 (inl (sym e)) in
-        let lates : IsLate (state now) u x = (late.0, still.0, late.2) in
-        let least : t ≤ x = not_below first x (deadline_late (state now) u x lates) in
-        elim (member_append far.threads t y m) [
-          | inl earlier ↦ far.above x lates y earlier
-          | inr last ↦ subst (λ (k : ℕ). k < x) last (omega (arith, least, differs))
-        ];
+          let still = over_pending (state now) (t ∷ []) false x late.0 (ap (λ (s : State). fin.get s.waits x) (sym over) ∙ late.1) in
+          let differs : x ≢ t = λ e. still.1 (inl (sym e)) in
+          let lates : IsLate (state now) u x = (late.0, still.0, late.2) in
+          let least : t ≤ x = not_below first x (deadline_late (state now) u x lates) in
+          elim (member_append far.threads t y m) [
+            | inl earlier ↦ far.above x lates y earlier
+            | inr last ↦ subst (λ (k : ℕ). k < x) last (omega (arith, least, differs))
+          ];
       looked = looked ∙ far.looked;
       count = omega (arith, fewer, len, longer, counted);
       sound = sound;
@@ -177,17 +179,17 @@ gone_member s (t ∷ ts) may x v has none = elim (cases_eq x t) [
 -- none is late any more
 pub late_end : (old now : Dispatcher) (u : ℕ) → LateSoFar old now u → NoneWithDeadline now.table.pending u → IsTimedOutAfter old u now
 late_end old now u far none = record {
-    ended = map (λ t. ending (late_status (sleeps (fin.get old.table.pending t))) t) far.threads;
-    timed = record {
-      threads = far.threads;
-      late = record { rising = far.rising; exactly = λ x. (λ m. far.late x m, λ late. gone x late (fin.get now.table.pending x) refl) };
-      ends = refl;
-      leaves = far.over;
-    };
-    grants = far.grants;
-    looked = far.looked;
-    fewer = λ t late. some t (gone t late (fin.get now.table.pending t) refl) far.count;
-  }
+  ended = map (λ t. ending (late_status (sleeps (fin.get old.table.pending t))) t) far.threads;
+  timed = record {
+    threads = far.threads;
+    late = record { rising = far.rising; exactly = λ x. (λ m. far.late x m, λ late. gone x late (fin.get now.table.pending x) refl) };
+    ends = refl;
+    leaves = far.over;
+  };
+  grants = far.grants;
+  looked = far.looked;
+  fewer = λ t late. some t (gone t late (fin.get now.table.pending t) refl) far.count;
+}
   where
     gone : (x : ℕ) → IsLate (state old) u x → (o : Option Wait) → fin.get now.table.pending x ≡ o → IsMember far.threads x
     gone x late None e = gone_member (state old) far.threads false x late.0 late.1 (ap (λ (s : State). fin.get s.waits x) (sym far.over) ∙ e)
@@ -256,8 +258,8 @@ no_timers d u sound = record { rising = tt; exactly = λ h. (λ m. absurd m, λ 
 
 pub tick_next : (old now new : Dispatcher) (m u : ℕ) → TickSoFar old now m → IsNextMoment (state now) m u → IsTimedOutAfter now u new → IsSound new → TickSoFar old new m
 tick_next old now new m u far next timed sound = record {
-    moments = far.moments ++ u ∷ [];
-    passed = subst (λ (gs : List Grant). Passed (state old) m (far.moments ++ u ∷ []) gs (state new)) (sym timed.grants)
+  moments = far.moments ++ u ∷ [];
+  passed = subst (λ (gs : List Grant). Passed (state old) m (far.moments ++ u ∷ []) gs (state new)) (sym timed.grants)
       (Passed-then far.moments (state old) (state now) (state new) m u now.grants timed.ended far.passed next (record {
         timers = [];
         served = [];
@@ -271,13 +273,13 @@ tick_next old now new m u far next timed sound = record {
         times_out = timed.timed;
         in_order = refl;
       }));
-    sound = sound;
-    served = subst IsServed (sym timed.timed.leaves) (λ x. unfit x (fin.get over.waits x) refl);
-    calm = subst IsCalm (sym timed.timed.leaves) (λ x alerted.
+  sound = sound;
+  served = subst IsServed (sym timed.timed.leaves) (λ x. unfit x (fin.get over.waits x) refl);
+  calm = subst IsCalm (sym timed.timed.leaves) (λ x alerted.
       let before = over_pending (state now) timed.timed.threads false x alerted.0 alerted.1 in
       far.calm x (alerted.0, before.0, subst (λ (qs : List (List Queued)). ((alerted.0).alertable && has_apc qs x) ≡ true) (over_apcs (state now) timed.timed.threads false) alerted.2));
-    looked = timed.looked ∙ far.looked;
-  }
+  looked = timed.looked ∙ far.looked;
+}
   where
     over : State
     over = waits_over (state now) timed.timed.threads false
@@ -290,19 +292,21 @@ tick_next old now new m u far next timed sound = record {
 
 -- nothing up to m is due any more
 pub tick_end : (old now : Dispatcher) (m : ℕ) → old.now ≤ m → TickSoFar old now m → NothingDue (state now) m → Ticked (state old) m (Ok Reply.Done) now.grants (state (record now { now = m })) × IsLawful (record now { now = m })
-tick_end old now m forward far none =
-    ((forward, refl, (far.moments, Passed-end far.moments (state old) (state now) m now.grants far.passed none)), record {
-      sound = record {
-        few = far.sound.few;
-        waits = far.sound.waits;
-        blocks = far.sound.blocks;
-        hands = far.sound.hands;
-        inboxes = far.sound.inboxes;
-        objects = far.sound.objects;
-        own = far.sound.own;
-        none_else = far.sound.none_else;
-        unarmed = far.sound.unarmed;
-        room = far.sound.room;
-      };
-      settled = record { served = far.served; alerted = far.calm; passed = none };
-    })
+tick_end old now m forward far none = (
+  (forward, refl, (far.moments, Passed-end far.moments (state old) (state now) m now.grants far.passed none)),
+  record {
+    sound = record {
+      few = far.sound.few;
+      waits = far.sound.waits;
+      blocks = far.sound.blocks;
+      hands = far.sound.hands;
+      inboxes = far.sound.inboxes;
+      objects = far.sound.objects;
+      own = far.sound.own;
+      none_else = far.sound.none_else;
+      unarmed = far.sound.unarmed;
+      room = far.sound.room;
+    };
+    settled = record { served = far.served; alerted = far.calm; passed = none };
+  },
+)

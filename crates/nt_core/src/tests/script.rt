@@ -1,7 +1,7 @@
 //! Scripts of calls: who asks for what of which objects, what it is answered, and which waits that ends.
 use crate::{Act, Call, Core, Grant, Reply, WaitCall};
 use nt_apc::Apc;
-use nt_status::{Handle, Handles, Refusal};
+use nt_status::{Handle, Handles, Moment, Refusal};
 use std::alloc::{AllocError, Global};
 use std::process::Abort;
 use std::test::Fail;
@@ -220,6 +220,23 @@ pub fn run_lines(
         assert!(rt; are_ended(core.grants(), line.ended), "the line at {i}");
     }
     Ok(())
+}
+
+/// Lets all moments up to this one pass, and looks at the answer and at the waits that end.
+pub fn tick_to(
+    rt: &(impl Abort + AllocGlobal),
+    core: &mut Core,
+    moment: u64,
+    expected: Answer,
+    ended: &[(u16, u32)],
+) {
+    let Some(m) = Moment::new(moment) else {
+        assert!(rt; false, "the moment {moment} is too great");
+        return;
+    };
+    let answer = answer_of(core.tick(m));
+    assert_eq!(rt; answer, expected, "the tick to {moment}");
+    assert!(rt; are_ended(core.grants(), ended), "the tick to {moment}");
 }
 
 /// Looks whether exactly these threads wait.

@@ -1,9 +1,7 @@
-use Rattle.std.proofs.Common.{◌≡◌, ◌<◌, ◌≤◌, ℕ, sym, ap, ◌∙◌, subst, arith}
-use Rattle.std.specs.FinMap as fin
-use Rattle.nt_waits.specs.Deadlines.{NoneEarlier, NoneWithDeadline, IsFirstWithDeadline}
+use Rattle.std.proofs.Common.{◌<◌, ◌≤◌, sym, subst, arith}
 use Rattle.nt_core.specs.Dispatcher.{Dispatcher, dispatcher_of, state}
-use Rattle.nt_core.specs.Steps.{IsNextMoment, NothingDue, Ticked}
-use Rattle.nt_core.specs.Lawful.{IsSound, IsLawful}
+use Rattle.nt_core.specs.Steps.{IsNextMoment, NothingDue}
+use Rattle.nt_core.specs.Lawful.{IsSound}
 use Rattle.nt_core.proofs.Ticking.{next_deadline, none_next}
 use Rattle.nt_core.proofs.machine.Machine.next_moment.Goals as goal
 

@@ -1,4 +1,4 @@
-use Rattle.std.proofs.Common.{◌≡◌, ◌<◌, ◌≤◌, ℕ, inr, sym, ap, ◌∙◌, subst, arith}
+use Rattle.std.proofs.Common.{◌≡◌, ◌<◌, ◌≤◌, inr, sym, ap, subst, arith}
 use Rattle.std.specs.Prelude.{Ok}
 use Rattle.std.specs.FinMap as fin
 use Rattle.nt_core.specs.declared.call.Reply.{Reply}
@@ -37,7 +37,7 @@ ended c =
 pub returns-clause-ticked : goal.returns-clause-ticked
 returns-clause-ticked c =
     subst (λ (s : State). Ticked s c.args.m (Ok Reply.Done) c.self-2.inside.grants.items (state (record (the_view c.self-2.inside) { now = c.args.m }))) c.tell_anew.ensures.state
-      (subst (λ (x : Dispatcher). Ticked (state c.tell_anew.new.self) c.args.m (Ok Reply.Done) x.grants (state (record x { now = c.args.m }))) (sym c.self-2.view_is) (ended c).0)
+    (subst (λ (x : Dispatcher). Ticked (state c.tell_anew.new.self) c.args.m (Ok Reply.Done) x.grants (state (record x { now = c.args.m }))) (sym c.self-2.view_is) (ended c).0)
 
 pub returns-clause-lawful : goal.returns-clause-lawful
 returns-clause-lawful c = subst (λ (x : Dispatcher). IsLawful (record x { now = c.args.m })) (sym c.self-2.view_is) (ended c).1

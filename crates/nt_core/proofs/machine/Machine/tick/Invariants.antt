@@ -1,4 +1,3 @@
-use Rattle.std.proofs.Common.{ℕ}
 use Rattle.std.specs.FinMap as fin
 use Rattle.nt_core.proofs.Ticking.{TickSoFar}
 use Rattle.nt_core.proofs.machine.Machine.tick.Given as goal

@@ -1,12 +1,7 @@
-use Rattle.std.proofs.Common.{◌≡◌, ◌<◌, ◌≤◌, ◌∷◌, [], ◌++◌, ℕ, List, Some, true, false, length, set, sym, ap, ◌∙◌, subst, arith}
-use Rattle.std.specs.FinMap as fin
+use Rattle.std.proofs.Common.{◌≡◌, ◌<◌, ◌≤◌, ℕ, true, false, length, set, sym, subst, arith}
 use Rattle.std.specs.Vec.{vec_capacity}
-use Rattle.std.specs.declared.option.Option.{Option}
-use Rattle.nt_waits.specs.declared.wait.Wait.{Wait}
-use Rattle.nt_core.specs.declared.call.Grant.{Grant}
 use Rattle.nt_core.specs.State.{pends, wait_over}
 use Rattle.nt_core.specs.Dispatcher.{Dispatcher, dispatcher_of, state}
-use Rattle.nt_core.specs.Serving.{ending, late_status, sleeps}
 use Rattle.nt_core.specs.Lawful.{IsSound}
 use Rattle.nt_core.proofs.Visiting.{room_for}
 use Rattle.nt_core.proofs.Alerting.{pending_wait, ended_sound, ended_over}
@@ -37,7 +32,7 @@ returns-clause-over c =
     let ended = c.end-wait.ensures in
     subst (λ (x : Dispatcher). state (record d { table = c.end-wait.new.self; handing = set d.handing c.get.result false; grants = c.push_reserved.new.self.items }) ≡ wait_over (state x) c.args.thread false) c.self.view_is
     (subst (λ (k : ℕ). state (record d { table = c.end-wait.new.self; handing = set d.handing k false; grants = c.push_reserved.new.self.items }) ≡ wait_over (state d) c.args.thread false) (sym c.get.ensures)
-      (ended_over d c.end-wait.new.self c.args.thread false c.push_reserved.new.self.items ended.pending ended.queues))
+    (ended_over d c.end-wait.new.self c.args.thread false c.push_reserved.new.self.items ended.pending ended.queues))
 
 pub returns-clause-sound : goal.returns-clause-sound
 returns-clause-sound c =

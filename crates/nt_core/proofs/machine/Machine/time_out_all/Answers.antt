@@ -1,12 +1,10 @@
-use Rattle.std.proofs.Common.{◌≡◌, ◌<◌, ◌≤◌, ℕ, sym, ap, ◌∙◌, subst, arith}
+use Rattle.std.proofs.Common.{◌≡◌, ◌<◌, sym, ap, subst, arith}
 use Rattle.std.specs.FinMap as fin
 use Rattle.nt_waits.specs.Deadlines.{NoneEarlier, NoneWithDeadline, IsFirstWithDeadline}
-use Rattle.nt_core.specs.Dispatcher.{Dispatcher, dispatcher_of, state}
-use Rattle.nt_core.specs.Steps.{IsNextMoment, NothingDue, Ticked}
-use Rattle.nt_core.specs.Lawful.{IsSound, IsLawful}
+use Rattle.nt_core.specs.Dispatcher.{Dispatcher, state}
 use Rattle.nt_core.specs.State.{State}
 use Rattle.nt_core.proofs.Visiting.{len_removed}
-use Rattle.nt_core.proofs.Ticking.{late_of, late_none, late_next, late_end, none_earlier_kept}
+use Rattle.nt_core.proofs.Ticking.{late_of, late_next, late_end, none_earlier_kept}
 use Rattle.nt_core.proofs.machine.Machine.time_out_all.Goals as goal
 
 pub first_with_deadline-requires : goal.first_with_deadline-requires

@@ -1,4 +1,3 @@
-use Rattle.std.proofs.Common.{ℕ}
 use Rattle.std.specs.FinMap as fin
 use Rattle.nt_core.proofs.Ticking.{LateSoFar}
 use Rattle.nt_core.proofs.machine.Machine.time_out_all.Given as goal
