@@ -61,3 +61,6 @@ fn carry_out(rt: &HostRuntime, errors: &mut impl Write) -> u8 {
 fn main(rt: HostRuntime) -> ExitCode {
     ExitCode::from(carry_out(&rt, &mut rt.stderr()))
 }
+
+#[cfg(test)]
+mod tests;
