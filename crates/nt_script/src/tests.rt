@@ -32,10 +32,10 @@ fn outcome_of(alloc: Global, script: &[u8]) -> Outcome {
 }
 
 fn check(rt: &(impl Abort + AllocGlobal), worked: &Worked) {
-    let found = outcome_of(rt.alloc(), worked.script.as_bytes());
+    let found = outcome_of(rt.alloc(), worked.script);
     assert_eq!(rt;
         found.written.as_slice(),
-        worked.transcript.as_bytes(),
+        worked.transcript,
         "{}",
         worked.shows
     );
