@@ -1,5 +1,5 @@
 -- Counts of failures that are below the greatest.
-use Rattle.std.proofs.Common.{◌≡◌, ℕ, ◌+◌, ◌-◌, ◌^◌, ◌<◌, min, Result, Ok, Err, ◌∙◌, arith}
+use Rattle.std.proofs.Common.{◌≡◌, ℕ, ◌+◌, ◌-◌, ◌^◌, ◌<◌, Result, Ok, Err, ◌∙◌, arith}
 use Rattle.nt_script.specs.Device.{one_more}
 use Rattle.nt_script.specs.Running.{CountsFaults, CountsFailures}
 use Rattle.nt_script.specs.declared.fault.RunFault.{RunFault}

@@ -1,5 +1,5 @@
 -- The fault at which the parser stops is the first one.
-use Rattle.std.proofs.Common.{◌≡◌, ℕ, ℤ, ◌+◌, ◌^◌, ◌-◌, Bool, true, false, cond, List, [], ◌∷◌, length, nat_le, Option, Some, None, is_some, Result, Ok, Err, refl, sym, ap, ◌∙◌, if◌then◌else◌, codes}
+use Rattle.std.proofs.Common.{◌≡◌, ℕ, ℤ, ◌+◌, ◌^◌, ◌-◌, Bool, true, false, List, [], ◌∷◌, length, nat_le, Option, Some, None, is_some, Result, Ok, Err, refl, sym, ap, ◌∙◌, if◌then◌else◌, codes}
 use Rattle.std.specs.List.{list_all}
 use Rattle.std.specs.Str.{bytes_eq}
 use Rattle.nt_core.specs.declared.call.Act.{Act}
@@ -8,8 +8,8 @@ use Rattle.nt_core.specs.declared.call.WaitCall.{WaitCall}
 use Rattle.nt_script.specs.Words.{text_of, words_of, is_plain, caller_of}
 use Rattle.nt_script.specs.Scope.{Scope}
 use Rattle.nt_script.specs.Keywords.{keyword_of}
-use Rattle.nt_script.specs.Grammar.{Place, NamePlace, ObjectPlace, NumberPlace, SignedPlace, TimePlace, ModePlace, ValuePlace, fits, blame, is_word, free_name_in, object_in, number_in, signed_in, time_in, mode_in, options_fault, each_fault, places_fault, shape_of, shape_fault, keyword_fault, caller_fault, words_fault, opening_fault, line_fault}
-use Rattle.nt_script.specs.Reading.{◌>>=◌, or_fault, word_at, end_at, option_at, value_at, number_at, signed_at, free_name_at, object_at, time_at, mode_at, objects_at, event_at, semaphore_at, mutex_at, only_object_at, act_on, release_at, apc_at, objects_wait_at, sleep_at, bare_at, call_at, caller_at, statement_at, threads_at, opening_at, plain_text, short_line, opening_of, statement_of}
+use Rattle.nt_script.specs.Grammar.{Place, NamePlace, ObjectPlace, NumberPlace, SignedPlace, TimePlace, ModePlace, ValuePlace, fits, is_word, free_name_in, object_in, number_in, signed_in, time_in, mode_in, options_fault, each_fault, places_fault, shape_of, shape_fault, caller_fault, words_fault, opening_fault, line_fault}
+use Rattle.nt_script.specs.Reading.{◌>>=◌, end_at, option_at, value_at, number_at, signed_at, free_name_at, object_at, time_at, mode_at, objects_at, event_at, semaphore_at, mutex_at, only_object_at, act_on, release_at, apc_at, objects_wait_at, sleep_at, call_at, caller_at, statement_at, threads_at, opening_at, plain_text, short_line, opening_of, statement_of}
 use Rattle.nt_script.specs.declared.keyword.Keyword.{Keyword}
 use Rattle.nt_script.specs.declared.parser.Statement.{Statement}
 use Rattle.nt_script.specs.declared.parser.Statement.TheVariants.{Create, Perform}

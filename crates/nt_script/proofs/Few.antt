@@ -1,5 +1,5 @@
 -- A turn ends no more waits than there were, and begins one at most.
-use Rattle.std.proofs.Common.{◌≡◌, ◌≢◌, ℕ, ◌+◌, ◌-◌, ◌≤◌, ◌<◌, Bool, true, false, cond, List, [], ◌∷◌, ◌++◌, length, length-append, map, refl, sym, ap, ◌∙◌, arith, Option, Some, None, Ok, Err, Result, is_some, ◌&&◌, ◌==◌, inl, inr}
+use Rattle.std.proofs.Common.{◌≡◌, ◌≢◌, ℕ, ◌+◌, ◌-◌, ◌≤◌, ◌<◌, Bool, true, false, cond, List, [], ◌∷◌, length, length-append, refl, sym, ap, ◌∙◌, arith, Option, Some, None, Ok, Err, Result, is_some, ◌&&◌, ◌==◌, inl, inr}
 use Rattle.std.proofs.lemmas.List.{length-map}
 use Rattle.std.proofs.lemmas.Bool.{le-ltb, ne_eqb}
 use Rattle.std.specs.Ordering.{nat_cmp, eq_by_cmp}
@@ -18,7 +18,7 @@ use Rattle.nt_core.specs.Rising.{IsRising}
 use Rattle.nt_core.specs.State.{State, Pending, wait_over, waits_over}
 use Rattle.nt_core.specs.Serving.{fits, granted, Grants, Alert}
 use Rattle.nt_core.specs.Change.{change, may_take}
-use Rattle.nt_core.specs.Steps.{Called, Step, after_serving, answered, begun, wait_of}
+use Rattle.nt_core.specs.Steps.{Called, after_serving, answered, begun, wait_of}
 
 len_removed : (m : Pending) (t : ℕ) (w : Wait) → map.get m t ≡ Some w → map.len (map.remove m t) + 1 ≡ map.len m
 len_removed m t w e =

@@ -10,8 +10,8 @@ use Rattle.nt_script.specs.Words.{text_of, words_of, is_plain, caller_of}
 use Rattle.nt_script.specs.Scope.{Scope}
 use Rattle.nt_script.specs.Keywords.{keyword_among, keyword_of, keywords}
 use Rattle.nt_script.specs.Keywords as keyword
-use Rattle.nt_script.specs.Grammar.{Place, NamePlace, ObjectPlace, NumberPlace, SignedPlace, TimePlace, ModePlace, ValuePlace, blame, is_word, free_name_in, object_in, number_in, signed_in, time_in, mode_in, Part, Caller, Word, NewName, Object, Number, Signed, Time, Mode, Says, Spells, word_if, one_if, objects, begins, value, IsStatement, IsOpening, IsPlainLine}
-use Rattle.nt_script.specs.Reading.{◌>>=◌, or_fault, word_at, end_at, option_at, value_at, number_at, signed_at, free_name_at, object_at, time_at, mode_at, objects_at, event_at, semaphore_at, mutex_at, only_object_at, act_on, release_at, apc_at, objects_wait_at, sleep_at, bare_at, call_at, caller_at, statement_at, threads_at, opening_at, plain_text, short_line, opening_of, statement_of}
+use Rattle.nt_script.specs.Grammar.{Place, NamePlace, ObjectPlace, NumberPlace, SignedPlace, TimePlace, ModePlace, blame, is_word, free_name_in, object_in, number_in, signed_in, time_in, mode_in, Part, NewName, Object, Number, Signed, Time, Mode, Says, Spells, word_if, one_if, objects, value, IsStatement, IsOpening, IsPlainLine}
+use Rattle.nt_script.specs.Reading.{◌>>=◌, end_at, option_at, value_at, number_at, signed_at, free_name_at, object_at, time_at, mode_at, objects_at, event_at, semaphore_at, mutex_at, only_object_at, act_on, release_at, apc_at, objects_wait_at, sleep_at, bare_at, call_at, caller_at, statement_at, threads_at, opening_at, plain_text, short_line, opening_of, statement_of}
 use Rattle.nt_script.specs.Transcript.{IsLine, IsOpeningLine, IsBlankLine}
 use Rattle.nt_script.specs.declared.fault.ScriptFault.{ScriptFault}
 use Rattle.nt_script.specs.declared.fault.ScriptFault.TheVariants.{ThreadsExpected}

@@ -1,13 +1,12 @@
 -- One line behind `threads`, with its witness.
-use Rattle.std.proofs.Common.{◌≡◌, ℕ, List, [], ◌∷◌, Option, None, Some, Result, Ok, Err, refl, ap, subst, ◌∙◌}
+use Rattle.std.proofs.Common.{◌≡◌, ℕ, List, [], ◌∷◌, Option, None, Some, Result, refl, ap, subst, ◌∙◌}
 use Rattle.nt_status.specs.declared.refusal.Refusal.{Refusal}
 use Rattle.nt_core.specs.declared.call.Act.{Act}
 use Rattle.nt_core.specs.declared.call.Call.{Call}
 use Rattle.nt_core.specs.declared.call.Reply.{Reply}
 use Rattle.nt_core.specs.declared.call.Grant.{Grant}
 use Rattle.nt_core.specs.Steps.{Called}
-use Rattle.nt_core.specs.Runs.{Turn, Calls}
-use Rattle.nt_script.specs.declared.parser.Statement.{Statement}
+use Rattle.nt_core.specs.Runs.{Calls}
 use Rattle.nt_script.specs.declared.parser.Statement.TheVariants.{Create, Perform}
 use Rattle.nt_script.specs.Scope.{Scope}
 use Rattle.nt_script.specs.Transcript.{turn_text, binds, handle_of, IsLine}

@@ -1,5 +1,5 @@
 -- One line before the session, with its witness.
-use Rattle.std.proofs.Common.{◌≡◌, ℕ, ◌+◌, ◌≤◌, List, [], Option, None, Some, Ok, refl, ap, ◌∙◌, arith}
+use Rattle.std.proofs.Common.{◌≡◌, ℕ, ◌+◌, List, [], Option, None, Some, Ok, refl, ap, ◌∙◌, arith}
 use Rattle.std.specs.FinMap.{len, len-empty}
 use Rattle.std.specs.Ordering.{nat_cmp}
 use Rattle.nt_waits.specs.declared.wait.Wait.{Wait}

@@ -1,21 +1,20 @@
 -- From lines carried out to a whole run.
-use Rattle.std.proofs.Common.{◌≡◌, ℕ, ◌+◌, ◌-◌, ◌<◌, ◌≤◌, List, [], ◌∷◌, ◌++◌, length, Option, Some, None, Result, Ok, Err, refl, sym, ap, subst, ◌∙◌, append_assoc, append-nil, arith, inl, inr, true, false, Bool, length-append, All, take, nat_le, ◌⊎◌, zero-add, suc}
-use Rattle.std.specs.List.{flat_map, slice_split, onto_first, AllByRecursion}
+use Rattle.std.proofs.Common.{◌≡◌, ℕ, ◌+◌, ◌-◌, ◌<◌, List, [], ◌∷◌, ◌++◌, length, Option, Some, None, Result, Ok, Err, refl, sym, ap, subst, ◌∙◌, append_assoc, append-nil, arith, inl, inr, true, false, Bool, length-append, take, nat_le, zero-add, suc}
+use Rattle.std.specs.List.{slice_split, onto_first, AllByRecursion}
 use Rattle.std.proofs.lemmas.List.Splits.{slice_split_at, slice_split_none, slice_split-cons_yes, slice_split-cons_no}
 use Rattle.std.specs.Io.KnownBytes.{Consumes, Appends, Keeps, IsAtEnd}
 use Rattle.std.proofs.lemmas.Bool.{lt-leb}
-use Rattle.std.proofs.KnownBytes.{Consumes-trans, Appends-trans, Consumes-nil, Appends-nil, Appends-kept, Consumes-kept}
+use Rattle.std.proofs.KnownBytes.{Consumes-trans, Appends-trans, Appends-nil, Appends-kept, Consumes-kept}
 use Rattle.nt_script.specs.Device.{AppendsFront, to_come}
 use Rattle.nt_script.specs.Lines.{is_feed, HasNoFeed, lines_of, without_empty_last}
 use Rattle.nt_core.specs.Runs.{Turn}
 use Rattle.nt_script.specs.Transcript.{FaultIn}
-use Rattle.nt_script.specs.Progress.{Progress, Advances, CarriedOut, AreCounted, scope_of, progress_of}
-use Rattle.nt_script.specs.Running.{Has, end_of, summary_at, Completes, Stops, FaultNext, AnyCause, WritesAt, Breaks, Answers, with_feeds, TakesLine, Carries, FindsFault, FailsIn, TakesNext, SoFar, Whole, Ends, WritesLine}
+use Rattle.nt_script.specs.Progress.{Progress, Advances, CarriedOut, scope_of, progress_of}
+use Rattle.nt_script.specs.Running.{Has, end_of, summary_at, Stops, FaultNext, AnyCause, WritesAt, Breaks, Answers, with_feeds, TakesLine, FindsFault, FailsIn, TakesNext, SoFar, Whole, Ends, WritesLine}
 use Rattle.nt_script.specs.declared.fault.ScriptFault.{ScriptFault}
-use Rattle.nt_script.specs.declared.fault.ScriptFault.TheVariants.{LineTooLong, ThreadsExpected}
+use Rattle.nt_script.specs.declared.fault.ScriptFault.TheVariants.{LineTooLong}
 use Rattle.nt_script.specs.declared.fault.RunFault.{RunFault}
 use Rattle.nt_script.specs.declared.fault.RunFault.TheVariants.{Script, Read, Write, Memory}
-use Rattle.nt_script.specs.declared.runner.Taken.{Taken}
 use Rattle.nt_script.specs.declared.runner.Taken.TheVariants.{Line, LastLine, Nothing}
 use Rattle.nt_script.specs.declared.summary.Summary.{Summary}
 use Rattle.nt_script.specs.declared.session.Session.{Session}

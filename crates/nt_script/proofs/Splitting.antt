@@ -1,5 +1,5 @@
 -- Words, one after another.
-use Rattle.std.proofs.Common.{◌≡◌, ℕ, suc, ◌+◌, ◌<◌, ◌≤◌, Bool, true, false, not, cond, List, [], ◌∷◌, length, filter, take, drop, get_or, Option, Some, None, is_none, is_some, Ok, Err, Result, ◌-◌, position, unwrap_or, nat_lt, ◌==◌, refl, sym, ap, ◌∙◌, arith, drop-cons, add-one}
+use Rattle.std.proofs.Common.{◌≡◌, ℕ, suc, ◌+◌, ◌<◌, Bool, true, false, not, cond, List, [], ◌∷◌, length, filter, take, drop, get_or, Option, Some, None, is_none, is_some, Ok, ◌-◌, position, unwrap_or, nat_lt, ◌==◌, refl, sym, ap, ◌∙◌, arith, drop-cons}
 use Rattle.std.specs.List.{slice_split, onto_first, position_or_len}
 use Rattle.std.proofs.lemmas.List.Splits.{slice_split-cons_yes, slice_split-cons_no}
 use Rattle.std.proofs.lemmas.List.{drop_all, take_rest}

@@ -2,7 +2,7 @@
 use Rattle.std.proofs.Common.{ℕ, List, Option, ◌++◌, Ok}
 use Rattle.std.specs.Io.KnownBytes.{Keeps}
 use Rattle.std.proofs.KnownBytes.{Appends-kept}
-use Rattle.nt_script.specs.Running.{Answers, Completes, end_of}
+use Rattle.nt_script.specs.Running.{Answers, end_of}
 use Rattle.nt_script.specs.declared.summary.Summary.{Summary}
 
 pub still_done : (left held mid held' : Option (List ℕ)) (summary : Summary) → Answers left held mid (Ok summary) → Keeps mid held' → Answers left held held' (Ok summary)

@@ -1,4 +1,4 @@
-use Rattle.std.proofs.Common.{◌≡◌, [], List, ℕ, length, rules, subst, arith}
+use Rattle.std.proofs.Common.{◌≡◌, [], List, ℕ, subst, arith}
 use Rattle.std.proofs.lemmas.Result.{err_from_is_err_and}
 use Rattle.std.proofs.lemmas.List.{nil_from_length}
 use Rattle.nt_script.specs.Reading.{objects_at}

@@ -1,6 +1,6 @@
 use Rattle.std.proofs.Common.{◌≡◌, ◌∙◌, ℕ, subst, arith}
 use Rattle.nt_script.specs.Running.{Stops, AnyCause}
-use Rattle.nt_script.proofs.Running.{SoFar-start, SoFar-then, Answers-none, Answers-end, Answers-err, Answers-full, Whole-last, Whole-nothing}
+use Rattle.nt_script.proofs.Running.{SoFar-then, Answers-none, Answers-end, Answers-err, Answers-full, Whole-last, Whole-nothing}
 use Rattle.nt_script.proofs.runner.run_lines.Goals as goal
 
 pub returns-in_default-clause-answers : goal.returns-in_default-clause-answers

@@ -1,4 +1,4 @@
-use Rattle.std.proofs.Common.{◌≡◌, ◌∙◌, ap, unwrap_or, length, Option, ℕ}
+use Rattle.std.proofs.Common.{◌∙◌, ap, unwrap_or, length, Option, ℕ}
 use Rattle.nt_script.proofs.Splitting.{place_or_len}
 use Rattle.nt_script.proofs.words.word_end.Goals as goal
 

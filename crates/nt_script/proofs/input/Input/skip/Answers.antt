@@ -1,4 +1,4 @@
-use Rattle.std.proofs.Common.{◌≤◌, ◌-◌, ◌∙◌, ap, arith, length, drop, min, List, ℕ}
+use Rattle.std.proofs.Common.{◌≤◌, ◌-◌, ◌∙◌, ap, arith, length, drop, List, ℕ}
 use Rattle.std.proofs.lemmas.List.{length-take}
 use Rattle.nt_script.proofs.Pieces.{skipped}
 use Rattle.nt_script.proofs.input.Input.skip.Goals as goal

@@ -1,4 +1,4 @@
-use Rattle.std.proofs.Common.{◌≡◌, ◌+◌, ◌≤◌, ◌<◌, ◌∙◌, ap, length, arith, length-append, subst, sym, take, drop, List, ℕ}
+use Rattle.std.proofs.Common.{◌+◌, ◌≤◌, ◌∙◌, ap, length, arith, subst, sym, take, drop, List, ℕ}
 use Rattle.std.proofs.lemmas.List.{length-take-le, length-take}
 use Rattle.nt_script.specs.Lines.{EndsLine, MovesBytes}
 use Rattle.nt_script.proofs.Pieces.{ended, moved, some_bytes}

@@ -1,4 +1,4 @@
-use Rattle.std.proofs.Common.{◌≡◌, [], ◌∷◌, ap}
+use Rattle.std.proofs.Common.{[], ◌∷◌, ap}
 use Rattle.nt_core.specs.declared.call.Call.{Call}
 use Rattle.nt_core.specs.Runs.{Calls}
 use Rattle.nt_script.specs.Progress.{progress}

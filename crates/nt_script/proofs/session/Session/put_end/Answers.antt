@@ -1,4 +1,4 @@
-use Rattle.std.proofs.Common.{◌≡◌, ◌∙◌, ◌<◌, ◌++◌, [], codes, ap, sym, length, arith, length-append, List, ℕ, zero-add}
+use Rattle.std.proofs.Common.{◌≡◌, ◌∙◌, ◌++◌, codes, ap, length, arith, length-append, List, ℕ}
 use Rattle.nt_core.specs.Dispatcher.{state}
 use Rattle.nt_script.specs.Transcript.{waiting_text}
 use Rattle.nt_script.proofs.Texts.{end_of_none, end_of_some}

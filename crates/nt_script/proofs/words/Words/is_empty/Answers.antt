@@ -1,4 +1,4 @@
-use Rattle.std.proofs.Common.{◌≡◌, ◌∙◌, ap, length, List, ℕ, Option, is_none}
+use Rattle.std.proofs.Common.{◌∙◌, ap, length, List, ℕ, Option, is_none}
 use Rattle.std.specs.Bool.{◌==◌}
 use Rattle.nt_script.proofs.Splitting.{no_words, none_is}
 use Rattle.nt_script.proofs.words.Words.is_empty.Goals as goal

@@ -1,7 +1,6 @@
-use Rattle.std.proofs.Common.{◌≡◌, ◌∙◌, ap, sym, take, drop, length, List, ℕ, Ok, ◌-◌}
-use Rattle.std.proofs.lemmas.List.{take_rest}
+use Rattle.std.proofs.Common.{◌∙◌, ap, sym}
 use Rattle.nt_script.specs.Reading.{word_at}
-use Rattle.nt_script.proofs.Splitting.{next_word, no_word, taken_word}
+use Rattle.nt_script.proofs.Splitting.{no_word, taken_word}
 use Rattle.nt_script.proofs.words.Words.next.Goals as goal
 
 pub returns : goal.returns
