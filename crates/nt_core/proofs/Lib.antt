@@ -10,5 +10,6 @@ mod Accepting
 mod Replacing
 mod Beginning
 mod Unique
+mod OneWay
 mod Alerting
 mod Ticking

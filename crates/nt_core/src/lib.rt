@@ -20,4 +20,4 @@ mod waiting;
 
 pub use call::{Act, Call, Grant, Reply, WaitCall};
 pub use dispatcher::Core;
-pub use laws::serves_one_way;
+pub use laws::{runs_one_way, serves_one_way};
