@@ -1,0 +1,85 @@
+//! `nt_bench [ROUNDS]` makes the same calls on the core round by round, and prints for each shape how many calls and
+//! grants a round has, and with ROUNDS the picoseconds of a call.
+#![tactic(auto)]
+
+mod shapes;
+mod turns;
+
+use shapes::{Shape, all_shapes};
+use std::alloc::AllocError;
+use std::env;
+use std::io::{self, Write};
+use std::process::ExitCode;
+use std::time::Instant;
+use turns::{Counts, Fault, Stage};
+
+/// How often a round is made where nothing is timed.
+const FEW: u64 = 3;
+
+/// What the command line asks for: so many rounds, timed or not.
+#[derive(Clone, Copy)]
+struct Plan {
+    rounds: u64,
+    is_timed: bool,
+}
+
+fn plan_of(rt: &HostRuntime) -> Result<Plan, AllocError> {
+    let mut words = env::args(rt).map_err(|_| AllocError)?;
+    let _program = words.next();
+    let asked = match words.next() {
+        Some(word) => word.as_str().parse::<u64>().ok(),
+        None => None,
+    };
+    Ok(match asked {
+        Some(rounds) => Plan {
+            rounds,
+            is_timed: true,
+        },
+        None => Plan {
+            rounds: FEW,
+            is_timed: false,
+        },
+    })
+}
+
+/// Runs one shape, and prints its line.
+fn run_shape(
+    rt: &HostRuntime,
+    shape: &Shape,
+    plan: Plan,
+    out: &mut impl Write,
+) -> Result<(), Fault> {
+    let mut stage = Stage::open(rt.alloc(), shape)?;
+    let began = Instant::now(rt).map_err(|_| Fault::Clock)?;
+    let counts = stage.run(plan.rounds)?;
+    let took = began.elapsed(rt).map_err(|_| Fault::Clock)?;
+    let Counts { calls, grants } = counts;
+    let told = if plan.is_timed {
+        let picoseconds = took.as_nanos().saturating_mul(1000) / (calls.max(1) as u128);
+        writeln!(
+            out,
+            "{}: {calls} calls, {grants} grants, {picoseconds} ps a call",
+            shape.name
+        )
+    } else {
+        writeln!(out, "{}: {calls} calls, {grants} grants", shape.name)
+    };
+    told.map_err(|_| Fault::Output)
+}
+
+fn run_all(rt: &HostRuntime) -> Result<(), Fault> {
+    let plan = plan_of(rt)?;
+    let mut out = io::writer(rt);
+    let shapes = all_shapes(rt.alloc())?;
+    for shape in &shapes {
+        run_shape(rt, shape, plan, &mut out)?;
+    }
+    Ok(())
+}
+
+fn main(rt: HostRuntime) -> ExitCode {
+    match run_all(&rt) {
+        Ok(()) => ExitCode::SUCCESS,
+        Err(_) => ExitCode::FAILURE,
+    }
+}

@@ -1,0 +1,166 @@
+//! What is timed.
+
+use crate::turns::Turn;
+use nt_core::{Act, Call, WaitCall};
+use nt_status::{Handle, Handles};
+use std::alloc::{AllocError, Global};
+
+/// INFINITE.
+const INFINITE: u32 = 0xFFFF_FFFF;
+
+/// So many threads, the calls that make the objects, and a round, which leaves everything as it was before it.
+#[derive(Drop)]
+pub struct Shape {
+    pub name: &'static str,
+    pub threads: u32,
+    pub prepare: Vec<Turn>,
+    pub round: Vec<Turn>,
+}
+
+impl Shape {
+    fn new(alloc: Global, name: &'static str, threads: u32) -> Self {
+        Shape {
+            name,
+            threads,
+            prepare: Vec::new(alloc),
+            round: Vec::new(alloc),
+        }
+    }
+
+    /// So many auto-reset events, made by thread 0. Their handles follow those of the threads.
+    fn with_events(mut self, events: u32) -> Result<Self, AllocError> {
+        for _ in 0..events {
+            self.prepare.push(act(0, Act::CreateEvent(0)))?;
+        }
+        Ok(self)
+    }
+
+    fn make(mut self, who: u32, made: Act) -> Result<Self, AllocError> {
+        self.prepare.push(act(who, made))?;
+        Ok(self)
+    }
+
+    fn then(mut self, who: u32, asked: Act) -> Result<Self, AllocError> {
+        self.round.push(act(who, asked))?;
+        Ok(self)
+    }
+
+    /// A wait for the objects from this handle on, so many.
+    fn wait(
+        mut self,
+        who: u32,
+        first: u32,
+        count: u32,
+        all: bool,
+        ms: u32,
+    ) -> Result<Self, AllocError> {
+        let alloc = *self.round.allocator();
+        let mut handles = Handles::new(alloc);
+        for number in first..first.saturating_add(count) {
+            handles.push(Handle::new(number))?;
+        }
+        let call = Call::Wait(WaitCall::Objects {
+            handles,
+            all,
+            ms,
+            alertable: false,
+        });
+        self.round.push(Turn { who, call })?;
+        Ok(self)
+    }
+}
+
+fn act(who: u32, act: Act) -> Turn {
+    Turn {
+        who,
+        call: Call::Act(act),
+    }
+}
+
+fn set(event: u32) -> Act {
+    Act::SetEvent(Handle::new(event))
+}
+
+/// A set event is taken at once.
+fn set_and_wait(alloc: Global) -> Result<Shape, AllocError> {
+    Shape::new(alloc, "set, wait(0)", 1)
+        .with_events(1)?
+        .then(0, set(1))?
+        .wait(0, 1, 1, false, 0)
+}
+
+/// A pending wait is granted.
+fn hand_over(alloc: Global) -> Result<Shape, AllocError> {
+    Shape::new(alloc, "wait, set", 2)
+        .with_events(1)?
+        .wait(0, 2, 1, false, INFINITE)?
+        .then(1, set(2))
+}
+
+/// A wait for any of 64 events, whose last is set.
+fn any_of_64(alloc: Global) -> Result<Shape, AllocError> {
+    Shape::new(alloc, "wait for any of 64, set the last", 2)
+        .with_events(64)?
+        .wait(0, 2, 64, false, INFINITE)?
+        .then(1, set(65))
+}
+
+/// A wait for all of 64 events, which are set one by one.
+fn all_of_64(alloc: Global) -> Result<Shape, AllocError> {
+    let mut shape = Shape::new(alloc, "wait for all of 64, set each", 2)
+        .with_events(64)?
+        .wait(0, 2, 64, true, INFINITE)?;
+    for event in 2..66 {
+        shape = shape.then(1, set(event))?;
+    }
+    Ok(shape)
+}
+
+/// 255 threads wait for one manual-reset event, which is pulsed.
+fn pulse_255(alloc: Global) -> Result<Shape, AllocError> {
+    let mut shape = Shape::new(alloc, "255 waits, one pulse", 256).make(0, Act::CreateEvent(1))?;
+    for who in 1..256 {
+        shape = shape.wait(who, 256, 1, false, INFINITE)?;
+    }
+    shape.then(0, Act::PulseEvent(Handle::new(256)))
+}
+
+/// Eight threads wait for one semaphore, which is released by eight.
+fn release_8(alloc: Global) -> Result<Shape, AllocError> {
+    let semaphore = Act::CreateSemaphore {
+        initial: 0,
+        maximum: 8,
+    };
+    let mut shape = Shape::new(alloc, "8 waits, release by 8", 9).make(0, semaphore)?;
+    for who in 1..9 {
+        shape = shape.wait(who, 9, 1, false, INFINITE)?;
+    }
+    let release = Act::ReleaseSemaphore {
+        semaphore: Handle::new(9),
+        count: 8,
+    };
+    shape.then(0, release)
+}
+
+/// A mutex goes from one thread to the other and back.
+fn mutex(alloc: Global) -> Result<Shape, AllocError> {
+    let unlock = Act::ReleaseMutex(Handle::new(2));
+    Shape::new(alloc, "a mutex to and fro", 2)
+        .make(0, Act::CreateMutex(1))?
+        .wait(1, 2, 1, false, INFINITE)?
+        .then(0, unlock)?
+        .wait(0, 2, 1, false, INFINITE)?
+        .then(1, unlock)
+}
+
+pub fn all_shapes(alloc: Global) -> Result<Vec<Shape>, AllocError> {
+    let mut shapes = Vec::with_capacity(alloc, 7)?;
+    shapes.push_reserved(set_and_wait(alloc)?);
+    shapes.push_reserved(hand_over(alloc)?);
+    shapes.push_reserved(any_of_64(alloc)?);
+    shapes.push_reserved(all_of_64(alloc)?);
+    shapes.push_reserved(pulse_255(alloc)?);
+    shapes.push_reserved(release_8(alloc)?);
+    shapes.push_reserved(mutex(alloc)?);
+    Ok(shapes)
+}
