@@ -13,3 +13,4 @@ mod Unique
 mod OneWay
 mod Alerting
 mod Ticking
+mod Lengths

@@ -1,5 +1,5 @@
 //! The table of calls: each is judged, and then made by the function for it.
-ghost use Rattle.std.specs.Prelude.{◌≡◌, None, IfOk, IfErr, OnOk, OnErr, IsTrue};
+ghost use Rattle.std.specs.Prelude.{◌≡◌, ◌≤◌, vec_capacity, length, None, IfOk, IfErr, OnOk, OnErr, IsTrue};
 ghost use Rattle.nt_status.specs.declared.refusal.Refusal.TheVariants.{Memory};
 ghost use Rattle.nt_core.specs.Calls.{act_grows, grows};
 ghost use Rattle.nt_core.specs.Dispatcher.{state};
@@ -11,33 +11,40 @@ ghost use Rattle.nt_core.specs.declared.call.Call.{Call};
 
 use crate::call::{Act, Call, Reply};
 use crate::machine::Machine;
-use nt_status::{EventFlags, MutexFlags, Refusal, ThreadId};
+use nt_status::{EventFlags, Handle, MutexFlags, Refusal, ThreadId};
 
 impl Machine {
     /// An act that no cause refuses.
-    fn act(&mut self, thread: ThreadId, act: &Act) -> Result<Reply, Refusal>
+    fn act(
+        &mut self,
+        thread: ThreadId,
+        act: &Act,
+        changed: &mut Vec<Handle>,
+    ) -> Result<Reply, Refusal>
         requires fresh { IsFresh self.old }
+        requires room { length self.old.objects ≤ vec_capacity changed.old }
         requires free { refusal (state self.old) thread (Call.Act act.now) ≡ None }
         ensures ok { IfOk result (λ reply. Accepts self.old self.new thread (Call.Act act.now) reply) }
         ensures memory { IfErr result (λ refusal. refusal ≡ Memory) }
         ensures grows { OnErr result (IsTrue (act_grows act.now)) }
         ensures err { OnErr result (self.new ≡ self.old) }
+        ensures room { length self.new.objects ≤ vec_capacity changed.new }
     {
         match act {
             Act::CreateEvent(flags) => {
                 let Some(flags) = EventFlags::from_bits(*flags) else {
                     unreachable!()
                 };
-                Ok(Reply::Handle(self.create_event(thread, flags)?))
+                Ok(Reply::Handle(self.create_event(thread, flags, changed)?))
             }
             Act::CreateSemaphore { initial, maximum } => {
-                Ok(Reply::Handle(self.create_semaphore(thread, *initial, *maximum)?))
+                Ok(Reply::Handle(self.create_semaphore(thread, *initial, *maximum, changed)?))
             }
             Act::CreateMutex(flags) => {
                 let Some(flags) = MutexFlags::from_bits(*flags) else {
                     unreachable!()
                 };
-                Ok(Reply::Handle(self.create_mutex(thread, flags)?))
+                Ok(Reply::Handle(self.create_mutex(thread, flags, changed)?))
             }
             Act::ReleaseSemaphore { semaphore, count } => {
                 Ok(self.release_semaphore(thread, *semaphore, *count))
@@ -71,32 +78,46 @@ impl Machine {
     }
 
     /// A call that no cause refuses.
-    fn accept(&mut self, thread: ThreadId, call: &Call) -> Result<Reply, Refusal>
+    fn accept(
+        &mut self,
+        thread: ThreadId,
+        call: &Call,
+        changed: &mut Vec<Handle>,
+    ) -> Result<Reply, Refusal>
         requires fresh { IsFresh self.old }
+        requires room { length self.old.objects ≤ vec_capacity changed.old }
         requires free { refusal (state self.old) thread call.now ≡ None }
         ensures ok { IfOk result (λ reply. Accepts self.old self.new thread call.now reply) }
         ensures memory { IfErr result (λ refusal. refusal ≡ Memory) }
         ensures grows { OnErr result (IsTrue (grows call.now)) }
         ensures err { OnErr result (self.new ≡ self.old) }
+        ensures room { length self.new.objects ≤ vec_capacity changed.new }
     {
         match call {
-            Call::Act(act) => self.act(thread, act),
+            Call::Act(act) => self.act(thread, act, changed),
             Call::Wait(wait) => self.wait(thread, wait),
         }
     }
 
-    /// Makes the call of this thread, or refuses it.
-    pub fn call(&mut self, who: u32, call: &Call) -> Result<Reply, Refusal>
-        requires { IsLawful self.old }
+    /// Makes the call of this thread, or refuses it. `changed` is for lists of handles, and has room for each object.
+    pub fn call(
+        &mut self,
+        who: u32,
+        call: &Call,
+        changed: &mut Vec<Handle>,
+    ) -> Result<Reply, Refusal>
+        requires lawful { IsLawful self.old }
+        requires room { length self.old.objects ≤ vec_capacity changed.old }
         ensures called { Called (state self.old) who call.now result self.new.grants (state self.new) }
         ensures lawful { IsLawful self.new }
         ensures local { OnOk result (IsLocal (state self.old) who call.now self.new.table.looked self.new.grants) }
         ensures untested { OnErr result (self.new.table.looked ≡ 0) }
+        ensures room { length self.new.objects ≤ vec_capacity changed.new }
     {
         self.tell_anew();
         match self.refusal(who, call) {
             Some(refusal) => Err(refusal),
-            None => self.accept(ThreadId::new(who as u16), call),
+            None => self.accept(ThreadId::new(who as u16), call, changed),
         }
     }
 }

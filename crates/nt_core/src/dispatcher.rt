@@ -9,7 +9,7 @@ ghost use Rattle.nt_core.specs.Accepts.{IsLocal};
 
 use crate::call::{Call, Grant, Reply};
 use crate::machine::Machine;
-use nt_status::{Moment, Refusal};
+use nt_status::{Handle, Moment, Refusal};
 use std::alloc::Global;
 use std::marker::Model;
 
@@ -17,6 +17,8 @@ use std::marker::Model;
 #[derive(Drop)]
 pub struct Core {
     machine: Machine,
+    /// Room to list every object, so that a call that changes many needs no memory for it.
+    changed: Vec<Handle>,
 }
 
 impl Model for Core {
@@ -31,7 +33,9 @@ impl Model for Core {
 
     ghost view = { λ c. c.machine };
 
-    ghost invariant = { λ c. IsLawful c.machine };
+    ghost use Rattle.std.specs.Prelude.{length, ◌≤◌, vec_capacity};
+
+    ghost invariant = { λ c. IsLawful c.machine × (length c.machine.objects ≤ vec_capacity c.changed) };
 }
 
 impl Core {
@@ -47,6 +51,7 @@ impl Core {
         }
         Ok(Core {
             machine: Machine::new(alloc, threads)?,
+            changed: Vec::with_capacity(alloc, threads as usize)?,
         })
     }
 
@@ -58,7 +63,7 @@ impl Core {
         ensures local { OnOk result (IsLocal (state self.old) who call.now self.new.table.looked self.new.grants) }
         ensures untested { OnErr result (self.new.table.looked ≡ 0) }
     {
-        self.machine.call(who, call)
+        self.machine.call(who, call, &mut self.changed)
     }
 
     /// Lets all moments up to `m`, counted in 100 ns, pass. The pending waits whose deadlines come end, each as at its own

@@ -1,5 +1,5 @@
 //! Calls on events.
-ghost use Rattle.std.specs.Prelude.{◌≡◌, true, false, IfOk, IsTrue, OnErr};
+ghost use Rattle.std.specs.Prelude.{◌≡◌, ◌≤◌, vec_capacity, length, true, false, IfOk, IsTrue, OnErr};
 ghost use Rattle.nt_objects.specs.Object.{is_event, with_set};
 ghost use Rattle.nt_core.specs.State.{object_at, with_object};
 ghost use Rattle.nt_core.specs.Change.{at};
@@ -21,14 +21,17 @@ impl Machine {
         &mut self,
         thread: ThreadId,
         flags: EventFlags,
+        changed: &mut Vec<Handle>,
     ) -> Result<Handle, AllocError>
         requires fresh { IsFresh self.old }
-        requires room { is_full self.old.objects ≡ false }
+        requires few { is_full self.old.objects ≡ false }
+        requires room { length self.old.objects ≤ vec_capacity changed.old }
         ensures ok { IfOk result (λ handle. Accepts self.old self.new thread (Call.Act (Act.CreateEvent flags)) (Reply.Handle handle)) }
         ensures err { OnErr result (self.new ≡ self.old) }
+        ensures room { length self.new.objects ≤ vec_capacity changed.new }
     {
         let _ = thread;
-        self.create(Object::new_event(flags))
+        self.create(Object::new_event(flags), changed)
     }
 
     /// The event is not set from now on.

@@ -1,5 +1,5 @@
 //! Calls on mutexes.
-ghost use Rattle.std.specs.Prelude.{◌≡◌, false, IfOk, IsTrue, OnErr};
+ghost use Rattle.std.specs.Prelude.{◌≡◌, ◌≤◌, vec_capacity, length, false, IfOk, IsTrue, OnErr};
 ghost use Rattle.nt_objects.specs.Object.{is_mutex, owned_by};
 ghost use Rattle.nt_core.specs.State.{object_at};
 ghost use Rattle.nt_core.specs.Refusals.{is_full};
@@ -19,13 +19,16 @@ impl Machine {
         &mut self,
         thread: ThreadId,
         flags: MutexFlags,
+        changed: &mut Vec<Handle>,
     ) -> Result<Handle, AllocError>
         requires fresh { IsFresh self.old }
-        requires room { is_full self.old.objects ≡ false }
+        requires few { is_full self.old.objects ≡ false }
+        requires room { length self.old.objects ≤ vec_capacity changed.old }
         ensures ok { IfOk result (λ handle. Accepts self.old self.new thread (Call.Act (Act.CreateMutex flags)) (Reply.Handle handle)) }
         ensures err { OnErr result (self.new ≡ self.old) }
+        ensures room { length self.new.objects ≤ vec_capacity changed.new }
     {
-        self.create(Object::new_mutex(flags, thread))
+        self.create(Object::new_mutex(flags, thread), changed)
     }
 
     /// ReleaseMutex: its owner holds it one level less deep, and where that was the last the waits that name it are served.

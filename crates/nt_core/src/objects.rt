@@ -1,5 +1,5 @@
 //! The list of objects, and the creation of more.
-ghost use Rattle.std.specs.Prelude.{◌≡◌, ◌≢◌, ◌<◌, ◌∷◌, ◌++◌, [], false, replicate, IfOk, OnOk, OnErr, length, slice_set};
+ghost use Rattle.std.specs.Prelude.{◌≡◌, ◌≢◌, ◌<◌, ◌≤◌, vec_capacity, ◌∷◌, ◌++◌, [], false, replicate, IfOk, OnOk, OnErr, length, slice_set};
 ghost use Rattle.nt_objects.specs.declared.object.Object.TheVariants.{Thread};
 ghost use Rattle.nt_core.specs.State.{object_at};
 ghost use Rattle.nt_core.specs.Refusals.{is_full};
@@ -34,14 +34,24 @@ fn add_object(objects: &mut Vec<Object>, object: Object) -> Result<(), AllocErro
 }
 
 impl Machine {
-    /// Adds an object, and answers its handle. Where memory is refused nothing changes.
-    pub(crate) fn create(&mut self, object: Object) -> Result<Handle, AllocError>
-        requires { is_full self.old.objects ≡ false }
+    /// Adds an object, and answers its handle. Where memory is refused nothing changes. `changed` gets room for one handle
+    /// more, so that later calls can list every object without memory.
+    pub(crate) fn create(
+        &mut self,
+        object: Object,
+        changed: &mut Vec<Handle>,
+    ) -> Result<Handle, AllocError>
+        requires few { is_full self.old.objects ≡ false }
+        requires room { length self.old.objects ≤ vec_capacity changed.old }
         ensures handle { IfOk result (λ handle. handle ≡ length self.old.objects) }
         ensures ok { OnOk result (self.new ≡ record self.old { objects = self.old.objects ++ object ∷ [] }) }
         ensures err { OnErr result (self.new ≡ self.old) }
+        ensures room { length self.new.objects ≤ vec_capacity changed.new }
     {
-        let handle = Handle::new(self.objects.len() as u32);
+        let count = self.objects.len();
+        let handle = Handle::new(count as u32);
+        changed.clear();
+        changed.reserve(count + 1)?;
         add_object(&mut self.objects, object)?;
         Ok(handle)
     }

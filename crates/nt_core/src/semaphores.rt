@@ -1,5 +1,5 @@
 //! Calls on semaphores.
-ghost use Rattle.std.specs.Prelude.{◌≡◌, pos, ◌<ℤ◌, false, IfOk, IsTrue, OnErr};
+ghost use Rattle.std.specs.Prelude.{◌≡◌, ◌≤◌, vec_capacity, length, pos, ◌<ℤ◌, false, IfOk, IsTrue, OnErr};
 ghost use Rattle.nt_objects.specs.Object.{is_semaphore, may_count, overflows};
 ghost use Rattle.nt_core.specs.State.{object_at};
 ghost use Rattle.nt_core.specs.Refusals.{is_full};
@@ -21,18 +21,21 @@ impl Machine {
         thread: ThreadId,
         initial: i32,
         maximum: i32,
+        changed: &mut Vec<Handle>,
     ) -> Result<Handle, AllocError>
         requires fresh { IsFresh self.old }
         requires counts { IsTrue (may_count initial maximum) }
-        requires room { is_full self.old.objects ≡ false }
+        requires few { is_full self.old.objects ≡ false }
+        requires room { length self.old.objects ≤ vec_capacity changed.old }
         ensures ok { IfOk result (λ handle. Accepts self.old self.new thread (Call.Act (Act.CreateSemaphore initial maximum)) (Reply.Handle handle)) }
         ensures err { OnErr result (self.new ≡ self.old) }
+        ensures room { length self.new.objects ≤ vec_capacity changed.new }
     {
         let _ = thread;
         let Ok(semaphore) = Object::new_semaphore(initial, maximum) else {
             unreachable!()
         };
-        self.create(semaphore)
+        self.create(semaphore, changed)
     }
 
     /// ReleaseSemaphore: the count is higher, and the waits that name it are served. Answers the count before.

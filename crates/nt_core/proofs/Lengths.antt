@@ -1,0 +1,122 @@
+-- How many objects there are: only creations change it.
+use Rattle.std.proofs.Common.{◌≡◌, ◌≤◌, ℕ, Bool, true, false, cond, ◌&&◌, List, [], ◌∷◌, length, refl, ap, ◌∙◌, arith}
+use Rattle.std.proofs.lemmas.List.{length-set}
+use Rattle.std.specs.Prelude.{slice_index, ◌==◌}
+use Rattle.nt_waits.specs.declared.wait.Wait.{Wait}
+use Rattle.nt_objects.specs.declared.object.Object.{Object}
+use Rattle.nt_objects.specs.Object.{taken, with_set, armed_with, setting_of, rearmed}
+use Rattle.nt_status.specs.Status.{io_completion_code}
+use Rattle.nt_apc.specs.Queues.{has_apc, taken as queues_taken}
+use Rattle.nt_core.specs.declared.call.Act.{Act}
+use Rattle.nt_core.specs.declared.call.Call.{Call}
+use Rattle.nt_core.specs.declared.call.Reply.{Reply}
+use Rattle.nt_core.specs.declared.call.Grant.{Grant}
+use Rattle.nt_core.specs.Calls.{timeout_of}
+use Rattle.nt_core.specs.State.{State, object_at, with_handing, pending_too}
+use Rattle.nt_core.specs.Dispatcher.{Dispatcher, state}
+use Rattle.nt_core.specs.Serving.{fits, status, least, take_at, take_each, objects_taken, taken_by, granted, Grants, late_status, is_sleep}
+use Rattle.nt_core.specs.Change.{change, may_take, apc_taken, expired_as, expired, all_expired}
+use Rattle.nt_core.specs.Steps.{begun, wait_of, after_serving, answered, Step, MomentPasses, MomentsPass, Ticked}
+use Rattle.std.specs.Prelude.{Option, Some, None, Result, Ok, Err, IfOk, OnErr}
+use Rattle.nt_status.specs.declared.refusal.Refusal.{Refusal}
+use Rattle.nt_objects.specs.declared.object.Armed.{Armed}
+use Rattle.nt_core.specs.Accepts.{Accepts}
+use Rattle.nt_core.proofs.Alerting.{over_objects}
+
+length_taken_each : (t : ℕ) (hs : List ℕ) (os : List Object) → length (take_each os t hs) ≡ length os
+length_taken_each t [] os = refl
+length_taken_each t (h ∷ hs) os = length_taken_each t hs (take_at os t h) ∙ length-set os h (taken (object_at os h) t)
+
+pub length_taken : (os : List Object) (t : ℕ) (w : Wait) → length (objects_taken os t w) ≡ length os
+length_taken os t w = go w.all
+  where
+    go : (all : Bool) → length (cond all (take_each os t w.handles) (take_at os t (slice_index w.handles (least os t w)))) ≡ length os
+    go true = length_taken_each t w.handles os
+    go false = length-set os (slice_index w.handles (least os t w)) (taken (object_at os (slice_index w.handles (least os t w))) t)
+
+pub Grants_length : (threads : List ℕ) (s new : State) (gs : List Grant) → Grants threads s gs new → length new.objects ≡ length s.objects
+Grants_length threads s new [] is = ap (λ (x : State). length x.objects) is
+Grants_length threads s new (g ∷ gs) has = Grants_length threads (granted s g.thread has.1) new gs has.3 ∙ length_taken s.objects g.thread has.1
+
+length_after : (call : Call) (s : State) → length (after_serving call s).objects ≡ length s.objects
+length_after (Call.Act (Act.PulseEvent h)) s = length-set s.objects h (with_set false (object_at s.objects h))
+length_after _ s = refl
+
+abbrev length_in : State → ℕ
+length_in s = length s.objects
+
+abbrev length_of : Reply × State → ℕ
+length_of p = length p.1.objects
+
+length_begun : (s : State) (t : ℕ) (w : Wait) (ms : ℕ) → length (begun s t w ms).1.objects ≡ length s.objects
+length_begun s t w ms = first (fits s.objects t w)
+  where
+    third : (b : Bool) → length_of (cond b (Reply.Status (late_status (is_sleep w)), with_handing s t false) (Reply.Pended, pending_too s t w)) ≡ length s.objects
+    third true = refl
+    third false = refl
+
+    second : (b : Bool) → length_of (cond b (Reply.Status io_completion_code, with_handing s t true) (cond (ms == 0) (Reply.Status (late_status (is_sleep w)), with_handing s t false) (Reply.Pended, pending_too s t w))) ≡ length s.objects
+    second true = refl
+    second false = third (ms == 0)
+
+    first : (b : Bool) → length_of (cond b (Reply.Status (status s.objects t w), taken_by s t w) (cond (w.alertable && has_apc s.apcs t) (Reply.Status io_completion_code, with_handing s t true) (cond (ms == 0) (Reply.Status (late_status (is_sleep w)), with_handing s t false) (Reply.Pended, pending_too s t w)))) ≡ length s.objects
+    first true = length_taken s.objects t w
+    first false = second (w.alertable && has_apc s.apcs t)
+
+length_answered : (old s : State) (t : ℕ) (call : Call) → length (answered old s t call).1.objects ≡ length s.objects
+length_answered old s t (Call.Act act) = refl
+length_answered old s t (Call.Wait wait) = length_begun s t (wait_of s.now wait) (timeout_of wait)
+
+-- as many objects as after the change
+pub step_length : (old new : State) (t : ℕ) (call : Call) (reply : Reply) (grants : List Grant) → Step old t call reply grants new → length new.objects ≡ length (change old t call).objects
+step_length old new t call reply grants step =
+    ap (λ (p : Reply × State). length p.1.objects) step.answers
+    ∙ (length_answered old step.woken t call
+    ∙ (ap (λ (s : State). length s.objects) step.alerts.leaves
+    ∙ (ap (λ os. length os) (over_objects (after_serving call step.calm) step.alerts.threads true)
+    ∙ (length_after call step.calm ∙ Grants_length _ (change old t call) step.calm step.served step.serves.0))))
+
+-- a call that creates nothing leaves room for each object
+pub room_kept : (old new : Dispatcher) (t : ℕ) (call : Call) (reply : Reply) (room : ℕ) → Accepts old new t call reply → length (change (state old) t call).objects ≡ length old.objects → length old.objects ≤ room → length new.objects ≤ room
+room_kept old new t call reply room accepts same before =
+    let all = step_length (state old) (state new) t call reply new.grants accepts.step in
+    omega (arith, all, same, before)
+
+-- ---- ticks
+
+length_expired_as : (s : State) (v timer : ℕ) (setting : Option Armed) → length (expired_as s v timer setting).objects ≡ length s.objects
+length_expired_as s v timer None = refl
+length_expired_as s v timer (Some armed) = length-set s.objects timer (armed_with (rearmed v armed) (with_set true (object_at s.objects timer)))
+
+pub length_expired : (s : State) (v : ℕ) (timers : List ℕ) → length (all_expired v s timers).objects ≡ length s.objects
+length_expired s v [] = refl
+length_expired s v (timer ∷ timers) = length_expired (expired v s timer) v timers ∙ length_expired_as s v timer (setting_of (object_at s.objects timer))
+
+length_passed : (old new : State) (m u : ℕ) (grants : List Grant) → MomentPasses old m u grants new → length new.objects ≡ length old.objects
+length_passed old new m u grants passes =
+    ap (λ (s : State). length s.objects) passes.times_out.leaves
+    ∙ (ap (λ os. length os) (over_objects passes.woken passes.times_out.threads false)
+    ∙ (ap (λ (s : State). length s.objects) passes.alerts.leaves
+    ∙ (ap (λ os. length os) (over_objects passes.calm passes.alerts.threads true)
+    ∙ (Grants_length _ (all_expired m old passes.timers) passes.calm passes.served passes.serves.0 ∙ length_expired old m passes.timers))))
+
+length_moments : (old new : State) (m : ℕ) (us : List ℕ) (grants : List Grant) → MomentsPass old m us grants new → length new.objects ≡ length old.objects
+length_moments old new m [] grants has = ap (λ (s : State). length s.objects) has.2
+length_moments old new m (u ∷ us) grants has = length_moments has.2 new m us has.1 has.5 ∙ length_passed old has.2 m u has.0 has.4
+
+pub tick_length : (old new : State) (m : ℕ) (result : Result Reply Refusal) (grants : List Grant) → Ticked old m result grants new → length new.objects ≡ length old.objects
+tick_length old new m (Ok reply) grants has = length_moments old new m has.2.0 grants has.2.1
+tick_length old new m (Err r) grants has = ap (λ (s : State). length s.objects) has.3
+
+-- ---- what the table of calls needs
+
+pub room_tried : (old new : Dispatcher) (t : ℕ) (call : Call) (result : Result Reply Refusal) (room : ℕ) → IfOk result (λ reply. Accepts old new t call reply) → OnErr result (new ≡ old) → length (change (state old) t call).objects ≡ length old.objects → length old.objects ≤ room → length new.objects ≤ room
+room_tried old new t call (Ok reply) room ok err same before = room_kept old new t call reply room ok same before
+room_tried old new t call (Err r) room ok err same before = let len : length new.objects ≡ length old.objects = ap (λ (d : Dispatcher). length d.objects) err in omega (arith, len, before)
+
+pub length_apc_taken : (s : State) (t : ℕ) → length (apc_taken s t).objects ≡ length s.objects
+length_apc_taken s t = go (may_take s t)
+  where
+    go : (b : Bool) → length_in (cond b (record s { apcs = queues_taken s.apcs t }) (with_handing s t false)) ≡ length s.objects
+    go true = refl
+    go false = refl
