@@ -1,6 +1,6 @@
 -- Counts of failures that are below the greatest.
 use Rattle.std.proofs.Common.{◌≡◌, ℕ, ◌+◌, ◌-◌, ◌^◌, ◌<◌, Result, Ok, Err, ◌∙◌, arith}
-use Rattle.nt_script.specs.Device.{one_more}
+use Rattle.nt_devices.specs.Device.{one_more}
 use Rattle.nt_script.specs.Running.{CountsFaults, CountsFailures}
 use Rattle.nt_script.specs.declared.fault.RunFault.{RunFault}
 use Rattle.nt_script.specs.declared.fault.RunFault.TheVariants.{Script, Read, Write, Memory}

@@ -1,5 +1,4 @@
-pub mod Device
-pub mod Counted
+pub mod Bytes
 pub mod Lines
 pub mod Words
 pub mod Scope

@@ -2,7 +2,7 @@
 use Rattle.std.specs.Prelude.{◌≡◌, ℕ, ◌<◌, ◌≤◌, ◌==◌, Bool, false, List, [], ◌∷◌, ◌++◌, length, All, Option, Result, Ok, Err}
 use Rattle.std.specs.List.{slice_split}
 use Rattle.std.specs.Io.KnownBytes.{Consumes, IsAtEnd}
-use Rattle.nt_script.specs.Device.{one_more}
+use Rattle.nt_devices.specs.Device.{one_more}
 use Rattle.nt_script.specs.declared.input.Ending.{Ending}
 use Rattle.nt_script.specs.declared.input.Ending.TheVariants.{Feed, EndOfInput}
 use Rattle.nt_script.specs.declared.input.Piece.{Piece}

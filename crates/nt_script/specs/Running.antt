@@ -3,7 +3,8 @@ use Rattle.std.specs.Prelude.{◌≡◌, ℕ, ◌+◌, ◌<◌, ◌⊎◌, List,
 use Rattle.std.specs.List.{flat_map, sum_by, AllByRecursion}
 use Rattle.std.specs.FinMap.{len}
 use Rattle.std.specs.Io.KnownBytes.{Consumes, Appends, Keeps, IsAtEnd}
-use Rattle.nt_script.specs.Device.{one_more, AppendsFront}
+use Rattle.nt_devices.specs.Device.{one_more}
+use Rattle.nt_script.specs.Bytes.{AppendsFront}
 use Rattle.nt_script.specs.Lines.{HasNoFeed, lines_of}
 use Rattle.nt_core.specs.Runs.{Turn}
 use Rattle.nt_script.specs.Transcript.{FaultIn, end_text}

@@ -2,12 +2,13 @@
 
 ghost use Rattle.std.specs.Prelude.{◌≡◌, ◌≢◌, ◌↔◌, ◌≤◌, [], drop, length, IfOk, IfErr, IsTrue, OnOk, OnErr, Err, vec_capacity, vec_len};
 ghost use Rattle.std.specs.Io.KnownBytes.{Keeps, IsAtEnd};
-ghost use Rattle.nt_script.specs.Device.{one_more, to_come};
+ghost use Rattle.nt_devices.specs.Device.{one_more};
+ghost use Rattle.nt_script.specs.Bytes.{to_come};
 ghost use Rattle.nt_script.specs.Lines.{ReadsLine, StopsInLine, CountsReadFault, TakesPiece};
 
-use crate::device::Source;
 use crate::text::put;
 use memchr::memchr;
+use nt_devices::Source;
 use std::alloc::{AllocError, Global};
 use std::marker::Model;
 

@@ -1,7 +1,6 @@
 //! Scripts to transcripts.
 #![tactic(auto)]
 
-mod device;
 mod fault;
 mod input;
 mod keyword;
@@ -17,8 +16,8 @@ mod text;
 mod transcript;
 mod words;
 
-pub use device::{Counted, Sink, Source};
 pub use fault::{RunFault, ScriptFault};
+pub use nt_devices::{Counted, Sink, Source};
 pub use runner::run;
 pub use summary::Summary;
 

@@ -17,12 +17,11 @@ struct Outcome {
     answer: Result<Summary, RunFault>,
 }
 
-fn run_over(alloc: Global, given: Given<'_>, taken: Taken) -> Outcome {
+fn run_over(alloc: Global, given: Given<'_>, mut taken: Taken) -> Outcome {
     let mut reader = Counted::new(given);
-    let mut writer = Counted::new(taken);
-    let answer = run(alloc, &mut reader, &mut writer);
+    let answer = run(alloc, &mut reader, &mut Counted::new(&mut taken));
     Outcome {
-        written: writer.into_inner().bytes,
+        written: taken.bytes,
         answer,
     }
 }

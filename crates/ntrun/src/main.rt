@@ -6,7 +6,7 @@ ghost use Rattle.std.specs.Prelude.{◌≡◌};
 mod plan;
 mod script;
 
-use nt_script::Counted;
+use nt_devices::Counted;
 use plan::{Plan, PlanFault, plan_of};
 use script::script_over;
 use std::alloc::{AllocError, Global};

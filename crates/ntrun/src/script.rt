@@ -3,7 +3,8 @@
 ghost use Rattle.std.specs.Prelude.{◌≡◌, ◌-◌, ◌<◌, ◌^◌, Err};
 ghost use Rattle.ntrun.specs.Ending.{Outcome, ScriptEnds, status_of};
 
-use nt_script::{RunFault, Sink, Source, Summary, run};
+use nt_devices::{Sink, Source};
+use nt_script::{RunFault, Summary, run};
 use std::alloc::Global;
 use std::io::Write;
 

@@ -5,7 +5,7 @@ mod devices;
 use crate::plan::{Plan, PlanFault, plan_of};
 use crate::script::script_over;
 use devices::{Given, Taken};
-use nt_script::Counted;
+use nt_devices::Counted;
 use std::alloc::{AllocError, Global};
 use std::test::Fail;
 
@@ -17,13 +17,13 @@ struct Ran {
     status: u8,
 }
 
-fn run_over(alloc: Global, given: Given<'_>, taken: Taken) -> Ran {
+fn run_over(alloc: Global, given: Given<'_>, mut taken: Taken) -> Ran {
     let mut reader = Counted::new(given);
-    let mut writer = Counted::new(taken);
+    let mut writer = Counted::new(&mut taken);
     let mut errors = Taken::new(alloc);
     let status = script_over(alloc, &mut reader, &mut writer, &mut errors);
     Ran {
-        written: writer.into_inner().bytes,
+        written: taken.bytes,
         said: errors.bytes,
         status,
     }

@@ -1,6 +1,6 @@
 use Rattle.std.proofs.Common.{length, ◌≡◌, ◌≤◌, ◌-◌, vec_capacity}
 use Rattle.std.specs.Io.KnownBytes.{Consumes}
-use Rattle.nt_script.specs.Device.{to_come}
+use Rattle.nt_script.specs.Bytes.{to_come}
 use Rattle.nt_script.specs.Lines.{HasNoFeed}
 use Rattle.nt_script.proofs.input.Input.read_line.Given as goal
 

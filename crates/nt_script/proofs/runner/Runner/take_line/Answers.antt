@@ -1,5 +1,5 @@
 use Rattle.std.proofs.Common.{◌<◌, inr, length, arith, subst, sym, List, ℕ}
-use Rattle.nt_script.specs.Device.{to_come}
+use Rattle.nt_script.specs.Bytes.{to_come}
 use Rattle.nt_script.specs.Running.{TakesLine}
 use Rattle.nt_script.proofs.Running.{Turns-err}
 use Rattle.nt_script.proofs.runner.Runner.take_line.Goals as goal

@@ -1,0 +1,15 @@
+-- A device with a count of its failures.
+use Rattle.std.specs.Prelude.{ℕ, Bool}
+use Rattle.nt_devices.specs.declared.counted.Counted.{Counted}
+
+-- the device itself
+abbrev pub device_of : {T : Type 0} → Counted T → T
+device_of counted = counted.device
+
+-- how often it has failed
+abbrev pub failures_of : {T : Type 0} → Counted T → ℕ
+failures_of counted = counted.failures
+
+-- whether a flush succeeded, and nothing was written since
+abbrev pub handed_on_of : {T : Type 0} → Counted T → Bool
+handed_on_of counted = counted.handed_on
