@@ -10,7 +10,8 @@ use Rattle.nt_waits.specs.declared.wait.Wait.{Wait}
 use Rattle.nt_waits.specs.Waits.{Waits, Agrees}
 use Rattle.nt_objects.specs.declared.object.Object.{Object}
 use Rattle.nt_objects.specs.declared.object.Object.TheVariants.{Thread}
-use Rattle.nt_objects.specs.Object.{due_of, is_thread, taken, IsLawfulObject}
+use Rattle.nt_objects.specs.Object.{due_of, setter_of, is_thread, taken, IsLawfulObject}
+use Rattle.nt_alarms.specs.Alarms.{alarm_at}
 use Rattle.nt_core.specs.declared.call.Call.{Call}
 use Rattle.nt_core.specs.declared.call.Reply.{Reply}
 use Rattle.nt_core.specs.declared.call.Grant.{Grant}
@@ -149,8 +150,13 @@ object_at-replicate zero h = refl
 object_at-replicate (suc n) zero = refl
 object_at-replicate (suc n) (suc h) = object_at-replicate n h
 
-pub opening_lawful : (d : Dispatcher) → d.threads ≤ 256 → d.objects ≡ replicate d.threads (Thread false) → d.table.pending ≡ fin.empty → Agrees d.table.pending d.table.queues → length d.handing ≡ d.threads → length d.apcs.queues ≡ d.threads → d.grants ≡ [] → IsLawful d
-opening_lawful d few objects waits agrees hands inboxes grants = record {
+quiet_alarms : (n h : ℕ) → alarm_at (replicate n None) h ≡ None
+quiet_alarms zero h = refl
+quiet_alarms (suc n) zero = refl
+quiet_alarms (suc n) (suc h) = quiet_alarms n h
+
+pub opening_lawful : (d : Dispatcher) → d.threads ≤ 256 → d.objects ≡ replicate d.threads (Thread false) → d.table.pending ≡ fin.empty → Agrees d.table.pending d.table.queues → length d.handing ≡ d.threads → length d.apcs.queues ≡ d.threads → d.grants ≡ [] → d.alarms ≡ replicate d.threads None → IsLawful d
+opening_lawful d few objects waits agrees hands inboxes grants alarms = record {
   sound = record {
     few = few;
     waits = λ t w pends. nobody t w pends;
@@ -160,7 +166,14 @@ opening_lawful d few objects waits agrees hands inboxes grants = record {
     objects = λ h. subst IsLawfulObject (sym (running h)) tt;
     own = λ t below. (let len : length d.objects ≡ d.threads = ap (λ os. length os) objects ∙ length-replicate d.threads (Thread false) in omega (arith, len, below), ap is_thread (running t));
     none_else = λ h beyond known. let len : length d.objects ≡ d.threads = ap (λ os. length os) objects ∙ length-replicate d.threads (Thread false) in absurd (omega (arith, len, beyond, known));
+    timers = record {
+      count = ap (λ clocks. length clocks) alarms ∙ (length-replicate d.threads None ∙ sym (ap (λ os. length os) objects ∙ length-replicate d.threads (Thread false)));
+      alarm = λ h. ap (λ clocks. alarm_at clocks h) alarms ∙ (quiet_alarms d.threads h ∙ sym (ap due_of (running h)));
+      placed = λ h t is. nobody_set t (sym (ap setter_of (running h)) ∙ is);
+      runs = λ h t is. nobody_set t (sym (ap setter_of (running h)) ∙ is);
+    };
     unarmed = λ h. ap due_of (running h);
+    handles = let len : length d.objects ≡ d.threads = ap (λ os. length os) objects ∙ length-replicate d.threads (Thread false) in omega (arith, len, few);
     room = let none : length d.grants ≡ 0 = ap (λ gs. length gs) grants in let empty : fin.len d.table.pending ≡ 0 = ap (λ m. fin.len m) waits ∙ fin.len-empty nat_cmp Wait in omega (arith, none, empty);
   };
   settled = record {
@@ -172,6 +185,9 @@ opening_lawful d few objects waits agrees hands inboxes grants = record {
   where
     nobody : {P : Type 0} (t : ℕ) (w : Wait) → fin.get d.table.pending t ≡ Some w → P
     nobody t w pends = nothing_pends t w (ap (λ m. fin.get m t) (sym waits) ∙ pends)
+
+    nobody_set : {P : Type 0} (t : ℕ) → None ≡ Some t → P
+    nobody_set t e = (cc)
 
     running : (h : ℕ) → object_at d.objects h ≡ Thread false
     running h = ap (λ os. object_at os h) objects ∙ object_at-replicate d.threads h
@@ -201,6 +217,8 @@ told_anew d table lawful is = subst (λ (v : Waits). IsFresh (record d { table =
       objects = lawful.sound.objects;
       own = lawful.sound.own;
       none_else = lawful.sound.none_else;
+      timers = lawful.sound.timers;
+      handles = lawful.sound.handles;
       unarmed = lawful.sound.unarmed;
       room = let room = lawful.sound.room in omega (arith, room);
     };

@@ -49,6 +49,8 @@ ended_sound old table t code may w grants sound has waits agrees pushed =
       objects = sound.objects;
       own = sound.own;
       none_else = sound.none_else;
+      timers = sound.timers;
+      handles = sound.handles;
       unarmed = sound.unarmed;
       room = omega (arith, sound.room, longer, fewer, same);
     }
@@ -211,6 +213,8 @@ posted_sound d t q sound = record {
   objects = sound.objects;
   own = sound.own;
   none_else = sound.none_else;
+  timers = sound.timers;
+  handles = sound.handles;
   unarmed = sound.unarmed;
   room = sound.room;
 }
@@ -267,6 +271,8 @@ taken_lawful d t lawful idle = record {
     objects = lawful.sound.objects;
     own = lawful.sound.own;
     none_else = lawful.sound.none_else;
+    timers = lawful.sound.timers;
+    handles = lawful.sound.handles;
     unarmed = lawful.sound.unarmed;
     room = lawful.sound.room;
   };

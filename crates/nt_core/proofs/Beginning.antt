@@ -25,7 +25,7 @@ use Rattle.nt_core.specs.Serving.{fits, is_ready, satisfied, is_due, IsTried}
 use Rattle.nt_core.specs.Steps.{IsAwaited}
 use Rattle.nt_core.specs.Lawful.{IsSettled, IsLawful}
 use Rattle.nt_core.proofs.Taking.{unready_after}
-use Rattle.nt_core.proofs.Keeping.{TakesWell, objects_taken_well}
+use Rattle.nt_core.proofs.Keeping.{TakesWell, objects_taken_well, taken_timers}
 use Rattle.nt_core.proofs.Changing.{served_fewer, due_kept}
 use Rattle.nt_core.proofs.Accepting.{due_taken_by}
 use Rattle.nt_core.proofs.Visiting.{state_same, can_take}
@@ -89,6 +89,8 @@ sound_begun old table t w sound able idle room pending agrees = record {
   objects = sound.objects;
   own = sound.own;
   none_else = sound.none_else;
+  timers = sound.timers;
+  handles = sound.handles;
   unarmed = sound.unarmed;
   room = let more = len_inserted old.table.pending t w idle in let same : fin.len table.pending ≡ fin.len (fin.insert old.table.pending t w) = ap (λ m. fin.len m) pending in omega (arith, room, more, same);
 }
@@ -220,6 +222,8 @@ began_taken old objects t code w lawful able idle tried =
         objects = well.lawful sound.objects;
         own = λ u below. (subst (λ (n : ℕ). u < n) (sym well.length) (sound.own u below).0, well.threads u ∙ (sound.own u below).1);
         none_else = λ h beyond known. well.threads h ∙ sound.none_else h beyond (subst (λ (n : ℕ). h < n) well.length known);
+        timers = taken_timers old.threads old.objects objects old.alarms old.apcs.places t sound.timers well;
+        handles = let most = sound.handles in let len = well.length in omega (arith, most, len);
         unarmed = λ h. well.due h ∙ sound.unarmed h;
         room = sound.room;
       };
@@ -242,6 +246,8 @@ handed_lawful old t may lawful = record {
     objects = lawful.sound.objects;
     own = lawful.sound.own;
     none_else = lawful.sound.none_else;
+    timers = lawful.sound.timers;
+    handles = lawful.sound.handles;
     unarmed = lawful.sound.unarmed;
     room = lawful.sound.room;
   };

@@ -7,17 +7,20 @@ use Rattle.std.proofs.lemmas.List.{get_or-set_other, length-set}
 use Rattle.nt_waits.specs.declared.wait.Wait.{Wait}
 use Rattle.nt_waits.specs.Waits.{IsMember}
 use Rattle.nt_objects.specs.declared.object.Object.{Object}
-use Rattle.nt_objects.specs.declared.object.Object.TheVariants.{Thread}
-use Rattle.nt_objects.specs.Object.{signaled, is_event, is_thread, has_ended, has_room, owned_by, due_of, IsLawfulObject}
+use Rattle.nt_objects.specs.declared.object.Object.TheVariants.{Event, Semaphore, Mutex, Timer, Thread}
+use Rattle.nt_objects.specs.Object.{signaled, is_event, is_thread, has_ended, has_room, owned_by, due_of, setter_of, IsLawfulObject}
 use Rattle.nt_core.specs.Rising.{AreRising}
 use Rattle.nt_core.specs.State.{State, object_at}
 use Rattle.nt_core.specs.Dispatcher.{Dispatcher, state}
-use Rattle.nt_core.specs.Refusals.{is_at_limit}
+use Rattle.nt_core.specs.Refusals.{is_at_limit, is_full}
 use Rattle.nt_core.specs.Serving.{is_ready, fits, satisfied, is_due, IsChanged, sequence, IsServed}
 use Rattle.nt_core.specs.Visits.{FitOnlyIn}
 use Rattle.nt_core.specs.Steps.{NothingDue}
 use Rattle.nt_core.specs.Lawful.{IsSound, MayReplace}
 use Rattle.nt_core.proofs.Taking.{fits_kept}
+use Rattle.nt_core.proofs.Keeping.{timers_kept}
+use Rattle.nt_alarms.specs.Alarms.{alarm_at}
+use Rattle.std.proofs.lemmas.Bool.Decides.{nat_tests}
 
 -- ---- one object among the others
 
@@ -164,7 +167,7 @@ changed_at_one os h o k known = elim (cases_eq k h) [
 
 -- ---- soundness after one object is exchanged, or one is added
 
-reading_set : {X : Type 0} (f : Object → X) (os : List Object) (h : ℕ) (o : Object) → f o ≡ f (object_at os h) → (k : ℕ) → f (object_at (set os h o) k) ≡ f (object_at os k)
+pub reading_set : {X : Type 0} (f : Object → X) (os : List Object) (h : ℕ) (o : Object) → f o ≡ f (object_at os h) → (k : ℕ) → f (object_at (set os h o) k) ≡ f (object_at os k)
 reading_set f [] h o same k = refl
 reading_set f (x ∷ os) zero o same zero = same
 reading_set f (x ∷ os) zero o same (suc k) = refl
@@ -178,7 +181,7 @@ property_set P (x ∷ os) zero o here all (suc k) = all (suc k)
 property_set P (x ∷ os) (suc h) o here all zero = all zero
 property_set P (x ∷ os) (suc h) o here all (suc k) = property_set P os h o here (λ j. all (suc j)) k
 
-limit_set : (os : List Object) (h : ℕ) (o : Object) (u : ℕ) → ((owned_by (object_at os h) u && not (has_room (object_at os h))) ≡ false → (owned_by o u && not (has_room o)) ≡ false) → (k : ℕ) → is_at_limit os u k ≡ false → is_at_limit (set os h o) u k ≡ false
+pub limit_set : (os : List Object) (h : ℕ) (o : Object) (u : ℕ) → ((owned_by (object_at os h) u && not (has_room (object_at os h))) ≡ false → (owned_by o u && not (has_room o)) ≡ false) → (k : ℕ) → is_at_limit os u k ≡ false → is_at_limit (set os h o) u k ≡ false
 limit_set [] h o u kept k below = below
 limit_set (x ∷ os) zero o u kept zero below = kept below
 limit_set (x ∷ os) zero o u kept (suc k) below = below
@@ -203,13 +206,36 @@ sound_replaced d h o sound may = record {
   objects = property_set IsLawfulObject d.objects h o may.lawful sound.objects;
   own = λ t below. (subst (λ (n : ℕ). t < n) (sym (length-set d.objects h o)) (sound.own t below).0, reading_set is_thread d.objects h o may.thread t ∙ (sound.own t below).1);
   none_else = λ k beyond known. reading_set is_thread d.objects h o may.thread k ∙ sound.none_else k beyond (subst (λ (n : ℕ). k < n) (length-set d.objects h o) known);
+  timers = timers_kept d.threads d.objects (set d.objects h o) d.alarms d.apcs.places sound.timers (length-set d.objects h o) (reading_set due_of d.objects h o may.due) (reading_set setter_of d.objects h o may.setter) (reading_set has_ended d.objects h o may.ended);
+  handles = let most = sound.handles in let len = length-set d.objects h o in omega (arith, most, len);
   unarmed = λ k. reading_set due_of d.objects h o may.due k ∙ sound.unarmed k;
   room = sound.room;
 }
 
+-- a reading that the new object shares with objects that are not there
+reading_created : {X : Type 0} (f : Object → X) (os : List Object) (o : Object) → f o ≡ f (Thread false) → (k : ℕ) → f (object_at (os ++ o ∷ []) k) ≡ f (object_at os k)
+reading_created f [] o same zero = same
+reading_created f [] o same (suc k) = refl
+reading_created f (x ∷ os) o same zero = refl
+reading_created f (x ∷ os) o same (suc k) = reading_created f os o same k
+
+alarm_created : (alarms : List (Option ℕ)) (h : ℕ) → alarm_at (alarms ++ None ∷ []) h ≡ alarm_at alarms h
+alarm_created [] zero = refl
+alarm_created [] (suc h) = refl
+alarm_created (a ∷ alarms) zero = refl
+alarm_created (a ∷ alarms) (suc h) = alarm_created alarms h
+
+unset_undue : (o : Object) → due_of o ≡ None → setter_of o ≡ None
+unset_undue (Event manual was) due = refl
+unset_undue (Semaphore count maximum) due = refl
+unset_undue (Mutex owner depth abandoned) due = refl
+unset_undue (Timer manual was None) due = refl
+unset_undue (Timer manual was (Some armed)) due = let h : Some armed.due ≡ None = due in (cc)
+unset_undue (Thread ended) due = refl
+
 -- one object more leaves all readings of objects that were there
-pub sound_created : (d : Dispatcher) (o : Object) → IsSound d → IsLawfulObject o → is_thread o ≡ false → due_of o ≡ None → IsSound (record d { objects = d.objects ++ o ∷ [] })
-sound_created d o sound lawful no_thread due = record {
+pub sound_created : (d : Dispatcher) (o : Object) → IsSound d → is_full d.objects ≡ false → IsLawfulObject o → is_thread o ≡ false → due_of o ≡ None → IsSound (record d { objects = d.objects ++ o ∷ []; alarms = d.alarms ++ None ∷ [] })
+sound_created d o sound room lawful no_thread due = record {
   few = sound.few;
   waits = λ t w pends.
       let own = sound.waits t w pends in
@@ -230,7 +256,16 @@ sound_created d o sound lawful no_thread due = record {
   inboxes = sound.inboxes;
   objects = all d.objects sound.objects;
   none_else = λ h beyond known. unlike d.objects h known (sound.none_else h beyond);
-  unarmed = undue d.objects sound.unarmed;
+  timers = record {
+    count = let objects = length-append d.objects (o ∷ []) in let alarms = length-append d.alarms (None ∷ []) in let before = sound.timers.count in omega (arith, objects, alarms, before);
+    alarm = λ h. alarm_created d.alarms h ∙ (sound.timers.alarm h ∙ sym (reading_created due_of d.objects o due h));
+    placed = λ h t is. sound.timers.placed h t (sym (reading_created setter_of d.objects o (unset_undue o due) h) ∙ is);
+    runs = λ h t is.
+        let own = sound.timers.runs h t (sym (reading_created setter_of d.objects o (unset_undue o due) h) ∙ is) in
+        (own.0, ap has_ended (object_at-append d.objects (o ∷ []) t (sound.own t own.0).0) ∙ own.1);
+  };
+  handles = let len = length-append d.objects (o ∷ []) in grind (arith, nat_tests, room, len);
+  unarmed = λ h. reading_created due_of d.objects o due h ∙ sound.unarmed h;
   own = λ t below.
       let before = sound.own t below in (
         let longer = length-append d.objects (o ∷ []) in omega (arith, longer, before.0),
@@ -239,12 +274,6 @@ sound_created d o sound lawful no_thread due = record {
   room = sound.room;
 }
   where
-    undue : (os : List Object) → ((k : ℕ) → due_of (object_at os k) ≡ None) → (k : ℕ) → due_of (object_at (os ++ o ∷ []) k) ≡ None
-    undue [] none zero = due
-    undue [] none (suc k) = refl
-    undue (x ∷ os) none zero = none zero
-    undue (x ∷ os) none (suc k) = undue os (λ j. none (suc j)) k
-
     unlike : (os : List Object) (h : ℕ) → h < length (os ++ o ∷ []) → (h < length os → is_thread (object_at os h) ≡ false) → is_thread (object_at (os ++ o ∷ []) h) ≡ false
     unlike [] zero known none = no_thread
     unlike [] (suc h) known none = absurd (omega (arith, known))

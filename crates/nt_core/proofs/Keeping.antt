@@ -7,7 +7,7 @@ use Rattle.std.proofs.lemmas.Bool.Decides.{nat_tests}
 use Rattle.nt_waits.specs.declared.wait.Wait.{Wait}
 use Rattle.nt_objects.specs.declared.object.Object.{Object}
 use Rattle.nt_objects.specs.declared.object.Object.TheVariants.{Event, Semaphore, Mutex, Timer, Thread}
-use Rattle.nt_objects.specs.Object.{signaled, taken, has_room, owned_by, has_ended, is_thread, due_of, IsLawfulObject}
+use Rattle.nt_objects.specs.Object.{signaled, taken, has_room, owned_by, has_ended, is_thread, due_of, setter_of, IsLawfulObject}
 use Rattle.nt_core.specs.State.{object_at}
 use Rattle.nt_core.specs.Refusals.{is_at_limit}
 use Rattle.nt_core.specs.Serving.{is_ready, fits, least, take_at, take_each, objects_taken, CanTake}
@@ -20,6 +20,8 @@ use Rattle.std.proofs.Common.{T}
 use Rattle.std.proofs.lemmas.List.{length-set}
 use Rattle.std.proofs.Math.Nat.{lt_of_not-le}
 use Rattle.nt_core.specs.Serving.{is_sleep}
+use Rattle.std.proofs.Common.{Option}
+use Rattle.nt_core.specs.Lawful.{TimersAgree}
 
 -- ---- from one object that is taken to all that a wait takes
 
@@ -135,6 +137,15 @@ due_taken (Timer manual set (Some armed)) t = refl
 due_taken (Timer manual set None) t = refl
 due_taken (Thread ended) t = refl
 
+pub setter_taken : (o : Object) (t : ℕ) → setter_of (taken o t) ≡ setter_of o
+setter_taken (Event manual set) t = refl
+setter_taken (Semaphore count maximum) t = refl
+setter_taken (Mutex None depth abandoned) t = refl
+setter_taken (Mutex (Some owner) depth abandoned) t = refl
+setter_taken (Timer manual set (Some armed)) t = refl
+setter_taken (Timer manual set None) t = refl
+setter_taken (Thread ended) t = refl
+
 -- ---- the objects after a wait took them
 
 -- a reading of objects that taking does not change
@@ -152,6 +163,7 @@ pub record TakesWell (old new : List Object) (t : ℕ) : Type 0 where
   pub ended : (k : ℕ) → has_ended (object_at new k) ≡ has_ended (object_at old k)
   pub threads : (k : ℕ) → is_thread (object_at new k) ≡ is_thread (object_at old k)
   pub due : (k : ℕ) → due_of (object_at new k) ≡ due_of (object_at old k)
+  pub setter : (k : ℕ) → setter_of (object_at new k) ≡ setter_of (object_at old k)
 
 takes_well : (old os : List Object) (t h : ℕ) → is_ready os t h ≡ true → has_room (object_at os h) ≡ true → TakesWell old os t → TakesWell old (take_at os t h) t
 takes_well old os t h ready room so_far = record {
@@ -161,6 +173,7 @@ takes_well old os t h ready room so_far = record {
   ended = λ k. same_reading has_ended t (λ o. ended_taken o t) os h k ∙ so_far.ended k;
   threads = λ k. same_reading is_thread t (λ o. thread_taken o t) os h k ∙ so_far.threads k;
   due = λ k. same_reading due_of t (λ o. due_taken o t) os h k ∙ so_far.due k;
+  setter = λ k. same_reading setter_of t (λ o. setter_taken o t) os h k ∙ so_far.setter k;
 }
   where
     kept : (k : ℕ) → ((j : ℕ) → IsLawfulObject (object_at os j)) → IsLawfulObject (object_at (take_at os t h) k)
@@ -185,4 +198,19 @@ objects_taken_well os t w apart room fit =
       ended = λ k. refl;
       threads = λ k. refl;
       due = λ k. refl;
+      setter = λ k. refl;
     })
+
+-- ---- timers
+
+-- objects that are other ones in the same state leave timers, their alarms and their places in agreement
+pub timers_kept : (n : ℕ) (old new : List Object) (alarms places : List (Option ℕ)) → TimersAgree n old alarms places → length new ≡ length old → ((k : ℕ) → due_of (object_at new k) ≡ due_of (object_at old k)) → ((k : ℕ) → setter_of (object_at new k) ≡ setter_of (object_at old k)) → ((k : ℕ) → has_ended (object_at new k) ≡ has_ended (object_at old k)) → TimersAgree n new alarms places
+timers_kept n old new alarms places agree len due setter ended = record {
+  count = agree.count ∙ sym len;
+  alarm = λ h. agree.alarm h ∙ sym (due h);
+  placed = λ h t is. agree.placed h t (sym (setter h) ∙ is);
+  runs = λ h t is. let own = agree.runs h t (sym (setter h) ∙ is) in (own.0, ended t ∙ own.1);
+}
+
+pub taken_timers : (n : ℕ) (old new : List Object) (alarms places : List (Option ℕ)) (t : ℕ) → TimersAgree n old alarms places → TakesWell old new t → TimersAgree n new alarms places
+taken_timers n old new alarms places t agree well = timers_kept n old new alarms places agree well.length well.due well.setter well.ended

@@ -14,3 +14,4 @@ mod OneWay
 mod Alerting
 mod Ticking
 mod Lengths
+mod Timing

@@ -22,6 +22,7 @@ use Rattle.nt_core.specs.declared.call.Grant.{Grant}
 use Rattle.nt_core.specs.Serving.{is_ready, IsChanged, sequence, Serve, Grants, granted}
 use Rattle.nt_core.specs.Change.{change, at, created}
 use Rattle.nt_core.specs.Steps.{after_serving, answered}
+use Rattle.nt_core.specs.Refusals.{is_full}
 use Rattle.nt_core.specs.Visits.{FitOnlyIn}
 use Rattle.nt_core.specs.Lawful.{IsSound, IsLawful, MayReplace}
 use Rattle.nt_core.specs.Accepts.{IsFresh, IsServedAfter, Accepts}
@@ -110,7 +111,7 @@ idle_served old mid new handles fresh changed grants looked is lawful = record {
 -- ---- events
 
 pub set_may_replace : (set : Bool) (o : Object) → is_event o ≡ true → MayReplace o (with_set set o)
-set_may_replace set (Event manual was) is = record { lawful = tt; thread = refl; ended = refl; due = refl; unlimited = λ u below. below }
+set_may_replace set (Event manual was) is = record { lawful = tt; thread = refl; ended = refl; due = refl; setter = refl; unlimited = λ u below. below }
 set_may_replace set (Semaphore count maximum) is = absurd (false≢true is)
 set_may_replace set (Mutex owner depth abandoned) is = absurd (false≢true is)
 set_may_replace set (Timer manual was armed) is = absurd (false≢true is)
@@ -254,8 +255,8 @@ mutex_no_thread flags t = go (has_flag flags mutex_initial_owner)
     go true = refl
     go false = refl
 
-pub created_accepted : (old new : Dispatcher) (t : ℕ) (o : Object) (call : Call) (handle : ℕ) → IsFresh old → IsLawfulObject o → is_thread o ≡ false → due_of o ≡ None → change (state old) t call ≡ created (state old) o → ((s : State) → after_serving call s ≡ s) → ((s : State) → answered (state old) s t call ≡ (Reply.Handle (length old.objects), s)) → handle ≡ length old.objects → new ≡ record old { objects = old.objects ++ o ∷ [] } → Accepts old new t call (Reply.Handle handle)
-created_accepted old new t o call handle fresh lawful no_thread due changes after answers is becomes =
+pub created_accepted : (old new : Dispatcher) (t : ℕ) (o : Object) (call : Call) (handle : ℕ) → IsFresh old → is_full old.objects ≡ false → IsLawfulObject o → is_thread o ≡ false → due_of o ≡ None → change (state old) t call ≡ created (state old) o → ((s : State) → after_serving call s ≡ s) → ((s : State) → answered (state old) s t call ≡ (Reply.Handle (length old.objects), s)) → handle ≡ length old.objects → new ≡ record old { objects = old.objects ++ o ∷ []; alarms = old.alarms ++ None ∷ [] } → Accepts old new t call (Reply.Handle handle)
+created_accepted old new t o call handle fresh room lawful no_thread due changes after answers is becomes =
     subst (λ (x : Dispatcher). Accepts old x t call (Reply.Handle handle)) (sym becomes)
     (subst (λ (h : ℕ). Accepts old d t call (Reply.Handle h)) (sym is)
     (accepted old d d t call (Reply.Handle (length old.objects))
@@ -263,11 +264,11 @@ created_accepted old new t o call handle fresh lawful no_thread due changes afte
     (sym (after (state d))) refl refl all (sym (answers (state d)))))
   where
     d : Dispatcher
-    d = record old { objects = old.objects ++ o ∷ [] }
+    d = record old { objects = old.objects ++ o ∷ []; alarms = old.alarms ++ None ∷ [] }
 
     all : IsLawful d
     all = record {
-      sound = sound_created old o fresh.lawful.sound lawful no_thread due;
+      sound = sound_created old o fresh.lawful.sound room lawful no_thread due;
       settled = record {
         served = served_unchanged old (old.objects ++ o ∷ []) fresh.lawful.sound fresh.lawful.settled.served (created_only old.objects o);
         alerted = fresh.lawful.settled.alerted;
@@ -285,7 +286,7 @@ known_semaphore os h is = known_object os h (semaphore_is_no_thread (object_at o
 
 pub released_may_replace : (n : ℤ) (o : Object) → is_semaphore o ≡ true → IsLawfulObject (released n o) → MayReplace o (released n o)
 released_may_replace n (Event manual was) is lawful = absurd (false≢true is)
-released_may_replace n (Semaphore count maximum) is lawful = record { lawful = lawful; thread = refl; ended = refl; due = refl; unlimited = λ u below. below }
+released_may_replace n (Semaphore count maximum) is lawful = record { lawful = lawful; thread = refl; ended = refl; due = refl; setter = refl; unlimited = λ u below. below }
 released_may_replace n (Mutex owner depth abandoned) is lawful = absurd (false≢true is)
 released_may_replace n (Timer manual was armed) is lawful = absurd (false≢true is)
 released_may_replace n (Thread ended) is lawful = absurd (false≢true is)
@@ -328,12 +329,13 @@ unlocked_may_replace (Mutex (Some owner) depth abandoned) t owns lawful after = 
     never false = refl
 
     go : (b : Bool) → nat_le depth 1 ≡ b → IsLawfulObject (if b then Mutex None 0 false else Mutex (Some owner) (depth - 1) abandoned) → MayReplace (Mutex (Some owner) depth abandoned) (if nat_le depth 1 then Mutex None 0 false else Mutex (Some owner) (depth - 1) abandoned)
-    go true is has = rw is (record { lawful = refl; thread = refl; ended = refl; due = refl; unlimited = λ u below. refl })
+    go true is has = rw is (record { lawful = refl; thread = refl; ended = refl; due = refl; setter = refl; unlimited = λ u below. refl })
     go false is has = rw is (record {
       lawful = has;
       thread = refl;
       ended = refl;
       due = refl;
+      setter = refl;
       unlimited = λ u below. let room : nat_lt (depth - 1) depth_limit ≡ true = fewer lawful.0 lawful.1 in rw room (never (owner == u));
     })
 unlocked_may_replace (Timer manual was armed) t owns lawful after = absurd (false≢true owns)

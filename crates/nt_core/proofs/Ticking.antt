@@ -304,6 +304,8 @@ tick_end old now m forward far none = (
       objects = far.sound.objects;
       own = far.sound.own;
       none_else = far.sound.none_else;
+      timers = far.sound.timers;
+      handles = far.sound.handles;
       unarmed = far.sound.unarmed;
       room = far.sound.room;
     };

@@ -19,7 +19,7 @@ use Rattle.nt_objects.specs.declared.object.Object.TheVariants.{Event, Semaphore
 use Rattle.std.proofs.lemmas.Bool.Decides.{nat_tests}
 use Rattle.std.specs.Prelude.{slice_index}
 use Rattle.std.proofs.Common.{not, ◌&&◌, inl, inr}
-use Rattle.nt_core.proofs.Keeping.{TakesWell, objects_taken_well}
+use Rattle.nt_core.proofs.Keeping.{TakesWell, objects_taken_well, taken_timers}
 use Rattle.nt_core.proofs.Walks.{get_removed}
 
 pub counted : (n : ℕ) → n + 1 < 2 ^ 64 → counted_once n ≡ n + 1
@@ -70,6 +70,8 @@ looked_sound d looked sound = record {
   objects = sound.objects;
   own = sound.own;
   none_else = sound.none_else;
+  timers = sound.timers;
+  handles = sound.handles;
   unarmed = sound.unarmed;
   room = sound.room;
 }
@@ -127,6 +129,8 @@ visit_granted old t code w objects table grants sound has tried waits queues loo
         objects = well.lawful sound.objects;
         own = λ u below. (subst (λ (n : ℕ). u < n) (sym well.length) (sound.own u below).0, well.threads u ∙ (sound.own u below).1);
         none_else = λ h beyond known. well.threads h ∙ sound.none_else h beyond (subst (λ (n : ℕ). h < n) well.length known);
+        timers = taken_timers old.threads old.objects objects old.alarms old.apcs.places t sound.timers well;
+        handles = let most = sound.handles in let len = well.length in omega (arith, most, len);
         unarmed = λ h. well.due h ∙ sound.unarmed h;
         room = omega (arith, sound.room, longer, fewer, same);
       },

@@ -9,6 +9,7 @@ abbrev pub act_grows : Act → Bool
 act_grows (Act.CreateEvent flags) = true
 act_grows (Act.CreateSemaphore initial maximum) = true
 act_grows (Act.CreateMutex flags) = true
+act_grows (Act.CreateTimer flags) = true
 act_grows (Act.QueueApc thread routine arg) = true
 act_grows _ = false
 

@@ -6,7 +6,7 @@ use Rattle.nt_objects.specs.declared.object.Object.{Object}
 use Rattle.nt_objects.specs.declared.object.Object.TheVariants.{Event, Semaphore, Mutex, Thread}
 use Rattle.nt_objects.specs.declared.object.Armed.{Armed}
 use Rattle.nt_objects.specs.declared.object.Routine.{Routine}
-use Rattle.nt_objects.specs.Object.{event_of, mutex_of, with_set, released, unlocked, abandoned_by, unset_by, armed_with, setting_of, due_of, rearmed, count_of}
+use Rattle.nt_objects.specs.Object.{event_of, mutex_of, timer_of, with_set, released, unlocked, abandoned_by, unset_by, armed_with, setting_of, due_of, rearmed, count_of}
 use Rattle.nt_apc.specs.declared.apc.Queued.{Queued}
 use Rattle.nt_apc.specs.Queues.{queue_of, has_apc, is_queued, pushed, withdrawn, cleared, oldest, taken, apc_of}
 use Rattle.nt_core.specs.declared.call.Call.{Call}
@@ -131,6 +131,8 @@ act_change s t (Act.ResetEvent h) = at s h (with_set false)
 act_change s t (Act.PulseEvent h) = at s h (with_set true)
 act_change s t (Act.ReleaseSemaphore h n) = at s h (released n)
 act_change s t (Act.ReleaseMutex h) = at s h unlocked
+act_change s t (Act.CreateTimer flags) = created s (timer_of flags)
+act_change s t (Act.CancelTimer h) = timer_cancelled s h
 act_change s t (Act.QueueApc h routine arg) = apc_queued s h routine arg
 act_change s t Act.NextApc = apc_taken s t
 
@@ -147,6 +149,7 @@ abbrev pub act_reply : State → ℕ → Act → Reply
 act_reply s t (Act.CreateEvent flags) = Reply.Handle (length s.objects)
 act_reply s t (Act.CreateSemaphore initial maximum) = Reply.Handle (length s.objects)
 act_reply s t (Act.CreateMutex flags) = Reply.Handle (length s.objects)
+act_reply s t (Act.CreateTimer flags) = Reply.Handle (length s.objects)
 act_reply s t (Act.ReleaseSemaphore h n) = Reply.Previous (count_of (object_at s.objects h))
 act_reply s t Act.NextApc = apc_answered s t
 act_reply s t _ = Reply.Done

@@ -1,5 +1,5 @@
 -- The dispatcher as its callers see it.
-use Rattle.std.specs.Prelude.{ℕ, Bool, List}
+use Rattle.std.specs.Prelude.{ℕ, Bool, List, Option}
 use Rattle.nt_waits.specs.Waits.{Waits, queue_of}
 use Rattle.nt_apc.specs.Queues.{Apcs}
 use Rattle.nt_objects.specs.declared.object.Object.{Object}
@@ -17,6 +17,8 @@ pub record Dispatcher : Type 0 where
   pub now : ℕ
   -- the waits that the last call or tick ended
   pub grants : List Grant
+  -- by handle, the due moment of an armed timer
+  pub alarms : List (Option ℕ)
 
 -- the state of the machine
 abbrev pub state : Dispatcher → State
@@ -30,8 +32,8 @@ state d = record {
   now = d.now;
 }
 
-abbrev pub dispatcher_of : ℕ → List Object → Waits → Apcs → List Bool → ℕ → List Grant → Dispatcher
-dispatcher_of threads objects table apcs handing now grants = record {
+abbrev pub dispatcher_of : ℕ → List Object → Waits → Apcs → List Bool → ℕ → List Grant → List (Option ℕ) → Dispatcher
+dispatcher_of threads objects table apcs handing now grants alarms = record {
   threads = threads;
   objects = objects;
   table = table;
@@ -39,4 +41,5 @@ dispatcher_of threads objects table apcs handing now grants = record {
   handing = handing;
   now = now;
   grants = grants;
+  alarms = alarms;
 }

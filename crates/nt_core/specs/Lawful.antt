@@ -1,16 +1,19 @@
 -- What every call and tick leaves true.
+use Rattle.std.specs.declared.option.Option.{Option}
 use Rattle.std.specs.declared.option.Option.TheVariants.{None}
 use Rattle.std.specs.Prelude.{◌≡◌, ◌↔◌, ℕ, ◌<◌, ◌≤◌, ◌+◌, true, false, not, ◌&&◌, List, [], length, slice_index_or, IsTrue, Some, nat_eq}
 use Rattle.std.specs.FinMap as map
 use Rattle.std.specs.FinMap.{get}
 use Rattle.nt_objects.specs.declared.object.Object.{Object}
-use Rattle.nt_objects.specs.Object.{IsLawfulObject, owned_by, has_room, has_ended, is_thread, due_of}
+use Rattle.nt_objects.specs.Object.{IsLawfulObject, owned_by, has_room, has_ended, is_thread, due_of, setter_of}
 use Rattle.nt_waits.specs.declared.wait.Wait.{Wait}
 use Rattle.nt_waits.specs.Waits.{IsMember, AreOnce, Names, Agrees}
 use Rattle.std.specs.List.{IsDistinct}
+use Rattle.nt_alarms.specs.Alarms.{alarm_at}
+use Rattle.nt_apc.specs.Queues.{place_of}
 use Rattle.nt_core.specs.State.{State, object_at}
 use Rattle.nt_core.specs.Serving.{IsServed, IsAlerted}
-use Rattle.nt_core.specs.Refusals.{is_at_limit, wait_limit}
+use Rattle.nt_core.specs.Refusals.{is_at_limit, wait_limit, handle_limit}
 use Rattle.nt_core.specs.Steps.{NothingDue}
 use Rattle.nt_core.specs.Dispatcher.{Dispatcher, state}
 
@@ -33,6 +36,14 @@ pub record IsSoundWait (threads : ℕ) (objects : List Object) (t : ℕ) (w : Wa
   pub apart : IsDistinct nat_eq w.handles
   pub named : (h : ℕ) → Names w h → (h < length objects) × (is_at_limit objects t h ≡ false)
 
+-- each armed timer has its alarm, and where it has a routine a place for its APC in the queue of the thread that armed it
+pub record TimersAgree (threads : ℕ) (objects : List Object) (alarms places : List (Option ℕ)) : Type 0 where
+  pub count : length alarms ≡ length objects
+  pub alarm : (h : ℕ) → alarm_at alarms h ≡ due_of (object_at objects h)
+  pub placed : (h t : ℕ) → setter_of (object_at objects h) ≡ Some t → place_of places h ≡ Some t
+  -- who armed it runs
+  pub runs : (h t : ℕ) → setter_of (object_at objects h) ≡ Some t → (t < threads) × (has_ended (object_at objects t) ≡ false)
+
 -- what holds also between a change and the serving after it
 pub record IsSound (d : Dispatcher) : Type 0 where
   pub few : d.threads ≤ 256
@@ -45,6 +56,8 @@ pub record IsSound (d : Dispatcher) : Type 0 where
   -- the first objects are the threads' own
   pub own : (t : ℕ) → t < d.threads → (t < length d.objects) × (is_thread (object_at d.objects t) ≡ true)
   pub none_else : (h : ℕ) → d.threads ≤ h → h < length d.objects → is_thread (object_at d.objects h) ≡ false
+  pub timers : TimersAgree d.threads d.objects d.alarms d.apcs.places
+  pub handles : length d.objects ≤ handle_limit
   -- no call arms a timer yet
   pub unarmed : (h : ℕ) → due_of (object_at d.objects h) ≡ None
   -- each pending wait can be granted
@@ -54,11 +67,12 @@ pub record IsLawful (d : Dispatcher) : Type 0 where
   pub sound : IsSound d
   pub settled : IsSettled (state d)
 
--- the object may take the place of the other: it is lawful, a thread's object stays one, a timer keeps its due moment, and
+-- the object may take the place of the other: it is lawful, a thread's object stays one, a timer stays armed as it is, and
 -- no thread comes to hold a mutex at the greatest depth
 pub record MayReplace (old new : Object) : Type 0 where
   pub lawful : IsLawfulObject new
   pub thread : is_thread new ≡ is_thread old
   pub ended : has_ended new ≡ has_ended old
   pub due : due_of new ≡ due_of old
+  pub setter : setter_of new ≡ setter_of old
   pub unlimited : (u : ℕ) → (owned_by old u && not (has_room old)) ≡ false → (owned_by new u && not (has_room new)) ≡ false

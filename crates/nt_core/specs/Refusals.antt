@@ -3,7 +3,7 @@ use Rattle.std.specs.Prelude.{◌≡◌, ℕ, ℤ, pos, Bool, false, not, ◌&&�
 use Rattle.std.specs.List.{list_any}
 use Rattle.std.specs.declared.option.Option.{Option}
 use Rattle.std.specs.declared.option.Option.TheVariants.{None, Some}
-use Rattle.nt_status.specs.Flags.{only_known, event_bits, mutex_bits}
+use Rattle.nt_status.specs.Flags.{only_known, event_bits, mutex_bits, timer_bits}
 use Rattle.nt_status.specs.declared.refusal.Refusal.{Refusal}
 use Rattle.nt_status.specs.declared.refusal.Refusal.TheVariants.{InvalidHandle, Memory, ThreadGone, InvalidParameter, NotOwner, TooManyPosts, ThreadWaiting, ThreadEnded, UnknownThread, RecursionLimit, HandleLimit}
 use Rattle.nt_objects.specs.declared.object.Object.{Object}
@@ -108,6 +108,8 @@ act_causes objects t (Act.ResetEvent h) = kind_causes is_event objects h
 act_causes objects t (Act.PulseEvent h) = kind_causes is_event objects h
 act_causes objects t (Act.ReleaseSemaphore h n) = release_causes objects h n
 act_causes objects t (Act.ReleaseMutex h) = unlock_causes objects t h
+act_causes objects t (Act.CreateTimer flags) = creation_causes objects (only_known timer_bits flags)
+act_causes objects t (Act.CancelTimer h) = kind_causes is_timer objects h
 act_causes objects t (Act.QueueApc h routine arg) = apc_causes objects h
 act_causes objects t Act.NextApc = []
 

@@ -22,6 +22,10 @@ pub enum Act {
         count: i32,
     },
     ReleaseMutex(Handle),
+    /// CreateWaitableTimer, with the flag of CreateWaitableTimerEx: 1 manual reset.
+    CreateTimer(u32),
+    /// CancelWaitableTimer.
+    CancelTimer(Handle),
     /// QueueUserAPC, to the thread that the handle names.
     QueueApc {
         thread: Handle,

@@ -11,7 +11,7 @@ ghost use Rattle.nt_core.specs.declared.call.Call.{Call};
 
 use crate::call::{Act, Call, Reply};
 use crate::machine::Machine;
-use nt_status::{EventFlags, Handle, MutexFlags, Refusal, ThreadId};
+use nt_status::{EventFlags, Handle, MutexFlags, Refusal, ThreadId, TimerFlags};
 
 impl Machine {
     /// An act that no cause refuses.
@@ -51,6 +51,16 @@ impl Machine {
             }
             Act::ReleaseMutex(mutex) => {
                 self.release_mutex(thread, *mutex);
+                Ok(Reply::Done)
+            }
+            Act::CreateTimer(flags) => {
+                let Some(flags) = TimerFlags::from_bits(*flags) else {
+                    unreachable!()
+                };
+                Ok(Reply::Handle(self.create_timer(thread, flags, changed)?))
+            }
+            Act::CancelTimer(timer) => {
+                self.cancel_timer(thread, *timer);
                 Ok(Reply::Done)
             }
             Act::QueueApc {

@@ -1,16 +1,16 @@
 //! Whether a call is refused, and by which cause.
 ghost use Rattle.std.specs.Prelude.{◌≡◌};
 ghost use Rattle.std.specs.List.{list_any};
-ghost use Rattle.nt_status.specs.Flags.{only_known, event_bits, mutex_bits};
-ghost use Rattle.nt_objects.specs.Object.{is_event, has_ended};
+ghost use Rattle.nt_status.specs.Flags.{only_known, event_bits, mutex_bits, timer_bits};
+ghost use Rattle.nt_objects.specs.Object.{is_event, is_timer, has_ended};
 ghost use Rattle.nt_core.specs.State.{object_at};
 ghost use Rattle.nt_core.specs.Dispatcher.{state};
-ghost use Rattle.nt_core.specs.Refusals.{first_of_causes, act_causes, wait_causes, objects_causes, creation_causes, release_causes, unlock_causes, apc_causes, refusal, is_no, is_unknown, has_twice, is_at_limit};
+ghost use Rattle.nt_core.specs.Refusals.{first_of_causes, act_causes, wait_causes, objects_causes, creation_causes, release_causes, unlock_causes, kind_causes, apc_causes, refusal, is_no, is_unknown, has_twice, is_at_limit};
 
 use crate::call::{Act, Call, WaitCall};
 use crate::machine::Machine;
 use nt_objects::Object;
-use nt_status::{EventFlags, Handle, MutexFlags, Refusal, ThreadId};
+use nt_status::{EventFlags, Handle, MutexFlags, Refusal, ThreadId, TimerFlags};
 
 /// MAXIMUM_WAIT_OBJECTS: the most handles that a wait names.
 const WAIT_LIMIT: usize = 64;
@@ -124,6 +124,34 @@ fn unlock_refusal(objects: &[Object], thread: ThreadId, mutex: Handle) -> Option
     }
 }
 
+/// Whether each bit is that of a flag of CreateWaitableTimerEx.
+fn are_timer_flags(bits: u32) -> bool
+    ensures { result ≡ only_known timer_bits bits }
+{
+    TimerFlags::from_bits(bits).is_some()
+}
+
+/// Whether the handle names no timer.
+fn is_no_timer(objects: &[Object], handle: Handle) -> bool
+    ensures { result ≡ is_no is_timer objects.now handle }
+{
+    match objects.get(handle.get() as usize) {
+        Some(object) => !object.is_timer(),
+        None => true,
+    }
+}
+
+/// The refusal of cancelling the timer at this handle.
+fn cancel_refusal(objects: &[Object], timer: Handle) -> Option<Refusal>
+    ensures { result ≡ first_of_causes (kind_causes is_timer objects.now timer) }
+{
+    if is_no_timer(objects, timer) {
+        Some(Refusal::InvalidHandle)
+    } else {
+        None
+    }
+}
+
 /// The refusal of an APC for the thread whose object has this handle.
 fn apc_refusal(objects: &[Object], thread: Handle) -> Option<Refusal>
     ensures { result ≡ first_of_causes (apc_causes objects.now thread) }
@@ -170,6 +198,8 @@ fn act_refusal(objects: &[Object], thread: ThreadId, act: &Act) -> Option<Refusa
             routine: _,
             arg: _,
         } => apc_refusal(objects, *thread),
+        Act::CreateTimer(flags) => creation_refusal(objects, are_timer_flags(*flags)),
+        Act::CancelTimer(timer) => cancel_refusal(objects, *timer),
         Act::ReleaseMutex(mutex) => unlock_refusal(objects, thread, *mutex),
         Act::SetEvent(event) | Act::ResetEvent(event) | Act::PulseEvent(event) => {
             if is_no_event(objects, *event) {

@@ -16,6 +16,7 @@ mod serving;
 #[cfg(test)]
 mod tests;
 mod ticks;
+mod timers;
 mod waiting;
 
 pub use call::{Act, Call, Grant, Reply, WaitCall};

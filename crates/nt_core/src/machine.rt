@@ -10,8 +10,9 @@ ghost use Rattle.nt_core.specs.Lawful.{IsSound, IsLawful};
 ghost use Rattle.nt_core.specs.Accepts.{IsFresh};
 
 use crate::call::Grant;
-use crate::objects::running_threads;
+use crate::objects::{quiet_alarms, running_threads};
 use crate::serving::try_wait;
+use nt_alarms::Alarms;
 use nt_apc::ApcQueues;
 use nt_objects::Object;
 use nt_status::{Handle, Moment, Refusal, ThreadId};
@@ -29,6 +30,7 @@ pub struct Machine {
     pub(crate) handing: Vec<bool>,
     pub(crate) moment: Moment,
     pub(crate) grants: Vec<Grant>,
+    pub(crate) alarms: Alarms,
 }
 
 impl Model for Machine {
@@ -41,7 +43,7 @@ impl Model for Machine {
 
     ghost coded = { Prim.hlevel (codes, waits_code) };
 
-    ghost view = { λ m. dispatcher_of m.threads m.objects.items m.waits m.apcs m.handing.items m.moment m.grants.items };
+    ghost view = { λ m. dispatcher_of m.threads m.objects.items m.waits m.apcs m.handing.items m.moment m.grants.items m.alarms };
 
     ghost invariant = { λ m. (m.threads ≤ 256) × (m.threads ≤ vec_capacity m.grants) };
 }
@@ -59,6 +61,7 @@ impl Machine {
         let handing = vec![in alloc; false; count]?;
         let grants = Vec::with_capacity(alloc, count)?;
         let apcs = ApcQueues::new(alloc, count)?;
+        let alarms = quiet_alarms(alloc, count)?;
         Ok(Machine {
             threads,
             objects: running_threads(alloc, count)?,
@@ -67,6 +70,7 @@ impl Machine {
             handing,
             moment: Moment::ZERO,
             grants,
+            alarms,
         })
     }
 

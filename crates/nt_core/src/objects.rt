@@ -1,5 +1,5 @@
 //! The list of objects, and the creation of more.
-ghost use Rattle.std.specs.Prelude.{◌≡◌, ◌≢◌, ◌<◌, ◌≤◌, vec_capacity, ◌∷◌, ◌++◌, [], false, replicate, IfOk, OnOk, OnErr, length, slice_set};
+ghost use Rattle.std.specs.Prelude.{◌≡◌, ◌≢◌, ◌<◌, ◌≤◌, vec_capacity, vec_len, None, ◌∷◌, ◌++◌, [], false, replicate, IfOk, OnOk, OnErr, length, slice_set};
 ghost use Rattle.nt_objects.specs.declared.object.Object.TheVariants.{Thread};
 ghost use Rattle.nt_core.specs.State.{object_at};
 ghost use Rattle.nt_core.specs.Refusals.{is_full};
@@ -9,6 +9,7 @@ ghost use Rattle.nt_core.specs.Lawful.{MayReplace};
 ghost use Rattle.nt_core.specs.Accepts.{IsFresh, IsServedAfter};
 
 use crate::machine::Machine;
+use nt_alarms::Alarms;
 use nt_objects::{Armed, Object, Routine};
 use nt_status::{Handle, ThreadId};
 use std::alloc::{AllocError, Global};
@@ -23,14 +24,24 @@ pub fn running_threads(alloc: Global, count: usize) -> Result<Vec<Object>, Alloc
 }
 
 /// Adds an object, last.
-fn add_object(objects: &mut Vec<Object>, object: Object) -> Result<(), AllocError>
-    ensures ok { OnOk result (objects.new.items ≡ objects.old.items ++ object ∷ []) }
-    ensures err { OnErr result (objects.new.items ≡ objects.old.items) }
+fn add_object(objects: &mut Vec<Object>, object: Object)
+    requires { vec_len objects.old < vec_capacity objects.old }
+    ensures { objects.new.items ≡ objects.old.items ++ object ∷ [] }
 {
     // As above.
     let _inside: (Option<ThreadId>, Option<Armed>, Option<Routine>) = (None, None, None);
-    objects.push(object)?;
-    Ok(())
+    objects.push_reserved(object);
+}
+
+/// A place for each object's alarm, with no alarm.
+pub fn quiet_alarms(alloc: Global, count: usize) -> Result<Alarms, AllocError>
+    ensures { IfOk result (λ alarms. alarms ≡ replicate count None) }
+{
+    let mut alarms = Alarms::new(alloc);
+    for _ in 0..count {
+        alarms.add()?;
+    }
+    Ok(alarms)
 }
 
 impl Machine {
@@ -44,7 +55,7 @@ impl Machine {
         requires few { is_full self.old.objects ≡ false }
         requires room { length self.old.objects ≤ vec_capacity changed.old }
         ensures handle { IfOk result (λ handle. handle ≡ length self.old.objects) }
-        ensures ok { OnOk result (self.new ≡ record self.old { objects = self.old.objects ++ object ∷ [] }) }
+        ensures ok { OnOk result (self.new ≡ record self.old { objects = self.old.objects ++ object ∷ []; alarms = self.old.alarms ++ None ∷ [] }) }
         ensures err { OnErr result (self.new ≡ self.old) }
         ensures room { length self.new.objects ≤ vec_capacity changed.new }
     {
@@ -52,7 +63,9 @@ impl Machine {
         let handle = Handle::new(count as u32);
         changed.clear();
         changed.reserve(count + 1)?;
-        add_object(&mut self.objects, object)?;
+        self.objects.reserve(1)?;
+        self.alarms.add()?;
+        add_object(&mut self.objects, object);
         Ok(handle)
     }
 

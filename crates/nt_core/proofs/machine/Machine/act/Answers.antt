@@ -1,8 +1,8 @@
 use Rattle.std.proofs.Common.{refl, w32}
 use mir.Val.{to_z, of_z}
 use Rattle.std.proofs.lemmas.List.{length-set}
-use Rattle.std.specs.Prelude.{true, false}
-use Rattle.nt_objects.specs.Object.{with_set, released, unlocked}
+use Rattle.std.specs.Prelude.{true, false, None}
+use Rattle.nt_objects.specs.Object.{with_set, released, unlocked, armed_with}
 use Rattle.nt_core.specs.declared.call.Act.{Act}
 use Rattle.nt_core.specs.declared.call.Call.{Call}
 use Rattle.nt_core.specs.declared.call.Reply.{Reply}
@@ -46,3 +46,8 @@ pub returns-in-PulseEvent-clause-room : goal.returns-in-PulseEvent-clause-room
 returns-in-PulseEvent-clause-room c =
     let old = c.args.self.now in
     room_kept old c.pulse_event.new.self c.args.thread (Call.Act (Act.PulseEvent c.in-PulseEvent.event)) Reply.Done _ c.pulse_event.ensures (length-set old.objects c.in-PulseEvent.event (with_set true (object_at old.objects c.in-PulseEvent.event))) c.requires.room
+
+pub returns-in-CancelTimer-clause-room : goal.returns-in-CancelTimer-clause-room
+returns-in-CancelTimer-clause-room c =
+    let old = c.args.self.now in
+    room_kept old c.cancel_timer.new.self c.args.thread (Call.Act (Act.CancelTimer c.in-CancelTimer.timer)) Reply.Done _ c.cancel_timer.ensures (length-set old.objects c.in-CancelTimer.timer (armed_with None (object_at old.objects c.in-CancelTimer.timer))) c.requires.room

@@ -1,4 +1,4 @@
-use Rattle.std.proofs.Common.{◌≡◌, ◌∷◌, [], ◌++◌, length, refl, ap, ◌∙◌}
+use Rattle.std.proofs.Common.{None, ◌≡◌, ◌∷◌, [], ◌++◌, length, refl, ap, ◌∙◌}
 use Rattle.nt_objects.specs.declared.object.Object.{Object}
 use Rattle.nt_objects.specs.Object.{event_of}
 use Rattle.nt_core.specs.declared.call.Act.{Act}
@@ -15,8 +15,8 @@ returns-clause-ok c =
     let made = c.new_event.ensures in
     ok_both
     (λ handle. handle ≡ length old.objects)
-    (c.create.new.self ≡ record old { objects = old.objects ++ c.new_event.result ∷ [] })
+    (c.create.new.self ≡ record old { objects = old.objects ++ c.new_event.result ∷ []; alarms = old.alarms ++ None ∷ [] })
     (λ handle. Accepts old c.create.new.self c.args.thread (Call.Act (Act.CreateEvent c.args.flags)) (Reply.Handle handle))
-    (λ handle is becomes. created_accepted old c.create.new.self c.args.thread (event_of c.args.flags) (Call.Act (Act.CreateEvent c.args.flags)) handle c.requires.fresh tt refl refl refl (λ s. refl) (λ s. refl) is
-    (becomes ∙ ap (λ (o : Object). record old { objects = old.objects ++ o ∷ [] }) made.event))
+    (λ handle is becomes. created_accepted old c.create.new.self c.args.thread (event_of c.args.flags) (Call.Act (Act.CreateEvent c.args.flags)) handle c.requires.fresh c.requires.few tt refl refl refl (λ s. refl) (λ s. refl) is
+    (becomes ∙ ap (λ (o : Object). record old { objects = old.objects ++ o ∷ []; alarms = old.alarms ++ None ∷ [] }) made.event))
     c.create.result c.create.ensures.handle c.create.ensures.ok

@@ -1,4 +1,4 @@
-use Rattle.std.proofs.Common.{◌≡◌, ◌∷◌, [], ◌++◌, length, refl, ap, ◌∙◌, subst}
+use Rattle.std.proofs.Common.{None, ◌≡◌, ◌∷◌, [], ◌++◌, length, refl, ap, ◌∙◌, subst}
 use Rattle.nt_objects.specs.declared.object.Object.{Object}
 use Rattle.nt_objects.specs.Object.{mutex_of, IsLawfulObject}
 use Rattle.nt_core.specs.declared.call.Act.{Act}
@@ -15,9 +15,9 @@ returns-clause-ok c =
     let made = c.new_mutex.ensures in
     ok_both
     (λ handle. handle ≡ length old.objects)
-    (c.create.new.self ≡ record old { objects = old.objects ++ c.new_mutex.result ∷ [] })
+    (c.create.new.self ≡ record old { objects = old.objects ++ c.new_mutex.result ∷ []; alarms = old.alarms ++ None ∷ [] })
     (λ handle. Accepts old c.create.new.self c.args.thread (Call.Act (Act.CreateMutex c.args.flags)) (Reply.Handle handle))
-    (λ handle is becomes. created_accepted old c.create.new.self c.args.thread (mutex_of c.args.flags c.args.thread) (Call.Act (Act.CreateMutex c.args.flags)) handle c.requires.fresh
+    (λ handle is becomes. created_accepted old c.create.new.self c.args.thread (mutex_of c.args.flags c.args.thread) (Call.Act (Act.CreateMutex c.args.flags)) handle c.requires.fresh c.requires.few
     (subst IsLawfulObject made.mutex made.lawful) (mutex_no_thread c.args.flags c.args.thread) (mutex_undue c.args.flags c.args.thread) refl (λ s. refl) (λ s. refl) is
-    (becomes ∙ ap (λ (o : Object). record old { objects = old.objects ++ o ∷ [] }) made.mutex))
+    (becomes ∙ ap (λ (o : Object). record old { objects = old.objects ++ o ∷ []; alarms = old.alarms ++ None ∷ [] }) made.mutex))
     c.create.result c.create.ensures.handle c.create.ensures.ok

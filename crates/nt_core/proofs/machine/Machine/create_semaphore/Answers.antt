@@ -1,4 +1,4 @@
-use Rattle.std.proofs.Common.{◌≡◌, ◌∷◌, [], ◌++◌, length, refl, ap, ◌∙◌, subst}
+use Rattle.std.proofs.Common.{None, ◌≡◌, ◌∷◌, [], ◌++◌, length, refl, ap, ◌∙◌, subst}
 use Rattle.std.specs.Prelude.{ℤ}
 use Rattle.std.proofs.Common.{w32}
 use mir.Val.{to_z, of_z}
@@ -24,9 +24,9 @@ returns-clause-ok c =
     let is_o : c.in-Ok.semaphore ≡ o = made.semaphore ∙ (ap (λ (z : ℤ). Semaphore z (to_z w32 (of_z w32 c.args.maximum))) initial ∙ ap (λ (z : ℤ). Semaphore c.args.initial z) maximum) in
     ok_both
     (λ handle. handle ≡ length old.objects)
-    (c.create.new.self ≡ record old { objects = old.objects ++ c.in-Ok.semaphore ∷ [] })
+    (c.create.new.self ≡ record old { objects = old.objects ++ c.in-Ok.semaphore ∷ []; alarms = old.alarms ++ None ∷ [] })
     (λ handle. Accepts old c.create.new.self c.args.thread (Call.Act (Act.CreateSemaphore c.args.initial c.args.maximum)) (Reply.Handle handle))
-    (λ handle is becomes. created_accepted old c.create.new.self c.args.thread o (Call.Act (Act.CreateSemaphore c.args.initial c.args.maximum)) handle c.requires.fresh
+    (λ handle is becomes. created_accepted old c.create.new.self c.args.thread o (Call.Act (Act.CreateSemaphore c.args.initial c.args.maximum)) handle c.requires.fresh c.requires.few
     (subst IsLawfulObject is_o made.lawful) refl refl refl (λ s. refl) (λ s. refl) is
-    (becomes ∙ ap (λ (x : Object). record old { objects = old.objects ++ x ∷ [] }) is_o))
+    (becomes ∙ ap (λ (x : Object). record old { objects = old.objects ++ x ∷ []; alarms = old.alarms ++ None ∷ [] }) is_o))
     c.create.result c.create.ensures.handle c.create.ensures.ok
