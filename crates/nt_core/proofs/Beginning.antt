@@ -12,7 +12,8 @@ use Rattle.std.proofs.lemmas.Bool.{false≢true, eqb-true, eq-eqb}
 use Rattle.std.proofs.lemmas.Bool.Decides.{nat_tests}
 use Rattle.nt_waits.specs.declared.wait.Wait.{Wait}
 use Rattle.nt_waits.specs.Waits.{Waits, queue_of, Agrees, Names}
-use Rattle.nt_core.specs.State.{Pending, names, pending_too}
+use Rattle.nt_core.specs.declared.call.Reply.{Reply}
+use Rattle.nt_core.specs.State.{State, Pending, names, pending_too}
 use Rattle.nt_core.specs.Dispatcher.{Dispatcher, state}
 use Rattle.nt_core.specs.Lawful.{IsSoundWait, IsSound}
 use Rattle.std.proofs.lemmas.List.{length-set}
@@ -22,7 +23,7 @@ use Rattle.nt_objects.specs.declared.object.Object.{Object}
 use Rattle.nt_objects.specs.Object.{due_of, units}
 use Rattle.nt_core.specs.State.{object_at, deadline_after}
 use Rattle.nt_core.specs.Serving.{fits, is_ready, satisfied, is_due, IsTried}
-use Rattle.nt_core.specs.Steps.{IsAwaited}
+use Rattle.nt_core.specs.Steps.{begun, IsAwaited}
 use Rattle.nt_core.specs.Lawful.{IsSettled, IsLawful}
 use Rattle.nt_core.proofs.Taking.{unready_after}
 use Rattle.nt_core.proofs.Keeping.{TakesWell, objects_taken_well, taken_timers}
@@ -179,8 +180,12 @@ nobody_beyond d t sound beyond = go (fin.get d.table.pending t) refl
 
 -- ---- how the wait begins
 
-not_zero : (n : ℕ) → n ≢ 0 → (n == 0) ≡ false
+pub not_zero : (n : ℕ) → n ≢ 0 → (n == 0) ≡ false
 not_zero n e = grind (arith, nat_tests, e)
+
+-- where nothing ends it at once, it pends
+pub begun_pends : (s : State) (t : ℕ) (w : Wait) (ms : ℕ) → fits s.objects t w ≡ false → (w.alertable && has_apc s.apcs t) ≡ false → ms ≢ 0 → begun s t w ms ≡ (Reply.Pended, pending_too s t w)
+begun_pends s t w ms unfit quiet later = rw (unfit, quiet, not_zero ms later) refl
 
 -- a deadline lies ahead where the timeout is not 0
 ahead : (now ms v : ℕ) → ms ≢ 0 → deadline_after now ms ≡ Some v → now < v

@@ -15,7 +15,8 @@ use Rattle.nt_core.specs.Calls.{timeout_of}
 use Rattle.nt_core.specs.State.{State, object_at, with_handing, pending_too}
 use Rattle.nt_core.specs.Dispatcher.{Dispatcher, state}
 use Rattle.nt_core.specs.Serving.{fits, status, least, take_at, take_each, objects_taken, taken_by, granted, Grants, late_status, is_sleep}
-use Rattle.nt_core.specs.Change.{change, may_take, apc_taken, expired_as, expired, all_expired}
+use Rattle.nt_core.specs.declared.call.WaitCall.{WaitCall}
+use Rattle.nt_core.specs.Change.{change, wait_change, signal, may_take, apc_taken, expired_as, expired, all_expired}
 use Rattle.nt_core.specs.Steps.{begun, wait_of, after_serving, answered, Step, MomentPasses, MomentsPass, Ticked}
 use Rattle.std.specs.Prelude.{Option, Some, None, Result, Ok, Err, IfOk, OnErr}
 use Rattle.nt_status.specs.declared.refusal.Refusal.{Refusal}
@@ -120,3 +121,9 @@ length_apc_taken s t = go (may_take s t)
     go : (b : Bool) → length_in (cond b (record s { apcs = queues_taken s.apcs t }) (with_handing s t false)) ≡ length s.objects
     go true = refl
     go false = refl
+
+-- a waiting call creates nothing
+pub length_wait_change : (s : State) (wait : WaitCall) → length (wait_change s wait).objects ≡ length s.objects
+length_wait_change s (WaitCall.Objects handles all ms alertable) = refl
+length_wait_change s (WaitCall.Sleep ms alertable) = refl
+length_wait_change s (WaitCall.Swap h object ms alertable) = length-set s.objects h (signal (object_at s.objects h))

@@ -15,3 +15,4 @@ mod Alerting
 mod Ticking
 mod Lengths
 mod Timing
+mod Swapping

@@ -22,3 +22,4 @@ grows (Call.Wait wait) = true
 abbrev pub timeout_of : WaitCall → ℕ
 timeout_of (WaitCall.Objects handles all ms alertable) = ms
 timeout_of (WaitCall.Sleep ms alertable) = ms
+timeout_of (WaitCall.Swap h object ms alertable) = ms

@@ -137,6 +137,7 @@ act_change s t (Act.QueueApc h routine arg) = apc_queued s h routine arg
 act_change s t Act.NextApc = apc_taken s t
 
 abbrev pub wait_change : State → WaitCall → State
+wait_change s (WaitCall.Swap h object ms alertable) = at s h signal
 wait_change s _ = s
 
 -- what a call changes before waits are served

@@ -1,5 +1,6 @@
 -- The dispatcher as its callers see it.
 use Rattle.std.specs.Prelude.{ℕ, Bool, List, Option}
+use Rattle.nt_waits.specs.declared.wait.Wait.{Wait}
 use Rattle.nt_waits.specs.Waits.{Waits, queue_of}
 use Rattle.nt_apc.specs.Queues.{Apcs}
 use Rattle.nt_objects.specs.declared.object.Object.{Object}
@@ -31,6 +32,10 @@ state d = record {
   handing = d.handing;
   now = d.now;
 }
+
+-- the dispatcher with another prepared wait, or none
+abbrev pub with_prepared : Dispatcher → Option (ℕ × Wait) → Dispatcher
+with_prepared d prepared = record d { table = record d.table { prepared = prepared } }
 
 abbrev pub dispatcher_of : ℕ → List Object → Waits → Apcs → List Bool → ℕ → List Grant → List (Option ℕ) → Dispatcher
 dispatcher_of threads objects table apcs handing now grants alarms = record {

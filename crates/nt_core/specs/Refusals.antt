@@ -88,6 +88,7 @@ objects_causes objects t handles =
     ∷ (list_any (is_at_limit objects t) handles, RecursionLimit)
     ∷ []
 
+-- both objects are judged as they are before the signal
 abbrev pub swap_causes : List Object → ℕ → ℕ → ℕ → List Cause
 swap_causes objects t h object =
     (is_no may_signal objects h, InvalidHandle)
@@ -116,6 +117,7 @@ act_causes objects t Act.NextApc = []
 abbrev pub wait_causes : List Object → ℕ → WaitCall → List Cause
 wait_causes objects t (WaitCall.Objects handles all ms alertable) = objects_causes objects t handles
 wait_causes objects t (WaitCall.Sleep ms alertable) = []
+wait_causes objects t (WaitCall.Swap h object ms alertable) = swap_causes objects t h object
 
 abbrev pub call_causes : List Object → ℕ → Call → List Cause
 call_causes objects t (Call.Act act) = act_causes objects t act

@@ -28,6 +28,7 @@ use Rattle.nt_core.specs.Refusals.{refusal, IsRefusal}
 abbrev pub wait_of : ℕ → WaitCall → Wait
 wait_of now (WaitCall.Objects handles all ms alertable) = record { handles = handles; all = all; alertable = alertable; deadline = deadline_after now ms }
 wait_of now (WaitCall.Sleep ms alertable) = record { handles = []; all = false; alertable = alertable; deadline = deadline_after now ms }
+wait_of now (WaitCall.Swap h object ms alertable) = record { handles = object ∷ []; all = false; alertable = alertable; deadline = deadline_after now ms }
 
 -- how t's wait begins, the first case that holds: it fits, an APC is queued, the timeout is 0, it pends
 abbrev pub begun : State → ℕ → Wait → ℕ → Reply × State

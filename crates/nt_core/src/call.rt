@@ -51,6 +51,13 @@ pub enum WaitCall {
         ms: u32,
         alertable: bool,
     },
+    /// SignalObjectAndWait: signals one object, and waits for the other, or for the same.
+    Swap {
+        signal: Handle,
+        object: Handle,
+        ms: u32,
+        alertable: bool,
+    },
 }
 
 /// What a thread asks of the dispatcher.

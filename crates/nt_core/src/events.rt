@@ -45,10 +45,11 @@ impl Machine {
     }
 
     /// The event is set from now on. Where it was not, the waits that name it are served.
-    fn raise_event(&mut self, thread: ThreadId, event: Handle)
+    pub(crate) fn raise_event(&mut self, thread: ThreadId, event: Handle)
         requires fresh { IsFresh self.old }
         requires kind { IsTrue (is_event (object_at self.old.objects event)) }
-        ensures { IsServedAfter self.old (at (state self.old) event (with_set true)) self.new }
+        ensures served { IsServedAfter self.old (at (state self.old) event (with_set true)) self.new }
+        ensures prepared { self.new.table.prepared ≡ self.old.table.prepared }
     {
         let mut object = self.object(event);
         if !object.signaled_for(thread) {

@@ -5,7 +5,7 @@ ghost use Rattle.nt_status.specs.Flags.{only_known, event_bits, mutex_bits, time
 ghost use Rattle.nt_objects.specs.Object.{is_event, is_timer, has_ended};
 ghost use Rattle.nt_core.specs.State.{object_at};
 ghost use Rattle.nt_core.specs.Dispatcher.{state};
-ghost use Rattle.nt_core.specs.Refusals.{first_of_causes, act_causes, wait_causes, objects_causes, creation_causes, release_causes, unlock_causes, kind_causes, apc_causes, refusal, is_no, is_unknown, has_twice, is_at_limit};
+ghost use Rattle.nt_core.specs.Refusals.{first_of_causes, act_causes, wait_causes, objects_causes, creation_causes, release_causes, unlock_causes, kind_causes, apc_causes, swap_causes, refusal, is_no, is_unknown, has_twice, is_at_limit};
 
 use crate::call::{Act, Call, WaitCall};
 use crate::machine::Machine;
@@ -228,6 +228,35 @@ fn objects_refusal(objects: &[Object], thread: ThreadId, handles: &[Handle]) -> 
     }
 }
 
+/// The refusal of a swap that signals one object and waits for the other, both as they are before it.
+fn swap_refusal(
+    objects: &[Object],
+    thread: ThreadId,
+    signal: Handle,
+    object: Handle,
+) -> Option<Refusal>
+    ensures { result ≡ first_of_causes (swap_causes objects.now thread signal object) }
+{
+    let signaled = match objects.get(signal.get() as usize) {
+        Some(signaled) => *signaled,
+        None => return Some(Refusal::InvalidHandle),
+    };
+    let is_mutex = signaled.is_mutex();
+    if !(signaled.is_event() || signaled.is_semaphore() || is_mutex) {
+        Some(Refusal::InvalidHandle)
+    } else if objects.len() <= object.get() as usize {
+        Some(Refusal::InvalidHandle)
+    } else if is_mutex && !signaled.is_owned_by(thread) {
+        Some(Refusal::NotOwner)
+    } else if signaled.overflows(1) {
+        Some(Refusal::TooManyPosts)
+    } else if is_at_limit(objects, thread, object) {
+        Some(Refusal::RecursionLimit)
+    } else {
+        None
+    }
+}
+
 /// The refusal of a waiting call by its own causes.
 fn wait_refusal(objects: &[Object], thread: ThreadId, wait: &WaitCall) -> Option<Refusal>
     ensures { result ≡ first_of_causes (wait_causes objects.now thread wait.now) }
@@ -243,6 +272,12 @@ fn wait_refusal(objects: &[Object], thread: ThreadId, wait: &WaitCall) -> Option
             ms: _,
             alertable: _,
         } => None,
+        WaitCall::Swap {
+            signal,
+            object,
+            ms: _,
+            alertable: _,
+        } => swap_refusal(objects, thread, *signal, *object),
     }
 }
 

@@ -13,6 +13,7 @@ mod mutexes;
 mod objects;
 mod semaphores;
 mod serving;
+mod swap;
 #[cfg(test)]
 mod tests;
 mod ticks;

@@ -80,6 +80,7 @@ impl Machine {
         requires sound { IsSound self.old }
         requires countable { self.old.table.looked + 1 < 2 ^ 64 }
         ensures visited { IsVisited self.old self.new thread }
+        ensures prepared { self.new.table.prepared ≡ self.old.table.prepared }
         ensures sound { IsSound self.new }
     {
         let Some(wait) = self.waits.get(thread) else {
@@ -99,6 +100,7 @@ impl Machine {
         requires sound { IsSound self.old }
         requires countable { self.old.table.looked + length ((state self.old).queues handle) < 2 ^ 64 }
         ensures visits { Visits ((state self.old).queues handle) self.old self.new }
+        ensures prepared { self.new.table.prepared ≡ self.old.table.prepared }
         ensures sound { IsSound self.new }
     {
         let mut at = self.waits.first_on(handle);
@@ -116,6 +118,7 @@ impl Machine {
         requires anew { self.old.table.looked ≡ 0 }
         requires countable { length (sequence (state self.old) changed.now) < 2 ^ 64 }
         ensures served { Serve (sequence (state self.old) changed.now) (state self.old) self.new.grants (state self.new) }
+        ensures prepared { self.new.table.prepared ≡ self.old.table.prepared }
         ensures sound { IsSound self.new }
         ensures most { self.new.table.looked ≤ length (sequence (state self.old) changed.now) }
         ensures least { length self.new.grants ≤ self.new.table.looked }

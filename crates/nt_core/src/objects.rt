@@ -91,7 +91,8 @@ impl Machine {
         requires known { handle < length self.old.objects }
         requires differs { object ≢ object_at self.old.objects handle }
         requires may { MayReplace (object_at self.old.objects handle) object }
-        ensures { IsServedAfter self.old (at (state self.old) handle (λ _. object)) self.new }
+        ensures served { IsServedAfter self.old (at (state self.old) handle (λ _. object)) self.new }
+        ensures prepared { self.new.table.prepared ≡ self.old.table.prepared }
     {
         self.exchange(handle, object);
         self.serve(&[handle]);

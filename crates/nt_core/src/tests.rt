@@ -5,6 +5,7 @@ mod events;
 mod mutexes;
 mod script;
 mod semaphores;
+mod swaps;
 mod ticks;
 mod waits;
 

@@ -1,5 +1,5 @@
 //! How a thread's own wait begins.
-ghost use Rattle.std.specs.Prelude.{◌≡◌, ◌&&◌, ◌+◌, ◌<◌, [], None, true, false, OnOk, OnErr, IfOk, IfErr, is_some, IfSome, IfNone, length, slice_set};
+ghost use Rattle.std.specs.Prelude.{◌≡◌, ◌≢◌, ◌&&◌, ◌+◌, ◌<◌, [], None, true, false, OnOk, OnErr, IfOk, IfErr, is_some, IfSome, IfNone, length, slice_set, Option, ℕ};
 ghost use Rattle.std.specs.Option.{OnSome};
 ghost use Rattle.std.specs.FinMap as map;
 ghost use Rattle.nt_status.specs.declared.refusal.Refusal.TheVariants.{Memory};
@@ -23,7 +23,7 @@ use nt_waits::Wait;
 const INFINITE: u32 = 0xFFFF_FFFF;
 
 /// The deadline of a wait that begins at this moment with a timeout in milliseconds.
-fn deadline_after(now: Moment, ms: u32) -> Option<u64>
+pub(crate) fn deadline_after(now: Moment, ms: u32) -> Option<u64>
     ensures { result ≡ deadline_after now ms }
 {
     if ms == INFINITE {
@@ -91,7 +91,7 @@ impl Machine {
         ensures taken { OnSome result (state self.new ≡ taken_by (state self.old) thread (wait_for handles.now all)) }
         ensures lawful { IsLawful self.new }
         ensures grants { self.new.grants ≡ self.old.grants }
-        ensures looked { self.new.table.looked ≡ self.old.table.looked }
+        ensures table { self.new.table ≡ self.old.table }
         ensures none { IfNone result (self.new ≡ self.old) }
     {
         let status = try_wait(&mut self.objects, thread, handles, all)?;
@@ -99,8 +99,42 @@ impl Machine {
         Some(status)
     }
 
-    /// Begins the caller's wait for these handles, none for a sleep: it takes what it fits, or ends for its timeout of 0, or
-    /// pends. Where memory is refused nothing changes.
+    /// Where the caller's wait for these handles ends at once, its status: it takes what it fits, or ends for its queued APCs, or
+    /// for its timeout of 0.
+    pub(crate) fn end_at_once(
+        &mut self,
+        thread: ThreadId,
+        handles: &[Handle],
+        all: bool,
+        ms: u32,
+        alertable: bool,
+    ) -> Option<Status>
+        requires idle { map.get self.old.table.pending thread ≡ None }
+        requires able { IsSoundWait self.old.threads self.old.objects thread (wait_for handles.now all) }
+        requires lawful { IsLawful self.old }
+        ensures begun { IfSome result (λ code. (deadline : Option ℕ) → (Reply.Status code, state self.new) ≡ begun (state self.old) thread (record { handles = handles.now; all = all; alertable = alertable; deadline = deadline }) ms) }
+        ensures pends { IfNone result ((fits self.old.objects thread (wait_for handles.now all) ≡ false) × ((alertable && has_apc self.old.apcs.queues thread) ≡ false) × (ms ≢ 0)) }
+        ensures lawful { IsLawful self.new }
+        ensures grants { self.new.grants ≡ self.old.grants }
+        ensures table { self.new.table ≡ self.old.table }
+        ensures none { IfNone result (self.new ≡ self.old) }
+    {
+        if let Some(status) = self.take_now(thread, handles, all) {
+            return Some(status);
+        }
+        if self.is_alerted(thread, alertable) {
+            self.hand(thread, true);
+            return Some(Status::IO_COMPLETION);
+        }
+        if ms == 0 {
+            self.hand(thread, false);
+            return Some(late_status(handles.is_empty()));
+        }
+        None
+    }
+
+    /// Begins the caller's wait for these handles, none for a sleep: it ends at once, or pends. Where memory is refused nothing
+    /// changes.
     pub(crate) fn begin_wait(
         &mut self,
         thread: ThreadId,
@@ -120,16 +154,8 @@ impl Machine {
         ensures memory { IfErr result (λ refusal. refusal ≡ Memory) }
         ensures err { OnErr result (self.new ≡ self.old) }
     {
-        if let Some(status) = self.take_now(thread, handles, all) {
+        if let Some(status) = self.end_at_once(thread, handles, all, ms, alertable) {
             return Ok(Reply::Status(status));
-        }
-        if self.is_alerted(thread, alertable) {
-            self.hand(thread, true);
-            return Ok(Reply::Status(Status::IO_COMPLETION));
-        }
-        if ms == 0 {
-            self.hand(thread, false);
-            return Ok(Reply::Status(late_status(handles.is_empty())));
         }
         let wait = Wait {
             handles: Handles::from_slice(*self.objects.allocator(), handles)?,
@@ -163,6 +189,12 @@ impl Machine {
                 *ms,
                 *alertable,
             ),
+            WaitCall::Swap {
+                signal,
+                object,
+                ms,
+                alertable,
+            } => self.swap(thread, *signal, *object, *ms, *alertable),
         }
     }
 }

@@ -19,6 +19,9 @@ pub record UnlinkedSoFar (old new : Lists) (handles numbers : List ℕ) (count :
   pub distinct : (h : ℕ) → AreNumbersOnce (list_at new h)
   pub at_least : count ≤ new.touched
   pub at_most : new.touched ≤ 3 * count
+  pub used : new.used ≤ old.used
+  pub capacity : new.capacity ≡ old.capacity
+  pub handle_room : new.handle_room ≡ old.handle_room
 
 pub unlinked_none : (old : Lists) (handles numbers : List ℕ) → AreUnlinked old old handles numbers 0
 unlinked_none old handles numbers = record { done = λ j below. absurd (omega arith); others = λ handle outside. refl }

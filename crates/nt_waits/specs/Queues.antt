@@ -1,5 +1,5 @@
 -- What the private struct `Queues` shows. No public clause cites this module.
-use Rattle.std.specs.Prelude.{ℕ, ◌+◌, ◌≤◌, List, [], slice_index_or}
+use Rattle.std.specs.Prelude.{◌≡◌, ℕ, ◌+◌, ◌≤◌, List, [], slice_index_or}
 use Rattle.nt_waits.specs.Link.{Link}
 
 -- the links of each handle, how many blocks there are and fit, for how many handles there is room, and how many blocks were reached
@@ -13,6 +13,14 @@ pub record Lists : Type 0 where
 -- the links of a handle, in the order in which they were made
 abbrev pub list_at : Lists → ℕ → List Link
 list_at queues handle = slice_index_or queues.lists handle []
+
+-- only room has changed, and none is lost
+pub record OnlyGrows (old new : Lists) : Type 0 where
+  pub lists : new.lists ≡ old.lists
+  pub used : new.used ≡ old.used
+  pub touched : new.touched ≡ old.touched
+  pub capacity : old.capacity ≤ new.capacity
+  pub handle_room : old.handle_room ≤ new.handle_room
 
 -- so many blocks fit with no allocation
 abbrev pub HasRoomFor : Lists → ℕ → Type 0

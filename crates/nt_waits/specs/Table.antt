@@ -5,9 +5,11 @@ use Rattle.std.specs.FinMap as map
 use Rattle.nt_waits.specs.declared.wait.Wait.{Wait}
 use Rattle.nt_waits.specs.declared.pending.Pending.{Pending}
 use Rattle.nt_waits.specs.Link.{Link, AreNumbersOnce}
+use Rattle.nt_waits.specs.declared.prepared.Prepared.{Prepared}
 use Rattle.nt_waits.specs.Queues.{Lists, list_at}
+use Rattle.nt_waits.specs.Prepared.{IsReady}
 use Rattle.std.specs.List.{IsDistinct}
-use Rattle.std.specs.Option.{option_map}
+use Rattle.std.specs.Option.{option_map, ForSome}
 use Rattle.nt_alarms.specs.Alarms.{alarm_at}
 use Rattle.nt_waits.specs.Deadlines.{deadline_in}
 use Rattle.nt_waits.specs.Waits.{AreOnce, Names}
@@ -50,8 +52,9 @@ pub record IsTable (queues : Lists) (slots : List (Option Pending)) : Type 0 whe
   pub once : (handle : ℕ) → AreOnce (threads (list_at queues handle))
   pub small : length slots ≤ 65536
 
--- blocks and waits name each other, the waits are counted, and the alarm of each thread is the deadline of its wait
-pub record IsWhole (queues : Lists) (slots : List (Option Pending)) (deadlines : List (Option ℕ)) (count : ℕ) : Type 0 where
+-- blocks and waits name each other, the waits are counted, the alarm of each thread is the deadline of its wait, and a prepared wait has its room
+pub record IsWhole (queues : Lists) (slots : List (Option Pending)) (places : ℕ) (deadlines : List (Option ℕ)) (count : ℕ) (prepared : Option Prepared) : Type 0 where
   pub table : IsTable queues slots
   pub counted : count ≡ map.len (waits_of slots)
   pub alarmed : (thread : ℕ) → alarm_at deadlines thread ≡ deadline_in (option_map (λ pending. pending.wait) (slot_at slots thread))
+  pub ready : ForSome prepared (IsReady queues places (length deadlines))

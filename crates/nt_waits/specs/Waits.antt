@@ -1,17 +1,18 @@
 -- What callers see of a `WaitTable`.
-use Rattle.std.specs.Prelude.{◌≡◌, ℕ, ◌+◌, ◌-◌, ◌^◌, min, ◌<◌, Bool, ◌==◌, List, [], ◌∷◌, length, if◌then◌else◌, Option, Some, None, slice_get, slice_index, slice_index_or, ◌⊎◌, refl}
+use Rattle.std.specs.Prelude.{◌≡◌, ℕ, ◌+◌, ◌-◌, ◌^◌, min, ◌<◌, Bool, ◌==◌, List, [], ◌∷◌, ◌++◌, length, if◌then◌else◌, Option, Some, None, slice_get, slice_index, slice_index_or, ◌⊎◌, refl}
 use Rattle.std.specs.Ordering.{nat_cmp}
 use Rattle.std.specs.FinMap as map
 use Rattle.std.specs.Coded.{Coded, code_by, coded×, coded_ℕ, coded_bool, coded_list, coded_option}
 use Rattle.nt_waits.specs.declared.wait.About.{About}
 use Rattle.nt_waits.specs.declared.wait.Wait.{Wait}
 
--- the pending waits by thread; by handle number the threads that wait on it, in the order in which their waits began; the looks since the count was last set to 0; the blocks that the last end reached
+-- the pending waits by thread; by handle number the threads that wait on it, in the order in which their waits began; the looks since the count was last set to 0; the blocks that the last end reached; the wait that is prepared, with its thread
 pub record Waits : Type 0 where
   pub pending : map.FinMap nat_cmp Wait
   pub queues : List (List ℕ)
   pub looked : ℕ
   pub touched : ℕ
+  pub prepared : Option (ℕ × Wait)
 
 -- a wait is stored as the tuple of its fields
 abbrev pub wait_code : Coded Wait
@@ -25,10 +26,10 @@ wait_code =
 -- a table is stored as the tuple of its fields
 abbrev pub waits_code : Coded Waits
 waits_code =
-    code_by (map.FinMap nat_cmp Wait × (List (List ℕ) × (ℕ × ℕ)))
-    (coded× (map.code coded_ℕ wait_code) (coded× (coded_list (coded_list coded_ℕ)) (coded× coded_ℕ coded_ℕ)))
-    (λ w. (w.pending, (w.queues, (w.looked, w.touched))))
-    (λ p. record { pending = p.0; queues = p.1.0; looked = p.1.1.0; touched = p.1.1.1 })
+    code_by (map.FinMap nat_cmp Wait × (List (List ℕ) × (ℕ × (ℕ × Option (ℕ × Wait)))))
+    (coded× (map.code coded_ℕ wait_code) (coded× (coded_list (coded_list coded_ℕ)) (coded× coded_ℕ (coded× coded_ℕ (coded_option (coded× coded_ℕ wait_code))))))
+    (λ w. (w.pending, (w.queues, (w.looked, (w.touched, w.prepared)))))
+    (λ p. record { pending = p.0; queues = p.1.0; looked = p.1.1.0; touched = p.1.1.1.0; prepared = p.1.1.1.1 })
     (λ _. refl)
 
 -- the pending wait of a thread
@@ -68,6 +69,15 @@ pub record Agrees (pending : map.FinMap nat_cmp Wait) (queues : List (List ℕ))
   pub listed : (thread handle : ℕ) (wait : Wait) → map.get pending thread ≡ Some wait → Names wait handle → IsMember (slice_index_or queues handle []) thread
   pub named : (thread handle : ℕ) → IsMember (slice_index_or queues handle []) thread → (wait : Wait) × (map.get pending thread ≡ Some wait) × Names wait handle
   pub once : (handle : ℕ) → AreOnce (slice_index_or queues handle [])
+
+-- the thread's wait pends from now on, last in the queue of each handle that it names, and no wait is prepared any more
+pub record Begins (old new : Waits) (thread : ℕ) (wait : Wait) : Type 0 where
+  pub pending : new.pending ≡ map.insert old.pending thread wait
+  pub joined : (handle : ℕ) → Names wait handle → queue_of new handle ≡ queue_of old handle ++ thread ∷ []
+  pub queues_kept : (handle : ℕ) → (Names wait handle → ⊥) → queue_of new handle ≡ queue_of old handle
+  pub looked : new.looked ≡ old.looked
+  pub touched : new.touched ≡ old.touched
+  pub prepared : new.prepared ≡ None
 
 -- what of a wait is told without a look
 abbrev pub about_of : Wait → About

@@ -1,5 +1,5 @@
 //! The alarm of each thread whose pending wait has a deadline.
-ghost use Rattle.std.specs.Prelude.{◌≡◌, ◌≢◌, ℕ, ◌<◌, length, IsSome, None, OnOk};
+ghost use Rattle.std.specs.Prelude.{◌≡◌, ◌≢◌, ℕ, ◌<◌, ◌≤◌, length, IsSome, None, OnOk};
 ghost use Rattle.nt_alarms.specs.Alarms.{alarm_at};
 
 use nt_alarms::Alarms;
@@ -13,6 +13,7 @@ pub fn reserve_alarm(
     deadline: Option<u64>,
 ) -> Result<(), AllocError>
     ensures kept { (u : ℕ) → alarm_at alarms.new u ≡ alarm_at alarms.old u }
+    ensures grows { length alarms.old ≤ length alarms.new }
     ensures room { OnOk result (IsSome deadline → t < length alarms.new) }
 {
     if deadline.is_some() {
@@ -39,6 +40,7 @@ pub fn set_alarm(alarms: &mut Alarms, t: ThreadId, deadline: Option<u64>)
 pub fn clear_alarm(alarms: &mut Alarms, t: ThreadId)
     ensures here { alarm_at alarms.new t ≡ None }
     ensures others { (u : ℕ) → u ≢ t → alarm_at alarms.new u ≡ alarm_at alarms.old u }
+    ensures places { length alarms.new ≡ length alarms.old }
 {
     let place = t.get() as usize;
     if alarms.get(place).is_some() {

@@ -8,6 +8,7 @@ mod deadlines;
 mod links;
 mod pending;
 mod place;
+mod prepared;
 mod queues;
 mod table;
 mod take;

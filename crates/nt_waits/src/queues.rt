@@ -66,6 +66,7 @@ impl Queues {
     /// Makes room for so many blocks more.
     pub fn reserve(&mut self, additional: usize) -> Result<(), AllocError>
         ensures room { OnOk result (HasRoomFor self.new additional) }
+        ensures grows { self.old.capacity ≤ self.new.capacity }
         ensures rest_kept { self.new ≡ record self.old { capacity = self.new.capacity } }
     {
         self.blocks.reserve(additional)
@@ -96,6 +97,7 @@ impl Queues {
         ensures lists { self.new.lists ≡ slice_set self.old.lists handle (without number (list_at self.old handle)) }
         ensures used { self.new.used + 1 ≡ self.old.used }
         ensures capacity { self.new.capacity ≡ self.old.capacity }
+        ensures handle_room { self.new.handle_room ≡ self.old.handle_room }
         ensures counted { self.new.touched ≤ self.old.touched + 3 }
         ensures counts_up { self.old.touched + 1 ≤ self.new.touched }
         ensures distinct { (h : ℕ) → AreNumbersOnce (list_at self.new h) }
@@ -142,6 +144,7 @@ impl Queues {
     /// Makes room for the queues of so many handles.
     pub fn reserve_handles(&mut self, count: usize) -> Result<(), AllocError>
         ensures room { OnOk result (count ≤ self.new.handle_room) }
+        ensures grows { self.old.handle_room ≤ self.new.handle_room }
         ensures rest_kept { self.new ≡ record self.old { handle_room = self.new.handle_room } }
     {
         let have = self.ends.len();

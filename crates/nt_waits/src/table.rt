@@ -2,18 +2,20 @@
 ghost use Rattle.std.specs.Prelude.{nat_eq, ◌≡◌, ℕ, ◌<◌, ◌≤◌, ◌*◌, ◌++◌, ◌∷◌, [], length, slice_get, IsSome, Some, None, IfOk, OnOk, OnErr, IfErr, MatchOption};
 ghost use Rattle.std.specs.List.{IsDistinct};
 ghost use Rattle.std.specs.FinMap as map;
-ghost use Rattle.std.specs.Option.{option_copied, option_map};
+ghost use Rattle.std.specs.Option.{option_copied, option_map, ForSome};
 ghost use Rattle.std.specs.Borrow.{sem};
 
-use crate::begin::begin_wait;
+use crate::begin::{begin_ready, begin_wait, make_room};
 use crate::deadlines::{clear_alarm, reserve_alarm, set_alarm};
 use crate::pending::Pending;
+use crate::place::handle_count;
+use crate::prepared::Prepared;
 use crate::queues::Queues;
 use crate::take::{next_in, take_wait, wait_in};
 use crate::wait::{About, Wait};
 use nt_alarms::Alarms;
 use nt_status::{Handle, Refusal, ThreadId};
-use std::alloc::Global;
+use std::alloc::{AllocError, Global};
 use std::marker::Model;
 
 /// The pending waits, and for each handle the threads that wait on it, in the order in which their waits began.
@@ -21,7 +23,7 @@ use std::marker::Model;
 /// A wait stands in the queue of each handle that it names, with a block of its own there. To begin
 /// or end a wait on n handles takes n steps, whatever else is pending, and with a deadline some more,
 /// in the logarithm of the number of threads. `next_on` takes at most n, and every other call but
-/// `copy` a few. Only `begin` and `copy` take memory.
+/// `copy` a few. Only `begin`, `prepare` and `copy` take memory.
 #[derive(Drop)]
 pub struct WaitTable {
     queues: Queues,
@@ -29,10 +31,11 @@ pub struct WaitTable {
     deadlines: Alarms,
     count: usize,
     looked: u64,
+    prepared: Option<Prepared>,
 }
 
 impl Model for WaitTable {
-    ghost use Rattle.std.specs.Prelude.{map as list_map};
+    ghost use Rattle.std.specs.Prelude.{map as list_map, vec_capacity};
     ghost use Rattle.nt_waits.specs.Waits.{Waits, waits_code};
 
     ghost Value = { Waits };
@@ -40,21 +43,23 @@ impl Model for WaitTable {
     ghost coded = { waits_code };
 
     ghost use Rattle.nt_waits.specs.Table.{threads, waits_of, IsWhole};
+    ghost use Rattle.nt_waits.specs.Prepared.{shown};
 
     ghost view = { λ t. record {
       pending = waits_of t.waits.items;
       queues = list_map threads t.queues.lists;
       looked = t.looked;
       touched = t.queues.touched;
+      prepared = shown t.prepared;
     } };
 
-    ghost invariant = { λ t. IsWhole t.queues t.waits.items t.deadlines t.count };
+    ghost invariant = { λ t. IsWhole t.queues t.waits.items (vec_capacity t.waits) t.deadlines t.count t.prepared };
 }
 
 impl WaitTable {
     ghost use Rattle.nt_waits.specs.Looking.{LeavesLooked};
     ghost use Rattle.nt_waits.specs.Deadlines.{NoDeadline, NoneEarlier, IsEarliestDeadline, NoneWithDeadline, IsFirstWithDeadline};
-    ghost use Rattle.nt_waits.specs.Waits.{wait_of, queue_of, about_of, others, Agrees, Names, IsMember, next_after};
+    ghost use Rattle.nt_waits.specs.Waits.{Begins, wait_of, queue_of, about_of, others, Agrees, Names, IsMember, next_after};
 
     /// A table with no wait.
     pub fn new(alloc: Global) -> Self
@@ -62,6 +67,7 @@ impl WaitTable {
         ensures queues { result.queues ≡ [] }
         ensures looked { result.looked ≡ 0 }
         ensures touched { result.touched ≡ 0 }
+        ensures prepared { result.prepared ≡ None }
         ensures agrees { Agrees result.pending result.queues }
     {
         WaitTable {
@@ -70,7 +76,22 @@ impl WaitTable {
             deadlines: Alarms::new(alloc),
             count: 0,
             looked: 0,
+            prepared: None,
         }
+    }
+
+    /// An equal table, but that no wait is prepared.
+    fn copy_begun(&self) -> Result<Self, AllocError>
+        ensures { IfOk result (λ copied. copied ≡ record self.now { prepared = None }) }
+    {
+        Ok(WaitTable {
+            queues: self.queues.copy()?,
+            waits: self.waits.clone()?,
+            deadlines: self.deadlines.copy()?,
+            count: self.count,
+            looked: self.looked,
+            prepared: None,
+        })
     }
 
     /// An equal table in memory of its own.
@@ -79,25 +100,22 @@ impl WaitTable {
         ensures agrees { IfOk result (λ copied. Agrees copied.pending copied.queues) }
         ensures memory { IfErr result (λ refusal. refusal ≡ Refusal.Memory) }
     {
-        Ok(WaitTable {
-            queues: self.queues.copy()?,
-            waits: self.waits.clone()?,
-            deadlines: self.deadlines.copy()?,
-            count: self.count,
-            looked: self.looked,
-        })
+        let mut copied = self.copy_begun()?;
+        let Some(prepared) = &self.prepared else {
+            return Ok(copied);
+        };
+        // Room is not copied: the copy makes its own.
+        copied.prepare(prepared.thread, prepared.wait.clone()?)?;
+        Ok(copied)
     }
 
-    /// Begins the thread's wait, last in the queue of each handle that it names. Refused only where memory is, and then nothing changes.
+    /// Begins the thread's wait, last in the queue of each handle that it names, and forgets the prepared wait. Refused only where
+    /// memory is, and then nothing changes.
     pub fn begin(&mut self, t: ThreadId, wait: Wait) -> Result<(), Refusal>
         requires free { wait_of self.old t ≡ None }
         requires few { length wait.handles ≤ 64 }
         requires distinct { IsDistinct nat_eq wait.handles }
-        ensures pending { OnOk result (self.new.pending ≡ map.insert self.old.pending t wait) }
-        ensures joined { OnOk result ((h : ℕ) → Names wait h → queue_of self.new h ≡ queue_of self.old h ++ t ∷ []) }
-        ensures queues_kept { OnOk result ((h : ℕ) → (Names wait h → ⊥) → queue_of self.new h ≡ queue_of self.old h) }
-        ensures looked { self.new.looked ≡ self.old.looked }
-        ensures touched { self.new.touched ≡ self.old.touched }
+        ensures begins { OnOk result (Begins self.old self.new t wait) }
         ensures agrees { Agrees self.new.pending self.new.queues }
         ensures memory { IfErr result (λ refusal. refusal ≡ Refusal.Memory) }
         ensures err { OnErr result (self.new ≡ self.old) }
@@ -107,7 +125,62 @@ impl WaitTable {
         begin_wait(&mut self.queues, &mut self.waits, t, wait)?;
         set_alarm(&mut self.deadlines, t, deadline);
         self.count += 1;
+        self.prepared = None;
         Ok(())
+    }
+
+    /// Makes all the room that the thread's wait needs, and keeps the wait until it begins. Until then waits may end, and the room
+    /// stays. Refused only where memory is, and then nothing changes.
+    pub fn prepare(&mut self, t: ThreadId, wait: Wait) -> Result<(), Refusal>
+        requires few { length wait.handles ≤ 64 }
+        requires distinct { IsDistinct nat_eq wait.handles }
+        ensures ok { OnOk result (self.new ≡ record self.old { prepared = Some (t, wait) }) }
+        ensures memory { IfErr result (λ refusal. refusal ≡ Refusal.Memory) }
+        ensures err { OnErr result (self.new ≡ self.old) }
+    {
+        reserve_alarm(&mut self.deadlines, t, wait.deadline)?;
+        let named = wait.handles.as_slice();
+        let handles = handle_count(named);
+        let numbers = make_room(&mut self.queues, &mut self.waits, t, named.len(), handles)?;
+        self.prepared = Some(Prepared {
+            thread: t,
+            wait,
+            numbers,
+            handles,
+        });
+        Ok(())
+    }
+
+    /// Begins the prepared wait. It has its room, so nothing is refused.
+    pub fn begin_prepared(&mut self)
+        requires there { IsSome self.old.prepared }
+        requires free { ForSome self.old.prepared (λ p. wait_of self.old p.0 ≡ None) }
+        ensures begins { ForSome self.old.prepared (λ p. Begins self.old self.new p.0 p.1) }
+        ensures agrees { Agrees self.new.pending self.new.queues }
+    {
+        let Some(prepared) = self.prepared.take() else {
+            unreachable!()
+        };
+        let thread = prepared.thread;
+        let deadline = prepared.wait.deadline;
+        let pending = self.count + 1;
+        begin_ready(
+            &mut self.queues,
+            &mut self.waits,
+            thread,
+            prepared.wait,
+            prepared.numbers,
+            prepared.handles,
+        );
+        set_alarm(&mut self.deadlines, thread, deadline);
+        self.count = pending;
+    }
+
+    /// Forgets the prepared wait, if there is one.
+    pub fn forget_prepared(&mut self)
+        ensures { self.new ≡ record self.old { prepared = None } }
+    {
+        self.prepared.take();
     }
 
     /// Ends the thread's wait, and hands it back. The other threads keep their order in every queue.
@@ -117,6 +190,7 @@ impl WaitTable {
         ensures pending { self.new.pending ≡ map.remove self.old.pending t }
         ensures queues { (h : ℕ) → queue_of self.new h ≡ others t (queue_of self.old h) }
         ensures looked { self.new.looked ≡ self.old.looked }
+        ensures prepared { self.new.prepared ≡ self.old.prepared }
         ensures at_least { length result.handles ≤ self.new.touched }
         ensures at_most { self.new.touched ≤ 4 * length result.handles }
         ensures agrees { Agrees self.new.pending self.new.queues }

@@ -1,5 +1,5 @@
 //! The end of a wait, over the queues and the places of the threads.
-ghost use Rattle.std.specs.Prelude.{◌≡◌, ℕ, ◌<◌, ◌≤◌, ◌*◌, length, IsSome, None, Some, slice_set, ◌==◌};
+ghost use Rattle.std.specs.Prelude.{◌≡◌, ℕ, ◌<◌, ◌≤◌, ◌*◌, length, IsSome, None, Some, slice_set, ◌==◌, vec_capacity};
 ghost use Rattle.std.specs.Option.{option_map, option_copied};
 ghost use Rattle.nt_waits.specs.Queues.{list_at};
 ghost use Rattle.std.specs.List.{position};
@@ -20,6 +20,10 @@ pub fn take_wait(queues: &mut Queues, waits: &mut Vec<Option<Pending>>, t: Threa
     ensures table { IsTable queues.new waits.new.items }
     ensures slots { waits.new.items ≡ slice_set waits.old.items t None }
     ensures queues { (h : ℕ) → threads (list_at queues.new h) ≡ others t (threads (list_at queues.old h)) }
+    ensures used { queues.new.used ≤ queues.old.used }
+    ensures capacity { queues.new.capacity ≡ queues.old.capacity }
+    ensures handle_room { queues.new.handle_room ≡ queues.old.handle_room }
+    ensures places { vec_capacity waits.new ≡ vec_capacity waits.old }
     ensures at_least { length result.handles ≤ queues.new.touched }
     ensures at_most { queues.new.touched ≤ 3 * length result.handles }
 {

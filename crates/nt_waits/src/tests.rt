@@ -4,6 +4,7 @@ ghost use Rattle.std.specs.List.{IsDistinct};
 ghost use Rattle.nt_waits.specs.Waits.{wait_of};
 
 mod plain;
+mod prepared;
 
 use crate::tests::plain::PlainTable;
 use crate::{About, Wait, WaitTable};

@@ -30,6 +30,9 @@ pub enum Ask {
     Sleep(u32),
     AlertableAny(u32),
     AlertableSleep(u32),
+    /// Signals the first object, and waits for the second.
+    Swap(u32),
+    AlertableSwap(u32),
 }
 
 /// What a call is answered, in the reference's numbers.
@@ -106,6 +109,19 @@ fn sleep_for(ms: u32, alertable: bool) -> Call {
     Call::Wait(WaitCall::Sleep { ms, alertable })
 }
 
+fn swap_for(objects: &[u32], ms: u32, alertable: bool) -> Call {
+    let (signal, object) = match objects {
+        [signal, object] => (Handle::new(*signal), Handle::new(*object)),
+        _ => (Handle::new(u32::MAX), Handle::new(u32::MAX)),
+    };
+    Call::Wait(WaitCall::Swap {
+        signal,
+        object,
+        ms,
+        alertable,
+    })
+}
+
 fn call_of(alloc: Global, ask: Ask, objects: &[u32]) -> Result<Call, AllocError> {
     let act = match ask {
         Ask::Any(ms) => return wait_for(alloc, objects, false, ms, false),
@@ -113,6 +129,8 @@ fn call_of(alloc: Global, ask: Ask, objects: &[u32]) -> Result<Call, AllocError>
         Ask::Sleep(ms) => return Ok(sleep_for(ms, false)),
         Ask::AlertableAny(ms) => return wait_for(alloc, objects, false, ms, true),
         Ask::AlertableSleep(ms) => return Ok(sleep_for(ms, true)),
+        Ask::Swap(ms) => return Ok(swap_for(objects, ms, false)),
+        Ask::AlertableSwap(ms) => return Ok(swap_for(objects, ms, true)),
         Ask::Event(flags) => Act::CreateEvent(flags),
         Ask::Semaphore(initial, maximum) => Act::CreateSemaphore { initial, maximum },
         Ask::Mutex(flags) => Act::CreateMutex(flags),

@@ -1,8 +1,8 @@
-use Rattle.std.proofs.Common.{refl}
+use Rattle.nt_core.specs.Dispatcher.{state}
 use Rattle.nt_core.specs.declared.call.Call.{Call}
-use Rattle.nt_core.proofs.Lengths.{room_tried}
+use Rattle.nt_core.proofs.Lengths.{room_tried, length_wait_change}
 use Rattle.nt_core.proofs.machine.Machine.accept.Goals as goal
 
 pub returns-in-Wait-clause-room : goal.returns-in-Wait-clause-room
 returns-in-Wait-clause-room c =
-    room_tried c.args.self.now c.wait.new.self c.args.thread (Call.Wait c.in-Wait.wait) c.wait.result _ c.wait.ensures.ok c.wait.ensures.err refl c.requires.room
+    room_tried c.args.self.now c.wait.new.self c.args.thread (Call.Wait c.in-Wait.wait) c.wait.result _ c.wait.ensures.ok c.wait.ensures.err (length_wait_change (state c.args.self.now) c.in-Wait.wait) c.requires.room

@@ -8,9 +8,9 @@ use Rattle.nt_core.proofs.Replacing.{pulse_accepted, still_event}
 use Rattle.nt_core.proofs.machine.Machine.pulse_event.Goals as goal
 
 pub unset_event-requires : goal.unset_event-requires
-unset_event-requires c = still_event c.args.self.now c.raise_event.new.self c.args.event c.requires.kind c.raise_event.ensures
+unset_event-requires c = still_event c.args.self.now c.raise_event.new.self c.args.event c.requires.kind c.raise_event.ensures.served
 
 pub returns : goal.returns
 returns c =
     subst (λ (x : Dispatcher). Accepts c.args.self.now x c.args.thread (Call.Act (Act.PulseEvent c.args.event)) Reply.Done) (sym c.unset_event.ensures)
-    (pulse_accepted c.args.self.now c.raise_event.new.self c.args.thread c.args.event c.requires.fresh c.requires.kind c.raise_event.ensures)
+    (pulse_accepted c.args.self.now c.raise_event.new.self c.args.thread c.args.event c.requires.fresh c.requires.kind c.raise_event.ensures.served)

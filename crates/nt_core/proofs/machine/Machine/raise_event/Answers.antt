@@ -26,14 +26,14 @@ replace-requires-clause-may c =
     let becomes : c.set.new.self ≡ with_set true o = c.set.ensures ∙ ap (λ (x : Object). with_set true x) c.object-object.ensures in
     subst (λ (x : Object). MayReplace o x) (sym becomes) (set_may_replace true o c.requires.kind)
 
-pub returns-then-not-signaled_for : goal.returns-then-not-signaled_for
-returns-then-not-signaled_for c =
+pub returns-then-not-signaled_for-clause-served : goal.returns-then-not-signaled_for-clause-served
+returns-then-not-signaled_for-clause-served c =
     let d = c.args.self.now in
     let becomes : c.set.new.self ≡ with_set true (object_at d.objects c.args.event) = c.set.ensures ∙ ap (λ (x : Object). with_set true x) c.object-object.ensures in
-    subst (λ (x : Object). IsServedAfter d (at (state d) c.args.event (λ _. x)) c.replace.new.self) becomes c.replace.ensures
+    subst (λ (x : Object). IsServedAfter d (at (state d) c.args.event (λ _. x)) c.replace.new.self) becomes c.replace.ensures.served
 
-pub returns-else-not-signaled_for : goal.returns-else-not-signaled_for
-returns-else-not-signaled_for c =
+pub returns-else-not-signaled_for-clause-served : goal.returns-else-not-signaled_for-clause-served
+returns-else-not-signaled_for-clause-served c =
     let d = c.args.self.now in
     let o = object_at d.objects c.args.event in
     let was : signaled o c.args.thread ≡ true = ap (λ (x : Object). signaled x c.args.thread) (sym c.object-object.ensures) ∙ (sym c.signaled_for.ensures ∙ c.if-not-signaled_for.false) in

@@ -19,6 +19,6 @@ returns c =
     let becomes : c.release_mutex.new.self ≡ unlocked o = made.ok ∙ ap unlocked c.object-object.ensures in
     let before : IsLawfulObject o = c.requires.fresh.lawful.sound.objects c.args.mutex in
     let lawful : IsLawfulObject (unlocked o) = subst IsLawfulObject becomes (made.lawful (subst IsLawfulObject (sym c.object-object.ensures) before)) in
-    let after : IsServedAfter old (at (state old) c.args.mutex (λ _. unlocked o)) c.replace.new.self = subst (λ (x : Object). IsServedAfter old (at (state old) c.args.mutex (λ _. x)) c.replace.new.self) becomes c.replace.ensures in
+    let after : IsServedAfter old (at (state old) c.args.mutex (λ _. unlocked o)) c.replace.new.self = subst (λ (x : Object). IsServedAfter old (at (state old) c.args.mutex (λ _. x)) c.replace.new.self) becomes c.replace.ensures.served in
     replaced_accepted old c.replace.new.self c.args.thread c.args.mutex (unlocked o) (Call.Act (Act.ReleaseMutex c.args.mutex)) Reply.Done c.requires.fresh
     (unlocked_may_replace o c.args.thread c.requires.owner before lawful) refl refl refl after

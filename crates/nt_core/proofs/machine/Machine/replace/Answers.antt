@@ -1,4 +1,4 @@
-use Rattle.std.proofs.Common.{[], ◌∷◌, ◌<◌, ◌≤◌, ◌^◌, length, sym, subst}
+use Rattle.std.proofs.Common.{[], ◌∷◌, ◌<◌, ◌≤◌, ◌^◌, length, sym, ap, ◌∙◌, subst}
 use Rattle.nt_core.specs.Dispatcher.{Dispatcher, state}
 use Rattle.nt_core.specs.Serving.{sequence, Serve}
 use Rattle.nt_core.specs.Visits.{FitOnlyIn}
@@ -19,10 +19,13 @@ pub serve-requires-clause-countable : goal.serve-requires-clause-countable
 serve-requires-clause-countable c =
     subst (λ (x : Dispatcher). length (sequence (state x) (c.args.handle ∷ [])) < 2 ^ 64) (sym c.exchange.ensures) (one_few c.args.self.now c.args.handle c.requires.fresh.lawful.sound)
 
-pub returns : goal.returns
-returns c =
+pub returns-clause-served : goal.returns-clause-served
+returns-clause-served c =
     replaced_served c.args.self.now c.serve.new.self c.args.handle c.args.object c.requires.known c.requires.differs
     (subst (λ (x : Dispatcher). Serve (sequence (state x) (c.args.handle ∷ [])) (state x) c.serve.new.self.grants (state c.serve.new.self)) c.exchange.ensures c.serve.ensures.served)
     c.serve.ensures.sound
     (subst (λ (x : Dispatcher). c.serve.new.self.table.looked ≤ length (sequence (state x) (c.args.handle ∷ []))) c.exchange.ensures c.serve.ensures.most)
     c.serve.ensures.least
+
+pub returns-clause-prepared : goal.returns-clause-prepared
+returns-clause-prepared c = c.serve.ensures.prepared ∙ ap (λ (x : Dispatcher). x.table.prepared) c.exchange.ensures

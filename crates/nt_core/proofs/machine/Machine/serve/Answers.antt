@@ -1,4 +1,4 @@
-use Rattle.std.proofs.Common.{arith}
+use Rattle.std.proofs.Common.{arith, refl, ◌∙◌}
 use Rattle.std.proofs.lemmas.List.{take_all}
 use Rattle.nt_core.specs.Dispatcher.{state}
 use Rattle.nt_core.specs.Serving.{sequence}
@@ -7,7 +7,7 @@ use Rattle.nt_core.proofs.Walks.{Visits-none, Visits-on, on_countable, all_serve
 use Rattle.nt_core.proofs.machine.Machine.serve.Goals as goal
 
 pub loop-handle-init : goal.loop-handle-init
-loop-handle-init c = record { visits = Visits-none c.args.self.now c.requires.sound.blocks; sound = c.requires.sound }
+loop-handle-init c = record { visits = Visits-none c.args.self.now c.requires.sound.blocks; sound = c.requires.sound; prepared = refl }
 
 pub serve_on-requires-clause-countable : goal.serve_on-requires-clause-countable
 serve_on-requires-clause-countable c =
@@ -18,6 +18,7 @@ pub loop-handle-preserved : goal.loop-handle-preserved
 loop-handle-preserved c = record {
   visits = Visits-on c.args.self.now c.loop-handle.self c.serve_on.new.self c.args.changed.now c.loop-handle.handle-index c.handle-item.result c.loop-handle-test.true c.handle-item.is c.loop-handle.invariant.visits c.serve_on.ensures.visits;
   sound = c.serve_on.ensures.sound;
+  prepared = c.serve_on.ensures.prepared ∙ c.loop-handle.invariant.prepared;
 }
 
 pub returns-clause-served : goal.returns-clause-served

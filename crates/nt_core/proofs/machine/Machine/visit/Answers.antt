@@ -126,3 +126,9 @@ returns-clause-sound c =
     c.end-ended.ensures.agrees
     c.push_reserved.ensures.items in
     subst (λ (k : ℕ). IsSound (record d { objects = objects; table = c.end-ended.new.self; handing = set d.handing k false; grants = c.push_reserved.new.self.items })) (sym c.get-2.ensures) result.1
+
+pub returns-in_default-try_wait-clause-prepared : goal.returns-in_default-try_wait-clause-prepared
+returns-in_default-try_wait-clause-prepared c = ap (λ (v : Waits). v.prepared) c.get.follows.holds-at-none ∙ ap (λ (x : Dispatcher). x.table.prepared) c.self.view_is
+
+pub returns-clause-prepared : goal.returns-clause-prepared
+returns-clause-prepared c = c.end-ended.ensures.prepared ∙ (ap (λ (v : Waits). v.prepared) c.get.follows.holds-at-none ∙ ap (λ (x : Dispatcher). x.table.prepared) c.self.view_is)

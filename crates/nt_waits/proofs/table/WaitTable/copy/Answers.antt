@@ -1,32 +1,12 @@
-use Rattle.std.proofs.Common.{arith, ◌≡◌, length}
+use Rattle.std.proofs.Common.{subst}
+use Rattle.nt_waits.specs.Waits.{Waits, Agrees}
 use Rattle.nt_waits.proofs.AgreeLemmas.{agrees}
-use Rattle.nt_waits.proofs.CopyLemmas.{slots_cloned, alarmed_copied, table_copied, waits-copied}
 use Rattle.nt_waits.proofs.table.WaitTable.copy.Goals as goal
 
-pub invariant_of-result : goal.invariant_of-result
-invariant_of-result c =
-    let items = c.self.inside.waits.items in
-    let copy = c.in_ok-clone.field-0.items in
-    let same = slots_cloned _ (λ q r. r) (λ p r. r) (λ p q r. r) items copy c.in_ok-clone.ensures.cases.0 in
-    let long : length copy ≡ length items = omega (arith, c.in_ok-clone.ensures.cases.1, c.in_ok-clone.field-0.ok.0, c.self.inside.waits.ok.0) in
-    record {
-      table = table_copied c.self.inside.queues c.in_ok-copy.field-0 items copy c.in_ok-copy.ensures.lists same long c.self.invariant.table;
-      counted = rw (waits-copied c.self.inside.queues c.in_ok-copy.field-0 items copy c.in_ok-copy.ensures.lists same) c.self.invariant.counted;
-      alarmed = rw c.in_ok-copy-2.ensures (alarmed_copied c.self.inside.queues c.in_ok-copy.field-0 items copy c.in_ok-copy.ensures.lists same c.self.inside.deadlines c.self.invariant.alarmed);
-    }
-
-pub returns-clause-value : goal.returns-clause-value
-returns-clause-value c =
-    let items = c.self.inside.waits.items in
-    let copy = c.in_ok-clone.field-0.items in
-    let same = slots_cloned _ (λ q r. r) (λ p r. r) (λ p q r. r) items copy c.in_ok-clone.ensures.cases.0 in
-    let waits = waits-copied c.self.inside.queues c.in_ok-copy.field-0 items copy c.in_ok-copy.ensures.lists same in
-    rw (waits, c.in_ok-copy.ensures.lists, c.in_ok-copy.ensures.touched) c.self.view_is
+pub returns-in_default-clause-agrees : goal.returns-in_default-clause-agrees
+returns-in_default-clause-agrees c =
+    rw c.in_ok-copied.ensures (subst (λ (v : Waits). Agrees v.pending v.queues) c.self.view_is (agrees c.self.inside.queues c.self.inside.waits.items c.self.invariant.table))
 
 pub returns-clause-agrees : goal.returns-clause-agrees
 returns-clause-agrees c =
-    let items = c.self.inside.waits.items in
-    let copy = c.in_ok-clone.field-0.items in
-    let same = slots_cloned _ (λ q r. r) (λ p r. r) (λ p q r. r) items copy c.in_ok-clone.ensures.cases.0 in
-    let long : length copy ≡ length items = omega (arith, c.in_ok-clone.ensures.cases.1, c.in_ok-clone.field-0.ok.0, c.self.inside.waits.ok.0) in
-    agrees c.in_ok-copy.field-0 copy (table_copied c.self.inside.queues c.in_ok-copy.field-0 items copy c.in_ok-copy.ensures.lists same long c.self.invariant.table)
+    rw (c.in_ok-prepare.ensures.ok, c.in_ok-copied.ensures) (subst (λ (v : Waits). Agrees v.pending v.queues) c.self.view_is (agrees c.self.inside.queues c.self.inside.waits.items c.self.invariant.table))

@@ -6,6 +6,7 @@ use Rattle.nt_waits.proofs.TableLemmas.{slot_within}
 use Rattle.nt_waits.proofs.ViewLemmas.{get-waits, waits-removed, get_or-threads, IsSome-mapped}
 use Rattle.nt_waits.proofs.DeadlineLemmas.{alarmed_ended}
 use Rattle.nt_waits.proofs.AgreeLemmas.{agrees}
+use Rattle.nt_waits.proofs.PreparedLemmas.{ready_kept}
 use Rattle.nt_waits.proofs.CountLemmas.{len-some, len-ended}
 use Rattle.nt_waits.proofs.table.WaitTable.end.Goals as goal
 
@@ -46,6 +47,7 @@ invariant_of-self c =
     record {
       table = c.take_wait.ensures.table;
       counted = rw (c.take_wait.ensures.slots, waits-removed items c.args.t within, len-ended (waits_of items) c.args.t there) (ap (λ (n : ℕ). n - 1) c.self.invariant.counted);
+      ready = ready_kept c.self.inside.queues c.take_wait.new.queues _ _ _ _ c.take_wait.ensures.used (omega (arith, c.take_wait.ensures.capacity)) (omega (arith, c.take_wait.ensures.handle_room)) (omega (arith, c.take_wait.ensures.places)) (omega (arith, c.clear_alarm.ensures.places)) c.self.inside.prepared c.self.invariant.ready;
       alarmed = rw c.take_wait.ensures.slots (alarmed_ended c.self.inside.deadlines c.clear_alarm.new.alarms items c.args.t c.self.invariant.alarmed within c.clear_alarm.ensures.here c.clear_alarm.ensures.others);
     }
 

@@ -1,0 +1,123 @@
+//! SignalObjectAndWait: one object is signaled, the others are served, and then the caller waits.
+ghost use Rattle.std.specs.Prelude.{◌≡◌, ◌≢◌, ◌∷◌, ◌+◌, ◌<◌, [], false, None, Some, IfOk, IfErr, OnOk, OnErr, IsSome, IsTrue, length, pos};
+ghost use Rattle.std.specs.Option.{ForSome};
+ghost use Rattle.std.specs.FinMap as map;
+ghost use Rattle.nt_status.specs.declared.refusal.Refusal.TheVariants.{Memory};
+ghost use Rattle.nt_objects.specs.Object.{overflows};
+ghost use Rattle.nt_waits.specs.declared.wait.Wait.{Wait};
+ghost use Rattle.nt_core.specs.State.{object_at, deadline_after, pending_too};
+ghost use Rattle.nt_core.specs.Dispatcher.{state, with_prepared};
+ghost use Rattle.nt_core.specs.Change.{at, signal};
+ghost use Rattle.nt_core.specs.Refusals.{may_signal, is_foreign, refusal};
+ghost use Rattle.nt_core.specs.Lawful.{IsSoundWait, IsSound};
+ghost use Rattle.nt_core.specs.Accepts.{IsFresh, IsServedAfter, Accepts};
+ghost use Rattle.nt_core.specs.declared.call.Call.{Call};
+ghost use Rattle.nt_core.specs.declared.call.WaitCall.{WaitCall};
+
+use crate::call::Reply;
+use crate::machine::Machine;
+use crate::waiting::deadline_after;
+use nt_status::{Handle, Handles, Refusal, ThreadId};
+use nt_waits::Wait;
+
+impl Machine {
+    /// Signals the object, and serves the waits that name it: an event is set, a semaphore counts one more, a mutex is held one
+    /// level less deep.
+    fn signal(&mut self, thread: ThreadId, handle: Handle)
+        requires fresh { IsFresh self.old }
+        requires may { IsTrue (may_signal (object_at self.old.objects handle)) }
+        requires owner { is_foreign self.old.objects thread handle ≡ false }
+        requires within { overflows (pos 1) (object_at self.old.objects handle) ≡ false }
+        ensures served { IsServedAfter self.old (at (state self.old) handle signal) self.new }
+        ensures prepared { self.new.table.prepared ≡ self.old.table.prepared }
+    {
+        let mut object = self.object(handle);
+        if object.is_event() {
+            self.raise_event(thread, handle);
+            return;
+        }
+        if object.is_semaphore() {
+            let Ok(_count) = object.release_semaphore(1) else {
+                unreachable!()
+            };
+        } else {
+            let Ok(_released) = object.release_mutex(thread) else {
+                unreachable!()
+            };
+        }
+        self.replace(handle, object);
+    }
+
+    /// Makes all the room that the caller's wait for this object may need. With a timeout of 0 it needs none.
+    fn prepare(
+        &mut self,
+        thread: ThreadId,
+        object: Handle,
+        ms: u32,
+        alertable: bool,
+    ) -> Result<(), Refusal>
+        ensures ready { OnOk result (ms ≢ 0 → self.new.table.prepared ≡ Some (thread, record { handles = object ∷ []; all = false; alertable = alertable; deadline = deadline_after self.old.now ms })) }
+        ensures kept { self.new ≡ with_prepared self.old self.new.table.prepared }
+        ensures memory { IfErr result (λ refusal. refusal ≡ Memory) }
+        ensures err { OnErr result (self.new ≡ self.old) }
+    {
+        if ms == 0 {
+            return Ok(());
+        }
+        let wait = Wait {
+            handles: Handles::from_slice(*self.objects.allocator(), &[object])?,
+            all: false,
+            alertable,
+            deadline: deadline_after(self.moment, ms),
+        };
+        self.waits.prepare(thread, wait)
+    }
+
+    /// The prepared wait did not pend.
+    fn forget_prepared(&mut self)
+        ensures { self.new ≡ with_prepared self.old None }
+    {
+        self.waits.forget_prepared();
+    }
+
+    /// The prepared wait pends from now on.
+    fn pend_prepared(&mut self)
+        requires there { IsSome self.old.table.prepared }
+        requires idle { ForSome self.old.table.prepared (λ p. map.get self.old.table.pending p.0 ≡ None) }
+        requires able { ForSome self.old.table.prepared (λ p. IsSoundWait self.old.threads self.old.objects p.0 p.1) }
+        requires room { length self.old.grants + map.len self.old.table.pending < self.old.threads }
+        requires sound { IsSound self.old }
+        ensures state { ForSome self.old.table.prepared (λ p. state self.new ≡ pending_too (state self.old) p.0 p.1) }
+        ensures sound { IsSound self.new }
+        ensures grants { self.new.grants ≡ self.old.grants }
+        ensures looked { self.new.table.looked ≡ self.old.table.looked }
+    {
+        self.waits.begin_prepared();
+    }
+
+    /// SignalObjectAndWait: signals one object, serves the others, and begins the caller's wait for the other object. All memory
+    /// comes first, so where it is refused nothing changes.
+    pub(crate) fn swap(
+        &mut self,
+        thread: ThreadId,
+        signal: Handle,
+        object: Handle,
+        ms: u32,
+        alertable: bool,
+    ) -> Result<Reply, Refusal>
+        requires fresh { IsFresh self.old }
+        requires free { refusal (state self.old) thread (Call.Wait (WaitCall.Swap signal object ms alertable)) ≡ None }
+        ensures ok { IfOk result (λ reply. Accepts self.old self.new thread (Call.Wait (WaitCall.Swap signal object ms alertable)) reply) }
+        ensures memory { IfErr result (λ refusal. refusal ≡ Memory) }
+        ensures err { OnErr result (self.new ≡ self.old) }
+    {
+        self.prepare(thread, object, ms, alertable)?;
+        self.signal(thread, signal);
+        if let Some(status) = self.end_at_once(thread, &[object], false, ms, alertable) {
+            self.forget_prepared();
+            return Ok(Reply::Status(status));
+        }
+        self.pend_prepared();
+        Ok(Reply::Pended)
+    }
+}

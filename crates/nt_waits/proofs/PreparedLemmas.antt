@@ -1,0 +1,28 @@
+-- A prepared wait keeps its room.
+use Rattle.std.proofs.Common.{ℕ, ◌≤◌, arith}
+use Rattle.std.proofs.lemmas.Option.{none-some}
+use Rattle.std.specs.Option.{ForSome}
+use Rattle.std.specs.Prelude.{Option, None}
+use Rattle.nt_waits.specs.declared.prepared.Prepared.{Prepared}
+use Rattle.nt_waits.specs.Queues.{Lists}
+use Rattle.nt_waits.specs.Prepared.{IsReady}
+
+-- where as much room is left, a prepared wait has what it needs
+pub ready_kept : (old new : Lists) (places places' alarms alarms' : ℕ) → new.used ≤ old.used → old.capacity ≤ new.capacity → old.handle_room ≤ new.handle_room → places ≤ places' → alarms ≤ alarms' → (prepared : Option Prepared) → ForSome prepared (IsReady old places alarms) → ForSome prepared (IsReady new places' alarms')
+ready_kept old new places places' alarms alarms' used capacity handle_room more_places more_alarms prepared ready p is =
+    let before = ready p is in
+    record {
+      few = before.few;
+      apart = before.apart;
+      blocks = let blocks = before.blocks in omega (arith, blocks, used, capacity);
+      below = before.below;
+      handles = let handles = before.handles in omega (arith, handles, handle_room);
+      place = let place = before.place in omega (arith, place, more_places);
+      empty = before.empty;
+      numbers = before.numbers;
+      alarm = λ some. let alarm = before.alarm some in omega (arith, alarm, more_alarms);
+    }
+
+-- where no wait is prepared
+pub none_ready : (queues : Lists) (places alarms : ℕ) → ForSome None (IsReady queues places alarms)
+none_ready queues places alarms p is = absurd (none-some p is)
