@@ -112,4 +112,16 @@ impl Core {
     {
         self.machine.tested()
     }
+
+    /// An equal dispatcher in memory of its own, as a point to come back to. Each goes its own way from then on.
+    ///
+    /// Refused with 8 where memory is refused.
+    pub fn copy(&self) -> Result<Core, Refusal>
+        ensures value { IfOk result (λ copied. copied ≡ self.now) }
+        ensures memory { IfErr result (λ refusal. refusal ≡ Memory) }
+    {
+        let machine = self.machine.copy()?;
+        let changed = Vec::with_capacity(*self.changed.allocator(), machine.objects.len())?;
+        Ok(Core { machine, changed })
+    }
 }

@@ -4,6 +4,7 @@
 mod apcs;
 mod call;
 mod calls;
+mod copy;
 mod dispatcher;
 mod events;
 mod judge;

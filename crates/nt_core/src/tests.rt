@@ -1,6 +1,7 @@
 //! Scripts of calls with the answers of the Win32 reference. Each test passes also where one growth is refused: run them
 //! with each of the first 40 allocations failing in turn.
 mod apcs;
+mod copies;
 mod events;
 mod mutexes;
 mod script;
