@@ -1,1 +1,6 @@
 pub mod Flushed
+pub mod Looks
+pub mod Faults
+pub mod Scripts
+pub mod CommandLines
+pub mod Matches

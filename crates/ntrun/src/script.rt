@@ -1,7 +1,7 @@
 //! Running a script between a reader and two writers.
 
 ghost use Rattle.std.specs.Prelude.{◌≡◌, ◌-◌, ◌<◌, ◌^◌, Err};
-ghost use Rattle.ntrun.specs.Ending.{Outcome, ScriptEnds, status_of};
+ghost use Rattle.ntrun.specs.Ending.{CountsReads, Outcome, ScriptEnds, status_of};
 
 use nt_devices::{Sink, Source};
 use nt_script::{RunFault, Summary, run};
@@ -18,7 +18,7 @@ pub fn script_over<R: Source, W: Sink, E: Write>(
 ) -> u8
     requires read_failures { R.failed reader.old < 2 ^ 64 - 1 }
     requires write_failures { W.failed writer.old < 2 ^ 64 - 1 }
-    ensures { ScriptEnds (R.remaining reader.old) (W.contents writer.old) (W.contents writer.new) result }
+    ensures { ScriptEnds (R.remaining reader.old) (W.contents writer.old) (W.contents writer.new) (R.failed reader.old) (R.failed reader.new) (W.failed writer.old) (W.failed writer.new) (W.handed_on writer.new) result }
 {
     match run_and_flush(alloc, reader, writer) {
         Ok(_) => 0,
@@ -37,10 +37,10 @@ fn run_and_flush<R: Source, W: Sink>(
 ) -> Result<Summary, RunFault>
     requires read_failures { R.failed reader.old < 2 ^ 64 - 1 }
     requires write_failures { W.failed writer.old < 2 ^ 64 - 1 }
-    ensures { Outcome (R.remaining reader.old) (W.contents writer.old) (W.contents writer.new) result }
+    ensures { Outcome (R.remaining reader.old) (W.contents writer.old) (W.contents writer.new) (W.failed writer.old) (W.failed writer.new) (W.handed_on writer.new) result × CountsReads (R.failed reader.old) (R.failed reader.new) result }
 {
     match run(alloc, reader, writer) {
-        Ok(summary) => match writer.flush() {
+        Ok(summary) => match writer.flush_counted() {
             Ok(()) => Ok(summary),
             Err(_) => Err(RunFault::Write {
                 line: summary.lines + 1,
@@ -48,7 +48,7 @@ fn run_and_flush<R: Source, W: Sink>(
         },
         Err(RunFault::Write { line }) => Err(RunFault::Write { line }),
         Err(fault) => {
-            let _ = writer.flush();
+            let _ = writer.flush_counted();
             Err(fault)
         }
     }

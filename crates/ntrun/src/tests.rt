@@ -142,12 +142,25 @@ fn words_of(alloc: Global, words: &[&str]) -> Result<Vec<String>, AllocError> {
     Ok(list)
 }
 
+/// The words behind the program's name, and the file that they ask to run.
+const PLANS: &[(&[&str], &str)] = &[
+    (&["script", "hand_over.nts"], "hand_over.nts"),
+    (&["script", "script"], "script"),
+    (&["script", "-"], "-"),
+    (&["script", ""], ""),
+    (&["script", "--", "-one.nts"], "-one.nts"),
+    (&["script", "--", "--"], "--"),
+    (&["script", "one.nts", "--"], "one.nts"),
+];
+
 #[test]
 fn script_and_a_file_ask_for_a_run_of_it(rt: HostRuntime) -> Result<(), Fail> {
-    let words = words_of(rt.alloc(), &["script", "hand_over.nts"])?;
-    match plan_of(rt.alloc(), words.as_slice()) {
-        Ok(Plan::Script(file)) => assert_eq!(rt; file.as_str(), "hand_over.nts"),
-        Err(fault) => assert!(rt; false, "{fault:?}"),
+    for (words, wanted) in PLANS {
+        let list = words_of(rt.alloc(), words)?;
+        match plan_of(rt.alloc(), list.as_slice()) {
+            Ok(Plan::Script(file)) => assert_eq!(rt; file.as_str(), *wanted),
+            Err(fault) => assert!(rt; false, "{words:?}: {fault:?}"),
+        }
     }
     Ok(())
 }
@@ -160,8 +173,16 @@ const NO_PLAN: &[&[&str]] = &[
     &["script"],
     &["script", "--help"],
     &["script", "one.nts", "two.nts"],
+    &["script", "--"],
+    &["script", "-x"],
+    &["script", "--file=one.nts"],
+    &["script", "one.nts", "--", "two.nts"],
+    &["script", "--", "one.nts", "--"],
+    &["--", "script", "one.nts"],
+    &["-s", "one.nts"],
     &["scripts", "one.nts"],
     &["one.nts"],
+    &["threads", "2", "100"],
 ];
 
 #[test]

@@ -1,9 +1,13 @@
-use Rattle.std.proofs.Common.{inl, inr, refl}
-use Rattle.ntrun.proofs.Flushed.{still_done}
+use Rattle.std.proofs.Common.{◌+◌, refl}
+use Rattle.ntrun.proofs.Flushed.{done, not_handed_on}
 use Rattle.ntrun.proofs.script.run_and_flush.Goals as goal
 
-pub returns-in-Ok-flush : goal.returns-in-Ok-flush
-returns-in-Ok-flush g c = inl (still_done _ _ _ _ c.in-Ok.summary c.in-Ok.ensures.answers c.flush.ensures.bytes)
+pub returns-in-Ok-flush_counted : goal.returns-in-Ok-flush_counted
+returns-in-Ok-flush_counted g c =
+    let ended = c.in-Ok-flush_counted.ensures in
+    done _ _ _ _ _ _ _ _ _ _ c.in-Ok.summary c.in-Ok.ensures.answers c.in-Ok.ensures.failures c.flush_counted.ensures.bytes ended.counted ended.handed
 
-pub returns-in-Err-flush : goal.returns-in-Err-flush
-returns-in-Err-flush g c = inr (c.in-Ok.summary, still_done _ _ _ _ c.in-Ok.summary c.in-Ok.ensures.answers c.flush.ensures.bytes, refl)
+pub returns-in-Err-flush_counted : goal.returns-in-Err-flush_counted
+returns-in-Err-flush_counted g c =
+    let ended = c.in-Err-flush_counted.ensures in
+    not_handed_on _ _ _ _ _ _ _ _ _ _ c.in-Ok.summary (c.in-Ok.summary.lines + 1) c.requires.write_failures c.in-Ok.ensures.answers c.in-Ok.ensures.failures c.flush_counted.ensures.bytes ended.counted ended.handed refl
