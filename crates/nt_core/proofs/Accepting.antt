@@ -145,7 +145,7 @@ accepted old calm new t call reply served after same looked lawful answers = rec
 pub nothing_pends : (t : ℕ) (w : Wait) {P : Type 0} → fin.get (fin.empty {X = Wait} {R = nat_cmp}) t ≡ Some w → P
 nothing_pends t w pends = let h : None ≡ Some w = sym (fin.get-empty nat_cmp t) ∙ pends in (cc)
 
-object_at-replicate : (n h : ℕ) → object_at (replicate n (Thread false)) h ≡ Thread false
+pub object_at-replicate : (n h : ℕ) → object_at (replicate n (Thread false)) h ≡ Thread false
 object_at-replicate zero h = refl
 object_at-replicate (suc n) zero = refl
 object_at-replicate (suc n) (suc h) = object_at-replicate n h
@@ -280,7 +280,7 @@ or_false : (a b : Bool) → (a || b) ≡ false → (a ≡ false) × (b ≡ false
 or_false true b e = absurd (false≢true (sym e))
 or_false false b e = (refl, e)
 
-distinct_handles : (hs : List ℕ) → has_twice hs ≡ false → IsDistinct nat_eq hs
+pub distinct_handles : (hs : List ℕ) → has_twice hs ≡ false → IsDistinct nat_eq hs
 unfolding IsDistinct
 distinct_handles [] e = tt
 distinct_handles (h ∷ hs) e =

@@ -36,7 +36,7 @@ each_kept P t kept (h ∷ hs) os apart ready room has =
     (λ j below. ap has_room (object_taken_other os t h (get_or hs j 0) (other j below)) ∙ room (suc j) (omega (arith, below)))
     (kept os h (ready 0 (omega arith)) (room 0 (omega arith)) has)
 
-list_all_at : (p : ℕ → Bool) (xs : List ℕ) → list_all p xs ≡ true → (j : ℕ) → j < length xs → p (get_or xs j 0) ≡ true
+pub list_all_at : (p : ℕ → Bool) (xs : List ℕ) → list_all p xs ≡ true → (j : ℕ) → j < length xs → p (get_or xs j 0) ≡ true
 list_all_at p [] e j below = absurd (omega (arith, below))
 list_all_at p (x ∷ xs) e zero below = both (p x) (list_all p xs) e
   where
@@ -49,7 +49,7 @@ list_all_at p (x ∷ xs) e (suc j) below = list_all_at p xs (both (p x) (list_al
     both true b e = e
     both false b e = let h : false ≡ true = e in (cc)
 
-list_any_at : (p : ℕ → Bool) (xs : List ℕ) → list_any p xs ≡ true → (position_or_len p xs < length xs) × (p (get_or xs (position_or_len p xs) 0) ≡ true)
+pub list_any_at : (p : ℕ → Bool) (xs : List ℕ) → list_any p xs ≡ true → (position_or_len p xs < length xs) × (p (get_or xs (position_or_len p xs) 0) ≡ true)
 list_any_at p xs e =
     let lt : position_or_len p xs < length xs = lt_of_not-le (λ le. false≢true (sym (no_pass p xs le) ∙ e)) in
     (lt, (first_pass_at p xs lt).1 0)

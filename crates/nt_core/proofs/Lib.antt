@@ -11,6 +11,11 @@ mod Replacing
 mod Beginning
 mod Unique
 mod OneWay
+mod Takes
+mod Turns
+mod Giving
+mod Owing
+mod Setting
 mod Alerting
 mod Ticking
 mod Lengths

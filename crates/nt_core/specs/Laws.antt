@@ -1,15 +1,22 @@
 -- What follows from the definitions alone.
-use Rattle.std.specs.Prelude.{◌≡◌, ℕ, Bool, true, false, List, map}
+use Rattle.std.specs.Prelude.{◌≡◌, ℕ, ◌+◌, ◌-◌, ◌≤◌, ◌<◌, ℤ, pos, ◌+ℤ◌, Bool, true, false, not, ◌&&◌, List, [], ◌∷◌, map, length, count_by, if◌then◌else◌, ◌==◌}
 use Rattle.std.specs.declared.result.Result.{Result}
-use Rattle.std.specs.declared.result.Result.TheVariants.{Err}
+use Rattle.std.specs.declared.result.Result.TheVariants.{Ok, Err}
 use Rattle.nt_status.specs.declared.refusal.Refusal.{Refusal}
 use Rattle.nt_status.specs.declared.refusal.Refusal.TheVariants.{Memory}
+use Rattle.nt_status.specs.Flags.{has_flag, event_initial_set, mutex_initial_owner}
+use Rattle.nt_objects.specs.declared.object.Object.{Object}
+use Rattle.nt_objects.specs.declared.object.Object.TheVariants.{Event}
+use Rattle.nt_objects.specs.Object.{is_semaphore, is_mutex, count_of, owned_by, depth_of, IsLawfulObject}
 use Rattle.nt_core.specs.declared.call.Call.{Call}
+use Rattle.nt_core.specs.declared.call.Act.{Act}
+use Rattle.nt_core.specs.declared.call.WaitCall.{WaitCall}
 use Rattle.nt_core.specs.declared.call.Reply.{Reply}
 use Rattle.nt_core.specs.declared.call.Grant.{Grant}
-use Rattle.nt_core.specs.State.{State}
+use Rattle.nt_core.specs.State.{State, opening, object_at}
 use Rattle.nt_core.specs.Serving.{Serve}
-use Rattle.nt_core.specs.Runs.{Turn, Calls, Ticks, Run}
+use Rattle.nt_core.specs.Runs.{Turn, Calls, Ticks, Turns, Run}
+use Rattle.nt_core.specs.Takes.{turn_took, takes, takers}
 
 -- the order of grants leaves no choice: from one state and one sequence, serving gives the same grants and ends in the same state
 abbrev pub ServesOneWay : Type 0
@@ -34,3 +41,115 @@ question (Ticks by moment result grants) = AsksTick by moment
 -- results and the grants of each turn are the same, and so is the state
 abbrev pub RunsOneWay : Type 0
 RunsOneWay = (n : ℕ) (turns others : List Turn) (a b : State) → Run n turns a → Run n others b → map question turns ≡ map question others → (turns ≡ others) × (a ≡ b)
+
+-- ---- semaphores
+
+-- the reply is this handle
+abbrev pub is_handle : ℕ → Reply → Bool
+is_handle h (Reply.Handle new) = new == h
+is_handle h _ = false
+
+-- what an act gives to the semaphore at h: the count that it begins with, and what it is released by
+abbrev pub act_gives : ℕ → Act → Reply → ℤ
+act_gives h (Act.CreateSemaphore initial maximum) reply = if is_handle h reply then initial else pos 0
+act_gives h (Act.ReleaseSemaphore g count) reply = if g == h then count else pos 0
+act_gives h _ reply = pos 0
+
+-- and a swap that signals it gives one
+abbrev pub call_gives : ℕ → Call → Reply → ℤ
+call_gives h (Call.Act act) reply = act_gives h act reply
+call_gives h (Call.Wait (WaitCall.Swap g object ms alertable)) reply = if g == h then pos 1 else pos 0
+call_gives h _ reply = pos 0
+
+abbrev pub turn_gives : ℕ → Turn → ℤ
+turn_gives h (Calls who call (Ok reply) grants) = call_gives h call reply
+turn_gives h _ = pos 0
+
+-- what these turns gave to the semaphore at h
+abbrev pub given : ℕ → List Turn → ℤ
+given h [] = pos 0
+given h (turn ∷ turns) = turn_gives h turn +ℤ given h turns
+
+-- a semaphore hands out what it was given and no more: over every run its count and the number of times that it was taken
+-- make up what it was given, and its count stays between zero and its maximum
+abbrev pub SemaphoresGiveWhatTheyHave : Type 0
+SemaphoresGiveWhatTheyHave =
+    (n : ℕ) (turns : List Turn) (s : State) (run : Run n turns s) (h : ℕ)
+    → is_semaphore (object_at s.objects h) ≡ true
+    → (count_of (object_at s.objects h) +ℤ pos (length (takers h (takes (opening n) turns s run))) ≡ given h turns)
+    × IsLawfulObject (object_at s.objects h)
+
+-- ---- mutexes
+
+-- how many releases of the mutex at h thread t owes after an act of thread `who`, if it owed so many before: one more where it
+-- creates the mutex for itself, one less where it releases it
+abbrev pub act_owes : ℕ → ℕ → ℕ → Act → Reply → ℕ → ℕ
+act_owes h t who (Act.CreateMutex flags) reply owed = if is_handle h reply && has_flag flags mutex_initial_owner && who == t then owed + 1 else owed
+act_owes h t who (Act.ReleaseMutex g) reply owed = if g == h && who == t then owed - 1 else owed
+act_owes h t who _ reply owed = owed
+
+-- and a swap that signals it releases it
+abbrev pub call_owes : ℕ → ℕ → ℕ → Call → Reply → ℕ → ℕ
+call_owes h t who (Call.Act act) reply owed = act_owes h t who act reply owed
+call_owes h t who (Call.Wait (WaitCall.Swap g object ms alertable)) reply owed = if g == h && who == t then owed - 1 else owed
+call_owes h t who _ reply owed = owed
+
+abbrev pub turn_owes : ℕ → ℕ → Turn → ℕ → ℕ
+turn_owes h t (Calls who call (Ok reply) grants) owed = call_owes h t who call reply owed
+turn_owes h t _ owed = owed
+
+-- how many releases of the mutex at h thread t owes after these turns, if it owed so many before: one more for each taking
+abbrev pub owed_after : (h t owed : ℕ) (old : State) (turns : List Turn) (new : State) → Turns old turns new → ℕ
+owed_after h t owed old [] new run = owed
+owed_after h t owed old (turn ∷ turns) new run =
+    owed_after h t (turn_owes h t turn owed + count_by (λ u. u == t) (takers h (turn_took old turn))) run.0 turns new run.2
+
+-- how deep thread t holds the mutex
+abbrev pub held_by : ℕ → Object → ℕ
+held_by t o = if owned_by o t then depth_of o else 0
+
+-- a mutex has one owner at most: after every run a thread holds it as deep as it owes releases of it, and no two threads owe one
+abbrev pub OneOwner : Type 0
+OneOwner =
+    (n : ℕ) (turns : List Turn) (s : State) (run : Run n turns s) (h t : ℕ)
+    → is_mutex (object_at s.objects h) ≡ true
+    → (owed_after h t 0 (opening n) turns s run ≡ held_by t (object_at s.objects h))
+    × ((u : ℕ) → 0 < owed_after h t 0 (opening n) turns s run → 0 < owed_after h u 0 (opening n) turns s run → t ≡ u)
+
+-- ---- events
+
+-- an act sets the event at h: SetEvent, PulseEvent, or its creation with the flag for that
+abbrev pub act_sets : ℕ → Act → Reply → Bool
+act_sets h (Act.CreateEvent flags) reply = is_handle h reply && has_flag flags event_initial_set
+act_sets h (Act.SetEvent g) reply = g == h
+act_sets h (Act.PulseEvent g) reply = g == h
+act_sets h _ reply = false
+
+-- and so does a swap that signals it
+abbrev pub call_sets : ℕ → Call → Reply → Bool
+call_sets h (Call.Act act) reply = act_sets h act reply
+call_sets h (Call.Wait (WaitCall.Swap g object ms alertable)) reply = g == h
+call_sets h _ reply = false
+
+abbrev pub turn_sets : ℕ → Turn → Bool
+turn_sets h (Calls who call (Ok reply) grants) = call_sets h call reply
+turn_sets h _ = false
+
+abbrev pub is_auto_reset : Object → Bool
+is_auto_reset (Event manual set) = not manual
+is_auto_reset _ = false
+
+-- 1 for an event that is set
+abbrev pub set_now : Object → ℕ
+set_now (Event manual set) = if set then 1 else 0
+set_now _ = 0
+
+-- one set of an auto-reset event ends one wait: in any part of a run the event is taken no more often than it is set, where a
+-- set that stands at the beginning counts, and one that stands at the end has ended no wait
+abbrev pub OneSetOneWait : Type 0
+OneSetOneWait =
+    (n : ℕ) (before turns : List Turn) (mid s : State)
+    → Run n before mid
+    → (part : Turns mid turns s) (h : ℕ)
+    → is_auto_reset (object_at s.objects h) ≡ true
+    → length (takers h (takes mid turns s part)) + set_now (object_at s.objects h) ≤ count_by (turn_sets h) turns + set_now (object_at mid.objects h)

@@ -7,6 +7,7 @@ pub mod Change
 pub mod Refusals
 pub mod Steps
 pub mod Runs
+pub mod Takes
 pub mod Dispatcher
 pub mod Lawful
 pub mod Accepts

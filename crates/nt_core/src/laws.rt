@@ -1,5 +1,5 @@
 //! Laws of the definitions, as contracts of functions that do nothing.
-ghost use Rattle.nt_core.specs.Laws.{ServesOneWay, RunsOneWay};
+ghost use Rattle.nt_core.specs.Laws.{ServesOneWay, RunsOneWay, SemaphoresGiveWhatTheyHave, OneOwner, OneSetOneWait};
 
 /// The order of grants leaves no choice: which waits a change ends, with which statuses, and the state after it are a
 /// function of the state and of the sequence of the waits on changed objects.
@@ -11,4 +11,21 @@ pub fn serves_one_way()
 /// which calls met want of memory.
 pub fn runs_one_way()
     ensures { RunsOneWay }
+{}
+
+/// A semaphore hands out what it was given and no more: over every run its count and the number of times that it was taken make
+/// up what it was given, and the count stays between zero and the maximum.
+pub fn semaphores_give_what_they_have()
+    ensures { SemaphoresGiveWhatTheyHave }
+{}
+
+/// A mutex has one owner at most: after every run a thread holds it as deep as it owes releases of it, and no two threads owe one.
+pub fn one_owner()
+    ensures { OneOwner }
+{}
+
+/// One set of an auto-reset event ends one wait: in any part of a run it is taken no more often than it is set, where a set that
+/// stands at the beginning counts.
+pub fn one_set_one_wait()
+    ensures { OneSetOneWait }
 {}

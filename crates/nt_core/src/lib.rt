@@ -23,4 +23,6 @@ mod waiting;
 
 pub use call::{Act, Call, Grant, Reply, WaitCall};
 pub use dispatcher::Core;
-pub use laws::{runs_one_way, serves_one_way};
+pub use laws::{
+    one_owner, one_set_one_wait, runs_one_way, semaphores_give_what_they_have, serves_one_way,
+};
