@@ -8,7 +8,7 @@ use Rattle.nt_status.specs.Flags.{has_flag, mutex_initial_owner}
 use Rattle.nt_status.specs.declared.refusal.Refusal.TheVariants.{InvalidHandle, InvalidParameter, TooManyPosts, HandleLimit}
 use Rattle.nt_objects.specs.declared.object.Object.{Object}
 use Rattle.nt_objects.specs.declared.object.Object.TheVariants.{Event, Semaphore, Mutex, Timer, Thread}
-use Rattle.nt_objects.specs.Object.{signaled, taken, is_semaphore, count_of, IsLawfulObject, event_of, mutex_of, may_count, with_set, released, unlocked, overflows}
+use Rattle.nt_objects.specs.Object.{signaled, taken, is_semaphore, count_of, IsLawfulObject, event_of, mutex_of, may_count, with_set, released, unlocked, overflows, unset_by, set_by}
 use Rattle.nt_objects.proofs.Lawful.{lawful_taken, lawful_released}
 use Rattle.nt_core.specs.declared.call.Call.{Call}
 use Rattle.nt_core.specs.declared.call.Act.{Act}
@@ -23,7 +23,7 @@ use Rattle.nt_core.specs.Takes.{turn_took, takes, takers}
 use Rattle.nt_core.specs.Laws.{act_gives, call_gives, turn_gives, given}
 use Rattle.nt_core.proofs.Accepting.{next_causes, own_causes, object_at-replicate}
 use Rattle.nt_core.proofs.Takes.{TakenBy, takers-append, AreFair}
-use Rattle.nt_core.proofs.Turns.{swap_judged, is_plain, past_last, acted, changed_at, settled_at, in_call, in_tick, turn_fair, opening_fair}
+use Rattle.nt_core.proofs.Turns.{swap_judged, is_plain, past_last, acted, changed_at, settled_at, in_call, in_tick, turn_fair, opening_fair, left}
 
 -- a semaphore, or none yet
 abbrev counts : Object → Bool
@@ -121,6 +121,24 @@ mutex_counts_not flags t = go (has_flag flags mutex_initial_owner)
     go true is = false≢true is
     go false is = false≢true is
 
+-- a thread ends
+left_gains : (t : ℕ) (o : Object) → counts (left t o) ≡ true → Gains o (left t o) (pos 0) 0
+left_gains t (Semaphore count maximum) is = same_gains (Semaphore count maximum) refl
+left_gains t (Thread ended) is = same_gains (Thread ended) is
+left_gains t (Event manual set) is = absurd (false≢true is)
+left_gains t (Mutex None depth abandoned) is = absurd (false≢true is)
+left_gains t (Mutex (Some owner) depth abandoned) is = absurd (go (owner == t) is)
+  where
+    go : (b : Bool) → counts (unset_by t (cond b (Mutex None 0 true) (Mutex (Some owner) depth abandoned))) ≡ true → ⊥
+    go true wrong = false≢true wrong
+    go false wrong = false≢true wrong
+left_gains t (Timer manual set None) is = absurd (false≢true is)
+left_gains t (Timer manual set (Some armed)) is = absurd (go (set_by armed.routine t) is)
+  where
+    go : (b : Bool) → counts (cond b (Timer manual set None) (Timer manual set (Some armed))) ≡ true → ⊥
+    go true wrong = false≢true wrong
+    go false wrong = false≢true wrong
+
 -- a swap signals it
 signal_gains : (o : Object) → may_signal o ≡ true → overflows (pos 1) o ≡ false → counts (signal o) ≡ true → Gains o (signal o) (pos 1) 0
 signal_gains (Semaphore own maximum) may fits is = released_gains (pos 1) (Semaphore own maximum) refl (omega (arith, ints)) fits
@@ -193,13 +211,11 @@ call_gains s woken new t (Call.Wait (WaitCall.Swap g object ms alertable)) h rep
     (λ here other.
     let same = sym (eqb-true g h here) in
     signal_gains (object_at s.objects h) (ap (λ x. may_signal (object_at s.objects x)) same ∙ judged.may) (ap (λ x. overflows (pos 1) (object_at s.objects x)) same ∙ judged.fits) other) is
-call_gains s woken new t (Call.Wait (WaitCall.Objects handles all ms alertable)) h reply none answer is = same_gains (object_at s.objects h) is
-call_gains s woken new t (Call.Wait (WaitCall.Sleep ms alertable)) h reply none answer is = same_gains (object_at s.objects h) is
+call_gains s woken new t _ h reply none answer is = same_gains (object_at s.objects h) is
 
 settled_gains : (call : Call) (h : ℕ) (o : Object) → counts (settled_at call h o) ≡ true → Gains o (settled_at call h o) (pos 0) 0
 settled_gains (Call.Act (Act.PulseEvent g)) h o is = only_here (g == h) o (with_set false o) (set_gains false o) is
-settled_gains (Call.Act act) h o is = same_gains o is
-settled_gains (Call.Wait wait) h o is = same_gains o is
+settled_gains _ h o is = same_gains o is
 
 -- ---- turns
 

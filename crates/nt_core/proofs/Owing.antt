@@ -9,7 +9,7 @@ use Rattle.nt_status.specs.Flags.{has_flag, mutex_initial_owner}
 use Rattle.nt_status.specs.declared.refusal.Refusal.TheVariants.{InvalidHandle, NotOwner}
 use Rattle.nt_objects.specs.declared.object.Object.{Object}
 use Rattle.nt_objects.specs.declared.object.Object.TheVariants.{Event, Semaphore, Mutex, Timer, Thread}
-use Rattle.nt_objects.specs.Object.{signaled, taken, is_mutex, owned_by, depth_of, event_of, mutex_of, with_set, released, unlocked}
+use Rattle.nt_objects.specs.Object.{signaled, taken, is_mutex, owned_by, depth_of, event_of, mutex_of, with_set, released, unlocked, unset_by, set_by}
 use Rattle.nt_core.specs.declared.call.Call.{Call}
 use Rattle.nt_core.specs.declared.call.Act.{Act}
 use Rattle.nt_core.specs.declared.call.WaitCall.{WaitCall}
@@ -23,7 +23,7 @@ use Rattle.nt_core.specs.Takes.{turn_took, takers}
 use Rattle.nt_core.specs.Laws.{act_owes, call_owes, turn_owes, owed_after, held_by}
 use Rattle.nt_core.proofs.Accepting.{next_causes, own_causes, object_at-replicate}
 use Rattle.nt_core.proofs.Takes.{TakenBy, AreFair}
-use Rattle.nt_core.proofs.Turns.{swap_judged, is_plain, past_last, acted, changed_at, settled_at, in_call, in_tick, turn_fair, opening_fair}
+use Rattle.nt_core.proofs.Turns.{swap_judged, is_plain, past_last, acted, changed_at, settled_at, in_call, in_tick, turn_fair, opening_fair, left}
 
 -- a mutex, or none yet
 abbrev owns : Object → Bool
@@ -151,6 +151,49 @@ unnot : (b : Bool) → not b ≡ false → b ≡ true
 unnot true e = refl
 unnot false e = sym e
 
+-- a thread ends
+left_owes : (t : ℕ) (o : Object) (who : ℕ) → owns (left who o) ≡ true → Owes t o (left who o) (λ k. cond (who == t) 0 k)
+left_owes t (Mutex None depth abandoned) who is = record { owns = refl; held = λ l. l; owed = λ l. none (who == t) }
+  where
+    none : (b : Bool) → ◌≡◌ {A = ℕ} (cond b 0 0) 0
+    none true = refl
+    none false = refl
+left_owes t (Mutex (Some owner) depth abandoned) who is = go (owner == who) refl
+  where
+    over : (b : Bool) → cond b 0 (cond b depth 0) ≡ 0
+    over true = refl
+    over false = refl
+
+    still : (a b : Bool) → (a ≡ true → b ≡ false) → cond a 0 (cond b depth 0) ≡ cond b depth 0
+    still true true apart = absurd (false≢true (sym (apart refl)))
+    still true false apart = refl
+    still false b apart = refl
+
+    go : (b : Bool) → (owner == who) ≡ b → Owes t (Mutex (Some owner) depth abandoned) (unset_by who (cond b (Mutex None 0 true) (Mutex (Some owner) depth abandoned))) (λ k. cond (who == t) 0 k)
+    go true e = record {
+      owns = refl;
+      held = λ l. refl;
+      owed = λ l. subst (λ v. cond (who == t) 0 (cond (v == t) depth 0) ≡ 0) (sym (eqb-true owner who e)) (over (who == t));
+    }
+    go false e = record {
+      owns = refl;
+      held = λ l. l;
+      owed = λ l. still (who == t) (owner == t) (λ own. ap (λ x. owner == x) (sym (eqb-true who t own)) ∙ e);
+    }
+left_owes t (Thread ended) who is = record { owns = is; held = λ l. l; owed = λ l. none (who == t) }
+  where
+    none : (b : Bool) → ◌≡◌ {A = ℕ} (cond b 0 0) 0
+    none true = refl
+    none false = refl
+left_owes t (Event manual set) who is = absurd (false≢true is)
+left_owes t (Semaphore count maximum) who is = absurd (false≢true is)
+left_owes t (Timer manual set None) who is = absurd (false≢true is)
+left_owes t (Timer manual set (Some armed)) who is = absurd (go (set_by armed.routine who) is)
+  where
+    go : (b : Bool) → owns (cond b (Timer manual set None) (Timer manual set (Some armed))) ≡ true → ⊥
+    go true wrong = false≢true wrong
+    go false wrong = false≢true wrong
+
 -- a swap signals it
 signal_owes : (t : ℕ) (o : Object) (who : ℕ) → may_signal o ≡ true → (is_mutex o && not (owned_by o who)) ≡ false → owns (signal o) ≡ true → Owes t o (signal o) (λ k. cond (who == t) (k - 1) k)
 signal_owes t (Mutex owner depth abandoned) who may foreign is = unlocked_owes t (Mutex owner depth abandoned) who (unnot (owned_by (Mutex owner depth abandoned) who) foreign)
@@ -215,13 +258,11 @@ call_owing t s woken new who (Call.Wait (WaitCall.Swap g object ms alertable)) h
     (λ here other.
     let same = sym (eqb-true g h here) in
     signal_owes t (object_at s.objects h) who (ap (λ x. may_signal (object_at s.objects x)) same ∙ judged.may) (ap (λ x. is_foreign s.objects who x) same ∙ judged.foreign) other) is
-call_owing t s woken new who (Call.Wait (WaitCall.Objects handles all ms alertable)) h reply none answer is = same_owes t (object_at s.objects h) is
-call_owing t s woken new who (Call.Wait (WaitCall.Sleep ms alertable)) h reply none answer is = same_owes t (object_at s.objects h) is
+call_owing t s woken new who _ h reply none answer is = same_owes t (object_at s.objects h) is
 
 settled_owes : (t : ℕ) (call : Call) (h : ℕ) (o : Object) → owns (settled_at call h o) ≡ true → Owes t o (settled_at call h o) (λ k. k)
 settled_owes t (Call.Act (Act.PulseEvent g)) h o is = only_here t (g == h) o (with_set false o) (set_owes t false o) is
-settled_owes t (Call.Act act) h o is = same_owes t o is
-settled_owes t (Call.Wait wait) h o is = same_owes t o is
+settled_owes t _ h o is = same_owes t o is
 
 -- ---- turns
 

@@ -7,7 +7,7 @@ use Rattle.std.proofs.lemmas.List.Sums.{sum_by-cons}
 use Rattle.nt_status.specs.Flags.{has_flag, event_initial_set, mutex_initial_owner}
 use Rattle.nt_objects.specs.declared.object.Object.{Object}
 use Rattle.nt_objects.specs.declared.object.Object.TheVariants.{Event, Semaphore, Mutex, Timer, Thread}
-use Rattle.nt_objects.specs.Object.{signaled, taken, event_of, mutex_of, with_set, released, unlocked}
+use Rattle.nt_objects.specs.Object.{signaled, taken, event_of, mutex_of, with_set, released, unlocked, unset_by, set_by}
 use Rattle.nt_core.specs.declared.call.Call.{Call}
 use Rattle.nt_core.specs.declared.call.Act.{Act}
 use Rattle.nt_core.specs.declared.call.WaitCall.{WaitCall}
@@ -20,7 +20,7 @@ use Rattle.nt_core.specs.Runs.{Turn, Calls, Ticks, IsTurn, Turns, Run}
 use Rattle.nt_core.specs.Takes.{turn_took, takes, takers}
 use Rattle.nt_core.specs.Laws.{act_sets, call_sets, turn_sets, is_auto_reset, set_now}
 use Rattle.nt_core.proofs.Takes.{TakenBy, takers-append, AreFair}
-use Rattle.nt_core.proofs.Turns.{swap_judged, is_plain, past_last, acted, changed_at, settled_at, in_call, in_tick, turn_fair, turns_fair, opening_fair}
+use Rattle.nt_core.proofs.Turns.{swap_judged, is_plain, past_last, acted, changed_at, settled_at, in_call, in_tick, turn_fair, turns_fair, opening_fair, left}
 
 -- an auto-reset event, or none yet
 abbrev resets : Object → Bool
@@ -115,6 +115,24 @@ unlocked_sets (Semaphore own maximum) is = absurd (false≢true is)
 unlocked_sets (Timer manual old armed) is = absurd (false≢true is)
 unlocked_sets (Thread ended) is = same_sets (Thread ended) 0 is
 
+-- a thread ends
+left_sets : (t : ℕ) (o : Object) → resets (left t o) ≡ true → Sets o (left t o) 0 0
+left_sets t (Event manual set) is = same_sets (Event manual set) 0 is
+left_sets t (Thread ended) is = same_sets (Thread ended) 0 is
+left_sets t (Semaphore count maximum) is = absurd (false≢true is)
+left_sets t (Mutex None depth abandoned) is = absurd (false≢true is)
+left_sets t (Mutex (Some owner) depth abandoned) is = absurd (go (owner == t) is)
+  where
+    go : (b : Bool) → resets (unset_by t (cond b (Mutex None 0 true) (Mutex (Some owner) depth abandoned))) ≡ true → ⊥
+    go true wrong = false≢true wrong
+    go false wrong = false≢true wrong
+left_sets t (Timer manual set None) is = absurd (false≢true is)
+left_sets t (Timer manual set (Some armed)) is = absurd (go (set_by armed.routine t) is)
+  where
+    go : (b : Bool) → resets (cond b (Timer manual set None) (Timer manual set (Some armed))) ≡ true → ⊥
+    go true wrong = false≢true wrong
+    go false wrong = false≢true wrong
+
 -- a swap signals it
 signal_sets : (o : Object) → may_signal o ≡ true → resets (signal o) ≡ true → Sets o (signal o) 1 0
 signal_sets (Event manual set) may is = set_up (Event manual set) is
@@ -164,13 +182,11 @@ call_setting s woken new t (Call.Act act) h reply none answer is = act_setting s
 call_setting s woken new t (Call.Wait (WaitCall.Swap g object ms alertable)) h reply none answer is =
     let judged = swap_judged s t g object ms alertable none in
     here_or_not (g == h) (object_at s.objects h) (signal (object_at s.objects h)) (λ here other. signal_sets (object_at s.objects h) (ap (λ x. may_signal (object_at s.objects x)) (sym (eqb-true g h here)) ∙ judged.may) other) is
-call_setting s woken new t (Call.Wait (WaitCall.Objects handles all ms alertable)) h reply none answer is = same_sets (object_at s.objects h) 0 is
-call_setting s woken new t (Call.Wait (WaitCall.Sleep ms alertable)) h reply none answer is = same_sets (object_at s.objects h) 0 is
+call_setting s woken new t _ h reply none answer is = same_sets (object_at s.objects h) 0 is
 
 settled_sets : (call : Call) (h : ℕ) (o : Object) → resets (settled_at call h o) ≡ true → Sets o (settled_at call h o) 0 0
 settled_sets (Call.Act (Act.PulseEvent g)) h o is = only_here (g == h) o (with_set false o) (set_down o) is
-settled_sets (Call.Act act) h o is = same_sets o 0 is
-settled_sets (Call.Wait wait) h o is = same_sets o 0 is
+settled_sets _ h o is = same_sets o 0 is
 
 -- ---- turns
 

@@ -1,6 +1,7 @@
--- What a turn does to one object: a change, then takings.
+-- What a turn does to one object: a change, then takings. A new call asks for a line in `acted` or `changed_at` where it changes
+-- an object that is no timer, one in `act_object` or `change_object`, and one in each of Giving, Owing and Setting that it concerns.
 use Rattle.std.proofs.Common.{◌≡◌, ℕ, zero, suc, Bool, true, false, cond, not, ◌&&◌, ◌==◌, List, [], ◌∷◌, ◌++◌, length, set, refl, sym, ap, ◌∙◌, subst, arith, Option, Some, None, inl, inr, ◌⊎◌}
-use Rattle.std.specs.Prelude.{pos, nat_le}
+use Rattle.std.specs.Prelude.{pos, nat_le, map, slice_set}
 use Rattle.std.specs.FinMap.{get}
 use Rattle.std.specs.declared.result.Result.{Result}
 use Rattle.std.specs.declared.result.Result.TheVariants.{Ok, Err}
@@ -13,7 +14,7 @@ use Rattle.nt_waits.specs.declared.wait.Wait.{Wait}
 use Rattle.nt_objects.specs.declared.object.Object.{Object}
 use Rattle.nt_objects.specs.declared.object.Object.TheVariants.{Event, Semaphore, Mutex, Timer, Thread}
 use Rattle.nt_objects.specs.declared.object.Armed.{Armed}
-use Rattle.nt_objects.specs.Object.{is_timer, taken, event_of, mutex_of, timer_of, with_set, released, overflows, unlocked, armed_with, setting_of, rearmed}
+use Rattle.nt_objects.specs.Object.{is_timer, taken, event_of, mutex_of, timer_of, with_set, released, overflows, unlocked, armed_with, setting_of, rearmed, unset_by, abandoned_by}
 use Rattle.nt_apc.specs.Queues.{has_apc}
 use Rattle.nt_core.specs.declared.call.Call.{Call}
 use Rattle.nt_core.specs.declared.call.Act.{Act}
@@ -23,7 +24,7 @@ use Rattle.nt_core.specs.declared.call.Grant.{Grant}
 use Rattle.nt_core.specs.Calls.{timeout_of}
 use Rattle.nt_core.specs.State.{State, Pending, opening, object_at, with_object, with_handing, pending_too, waits_over}
 use Rattle.nt_core.specs.Serving.{fits, status, is_sleep, late_status, taken_by, sequence, Alert, TimeOut}
-use Rattle.nt_core.specs.Change.{created, signal, change, act_change, may_take, expired, expired_as, all_expired, armed_anew, timer_set, timer_cancelled}
+use Rattle.nt_core.specs.Change.{created, signal, change, act_change, may_take, expired, expired_as, all_expired, armed_anew, timer_set, timer_cancelled, exited}
 use Rattle.nt_core.specs.Refusals.{Cause, first_of_causes, refusal, is_no, is_unknown, is_foreign, is_at_limit, may_signal}
 use Rattle.nt_core.specs.Steps.{Step, wait_of, begun, answered, after_serving, MomentPasses, MomentsPass, Ticked}
 use Rattle.nt_core.specs.Runs.{Turn, Calls, Ticks, IsTurn, Turns}
@@ -203,6 +204,35 @@ act_waits s t Act.NextApc = go (may_take s t)
     go false = refl
 act_waits s t _ = refl
 
+-- ---- a thread that ends
+
+ended_here : (os : List Object) (t : ℕ) → (object_at (slice_set os t (Thread true)) t ≡ Thread true) ⊎ (object_at (slice_set os t (Thread true)) t ≡ object_at os t)
+ended_here [] t = inr refl
+ended_here (o ∷ os) zero = inl refl
+ended_here (o ∷ os) (suc t) = ended_here os t
+
+-- what is left of an object once thread t has ended
+abbrev pub left : ℕ → Object → Object
+left t o = unset_by t (abandoned_by t o)
+
+left_at : (t : ℕ) (os : List Object) (h : ℕ) → object_at (map (left t) os) h ≡ left t (object_at os h)
+left_at t [] h = refl
+left_at t (o ∷ os) zero = refl
+left_at t (o ∷ os) (suc h) = left_at t os h
+
+pub exited_object : (s : State) (t h : ℕ) → is_plain (object_at (exited s t).objects h) ≡ true → object_at (exited s t).objects h ≡ left t (object_at s.objects h)
+exited_object s t h plain = elim (cases_eq h t) [
+  | inl same ↦ own same (ended_here (map (left t) s.objects) t)
+  | inr differs ↦ object_at-set_other (map (left t) s.objects) t h (Thread true) differs ∙ left_at t s.objects h
+]
+  where
+    own : h ≡ t → (object_at (slice_set (map (left t) s.objects) t (Thread true)) t ≡ Thread true) ⊎ (object_at (slice_set (map (left t) s.objects) t (Thread true)) t ≡ object_at (map (left t) s.objects) t) → object_at (exited s t).objects h ≡ left t (object_at s.objects h)
+    own same (inl ended) =
+        let here : object_at (exited s t).objects h ≡ Thread true = ap (λ x. object_at (slice_set (map (left t) s.objects) t (Thread true)) x) same ∙ ended in
+        absurd (false≢true (sym (ap is_plain here) ∙ plain))
+    own same (inr stays) =
+        ap (λ x. object_at (slice_set (map (left t) s.objects) t (Thread true)) x) same ∙ (stays ∙ (left_at t s.objects t ∙ ap (λ x. left t (object_at s.objects x)) (sym same)))
+
 -- what a call does to the object at h before waits are served
 abbrev pub changed_at : ℕ → ℕ → Call → ℕ → Object → Object
 changed_at n t (Call.Act act) h o = acted n t act h o
@@ -228,13 +258,11 @@ settled_at _ h o = o
 
 settled_object : (call : Call) (s : State) (h : ℕ) → object_at (after_serving call s).objects h ≡ settled_at call h (object_at s.objects h)
 settled_object (Call.Act (Act.PulseEvent g)) s h = with_object_at s.objects g h (with_set false) refl
-settled_object (Call.Act act) s h = refl
-settled_object (Call.Wait wait) s h = refl
+settled_object _ s h = refl
 
 settled_waits : (call : Call) (s : State) → (after_serving call s).waits ≡ s.waits
 settled_waits (Call.Act (Act.PulseEvent g)) s = refl
-settled_waits (Call.Act act) s = refl
-settled_waits (Call.Wait wait) s = refl
+settled_waits _ s = refl
 
 -- ---- a wait that begins
 
@@ -301,10 +329,10 @@ pub record InCall (h : ℕ) (old : State) (who : ℕ) (call : Call) (reply : Rep
   pub told : takers h (turn_took old (Calls who call (Ok reply) grants)) ≡ first ++ last
 
 ends_at : (h : ℕ) (old woken new : State) (who : ℕ) (call : Call) (reply : Reply) → refusal old who call ≡ None → (reply, new) ≡ answered old woken who call → TakenBy (object_at woken.objects h) (takers h (call_took old.now who call reply)) (object_at new.objects h)
-ends_at h old woken new who (Call.Act act) reply none is = ap (λ p. object_at p.1.objects h) is
 ends_at h old woken new who (Call.Wait wait) reply none is =
     subst (λ ks. TakenBy (object_at woken.objects h) (takers h ks) (object_at new.objects h)) (same_handles who woken.now old.now wait reply)
     (begun_taken woken who (wait_of woken.now wait) (timeout_of wait) h reply new (fair_call old who wait woken.now none) is)
+ends_at h old woken new who _ reply none is = ap (λ p. object_at p.1.objects h) is
 
 pub in_call : (h : ℕ) (old : State) (who : ℕ) (call : Call) (reply : Reply) (grants : List Grant) (new : State) → AreFair old.waits → refusal old who call ≡ None → Step old who call reply grants new → InCall h old who call reply grants new
 in_call h old who call reply grants new fair none step =
@@ -343,8 +371,8 @@ call_fair old who call reply grants new fair none step =
     own call step.woken none (fair_within step.woken.waits old.waits woken fair) step.answers
   where
     own : (call : Call) (woken : State) → refusal old who call ≡ None → AreFair woken.waits → (reply, new) ≡ answered old woken who call → AreFair new.waits
-    own (Call.Act act) woken none all is = subst (λ (s : State). AreFair s.waits) (sym (ap (λ p. p.1) is)) all
     own (Call.Wait wait) woken none all is = begun_fair woken who (wait_of woken.now wait) (timeout_of wait) reply new (fair_call old who wait woken.now none) all is
+    own _ woken none all is = subst (λ (s : State). AreFair s.waits) (sym (ap (λ p. p.1) is)) all
 
 -- ---- a tick
 
