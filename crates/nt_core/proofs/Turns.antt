@@ -196,6 +196,21 @@ act_object s t Act.NextApc h none plain = go (may_take s t)
     go true = refl
     go false = refl
 
+expired_waits : (v : ℕ) (s : State) (timer : ℕ) → (expired v s timer).waits ≡ s.waits
+expired_waits v s timer = go (setting_of (object_at s.objects timer))
+  where
+    go : (o : Option Armed) → (expired_as s v timer o).waits ≡ s.waits
+    go None = refl
+    go (Some armed) = refl
+
+-- a timer that is set changes no waits yet
+pub timer_set_waits : (s : State) (timer : ℕ) (armed : Armed) → (timer_set s timer armed).waits ≡ s.waits
+timer_set_waits s timer armed = go (nat_le armed.due s.now)
+  where
+    go : (b : Bool) → (cond b (expired s.now (armed_anew s timer armed) timer) (armed_anew s timer armed)).waits ≡ s.waits
+    go true = expired_waits s.now (armed_anew s timer armed) timer
+    go false = refl
+
 act_waits : (s : State) (t : ℕ) (act : Act) → (act_change s t act).waits ≡ s.waits
 act_waits s t Act.NextApc = go (may_take s t)
   where
@@ -396,11 +411,7 @@ all_expired_object v s (timer ∷ timers) h plain =
 
 all_expired_waits : (v : ℕ) (s : State) (timers : List ℕ) → (all_expired v s timers).waits ≡ s.waits
 all_expired_waits v s [] = refl
-all_expired_waits v s (timer ∷ timers) = all_expired_waits v (expired v s timer) timers ∙ go (setting_of (object_at s.objects timer))
-  where
-    go : (o : Option Armed) → (expired_as s v timer o).waits ≡ s.waits
-    go None = refl
-    go (Some armed) = refl
+all_expired_waits v s (timer ∷ timers) = all_expired_waits v (expired v s timer) timers ∙ expired_waits v s timer
 
 moment_within : (old : State) (m u : ℕ) (grants : List Grant) (new : State) (waits : Pending) → MomentPasses old m u grants new → IsWithin old.waits waits → IsWithin new.waits waits
 moment_within old m u grants new waits passes within =
