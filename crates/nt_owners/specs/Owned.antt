@@ -1,0 +1,43 @@
+-- What callers see of `Owners`.
+use Rattle.std.specs.Prelude.{◌≡◌, ◌⊎◌, ℕ, ◌==◌, List, [], ◌∷◌, if◌then◌else◌, slice_index_or, slice_set}
+
+-- for each thread the mutexes that it owns, the one that came last first; each mutex below `room` may come to a list
+pub record Owned : Type 0 where
+  pub lists : List (List ℕ)
+  pub room : ℕ
+
+-- the mutexes that a thread owns
+abbrev pub list_of : List (List ℕ) → ℕ → List ℕ
+list_of lists thread = slice_index_or lists thread []
+
+-- the mutex stands in the list
+abbrev pub IsMember : List ℕ → ℕ → Type 0
+IsMember [] mutex = ⊥
+IsMember (first ∷ list) mutex = (first ≡ mutex) ⊎ IsMember list mutex
+
+-- no mutex stands twice
+abbrev pub AreOnce : List ℕ → Type 0
+AreOnce [] = Unit {0}
+AreOnce (first ∷ list) = (IsMember list first → ⊥) × AreOnce list
+
+-- the mutex stands in no thread's list
+abbrev pub IsUnowned : List (List ℕ) → ℕ → Type 0
+IsUnowned lists mutex = (thread : ℕ) → IsMember (list_of lists thread) mutex → ⊥
+
+-- the list without this mutex, in the same order
+abbrev pub without : ℕ → List ℕ → List ℕ
+without mutex [] = []
+without mutex (first ∷ list) = if first == mutex then list else first ∷ without mutex list
+
+-- the list without its first mutex
+abbrev pub behind : List ℕ → List ℕ
+behind [] = []
+behind (first ∷ list) = list
+
+-- the thread owns this mutex too, and it comes first
+abbrev pub added : List (List ℕ) → ℕ → ℕ → List (List ℕ)
+added lists thread mutex = slice_set lists thread (mutex ∷ list_of lists thread)
+
+-- the thread owns this mutex no more
+abbrev pub removed : List (List ℕ) → ℕ → ℕ → List (List ℕ)
+removed lists thread mutex = slice_set lists thread (without mutex (list_of lists thread))

@@ -1,0 +1,115 @@
+//! The links of mutexes, and the changes of one list.
+ghost use Rattle.std.specs.Prelude.{◌≡◌, ℕ, ◌<◌, ◌≤◌, ◌∷◌, None, IfOk, length, replicate, slice_set, vec_len, vec_capacity};
+ghost use Rattle.std.specs.Option.{ForSome};
+ghost use Rattle.nt_owners.specs.Owned.{IsMember, without};
+ghost use Rattle.nt_owners.specs.Links.{link_at, first_at, with_first, with_next, with_previous, list_in, lists_in, IsSound};
+
+use nt_status::{Handle, ThreadId};
+use std::alloc::{AllocError, Global};
+
+/// Which mutexes stand beside one in its owner's list.
+#[derive(Clone, Copy)]
+pub struct Link {
+    pub previous: Option<Handle>,
+    pub next: Option<Handle>,
+}
+
+/// No first mutex for each of so many threads.
+pub fn no_firsts(alloc: Global, threads: usize) -> Result<Vec<Option<Handle>>, AllocError>
+    ensures { IfOk result (λ firsts. firsts.items ≡ replicate threads None) }
+{
+    vec![in alloc; None; threads]
+}
+
+/// The first mutex of the thread.
+pub fn first_of(firsts: &[Option<Handle>], thread: ThreadId) -> Option<Handle>
+    ensures { result ≡ first_at firsts.now thread }
+{
+    match firsts.get(thread.get() as usize) {
+        Some(first) => *first,
+        None => None,
+    }
+}
+
+/// Makes `to` the mutex after `at` in the thread's list; with no `at` the first.
+fn set_next(
+    firsts: &mut [Option<Handle>],
+    links: &mut [Link],
+    thread: ThreadId,
+    at: Option<Handle>,
+    to: Option<Handle>,
+)
+    requires thread { thread < length firsts.old }
+    requires there { ForSome at (λ mutex. mutex < length links.old) }
+    ensures firsts { firsts.new ≡ with_first firsts.old thread at to }
+    ensures links { links.new ≡ with_next links.old at to }
+{
+    match at {
+        None => firsts[thread.get() as usize] = to,
+        Some(mutex) => {
+            let place = mutex.get() as usize;
+            links[place] = Link {
+                next: to,
+                ..links[place]
+            };
+        }
+    }
+}
+
+/// Makes `to` the mutex before `at`.
+fn set_previous(links: &mut [Link], at: Option<Handle>, to: Option<Handle>)
+    requires there { ForSome at (λ mutex. mutex < length links.old) }
+    ensures { links.new ≡ with_previous links.old at to }
+{
+    if let Some(mutex) = at {
+        let place = mutex.get() as usize;
+        links[place] = Link {
+            previous: to,
+            ..links[place]
+        };
+    }
+}
+
+/// Puts a mutex that is in no list into the thread's list, first.
+pub fn enter(firsts: &mut [Option<Handle>], links: &mut [Link], thread: ThreadId, mutex: Handle)
+    requires sound { IsSound firsts.old links.old }
+    requires thread { thread < length firsts.old }
+    requires room { mutex < length links.old }
+    requires unowned { (t : ℕ) → IsMember (list_in firsts.old links.old t) mutex → ⊥ }
+    ensures sound { IsSound firsts.new links.new }
+    ensures lists { lists_in firsts.new links.new ≡ slice_set (lists_in firsts.old links.old) thread (mutex ∷ list_in firsts.old links.old thread) }
+{
+    links[mutex.get() as usize] = Link {
+        previous: None,
+        next: first_of(firsts, thread),
+    };
+    set_previous(links, first_of(firsts, thread), Some(mutex));
+    set_next(firsts, links, thread, None, Some(mutex));
+}
+
+/// Takes a mutex out of the thread's list.
+pub fn leave(firsts: &mut [Option<Handle>], links: &mut [Link], thread: ThreadId, mutex: Handle)
+    requires sound { IsSound firsts.old links.old }
+    requires owned { IsMember (list_in firsts.old links.old thread) mutex }
+    ensures sound { IsSound firsts.new links.new }
+    ensures lists { lists_in firsts.new links.new ≡ slice_set (lists_in firsts.old links.old) thread (without mutex (list_in firsts.old links.old thread)) }
+{
+    let link = links[mutex.get() as usize];
+    set_next(firsts, links, thread, link.previous, link.next);
+    set_previous(links, link.next, link.previous);
+}
+
+/// Makes links, of mutexes that stand alone, for each handle below `count`.
+pub fn add_links(links: &mut Vec<Link>, count: usize)
+    requires { count ≤ vec_capacity links.old }
+    ensures there { count ≤ vec_len links.new }
+    ensures longer { vec_len links.old ≤ vec_len links.new }
+    ensures kept { (m : ℕ) → link_at links.new.items m ≡ link_at links.old.items m }
+{
+    while links.len() < count {
+        links.push_reserved(Link {
+            previous: None,
+            next: None,
+        });
+    }
+}
