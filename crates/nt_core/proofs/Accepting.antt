@@ -172,7 +172,6 @@ opening_lawful d few objects waits agrees hands inboxes grants alarms = record {
       placed = λ h t is. nobody_set t (sym (ap setter_of (running h)) ∙ is);
       runs = λ h t is. nobody_set t (sym (ap setter_of (running h)) ∙ is);
     };
-    unarmed = λ h. ap due_of (running h);
     handles = let len : length d.objects ≡ d.threads = ap (λ os. length os) objects ∙ length-replicate d.threads (Thread false) in omega (arith, len, few);
     room = let none : length d.grants ≡ 0 = ap (λ gs. length gs) grants in let empty : fin.len d.table.pending ≡ 0 = ap (λ m. fin.len m) waits ∙ fin.len-empty nat_cmp Wait in omega (arith, none, empty);
   };
@@ -219,7 +218,6 @@ told_anew d table lawful is = subst (λ (v : Waits). IsFresh (record d { table =
       none_else = lawful.sound.none_else;
       timers = lawful.sound.timers;
       handles = lawful.sound.handles;
-      unarmed = lawful.sound.unarmed;
       room = let room = lawful.sound.room in omega (arith, room);
     };
     settled = lawful.settled;

@@ -51,7 +51,6 @@ ended_sound old table t code may w grants sound has waits agrees pushed =
       none_else = sound.none_else;
       timers = sound.timers;
       handles = sound.handles;
-      unarmed = sound.unarmed;
       room = omega (arith, sound.room, longer, fewer, same);
     }
 
@@ -134,6 +133,23 @@ calm_quiet s t a some quiet alone u alerted =
     some_same : (v w : Wait) → Some v ≡ Some w → v ≡ w
     some_same v w h = (cc)
 
+-- the same of one thread alone
+pub idle_here : (s : State) (t : ℕ) → None ≡ option_map about_of (fin.get s.waits t) → IsAlerted s t → ⊥
+idle_here s t none alerted = let idle = about_none (fin.get s.waits t) (sym none) in waits_not alerted.0 (sym idle ∙ alerted.1)
+  where
+    waits_not : (v : Wait) → None ≡ Some v → ⊥
+    waits_not v h = (cc)
+
+pub quiet_here : (s : State) (t : ℕ) (a : About) → Some a ≡ option_map about_of (fin.get s.waits t) → (a.alertable && has_apc s.apcs t) ≡ false → IsAlerted s t → ⊥
+quiet_here s t a some quiet alerted =
+    let own = about_some (fin.get s.waits t) a (sym some) in
+    let both : Some own.0 ≡ Some alerted.0 = sym own.1 ∙ alerted.1 in
+    let same : own.0 ≡ alerted.0 = some_same own.0 alerted.0 both in
+    false≢true (sym quiet ∙ (ap (λ b. b && has_apc s.apcs t) (sym own.2) ∙ (ap (λ (x : Wait). x.alertable && has_apc s.apcs t) same ∙ alerted.2)))
+  where
+    some_same : (v w : Wait) → Some v ≡ Some w → v ≡ w
+    some_same v w h = (cc)
+
 pub alerted_here : (s : State) (t : ℕ) (a : About) → Some a ≡ option_map about_of (fin.get s.waits t) → (a.alertable && has_apc s.apcs t) ≡ true → IsAlerted s t
 alerted_here s t a some test =
     let own = about_some (fin.get s.waits t) a (sym some) in
@@ -193,7 +209,7 @@ no_objects (t ∷ ts) = no_objects ts
 
 -- ---- an APC is queued
 
-has_pushed_other : (qs : List (List Queued)) (t u : ℕ) (q : Queued) → u ≢ t → has_apc (pushed qs t q) u ≡ has_apc qs u
+pub has_pushed_other : (qs : List (List Queued)) (t u : ℕ) (q : Queued) → u ≢ t → has_apc (pushed qs t q) u ≡ has_apc qs u
 has_pushed_other qs t u q differs = ap (λ (xs : List Queued). list_any (λ _. true) xs) (get_or-set_other qs t u (inbox_of qs t ++ q ∷ []) [] differs)
 
 -- only the thread that it was queued to may have to be alerted
@@ -215,7 +231,6 @@ posted_sound d t q sound = record {
   none_else = sound.none_else;
   timers = sound.timers;
   handles = sound.handles;
-  unarmed = sound.unarmed;
   room = sound.room;
 }
 
@@ -273,7 +288,6 @@ taken_lawful d t lawful idle = record {
     none_else = lawful.sound.none_else;
     timers = lawful.sound.timers;
     handles = lawful.sound.handles;
-    unarmed = lawful.sound.unarmed;
     room = lawful.sound.room;
   };
   settled = record {

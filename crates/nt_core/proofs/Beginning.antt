@@ -92,7 +92,6 @@ sound_begun old table t w sound able idle room pending agrees = record {
   none_else = sound.none_else;
   timers = sound.timers;
   handles = sound.handles;
-  unarmed = sound.unarmed;
   room = let more = len_inserted old.table.pending t w idle in let same : fin.len table.pending ≡ fin.len (fin.insert old.table.pending t w) = ap (λ m. fin.len m) pending in omega (arith, room, more, same);
 }
   where
@@ -229,7 +228,6 @@ began_taken old objects t code w lawful able idle tried =
         none_else = λ h beyond known. well.threads h ∙ sound.none_else h beyond (subst (λ (n : ℕ). h < n) well.length known);
         timers = taken_timers old.threads old.objects objects old.alarms old.apcs.places t sound.timers well;
         handles = let most = sound.handles in let len = well.length in omega (arith, most, len);
-        unarmed = λ h. well.due h ∙ sound.unarmed h;
         room = sound.room;
       };
       settled = record {
@@ -253,7 +251,6 @@ handed_lawful old t may lawful = record {
     none_else = lawful.sound.none_else;
     timers = lawful.sound.timers;
     handles = lawful.sound.handles;
-    unarmed = lawful.sound.unarmed;
     room = lawful.sound.room;
   };
   settled = record {

@@ -208,7 +208,6 @@ sound_replaced d h o sound may = record {
   none_else = λ k beyond known. reading_set is_thread d.objects h o may.thread k ∙ sound.none_else k beyond (subst (λ (n : ℕ). k < n) (length-set d.objects h o) known);
   timers = timers_kept d.threads d.objects (set d.objects h o) d.alarms d.apcs.places sound.timers (length-set d.objects h o) (reading_set due_of d.objects h o may.due) (reading_set setter_of d.objects h o may.setter) (reading_set has_ended d.objects h o may.ended);
   handles = let most = sound.handles in let len = length-set d.objects h o in omega (arith, most, len);
-  unarmed = λ k. reading_set due_of d.objects h o may.due k ∙ sound.unarmed k;
   room = sound.room;
 }
 
@@ -265,7 +264,6 @@ sound_created d o sound room lawful no_thread due = record {
         (own.0, ap has_ended (object_at-append d.objects (o ∷ []) t (sound.own t own.0).0) ∙ own.1);
   };
   handles = let len = length-append d.objects (o ∷ []) in grind (arith, nat_tests, room, len);
-  unarmed = λ h. reading_created due_of d.objects o due h ∙ sound.unarmed h;
   own = λ t below.
       let before = sound.own t below in (
         let longer = length-append d.objects (o ∷ []) in omega (arith, longer, before.0),

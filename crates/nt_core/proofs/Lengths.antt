@@ -1,7 +1,7 @@
 -- How many objects there are: only creations change it.
 use Rattle.std.proofs.Common.{◌≡◌, ◌≤◌, ℕ, Bool, true, false, cond, ◌&&◌, List, [], ◌∷◌, length, refl, ap, ◌∙◌, arith}
 use Rattle.std.proofs.lemmas.List.{length-set}
-use Rattle.std.specs.Prelude.{slice_index, ◌==◌}
+use Rattle.std.specs.Prelude.{nat_le, slice_index, ◌==◌}
 use Rattle.nt_waits.specs.declared.wait.Wait.{Wait}
 use Rattle.nt_objects.specs.declared.object.Object.{Object}
 use Rattle.nt_objects.specs.Object.{taken, with_set, armed_with, setting_of, rearmed}
@@ -16,7 +16,7 @@ use Rattle.nt_core.specs.State.{State, object_at, with_handing, pending_too}
 use Rattle.nt_core.specs.Dispatcher.{Dispatcher, state}
 use Rattle.nt_core.specs.Serving.{fits, status, least, take_at, take_each, objects_taken, taken_by, granted, Grants, late_status, is_sleep}
 use Rattle.nt_core.specs.declared.call.WaitCall.{WaitCall}
-use Rattle.nt_core.specs.Change.{change, wait_change, signal, may_take, apc_taken, expired_as, expired, all_expired}
+use Rattle.nt_core.specs.Change.{change, wait_change, signal, may_take, apc_taken, armed_anew, timer_set, expired_as, expired, all_expired}
 use Rattle.nt_core.specs.Steps.{begun, wait_of, after_serving, answered, Step, MomentPasses, MomentsPass, Ticked}
 use Rattle.std.specs.Prelude.{Option, Some, None, Result, Ok, Err, IfOk, OnErr}
 use Rattle.nt_status.specs.declared.refusal.Refusal.{Refusal}
@@ -93,7 +93,7 @@ pub length_expired : (s : State) (v : ℕ) (timers : List ℕ) → length (all_e
 length_expired s v [] = refl
 length_expired s v (timer ∷ timers) = length_expired (expired v s timer) v timers ∙ length_expired_as s v timer (setting_of (object_at s.objects timer))
 
-length_passed : (old new : State) (m u : ℕ) (grants : List Grant) → MomentPasses old m u grants new → length new.objects ≡ length old.objects
+pub length_passed : (old new : State) (m u : ℕ) (grants : List Grant) → MomentPasses old m u grants new → length new.objects ≡ length old.objects
 length_passed old new m u grants passes =
     ap (λ (s : State). length s.objects) passes.times_out.leaves
     ∙ (ap (λ os. length os) (over_objects passes.woken passes.times_out.threads false)
@@ -127,3 +127,13 @@ pub length_wait_change : (s : State) (wait : WaitCall) → length (wait_change s
 length_wait_change s (WaitCall.Objects handles all ms alertable) = refl
 length_wait_change s (WaitCall.Sleep ms alertable) = refl
 length_wait_change s (WaitCall.Swap h object ms alertable) = length-set s.objects h (signal (object_at s.objects h))
+
+pub length_timer_set : (s : State) (h : ℕ) (armed : Armed) → length (timer_set s h armed).objects ≡ length s.objects
+length_timer_set s h armed = go (nat_le armed.due s.now)
+  where
+    anew : length (armed_anew s h armed).objects ≡ length s.objects
+    anew = length-set s.objects h (armed_with (Some armed) (with_set false (object_at s.objects h)))
+
+    go : (b : Bool) → length_in (cond b (expired s.now (armed_anew s h armed) h) (armed_anew s h armed)) ≡ length s.objects
+    go true = length_expired (armed_anew s h armed) s.now (h ∷ []) ∙ anew
+    go false = anew

@@ -21,3 +21,8 @@ mod Ticking
 mod Lengths
 mod Timing
 mod Swapping
+mod Arming
+mod Passing
+mod Rousing
+mod Moments
+mod Coming

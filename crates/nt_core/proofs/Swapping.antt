@@ -48,7 +48,6 @@ sound_prepared d prepared sound = record {
   none_else = sound.none_else;
   timers = sound.timers;
   handles = sound.handles;
-  unarmed = sound.unarmed;
   room = sound.room;
 }
 

@@ -9,24 +9,19 @@ use Rattle.nt_waits.specs.declared.wait.Wait.{Wait}
 use Rattle.nt_waits.specs.Waits.{IsMember}
 use Rattle.nt_waits.specs.Deadlines.{deadline_in, deadline_of, NoneEarlier, NoneWithDeadline, IsEarliestDeadline, IsFirstWithDeadline, NoDeadline}
 use Rattle.nt_core.specs.declared.call.Grant.{Grant}
-use Rattle.nt_core.specs.Rising.{IsRising, AreRising}
+use Rattle.nt_core.specs.Rising.{IsRising}
 use Rattle.nt_core.specs.State.{State, wait_over, waits_over}
 use Rattle.nt_core.specs.Dispatcher.{Dispatcher, state}
-use Rattle.nt_core.specs.Serving.{IsServed, IsLate, ending, late_status, sleeps}
-use Rattle.nt_core.specs.Steps.{IsAwaited, IsNextMoment, NothingDue, MomentPasses, MomentsPass, Ticked}
-use Rattle.nt_core.specs.Lawful.{IsSound, IsLawful}
-use Rattle.nt_core.specs.Accepts.{IsTimedOutAfter, IsFresh}
+use Rattle.nt_core.specs.Serving.{IsLate, ending, late_status, sleeps}
+use Rattle.nt_core.specs.Steps.{IsAwaited, IsNextMoment, NothingDue, MomentPasses, MomentsPass}
+use Rattle.nt_core.specs.Lawful.{IsSound}
+use Rattle.nt_core.specs.Accepts.{IsTimedOutAfter}
+use Rattle.std.specs.Prelude.{MatchOption, if◌then◌else◌}
+use Rattle.nt_alarms.specs.Alarms.{alarm_at, IsQuiet, IsEarliest}
+use Rattle.nt_core.specs.Due.{earlier}
 use Rattle.nt_core.proofs.Visiting.{len_removed}
 use Rattle.nt_core.proofs.Walks.{get_other}
-use Rattle.nt_core.proofs.Accepting.{IsCalm, no_alert}
-use Rattle.nt_core.proofs.Alerting.{over_pending, over_objects, over_apcs}
-use Rattle.std.specs.Prelude.{Ok}
-use Rattle.std.proofs.Common.{◌&&◌}
-use Rattle.nt_apc.specs.declared.apc.Queued.{Queued}
-use Rattle.nt_apc.specs.Queues.{has_apc}
-use Rattle.nt_core.specs.declared.call.Reply.{Reply}
-use Rattle.nt_core.specs.Serving.{satisfied}
-use Rattle.nt_core.specs.Change.{IsTimerDue}
+use Rattle.nt_core.proofs.Alerting.{over_pending}
 
 -- ---- deadlines in the map
 
@@ -40,37 +35,64 @@ late_of s u t has = go (fin.get s.waits t) refl has
 pub deadline_late : (s : State) (u t : ℕ) → IsLate s u t → deadline_of s.waits t ≡ Some u
 deadline_late s u t late = ap deadline_in late.1 ∙ late.2
 
--- what is awaited is a deadline, where no timer is armed
-pub awaited_late : (d : Dispatcher) (v : ℕ) → IsSound d → IsAwaited (state d) v → (t : ℕ) × IsLate (state d) v t
-awaited_late d v sound (inl timer) = no_timer (sym (sound.unarmed timer.0) ∙ timer.1)
-  where
-    no_timer : {P : Type 0} → None ≡ Some v → P
-    no_timer h = (cc)
-awaited_late d v sound (inr late) = (late.0, (late.1, late.2, late.3))
+-- what is awaited is the alarm of a timer or a deadline
+pub awaited_alarm : (d : Dispatcher) (v : ℕ) → IsSound d → IsAwaited (state d) v → ((h : ℕ) × (alarm_at d.alarms h ≡ Some v)) ⊎ ((t : ℕ) × (deadline_of d.table.pending t ≡ Some v))
+awaited_alarm d v sound (inl timer) = inl (timer.0, sound.timers.alarm timer.0 ∙ timer.1)
+awaited_alarm d v sound (inr late) = inr (late.0, deadline_late (state d) v late.0 (late.1, late.2, late.3))
 
-pub next_deadline : (d : Dispatcher) (m u : ℕ) → IsSound d → IsEarliestDeadline d.table.pending u → u ≤ m → IsNextMoment (state d) m u
-next_deadline d m u sound earliest le =
-    let late = late_of (state d) u (earliest.has).0 (earliest.has).1 in (
-      inr ((earliest.has).0, late.0, late.1, late.2),
-      le,
-      λ v awaited.
-          let own = awaited_late d v sound awaited in
-          earliest.least own.0 v (deadline_late (state d) v own.0 own.1),
+-- the next of the alarms and deadlines: none, or one that is awaited and none before it
+abbrev pub IsNext : Dispatcher → Option ℕ → Type 0
+IsNext d next = MatchOption next ((v : ℕ) → IsAwaited (state d) v → ⊥) (λ u. IsAwaited (state d) u × ((v : ℕ) → IsAwaited (state d) v → u ≤ v))
+
+pub next_of : (d : Dispatcher) (due deadline : Option ℕ) → IsSound d → MatchOption due (IsQuiet d.alarms) (λ u. IsEarliest d.alarms u) → MatchOption deadline (NoDeadline d.table.pending) (λ u. IsEarliestDeadline d.table.pending u) → IsNext d (earlier due deadline)
+next_of d None None sound quiet none = λ v awaited. elim (awaited_alarm d v sound awaited) [
+  | inl timer ↦ absurd_none v (sym (quiet timer.0) ∙ timer.1)
+  | inr late ↦ absurd_none v (sym (none late.0) ∙ late.1)
+]
+  where
+    absurd_none : {P : Type 0} (v : ℕ) → None ≡ Some v → P
+    absurd_none v h = (cc)
+next_of d None (Some u) sound quiet first =
+    let late = late_of (state d) u (first.has).0 (first.has).1 in (
+      inr ((first.has).0, late.0, late.1, late.2),
+      λ v awaited. elim (awaited_alarm d v sound awaited) [
+        | inl timer ↦ absurd_none v (sym (quiet timer.0) ∙ timer.1)
+        | inr late ↦ first.least late.0 v late.1
+      ],
     )
-
-pub none_next : (d : Dispatcher) (m u : ℕ) → IsSound d → IsEarliestDeadline d.table.pending u → m < u → NothingDue (state d) m
-none_next d m u sound earliest lt v awaited =
-    let own = awaited_late d v sound awaited in
-    let least = earliest.least own.0 v (deadline_late (state d) v own.0 own.1) in
-    omega (arith, least, lt)
-
-pub none_at_all : (d : Dispatcher) (m : ℕ) → IsSound d → NoDeadline d.table.pending → NothingDue (state d) m
-none_at_all d m sound none v awaited =
-    let own = awaited_late d v sound awaited in
-    no_deadline (sym (none own.0) ∙ deadline_late (state d) v own.0 own.1)
   where
-    no_deadline : {P : Type 0} → None ≡ Some v → P
-    no_deadline h = (cc)
+    absurd_none : {P : Type 0} (v : ℕ) → None ≡ Some v → P
+    absurd_none v h = (cc)
+next_of d (Some u) None sound first none = (
+  inl ((first.set).0, sym (sound.timers.alarm (first.set).0) ∙ (first.set).1),
+  λ v awaited. elim (awaited_alarm d v sound awaited) [
+    | inl timer ↦ first.least timer.0 v timer.1
+    | inr late ↦ absurd_none v (sym (none late.0) ∙ late.1)
+  ],
+)
+  where
+    absurd_none : {P : Type 0} (v : ℕ) → None ≡ Some v → P
+    absurd_none v h = (cc)
+next_of d (Some a) (Some b) sound first second = go (nat_le a b) refl
+  where
+    go : (c : Bool) → nat_le a b ≡ c → IsNext d (if c then Some a else Some b)
+    go true is =
+        let le : a ≤ b = grind (arith, nat_tests, is) in (
+          inl ((first.set).0, sym (sound.timers.alarm (first.set).0) ∙ (first.set).1),
+          λ v awaited. elim (awaited_alarm d v sound awaited) [
+            | inl timer ↦ first.least timer.0 v timer.1
+            | inr late ↦ let least = second.least late.0 v late.1 in omega (arith, le, least)
+          ],
+        )
+    go false is =
+        let lt : b < a = grind (arith, nat_tests, is) in
+        let late = late_of (state d) b (second.has).0 (second.has).1 in (
+          inr ((second.has).0, late.0, late.1, late.2),
+          λ v awaited. elim (awaited_alarm d v sound awaited) [
+            | inl timer ↦ let least = first.least timer.0 v timer.1 in omega (arith, lt, least)
+            | inr late ↦ second.least late.0 v late.1
+          ],
+        )
 
 -- ---- the waits with one deadline, one after another
 
@@ -99,7 +121,7 @@ late_none d u sound = record {
   sound = sound;
 }
 
-member_append : (xs : List ℕ) (t x : ℕ) → IsMember (xs ++ t ∷ []) x → IsMember xs x ⊎ (t ≡ x)
+pub member_append : (xs : List ℕ) (t x : ℕ) → IsMember (xs ++ t ∷ []) x → IsMember xs x ⊎ (t ≡ x)
 member_append [] t x (inl same) = inr same
 member_append [] t x (inr m) = absurd m
 member_append (y ∷ xs) t x (inl same) = inl (inl same)
@@ -108,7 +130,7 @@ member_append (y ∷ xs) t x (inr m) = elim (member_append xs t x m) [
   | inr last ↦ inr last
 ]
 
-rising_append : (xs : List ℕ) (t : ℕ) → IsRising xs → ((y : ℕ) → IsMember xs y → y < t) → IsRising (xs ++ t ∷ [])
+pub rising_append : (xs : List ℕ) (t : ℕ) → IsRising xs → ((y : ℕ) → IsMember xs y → y < t) → IsRising (xs ++ t ∷ [])
 rising_append [] t rising below = (λ y m. absurd m, tt)
 rising_append (x ∷ xs) t rising below = (λ y m. after y (member_append xs t y m), rising_append xs t rising.1 (λ y m. below y (inr m)))
   where
@@ -116,11 +138,11 @@ rising_append (x ∷ xs) t rising below = (λ y m. after y (member_append xs t y
     after y (inl m) = rising.0 y m
     after y (inr same) = subst (λ (k : ℕ). x < k) same (below x (inl refl))
 
-over_append : (s : State) (ts : List ℕ) (t : ℕ) (may : Bool) → waits_over s (ts ++ t ∷ []) may ≡ wait_over (waits_over s ts may) t may
+pub over_append : (s : State) (ts : List ℕ) (t : ℕ) (may : Bool) → waits_over s (ts ++ t ∷ []) may ≡ wait_over (waits_over s ts may) t may
 over_append s [] t may = refl
 over_append s (x ∷ ts) t may = over_append (wait_over s x may) ts t may
 
-map_append : (f : ℕ → Grant) (xs : List ℕ) (t : ℕ) → map f (xs ++ t ∷ []) ≡ map f xs ++ f t ∷ []
+pub map_append : (f : ℕ → Grant) (xs : List ℕ) (t : ℕ) → map f (xs ++ t ∷ []) ≡ map f xs ++ f t ∷ []
 map_append f [] t = refl
 map_append f (x ∷ xs) t = ap (λ ys. f x ∷ ys) (map_append f xs t)
 
@@ -166,7 +188,7 @@ late_next old now new u t far first over grants looked sound =
         go false gt = let below : x < t = grind (arith, nat_tests, gt) in absurd (is.none_below x below has)
 
 -- who waits no more had timed out
-gone_member : (s : State) (ts : List ℕ) (may : Bool) (x : ℕ) (v : Wait) → fin.get s.waits x ≡ Some v → fin.get (waits_over s ts may).waits x ≡ None → IsMember ts x
+pub gone_member : (s : State) (ts : List ℕ) (may : Bool) (x : ℕ) (v : Wait) → fin.get s.waits x ≡ Some v → fin.get (waits_over s ts may).waits x ≡ None → IsMember ts x
 gone_member s [] may x v has none = let h : Some v ≡ None = sym has ∙ none in absurd_some h
   where
     absurd_some : {P : Type 0} → Some v ≡ None → P
@@ -220,95 +242,12 @@ Passed old m [] grants new = (grants ≡ []) × (new ≡ old)
 Passed old m (u ∷ us) grants new =
     (here later : List Grant) × (mid : State) × IsNextMoment old m u × MomentPasses old m u here mid × Passed mid m us later new × (grants ≡ here ++ later)
 
-Passed-then : (us : List ℕ) (old mid new : State) (m u : ℕ) (gs here : List Grant) → Passed old m us gs mid → IsNextMoment mid m u → MomentPasses mid m u here new → Passed old m (us ++ u ∷ []) (gs ++ here) new
+pub Passed-then : (us : List ℕ) (old mid new : State) (m u : ℕ) (gs here : List Grant) → Passed old m us gs mid → IsNextMoment mid m u → MomentPasses mid m u here new → Passed old m (us ++ u ∷ []) (gs ++ here) new
 Passed-then [] old mid new m u gs here far next passes =
     (here, [], new, subst (λ (s : State). IsNextMoment s m u) far.1 next, subst (λ (s : State). MomentPasses s m u here new) far.1 passes, (refl, refl), ap (λ xs. xs ++ here) far.0 ∙ sym (append-nil here))
 Passed-then (v ∷ us) old mid new m u gs here far next passes =
     (far.0, far.1 ++ here, far.2, far.3, far.4, Passed-then us far.2 mid new m u far.1 here far.5 next passes, ap (λ xs. xs ++ here) far.6 ∙ append_assoc far.0 far.1 here)
 
-Passed-end : (us : List ℕ) (old mid : State) (m : ℕ) (gs : List Grant) → Passed old m us gs mid → NothingDue mid m → MomentsPass old m us gs (record mid { now = m })
+pub Passed-end : (us : List ℕ) (old mid : State) (m : ℕ) (gs : List Grant) → Passed old m us gs mid → NothingDue mid m → MomentsPass old m us gs (record mid { now = m })
 Passed-end [] old mid m gs far none = (subst (λ (s : State). NothingDue s m) far.1 none, far.0, ap (λ (s : State). record s { now = m }) far.1)
 Passed-end (u ∷ us) old mid m gs far none = (far.0, far.1, far.2, far.3, far.4, Passed-end us far.2 mid m far.1 far.5 none, far.6)
-
--- the tick from `old` to m has come to `now`
-pub record TickSoFar (old now : Dispatcher) (m : ℕ) : Type 0 where
-  pub moments : List ℕ
-  pub passed : Passed (state old) m moments now.grants (state now)
-  pub sound : IsSound now
-  pub served : IsServed (state now)
-  pub calm : IsCalm (state now)
-  pub looked : now.table.looked ≡ 0
-
-pub tick_first : (d : Dispatcher) (m : ℕ) → IsFresh d → TickSoFar d d m
-tick_first d m fresh = record {
-  moments = [];
-  passed = (fresh.no_grants, refl);
-  sound = fresh.lawful.sound;
-  served = fresh.lawful.settled.served;
-  calm = fresh.lawful.settled.alerted;
-  looked = fresh.untested;
-}
-
--- no timer is due where none is armed
-no_timers : (d : Dispatcher) (u : ℕ) → IsSound d → AreRising (IsTimerDue (state d) u) []
-no_timers d u sound = record { rising = tt; exactly = λ h. (λ m. absurd m, λ due. unarmed (sym (sound.unarmed h) ∙ due)) }
-  where
-    unarmed : None ≡ Some u → ⊥
-    unarmed h = (cc)
-
-pub tick_next : (old now new : Dispatcher) (m u : ℕ) → TickSoFar old now m → IsNextMoment (state now) m u → IsTimedOutAfter now u new → IsSound new → TickSoFar old new m
-tick_next old now new m u far next timed sound = record {
-  moments = far.moments ++ u ∷ [];
-  passed = subst (λ (gs : List Grant). Passed (state old) m (far.moments ++ u ∷ []) gs (state new)) (sym timed.grants)
-      (Passed-then far.moments (state old) (state now) (state new) m u now.grants timed.ended far.passed next (record {
-        timers = [];
-        served = [];
-        calm = state now;
-        alerted = [];
-        woken = state now;
-        timed = timed.ended;
-        due = no_timers now u far.sound;
-        serves = (refl, far.served);
-        alerts = no_alert (state now) (state now) refl far.calm;
-        times_out = timed.timed;
-        in_order = refl;
-      }));
-  sound = sound;
-  served = subst IsServed (sym timed.timed.leaves) (λ x. unfit x (fin.get over.waits x) refl);
-  calm = subst IsCalm (sym timed.timed.leaves) (λ x alerted.
-      let before = over_pending (state now) timed.timed.threads false x alerted.0 alerted.1 in
-      far.calm x (alerted.0, before.0, subst (λ (qs : List (List Queued)). ((alerted.0).alertable && has_apc qs x) ≡ true) (over_apcs (state now) timed.timed.threads false) alerted.2));
-  looked = timed.looked ∙ far.looked;
-}
-  where
-    over : State
-    over = waits_over (state now) timed.timed.threads false
-
-    unfit : (x : ℕ) (o : Option Wait) → fin.get over.waits x ≡ o → satisfied over.objects x o ≡ false
-    unfit x None e = refl
-    unfit x (Some w) e =
-        let before = over_pending (state now) timed.timed.threads false x w e in
-        ap (λ os. satisfied os x (Some w)) (over_objects (state now) timed.timed.threads false) ∙ (ap (λ o. satisfied now.objects x o) (sym before.0) ∙ far.served x)
-
--- nothing up to m is due any more
-pub tick_end : (old now : Dispatcher) (m : ℕ) → old.now ≤ m → TickSoFar old now m → NothingDue (state now) m → Ticked (state old) m (Ok Reply.Done) now.grants (state (record now { now = m })) × IsLawful (record now { now = m })
-tick_end old now m forward far none = (
-  (forward, refl, (far.moments, Passed-end far.moments (state old) (state now) m now.grants far.passed none)),
-  record {
-    sound = record {
-      few = far.sound.few;
-      waits = far.sound.waits;
-      blocks = far.sound.blocks;
-      hands = far.sound.hands;
-      inboxes = far.sound.inboxes;
-      objects = far.sound.objects;
-      own = far.sound.own;
-      none_else = far.sound.none_else;
-      timers = far.sound.timers;
-      handles = far.sound.handles;
-      unarmed = far.sound.unarmed;
-      room = far.sound.room;
-    };
-    settled = record { served = far.served; alerted = far.calm; passed = none };
-  },
-)

@@ -70,13 +70,13 @@ withdrawn_twice timer (queue ∷ queues) =
     λ i. here i ∷ rest i
 
 -- who has an APC after it had one before
-has_withdrawn : (timer : ℕ) (queues : List (List Queued)) (t : ℕ) → has_apc (withdrawn queues timer) t ≡ true → has_apc queues t ≡ true
+pub has_withdrawn : (timer : ℕ) (queues : List (List Queued)) (t : ℕ) → has_apc (withdrawn queues timer) t ≡ true → has_apc queues t ≡ true
 has_withdrawn timer [] t has = has
 has_withdrawn timer ([] ∷ queues) zero has = has
 has_withdrawn timer ((q ∷ queue) ∷ queues) zero has = refl
 has_withdrawn timer (queue ∷ queues) (suc t) has = has_withdrawn timer queues t has
 
-length_withdrawn : (timer : ℕ) (queues : List (List Queued)) → length (withdrawn queues timer) ≡ length queues
+pub length_withdrawn : (timer : ℕ) (queues : List (List Queued)) → length (withdrawn queues timer) ≡ length queues
 length_withdrawn timer [] = refl
 length_withdrawn timer (queue ∷ queues) = let rest = length_withdrawn timer queues in omega (arith, rest)
 
@@ -133,8 +133,8 @@ IsPlaced d places h o = (t : ℕ) → setter_of o ≡ Some t → (place_of place
 abbrev pub retimed : Dispatcher → ℕ → Object → Apcs → Dispatcher
 retimed d h o apcs = record d { objects = set d.objects h o; alarms = set d.alarms h (due_of o); apcs = apcs }
 
-pub retimed_sound : (d : Dispatcher) (h : ℕ) (o : Object) (apcs : Apcs) → IsSound d → is_timer (object_at d.objects h) ≡ true → is_timer o ≡ true → length apcs.queues ≡ length d.apcs.queues → IsPlaced d apcs.places h o → ((m : ℕ) → m ≢ h → place_of apcs.places m ≡ place_of d.apcs.places m) → due_of o ≡ None → IsSound (retimed d h o apcs)
-retimed_sound d h o apcs sound was is len placed others due = record {
+pub retimed_sound : (d : Dispatcher) (h : ℕ) (o : Object) (apcs : Apcs) → IsSound d → is_timer (object_at d.objects h) ≡ true → is_timer o ≡ true → length apcs.queues ≡ length d.apcs.queues → IsPlaced d apcs.places h o → ((m : ℕ) → m ≢ h → place_of apcs.places m ≡ place_of d.apcs.places m) → IsSound (retimed d h o apcs)
+retimed_sound d h o apcs sound was is len placed others = record {
   few = sound.few;
   waits = λ t w pends.
       let own = sound.waits t w pends in
@@ -158,14 +158,9 @@ retimed_sound d h o apcs sound was is len placed others due = record {
     runs = λ k t sets. let here = own k t sets in (here.1, ended t ∙ here.2);
   };
   handles = let most = sound.handles in let same = length-set d.objects h o in omega (arith, most, same);
-  unarmed = λ k. undue k (cases_eq k h);
   room = sound.room;
 }
   where
-    undue : (k : ℕ) → (k ≡ h) ⊎ (k ≢ h) → due_of (object_at (set d.objects h o) k) ≡ None
-    undue k (inl same) = ap (λ (j : ℕ). due_of (object_at (set d.objects h o) j)) same ∙ (ap due_of (object_at-set_same d.objects h o (known_timer d.objects h was)) ∙ due)
-    undue k (inr other) = ap due_of (object_at-set_other d.objects h k o other) ∙ sound.unarmed k
-
     ended : (k : ℕ) → has_ended (object_at (set d.objects h o) k) ≡ has_ended (object_at d.objects k)
     ended = reading_set has_ended d.objects h o (timer_runs_on o is ∙ sym (timer_runs_on (object_at d.objects h) was))
 
@@ -247,7 +242,7 @@ timer_changed os h manual was now a armed is = elim (same_timer manual was now a
 
 -- ---- a timer is cancelled
 
-and_kept : (a b c : Bool) → (b ≡ true → c ≡ true) → (a && b) ≡ true → (a && c) ≡ true
+pub and_kept : (a b c : Bool) → (b ≡ true → c ≡ true) → (a && b) ≡ true → (a && c) ≡ true
 and_kept true b c kept has = kept has
 and_kept false b c kept has = has
 
@@ -284,7 +279,7 @@ cancel_lawful d h lawful is =
     let o = object_at d.objects h in
     let new = retimed d h (armed_with None o) (record d.apcs { queues = withdrawn d.apcs.queues h }) in
     record {
-      sound = retimed_sound d h (armed_with None o) (record d.apcs { queues = withdrawn d.apcs.queues h }) lawful.sound is (timer_cancelled_too o ∙ is) (length_withdrawn h d.apcs.queues) (λ t sets. nobody t (sym (unset_cancelled o is) ∙ sets)) (λ m other. refl) (undue_cancelled o is);
+      sound = retimed_sound d h (armed_with None o) (record d.apcs { queues = withdrawn d.apcs.queues h }) lawful.sound is (timer_cancelled_too o ∙ is) (length_withdrawn h d.apcs.queues) (λ t sets. nobody t (sym (unset_cancelled o is) ∙ sets)) (λ m other. refl);
       settled = record {
         served = served_fewer (state d) (set d.objects h (armed_with None o)) lawful.settled.served (λ u k e. reading_set (λ x. signaled x u) d.objects h (armed_with None o) (signaled_cancelled o u) k ∙ e);
         alerted = λ t alerted. lawful.settled.alerted t (alerted.0, alerted.1, and_kept (alerted.0).alertable (has_apc (withdrawn d.apcs.queues h) t) (has_apc d.apcs.queues t) (has_withdrawn h d.apcs.queues t) alerted.2);

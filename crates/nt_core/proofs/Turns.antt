@@ -1,7 +1,7 @@
 -- What a turn does to one object: a change, then takings. A new call asks for a line in `acted` or `changed_at` where it changes
 -- an object that is no timer, one in `act_object` or `change_object`, and one in each of Giving, Owing and Setting that it concerns.
 use Rattle.std.proofs.Common.{◌≡◌, ℕ, zero, suc, Bool, true, false, cond, not, ◌&&◌, ◌==◌, List, [], ◌∷◌, ◌++◌, length, set, refl, sym, ap, ◌∙◌, subst, arith, Option, Some, None, inl, inr, ◌⊎◌}
-use Rattle.std.specs.Prelude.{pos, nat_le, map, slice_set}
+use Rattle.std.specs.Prelude.{pos, nat_le, int_lt, unsigned_abs, map, slice_set}
 use Rattle.std.specs.FinMap.{get}
 use Rattle.std.specs.declared.result.Result.{Result}
 use Rattle.std.specs.declared.result.Result.TheVariants.{Ok, Err}
@@ -9,7 +9,7 @@ use Rattle.std.proofs.lemmas.Bool.{cases_eq, false≢true}
 use Rattle.std.proofs.lemmas.List.{append-nil}
 use Rattle.nt_status.specs.Status.{io_completion_code}
 use Rattle.nt_status.specs.declared.refusal.Refusal.{Refusal}
-use Rattle.nt_status.specs.declared.refusal.Refusal.TheVariants.{InvalidHandle, NotOwner, TooManyPosts, RecursionLimit}
+use Rattle.nt_status.specs.declared.refusal.Refusal.TheVariants.{InvalidHandle, InvalidParameter, NotOwner, TooManyPosts, RecursionLimit}
 use Rattle.nt_waits.specs.declared.wait.Wait.{Wait}
 use Rattle.nt_objects.specs.declared.object.Object.{Object}
 use Rattle.nt_objects.specs.declared.object.Object.TheVariants.{Event, Semaphore, Mutex, Timer, Thread}
@@ -24,7 +24,7 @@ use Rattle.nt_core.specs.declared.call.Grant.{Grant}
 use Rattle.nt_core.specs.Calls.{timeout_of}
 use Rattle.nt_core.specs.State.{State, Pending, opening, object_at, with_object, with_handing, pending_too, waits_over}
 use Rattle.nt_core.specs.Serving.{fits, status, is_sleep, late_status, taken_by, sequence, Alert, TimeOut}
-use Rattle.nt_core.specs.Change.{created, signal, change, act_change, may_take, expired, expired_as, all_expired, armed_anew, timer_set, timer_cancelled, exited}
+use Rattle.nt_core.specs.Change.{created, signal, change, act_change, may_take, expired, expired_as, all_expired, armed_anew, timer_set, timer_cancelled, due_moment, routine_for, exited}
 use Rattle.nt_core.specs.Refusals.{Cause, first_of_causes, refusal, is_no, is_unknown, is_foreign, is_at_limit, may_signal}
 use Rattle.nt_core.specs.Steps.{Step, wait_of, begun, answered, after_serving, MomentPasses, MomentsPass, Ticked}
 use Rattle.nt_core.specs.Runs.{Turn, Calls, Ticks, IsTurn, Turns}
@@ -189,6 +189,9 @@ act_object s t (Act.ReleaseSemaphore g count) h none plain = with_object_at s.ob
 act_object s t (Act.ReleaseMutex g) h none plain = with_object_at s.objects g h unlocked refl
 act_object s t (Act.CreateTimer flags) h none plain = made_timer s flags h plain
 act_object s t (Act.CancelTimer g) h none plain = cancelled_object s g h (known_kind is_timer s.objects g [] (own_causes s t (Call.Act (Act.CancelTimer g)) none)) plain
+act_object s t (Act.SetTimer g due period routine) h none plain =
+    timer_set_object s g h (record { due = due_moment s.now due; period = unsigned_abs period; routine = routine_for t routine })
+    (known_kind is_timer s.objects g ((int_lt period (pos 0), InvalidParameter) ∷ []) (own_causes s t (Call.Act (Act.SetTimer g due period routine)) none)) plain
 act_object s t (Act.QueueApc thread routine arg) h none plain = refl
 act_object s t Act.NextApc h none plain = go (may_take s t)
   where
@@ -217,6 +220,7 @@ act_waits s t Act.NextApc = go (may_take s t)
     go : (b : Bool) → (cond b (record s { apcs = Rattle.nt_apc.specs.Queues.taken s.apcs t }) (with_handing s t false)).waits ≡ s.waits
     go true = refl
     go false = refl
+act_waits s t (Act.SetTimer g due period routine) = timer_set_waits s g (record { due = due_moment s.now due; period = unsigned_abs period; routine = routine_for t routine })
 act_waits s t _ = refl
 
 -- ---- a thread that ends

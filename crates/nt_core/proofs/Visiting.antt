@@ -72,7 +72,6 @@ looked_sound d looked sound = record {
   none_else = sound.none_else;
   timers = sound.timers;
   handles = sound.handles;
-  unarmed = sound.unarmed;
   room = sound.room;
 }
 
@@ -131,7 +130,6 @@ visit_granted old t code w objects table grants sound has tried waits queues loo
         none_else = λ h beyond known. well.threads h ∙ sound.none_else h beyond (subst (λ (n : ℕ). h < n) well.length known);
         timers = taken_timers old.threads old.objects objects old.alarms old.apcs.places t sound.timers well;
         handles = let most = sound.handles in let len = well.length in omega (arith, most, len);
-        unarmed = λ h. well.due h ∙ sound.unarmed h;
         room = omega (arith, sound.room, longer, fewer, same);
       },
     )

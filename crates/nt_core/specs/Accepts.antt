@@ -1,17 +1,22 @@
 -- What an accepted call does to the dispatcher.
-use Rattle.std.specs.Prelude.{◌≡◌, ℕ, ◌<◌, ◌≤◌, Bool, not, ◌&&◌, ◌==◌, List, [], ◌++◌, length}
+use Rattle.std.specs.Prelude.{◌≡◌, ℕ, ◌+◌, ◌≢◌, ◌<◌, ◌≤◌, ◌⊎◌, Bool, true, not, ◌&&◌, ◌==◌, List, [], ◌∷◌, ◌++◌, length, Option, Some, IfSome}
 use Rattle.std.specs.List.{filter}
-use Rattle.std.specs.FinMap.{len}
+use Rattle.std.specs.FinMap.{len, get}
 use Rattle.nt_status.specs.Status.{io_completion_code, timeout_code}
 use Rattle.nt_core.specs.declared.call.Call.{Call}
 use Rattle.nt_core.specs.declared.call.Reply.{Reply}
 use Rattle.nt_core.specs.declared.call.Grant.{Grant}
 use Rattle.nt_core.specs.Rising.{AreRising}
-use Rattle.nt_core.specs.State.{State}
-use Rattle.nt_core.specs.Serving.{IsChanged, sequence, Serve, Alert, TimeOut, IsLate}
-use Rattle.nt_core.specs.Change.{change}
-use Rattle.nt_core.specs.Steps.{Step}
+use Rattle.nt_objects.specs.declared.object.Routine.{Routine}
+use Rattle.nt_alarms.specs.Alarms.{alarm_at}
+use Rattle.nt_apc.specs.Queues.{withdrawn, place_of}
+use Rattle.nt_waits.specs.Waits.{IsMember}
+use Rattle.nt_core.specs.State.{State, object_at, wait_over}
+use Rattle.nt_core.specs.Serving.{IsChanged, sequence, sleeps, Serve, IsAlerted, Alert, ending, TimeOut, IsLate}
+use Rattle.nt_core.specs.Change.{change, all_expired, IsTimerDue}
+use Rattle.nt_core.specs.Steps.{Step, MomentPasses}
 use Rattle.nt_core.specs.Dispatcher.{Dispatcher, state}
+use Rattle.nt_core.specs.Due.{due_weight, total_weight}
 use Rattle.nt_core.specs.Lawful.{IsSound, IsLawful}
 
 -- whether the wait ended by objects: neither by an APC nor by its deadline
@@ -49,6 +54,58 @@ pub record IsTimedOutAfter (old : Dispatcher) (deadline : ℕ) (new : Dispatcher
   pub grants : new.grants ≡ old.grants ++ ended
   pub looked : new.table.looked ≡ old.table.looked
   pub fewer : (t : ℕ) → IsLate (state old) deadline t → len (state new).waits < len (state old).waits
+
+-- the APC of the routine, if there is one, has a place in its thread's queue; of the queues only the timer's own APC may be gone
+pub record IsPromised (old : Dispatcher) (timer : ℕ) (routine : Option Routine) (new : Dispatcher) : Type 0 where
+  pub rest : new ≡ record old { apcs = new.apcs }
+  pub queues : withdrawn new.apcs.queues timer ≡ withdrawn old.apcs.queues timer
+  pub place : IfSome routine (λ r. place_of new.apcs.places timer ≡ Some r.thread)
+  pub others : (m : ℕ) → m ≢ timer → place_of new.apcs.places m ≡ place_of old.apcs.places m
+
+-- the timers due at moment u of a tick to m have expired and are listed, and whoever is to be alerted has a mark
+pub record IsExpiredAfter (old : Dispatcher) (m u : ℕ) (new : Dispatcher) (timers : List ℕ) (marks : List (Option ℕ)) : Type 0 where
+  pub due : AreRising (IsTimerDue (state old) u) timers
+  pub expired : state new ≡ all_expired m (state old) timers
+  pub marked : (t : ℕ) → IsAlerted (state new) t → alarm_at marks t ≡ Some 0
+  pub others : (h : ℕ) → (IsMember timers h → ⊥) → object_at new.objects h ≡ object_at old.objects h
+  -- of the timers that are due up to m these are gone
+  pub fewer : (weight : ℕ → ℕ) → due_weight weight m 0 new.objects + total_weight weight timers ≡ due_weight weight m 0 old.objects
+  pub grants : new.grants ≡ old.grants
+  pub table : new.table ≡ old.table
+
+-- the thread was to be alerted and its wait has ended, or it was not and nothing changed
+abbrev pub IsRoused : Dispatcher → Dispatcher → ℕ → Type 0
+IsRoused old new t =
+    (IsAlerted (state old) t × (state new ≡ wait_over (state old) t true) × (new.grants ≡ old.grants ++ ending io_completion_code t ∷ []) × (new.table.looked ≡ old.table.looked))
+    ⊎ ((IsAlerted (state old) t → ⊥) × (new ≡ old))
+
+-- moment u of a tick to m has passed; no more pending waits were tested than stood in the queues of the timers due then, and
+-- each wait that ended by objects was tested
+pub record IsPassedAfter (old : Dispatcher) (m u : ℕ) (new : Dispatcher) : Type 0 where
+  pub here : List Grant
+  pub passes : MomentPasses (state old) m u here (state new)
+  pub grants : new.grants ≡ old.grants ++ here
+  pub most : new.table.looked ≤ old.table.looked + length (sequence (state old) passes.timers)
+  pub least : old.table.looked + length passes.served ≤ new.table.looked
+  pub fewer : (weight : ℕ → ℕ) → due_weight weight m 0 new.objects + total_weight weight passes.timers ≡ due_weight weight m 0 old.objects
+  pub late : (t : ℕ) → IsLate (state old) u t → len (state new).waits < len (state old).waits
+  pub sound : IsSound new
+
+-- the timer at this handle is armed for a moment up to m
+abbrev pub IsDueBy : State → ℕ → ℕ → Type 0
+IsDueBy s m h = (u : ℕ) × IsTimerDue s u h × (u ≤ m)
+
+-- whether it ended the wait that its thread had in this state by objects
+abbrev pub ended_by_objects : State → Grant → Bool
+ended_by_objects s g = is_by_objects g && not (sleeps (get s.waits g.thread))
+
+-- local wake-ups of a tick: it tested no more pending waits than stood in the queues of the timers that were due up to m, and
+-- each wait that it ended by objects was tested
+pub record IsTickLocal (old : State) (m tested : ℕ) (grants : List Grant) : Type 0 where
+  pub timers : List ℕ
+  pub due : AreRising (IsDueBy old m) timers
+  pub most : tested ≤ length (sequence old timers)
+  pub least : length (filter (ended_by_objects old) grants) ≤ tested
 
 -- lawful, and nothing told yet of the call that comes
 pub record IsFresh (d : Dispatcher) : Type 0 where

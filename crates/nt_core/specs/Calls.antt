@@ -1,15 +1,16 @@
 -- What a call alone says.
-use Rattle.std.specs.Prelude.{ℕ, Bool, true, false}
+use Rattle.std.specs.Prelude.{ℕ, Bool, true, false, is_some}
 use Rattle.nt_core.specs.declared.call.Call.{Call}
 use Rattle.nt_core.specs.declared.call.Act.{Act}
 use Rattle.nt_core.specs.declared.call.WaitCall.{WaitCall}
 
--- the acts that may want memory: creations, and queued APCs
+-- the acts that may want memory: creations, queued APCs, and timers set with a routine, whose APC gets a place
 abbrev pub act_grows : Act → Bool
 act_grows (Act.CreateEvent flags) = true
 act_grows (Act.CreateSemaphore initial maximum) = true
 act_grows (Act.CreateMutex flags) = true
 act_grows (Act.CreateTimer flags) = true
+act_grows (Act.SetTimer timer due period routine) = is_some routine
 act_grows (Act.QueueApc thread routine arg) = true
 act_grows _ = false
 

@@ -1,5 +1,5 @@
 -- What a call changes before waits are served.
-use Rattle.std.specs.Prelude.{◌≡◌, ℕ, ◌+◌, ℤ, pos, negsuc, Bool, true, false, ◌&&◌, nat_le, List, [], ◌∷◌, ◌++◌, map, slice_set, slice_index_or, length, if◌then◌else◌}
+use Rattle.std.specs.Prelude.{◌≡◌, ℕ, ◌+◌, ℤ, pos, negsuc, unsigned_abs, Bool, true, false, ◌&&◌, nat_le, List, [], ◌∷◌, ◌++◌, map, slice_set, slice_index_or, length, if◌then◌else◌}
 use Rattle.std.specs.declared.option.Option.{Option}
 use Rattle.std.specs.declared.option.Option.TheVariants.{None, Some}
 use Rattle.nt_objects.specs.declared.object.Object.{Object}
@@ -132,6 +132,7 @@ act_change s t (Act.PulseEvent h) = at s h (with_set true)
 act_change s t (Act.ReleaseSemaphore h n) = at s h (released n)
 act_change s t (Act.ReleaseMutex h) = at s h unlocked
 act_change s t (Act.CreateTimer flags) = created s (timer_of flags)
+act_change s t (Act.SetTimer h due period routine) = timer_set s h (record { due = due_moment s.now due; period = unsigned_abs period; routine = routine_for t routine })
 act_change s t (Act.CancelTimer h) = timer_cancelled s h
 act_change s t (Act.QueueApc h routine arg) = apc_queued s h routine arg
 act_change s t Act.NextApc = apc_taken s t

@@ -1,6 +1,5 @@
 -- What every call and tick leaves true.
 use Rattle.std.specs.declared.option.Option.{Option}
-use Rattle.std.specs.declared.option.Option.TheVariants.{None}
 use Rattle.std.specs.Prelude.{◌≡◌, ◌↔◌, ℕ, ◌<◌, ◌≤◌, ◌+◌, true, false, not, ◌&&◌, List, [], length, slice_index_or, IsTrue, Some, nat_eq}
 use Rattle.std.specs.FinMap as map
 use Rattle.std.specs.FinMap.{get}
@@ -58,8 +57,6 @@ pub record IsSound (d : Dispatcher) : Type 0 where
   pub none_else : (h : ℕ) → d.threads ≤ h → h < length d.objects → is_thread (object_at d.objects h) ≡ false
   pub timers : TimersAgree d.threads d.objects d.alarms d.apcs.places
   pub handles : length d.objects ≤ handle_limit
-  -- no call arms a timer yet
-  pub unarmed : (h : ℕ) → due_of (object_at d.objects h) ≡ None
   -- each pending wait can be granted
   pub room : length d.grants + map.len (state d).waits ≤ d.threads
 

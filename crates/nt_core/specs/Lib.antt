@@ -9,6 +9,7 @@ pub mod Steps
 pub mod Runs
 pub mod Takes
 pub mod Dispatcher
+pub mod Due
 pub mod Lawful
 pub mod Accepts
 pub mod Laws

@@ -110,6 +110,7 @@ act_causes objects t (Act.PulseEvent h) = kind_causes is_event objects h
 act_causes objects t (Act.ReleaseSemaphore h n) = release_causes objects h n
 act_causes objects t (Act.ReleaseMutex h) = unlock_causes objects t h
 act_causes objects t (Act.CreateTimer flags) = creation_causes objects (only_known timer_bits flags)
+act_causes objects t (Act.SetTimer h due period routine) = arm_causes objects h period
 act_causes objects t (Act.CancelTimer h) = kind_causes is_timer objects h
 act_causes objects t (Act.QueueApc h routine arg) = apc_causes objects h
 act_causes objects t Act.NextApc = []

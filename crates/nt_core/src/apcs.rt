@@ -10,7 +10,7 @@ ghost use Rattle.nt_core.specs.State.{pends, wait_over};
 ghost use Rattle.nt_core.specs.Dispatcher.{state};
 ghost use Rattle.nt_core.specs.Serving.{IsAlerted, ending};
 ghost use Rattle.nt_core.specs.Lawful.{IsSound};
-ghost use Rattle.nt_core.specs.Accepts.{IsFresh, IsAlertedAfter, Accepts};
+ghost use Rattle.nt_core.specs.Accepts.{IsFresh, IsRoused, IsAlertedAfter, Accepts};
 
 use crate::call::Grant;
 use crate::machine::Machine;
@@ -26,6 +26,21 @@ impl Machine {
         requires known { thread < self.old.threads }
         requires alone { (t : ℕ) → IsAlerted (state self.old) t → t ≡ thread }
         ensures alerted { IsAlertedAfter self.old self.new }
+        ensures sound { IsSound self.new }
+    {
+        let Some(about) = self.waits.about(thread) else {
+            return;
+        };
+        if !self.is_alerted(thread, about.alertable) {
+            return;
+        }
+        self.end_wait(thread, Status::IO_COMPLETION, true);
+    }
+
+    /// Where this thread's wait pends, is alertable and an APC is queued for it, ends the wait.
+    pub(crate) fn rouse(&mut self, thread: ThreadId)
+        requires sound { IsSound self.old }
+        ensures roused { IsRoused self.old self.new thread }
         ensures sound { IsSound self.new }
     {
         let Some(about) = self.waits.about(thread) else {

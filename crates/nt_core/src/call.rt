@@ -24,6 +24,14 @@ pub enum Act {
     ReleaseMutex(Handle),
     /// CreateWaitableTimer, with the flag of CreateWaitableTimerEx: 1 manual reset.
     CreateTimer(u32),
+    /// SetWaitableTimer. The due time is a moment, or from now on where it is negative, in units of 100 ns; the period is in
+    /// milliseconds, 0 for none. The routine, with its argument, is queued to the caller when the timer expires.
+    SetTimer {
+        timer: Handle,
+        due: i64,
+        period: i32,
+        routine: Option<(u64, u64)>,
+    },
     /// CancelWaitableTimer.
     CancelTimer(Handle),
     /// QueueUserAPC, to the thread that the handle names.

@@ -59,6 +59,15 @@ impl Machine {
                 };
                 Ok(Reply::Handle(self.create_timer(thread, flags, changed)?))
             }
+            Act::SetTimer {
+                timer,
+                due,
+                period,
+                routine,
+            } => {
+                self.set_timer(thread, *timer, *due, *period, *routine)?;
+                Ok(Reply::Done)
+            }
             Act::CancelTimer(timer) => {
                 self.cancel_timer(thread, *timer);
                 Ok(Reply::Done)

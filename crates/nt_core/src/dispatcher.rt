@@ -5,10 +5,12 @@ ghost use Rattle.nt_core.specs.State.{opening, pends};
 ghost use Rattle.nt_core.specs.Steps.{Called, Ticked};
 ghost use Rattle.nt_core.specs.Dispatcher.{state};
 ghost use Rattle.nt_core.specs.Lawful.{IsLawful};
-ghost use Rattle.nt_core.specs.Accepts.{IsLocal};
+ghost use Rattle.nt_core.specs.Accepts.{IsLocal, IsTickLocal};
 
 use crate::call::{Call, Grant, Reply};
 use crate::machine::Machine;
+use crate::objects::quiet_alarms;
+use nt_alarms::Alarms;
 use nt_status::{Handle, Moment, Refusal};
 use std::alloc::Global;
 use std::marker::Model;
@@ -19,6 +21,8 @@ pub struct Core {
     machine: Machine,
     /// Room to list every object, so that a call that changes many needs no memory for it.
     changed: Vec<Handle>,
+    /// A place for each thread that there can be, to mark those that a moment of a tick alerts.
+    alerted: Alarms,
 }
 
 impl Model for Core {
@@ -33,9 +37,9 @@ impl Model for Core {
 
     ghost view = { λ c. c.machine };
 
-    ghost use Rattle.std.specs.Prelude.{length, ◌≤◌, vec_capacity};
+    ghost use Rattle.std.specs.Prelude.{length, ◌≡◌, ◌≤◌, vec_capacity};
 
-    ghost invariant = { λ c. IsLawful c.machine × (length c.machine.objects ≤ vec_capacity c.changed) };
+    ghost invariant = { λ c. IsLawful c.machine × (length c.machine.objects ≤ vec_capacity c.changed) × (length c.alerted ≡ 256) };
 }
 
 impl Core {
@@ -52,6 +56,7 @@ impl Core {
         Ok(Core {
             machine: Machine::new(alloc, threads)?,
             changed: Vec::with_capacity(alloc, threads as usize)?,
+            alerted: quiet_alarms(alloc, 256)?,
         })
     }
 
@@ -73,9 +78,10 @@ impl Core {
     pub fn tick(&mut self, m: Moment) -> Result<Reply, Refusal>
         ensures ticked { Ticked (state self.old) m result self.new.grants (state self.new) }
         ensures lawful { IsLawful self.new }
-        ensures untested { self.new.table.looked ≡ 0 }
+        ensures local { OnOk result (IsTickLocal (state self.old) m self.new.table.looked self.new.grants) }
+        ensures untested { OnErr result (self.new.table.looked ≡ 0) }
     {
-        self.machine.tick(m)
+        self.machine.tick(m, &mut self.changed, &mut self.alerted)
     }
 
     /// The present moment, counted in 100 ns: that of the last tick.
@@ -121,7 +127,13 @@ impl Core {
         ensures memory { IfErr result (λ refusal. refusal ≡ Memory) }
     {
         let machine = self.machine.copy()?;
-        let changed = Vec::with_capacity(*self.changed.allocator(), machine.objects.len())?;
-        Ok(Core { machine, changed })
+        let alloc = *self.changed.allocator();
+        let changed = Vec::with_capacity(alloc, machine.objects.len())?;
+        let alerted = quiet_alarms(alloc, 256)?;
+        Ok(Core {
+            machine,
+            changed,
+            alerted,
+        })
     }
 }

@@ -5,7 +5,7 @@ ghost use Rattle.nt_status.specs.Flags.{only_known, event_bits, mutex_bits, time
 ghost use Rattle.nt_objects.specs.Object.{is_event, is_timer, has_ended};
 ghost use Rattle.nt_core.specs.State.{object_at};
 ghost use Rattle.nt_core.specs.Dispatcher.{state};
-ghost use Rattle.nt_core.specs.Refusals.{first_of_causes, act_causes, wait_causes, objects_causes, creation_causes, release_causes, unlock_causes, kind_causes, apc_causes, swap_causes, refusal, is_no, is_unknown, has_twice, is_at_limit};
+ghost use Rattle.nt_core.specs.Refusals.{first_of_causes, act_causes, wait_causes, objects_causes, creation_causes, release_causes, unlock_causes, arm_causes, kind_causes, apc_causes, swap_causes, refusal, is_no, is_unknown, has_twice, is_at_limit};
 
 use crate::call::{Act, Call, WaitCall};
 use crate::machine::Machine;
@@ -141,6 +141,19 @@ fn is_no_timer(objects: &[Object], handle: Handle) -> bool
     }
 }
 
+/// The refusal of setting the timer at this handle.
+fn arm_refusal(objects: &[Object], timer: Handle, period: i32) -> Option<Refusal>
+    ensures { result ≡ first_of_causes (arm_causes objects.now timer period) }
+{
+    if is_no_timer(objects, timer) {
+        Some(Refusal::InvalidHandle)
+    } else if period < 0 {
+        Some(Refusal::InvalidParameter)
+    } else {
+        None
+    }
+}
+
 /// The refusal of cancelling the timer at this handle.
 fn cancel_refusal(objects: &[Object], timer: Handle) -> Option<Refusal>
     ensures { result ≡ first_of_causes (kind_causes is_timer objects.now timer) }
@@ -199,6 +212,12 @@ fn act_refusal(objects: &[Object], thread: ThreadId, act: &Act) -> Option<Refusa
             arg: _,
         } => apc_refusal(objects, *thread),
         Act::CreateTimer(flags) => creation_refusal(objects, are_timer_flags(*flags)),
+        Act::SetTimer {
+            timer,
+            due: _,
+            period,
+            routine: _,
+        } => arm_refusal(objects, *timer, *period),
         Act::CancelTimer(timer) => cancel_refusal(objects, *timer),
         Act::ReleaseMutex(mutex) => unlock_refusal(objects, thread, *mutex),
         Act::SetEvent(event) | Act::ResetEvent(event) | Act::PulseEvent(event) => {

@@ -110,6 +110,19 @@ impl Machine {
         }
     }
 
+    /// Visits the waits on these handles, object by object.
+    pub(crate) fn serve_all(&mut self, changed: &[Handle])
+        requires sound { IsSound self.old }
+        requires countable { self.old.table.looked + length (sequence (state self.old) changed.now) < 2 ^ 64 }
+        ensures visits { Visits (sequence (state self.old) changed.now) self.old self.new }
+        ensures prepared { self.new.table.prepared ≡ self.old.table.prepared }
+        ensures sound { IsSound self.new }
+    {
+        for handle in changed {
+            self.serve_on(*handle);
+        }
+    }
+
     /// Grants what fits after the objects at these handles changed. The caller knows that a wait that fits names one of them.
     pub fn serve(&mut self, changed: &[Handle])
         requires sound { IsSound self.old }
@@ -123,9 +136,7 @@ impl Machine {
         ensures most { self.new.table.looked ≤ length (sequence (state self.old) changed.now) }
         ensures least { length self.new.grants ≤ self.new.table.looked }
     {
-        for handle in changed {
-            self.serve_on(*handle);
-        }
+        self.serve_all(changed);
     }
 }
 

@@ -8,6 +8,7 @@ mod script;
 mod semaphores;
 mod swaps;
 mod ticks;
+mod timers;
 mod waits;
 
 use crate::Core;

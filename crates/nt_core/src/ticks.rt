@@ -1,35 +1,99 @@
 //! Ticks: moments pass, and the waits end whose deadlines come.
-ghost use Rattle.std.specs.Prelude.{◌≡◌, ◌∷◌, ◌++◌, [], false, IsTrue, MatchOption};
+ghost use Rattle.std.specs.Prelude.{◌≡◌, ◌≤◌, ◌<◌, ◌+◌, ◌*◌, ◌^◌, ℕ, ◌∷◌, ◌++◌, [], false, Some, length, vec_capacity, IsTrue, MatchOption, OnOk, OnErr};
+ghost use Rattle.nt_alarms.specs.Alarms.{alarm_at, NoneBefore};
+ghost use Rattle.nt_core.specs.Due.{earlier, due_weight};
 ghost use Rattle.std.specs.FinMap as map;
 ghost use Rattle.nt_waits.specs.Deadlines.{NoneEarlier};
 ghost use Rattle.nt_core.specs.State.{pends, wait_over};
 ghost use Rattle.nt_core.specs.Dispatcher.{state};
-ghost use Rattle.nt_core.specs.Serving.{ending, late_status, sleeps};
+ghost use Rattle.nt_core.specs.Serving.{ending, late_status, sleeps, IsServed, IsAlerted};
 ghost use Rattle.nt_core.specs.Steps.{IsNextMoment, NothingDue, Ticked};
 ghost use Rattle.nt_core.specs.Lawful.{IsSound, IsLawful};
-ghost use Rattle.nt_core.specs.Accepts.{IsTimedOutAfter};
+ghost use Rattle.nt_core.specs.Accepts.{IsTimedOutAfter, IsAlertedAfter, IsExpiredAfter, IsPassedAfter, IsTickLocal};
 
 use crate::call::{Grant, Reply};
 use crate::machine::Machine;
 use crate::waiting::late_status;
-use nt_status::{Moment, Refusal, ThreadId};
+use nt_alarms::Alarms;
+use nt_status::{Handle, Moment, Refusal, ThreadId};
+
+/// The earlier of two moments.
+fn earlier(first: Option<u64>, second: Option<u64>) -> Option<u64>
+    ensures { result ≡ earlier first second }
+{
+    match (first, second) {
+        (Some(a), Some(b)) => { if a <= b { Some(a) } else { Some(b) } }
+        (Some(a), None) => Some(a),
+        (None, second) => second,
+    }
+}
 
 impl Machine {
-    /// The next moment up to `m` at which a deadline comes.
+    /// The next moment up to `m` at which a timer is due or a deadline comes.
     fn next_moment(&self, m: Moment) -> Option<u64>
         requires { IsSound self.now }
         ensures { MatchOption result (NothingDue (state self.now) m) (λ u. IsNextMoment (state self.now) m u) }
     {
-        match self.waits.earliest_deadline() {
-            Some(earliest) => {
-                if earliest <= m.get() {
-                    Some(earliest)
-                } else {
-                    None
-                }
+        let next = earlier(self.alarms.earliest(), self.waits.earliest_deadline())?;
+        if next <= m.get() { Some(next) } else { None }
+    }
+
+    /// Expires the timers that are due at moment `u` of a tick to `m`, lists them, and marks the threads whose APCs they queue.
+    fn expire_all(&mut self, u: u64, m: Moment, changed: &mut Vec<Handle>, alerted: &mut Alarms)
+        requires sound { IsSound self.old }
+        requires calm { (t : ℕ) → IsAlerted (state self.old) t → ⊥ }
+        requires within { u ≤ m }
+        requires earliest { NoneBefore self.old.alarms u }
+        requires room { length self.old.objects ≤ vec_capacity changed.old }
+        requires marks { length alerted.old ≡ 256 }
+        ensures expired { IsExpiredAfter self.old m u self.new changed.new.items alerted.new }
+        ensures sound { IsSound self.new }
+        ensures room { vec_capacity changed.new ≡ vec_capacity changed.old }
+        ensures marks { length alerted.new ≡ 256 }
+    {
+        changed.clear();
+        while let Some(place) = self.alarms.first_at(u) {
+            let timer = Handle::new(place as u32);
+            if let Some(thread) = self.object(timer).setter() {
+                alerted.set(thread.get() as usize, 0);
             }
-            None => None,
+            self.expire(timer, m);
+            changed.push_reserved(timer);
         }
+    }
+
+    /// Ends the waits of the threads with a mark that are to be alerted, by rising thread number. All that are have one.
+    fn alert_all(&mut self, alerted: &mut Alarms)
+        requires sound { IsSound self.old }
+        requires marked { (t : ℕ) → IsAlerted (state self.old) t → alarm_at alerted.old t ≡ Some 0 }
+        requires marks { length alerted.old ≡ 256 }
+        ensures alerted { IsAlertedAfter self.old self.new }
+        ensures sound { IsSound self.new }
+        ensures marks { length alerted.new ≡ 256 }
+    {
+        while let Some(place) = alerted.first_at(0) {
+            alerted.clear(place);
+            self.rouse(ThreadId::new(place as u16));
+        }
+    }
+
+    /// What happens at moment `u` of a tick to `m`: timers expire, waits are served, alerted and timed out.
+    fn pass(&mut self, u: u64, m: Moment, changed: &mut Vec<Handle>, alerted: &mut Alarms)
+        requires sound { IsSound self.old }
+        requires served { IsServed (state self.old) }
+        requires calm { (t : ℕ) → IsAlerted (state self.old) t → ⊥ }
+        requires next { IsNextMoment (state self.old) m u }
+        requires countable { self.old.table.looked + due_weight (λ h. length ((state self.old).queues h)) m 0 self.old.objects < 2 ^ 64 }
+        requires room { length self.old.objects ≤ vec_capacity changed.old }
+        requires marks { length alerted.old ≡ 256 }
+        ensures passed { IsPassedAfter self.old m u self.new }
+        ensures room { vec_capacity changed.new ≡ vec_capacity changed.old }
+        ensures marks { length alerted.new ≡ 256 }
+    {
+        self.expire_all(u, m, changed, alerted);
+        self.serve_all(changed.as_slice());
+        self.alert_all(alerted);
+        self.time_out_all(u);
     }
 
     /// Ends this thread's pending wait because its interval has passed.
@@ -59,20 +123,30 @@ impl Machine {
         }
     }
 
-    /// Lets all moments up to `m` pass.
-    pub fn tick(&mut self, m: Moment) -> Result<Reply, Refusal>
-        requires { IsLawful self.old }
+    /// Lets all moments up to `m` pass. `changed` has room for each object, and `alerted` a place for each thread that there can be.
+    pub fn tick(
+        &mut self,
+        m: Moment,
+        changed: &mut Vec<Handle>,
+        alerted: &mut Alarms,
+    ) -> Result<Reply, Refusal>
+        requires lawful { IsLawful self.old }
+        requires room { length self.old.objects ≤ vec_capacity changed.old }
+        requires marks { length alerted.old ≡ 256 }
         ensures ticked { Ticked (state self.old) m result self.new.grants (state self.new) }
         ensures lawful { IsLawful self.new }
-        ensures untested { self.new.table.looked ≡ 0 }
+        ensures local { OnOk result (IsTickLocal (state self.old) m self.new.table.looked self.new.grants) }
+        ensures untested { OnErr result (self.new.table.looked ≡ 0) }
+        ensures room { length self.new.objects ≤ vec_capacity changed.new }
+        ensures marks { length alerted.new ≡ 256 }
     {
         self.tell_anew();
         let (asked, present) = (m.get(), self.moment.get());
         if asked < present {
             return Err(Refusal::MomentBack);
         }
-        while let Some(deadline) = self.next_moment(m) {
-            self.time_out_all(deadline);
+        while let Some(u) = self.next_moment(m) {
+            self.pass(u, m, changed, alerted);
         }
         self.moment = m;
         Ok(Reply::Done)

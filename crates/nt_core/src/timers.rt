@@ -1,18 +1,46 @@
 //! Calls on timers, and their expiry.
-ghost use Rattle.std.specs.Prelude.{◌≡◌, ◌≤◌, ◌<◌, false, length, slice_set, vec_capacity, IfOk, IsTrue, OnErr};
-ghost use Rattle.nt_objects.specs.Object.{is_timer, due_of};
-ghost use Rattle.nt_apc.specs.Queues.{withdrawn};
+ghost use Rattle.std.specs.Prelude.{◌≡◌, ◌≤◌, ◌<◌, pos, ◌≤ℤ◌, false, length, slice_set, vec_capacity, is_some, None, Some, IfOk, IfSome, IsSomeAnd, IsTrue, OnOk, OnErr};
+ghost use Rattle.nt_objects.specs.Object.{is_timer, has_ended, due_of};
+ghost use Rattle.nt_apc.specs.Queues.{withdrawn, place_of};
 ghost use Rattle.nt_core.specs.State.{object_at};
+ghost use Rattle.nt_core.specs.Change.{notified, expired, armed_anew, due_moment, routine_for};
+ghost use Rattle.nt_core.specs.Dispatcher.{state};
 ghost use Rattle.nt_core.specs.Refusals.{is_full};
-ghost use Rattle.nt_core.specs.Accepts.{IsFresh, Accepts};
+ghost use Rattle.std.specs.FinMap as map;
+ghost use Rattle.nt_core.specs.Lawful.{IsSound};
+ghost use Rattle.nt_core.specs.Accepts.{IsFresh, IsPromised, Accepts};
 ghost use Rattle.nt_core.specs.declared.call.Act.{Act};
 ghost use Rattle.nt_core.specs.declared.call.Call.{Call};
 ghost use Rattle.nt_core.specs.declared.call.Reply.{Reply};
 
 use crate::machine::Machine;
-use nt_objects::Object;
-use nt_status::{Handle, ThreadId, TimerFlags};
+use nt_apc::Apc;
+use nt_objects::{Armed, Object, Routine};
+use nt_status::{Handle, Moment, ThreadId, TimerFlags};
 use std::alloc::AllocError;
+
+/// The due moment of a due time in units of 100 ns: from now on where it is negative.
+fn due_moment(now: Moment, due: i64) -> u64
+    ensures { result ≡ due_moment now due }
+{
+    if due < 0 {
+        now.get() + due.unsigned_abs()
+    } else {
+        due as u64
+    }
+}
+
+/// The routine and its argument, to run on this thread.
+fn routine_for(thread: ThreadId, routine: Option<(u64, u64)>) -> Option<Routine>
+    ensures { result ≡ routine_for thread routine }
+{
+    let (routine, arg) = routine?;
+    Some(Routine {
+        routine,
+        arg,
+        thread,
+    })
+}
 
 impl Machine {
     /// CreateWaitableTimer.
@@ -54,6 +82,118 @@ impl Machine {
         if let Some(thread) = self.apcs.place_of(timer) {
             self.apcs.withdraw(thread, timer);
         }
+    }
+
+    /// Queues the APC of a timer that expires, unless one of its is queued already.
+    fn notify(&mut self, timer: Handle, due: Moment, routine: Option<Routine>)
+        requires { IfSome routine (λ r. place_of self.old.apcs.places timer ≡ Some r.thread) }
+        ensures { self.new ≡ record self.old { apcs = record self.old.apcs { queues = notified self.old.apcs.queues timer due routine } } }
+    {
+        let Some(routine) = routine else {
+            return;
+        };
+        let thread = routine.thread;
+        if !self.apcs.queued(thread, timer) {
+            let apc = Apc {
+                routine: routine.routine,
+                arg: routine.arg,
+                at: Some(due),
+            };
+            self.apcs.push_promised(thread, timer, apc);
+        }
+    }
+
+    /// The timer expires, seen from this moment, which is not before it is due.
+    pub(crate) fn expire(&mut self, timer: Handle, now: Moment)
+        requires sound { IsSound self.old }
+        requires due { IsSomeAnd (due_of (object_at self.old.objects timer)) (λ due. due ≤ now) }
+        ensures expired { state self.new ≡ expired now (state self.old) timer }
+        ensures sound { IsSound self.new }
+        ensures grants { self.new.grants ≡ self.old.grants }
+        ensures table { self.new.table ≡ self.old.table }
+    {
+        let mut object = self.object(timer);
+        let Some(due) = object.due() else {
+            unreachable!()
+        };
+        let Some(due) = Moment::new(due) else {
+            unreachable!()
+        };
+        let routine = object.expire(now);
+        self.put_timer(timer, object);
+        self.notify(timer, due, routine);
+    }
+
+    /// Promises the APC of this routine, if there is one, a place in its thread's queue. Where memory is refused nothing changes.
+    fn promise(&mut self, timer: Handle, routine: Option<Routine>) -> Result<(), AllocError>
+        requires { IfSome routine (λ r. r.thread < length self.old.apcs.queues) }
+        ensures ok { OnOk result (IsPromised self.old timer routine self.new) }
+        ensures needs { OnErr result (IsTrue (is_some routine)) }
+        ensures err { OnErr result (self.new ≡ self.old) }
+    {
+        if let Some(routine) = routine {
+            self.apcs.promise(routine.thread, timer)?;
+        }
+        Ok(())
+    }
+
+    /// Stops the timer, withdraws its queued APC, and arms it anew, not set. Where memory is refused nothing changes.
+    fn arm(&mut self, timer: Handle, armed: Armed) -> Result<(), AllocError>
+        requires sound { IsSound self.old }
+        requires kind { IsTrue (is_timer (object_at self.old.objects timer)) }
+        requires runs { IfSome armed.routine (λ r. (r.thread < self.old.threads) × (has_ended (object_at self.old.objects r.thread) ≡ false)) }
+        ensures armed { OnOk result (state self.new ≡ armed_anew (state self.old) timer armed) }
+        ensures sound { OnOk result (IsSound self.new) }
+        ensures grants { OnOk result (self.new.grants ≡ self.old.grants) }
+        ensures table { OnOk result (self.new.table ≡ self.old.table) }
+        ensures needs { OnErr result (IsTrue (is_some armed.routine)) }
+        ensures err { OnErr result (self.new ≡ self.old) }
+    {
+        self.promise(timer, armed.routine)?;
+        self.withdraw(timer);
+        let mut object = self.object(timer);
+        object.arm(armed.due, armed.period, armed.routine);
+        self.put_timer(timer, object);
+        Ok(())
+    }
+
+    /// SetWaitableTimer: the timer is armed anew. Where its due moment is not ahead it expires at once, and where it then is
+    /// set and was not, the waits that name it are served.
+    pub(crate) fn set_timer(
+        &mut self,
+        thread: ThreadId,
+        timer: Handle,
+        due: i64,
+        period: i32,
+        routine: Option<(u64, u64)>,
+    ) -> Result<(), AllocError>
+        requires fresh { IsFresh self.old }
+        requires idle { map.get self.old.table.pending thread ≡ None }
+        requires known { thread < self.old.threads }
+        requires runs { has_ended (object_at self.old.objects thread) ≡ false }
+        requires kind { IsTrue (is_timer (object_at self.old.objects timer)) }
+        requires period { pos 0 ≤ℤ period }
+        ensures ok { OnOk result (Accepts self.old self.new thread (Call.Act (Act.SetTimer timer due period routine)) Reply.Done) }
+        ensures needs { OnErr result (IsTrue (is_some routine)) }
+        ensures err { OnErr result (self.new ≡ self.old) }
+    {
+        let was_set = self.object(timer).signaled_for(thread);
+        let now = self.moment;
+        let due = due_moment(now, due);
+        let period = period.unsigned_abs();
+        let armed = Armed {
+            due,
+            period,
+            routine: routine_for(thread, routine),
+        };
+        self.arm(timer, armed)?;
+        if due <= now.get() {
+            self.expire(timer, now);
+            if !was_set {
+                self.serve(&[timer]);
+            }
+        }
+        Ok(())
     }
 
     /// CancelWaitableTimer: the timer is stopped, and its queued APC withdrawn. Whether it is set stays.

@@ -24,6 +24,13 @@ pub enum Ask {
     Release(i32),
     Unlock,
     Apc(u64, u64),
+    /// A timer, with these flags.
+    Timer(u32),
+    /// A due time and a period.
+    Arm(i64, i32),
+    /// The same, and a routine with its argument.
+    ArmRoutine(i64, i32, u64, u64),
+    Cancel,
     Next,
     Any(u32),
     All(u32),
@@ -147,6 +154,20 @@ fn call_of(alloc: Global, ask: Ask, objects: &[u32]) -> Result<Call, AllocError>
             routine,
             arg,
         },
+        Ask::Timer(flags) => Act::CreateTimer(flags),
+        Ask::Arm(due, period) => Act::SetTimer {
+            timer: first(objects),
+            due,
+            period,
+            routine: None,
+        },
+        Ask::ArmRoutine(due, period, routine, arg) => Act::SetTimer {
+            timer: first(objects),
+            due,
+            period,
+            routine: Some((routine, arg)),
+        },
+        Ask::Cancel => Act::CancelTimer(first(objects)),
         Ask::Next => Act::NextApc,
     };
     Ok(Call::Act(act))

@@ -1,38 +1,49 @@
-use Rattle.std.proofs.Common.{◌≡◌, ◌<◌, ◌≤◌, inr, sym, ap, subst, arith}
+use Rattle.std.proofs.Common.{◌≡◌, ◌≤◌, ◌<◌, length, refl, sym, ap, ◌∙◌, subst, arith}
 use Rattle.std.specs.Prelude.{Ok}
-use Rattle.std.specs.FinMap as fin
 use Rattle.nt_core.specs.declared.call.Reply.{Reply}
 use Rattle.nt_core.specs.State.{State}
 use Rattle.nt_core.specs.Dispatcher.{Dispatcher, state}
 use Rattle.nt_core.specs.Steps.{Ticked}
 use Rattle.nt_core.specs.Lawful.{IsLawful}
-use Rattle.nt_core.proofs.Ticking.{late_of, awaited_late, tick_next, tick_end}
+use Rattle.nt_core.specs.Accepts.{IsTickLocal}
+use Rattle.nt_core.proofs.Coming.{left_to_come, left_smaller, tick_first, tick_next, tick_end, tick_countable}
 use Rattle.nt_core.specs.contracts.machine.Machine.{the_view}
 use Rattle.nt_core.proofs.machine.Machine.tick.Goals as goal
 
-pub time_out_all-requires-clause-earliest : goal.time_out_all-requires-clause-earliest
-time_out_all-requires-clause-earliest c = λ t v has.
-    let late = late_of (state c.loop-deadline.self) v t has in
-    c.in-Some.ensures.2 v (inr (t, late.0, late.1, late.2))
+pub pass-requires-clause-countable : goal.pass-requires-clause-countable
+pass-requires-clause-countable c = tick_countable c.tell_anew.new.self c.loop-u.self c.args.m c.tell_anew.ensures.fresh.lawful.sound c.loop-u.invariant.far
 
-pub loop-deadline-smaller : goal.loop-deadline-smaller
-loop-deadline-smaller c =
-    let own = awaited_late c.loop-deadline.self c.in-Some.deadline c.loop-deadline.invariant.sound c.in-Some.ensures.0 in
-    let less : fin.len c.time_out_all.new.self.table.pending < fin.len c.loop-deadline.self.table.pending = c.time_out_all.ensures.timed.fewer own.0 own.1 in
+pub pass-requires-clause-room : goal.pass-requires-clause-room
+pass-requires-clause-room c =
+    let count = c.loop-u.invariant.far.count in
+    let room = c.loop-u.invariant.room in
+    let enough = c.requires.room in
+    let same : length c.tell_anew.new.self.objects ≡ length c.args.self.now.objects = ap (λ (s : State). length s.objects) c.tell_anew.ensures.state in
+    omega (arith, count, room, enough, same)
+
+pub loop-u-init : goal.loop-u-init
+loop-u-init c = record { far = tick_first c.tell_anew.new.self c.args.m c.tell_anew.ensures.fresh; room = refl; marks = c.requires.marks }
+
+pub loop-u-smaller : goal.loop-u-smaller
+loop-u-smaller c =
+    let less : left_to_come c.args.m c.pass.new.self < left_to_come c.args.m c.loop-u.self = left_smaller c.loop-u.self c.pass.new.self c.args.m c.in-Some.u c.in-Some.ensures c.pass.ensures.passed in
     less
 
-pub loop-deadline-preserved : goal.loop-deadline-preserved
-loop-deadline-preserved c =
-    tick_next c.tell_anew.new.self c.loop-deadline.self c.time_out_all.new.self c.args.m c.in-Some.deadline c.loop-deadline.invariant c.in-Some.ensures c.time_out_all.ensures.timed c.time_out_all.ensures.sound
+pub loop-u-preserved : goal.loop-u-preserved
+loop-u-preserved c = record {
+  far = tick_next c.tell_anew.new.self c.loop-u.self c.pass.new.self c.args.m c.in-Some.u c.loop-u.invariant.far c.in-Some.ensures c.pass.ensures.passed;
+  room = c.pass.ensures.room ∙ c.loop-u.invariant.room;
+  marks = c.pass.ensures.marks;
+}
 
--- the tick's end, where no deadline comes any more
-ended : (c : goal.After-m-1) → Ticked (state c.tell_anew.new.self) c.args.m (Ok Reply.Done) c.loop-deadline.self.grants (state (record c.loop-deadline.self { now = c.args.m })) × IsLawful (record c.loop-deadline.self { now = c.args.m })
+-- the tick's end, where nothing is due any more
+ended : (c : goal.After-m-1) → Ticked (state c.tell_anew.new.self) c.args.m (Ok Reply.Done) c.loop-u.self.grants (state (record c.loop-u.self { now = c.args.m })) × IsLawful (record c.loop-u.self { now = c.args.m }) × IsTickLocal (state c.tell_anew.new.self) c.args.m c.loop-u.self.table.looked c.loop-u.self.grants
 ended c =
     let h : c.get-present.result ≤ c.get-asked.result = c.if-asked-present.false in
     let k : c.get-asked.result ≡ c.args.m = c.get-asked.ensures.value in
     let p : c.get-present.result ≡ c.self.inside.moment = c.get-present.ensures.value in
     let q : c.self.inside.moment ≡ c.tell_anew.new.self.now = ap (λ (x : Dispatcher). x.now) c.self.view_is in
-    tick_end c.tell_anew.new.self c.loop-deadline.self c.args.m (omega (arith, h, k, p, q)) c.loop-deadline.invariant c.in_default.ensures
+    tick_end c.tell_anew.new.self c.loop-u.self c.args.m (omega (arith, h, k, p, q)) c.loop-u.invariant.far c.in_default.ensures
 
 pub returns-clause-ticked : goal.returns-clause-ticked
 returns-clause-ticked c =
@@ -41,3 +52,17 @@ returns-clause-ticked c =
 
 pub returns-clause-lawful : goal.returns-clause-lawful
 returns-clause-lawful c = subst (λ (x : Dispatcher). IsLawful (record x { now = c.args.m })) (sym c.self-2.view_is) (ended c).1
+
+pub returns-clause-local : goal.returns-clause-local
+returns-clause-local c =
+    subst (λ (s : State). IsTickLocal s c.args.m (the_view c.self-2.inside).table.looked (the_view c.self-2.inside).grants) c.tell_anew.ensures.state
+    (subst (λ (x : Dispatcher). IsTickLocal (state c.tell_anew.new.self) c.args.m x.table.looked x.grants) (sym c.self-2.view_is) (ended c).2)
+
+pub returns-clause-room : goal.returns-clause-room
+returns-clause-room c =
+    let count = c.loop-u.invariant.far.count in
+    let room = c.loop-u.invariant.room in
+    let enough = c.requires.room in
+    let same : length c.tell_anew.new.self.objects ≡ length c.args.self.now.objects = ap (λ (s : State). length s.objects) c.tell_anew.ensures.state in
+    let view : length (the_view c.self-2.inside).objects ≡ length c.loop-u.self.objects = ap (λ (x : Dispatcher). length x.objects) c.self-2.view_is in
+    omega (arith, count, room, enough, same, view)

@@ -3,7 +3,7 @@ use Rattle.nt_core.specs.Dispatcher.{state}
 use Rattle.nt_core.specs.Serving.{sequence}
 use Rattle.nt_core.specs.Visits.{Visits}
 use Rattle.nt_core.specs.Lawful.{IsSound}
-use Rattle.nt_core.proofs.machine.Machine.serve.Given as goal
+use Rattle.nt_core.proofs.machine.Machine.serve_all.Given as goal
 
 abbrev pub invariant-loop-handle : goal.invariant-loop-handle
 invariant-loop-handle l = record {

@@ -1,0 +1,159 @@
+-- Alerts of threads with a mark, one after another.
+use Rattle.std.proofs.Common.{◌≡◌, ◌≢◌, ◌<◌, ◌≤◌, ℕ, zero, suc, ◌+◌, Bool, true, false, ◌&&◌, List, [], ◌∷◌, ◌++◌, length, set, map, refl, sym, ap, ◌∙◌, subst, arith, Option, Some, None, inl, inr, ◌⊎◌, append_assoc}
+use Rattle.std.specs.Prelude.{nat_le}
+use Rattle.std.specs.FinMap as fin
+use Rattle.std.proofs.lemmas.Bool.{cases_eq}
+use Rattle.std.proofs.lemmas.Bool.Decides.{nat_tests}
+use Rattle.std.proofs.lemmas.List.{append-nil, length-set}
+use Rattle.nt_status.specs.Status.{io_completion_code}
+use Rattle.nt_waits.specs.declared.wait.Wait.{Wait}
+use Rattle.nt_waits.specs.Waits.{IsMember}
+use Rattle.nt_alarms.specs.Alarms.{alarm_at, NoneAt, IsLowestAt}
+use Rattle.nt_apc.specs.declared.apc.Queued.{Queued}
+use Rattle.nt_apc.specs.Queues.{has_apc}
+use Rattle.nt_core.specs.Rising.{IsRising}
+use Rattle.nt_core.specs.State.{State, wait_over, waits_over}
+use Rattle.nt_core.specs.Dispatcher.{Dispatcher, state}
+use Rattle.nt_core.specs.Serving.{IsAlerted, ending}
+use Rattle.nt_core.specs.Lawful.{IsSound}
+use Rattle.nt_core.specs.Accepts.{IsRoused, IsAlertedAfter}
+use Rattle.nt_core.proofs.Alerting.{over_pending, over_apcs}
+use Rattle.nt_core.proofs.Ticking.{member_append, rising_append, over_append, map_append, gone_member}
+
+-- how many marks there are
+abbrev pub marks_left : List (Option ℕ) → ℕ
+marks_left [] = 0
+marks_left (None ∷ marks) = marks_left marks
+marks_left (Some u ∷ marks) = marks_left marks + 1
+
+pub marks_less : (marks : List (Option ℕ)) (t u : ℕ) → alarm_at marks t ≡ Some u → marks_left (set marks t None) < marks_left marks
+marks_less [] t u is = let e : None ≡ Some u = is in (cc)
+marks_less (None ∷ marks) zero u is = let e : None ≡ Some u = is in (cc)
+marks_less (Some v ∷ marks) zero u is = omega arith
+marks_less (None ∷ marks) (suc t) u is = marks_less marks t u is
+marks_less (Some v ∷ marks) (suc t) u is = let rest = marks_less marks t u is in omega (arith, rest)
+
+cleared_other : (marks : List (Option ℕ)) (t k : ℕ) → k ≢ t → alarm_at (set marks t None) k ≡ alarm_at marks k
+cleared_other [] t k other = refl
+cleared_other (a ∷ marks) zero zero other = absurd (other refl)
+cleared_other (a ∷ marks) zero (suc k) other = refl
+cleared_other (a ∷ marks) (suc t) zero other = refl
+cleared_other (a ∷ marks) (suc t) (suc k) other = cleared_other marks t k (λ e. other (ap suc e))
+
+cleared_here : (marks : List (Option ℕ)) (t : ℕ) → alarm_at (set marks t None) t ≡ None
+cleared_here [] t = refl
+cleared_here (a ∷ marks) zero = refl
+cleared_here (a ∷ marks) (suc t) = cleared_here marks t
+
+-- the waits of these threads have ended so far; whoever is to be alerted still has a mark, and a greater number
+pub record AlertedSoFar (old now : Dispatcher) (marks : List (Option ℕ)) : Type 0 where
+  pub threads : List ℕ
+  pub rising : IsRising threads
+  pub alerted : (x : ℕ) → IsMember threads x → IsAlerted (state old) x
+  pub grants : now.grants ≡ old.grants ++ map (ending io_completion_code) threads
+  pub over : state now ≡ waits_over (state old) threads true
+  pub above : (x : ℕ) → alarm_at marks x ≡ Some 0 → (y : ℕ) → IsMember threads y → y < x
+  pub marked : (x : ℕ) → IsAlerted (state now) x → alarm_at marks x ≡ Some 0
+  pub looked : now.table.looked ≡ old.table.looked
+  pub count : length marks ≡ 256
+  pub sound : IsSound now
+
+pub alerted_none : (d : Dispatcher) (marks : List (Option ℕ)) → IsSound d → ((t : ℕ) → IsAlerted (state d) t → alarm_at marks t ≡ Some 0) → length marks ≡ 256 → AlertedSoFar d d marks
+alerted_none d marks sound marked count = record {
+  threads = [];
+  rising = tt;
+  alerted = λ x m. absurd m;
+  grants = sym (append-nil d.grants);
+  over = refl;
+  above = λ x is y m. absurd m;
+  marked = marked;
+  looked = refl;
+  count = count;
+  sound = sound;
+}
+
+-- who is to be alerted after waits are over was before, and is none of those threads
+still_alerted : (s : State) (ts : List ℕ) (x : ℕ) → IsAlerted (waits_over s ts true) x → IsAlerted s x × (IsMember ts x → ⊥)
+still_alerted s ts x alerted =
+    let before = over_pending s ts true x alerted.0 alerted.1 in
+    ((alerted.0, before.0, subst (λ (qs : List (List Queued)). ((alerted.0).alertable && has_apc qs x) ≡ true) (over_apcs s ts true) alerted.2), before.1)
+
+lowest_least : (marks : List (Option ℕ)) (t x : ℕ) → IsLowestAt marks 0 t → alarm_at marks x ≡ Some 0 → t ≤ x
+lowest_least marks t x lowest is = go (nat_le t x) refl
+  where
+    go : (b : Bool) → nat_le t x ≡ b → t ≤ x
+    go true le = grind (arith, nat_tests, le)
+    go false gt = let below : x < t = grind (arith, nat_tests, gt) in absurd (lowest.none_below x below is)
+
+pub alerted_next : (old now new : Dispatcher) (marks : List (Option ℕ)) (t : ℕ) → AlertedSoFar old now marks → IsLowestAt marks 0 t → IsRoused now new t → IsSound new → AlertedSoFar old new (set marks t None)
+alerted_next old now new marks t far lowest (inl roused) sound =
+    let before = still_alerted (state old) far.threads t (subst (λ (s : State). IsAlerted s t) far.over roused.0) in
+    record {
+      threads = far.threads ++ t ∷ [];
+      rising = rising_append far.threads t far.rising (far.above t lowest.here);
+      alerted = λ x m. elim (member_append far.threads t x m) [
+        | inl earlier ↦ far.alerted x earlier
+        | inr last ↦ subst (λ (k : ℕ). IsAlerted (state old) k) last before.0
+      ];
+      grants = roused.2 ∙ (ap (λ gs. gs ++ ending io_completion_code t ∷ []) far.grants ∙ (append_assoc old.grants (map (ending io_completion_code) far.threads) (ending io_completion_code t ∷ []) ∙ ap (λ gs. old.grants ++ gs) (sym (map_append (ending io_completion_code) far.threads t))));
+      over = roused.1 ∙ (ap (λ (s : State). wait_over s t true) far.over ∙ sym (over_append (state old) far.threads t true));
+      above = λ x is y m. after x is (cases_eq x t) y (member_append far.threads t y m);
+      marked = λ x alerted.
+          let still = still_alerted (state now) (t ∷ []) x (subst (λ (s : State). IsAlerted s x) roused.1 alerted) in
+          cleared_other marks t x (λ e. still.1 (inl (sym e))) ∙ far.marked x still.0;
+      looked = roused.3 ∙ far.looked;
+      count = length-set marks t None ∙ far.count;
+      sound = sound;
+    }
+  where
+    no_mark : {P : Type 0} (n : ℕ) → None ≡ Some n → P
+    no_mark n e = (cc)
+
+    after : (x : ℕ) → alarm_at (set marks t None) x ≡ Some 0 → (x ≡ t) ⊎ (x ≢ t) → (y : ℕ) → IsMember far.threads y ⊎ (t ≡ y) → y < x
+    after x is (inl same) y m = no_mark 0 (sym (cleared_here marks t) ∙ (ap (λ (k : ℕ). alarm_at (set marks t None) k) (sym same) ∙ is))
+    after x is (inr other) y (inl earlier) = far.above x (sym (cleared_other marks t x other) ∙ is) y earlier
+    after x is (inr other) y (inr last) = let least = lowest_least marks t x lowest (sym (cleared_other marks t x other) ∙ is) in omega (arith, least, other, last)
+alerted_next old now new marks t far lowest (inr idle) sound = subst (λ (d : Dispatcher). AlertedSoFar old d (set marks t None)) (sym idle.1) (record {
+  threads = far.threads;
+  rising = far.rising;
+  alerted = far.alerted;
+  grants = far.grants;
+  over = far.over;
+  above = λ x is y m. after x is (cases_eq x t) y m;
+  marked = λ x alerted. elim (cases_eq x t) [
+    | inl same ↦ absurd (idle.0 (subst (λ (k : ℕ). IsAlerted (state now) k) same alerted))
+    | inr other ↦ cleared_other marks t x other ∙ far.marked x alerted
+  ];
+  looked = far.looked;
+  count = length-set marks t None ∙ far.count;
+  sound = far.sound;
+})
+  where
+    no_mark : {P : Type 0} (n : ℕ) → None ≡ Some n → P
+    no_mark n e = (cc)
+
+    after : (x : ℕ) → alarm_at (set marks t None) x ≡ Some 0 → (x ≡ t) ⊎ (x ≢ t) → (y : ℕ) → IsMember far.threads y → y < x
+    after x is (inl same) y m = no_mark 0 (sym (cleared_here marks t) ∙ (ap (λ (k : ℕ). alarm_at (set marks t None) k) (sym same) ∙ is))
+    after x is (inr other) y m = far.above x (sym (cleared_other marks t x other) ∙ is) y m
+
+pub alerted_end : (old now : Dispatcher) (marks : List (Option ℕ)) → AlertedSoFar old now marks → NoneAt marks 0 → IsAlertedAfter old now
+alerted_end old now marks far none = record {
+  ended = map (ending io_completion_code) far.threads;
+  alerts = record {
+    threads = far.threads;
+    alerted = record { rising = far.rising; exactly = λ x. (λ m. far.alerted x m, λ alerted. gone x alerted (fin.get now.table.pending x) refl) };
+    ends = refl;
+    leaves = far.over;
+  };
+  grants = far.grants;
+  looked = far.looked;
+}
+  where
+    gone : (x : ℕ) → IsAlerted (state old) x → (o : Option Wait) → fin.get now.table.pending x ≡ o → IsMember far.threads x
+    gone x alerted None e = gone_member (state old) far.threads true x alerted.0 alerted.1 (ap (λ (s : State). fin.get s.waits x) (sym far.over) ∙ e)
+    gone x alerted (Some v) e =
+        let before = over_pending (state old) far.threads true x v (ap (λ (s : State). fin.get s.waits x) (sym far.over) ∙ e) in
+        let both : Some v ≡ Some alerted.0 = sym before.0 ∙ alerted.1 in
+        let same : v ≡ alerted.0 = (cc) in
+        let apcs : (state now).apcs ≡ (state old).apcs = ap (λ (s : State). s.apcs) far.over ∙ over_apcs (state old) far.threads true in
+        absurd (none x (far.marked x (v, e, subst (λ (qs : List (List Queued)). (v.alertable && has_apc qs x) ≡ true) (sym apcs) (ap (λ (w : Wait). w.alertable && has_apc (state old).apcs x) same ∙ alerted.2))))

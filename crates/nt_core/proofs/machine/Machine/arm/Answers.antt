@@ -1,0 +1,11 @@
+use Rattle.std.proofs.Common.{ap, ◌∙◌, Some, false}
+use Rattle.nt_objects.specs.declared.object.Object.{Object}
+use Rattle.nt_objects.specs.Object.{armed_with, with_set}
+use Rattle.nt_core.proofs.Arming.{armed_sound}
+use Rattle.nt_core.proofs.machine.Machine.arm.Goals as goal
+
+pub returns-clause-sound : goal.returns-clause-sound
+returns-clause-sound c =
+    armed_sound c.args.self.now c.promise.new.self c.withdraw.new.self c.put_timer.new.self c.args.timer c.arm.new.self c.args.armed c.requires.sound c.requires.kind c.requires.runs c.in_ok-promise.ensures.ok c.withdraw.ensures
+    (c.arm.ensures ∙ ap (λ (o : Object). armed_with (Some c.args.armed) (with_set false o)) c.object-object.ensures)
+    c.put_timer.ensures

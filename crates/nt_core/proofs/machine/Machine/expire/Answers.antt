@@ -1,0 +1,15 @@
+use Rattle.std.proofs.Common.{◌≡◌, sym, Some, subst}
+use Rattle.std.specs.Prelude.{IfSome}
+use Rattle.nt_apc.specs.Queues.{place_of}
+use Rattle.nt_core.specs.Dispatcher.{Dispatcher}
+use Rattle.nt_core.proofs.Arming.{ringing_placed, ringing_sound}
+use Rattle.nt_core.proofs.machine.Machine.expire.Goals as goal
+
+pub notify-requires : goal.notify-requires
+notify-requires c =
+    subst (λ (d : Dispatcher). IfSome c.expire-routine.result (λ r. place_of d.apcs.places c.args.timer ≡ Some r.thread)) (sym c.put_timer.ensures)
+    (ringing_placed c.args.self.now c.args.timer c.in-Some.due c.object-object.result c.expire-routine.result c.requires.sound c.object-object.ensures (sym c.in-Some.ensures) c.expire-routine.ensures.routine)
+
+pub returns-clause-sound : goal.returns-clause-sound
+returns-clause-sound c =
+    ringing_sound c.args.self.now c.put_timer.new.self c.notify.new.self c.args.timer c.in-Some.due c.in-Some-new.due c.args.now c.object-object.result c.expire-routine.new.self c.expire-routine.result c.requires.sound c.object-object.ensures (sym c.in-Some.ensures) c.expire-routine.ensures.change c.put_timer.ensures c.notify.ensures
