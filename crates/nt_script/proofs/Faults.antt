@@ -8,12 +8,13 @@ use Rattle.nt_core.specs.declared.call.WaitCall.{WaitCall}
 use Rattle.nt_script.specs.Words.{text_of, words_of, is_plain, caller_of}
 use Rattle.nt_script.specs.Scope.{Scope}
 use Rattle.nt_script.specs.Keywords.{keyword_of}
-use Rattle.nt_script.specs.Grammar.{Place, NamePlace, ObjectPlace, NumberPlace, SignedPlace, TimePlace, ModePlace, ValuePlace, fits, is_word, free_name_in, object_in, number_in, signed_in, time_in, mode_in, options_fault, each_fault, places_fault, shape_of, shape_fault, caller_fault, words_fault, opening_fault, line_fault}
-use Rattle.nt_script.specs.Reading.{◌>>=◌, end_at, option_at, value_at, number_at, signed_at, free_name_at, object_at, time_at, mode_at, objects_at, event_at, semaphore_at, mutex_at, only_object_at, act_on, release_at, apc_at, objects_wait_at, sleep_at, call_at, caller_at, statement_at, threads_at, opening_at, plain_text, short_line, opening_of, statement_of}
+use Rattle.nt_script.specs.Grammar.{Place, NamePlace, ObjectPlace, NumberPlace, SignedPlace, TimePlace, ModePlace, ValuePlace, MomentPlace, fits, only, together_fault, is_word, free_name_in, object_in, number_in, signed_in, time_in, mode_in, options_fault, each_fault, places_fault, shape_of, shape_fault, caller_fault, words_fault, opening_fault, line_fault}
+use Rattle.nt_script.specs.Reading.{◌>>=◌, end_at, option_at, value_at, number_at, signed_at, routine_at, free_name_at, object_at, time_at, mode_at, objects_at, tick_at, event_at, semaphore_at, mutex_at, timer_at, only_object_at, act_on, release_at, arm_at, apc_at, objects_wait_at, sleep_at, swap_at, call_at, caller_at, statement_at, threads_at, opening_at, plain_text, short_line, opening_of, statement_of}
 use Rattle.nt_script.specs.declared.keyword.Keyword.{Keyword}
 use Rattle.nt_script.specs.declared.parser.Statement.{Statement}
-use Rattle.nt_script.specs.declared.parser.Statement.TheVariants.{Create, Perform}
+use Rattle.nt_script.specs.declared.parser.Statement.TheVariants.{Create, Perform, Tick}
 use Rattle.nt_script.specs.declared.fault.ScriptFault.{ScriptFault}
+use Rattle.nt_script.proofs.Parsing.{bind_assoc}
 
 abbrev pub fault_of : {A : Type 0} → Result A ScriptFault → Option ScriptFault
 fault_of (Ok x) = None
@@ -101,6 +102,24 @@ unfolding objects_at
 each scope [] = refl
 each scope (word ∷ words) = each_step scope word words (each scope words) (object_in scope word) refl
 
+-- ---- a routine and its argument
+
+routine_pair : ℕ → ℕ → Words → Result (Option (ℕ × ℕ) × Words) ScriptFault
+routine_pair routine arg left = Ok (Some (routine, arg), left)
+
+together : (scope : Scope) (f : Option (ℕ × ℕ) → Statement) (words : Words)
+    → fault_of (routine_at words >>= λ routine. (end_at routine.1 >>= λ ended. Ok (f routine.0))) ≡ together_fault scope (ValuePlace ∷ ValuePlace ∷ []) words
+unfolding routine_at routine_pair
+together scope f [] = refl
+together scope f (word ∷ words) =
+    ap fault_of (bind_assoc (number_at 0 (2 ^ 64 - 1) (word ∷ words)) _ _)
+    ∙ number_step scope (ValuePlace ∷ []) (options_fault []) 0 (2 ^ 64 - 1)
+    (λ routine left. (number_at 0 (2 ^ 64 - 1) left >>= λ arg. routine_pair routine arg.0 arg.1) >>= λ both. (end_at both.1 >>= λ ended. Ok (f both.0)))
+    (λ routine left.
+    ap fault_of (bind_assoc (number_at 0 (2 ^ 64 - 1) left) (λ arg. routine_pair routine arg.0 arg.1) (λ both. end_at both.1 >>= λ ended. Ok (f both.0)))
+    ∙ number_step scope [] (options_fault []) 0 (2 ^ 64 - 1) (λ arg last. end_at last >>= λ ended. Ok (f (Some (routine, arg)))) (λ arg last. ends _ last) left)
+    (word ∷ words)
+
 -- ---- each line
 
 module _ (scope : Scope) (who : ℕ) (words : Words) where
@@ -132,6 +151,12 @@ module _ (scope : Scope) (who : ℕ) (words : Words) where
       (λ name rest. end_at (option_at (codes "owned") rest).1 >>= λ ended. Ok (Create who name (Act.CreateMutex (if (option_at (codes "owned") rest).0 then 1 else 0))))
       (λ name rest. ends _ (option_at (codes "owned") rest).1 ∙ option_step (codes "owned") [] rest) words
 
+  timer : faults_as Keyword.Timer (timer_at scope who words)
+  unfolding timer_at
+  timer = name_step scope [] (options_fault (codes "manual" ∷ []))
+      (λ name rest. end_at (option_at (codes "manual") rest).1 >>= λ ended. Ok (Create who name (Act.CreateTimer (if (option_at (codes "manual") rest).0 then 1 else 0))))
+      (λ name rest. ends _ (option_at (codes "manual") rest).1 ∙ option_step (codes "manual") [] rest) words
+
   act : (f : ℕ → Act) → fault_of (act_on scope who f words) ≡ places_fault scope (ObjectPlace ∷ []) (options_fault []) words
   unfolding only_object_at
   act f = made (λ object. Perform who (Call.Act (f object))) (only_object_at scope words) ∙ object_step scope [] (options_fault []) (λ object rest. end_at rest >>= λ ended. Ok object) (λ object rest. ends object rest) words
@@ -141,6 +166,16 @@ module _ (scope : Scope) (who : ℕ) (words : Words) where
   release = object_step scope (SignedPlace (2 ^ 31) ∷ []) (options_fault [])
       (λ object rest. signed_at (2 ^ 31) rest >>= λ count. (end_at count.1 >>= λ ended. Ok (Perform who (Call.Act (Act.ReleaseSemaphore object count.0)))))
       (λ object rest. signed_step scope [] (options_fault []) (2 ^ 31) (λ count left. end_at left >>= λ ended. Ok (Perform who (Call.Act (Act.ReleaseSemaphore object count)))) (λ count left. ends _ left) rest) words
+
+  arm : faults_as Keyword.Arm (arm_at scope who words)
+  unfolding arm_at
+  arm = object_step scope (SignedPlace (2 ^ 63) ∷ SignedPlace (2 ^ 31) ∷ []) (together_fault scope (ValuePlace ∷ ValuePlace ∷ []))
+      (λ timer rest. signed_at (2 ^ 63) rest >>= λ due. (signed_at (2 ^ 31) due.1 >>= λ period. (routine_at period.1 >>= λ routine. (end_at routine.1 >>= λ ended. Ok (Perform who (Call.Act (Act.SetTimer timer due.0 period.0 routine.0)))))))
+      (λ timer rest. signed_step scope (SignedPlace (2 ^ 31) ∷ []) (together_fault scope (ValuePlace ∷ ValuePlace ∷ [])) (2 ^ 63)
+      (λ due left. signed_at (2 ^ 31) left >>= λ period. (routine_at period.1 >>= λ routine. (end_at routine.1 >>= λ ended. Ok (Perform who (Call.Act (Act.SetTimer timer due period.0 routine.0))))))
+      (λ due left. signed_step scope [] (together_fault scope (ValuePlace ∷ ValuePlace ∷ [])) (2 ^ 31)
+      (λ period last. routine_at last >>= λ routine. (end_at routine.1 >>= λ ended. Ok (Perform who (Call.Act (Act.SetTimer timer due period routine.0)))))
+      (λ period last. together scope (λ routine. Perform who (Call.Act (Act.SetTimer timer due period routine))) last) left) rest) words
 
   apc : faults_as Keyword.Apc (apc_at scope who words)
   unfolding apc_at
@@ -163,6 +198,16 @@ module _ (scope : Scope) (who : ℕ) (words : Words) where
       (λ ms rest. mode_at rest >>= λ mode. (end_at mode.1 >>= λ ended. Ok (Perform who (Call.Wait (WaitCall.Sleep ms mode.0)))))
       (λ ms rest. mode_step scope [] (options_fault []) (λ mode left. end_at left >>= λ ended. Ok (Perform who (Call.Wait (WaitCall.Sleep ms mode)))) (λ mode left. ends _ left) rest) words
 
+  swap : faults_as Keyword.Swap (swap_at scope who words)
+  unfolding swap_at
+  swap = object_step scope (ObjectPlace ∷ TimePlace ∷ ModePlace ∷ []) (options_fault [])
+      (λ signal rest. object_at scope rest >>= λ object. (time_at object.1 >>= λ time. (mode_at time.1 >>= λ mode. (end_at mode.1 >>= λ ended. Ok (Perform who (Call.Wait (WaitCall.Swap signal object.0 time.0 mode.0)))))))
+      (λ signal rest. object_step scope (TimePlace ∷ ModePlace ∷ []) (options_fault [])
+      (λ object left. time_at left >>= λ time. (mode_at time.1 >>= λ mode. (end_at mode.1 >>= λ ended. Ok (Perform who (Call.Wait (WaitCall.Swap signal object time.0 mode.0))))))
+      (λ object left. time_step scope (ModePlace ∷ []) (options_fault [])
+      (λ ms later. mode_at later >>= λ mode. (end_at mode.1 >>= λ ended. Ok (Perform who (Call.Wait (WaitCall.Swap signal object ms mode.0)))))
+      (λ ms later. mode_step scope [] (options_fault []) (λ mode last. end_at last >>= λ ended. Ok (Perform who (Call.Wait (WaitCall.Swap signal object ms mode)))) (λ mode last. ends _ last) later) left) rest) words
+
 -- ---- the line of a keyword
 
 call_faults : (scope : Scope) (who : ℕ) (keyword : Keyword) (words : Words) → fault_of (call_at scope who keyword words) ≡ shape_fault scope (shape_of keyword) words
@@ -170,15 +215,19 @@ unfolding call_at
 call_faults scope who Keyword.Event words = event scope who words
 call_faults scope who Keyword.Semaphore words = semaphore scope who words
 call_faults scope who Keyword.Mutex words = mutex scope who words
+call_faults scope who Keyword.Timer words = timer scope who words
 call_faults scope who Keyword.Set words = act scope who words _
 call_faults scope who Keyword.Reset words = act scope who words _
 call_faults scope who Keyword.Pulse words = act scope who words _
 call_faults scope who Keyword.Release words = release scope who words
 call_faults scope who Keyword.Unlock words = act scope who words _
+call_faults scope who Keyword.Arm words = arm scope who words
+call_faults scope who Keyword.Cancel words = act scope who words _
 call_faults scope who Keyword.Apc words = apc scope who words
 call_faults scope who Keyword.Any words = objects_wait scope who words false
 call_faults scope who Keyword.All words = objects_wait scope who words true
 call_faults scope who Keyword.Sleep words = sleep scope who words
+call_faults scope who Keyword.Swap words = swap scope who words
 call_faults scope who Keyword.Next words = ends (Perform who (Call.Act Act.NextApc)) words
 
 caller_faults : (scope : Scope) (who : ℕ) (words : Words) → fault_of (caller_at scope who words) ≡ caller_fault scope words
@@ -190,14 +239,19 @@ caller_faults scope who (word ∷ words) = by (keyword_of word) refl
     by None e = rw e refl
     by (Some keyword) e = rw e (call_faults scope who keyword words)
 
+tick : (scope : Scope) (words : Words) → fault_of (tick_at words) ≡ shape_fault scope (only (MomentPlace ∷ [])) words
+unfolding tick_at
+tick scope words = number_step scope [] (options_fault []) 0 (2 ^ 62) (λ moment rest. end_at rest >>= λ ended. Ok (Tick moment)) (λ moment rest. ends _ rest) words
+
 statement : (scope : Scope) (words : Words) → fault_of (statement_at scope words) ≡ words_fault scope words
 unfolding statement_at
 statement scope [] = refl
-statement scope (first ∷ words) = by (caller_of first) refl
+statement scope (first ∷ words) = by (is_word first (codes "tick")) (caller_of first) refl refl
   where
-    by : (o : Option ℕ) → caller_of first ≡ o → fault_of (statement_at scope (first ∷ words)) ≡ words_fault scope (first ∷ words)
-    by None e = rw e refl
-    by (Some who) e = rw e (caller_faults scope who words)
+    by : (b : Bool) (o : Option ℕ) → is_word first (codes "tick") ≡ b → caller_of first ≡ o → fault_of (statement_at scope (first ∷ words)) ≡ words_fault scope (first ∷ words)
+    by true o is e = rw is (tick scope words)
+    by false None is e = rw is (rw e refl)
+    by false (Some who) is e = rw is (rw e (caller_faults scope who words))
 
 opening : (words : Words) → fault_of (opening_at words) ≡ opening_fault words
 unfolding opening_at threads_at

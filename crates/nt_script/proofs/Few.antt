@@ -1,5 +1,5 @@
 -- A turn ends no more waits than there were, and begins one at most.
-use Rattle.std.proofs.Common.{◌≡◌, ◌≢◌, ℕ, ◌+◌, ◌-◌, ◌≤◌, ◌<◌, Bool, true, false, cond, List, [], ◌∷◌, length, length-append, refl, sym, ap, ◌∙◌, arith, Option, Some, None, Ok, Err, Result, is_some, ◌&&◌, ◌==◌, inl, inr}
+use Rattle.std.proofs.Common.{◌≡◌, ◌≢◌, ℕ, ◌+◌, ◌-◌, ◌≤◌, ◌<◌, Bool, true, false, cond, List, [], ◌∷◌, ◌++◌, length, length-append, refl, sym, ap, ◌∙◌, arith, Option, Some, None, Ok, Err, Result, is_some, ◌&&◌, ◌==◌, inl, inr}
 use Rattle.std.proofs.lemmas.List.{length-map}
 use Rattle.std.proofs.lemmas.Bool.{le-ltb, ne_eqb}
 use Rattle.std.specs.Ordering.{nat_cmp, eq_by_cmp}
@@ -11,14 +11,15 @@ use Rattle.nt_waits.specs.Waits.{IsMember}
 use Rattle.nt_apc.specs.Queues.{has_apc}
 use Rattle.nt_core.specs.declared.call.Act.{Act}
 use Rattle.nt_core.specs.declared.call.Call.{Call}
+use Rattle.nt_core.specs.declared.call.WaitCall.{WaitCall}
 use Rattle.nt_core.specs.declared.call.Grant.{Grant}
 use Rattle.nt_core.specs.declared.call.Reply.{Reply}
 use Rattle.nt_core.specs.Calls.{timeout_of}
 use Rattle.nt_core.specs.Rising.{IsRising}
 use Rattle.nt_core.specs.State.{State, Pending, wait_over, waits_over}
-use Rattle.nt_core.specs.Serving.{fits, granted, Grants, Alert}
-use Rattle.nt_core.specs.Change.{change, may_take}
-use Rattle.nt_core.specs.Steps.{Called, after_serving, answered, begun, wait_of}
+use Rattle.nt_core.specs.Serving.{fits, granted, Grants, Alert, TimeOut}
+use Rattle.nt_core.specs.Change.{change, may_take, expired, expired_as, all_expired}
+use Rattle.nt_core.specs.Steps.{Called, Ticked, MomentPasses, MomentsPass, after_serving, answered, begun, wait_of}
 
 len_removed : (m : Pending) (t : ℕ) (w : Wait) → map.get m t ≡ Some w → map.len (map.remove m t) + 1 ≡ map.len m
 len_removed m t w e =
@@ -75,9 +76,18 @@ either-len : (b : Bool) (n : ℕ) (x y : State) → map.len x.waits ≡ n → ma
 either-len true n x y p q = p
 either-len false n x y p q = q
 
+expired-waits : (v : ℕ) (s : State) (timer : ℕ) → (expired v s timer).waits ≡ s.waits
+expired-waits v s timer = by _
+  where
+    by : (armed : Option _) → (expired_as s v timer armed).waits ≡ s.waits
+    by None = refl
+    by (Some armed) = refl
+
 change-len : (s : State) (t : ℕ) (call : Call) → map.len (change s t call).waits ≡ map.len s.waits
 change-len s t (Call.Act (Act.CreateEvent flags)) = refl
 change-len s t (Call.Act Act.NextApc) = either-len (may_take s t) (map.len s.waits) _ _ refl refl
+change-len s t (Call.Act (Act.SetTimer h due period routine)) = either-len _ (map.len s.waits) _ _ (ap (λ (p : Pending). map.len p) (expired-waits s.now _ h)) refl
+change-len s t (Call.Wait (WaitCall.Swap signal object ms alertable)) = refl
 change-len s t call = refl
 
 after-len : (call : Call) (s : State) → map.len (after_serving call s).waits ≡ map.len s.waits
@@ -119,3 +129,46 @@ Called-few old who call (Ok reply) grants new h =
     let both : length grants ≡ length step.served + length step.alerted = ap length step.in_order ∙ length-append step.served step.alerted in
     let last = answered-len old step.woken new who call reply step.answers in
     omega (arith, served, alerted, both, last, change-len old who call, after-len call step.calm)
+
+-- ---- a tick
+
+time_out-len : (old new : State) (u : ℕ) (grants : List Grant) → TimeOut old u grants new → length grants + map.len new.waits ≡ map.len old.waits
+unfolding Pends
+time_out-len old new u grants h =
+    let over = waits_over-len h.threads old false h.late.rising (λ x member. let is = (h.late.exactly x).0 member in (is.0, is.1)) in
+    let left : map.len new.waits ≡ map.len (waits_over old h.threads false).waits = ap (λ (s : State). map.len s.waits) h.leaves in
+    let ended : length grants ≡ length h.threads = ap length h.ends ∙ length-map h.threads _ in
+    omega arith
+
+all_expired-waits : (v : ℕ) (s : State) (timers : List ℕ) → (all_expired v s timers).waits ≡ s.waits
+all_expired-waits v s [] = refl
+all_expired-waits v s (timer ∷ timers) = all_expired-waits v (expired v s timer) timers ∙ expired-waits v s timer
+
+moment-len : (old new : State) (m u : ℕ) (grants : List Grant) → MomentPasses old m u grants new → length grants + map.len new.waits ≡ map.len old.waits
+moment-len old new m u grants h =
+    let same : map.len (all_expired m old h.timers).waits ≡ map.len old.waits = ap (λ (p : Pending). map.len p) (all_expired-waits m old h.timers) in
+    let served = grants-len _ h.served (all_expired m old h.timers) h.calm h.serves.0 in
+    let alerted = alert-len h.calm h.woken h.alerted h.alerts in
+    let timed = time_out-len h.woken new u h.timed h.times_out in
+    let all : length grants ≡ (length h.served + length h.alerted) + length h.timed =
+    ap length h.in_order ∙ length-append (h.served ++ h.alerted) h.timed ∙ ap (λ (n : ℕ). n + length h.timed) (length-append h.served h.alerted) in
+    omega (arith, same, served, alerted, timed, all)
+
+moments-len : (m : ℕ) (us : List ℕ) (old new : State) (grants : List Grant) → MomentsPass old m us grants new → length grants + map.len new.waits ≡ map.len old.waits
+moments-len m [] old new grants h =
+    let none = ap length h.1 in
+    let same = ap (λ (s : State). map.len s.waits) h.2 in
+    omega arith
+moments-len m (u ∷ us) old new grants (here, later, mid, next, passes, rest, e) =
+    let first = moment-len old mid m u here passes in
+    let more = moments-len m us mid new later rest in
+    let both : length grants ≡ length here + length later = ap length e ∙ length-append here later in
+    omega (arith, first, more, both)
+
+pub Ticked-few : (old : State) (m : ℕ) (result : Result Reply Refusal) (grants : List Grant) (new : State) → Ticked old m result grants new
+    → length grants + map.len new.waits ≡ map.len old.waits
+Ticked-few old m (Err r) grants new h =
+    let none = ap length h.2 in
+    let same = ap (λ (s : State). map.len s.waits) h.3 in
+    omega arith
+Ticked-few old m (Ok reply) grants new h = moments-len m h.2.0 old new grants h.2.1

@@ -10,14 +10,15 @@ use Rattle.nt_script.specs.Words.{text_of, words_of, is_plain, caller_of}
 use Rattle.nt_script.specs.Scope.{Scope}
 use Rattle.nt_script.specs.Keywords.{keyword_among, keyword_of, keywords}
 use Rattle.nt_script.specs.Keywords as keyword
-use Rattle.nt_script.specs.Grammar.{Place, NamePlace, ObjectPlace, NumberPlace, SignedPlace, TimePlace, ModePlace, blame, is_word, free_name_in, object_in, number_in, signed_in, time_in, mode_in, Part, NewName, Object, Number, Signed, Time, Mode, Says, Spells, word_if, one_if, objects, value, IsStatement, IsOpening, IsPlainLine}
-use Rattle.nt_script.specs.Reading.{◌>>=◌, end_at, option_at, value_at, number_at, signed_at, free_name_at, object_at, time_at, mode_at, objects_at, event_at, semaphore_at, mutex_at, only_object_at, act_on, release_at, apc_at, objects_wait_at, sleep_at, bare_at, call_at, caller_at, statement_at, threads_at, opening_at, plain_text, short_line, opening_of, statement_of}
+use Rattle.nt_script.specs.Grammar.{Place, NamePlace, ObjectPlace, NumberPlace, SignedPlace, TimePlace, ModePlace, blame, is_word, free_name_in, object_in, number_in, signed_in, time_in, mode_in, Part, NewName, Object, Number, Signed, Time, Mode, Says, Spells, word_if, one_if, objects, value, routine_parts, IsStatement, IsOpening, IsPlainLine}
+use Rattle.nt_script.specs.Reading.{◌>>=◌, end_at, option_at, value_at, number_at, signed_at, routine_at, free_name_at, object_at, time_at, mode_at, objects_at, tick_at, event_at, semaphore_at, mutex_at, timer_at, only_object_at, act_on, release_at, arm_at, apc_at, objects_wait_at, sleep_at, swap_at, bare_at, call_at, caller_at, statement_at, threads_at, opening_at, plain_text, short_line, opening_of, statement_of}
 use Rattle.nt_script.specs.Transcript.{IsLine, IsOpeningLine, IsBlankLine}
 use Rattle.nt_script.specs.declared.fault.ScriptFault.{ScriptFault}
 use Rattle.nt_script.specs.declared.fault.ScriptFault.TheVariants.{ThreadsExpected}
 use Rattle.nt_script.specs.declared.keyword.Keyword.{Keyword}
+use Rattle.nt_script.proofs.Parsing.{bind_assoc}
 use Rattle.nt_script.specs.declared.parser.Statement.{Statement}
-use Rattle.nt_script.specs.declared.parser.Statement.TheVariants.{Blank, Create, Perform}
+use Rattle.nt_script.specs.declared.parser.Statement.TheVariants.{Blank, Create, Perform, Tick}
 
 abbrev Words : Type 0
 Words = List (List ℕ)
@@ -131,6 +132,28 @@ objects_said scope (word ∷ words) handles e = by (object_in scope word) (objec
         let all : Spells scope (objects (handle ∷ hs)) (word ∷ words) = (is, more hs reads) in
         subst (λ (hs : List ℕ). Spells scope (objects hs) (word ∷ words)) same all
 
+-- ---- a routine and its argument
+
+record RoutineRead (scope : Scope) (st : Statement) (f : Option (ℕ × ℕ) → Statement) (words : Words) : Type 0 where
+  routine : Option (ℕ × ℕ)
+  spells : Spells scope (routine_parts routine) words
+  same : f routine ≡ st
+
+routine_pair : ℕ → ℕ → Words → Result (Option (ℕ × ℕ) × Words) ScriptFault
+routine_pair routine arg left = Ok (Some (routine, arg), left)
+
+routine_said : (scope : Scope) (st : Statement) (f : Option (ℕ × ℕ) → Statement) (words : Words) → (routine_at words >>= λ routine. (end_at routine.1 >>= λ ended. Ok (f routine.0))) ≡ Ok st → RoutineRead scope st f words
+unfolding routine_at routine_pair
+routine_said scope st f [] e = record { routine = None; spells = tt; same = ok_is (f None) st e }
+routine_said scope st f (word ∷ words) e =
+    let both : Option (ℕ × ℕ) × Words → Result Statement ScriptFault = λ both. end_at both.1 >>= λ ended. Ok (f both.0) in
+    let routine = number_step scope (word ∷ words) st 0 (2 ^ 64 - 1) (λ routine rest. (number_at 0 (2 ^ 64 - 1) rest >>= λ arg. routine_pair routine arg.0 arg.1) >>= both)
+    (sym (bind_assoc (number_at 0 (2 ^ 64 - 1) (word ∷ words)) (λ routine. number_at 0 (2 ^ 64 - 1) routine.1 >>= λ arg. routine_pair routine.0 arg.0 arg.1) both) ∙ e) in
+    let arg = number_step scope routine.rest st 0 (2 ^ 64 - 1) (λ arg rest. end_at rest >>= λ ended. Ok (f (Some (routine.first, arg))))
+    (sym (bind_assoc (number_at 0 (2 ^ 64 - 1) routine.rest) (λ arg. routine_pair routine.first arg.0 arg.1) both) ∙ routine.after) in
+    let end = ended scope arg.rest (f (Some (routine.first, arg.first))) st arg.after in
+    record { routine = Some (routine.first, arg.first); spells = routine.spells (value arg.first ∷ []) (arg.spells [] end.spells); same = end.same }
+
 -- ---- each line
 
 -- the statement behind any caller
@@ -172,6 +195,14 @@ module _ (scope : Scope) (who : ℕ) (words : Words) (st : Statement) where
       let end = ended scope owned.1 (Create who name.first (Act.CreateMutex (cond owned.0 1 0))) st name.after in
       subst (λ (st : Statement). IsStatement scope st (first ∷ keyword.text_of Keyword.Mutex ∷ words)) end.same (owned.0, refl, (caller, (refl, name.spells _ (last_option scope (codes "owned") name.rest end.spells))))
 
+  timer : timer_at scope who words ≡ Ok st → Behind scope who Keyword.Timer st words
+  unfolding timer_at
+  timer e first caller =
+      let name = name_step scope words st (λ name rest. end_at (option_at (codes "manual") rest).1 >>= λ ended. Ok (Create who name (Act.CreateTimer (cond (option_at (codes "manual") rest).0 1 0)))) e in
+      let manual = option_at (codes "manual") name.rest in
+      let end = ended scope manual.1 (Create who name.first (Act.CreateTimer (cond manual.0 1 0))) st name.after in
+      subst (λ (st : Statement). IsStatement scope st (first ∷ keyword.text_of Keyword.Timer ∷ words)) end.same (manual.0, refl, (caller, (refl, name.spells _ (last_option scope (codes "manual") name.rest end.spells))))
+
   -- one object, and the act on it
   act : (k : Keyword) (f : ℕ → Act) → ((handle : ℕ) (first : List ℕ) → caller_of first ≡ Some who → Spells scope (Object handle ∷ []) words → IsStatement scope (Perform who (Call.Act (f handle))) (first ∷ keyword.text_of k ∷ words))
       → act_on scope who f words ≡ Ok st → Behind scope who k st words
@@ -190,6 +221,16 @@ module _ (scope : Scope) (who : ℕ) (words : Words) (st : Statement) where
       let count = signed_step scope object.rest st (2 ^ 31) (λ count rest. end_at rest >>= λ ended. Ok (Perform who (Call.Act (Act.ReleaseSemaphore object.first count)))) object.after in
       let end = ended scope count.rest (Perform who (Call.Act (Act.ReleaseSemaphore object.first count.first))) st count.after in
       subst (λ (st : Statement). IsStatement scope st (first ∷ keyword.text_of Keyword.Release ∷ words)) end.same (caller, (refl, object.spells (Signed (2 ^ 31) count.first ∷ []) (count.spells [] end.spells)))
+
+  arm : arm_at scope who words ≡ Ok st → Behind scope who Keyword.Arm st words
+  unfolding arm_at
+  arm e first caller =
+      let object = object_step scope words st (λ timer rest. signed_at (2 ^ 63) rest >>= λ due. (signed_at (2 ^ 31) due.1 >>= λ period. (routine_at period.1 >>= λ routine. (end_at routine.1 >>= λ ended. Ok (Perform who (Call.Act (Act.SetTimer timer due.0 period.0 routine.0))))))) e in
+      let due = signed_step scope object.rest st (2 ^ 63) (λ due rest. signed_at (2 ^ 31) rest >>= λ period. (routine_at period.1 >>= λ routine. (end_at routine.1 >>= λ ended. Ok (Perform who (Call.Act (Act.SetTimer object.first due period.0 routine.0)))))) object.after in
+      let period = signed_step scope due.rest st (2 ^ 31) (λ period rest. routine_at rest >>= λ routine. (end_at routine.1 >>= λ ended. Ok (Perform who (Call.Act (Act.SetTimer object.first due.first period routine.0))))) due.after in
+      let routine = routine_said scope st (λ routine. Perform who (Call.Act (Act.SetTimer object.first due.first period.first routine))) period.rest period.after in
+      let spelled = object.spells (Signed (2 ^ 63) due.first ∷ Signed (2 ^ 31) period.first ∷ routine_parts routine.routine) (due.spells (Signed (2 ^ 31) period.first ∷ routine_parts routine.routine) (period.spells (routine_parts routine.routine) routine.spells)) in
+      subst (λ (st : Statement). IsStatement scope st (first ∷ keyword.text_of Keyword.Arm ∷ words)) routine.same (caller, (refl, spelled))
 
   apc : apc_at scope who words ≡ Ok st → Behind scope who Keyword.Apc st words
   unfolding apc_at
@@ -219,6 +260,18 @@ module _ (scope : Scope) (who : ℕ) (words : Words) (st : Statement) where
       let end = ended scope mode.rest (Perform who (Call.Wait (WaitCall.Sleep time.first mode.first))) st mode.after in
       subst (λ (st : Statement). IsStatement scope st (first ∷ keyword.text_of Keyword.Sleep ∷ words)) end.same (caller, (refl, time.spells (Mode mode.first ∷ []) (mode.spells [] end.spells)))
 
+  swap : swap_at scope who words ≡ Ok st → Behind scope who Keyword.Swap st words
+  unfolding swap_at
+  swap e first caller =
+      let signal = object_step scope words st (λ signal rest. object_at scope rest >>= λ object. (time_at object.1 >>= λ time. (mode_at time.1 >>= λ mode. (end_at mode.1 >>= λ ended. Ok (Perform who (Call.Wait (WaitCall.Swap signal object.0 time.0 mode.0))))))) e in
+      let object = object_step scope signal.rest st (λ object rest. time_at rest >>= λ time. (mode_at time.1 >>= λ mode. (end_at mode.1 >>= λ ended. Ok (Perform who (Call.Wait (WaitCall.Swap signal.first object time.0 mode.0)))))) signal.after in
+      let time = time_step scope object.rest st (λ ms rest. mode_at rest >>= λ mode. (end_at mode.1 >>= λ ended. Ok (Perform who (Call.Wait (WaitCall.Swap signal.first object.first ms mode.0))))) object.after in
+      let mode = mode_step scope time.rest st (λ mode rest. end_at rest >>= λ ended. Ok (Perform who (Call.Wait (WaitCall.Swap signal.first object.first time.first mode)))) time.after in
+      let end = ended scope mode.rest (Perform who (Call.Wait (WaitCall.Swap signal.first object.first time.first mode.first))) st mode.after in
+      let waits = time.spells (Mode mode.first ∷ []) (mode.spells [] end.spells) in
+      let spelled = signal.spells (Object object.first ∷ Time time.first ∷ Mode mode.first ∷ []) (object.spells (Time time.first ∷ Mode mode.first ∷ []) waits) in
+      subst (λ (st : Statement). IsStatement scope st (first ∷ keyword.text_of Keyword.Swap ∷ words)) end.same (caller, (refl, spelled))
+
   bare : (k : Keyword) (call : Call) → ((first : List ℕ) → caller_of first ≡ Some who → Spells scope [] words → IsStatement scope (Perform who call) (first ∷ keyword.text_of k ∷ words))
       → bare_at who call words ≡ Ok st → Behind scope who k st words
   bare k call makes e first caller =
@@ -232,15 +285,19 @@ unfolding call_at
 call_said scope who Keyword.Event words st e = event scope who words st e
 call_said scope who Keyword.Semaphore words st e = semaphore scope who words st e
 call_said scope who Keyword.Mutex words st e = mutex scope who words st e
+call_said scope who Keyword.Timer words st e = timer scope who words st e
 call_said scope who Keyword.Set words st e = act scope who words st Keyword.Set (λ object. Act.SetEvent object) (λ handle first caller spelled. (caller, (refl, spelled))) e
 call_said scope who Keyword.Reset words st e = act scope who words st Keyword.Reset (λ object. Act.ResetEvent object) (λ handle first caller spelled. (caller, (refl, spelled))) e
 call_said scope who Keyword.Pulse words st e = act scope who words st Keyword.Pulse (λ object. Act.PulseEvent object) (λ handle first caller spelled. (caller, (refl, spelled))) e
 call_said scope who Keyword.Release words st e = release scope who words st e
 call_said scope who Keyword.Unlock words st e = act scope who words st Keyword.Unlock (λ object. Act.ReleaseMutex object) (λ handle first caller spelled. (caller, (refl, spelled))) e
+call_said scope who Keyword.Arm words st e = arm scope who words st e
+call_said scope who Keyword.Cancel words st e = act scope who words st Keyword.Cancel (λ object. Act.CancelTimer object) (λ handle first caller spelled. (caller, (refl, spelled))) e
 call_said scope who Keyword.Apc words st e = apc scope who words st e
 call_said scope who Keyword.Any words st e = objects_wait scope who words st Keyword.Any false (λ handles ms mode first caller spelled. (caller, (refl, spelled))) e
 call_said scope who Keyword.All words st e = objects_wait scope who words st Keyword.All true (λ handles ms mode first caller spelled. (caller, (refl, spelled))) e
 call_said scope who Keyword.Sleep words st e = sleep scope who words st e
+call_said scope who Keyword.Swap words st e = swap scope who words st e
 call_said scope who Keyword.Next words st e = bare scope who words st Keyword.Next (Call.Act Act.NextApc) (λ first caller spelled. (caller, (refl, spelled))) e
 
 -- a keyword is its text
@@ -266,14 +323,22 @@ caller_said scope who first (word ∷ words) st caller e = by (keyword_of word) 
         let text = keyword_said keywords word k is in
         subst (λ (word : List ℕ). IsStatement scope st (first ∷ word ∷ words)) (sym text) (call_said scope who k words st (rw is at e) first caller)
 
+tick_said : (scope : Scope) (first : List ℕ) (words : Words) (st : Statement) → is_word first (codes "tick") ≡ true → tick_at words ≡ Ok st → IsStatement scope st (first ∷ words)
+unfolding tick_at
+tick_said scope first words st is e =
+    let moment = number_step scope words st 0 (2 ^ 62) (λ moment rest. end_at rest >>= λ ended. Ok (Tick moment)) e in
+    let end = ended scope moment.rest (Tick moment.first) st moment.after in
+    subst (λ (st : Statement). IsStatement scope st (first ∷ words)) end.same (bytes_eq-true _ _ is, moment.spells [] end.spells)
+
 statement_said : (scope : Scope) (words : Words) (st : Statement) → statement_at scope words ≡ Ok st → IsStatement scope st words
 unfolding statement_at
 statement_said scope [] st e = subst (λ (st : Statement). IsStatement scope st []) (ok_is Blank st e) (let blank : Spells scope [] [] = tt in blank)
-statement_said scope (first ∷ words) st e = by (caller_of first) refl
+statement_said scope (first ∷ words) st e = by (is_word first (codes "tick")) (caller_of first) refl refl
   where
-    by : (o : Option ℕ) → caller_of first ≡ o → IsStatement scope st (first ∷ words)
-    by None caller = absurd (err_is st _ (rw caller at e))
-    by (Some who) caller = caller_said scope who first words st caller (rw caller at e)
+    by : (b : Bool) (o : Option ℕ) → is_word first (codes "tick") ≡ b → caller_of first ≡ o → IsStatement scope st (first ∷ words)
+    by true o is caller = tick_said scope first words st is (rw is at e)
+    by false None is caller = absurd (err_is st _ (rw caller at (rw is at e)))
+    by false (Some who) is caller = caller_said scope who first words st caller (rw caller at (rw is at e))
 
 -- ---- before `threads`
 

@@ -5,9 +5,9 @@ use Rattle.nt_core.specs.declared.call.Act.{Act}
 use Rattle.nt_core.specs.declared.call.Call.{Call}
 use Rattle.nt_core.specs.declared.call.Reply.{Reply}
 use Rattle.nt_core.specs.declared.call.Grant.{Grant}
-use Rattle.nt_core.specs.Steps.{Called}
-use Rattle.nt_core.specs.Runs.{Calls}
-use Rattle.nt_script.specs.declared.parser.Statement.TheVariants.{Create, Perform}
+use Rattle.nt_core.specs.Steps.{Called, Ticked}
+use Rattle.nt_core.specs.Runs.{Calls, Ticks}
+use Rattle.nt_script.specs.declared.parser.Statement.TheVariants.{Create, Perform, Tick}
 use Rattle.nt_script.specs.Scope.{Scope}
 use Rattle.nt_script.specs.Transcript.{turn_text, binds, handle_of, IsLine}
 use Rattle.nt_script.specs.Progress.{Progress, Advances, add_tally, tally_of}
@@ -26,6 +26,18 @@ module _ (number who : ℕ) (bytes : List ℕ) (call : Call) (result : Result Re
       (λ h. record {
         gives = (Perform who call, h, (result, grants, record { turn = refl; output = writes }, scope));
         goes = record { run = (new.state, called, refl); tally = tally; threads = ap (λ (s : Scope). s.threads) scope };
+      }) read
+
+module _ (number moment : ℕ) (bytes : List ℕ) (result : Result Reply Refusal) (grants : List Grant) (text : List ℕ) (old mid new : Progress)
+    (same : mid ≡ old) (ticked : Ticked mid.state moment result grants new.state) (writes : text ≡ turn_text number result grants)
+    (tally : new.tally ≡ add_tally mid.tally (tally_of (Ticks 0 moment result grants ∷ []))) where
+  pub tick_line : IsLine old.scope (Tick moment) bytes → new.scope ≡ mid.scope
+      → Advances number bytes (Some old) (Ticks 0 moment result grants ∷ []) text (Some new)
+  tick_line read scope =
+      subst (λ (p : Progress). IsLine p.scope (Tick moment) bytes → Advances number bytes (Some p) (Ticks 0 moment result grants ∷ []) text (Some new)) same
+      (λ h. record {
+        gives = (Tick moment, h, (result, grants, record { turn = refl; output = writes }, scope));
+        goes = record { run = (new.state, ticked, refl); tally = tally; threads = ap (λ (s : Scope). s.threads) scope };
       }) read
 
 module _ (number who : ℕ) (bytes : List ℕ) (act : Act) (result : Result Reply Refusal) (grants : List Grant) (text : List ℕ) (old mid new : Progress)

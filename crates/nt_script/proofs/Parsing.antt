@@ -21,6 +21,11 @@ err_is x fault e = absurd (cc)
 fault_is : {A : Type 0} (x y : ScriptFault) → (let left : Result A ScriptFault = Err x in left ≡ Err y) → x ≡ y
 fault_is x y e = cc
 
+-- what is read of what was read
+pub bind_assoc : {A B C : Type 0} (m : Result A ScriptFault) (f : A → Result B ScriptFault) (g : B → Result C ScriptFault) → ((m >>= f) >>= g) ≡ (m >>= λ x. (f x >>= g))
+bind_assoc (Ok x) f g = refl
+bind_assoc (Err fault) f g = refl
+
 with_front-push : (front : List ℕ) (handle : ℕ) (read : Result (List ℕ) ScriptFault) → with_front front (read >>= λ handles. Ok (handle ∷ handles)) ≡ with_front (front ++ handle ∷ []) read
 with_front-push front handle (Ok handles) = ap Ok (sym (append_assoc front (handle ∷ []) handles))
 with_front-push front handle (Err fault) = refl

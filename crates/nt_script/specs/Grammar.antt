@@ -11,7 +11,7 @@ use Rattle.nt_script.specs.Scope.{Scope, bound_in}
 use Rattle.nt_script.specs.declared.fault.ScriptFault.{ScriptFault}
 use Rattle.nt_script.specs.declared.fault.ScriptFault.TheVariants.{LineTooLong, BadByte, ThreadsExpected, UnknownWord, MissingWord, BadNumber, BadName, NameTaken, UnknownName, ExtraWord}
 use Rattle.nt_script.specs.declared.parser.Statement.{Statement}
-use Rattle.nt_script.specs.declared.parser.Statement.TheVariants.{Blank, Create, Perform}
+use Rattle.nt_script.specs.declared.parser.Statement.TheVariants.{Blank, Create, Perform, Tick}
 use Rattle.nt_script.specs.declared.keyword.Keyword.{Keyword}
 use Rattle.nt_script.specs.Keywords.{keyword_of}
 use Rattle.nt_script.specs.Keywords as keyword
@@ -115,10 +115,17 @@ begins who k parts = Caller who ∷ Word (keyword.text_of k) ∷ parts
 abbrev pub value : ℕ → Part
 value n = Number 0 (2 ^ 64 - 1) n
 
+-- a routine and its argument, both or none
+abbrev pub routine_parts : Option (ℕ × ℕ) → List Part
+routine_parts None = []
+routine_parts (Some routine) = value routine.0 ∷ value routine.1 ∷ []
+
 -- the words are this statement
 abbrev pub IsStatement : Scope → Statement → List (List ℕ) → Type 0
 -- (nothing)
 IsStatement scope Blank words = Spells scope [] words
+-- tick M
+IsStatement scope (Tick moment) words = Spells scope (Word (codes "tick") ∷ Number 0 (2 ^ 62) moment ∷ []) words
 -- tN event NAME [manual] [set]
 IsStatement scope (Create who name (Act.CreateEvent flags)) words =
     (manual set : Bool) × (flags ≡ one_if manual + 2 * one_if set)
@@ -127,6 +134,8 @@ IsStatement scope (Create who name (Act.CreateEvent flags)) words =
 IsStatement scope (Create who name (Act.CreateSemaphore initial maximum)) words = Spells scope (begins who Keyword.Semaphore (NewName name ∷ Signed (2 ^ 31) initial ∷ Signed (2 ^ 31) maximum ∷ [])) words
 -- tN mutex NAME [owned]
 IsStatement scope (Create who name (Act.CreateMutex flags)) words = (owned : Bool) × (flags ≡ one_if owned) × Spells scope (begins who Keyword.Mutex (NewName name ∷ word_if owned (codes "owned"))) words
+-- tN timer NAME [manual]
+IsStatement scope (Create who name (Act.CreateTimer flags)) words = (manual : Bool) × (flags ≡ one_if manual) × Spells scope (begins who Keyword.Timer (NewName name ∷ word_if manual (codes "manual"))) words
 -- tN set OBJ, tN reset OBJ, tN pulse OBJ
 IsStatement scope (Perform who (Call.Act (Act.SetEvent handle))) words = Spells scope (begins who Keyword.Set (Object handle ∷ [])) words
 IsStatement scope (Perform who (Call.Act (Act.ResetEvent handle))) words = Spells scope (begins who Keyword.Reset (Object handle ∷ [])) words
@@ -135,6 +144,11 @@ IsStatement scope (Perform who (Call.Act (Act.PulseEvent handle))) words = Spell
 IsStatement scope (Perform who (Call.Act (Act.ReleaseSemaphore handle count))) words = Spells scope (begins who Keyword.Release (Object handle ∷ Signed (2 ^ 31) count ∷ [])) words
 -- tN unlock OBJ
 IsStatement scope (Perform who (Call.Act (Act.ReleaseMutex handle))) words = Spells scope (begins who Keyword.Unlock (Object handle ∷ [])) words
+-- tN arm OBJ DUE PERIOD [ROUTINE ARG]
+IsStatement scope (Perform who (Call.Act (Act.SetTimer handle due period routine))) words =
+    Spells scope (begins who Keyword.Arm (Object handle ∷ Signed (2 ^ 63) due ∷ Signed (2 ^ 31) period ∷ routine_parts routine)) words
+-- tN cancel OBJ
+IsStatement scope (Perform who (Call.Act (Act.CancelTimer handle))) words = Spells scope (begins who Keyword.Cancel (Object handle ∷ [])) words
 -- tN apc OBJ ROUTINE ARG
 IsStatement scope (Perform who (Call.Act (Act.QueueApc handle apc arg))) words = Spells scope (begins who Keyword.Apc (Object handle ∷ value apc ∷ value arg ∷ [])) words
 -- tN next
@@ -144,6 +158,9 @@ IsStatement scope (Perform who (Call.Wait (WaitCall.Objects handles false ms ale
 IsStatement scope (Perform who (Call.Wait (WaitCall.Objects handles true ms alertable))) words = Spells scope (begins who Keyword.All (Time ms ∷ Mode alertable ∷ objects handles)) words
 -- tN sleep TIME MODE
 IsStatement scope (Perform who (Call.Wait (WaitCall.Sleep ms alertable))) words = Spells scope (begins who Keyword.Sleep (Time ms ∷ Mode alertable ∷ [])) words
+-- tN swap OBJ OBJ TIME MODE
+IsStatement scope (Perform who (Call.Wait (WaitCall.Swap signal handle ms alertable))) words =
+    Spells scope (begins who Keyword.Swap (Object signal ∷ Object handle ∷ Time ms ∷ Mode alertable ∷ [])) words
 -- no other act makes an object, and those that do are no lines without a name
 IsStatement scope statement words = ⊥
 
@@ -186,10 +203,15 @@ blame ModePlace word = UnknownWord
 abbrev pub ValuePlace : Place
 ValuePlace = NumberPlace 0 (2 ^ 64 - 1)
 
--- what may stand behind the places: these words in this order, each or not; or one word of a kind, any number of times
+-- 2 ^ 62 is the greatest moment
+abbrev pub MomentPlace : Place
+MomentPlace = NumberPlace 0 (2 ^ 62)
+
+-- what may stand behind the places: these words in this order, each or not; or one word of a kind, any number of times; or all of these places or none
 pub data Behind : Type 0 where
   Options : List (List ℕ) → Behind
   Each : Place → Behind
+  Together : List Place → Behind
 
 -- the places of a line, and what may stand behind them
 pub record Shape : Type 0 where
@@ -212,9 +234,15 @@ places_fault scope [] behind words = behind words
 places_fault scope (place ∷ places) behind [] = Some MissingWord
 places_fault scope (place ∷ places) behind (word ∷ words) = if fits scope place word then places_fault scope places behind words else Some (blame place word)
 
+-- all the places, where a word stands in the first
+abbrev pub together_fault : Scope → List Place → List (List ℕ) → Option ScriptFault
+together_fault scope places [] = None
+together_fault scope places (word ∷ words) = places_fault scope places (options_fault []) (word ∷ words)
+
 abbrev pub behind_fault : Scope → Behind → List (List ℕ) → Option ScriptFault
 behind_fault scope (Options options) words = options_fault options words
 behind_fault scope (Each place) words = each_fault scope place words
+behind_fault scope (Together places) words = together_fault scope places words
 
 abbrev pub shape_fault : Scope → Shape → List (List ℕ) → Option ScriptFault
 shape_fault scope shape words = places_fault scope shape.places (behind_fault scope shape.behind) words
@@ -231,15 +259,19 @@ abbrev pub shape_of : Keyword → Shape
 shape_of Keyword.Event = shape (NamePlace ∷ []) (Options (codes "manual" ∷ codes "set" ∷ []))
 shape_of Keyword.Semaphore = only (NamePlace ∷ SignedPlace (2 ^ 31) ∷ SignedPlace (2 ^ 31) ∷ [])
 shape_of Keyword.Mutex = shape (NamePlace ∷ []) (Options (codes "owned" ∷ []))
+shape_of Keyword.Timer = shape (NamePlace ∷ []) (Options (codes "manual" ∷ []))
 shape_of Keyword.Set = only (ObjectPlace ∷ [])
 shape_of Keyword.Reset = only (ObjectPlace ∷ [])
 shape_of Keyword.Pulse = only (ObjectPlace ∷ [])
 shape_of Keyword.Release = only (ObjectPlace ∷ SignedPlace (2 ^ 31) ∷ [])
 shape_of Keyword.Unlock = only (ObjectPlace ∷ [])
+shape_of Keyword.Arm = shape (ObjectPlace ∷ SignedPlace (2 ^ 63) ∷ SignedPlace (2 ^ 31) ∷ []) (Together (ValuePlace ∷ ValuePlace ∷ []))
+shape_of Keyword.Cancel = only (ObjectPlace ∷ [])
 shape_of Keyword.Apc = only (ObjectPlace ∷ ValuePlace ∷ ValuePlace ∷ [])
 shape_of Keyword.Any = shape (TimePlace ∷ ModePlace ∷ []) (Each ObjectPlace)
 shape_of Keyword.All = shape (TimePlace ∷ ModePlace ∷ []) (Each ObjectPlace)
 shape_of Keyword.Sleep = only (TimePlace ∷ ModePlace ∷ [])
+shape_of Keyword.Swap = only (ObjectPlace ∷ ObjectPlace ∷ TimePlace ∷ ModePlace ∷ [])
 shape_of Keyword.Next = only []
 
 -- the words behind a keyword, if it is one
@@ -256,7 +288,9 @@ caller_fault scope (word ∷ words) = keyword_fault scope (keyword_of word) word
 abbrev pub words_fault : Scope → List (List ℕ) → Option ScriptFault
 words_fault scope [] = None
 words_fault scope (first ∷ words) =
-    if is_some (caller_of first) then caller_fault scope words else Some UnknownWord
+    if is_word first (codes "tick") then shape_fault scope (only (MomentPlace ∷ [])) words
+    else if is_some (caller_of first) then caller_fault scope words
+    else Some UnknownWord
 
 -- the first fault of a line's words before `threads`, and on the `threads` line
 abbrev pub opening_fault : List (List ℕ) → Option ScriptFault

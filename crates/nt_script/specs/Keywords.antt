@@ -7,20 +7,24 @@ abbrev pub text_of : Keyword → List ℕ
 text_of Keyword.Event = codes "event"
 text_of Keyword.Semaphore = codes "semaphore"
 text_of Keyword.Mutex = codes "mutex"
+text_of Keyword.Timer = codes "timer"
 text_of Keyword.Set = codes "set"
 text_of Keyword.Reset = codes "reset"
 text_of Keyword.Pulse = codes "pulse"
 text_of Keyword.Release = codes "release"
 text_of Keyword.Unlock = codes "unlock"
+text_of Keyword.Arm = codes "arm"
+text_of Keyword.Cancel = codes "cancel"
 text_of Keyword.Apc = codes "apc"
 text_of Keyword.Any = codes "any"
 text_of Keyword.All = codes "all"
 text_of Keyword.Sleep = codes "sleep"
+text_of Keyword.Swap = codes "swap"
 text_of Keyword.Next = codes "next"
 
 abbrev pub keywords : List Keyword
 keywords =
-    Keyword.Event ∷ Keyword.Semaphore ∷ Keyword.Mutex ∷ Keyword.Set ∷ Keyword.Reset ∷ Keyword.Pulse ∷ Keyword.Release ∷ Keyword.Unlock ∷ Keyword.Apc ∷ Keyword.Any ∷ Keyword.All ∷ Keyword.Sleep ∷ Keyword.Next ∷ []
+    Keyword.Event ∷ Keyword.Semaphore ∷ Keyword.Mutex ∷ Keyword.Timer ∷ Keyword.Set ∷ Keyword.Reset ∷ Keyword.Pulse ∷ Keyword.Release ∷ Keyword.Unlock ∷ Keyword.Arm ∷ Keyword.Cancel ∷ Keyword.Apc ∷ Keyword.Any ∷ Keyword.All ∷ Keyword.Sleep ∷ Keyword.Swap ∷ Keyword.Next ∷ []
 
 abbrev pub keyword_among : List Keyword → List ℕ → Option Keyword
 keyword_among [] word = None

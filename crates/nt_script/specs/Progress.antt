@@ -41,14 +41,14 @@ abbrev pub granted_by : Turn → ℕ
 granted_by (Calls who call result grants) = length grants
 granted_by (Ticks by moment result grants) = length grants
 
--- how many calls there were, how many of them were refused, and how many waits they ended
+-- how many calls and ticks there were, how many of them were refused, and how many waits they ended
 abbrev pub tally_of : List Turn → Tally
 tally_of turns = record { calls = length turns; refused = count_by is_refused turns; granted = sum_by granted_by turns }
 
 abbrev pub add_tally : Tally → Tally → Tally
 add_tally a b = record { calls = a.calls + b.calls; refused = a.refused + b.refused; granted = a.granted + b.granted }
 
--- Each call stood on a line of its own before this one, and no more waits ended than began.
+-- Each call or tick stood on a line of its own before this one, and no more waits ended than began.
 pub record IsCounted (number : ℕ) (now : Progress) : Type 0 where
   pub calls : now.tally.calls < number
   pub refused : now.tally.refused ≤ now.tally.calls

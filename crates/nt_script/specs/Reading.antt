@@ -10,7 +10,7 @@ use Rattle.nt_script.specs.Keywords.{keyword_of}
 use Rattle.nt_script.specs.declared.fault.ScriptFault.{ScriptFault}
 use Rattle.nt_script.specs.declared.fault.ScriptFault.TheVariants.{LineTooLong, BadByte, ThreadsExpected, UnknownWord, MissingWord, ExtraWord}
 use Rattle.nt_script.specs.declared.parser.Statement.{Statement}
-use Rattle.nt_script.specs.declared.parser.Statement.TheVariants.{Blank, Create, Perform}
+use Rattle.nt_script.specs.declared.parser.Statement.TheVariants.{Blank, Create, Perform, Tick}
 use Rattle.nt_core.specs.declared.call.Call.{Call}
 use Rattle.nt_core.specs.declared.call.Act.{Act}
 use Rattle.nt_core.specs.declared.call.WaitCall.{WaitCall}
@@ -83,6 +83,14 @@ object_at scope words = value_at (object_in scope) ObjectPlace words
 unfoldable pub signed_at : ℕ → List (List ℕ) → Result (ℤ × List (List ℕ)) ScriptFault
 signed_at half words = value_at (signed_in half) (SignedPlace half) words
 
+-- a routine and its argument, both or none
+unfoldable pub routine_at : List (List ℕ) → Result (Option (ℕ × ℕ) × List (List ℕ)) ScriptFault
+routine_at [] = Ok (None, [])
+routine_at (word ∷ words) = do
+  routine ← number_at 0 (2 ^ 64 - 1) (word ∷ words)
+  arg ← number_at 0 (2 ^ 64 - 1) routine.1
+  Ok (Some (routine.0, arg.0), arg.1)
+
 unfoldable pub time_at : List (List ℕ) → Result (ℕ × List (List ℕ)) ScriptFault
 time_at words = value_at time_in TimePlace words
 
@@ -98,6 +106,13 @@ objects_at scope (word ∷ words) = do
   Ok (handle ∷ handles)
 
 -- ---- statements
+
+-- tick M
+unfoldable pub tick_at : List (List ℕ) → Result Statement ScriptFault
+tick_at words = do
+  moment ← number_at 0 (2 ^ 62) words
+  ended ← end_at moment.1
+  Ok (Tick moment.0)
 
 -- tN event NAME [manual] [set]
 unfoldable pub event_at : Scope → ℕ → List (List ℕ) → Result Statement ScriptFault
@@ -125,6 +140,14 @@ mutex_at scope who words = do
   ended ← end_at owned.1
   Ok (Create who name.0 (Act.CreateMutex (if owned.0 then 1 else 0)))
 
+-- tN timer NAME [manual]
+unfoldable pub timer_at : Scope → ℕ → List (List ℕ) → Result Statement ScriptFault
+timer_at scope who words = do
+  name ← free_name_at scope words
+  let manual = option_at (codes "manual") name.1
+  ended ← end_at manual.1
+  Ok (Create who name.0 (Act.CreateTimer (if manual.0 then 1 else 0)))
+
 -- one object, and nothing behind it
 unfoldable pub only_object_at : Scope → List (List ℕ) → Result ℕ ScriptFault
 only_object_at scope words = do
@@ -143,6 +166,16 @@ release_at scope who words = do
   count ← signed_at (2 ^ 31) semaphore.1
   ended ← end_at count.1
   Ok (Perform who (Call.Act (Act.ReleaseSemaphore semaphore.0 count.0)))
+
+-- tN arm OBJ DUE PERIOD [ROUTINE ARG]
+unfoldable pub arm_at : Scope → ℕ → List (List ℕ) → Result Statement ScriptFault
+arm_at scope who words = do
+  timer ← object_at scope words
+  due ← signed_at (2 ^ 63) timer.1
+  period ← signed_at (2 ^ 31) due.1
+  routine ← routine_at period.1
+  ended ← end_at routine.1
+  Ok (Perform who (Call.Act (Act.SetTimer timer.0 due.0 period.0 routine.0)))
 
 -- tN apc OBJ ROUTINE ARG
 unfoldable pub apc_at : Scope → ℕ → List (List ℕ) → Result Statement ScriptFault
@@ -169,6 +202,16 @@ sleep_at who words = do
   ended ← end_at mode.1
   Ok (Perform who (Call.Wait (WaitCall.Sleep time.0 mode.0)))
 
+-- tN swap OBJ OBJ TIME MODE
+unfoldable pub swap_at : Scope → ℕ → List (List ℕ) → Result Statement ScriptFault
+swap_at scope who words = do
+  signal ← object_at scope words
+  object ← object_at scope signal.1
+  time ← time_at object.1
+  mode ← mode_at time.1
+  ended ← end_at mode.1
+  Ok (Perform who (Call.Wait (WaitCall.Swap signal.0 object.0 time.0 mode.0)))
+
 -- a call that needs no more words
 abbrev pub bare_at : ℕ → Call → List (List ℕ) → Result Statement ScriptFault
 bare_at who call words = end_at words >>= λ ended. Ok (Perform who call)
@@ -178,15 +221,19 @@ unfoldable pub call_at : Scope → ℕ → Keyword → List (List ℕ) → Resul
 call_at scope who Keyword.Event words = event_at scope who words
 call_at scope who Keyword.Semaphore words = semaphore_at scope who words
 call_at scope who Keyword.Mutex words = mutex_at scope who words
+call_at scope who Keyword.Timer words = timer_at scope who words
 call_at scope who Keyword.Set words = act_on scope who (λ object. Act.SetEvent object) words
 call_at scope who Keyword.Reset words = act_on scope who (λ object. Act.ResetEvent object) words
 call_at scope who Keyword.Pulse words = act_on scope who (λ object. Act.PulseEvent object) words
 call_at scope who Keyword.Release words = release_at scope who words
 call_at scope who Keyword.Unlock words = act_on scope who (λ object. Act.ReleaseMutex object) words
+call_at scope who Keyword.Arm words = arm_at scope who words
+call_at scope who Keyword.Cancel words = act_on scope who (λ object. Act.CancelTimer object) words
 call_at scope who Keyword.Apc words = apc_at scope who words
 call_at scope who Keyword.Any words = objects_wait_at scope who false words
 call_at scope who Keyword.All words = objects_wait_at scope who true words
 call_at scope who Keyword.Sleep words = sleep_at who words
+call_at scope who Keyword.Swap words = swap_at scope who words
 call_at scope who Keyword.Next words = bare_at who (Call.Act Act.NextApc) words
 
 -- behind a caller
@@ -198,7 +245,7 @@ caller_at scope who words = do
 
 unfoldable pub statement_at : Scope → List (List ℕ) → Result Statement ScriptFault
 statement_at scope [] = Ok Blank
-statement_at scope (first ∷ words) = or_fault (caller_of first) UnknownWord >>= λ who. caller_at scope who words
+statement_at scope (first ∷ words) = if is_word first (codes "tick") then tick_at words else (or_fault (caller_of first) UnknownWord >>= λ who. caller_at scope who words)
 
 unfoldable pub threads_at : List (List ℕ) → Result (Option ℕ) ScriptFault
 threads_at words = do

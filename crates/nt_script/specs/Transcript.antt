@@ -8,10 +8,10 @@ use Rattle.nt_core.specs.declared.call.Call.{Call}
 use Rattle.nt_core.specs.declared.call.Reply.{Reply}
 use Rattle.nt_core.specs.declared.call.Grant.{Grant}
 use Rattle.nt_core.specs.State.{State, pends}
-use Rattle.nt_core.specs.Runs.{Turn, Calls}
+use Rattle.nt_core.specs.Runs.{Turn, Calls, Ticks}
 use Rattle.nt_script.specs.declared.fault.ScriptFault.{ScriptFault}
 use Rattle.nt_script.specs.declared.parser.Statement.{Statement}
-use Rattle.nt_script.specs.declared.parser.Statement.TheVariants.{Blank, Create, Perform}
+use Rattle.nt_script.specs.declared.parser.Statement.TheVariants.{Blank, Create, Perform, Tick}
 use Rattle.nt_script.specs.declared.fault.LineFault.{LineFault}
 use Rattle.nt_script.specs.declared.fault.LineFault.TheVariants as fault
 use Rattle.nt_script.specs.Words.{words_of, text_of}
@@ -90,6 +90,11 @@ pub record Makes (line who : ℕ) (call : Call) (result : Result Reply Refusal) 
   pub turn : turns ≡ Calls who call result grants ∷ []
   pub output : text ≡ turn_text line result grants
 
+-- That tick was made, with this result and these grants, and this is its output. No thread makes a script's ticks: they count as thread 0's.
+pub record Passes (line moment : ℕ) (result : Result Reply Refusal) (grants : List Grant) (turns : List Turn) (text : List ℕ) : Type 0 where
+  pub turn : turns ≡ Ticks 0 moment result grants ∷ []
+  pub output : text ≡ turn_text line result grants
+
 -- The statement on this line is carried out by these turns, with this output.
 abbrev pub IsCarriedOut : ℕ → Statement → Scope → List Turn → List ℕ → Scope → Type 0
 IsCarriedOut line Blank scope turns text after = (turns ≡ []) × (text ≡ []) × (after ≡ scope)
@@ -97,6 +102,8 @@ IsCarriedOut line (Create who name act) scope turns text after =
     (result : Result Reply Refusal) × (grants : List Grant) × Makes line who (Call.Act act) result grants turns text × (after ≡ binds name (handle_of result) scope)
 IsCarriedOut line (Perform who call) scope turns text after =
     (result : Result Reply Refusal) × (grants : List Grant) × Makes line who call result grants turns text × (after ≡ scope)
+IsCarriedOut line (Tick moment) scope turns text after =
+    (result : Result Reply Refusal) × (grants : List Grant) × Passes line moment result grants turns text × (after ≡ scope)
 
 abbrev pub opened_scope : ℕ → Scope
 opened_scope threads = record { threads = threads; names = [] }

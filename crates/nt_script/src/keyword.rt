@@ -9,15 +9,19 @@ pub(crate) enum Keyword {
     Event,
     Semaphore,
     Mutex,
+    Timer,
     Set,
     Reset,
     Pulse,
     Release,
     Unlock,
+    Arm,
+    Cancel,
     Apc,
     Any,
     All,
     Sleep,
+    Swap,
     Next,
 }
 
@@ -31,6 +35,8 @@ impl Keyword {
             Some(Keyword::Semaphore)
         } else if word == b"mutex".as_slice() {
             Some(Keyword::Mutex)
+        } else if word == b"timer".as_slice() {
+            Some(Keyword::Timer)
         } else if word == b"set".as_slice() {
             Some(Keyword::Set)
         } else if word == b"reset".as_slice() {
@@ -41,6 +47,10 @@ impl Keyword {
             Some(Keyword::Release)
         } else if word == b"unlock".as_slice() {
             Some(Keyword::Unlock)
+        } else if word == b"arm".as_slice() {
+            Some(Keyword::Arm)
+        } else if word == b"cancel".as_slice() {
+            Some(Keyword::Cancel)
         } else if word == b"apc".as_slice() {
             Some(Keyword::Apc)
         } else if word == b"any".as_slice() {
@@ -49,6 +59,8 @@ impl Keyword {
             Some(Keyword::All)
         } else if word == b"sleep".as_slice() {
             Some(Keyword::Sleep)
+        } else if word == b"swap".as_slice() {
+            Some(Keyword::Swap)
         } else if word == b"next".as_slice() {
             Some(Keyword::Next)
         } else {

@@ -3,14 +3,14 @@
 ghost use Rattle.std.specs.Prelude.{◌≡◌, ◌≤◌, ◌<◌, IfOk, IfSome, string_bytes};
 ghost use Rattle.nt_script.specs.Naming.{NamesFree};
 ghost use Rattle.nt_script.specs.Scope.{Scope};
-ghost use Rattle.nt_script.specs.Reading.{Gives, objects_at, event_at, semaphore_at, mutex_at, only_object_at, release_at, apc_at, objects_wait_at, sleep_at, bare_at, call_at, caller_at, statement_at, opening_at, threads_at};
+ghost use Rattle.nt_script.specs.Reading.{Gives, objects_at, tick_at, event_at, semaphore_at, mutex_at, timer_at, only_object_at, release_at, arm_at, apc_at, objects_wait_at, sleep_at, swap_at, bare_at, call_at, caller_at, statement_at, opening_at, threads_at};
 
 use crate::fault::{LineFault, ScriptFault};
 use crate::keyword::Keyword;
 use crate::scope::Bindings;
 use crate::words::{Words, caller_of};
 use nt_core::{Act, Call, WaitCall};
-use nt_status::{Handle, Handles};
+use nt_status::{Handle, Handles, Moment};
 use std::alloc::{AllocError, Global};
 use std::marker::Model;
 
@@ -50,6 +50,7 @@ pub(crate) enum Statement {
     Blank,
     Create { who: u32, name: Name, act: Act },
     Perform { who: u32, call: Call },
+    Tick { moment: Moment },
 }
 
 #[tactic(auto, unfolding(crate::specs::Reading::opening_at))]
@@ -72,6 +73,23 @@ fn threads(mut words: Words) -> Result<Option<u32>, ScriptFault>
     let count = words.number(1, 256)?;
     words.end()?;
     Ok(Some(count as u32))
+}
+
+/// The greatest moment.
+const MAX_MOMENT: u64 = 1 << 62;
+
+/// `tick M`
+#[tactic(auto, unfolding(crate::specs::Reading::tick_at))]
+fn tick(mut words: Words) -> Result<Statement, ScriptFault>
+    ensures exact { result ≡ tick_at words.entry }
+    ensures free { (scope : Scope) → IfOk result (NamesFree scope) }
+{
+    let number = words.number(0, MAX_MOMENT)?;
+    words.end()?;
+    match Moment::new(number) {
+        Some(moment) => Ok(Statement::Tick { moment }),
+        None => unreachable!(),
+    }
 }
 
 /// `tN event NAME [manual] [set]`
@@ -134,6 +152,25 @@ fn mutex(
     Ok(Statement::Create { who, name, act })
 }
 
+/// `tN timer NAME [manual]`
+#[tactic(auto, unfolding(crate::specs::Reading::timer_at))]
+fn timer(
+    alloc: Global,
+    bindings: &Bindings,
+    who: u32,
+    mut words: Words,
+) -> Result<Statement, LineFault>
+    ensures exact { Gives (λ statement. statement) result (timer_at bindings.now.scope who words.entry) }
+    ensures free { IfOk result (NamesFree bindings.now.scope) }
+{
+    let name = words.free_name(bindings)?;
+    let manual = words.option(b"manual");
+    words.end()?;
+    let name = Name::new(alloc, name)?;
+    let act = Act::CreateTimer(if manual { 1 } else { 0 });
+    Ok(Statement::Create { who, name, act })
+}
+
 /// One object, and nothing behind it.
 #[tactic(auto, unfolding(crate::specs::Reading::only_object_at))]
 fn only_object(bindings: &Bindings, mut words: Words) -> Result<Handle, ScriptFault>
@@ -154,6 +191,26 @@ fn release(bindings: &Bindings, who: u32, mut words: Words) -> Result<Statement,
     let count = words.signed32()?;
     words.end()?;
     let call = Call::Act(Act::ReleaseSemaphore { semaphore, count });
+    Ok(Statement::Perform { who, call })
+}
+
+/// `tN arm OBJ DUE PERIOD [ROUTINE ARG]`
+#[tactic(auto, unfolding(crate::specs::Reading::arm_at))]
+fn arm(bindings: &Bindings, who: u32, mut words: Words) -> Result<Statement, ScriptFault>
+    ensures exact { result ≡ arm_at bindings.now.scope who words.entry }
+    ensures free { IfOk result (NamesFree bindings.now.scope) }
+{
+    let timer = words.object(bindings)?;
+    let due = words.signed64()?;
+    let period = words.signed32()?;
+    let routine = words.routine()?;
+    words.end()?;
+    let call = Call::Act(Act::SetTimer {
+        timer,
+        due,
+        period,
+        routine,
+    });
     Ok(Statement::Perform { who, call })
 }
 
@@ -224,6 +281,26 @@ fn sleep(who: u32, mut words: Words) -> Result<Statement, ScriptFault>
     Ok(Statement::Perform { who, call })
 }
 
+/// `tN swap OBJ OBJ TIME MODE`
+#[tactic(auto, unfolding(crate::specs::Reading::swap_at))]
+fn swap(bindings: &Bindings, who: u32, mut words: Words) -> Result<Statement, ScriptFault>
+    ensures exact { result ≡ swap_at bindings.now.scope who words.entry }
+    ensures free { IfOk result (NamesFree bindings.now.scope) }
+{
+    let signal = words.object(bindings)?;
+    let object = words.object(bindings)?;
+    let ms = words.time()?;
+    let alertable = words.mode()?;
+    words.end()?;
+    let call = Call::Wait(WaitCall::Swap {
+        signal,
+        object,
+        ms,
+        alertable,
+    });
+    Ok(Statement::Perform { who, call })
+}
+
 /// A call that needs no more words.
 fn bare(who: u32, call: Call, words: Words) -> Result<Statement, ScriptFault>
     ensures exact { result ≡ bare_at who call words.entry }
@@ -257,15 +334,19 @@ fn parse_call(
         Keyword::Event => event(alloc, bindings, who, words),
         Keyword::Semaphore => semaphore(alloc, bindings, who, words),
         Keyword::Mutex => mutex(alloc, bindings, who, words),
+        Keyword::Timer => timer(alloc, bindings, who, words),
         Keyword::Set => Ok(act_on(who, Act::SetEvent(only_object(bindings, words)?))),
         Keyword::Reset => Ok(act_on(who, Act::ResetEvent(only_object(bindings, words)?))),
         Keyword::Pulse => Ok(act_on(who, Act::PulseEvent(only_object(bindings, words)?))),
         Keyword::Release => Ok(release(bindings, who, words)?),
         Keyword::Unlock => Ok(act_on(who, Act::ReleaseMutex(only_object(bindings, words)?))),
+        Keyword::Arm => Ok(arm(bindings, who, words)?),
+        Keyword::Cancel => Ok(act_on(who, Act::CancelTimer(only_object(bindings, words)?))),
         Keyword::Apc => Ok(apc(bindings, who, words)?),
         Keyword::Any => objects_wait(alloc, bindings, who, false, words),
         Keyword::All => objects_wait(alloc, bindings, who, true, words),
         Keyword::Sleep => Ok(sleep(who, words)?),
+        Keyword::Swap => Ok(swap(bindings, who, words)?),
         Keyword::Next => Ok(bare(who, Call::Act(Act::NextApc), words)?),
     }
 }
@@ -299,6 +380,9 @@ pub(crate) fn parse_statement(
     let Ok(first) = words.next() else {
         return Ok(Statement::Blank);
     };
+    if first == b"tick".as_slice() {
+        return Ok(tick(words)?);
+    }
     let who = caller_of(first).ok_or(ScriptFault::UnknownWord)?;
     parse_caller_line(alloc, bindings, who, words)
 }

@@ -3,7 +3,7 @@
 ghost use Rattle.std.specs.Prelude.{◌≡◌, ◌≤◌, ◌<◌, ◌^◌, ◌-◌, ◌≤ℤ◌, ◌<ℤ◌, pos, neg_ℤ, drop, IfOk, IfSome, None};
 ghost use Rattle.nt_script.specs.Scope.{bound_in};
 ghost use Rattle.nt_script.specs.Grammar.{number_in, is_negative, signed_in, named_object, object_in, time_in, begins_with_digit};
-ghost use Rattle.nt_script.specs.Reading.{Takes, number_at, signed_at, free_name_at, object_at, time_at, mode_at};
+ghost use Rattle.nt_script.specs.Reading.{Takes, number_at, signed_at, routine_at, free_name_at, object_at, time_at, mode_at};
 
 use crate::fault::ScriptFault;
 use crate::scope::Bindings;
@@ -30,6 +30,28 @@ impl<'a> Words<'a> {
     {
         let word = self.next()?;
         signed32_in(word).ok_or(ScriptFault::BadNumber)
+    }
+
+    /// A signed number of 64 bits.
+    #[tactic(auto, unfolding(crate::specs::Reading::signed_at))]
+    pub(crate) fn signed64(&mut self) -> Result<i64, ScriptFault>
+        ensures { Takes (λ n. n) result self.new (signed_at (2 ^ 63) self.old) }
+    {
+        let word = self.next()?;
+        signed64_in(word).ok_or(ScriptFault::BadNumber)
+    }
+
+    /// A routine and its argument, both or none.
+    #[tactic(auto, unfolding(crate::specs::Reading::routine_at))]
+    pub(crate) fn routine(&mut self) -> Result<Option<(u64, u64)>, ScriptFault>
+        ensures { Takes (λ routine. routine) result self.new (routine_at self.old) }
+    {
+        if self.is_empty() {
+            return Ok(None);
+        }
+        let routine = self.number(0, u64::MAX)?;
+        let arg = self.number(0, u64::MAX)?;
+        Ok(Some((routine, arg)))
     }
 
     #[tactic(auto, unfolding(crate::specs::Reading::free_name_at))]
@@ -131,6 +153,18 @@ fn signed32_in(word: &[u8]) -> Option<i32>
     } else {
         let n = number_in(word, 0, i32::MAX as u64)?;
         Some(n as i32)
+    }
+}
+
+fn signed64_in(word: &[u8]) -> Option<i64>
+    ensures { result ≡ signed_in (2 ^ 63) word.now }
+{
+    if is_negative(word) {
+        let n = number_in(behind_sign(word), 0, 1 << 63)?;
+        Some(negative(n))
+    } else {
+        let n = number_in(word, 0, i64::MAX as u64)?;
+        Some(n as i64)
     }
 }
 

@@ -3,7 +3,7 @@
 ghost use Rattle.std.specs.Prelude.{◌≡◌, ◌+◌, ◌*◌, ◌-◌, ◌<◌, ◌≤◌, ◌^◌, ◌∷◌, [], ◌++◌, OnOk, OnErr, IfOk, IfErr, IfSome, length, None, Some, vec_len, vec_capacity, Result, Ok, Err};
 ghost use Rattle.std.specs.FinMap.{len};
 ghost use Rattle.nt_core.specs.Dispatcher.{state};
-ghost use Rattle.nt_core.specs.Steps.{Called};
+ghost use Rattle.nt_core.specs.Steps.{Called, Ticked};
 ghost use Rattle.nt_script.specs.Reading.{Gives, statement_of, opening_of};
 ghost use Rattle.nt_script.specs.Naming.{NamesFree};
 ghost use Rattle.nt_script.specs.Scope.{bound_in};
@@ -19,7 +19,7 @@ use crate::text::{put, put_number};
 use crate::transcript::{MOST_BYTES, put_turn};
 use crate::words::{Words, plain_text};
 use nt_core::{Act, Call, Core, Reply};
-use nt_status::{Handle, Refusal};
+use nt_status::{Handle, Moment, Refusal};
 use std::alloc::{AllocError, Global};
 
 /// How the line behind the last begins.
@@ -83,9 +83,17 @@ fn call_core(core: &mut Core, who: u32, call: &Call) -> Result<Reply, Refusal>
     core.call(who, call)
 }
 
+/// Makes one tick. It ends as many waits as there are fewer behind it.
+fn tick_core(core: &mut Core, moment: Moment) -> Result<Reply, Refusal>
+    ensures ticked { Ticked (state core.old) moment result core.new.grants (state core.new) }
+    ensures counts { length core.new.grants + len (state core.new).waits ≡ len (state core.old).waits }
+{
+    core.tick(moment)
+}
+
 impl Session {
     ghost use Rattle.nt_script.specs.Progress.{progress, LineAnswers, IsCounted, IsFresh, add_tally, tally_of};
-    ghost use Rattle.nt_core.specs.Runs.{Calls};
+    ghost use Rattle.nt_core.specs.Runs.{Calls, Ticks};
 
     fn new(alloc: Global, threads: u32) -> Result<Session, AllocError>
         requires range { (0 < threads) × (threads ≤ 256) }
@@ -160,6 +168,25 @@ impl Session {
         answer
     }
 
+    /// Makes one tick, and puts what came of it where there is room for it.
+    fn tick(&mut self, number: u64, moment: Moment, out: &mut Vec<u8>) -> Result<Reply, Refusal>
+        requires counted { IsCounted number (progress self.old) }
+        requires number { number < 2 ^ 64 }
+        requires empty { out.old.items ≡ [] }
+        requires room { (2 + len (state self.old.core).waits) * 96 ≤ vec_capacity out.old }
+        ensures step { Ticked (state self.old.core) moment result self.new.core.grants (state self.new.core) }
+        ensures text { out.new.items ≡ turn_text number result self.new.core.grants }
+        ensures tally { self.new.tally ≡ add_tally self.old.tally (tally_of (Ticks 0 moment result self.new.core.grants ∷ [])) }
+        ensures counted { IsCounted (number + 1) (progress self.new) }
+        ensures bindings { self.new.bindings ≡ self.old.bindings }
+    {
+        let answer = tick_core(&mut self.core, moment);
+        let ended = self.core.grants();
+        put_turn(out, number, &answer, ended);
+        self.tally.count(&answer, ended.len());
+        answer
+    }
+
     /// Makes a creation's call, and binds its name where it answers a handle.
     fn create(
         &mut self,
@@ -208,6 +235,10 @@ impl Session {
             Statement::Blank => Ok(()),
             Statement::Perform { who, call } => {
                 let _answer = self.perform(number, who, &call, out);
+                Ok(())
+            }
+            Statement::Tick { moment } => {
+                let _answer = self.tick(number, moment, out);
                 Ok(())
             }
             Statement::Create { who, name, act } => {

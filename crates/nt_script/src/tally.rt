@@ -1,4 +1,4 @@
-//! How many calls a script made, and what came of them.
+//! How many calls and ticks a script made, and what came of them.
 
 ghost use Rattle.std.specs.Prelude.{◌≡◌, ◌+◌, ◌<◌, ◌^◌, length, is_err, if◌then◌else◌};
 

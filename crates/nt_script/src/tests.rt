@@ -107,16 +107,19 @@ fn line_at(script: &[u8], place: usize) -> u64 {
     line
 }
 
-#[test]
-fn a_reader_that_fails_ends_the_run_at_its_line(rt: HostRuntime) {
-    let whole = outcome_of(rt.alloc(), HAND_OVER);
-    for place in 0..=HAND_OVER.len() {
+/// A thread whose sleep an APC ends, and which takes its APCs.
+const APCS: &[u8] =
+    b"threads 2\nt0 event e\nt0 any inf plain e\nt1 apc t0 7 1\nt1 apc t0 8 2\nt1 set e\nt0 any inf alertable e\nt0 next\nt0 next\nt0 next\nt0 sleep inf alertable\nt1 apc t0 9 3\nt0 next\n";
+
+fn check_reader_that_fails(rt: &(impl Abort + AllocGlobal), script: &[u8]) {
+    let whole = outcome_of(rt.alloc(), script);
+    for place in 0..=script.len() {
         let found = run_over(
             rt.alloc(),
-            Given::failing_after(HAND_OVER, place),
+            Given::failing_after(script, place),
             Taken::new(rt.alloc()),
         );
-        let line = line_at(HAND_OVER, place);
+        let line = line_at(script, place);
         assert_eq!(rt;
             found.answer,
             Err(RunFault::Read { line }),
@@ -133,12 +136,17 @@ fn a_reader_that_fails_ends_the_run_at_its_line(rt: HostRuntime) {
 }
 
 #[test]
-fn a_writer_that_fails_holds_a_beginning_of_the_transcript(rt: HostRuntime) {
-    let whole = outcome_of(rt.alloc(), HAND_OVER);
+fn a_reader_that_fails_ends_the_run_at_its_line(rt: HostRuntime) {
+    check_reader_that_fails(&rt, HAND_OVER);
+    check_reader_that_fails(&rt, APCS);
+}
+
+fn check_writer_that_fails(rt: &(impl Abort + AllocGlobal), script: &[u8]) {
+    let whole = outcome_of(rt.alloc(), script);
     for room in 0..whole.written.len() {
         let found = run_over(
             rt.alloc(),
-            Given::all(HAND_OVER),
+            Given::all(script),
             Taken::with_room(rt.alloc(), room),
         );
         let broken = matches!(found.answer, Err(RunFault::Write { .. }));
@@ -155,15 +163,85 @@ fn a_writer_that_fails_holds_a_beginning_of_the_transcript(rt: HostRuntime) {
 }
 
 #[test]
-fn bytes_one_by_one_make_the_same_transcript(rt: HostRuntime) {
-    let whole = outcome_of(rt.alloc(), HAND_OVER);
+fn a_writer_that_fails_holds_a_beginning_of_the_transcript(rt: HostRuntime) {
+    check_writer_that_fails(&rt, HAND_OVER);
+    check_writer_that_fails(&rt, APCS);
+}
+
+fn check_one_by_one(rt: &(impl Abort + AllocGlobal), script: &[u8]) {
+    let whole = outcome_of(rt.alloc(), script);
     let found = run_over(
         rt.alloc(),
-        Given::one_by_one(HAND_OVER),
+        Given::one_by_one(script),
         Taken::one_by_one(rt.alloc()),
     );
     assert_eq!(rt; found.written.as_slice(), whole.written.as_slice());
     assert_eq!(rt; found.answer, whole.answer);
+}
+
+#[test]
+fn bytes_one_by_one_make_the_same_transcript(rt: HostRuntime) {
+    check_one_by_one(&rt, HAND_OVER);
+    check_one_by_one(&rt, APCS);
+}
+
+/// The lines that end before this place.
+fn whole_lines(script: &[u8], place: usize) -> &[u8] {
+    let mut end = 0usize;
+    for (at, byte) in script.iter().enumerate().take(place) {
+        if *byte == b'\n' {
+            end = at.saturating_add(1);
+        }
+    }
+    script.get(..end).unwrap_or(script)
+}
+
+/// What was written without the line behind the last.
+fn without_end(written: &[u8]) -> &[u8] {
+    let mut lines = 0usize;
+    for line in written.split(|byte| *byte == b'\n') {
+        if line.starts_with(b"end: ") {
+            return written.get(..lines).unwrap_or(written);
+        }
+        lines = lines.saturating_add(line.len()).saturating_add(1);
+    }
+    written
+}
+
+/// What an input that ends at this place writes is a beginning of the whole transcript, but for what it writes of its
+/// last line, which is cut, and for the line behind that.
+fn check_cut(rt: &(impl Abort + AllocGlobal), script: &[u8], place: usize) {
+    let whole = outcome_of(rt.alloc(), script);
+    let cut = outcome_of(rt.alloc(), script.get(..place).unwrap_or(script));
+    let before = outcome_of(rt.alloc(), whole_lines(script, place));
+    let sure = without_end(before.written.as_slice());
+    assert!(rt;
+        whole.written.as_slice().starts_with(sure),
+        "cut at {place}"
+    );
+    assert!(rt; cut.written.as_slice().starts_with(sure), "cut at {place}");
+    let mut start = Vec::new(rt.alloc());
+    let mut buffer = itoa::Buffer::new();
+    let put = start.extend_from_slice(buffer.format(line_at(script, place)).as_bytes());
+    assert!(rt; put.is_ok() && start.extend_from_slice(b": ").is_ok());
+    let rest = cut
+        .written
+        .as_slice()
+        .get(sure.len()..)
+        .unwrap_or(b"".as_slice());
+    for line in rest.split(|byte| *byte == b'\n') {
+        let may_stand = line.is_empty()
+            || line.starts_with(b"end: ")
+            || line.starts_with(start.as_slice());
+        assert!(rt; may_stand, "cut at {place}");
+    }
+}
+
+#[test]
+fn an_input_that_is_cut_writes_a_beginning_of_the_transcript(rt: HostRuntime) {
+    for place in 0..=APCS.len() {
+        check_cut(&rt, APCS, place);
+    }
 }
 
 #[test]

@@ -119,6 +119,78 @@ pub const TRANSCRIPTS: &[Worked] = &[
         transcript: b"2: apc none\nend: pending none\n",
         fault: None,
     },
+    Worked {
+        shows: "waits and sleeps end when their time has come",
+        script: b"threads 2\nt0 sleep 5 plain\nt1 sleep 0 plain\nt1 event e\nt1 any 5 plain e\ntick 49999\ntick 50000\ntick 50000\ntick 49999\n",
+        transcript: b"2: pending\n3: status 0x00000000\n4: handle 2\n5: pending\n6: ok\n7: ok\n7: t0 status 0x00000000\n7: t1 status 0x00000102\n8: ok\n9: error 536870917\nend: pending none\n",
+        fault: None,
+    },
+    Worked {
+        shows: "a swap signals before it waits",
+        script: b"threads 2\nt0 event e\nt0 swap e e 0 plain\nt1 any inf plain e\nt0 swap e e 0 plain\n",
+        transcript: b"2: handle 2\n3: status 0x00000000\n4: pending\n5: status 0x00000102\n5: t1 status 0x00000000\nend: pending none\n",
+        fault: None,
+    },
+    Worked {
+        shows: "a swap that is refused signals nothing",
+        script: b"threads 2\nt0 semaphore s 0 1\nt0 swap s 9 0 plain\nt0 any 0 plain s\nt0 swap s s 0 plain\n",
+        transcript: b"2: handle 2\n3: error 6\n4: status 0x00000102\n5: status 0x00000000\nend: pending none\n",
+        fault: None,
+    },
+    Worked {
+        shows: "a swap gives up a mutex and waits in one step",
+        script: b"threads 2\nt0 mutex m owned\nt0 event e\nt1 any inf plain m\nt0 swap m e inf plain\nt1 set e\nt0 swap m e 0 plain\n",
+        transcript: b"2: handle 2\n3: handle 3\n4: pending\n5: pending\n5: t1 status 0x00000000\n6: ok\n6: t0 status 0x00000000\n7: error 288\nend: pending none\n",
+        fault: None,
+    },
+    Worked {
+        shows: "a timer's APC carries the moment at which the timer was due",
+        script: b"threads 1\nt0 timer x\nt0 arm x -50000 0 7 9\nt0 any inf alertable x\ntick 60000\nt0 next\nt0 sleep 0 alertable\nt0 next\nt0 next\n",
+        transcript: b"2: handle 1\n3: ok\n4: pending\n5: ok\n5: t0 status 0x00000000\n6: apc none\n7: status 0x000000C0\n8: apc 7 9 at 50000\n9: apc none\nend: pending none\n",
+        fault: None,
+    },
+    Worked {
+        shows: "a wait times out before a timer that is due later in the same tick",
+        script: b"threads 1\nt0 timer x\nt0 arm x 80000 0\nt0 any 5 plain x\ntick 100000\nt0 any 0 plain x\n",
+        transcript: b"2: handle 1\n3: ok\n4: pending\n5: ok\n5: t0 status 0x00000102\n6: status 0x00000000\nend: pending none\n",
+        fault: None,
+    },
+    Worked {
+        shows: "a timer that is due when a wait times out ends the wait",
+        script: b"threads 1\nt0 timer x\nt0 arm x 80000 0\nt0 any 8 plain x\ntick 100000\nt0 any 0 plain x\n",
+        transcript: b"2: handle 1\n3: ok\n4: pending\n5: ok\n5: t0 status 0x00000000\n6: status 0x00000102\nend: pending none\n",
+        fault: None,
+    },
+    Worked {
+        shows: "a periodic timer keeps its phase, and expires once a tick",
+        script: b"threads 2\nt0 timer x\nt0 arm x 10000 1\nt0 any inf plain x\nt1 any inf plain x\ntick 10000000\ntick 10009999\ntick 10010000\n",
+        transcript: b"2: handle 2\n3: ok\n4: pending\n5: pending\n6: ok\n6: t0 status 0x00000000\n7: ok\n8: ok\n8: t1 status 0x00000000\nend: pending none\n",
+        fault: None,
+    },
+    Worked {
+        shows: "a timer that is due at once, cancelled, and due at once again",
+        script: b"threads 1\nt0 timer x manual\nt0 arm x 0 0 4 5\nt0 cancel x\nt0 sleep 0 alertable\nt0 any 0 plain x\nt0 arm x -10 0\nt0 any 0 plain x\nt0 arm x -10 -1\n",
+        transcript: b"2: handle 1\n3: ok\n4: ok\n5: status 0x00000000\n6: status 0x00000000\n7: ok\n8: status 0x00000102\n9: error 87\nend: pending none\n",
+        fault: None,
+    },
+    Worked {
+        shows: "two timers expire in the order of their moments",
+        script: b"threads 1\nt0 timer x\nt0 timer y\nt0 arm x 300 0\nt0 arm y 200 0\nt0 any inf plain x y\ntick 300\nt0 any 0 plain x y\n",
+        transcript: b"2: handle 1\n3: handle 2\n4: ok\n5: ok\n6: pending\n7: ok\n7: t0 status 0x00000001\n8: status 0x00000000\nend: pending none\n",
+        fault: None,
+    },
+    Worked {
+        shows: "a timer that is armed again forgets its period",
+        script: b"threads 1\nt0 timer x\nt0 arm x 0 1\nt0 arm x -10 0\nt0 any 0 plain x\nt0 cancel x\ntick 100\nt0 any 0 plain x\n",
+        transcript: b"2: handle 1\n3: ok\n4: ok\n5: status 0x00000102\n6: ok\n7: ok\n8: status 0x00000102\nend: pending none\n",
+        fault: None,
+    },
+    Worked {
+        shows: "a timer's queued APC keeps the moment of the first expiry",
+        script: b"threads 1\nt0 timer x\nt0 arm x 10 1 7 9\ntick 10\ntick 10010\nt0 sleep 0 alertable\nt0 next\nt0 next\n",
+        transcript: b"2: handle 1\n3: ok\n4: ok\n5: ok\n6: status 0x000000C0\n7: apc 7 9 at 10\n8: apc none\nend: pending none\n",
+        fault: None,
+    },
 ];
 
 pub const FAULTS: &[Worked] = &[
@@ -229,5 +301,17 @@ pub const FAULTS: &[Worked] = &[
         script: b"threads 1\nt0 next\xff\n",
         transcript: b"",
         fault: Some((2, ScriptFault::BadByte)),
+    },
+    Worked {
+        shows: "a moment above the greatest",
+        script: b"threads 1\ntick 4611686018427387905\n",
+        transcript: b"",
+        fault: Some((2, ScriptFault::BadNumber)),
+    },
+    Worked {
+        shows: "a routine without its argument",
+        script: b"threads 1\nt0 timer x\nt0 arm x 0 0 7\n",
+        transcript: b"2: handle 1\n",
+        fault: Some((3, ScriptFault::MissingWord)),
     },
 ];

@@ -1,7 +1,39 @@
-use Rattle.std.proofs.Common.{◌≡◌, ◌∙◌, ℕ, subst, arith}
-use Rattle.nt_script.specs.Running.{Stops, AnyCause}
+use Rattle.std.proofs.Common.{◌≡◌, ◌<◌, ◌∙◌, ℕ, subst, ap, arith, Result, Ok, Err, IfOk}
+use Rattle.nt_devices.specs.Device.{one_more}
+use Rattle.nt_script.specs.declared.fault.RunFault.{RunFault}
+use Rattle.nt_script.specs.declared.summary.Summary.{Summary}
+use Rattle.nt_script.specs.Running.{Stops, AnyCause, CountsFaults}
+use Rattle.nt_script.specs.declared.fault.RunFault.TheVariants.{Script, Read, Write, Memory}
 use Rattle.nt_script.proofs.Running.{SoFar-then, Answers-none, Answers-end, Answers-err, Answers-full, Whole-last, Whole-nothing}
 use Rattle.nt_script.proofs.runner.run_lines.Goals as goal
+
+lines_below : (result : Result Summary RunFault) (n most : ℕ) → IfOk result (λ summary. summary.lines ≡ n) → n < most → IfOk result (λ summary. summary.lines < most)
+lines_below (Ok summary) n most e below = omega (arith, e, below)
+lines_below (Err fault) n most e below = tt
+
+-- nothing failed before the end was written
+counts_end : (read read' written written' written'' : ℕ) (result : Result Summary RunFault) → read' ≡ read → written' ≡ written → CountsFaults 0 0 written' written'' result → CountsFaults read read' written written'' result
+counts_end read read' written written' written'' (Ok summary) p q e = (p, e.1 ∙ q)
+counts_end read read' written written' written'' (Err (Script place fault)) p q e = (p, e.1 ∙ q)
+counts_end read read' written written' written'' (Err (Memory place)) p q e = (p, e.1 ∙ q)
+counts_end read read' written written' written'' (Err (Write place)) p q e = (p, e.1 ∙ ap one_more q)
+counts_end read read' written written' written'' (Err (Read place)) p q e = let none = e.0 in absurd (omega arith)
+
+pub returns-in-Ok-Nothing-clause-counts : goal.returns-in-Ok-Nothing-clause-counts
+returns-in-Ok-Nothing-clause-counts g c =
+    let before = c.in-Ok-Nothing.ensures.counts in
+    counts_end _ _ _ _ _ c.end-in-Ok-Nothing.result (before.0 ∙ c.loop-number.invariant.read) (before.1 ∙ c.loop-number.invariant.written) c.end-in-Ok-Nothing.ensures.counts
+
+pub returns-in-Ok-LastLine-clause-counts : goal.returns-in-Ok-LastLine-clause-counts
+returns-in-Ok-LastLine-clause-counts g c =
+    let before = c.in-Ok-LastLine.ensures.counts in
+    counts_end _ _ _ _ _ c.end.result (before.0 ∙ c.loop-number.invariant.read) (before.1 ∙ c.loop-number.invariant.written) c.end.ensures.counts
+
+pub returns-in-Ok-LastLine-clause-lines : goal.returns-in-Ok-LastLine-clause-lines
+returns-in-Ok-LastLine-clause-lines g c = lines_below c.end.result _ _ c.end.ensures.lines (omega (arith, c.loop-number-test.true))
+
+pub returns-in-Ok-Nothing-clause-lines : goal.returns-in-Ok-Nothing-clause-lines
+returns-in-Ok-Nothing-clause-lines g c = lines_below c.end-in-Ok-Nothing.result _ _ c.end-in-Ok-Nothing.ensures.lines (omega (arith, c.loop-number-test.true))
 
 pub returns-in_default-clause-answers : goal.returns-in_default-clause-answers
 returns-in_default-clause-answers g c = Answers-none (g.R.Read.remaining c.args.reader.now) (g.W.Write.contents c.args.writer.now)

@@ -1,9 +1,9 @@
 use Rattle.std.proofs.Common.{[], ◌∷◌, ap}
 use Rattle.nt_core.specs.declared.call.Call.{Call}
-use Rattle.nt_core.specs.Runs.{Calls}
+use Rattle.nt_core.specs.Runs.{Calls, Ticks}
 use Rattle.nt_script.specs.Progress.{progress}
 use Rattle.nt_script.specs.Scope.{Bound}
-use Rattle.nt_script.proofs.Lines.{perform_line, create_line}
+use Rattle.nt_script.proofs.Lines.{perform_line, create_line, tick_line}
 use Rattle.nt_script.proofs.session.Session.carry_out.Goals as goal
 
 pub returns-in-Perform : goal.returns-in-Perform
@@ -14,6 +14,18 @@ returns-in-Perform c =
         Calls c.in-Perform.who c.in-Perform.call p.result grants ∷ [],
         perform_line c.args.number c.in-Perform.who c.args.line.now c.in-Perform.call p.result grants p.new.out.items (progress c.args.self.now) (progress c.make_room.new.self) (progress p.new.self)
             c.in_ok-make_room.ensures.same p.ensures.step p.ensures.text p.ensures.tally (rw c.in-Perform.is at c.in_ok-statement.ensures.reads) (ap (λ (b : Bound). b.scope) p.ensures.bindings),
+      ),
+      p.ensures.counted,
+    )
+
+pub returns-in-Tick : goal.returns-in-Tick
+returns-in-Tick c =
+    let p = c.tick-answer in
+    let grants = p.new.self.core.grants in (
+      (
+        Ticks 0 c.in-Tick.moment p.result grants ∷ [],
+        tick_line c.args.number c.in-Tick.moment c.args.line.now p.result grants p.new.out.items (progress c.args.self.now) (progress c.make_room.new.self) (progress p.new.self)
+            c.in_ok-make_room.ensures.same p.ensures.step p.ensures.text p.ensures.tally (rw c.in-Tick.is at c.in_ok-statement.ensures.reads) (ap (λ (b : Bound). b.scope) p.ensures.bindings),
       ),
       p.ensures.counted,
     )
