@@ -115,12 +115,7 @@ static int unlock(struct core *c, uint32_t who, uint32_t h) {
     return DONE;
 }
 
-static int wait(struct core *c, uint32_t who, const uint32_t *handles, uint32_t count, bool all, uint32_t ms) {
-    if (!may_call(c, who) || count == 0 || count > MOST) return REFUSED;
-    for (uint32_t i = 0; i < count; i++) {
-        if (handles[i] >= c->objects) return REFUSED;
-        for (uint32_t j = i + 1; j < count; j++) if (handles[i] == handles[j]) return REFUSED;
-    }
+static int begin(struct core *c, uint32_t who, const uint32_t *handles, uint32_t count, bool all, uint32_t ms) {
     int status = try_wait(c, who, handles, count, all);
     if (status >= 0) return status;
     if (ms == 0) return 0x102;
@@ -137,6 +132,28 @@ static int wait(struct core *c, uint32_t who, const uint32_t *handles, uint32_t 
     return PENDED;
 }
 
+static int wait(struct core *c, uint32_t who, const uint32_t *handles, uint32_t count, bool all, uint32_t ms) {
+    if (!may_call(c, who) || count == 0 || count > MOST) return REFUSED;
+    for (uint32_t i = 0; i < count; i++) {
+        if (handles[i] >= c->objects) return REFUSED;
+        for (uint32_t j = i + 1; j < count; j++) if (handles[i] == handles[j]) return REFUSED;
+    }
+    return begin(c, who, handles, count, all, ms);
+}
+
+/* Signals one object, serves the others, and waits for the other: all refusals first. */
+static int swap(struct core *c, uint32_t who, uint32_t h, uint32_t object, uint32_t ms) {
+    if (!may_call(c, who) || h >= c->objects || object >= c->objects) return REFUSED;
+    struct object *o = &c->object[h];
+    switch (o->kind) {
+    case EVENT: if (!o->set) { o->set = true; serve(c, h); } break;
+    case SEMAPHORE: if (o->count == o->maximum) return REFUSED; o->count++; serve(c, h); break;
+    case MUTEX: if (o->owner != (int32_t)who) return REFUSED; if (--o->depth == 0) { o->owner = -1; serve(c, h); } break;
+    case THREAD: return REFUSED;
+    }
+    return begin(c, who, &object, 1, false, ms);
+}
+
 static int make(struct core *c, uint32_t who, struct object made) {
     if (!may_call(c, who) || c->objects == 65536) return REFUSED;
     if (c->objects == c->room) {
@@ -150,7 +167,7 @@ static int make(struct core *c, uint32_t who, struct object made) {
 
 /* ---- shapes: the same as in crates/nt_bench, call by call */
 
-enum ask { MAKE, SET, PULSE, RELEASE, UNLOCK, WAIT };
+enum ask { MAKE, SET, PULSE, RELEASE, UNLOCK, WAIT, SWAP };
 struct turn { enum ask ask; uint32_t who, object; int32_t n; uint32_t count, ms; bool all; uint32_t handles[MOST]; struct object made; };
 struct shape { const char *name; uint32_t threads, prepared, turns; struct turn *prepare, *round; };
 
@@ -162,6 +179,7 @@ static int carry_out(struct core *c, const struct turn *a) {
     case RELEASE: return release(c, a->who, a->object, a->n);
     case UNLOCK: return unlock(c, a->who, a->object);
     case WAIT: return wait(c, a->who, a->handles, a->count, a->all, a->ms);
+    case SWAP: return swap(c, a->who, a->object, (uint32_t)a->n, UINT32_MAX);
     }
     return REFUSED;
 }
@@ -191,6 +209,8 @@ static void fill(struct shape *s, int which) {
     case 5: s->name = "8 waits, release by 8"; s->threads = 9; prepare(s, 0, (struct object){.kind = SEMAPHORE, .maximum = 8, .owner = -1});
         for (uint32_t t = 1; t < 9; t++) waits(s, t, 9, 1, false, UINT32_MAX);
         then(s, RELEASE, 0, 9, 8); break;
+    case 7: s->name = "wait, signal and wait, set"; s->threads = 2; events(s, 2);
+        waits(s, 0, 2, 1, false, UINT32_MAX); then(s, SWAP, 1, 2, 3); then(s, SET, 0, 3, 0); break;
     case 6: s->name = "a mutex to and fro"; s->threads = 2; prepare(s, 0, (struct object){.kind = MUTEX, .owner = 0, .depth = 1});
         waits(s, 1, 2, 1, false, UINT32_MAX); then(s, UNLOCK, 0, 2, 0); waits(s, 0, 2, 1, false, UINT32_MAX); then(s, UNLOCK, 1, 2, 0); break;
     }
@@ -220,7 +240,7 @@ static void run(struct shape *s, uint64_t rounds, bool timed) {
 
 int main(int argc, char **argv) {
     uint64_t rounds = argc > 1 ? strtoull(argv[1], NULL, 10) : 3;
-    for (int which = 0; which < 7; which++) {
+    for (int which = 0; which < 8; which++) {
         struct shape s;
         fill(&s, which);
         run(&s, rounds, argc > 1);

@@ -153,8 +153,23 @@ fn mutex(alloc: Global) -> Result<Shape, AllocError> {
         .then(1, unlock)
 }
 
+/// One thread sets what another waits for, and waits in one call; then that one sets what it waits for.
+fn signal_and_wait(alloc: Global) -> Result<Shape, AllocError> {
+    let mut shape = Shape::new(alloc, "wait, signal and wait, set", 2)
+        .with_events(2)?
+        .wait(0, 2, 1, false, INFINITE)?;
+    let call = Call::Wait(WaitCall::Swap {
+        signal: Handle::new(2),
+        object: Handle::new(3),
+        ms: INFINITE,
+        alertable: false,
+    });
+    shape.round.push(Turn { who: 1, call })?;
+    shape.then(0, set(3))
+}
+
 pub fn all_shapes(alloc: Global) -> Result<Vec<Shape>, AllocError> {
-    let mut shapes = Vec::with_capacity(alloc, 7)?;
+    let mut shapes = Vec::with_capacity(alloc, 8)?;
     shapes.push_reserved(set_and_wait(alloc)?);
     shapes.push_reserved(hand_over(alloc)?);
     shapes.push_reserved(any_of_64(alloc)?);
@@ -162,5 +177,6 @@ pub fn all_shapes(alloc: Global) -> Result<Vec<Shape>, AllocError> {
     shapes.push_reserved(pulse_255(alloc)?);
     shapes.push_reserved(release_8(alloc)?);
     shapes.push_reserved(mutex(alloc)?);
+    shapes.push_reserved(signal_and_wait(alloc)?);
     Ok(shapes)
 }
