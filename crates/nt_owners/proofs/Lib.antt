@@ -1,3 +1,5 @@
 pub mod ListLemmas
 pub mod ChainLemmas
 pub mod SoundLemmas
+pub mod PassLemmas
+pub mod AbandonLemmas

@@ -1,0 +1,163 @@
+-- A mutex passes from one owner's list to another's, and the lists agree with the objects still.
+use Rattle.std.proofs.Common.{◌≡◌, ◌≢◌, ◌≤◌, ◌<◌, ℕ, set, true, false, List, [], ◌∷◌, ◌++◌, length, zero, suc, refl, sym, ap, ◌∙◌, subst, inl, inr, arith, Option, Some, None}
+use Rattle.std.specs.Prelude.{◌↔◌, IsTrue, IfSome, slice_get}
+use Rattle.std.proofs.lemmas.Bool.{cases_eq, cases_lt, false≢true}
+use Rattle.std.proofs.lemmas.Option.{same_Some, none-some}
+use Rattle.std.proofs.lemmas.List.{get_or-set_same, get_or-set_other, get_or_past}
+use Rattle.std.proofs.lemmas.Bool.Decides.{nat_tests}
+use Rattle.nt_objects.specs.declared.object.Object.{Object}
+use Rattle.nt_objects.specs.declared.object.Object.TheVariants.{Event, Semaphore, Mutex, Timer, Thread}
+use Rattle.nt_objects.specs.Object.{owner_of, owned_by, abandoned_by}
+use Rattle.nt_owners.specs.Owned.{IsMember, AreOnce, IsUnowned, list_of, behind, added, removed}
+use Rattle.nt_owners.specs.Objects.{object_at, OwnersAgree, IsPassed}
+use Rattle.nt_owners.proofs.SoundLemmas.{head_in, without_head}
+use Rattle.nt_owners.proofs.ListLemmas.{same_test, other_test, listed_known, added_member, member_added, added_once, removed_member, member_removed, removed_once}
+
+-- ---- lists
+
+pub passed_nowhere : (lists : List (List ℕ)) (m : ℕ) (from to : Option ℕ) → ((t : ℕ) → IsMember (list_of lists t) m ↔ (from ≡ Some t)) → ((t : ℕ) → AreOnce (list_of lists t)) → from ≡ to → IsPassed lists lists m to
+passed_nowhere lists m from to itself once same = record {
+  itself = λ t. ((λ has. sym same ∙ (itself t).0 has), λ e. (itself t).1 (same ∙ e));
+  others = λ t k differs. ((λ has. has), λ has. has);
+  once = once;
+}
+
+pub removed_passed : (lists : List (List ℕ)) (t m : ℕ) → ((u : ℕ) → IsMember (list_of lists u) m ↔ (Some t ≡ Some u)) → ((u : ℕ) → AreOnce (list_of lists u)) → IsPassed lists (removed lists t m) m None
+removed_passed lists t m itself once =
+    let known : t < length lists = listed_known lists t m ((itself t).1 refl) in
+    record {
+      itself = λ u. ((λ has. let was = removed_member lists t m known u m (once t) has in absurd (was.1 (same_Some u t (sym ((itself u).0 was.0))) refl)), λ e. absurd (none-some u e));
+      others = λ u k differs. ((λ has. (removed_member lists t m known u k (once t) has).0), λ has. member_removed lists t m known u k differs has);
+      once = λ u. removed_once lists t m known u (once t) (once u);
+    }
+
+pub added_passed : (lists : List (List ℕ)) (t m : ℕ) → t < length lists → IsUnowned lists m → ((u : ℕ) → AreOnce (list_of lists u)) → IsPassed lists (added lists t m) m (Some t)
+added_passed lists t m known unowned once = record {
+  itself = λ u. ((λ has. elim (added_member lists t m known u m has) [
+      | inl new ↦ ap Some (sym new.0)
+      | inr old ↦ absurd (unowned u old)
+    ]), λ e. member_added lists t m known u m (inl (same_Some u t (sym e), refl)));
+  others = λ u k differs. ((λ has. elim (added_member lists t m known u k has) [
+      | inl new ↦ absurd (differs new.1)
+      | inr old ↦ old
+    ]), λ has. member_added lists t m known u k (inr has));
+  once = λ u. added_once lists t m known u (unowned t) (once t) (once u);
+}
+
+pub passed_on : (a b c : List (List ℕ)) (m : ℕ) (via to : Option ℕ) → IsPassed a b m via → IsPassed b c m to → IsPassed a c m to
+passed_on a b c m via to first second = record {
+  itself = second.itself;
+  others = λ t k differs. ((λ has. (first.others t k differs).0 ((second.others t k differs).0 has)), λ has. (second.others t k differs).1 ((first.others t k differs).1 has));
+  once = second.once;
+}
+
+pub nowhere_unowned : (a b : List (List ℕ)) (m : ℕ) → IsPassed a b m None → IsUnowned b m
+nowhere_unowned a b m passed t has = none-some t ((passed.itself t).0 has)
+
+-- ---- objects
+
+pub owned_owner : (o : Object) (t : ℕ) → IsTrue (owned_by o t) ↔ (owner_of o ≡ Some t)
+owned_owner (Event manual set) t = ((λ is. absurd (false≢true is)), λ e. absurd (none-some t e))
+owned_owner (Semaphore count maximum) t = ((λ is. absurd (false≢true is)), λ e. absurd (none-some t e))
+owned_owner (Mutex None depth abandoned) t = ((λ is. absurd (false≢true is)), λ e. absurd (none-some t e))
+owned_owner (Mutex (Some owner) depth abandoned) t = elim (cases_eq owner t) [
+  | inl same ↦ ((λ is. ap Some same), λ e. rw (same_test owner t same) refl)
+  | inr differs ↦ ((λ is. absurd (false≢true (rw (other_test owner t differs) at is))), λ e. absurd (differs (same_Some owner t e)))
+]
+owned_owner (Timer manual set armed) t = ((λ is. absurd (false≢true is)), λ e. absurd (none-some t e))
+owned_owner (Thread ended) t = ((λ is. absurd (false≢true is)), λ e. absurd (none-some t e))
+
+-- the mutex at a handle stands in the list of its owner alone
+pub agree_owner : (objects : List Object) (lists : List (List ℕ)) (m : ℕ) → OwnersAgree objects lists → (t : ℕ) → IsMember (list_of lists t) m ↔ (owner_of (object_at objects m) ≡ Some t)
+agree_owner objects lists m agree t =
+    ((λ has. (owned_owner (object_at objects m) t).0 ((agree.named t m).0 has)), λ e. (agree.named t m).1 ((owned_owner (object_at objects m) t).1 e))
+
+pub agree_passed : (old new : List Object) (lists lists' : List (List ℕ)) (m : ℕ) (to : Option ℕ) → OwnersAgree old lists → IsPassed lists lists' m to → owner_of (object_at new m) ≡ to → ((k : ℕ) → k ≢ m → object_at new k ≡ object_at old k) → OwnersAgree new lists'
+agree_passed old new lists lists' m to agree passed here others = record {
+  named = λ t k. elim (cases_eq k m) [
+    | inl same ↦ subst (λ (n : ℕ). IsMember (list_of lists' t) n ↔ IsTrue (owned_by (object_at new n) t)) (sym same)
+      ((λ has. (owned_owner (object_at new m) t).1 (here ∙ (passed.itself t).0 has)), λ is. (passed.itself t).1 (sym here ∙ (owned_owner (object_at new m) t).0 is))
+    | inr differs ↦
+      ((λ has. subst (λ (o : Object). IsTrue (owned_by o t)) (sym (others k differs)) ((agree.named t k).0 ((passed.others t k differs).0 has))),
+      λ is. (passed.others t k differs).1 ((agree.named t k).1 (subst (λ (o : Object). IsTrue (owned_by o t)) (others k differs) is)))
+  ];
+  once = passed.once;
+}
+
+pub agree_put : (objects : List Object) (lists lists' : List (List ℕ)) (m : ℕ) (o : Object) → m < length objects → OwnersAgree objects lists → IsPassed lists lists' m (owner_of o) → OwnersAgree (set objects m o) lists'
+agree_put objects lists lists' m o known agree passed =
+    agree_passed objects (set objects m o) lists lists' m (owner_of o) agree passed (ap owner_of (get_or-set_same objects m o (Thread false) known)) (λ k differs. get_or-set_other objects m k o (Thread false) differs)
+
+-- nobody owns what is not there
+pub past_unowned : (objects : List Object) (lists : List (List ℕ)) (m : ℕ) → length objects ≤ m → OwnersAgree objects lists → (t : ℕ) → IsMember (list_of lists t) m ↔ (None ≡ Some t)
+past_unowned objects lists m past agree t =
+    ((λ has. absurd (none-some t (ap owner_of (sym (get_or_past objects m (Thread false) past)) ∙ (agree_owner objects lists m agree t).0 has))), λ e. absurd (none-some t e))
+
+-- whoever is to own the object has a list
+pub owner_known : (o : Object) (n : ℕ) → ((t : ℕ) → owned_by o t ≡ true → t < n) → (t : ℕ) → owner_of o ≡ Some t → t < n
+owner_known (Mutex (Some owner) depth abandoned) n below t e = below t (same_test owner t (same_Some owner t e))
+owner_known (Event manual set) n below t e = absurd (none-some t e)
+owner_known (Semaphore count maximum) n below t e = absurd (none-some t e)
+owner_known (Mutex None depth abandoned) n below t e = absurd (none-some t e)
+owner_known (Timer manual set armed) n below t e = absurd (none-some t e)
+owner_known (Thread ended) n below t e = absurd (none-some t e)
+
+object_added : (objects : List Object) (o : Object) → object_at (objects ++ o ∷ []) (length objects) ≡ o
+object_added [] o = refl
+object_added (x ∷ objects) o = object_added objects o
+
+object_before : (objects : List Object) (o : Object) (k : ℕ) → k ≢ length objects → object_at (objects ++ o ∷ []) k ≡ object_at objects k
+object_before [] o zero differs = absurd (differs refl)
+object_before [] o (suc k) differs = refl
+object_before (x ∷ objects) o zero differs = refl
+object_before (x ∷ objects) o (suc k) differs = object_before objects o k (λ e. differs (ap suc e))
+
+pub agree_added : (objects : List Object) (lists lists' : List (List ℕ)) (o : Object) → OwnersAgree objects lists → IsPassed lists lists' (length objects) (owner_of o) → OwnersAgree (objects ++ o ∷ []) lists'
+agree_added objects lists lists' o agree passed =
+    agree_passed objects (objects ++ o ∷ []) lists lists' (length objects) (owner_of o) agree passed (ap owner_of (object_added objects o)) (λ k differs. object_before objects o k differs)
+
+-- ---- the mutex that came last leaves its owner's list
+
+pub first_owner : (objects : List Object) (lists : List (List ℕ)) (t m : ℕ) → OwnersAgree objects lists → slice_get (list_of lists t) 0 ≡ Some m → owner_of (object_at objects m) ≡ Some t
+first_owner objects lists t m agree is = (agree_owner objects lists m agree t).0 (head_in (list_of lists t) m is)
+
+pub owned_below : (objects : List Object) (t m : ℕ) → owner_of (object_at objects m) ≡ Some t → m < length objects
+owned_below objects t m owned = elim (cases_lt m (length objects)) [
+  | inl below ↦ below
+  | inr past ↦ absurd (none-some t (ap owner_of (sym (get_or_past objects m (Thread false) past)) ∙ owned))
+]
+
+pub popped_passed : (objects : List Object) (lists : List (List ℕ)) (t m : ℕ) → OwnersAgree objects lists → slice_get (list_of lists t) 0 ≡ Some m → IsPassed lists (set lists t (behind (list_of lists t))) m None
+popped_passed objects lists t m agree is =
+    let owner : owner_of (object_at objects m) ≡ Some t = first_owner objects lists t m agree is in
+    subst (λ (list : List ℕ). IsPassed lists (set lists t list) m None) (without_head (list_of lists t) m is)
+    (removed_passed lists t m (λ u. ((λ has. sym owner ∙ (agree_owner objects lists m agree u).0 has), λ e. (agree_owner objects lists m agree u).1 (owner ∙ e))) agree.once)
+
+-- an abandoned mutex has no owner
+pub abandoned_free : (o : Object) (t : ℕ) → owner_of o ≡ Some t → owner_of (abandoned_by t o) ≡ None
+abandoned_free (Mutex (Some owner) depth abandoned) t e = rw (same_test owner t (same_Some owner t e)) refl
+abandoned_free (Event manual set) t e = absurd (none-some t e)
+abandoned_free (Semaphore count maximum) t e = absurd (none-some t e)
+abandoned_free (Mutex None depth abandoned) t e = absurd (none-some t e)
+abandoned_free (Timer manual set armed) t e = absurd (none-some t e)
+abandoned_free (Thread ended) t e = absurd (none-some t e)
+
+-- what abandoning told, of the object that was read
+pub abandoned_is : (o read new : Object) (t : ℕ) → read ≡ o → owner_of o ≡ Some t → IfSome (owner_of read) (λ owner. new ≡ abandoned_by owner read) → new ≡ abandoned_by t o
+abandoned_is o read new t same owner is =
+    subst (λ (x : Option ℕ). IfSome x (λ u. new ≡ abandoned_by u o)) owner (subst (λ (r : Object). IfSome (owner_of r) (λ u. new ≡ abandoned_by u r)) same is)
+
+pub agree_abandoned : (objects : List Object) (lists : List (List ℕ)) (t m : ℕ) → OwnersAgree objects lists → slice_get (list_of lists t) 0 ≡ Some m → OwnersAgree (set objects m (abandoned_by t (object_at objects m))) (set lists t (behind (list_of lists t)))
+agree_abandoned objects lists t m agree is =
+    let owner : owner_of (object_at objects m) ≡ Some t = first_owner objects lists t m agree is in
+    let after = set lists t (behind (list_of lists t)) in
+    agree_put objects lists after m (abandoned_by t (object_at objects m)) (owned_below objects t m owner) agree
+    (subst (λ (to : Option ℕ). IsPassed lists after m to) (sym (abandoned_free (object_at objects m) t owner)) (popped_passed objects lists t m agree is))
+
+pub fewer_popped : (lists : List (List ℕ)) (t m : ℕ) → slice_get (list_of lists t) 0 ≡ Some m → length (list_of (set lists t (behind (list_of lists t))) t) < length (list_of lists t)
+fewer_popped lists t m is =
+    subst (λ (list : List ℕ). length list < length (list_of lists t)) (sym (get_or-set_same lists t (behind (list_of lists t)) [] (listed_known lists t m (head_in (list_of lists t) m is)))) (go (list_of lists t) is)
+  where
+    go : (list : List ℕ) → slice_get list 0 ≡ Some m → length (behind list) < length list
+    go [] e = absurd (none-some m e)
+    go (x ∷ list) e = omega arith

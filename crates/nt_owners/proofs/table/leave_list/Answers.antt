@@ -1,0 +1,10 @@
+use Rattle.std.proofs.Common.{◌≡◌, ℕ, List, sym, ap, ◌∙◌, None, subst}
+use Rattle.nt_owners.specs.Owned.{Owned, list_of, IsMember}
+use Rattle.nt_owners.specs.Objects.{IsPassed}
+use Rattle.nt_owners.proofs.PassLemmas.{removed_passed}
+use Rattle.nt_owners.proofs.table.leave_list.Goals as goal
+
+pub returns-in-Some-clause-passed : goal.returns-in-Some-clause-passed
+returns-in-Some-clause-passed c =
+    subst (λ (owned : Owned). IsPassed c.args.owners.now.lists owned.lists c.args.mutex None) (sym c.remove.ensures)
+    (removed_passed c.args.owners.now.lists c.in-Some.thread c.args.mutex (rw c.in-Some.is at c.requires.from) c.requires.once)

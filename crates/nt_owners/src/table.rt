@@ -1,0 +1,230 @@
+//! The objects by handle, with the lists of those that are owned.
+ghost use Rattle.std.specs.Prelude.{◌≡◌, ◌≢◌, ◌<◌, ◌≤◌, ◌+◌, ◌↔◌, ◌++◌, ◌∷◌, ◌^◌, ℕ, [], true, false, None, Some, length, map, replicate, slice_get, slice_set, vec_len, vec_capacity, IsTrue, IfOk, IfSome, IfNone, OnOk, OnErr};
+ghost use Rattle.std.specs.Option.{ForSome};
+ghost use Rattle.nt_objects.specs.declared.object.Object.TheVariants.{Thread};
+ghost use Rattle.nt_objects.specs.Object.{owner_of, owned_by, abandoned_by};
+ghost use Rattle.nt_owners.specs.Owned.{list_of, IsMember, AreOnce, IsUnowned};
+ghost use Rattle.nt_owners.specs.Objects.{object_at, OwnersAgree, IsPassed, AreListed};
+
+use crate::owners::Owners;
+use nt_objects::{Armed, Object, Routine};
+use nt_status::{Handle, ThreadId};
+use std::alloc::{AllocError, Global};
+use std::marker::Model;
+
+/// The objects of so many threads that run.
+fn running_threads(alloc: Global, count: usize) -> Result<Vec<Object>, AllocError>
+    ensures { IfOk result (λ objects. objects.items ≡ replicate count (Thread false)) }
+{
+    // The kit's check makes the proof of a new vector only where each type inside its items is named in the function.
+    let _inside: (Option<ThreadId>, Option<Armed>, Option<Routine>) = (None, None, None);
+    vec![in alloc; Object::new_thread(); count]
+}
+
+/// The same objects.
+fn copy_objects(alloc: Global, objects: &[Object]) -> Result<Vec<Object>, AllocError>
+    ensures { IfOk result (λ copied. copied.items ≡ objects.now) }
+{
+    // As above.
+    let _inside: (Option<ThreadId>, Option<Armed>, Option<Routine>) = (None, None, None);
+    Vec::from_slice(alloc, objects)
+}
+
+/// Adds an object, last.
+fn add_object(objects: &mut Vec<Object>, object: Object)
+    requires { vec_len objects.old < vec_capacity objects.old }
+    ensures { objects.new.items ≡ objects.old.items ++ object ∷ [] }
+{
+    // As above.
+    let _inside: (Option<ThreadId>, Option<Armed>, Option<Routine>) = (None, None, None);
+    objects.push_reserved(object);
+}
+
+/// The mutex is in no list from now on.
+fn leave_list(owners: &mut Owners, mutex: Handle, from: Option<ThreadId>)
+    requires from { (t : ℕ) → IsMember (list_of owners.old.lists t) mutex ↔ (from ≡ Some t) }
+    requires once { (t : ℕ) → AreOnce (list_of owners.old.lists t) }
+    ensures passed { IsPassed owners.old.lists owners.new.lists mutex None }
+    ensures room { owners.new.room ≡ owners.old.room }
+    ensures threads { length owners.new.lists ≡ length owners.old.lists }
+{
+    if let Some(thread) = from {
+        owners.remove(thread, mutex);
+    }
+}
+
+/// The mutex, which was in no list, is in that of its owner from now on.
+fn join_list(owners: &mut Owners, mutex: Handle, to: Option<ThreadId>)
+    requires room { mutex < owners.old.room }
+    requires unowned { IsUnowned owners.old.lists mutex }
+    requires to { ForSome to (λ t. t < length owners.old.lists) }
+    requires once { (t : ℕ) → AreOnce (list_of owners.old.lists t) }
+    ensures passed { IsPassed owners.old.lists owners.new.lists mutex to }
+    ensures room { owners.new.room ≡ owners.old.room }
+    ensures threads { length owners.new.lists ≡ length owners.old.lists }
+{
+    if let Some(thread) = to {
+        owners.add(thread, mutex);
+    }
+}
+
+/// The mutex is in the list of its new owner from now on, and no more in that of its owner before.
+fn pass(owners: &mut Owners, mutex: Handle, from: Option<ThreadId>, to: Option<ThreadId>)
+    requires room { mutex < owners.old.room }
+    requires from { (t : ℕ) → IsMember (list_of owners.old.lists t) mutex ↔ (from ≡ Some t) }
+    requires to { ForSome to (λ t. t < length owners.old.lists) }
+    requires once { (t : ℕ) → AreOnce (list_of owners.old.lists t) }
+    ensures passed { IsPassed owners.old.lists owners.new.lists mutex to }
+    ensures kept { from ≡ to → owners.new ≡ owners.old }
+    ensures room { owners.new.room ≡ owners.old.room }
+    ensures threads { length owners.new.lists ≡ length owners.old.lists }
+{
+    if from == to {
+        return;
+    }
+    leave_list(owners, mutex, from);
+    join_list(owners, mutex, to);
+}
+
+/// Where the thread owns a mutex, the one that came last is free from now on, and marked.
+fn abandon_first(
+    objects: &mut [Object],
+    owners: &mut Owners,
+    thread: ThreadId,
+) -> Option<Handle>
+    requires agree { OwnersAgree objects.old owners.old.lists }
+    ensures agree { OwnersAgree objects.new owners.new.lists }
+    ensures none { IfNone result ((objects.new ≡ objects.old) × (list_of owners.new.lists thread ≡ [])) }
+    ensures owned { IfSome result (λ mutex. IsTrue (owned_by (object_at objects.old mutex) thread)) }
+    ensures free { IfSome result (λ mutex. objects.new ≡ slice_set objects.old mutex (abandoned_by thread (object_at objects.old mutex))) }
+    ensures fewer { IfSome result (λ mutex. length (list_of owners.new.lists thread) < length (list_of owners.old.lists thread)) }
+    ensures room { owners.new.room ≡ owners.old.room }
+    ensures threads { length owners.new.lists ≡ length owners.old.lists }
+{
+    let mutex = owners.pop(thread)?;
+    objects[mutex.get() as usize].abandon();
+    Some(mutex)
+}
+
+/// Each mutex that the thread owns is free from now on, and marked, and listed.
+fn abandon_each(
+    objects: &mut [Object],
+    owners: &mut Owners,
+    thread: ThreadId,
+    listed: &mut Vec<Handle>,
+)
+    requires agree { OwnersAgree objects.old owners.old.lists }
+    requires room { vec_len listed.old + length objects.old ≤ vec_capacity listed.old }
+    ensures agree { OwnersAgree objects.new owners.new.lists }
+    ensures objects { objects.new ≡ map (abandoned_by thread) objects.old }
+    ensures listed { AreListed objects.old thread listed.old.items listed.new.items }
+    ensures capacity { vec_capacity listed.new ≡ vec_capacity listed.old }
+    ensures room { owners.new.room ≡ owners.old.room }
+    ensures threads { length owners.new.lists ≡ length owners.old.lists }
+{
+    while let Some(mutex) = abandon_first(objects, owners, thread) {
+        listed.push_reserved(mutex);
+    }
+}
+
+/// The objects by handle, and for each thread the mutexes that it owns.
+///
+/// Whatever is done to an object, each mutex stands in the list of the thread that owns it, and in no other.
+#[derive(Drop)]
+pub struct ObjectTable {
+    objects: Vec<Object>,
+    owners: Owners,
+}
+
+impl Model for ObjectTable {
+    ghost use Rattle.std.specs.Prelude.{length, ◌≤◌};
+    ghost use Rattle.nt_owners.specs.Objects.{Objects, OwnersAgree};
+
+    ghost Value = { Objects };
+
+    ghost view = { λ o. record { items = o.objects.items; owned = o.owners.lists } };
+
+    ghost invariant = { λ o. OwnersAgree o.objects.items o.owners.lists × (length o.objects.items ≤ o.owners.room) };
+}
+
+impl ObjectTable {
+    /// The objects of so many threads, which run and own nothing.
+    pub fn new(alloc: Global, threads: usize) -> Result<Self, AllocError>
+        ensures items { IfOk result (λ table. table.items ≡ replicate threads (Thread false)) }
+        ensures threads { IfOk result (λ table. length table.owned ≡ threads) }
+    {
+        let mut owners = Owners::new(alloc, threads)?;
+        owners.make_room(threads)?;
+        Ok(ObjectTable {
+            objects: running_threads(alloc, threads)?,
+            owners,
+        })
+    }
+
+    /// The objects by handle.
+    pub fn as_slice(&self) -> &[Object]
+        ensures { result.now ≡ self.now.items }
+    {
+        self.objects.as_slice()
+    }
+
+    /// The lists agree with the objects; there is nothing to do for it.
+    pub fn agree(&self)
+        ensures { OwnersAgree self.now.items self.now.owned }
+    {
+        // Who uses a field is told what holds of all.
+        let _ = &self.objects;
+    }
+
+    /// Adds an object, last. Where memory is refused nothing changes.
+    pub fn add(&mut self, object: Object) -> Result<(), AllocError>
+        requires few { length self.old.items < 2 ^ 32 }
+        requires owner { (t : ℕ) → owned_by object t ≡ true → t < length self.old.owned }
+        ensures ok { OnOk result (self.new.items ≡ self.old.items ++ object ∷ []) }
+        ensures threads { length self.new.owned ≡ length self.old.owned }
+        ensures err { OnErr result (self.new ≡ self.old) }
+    {
+        let count = self.objects.len();
+        self.owners.make_room(count + 1)?;
+        self.objects.reserve(1)?;
+        pass(&mut self.owners, Handle::new(count as u32), None, object.owner());
+        add_object(&mut self.objects, object);
+        Ok(())
+    }
+
+    /// Puts an object in the place of the one at this handle. Where both have the same owner, or none, the lists stay.
+    pub fn put(&mut self, handle: Handle, object: Object)
+        requires known { handle < length self.old.items }
+        requires owner { (t : ℕ) → owned_by object t ≡ true → t < length self.old.owned }
+        ensures items { self.new.items ≡ slice_set self.old.items handle object }
+        ensures threads { length self.new.owned ≡ length self.old.owned }
+        ensures kept { owner_of object ≡ owner_of (object_at self.old.items handle) → self.new.owned ≡ self.old.owned }
+    {
+        let place = handle.get() as usize;
+        let from = self.objects[place].owner();
+        let to = object.owner();
+        pass(&mut self.owners, handle, from, to);
+        self.objects[place] = object;
+    }
+
+    /// The thread ends: each mutex that it owns is free from now on, and marked, and listed.
+    pub fn abandon_all(&mut self, thread: ThreadId, listed: &mut Vec<Handle>)
+        requires { vec_len listed.old + length self.old.items ≤ vec_capacity listed.old }
+        ensures items { self.new.items ≡ map (abandoned_by thread) self.old.items }
+        ensures listed { AreListed self.old.items thread listed.old.items listed.new.items }
+        ensures capacity { vec_capacity listed.new ≡ vec_capacity listed.old }
+        ensures threads { length self.new.owned ≡ length self.old.owned }
+    {
+        abandon_each(&mut self.objects, &mut self.owners, thread, listed);
+    }
+
+    /// The same objects in memory of their own.
+    pub fn copy(&self) -> Result<Self, AllocError>
+        ensures { IfOk result (λ copied. copied ≡ self.now) }
+    {
+        Ok(ObjectTable {
+            objects: copy_objects(*self.objects.allocator(), &self.objects)?,
+            owners: self.owners.copy()?,
+        })
+    }
+}
