@@ -34,11 +34,13 @@ snoc_last (x ∷ list) m = inr (snoc_last list m)
 
 snoc_once : (list : List ℕ) (m : ℕ) → AreOnce list → (IsMember list m → ⊥) → AreOnce (list ++ m ∷ [])
 snoc_once [] m once absent = ((λ has. has), tt)
-snoc_once (x ∷ list) m once absent =
-    ((λ has. elim (member_snoc list m x has) [
-      | inl within ↦ once.0 within
-      | inr last ↦ absent (inl (sym last))
-    ]), snoc_once list m once.1 (λ has. absent (inr has)))
+snoc_once (x ∷ list) m once absent = (
+  (λ has. elim (member_snoc list m x has) [
+    | inl within ↦ once.0 within
+    | inr last ↦ absent (inl (sym last))
+  ]),
+  snoc_once list m once.1 (λ has. absent (inr has)),
+)
 
 -- ---- abandoning
 
@@ -59,10 +61,13 @@ none_listed objects t start = record {
   mutexes = [];
   appended = sym (append-nil start);
   once = tt;
-  exactly = λ m. ((λ has. elim has [
+  exactly = λ m. (
+    (λ has. elim has [
       | inl none ↦ absurd none
       | inr owns ↦ owns
-    ]), λ owns. inr owns);
+    ]),
+    λ owns. inr owns,
+  );
   free = λ m none owns. none;
 }
 
@@ -131,10 +136,13 @@ all_listed old now t start listed so_far none = record {
   mutexes = so_far.mutexes;
   appended = so_far.appended;
   once = so_far.once;
-  exactly = λ m. ((λ has. (so_far.exactly m).0 (inl has)), λ was. elim ((so_far.exactly m).1 was) [
+  exactly = λ m. (
+    (λ has. (so_far.exactly m).0 (inl has)),
+    λ was. elim ((so_far.exactly m).1 was) [
       | inl within ↦ within
       | inr owns ↦ absurd (none m owns)
-    ]);
+    ],
+  );
 }
 
 -- ---- all objects at once

@@ -1,5 +1,5 @@
 -- A mutex passes from one owner's list to another's, and the lists agree with the objects still.
-use Rattle.std.proofs.Common.{◌≡◌, ◌≢◌, ◌≤◌, ◌<◌, ℕ, set, true, false, List, [], ◌∷◌, ◌++◌, length, zero, suc, refl, sym, ap, ◌∙◌, subst, inl, inr, arith, Option, Some, None}
+use Rattle.std.proofs.Common.{◌≡◌, ◌≢◌, ◌≤◌, ◌<◌, ◌⊎◌, ℕ, set, true, false, List, [], ◌∷◌, ◌++◌, length, zero, suc, refl, sym, ap, ◌∙◌, subst, inl, inr, arith, Option, Some, None}
 use Rattle.std.specs.Prelude.{◌↔◌, IsTrue, IfSome, slice_get}
 use Rattle.std.proofs.lemmas.Bool.{cases_eq, cases_lt, false≢true}
 use Rattle.std.proofs.lemmas.Option.{same_Some, none-some}
@@ -33,14 +33,20 @@ removed_passed lists t m itself once =
 
 pub added_passed : (lists : List (List ℕ)) (t m : ℕ) → t < length lists → IsUnowned lists m → ((u : ℕ) → AreOnce (list_of lists u)) → IsPassed lists (added lists t m) m (Some t)
 added_passed lists t m known unowned once = record {
-  itself = λ u. ((λ has. elim (added_member lists t m known u m has) [
+  itself = λ u. (
+    (λ has. elim (added_member lists t m known u m has) [
       | inl new ↦ ap Some (sym new.0)
       | inr old ↦ absurd (unowned u old)
-    ]), λ e. member_added lists t m known u m (inl (same_Some u t (sym e), refl)));
-  others = λ u k differs. ((λ has. elim (added_member lists t m known u k has) [
+    ]),
+    λ e. member_added lists t m known u m (inl (same_Some u t (sym e), refl)),
+  );
+  others = λ u k differs. (
+    (λ has. elim (added_member lists t m known u k has) [
       | inl new ↦ absurd (differs new.1)
       | inr old ↦ old
-    ]), λ has. member_added lists t m known u k (inr has));
+    ]),
+    λ has. member_added lists t m known u k (inr has),
+  );
   once = λ u. added_once lists t m known u (unowned t) (once t) (once u);
 }
 
@@ -76,10 +82,11 @@ pub agree_passed : (old new : List Object) (lists lists' : List (List ℕ)) (m :
 agree_passed old new lists lists' m to agree passed here others = record {
   named = λ t k. elim (cases_eq k m) [
     | inl same ↦ subst (λ (n : ℕ). IsMember (list_of lists' t) n ↔ IsTrue (owned_by (object_at new n) t)) (sym same)
-      ((λ has. (owned_owner (object_at new m) t).1 (here ∙ (passed.itself t).0 has)), λ is. (passed.itself t).1 (sym here ∙ (owned_owner (object_at new m) t).0 is))
-    | inr differs ↦
-      ((λ has. subst (λ (o : Object). IsTrue (owned_by o t)) (sym (others k differs)) ((agree.named t k).0 ((passed.others t k differs).0 has))),
-      λ is. (passed.others t k differs).1 ((agree.named t k).1 (subst (λ (o : Object). IsTrue (owned_by o t)) (others k differs) is)))
+        ((λ has. (owned_owner (object_at new m) t).1 (here ∙ (passed.itself t).0 has)), λ is. (passed.itself t).1 (sym here ∙ (owned_owner (object_at new m) t).0 is))
+    | inr differs ↦ (
+      (λ has. subst (λ (o : Object). IsTrue (owned_by o t)) (sym (others k differs)) ((agree.named t k).0 ((passed.others t k differs).0 has))),
+      λ is. (passed.others t k differs).1 ((agree.named t k).1 (subst (λ (o : Object). IsTrue (owned_by o t)) (others k differs) is)),
+    )
   ];
   once = passed.once;
 }
@@ -161,3 +168,10 @@ fewer_popped lists t m is =
     go : (list : List ℕ) → slice_get list 0 ≡ Some m → length (behind list) < length list
     go [] e = absurd (none-some m e)
     go (x ∷ list) e = omega arith
+
+-- whoever is to own the object in the place of another has a list
+pub heir_known : (objects : List Object) (lists : List (List ℕ)) (m : ℕ) (o : Object) → OwnersAgree objects lists → ((t : ℕ) → owned_by o t ≡ true → (owned_by (object_at objects m) t ≡ true) ⊎ (t < length lists)) → (t : ℕ) → owner_of o ≡ Some t → t < length lists
+heir_known objects lists m o agree heir t e = elim (heir t ((owned_owner o t).1 e)) [
+  | inl had ↦ listed_known lists t m ((agree.named t m).1 had)
+  | inr known ↦ known
+]

@@ -1,5 +1,5 @@
 //! The objects by handle, with the lists of those that are owned.
-ghost use Rattle.std.specs.Prelude.{◌≡◌, ◌≢◌, ◌<◌, ◌≤◌, ◌+◌, ◌↔◌, ◌++◌, ◌∷◌, ◌^◌, ℕ, [], true, false, None, Some, length, map, replicate, slice_get, slice_set, vec_len, vec_capacity, IsTrue, IfOk, IfSome, IfNone, OnOk, OnErr};
+ghost use Rattle.std.specs.Prelude.{◌≡◌, ◌≢◌, ◌<◌, ◌≤◌, ◌⊎◌, ◌+◌, ◌↔◌, ◌++◌, ◌∷◌, ◌^◌, ℕ, [], true, false, None, Some, length, map, replicate, slice_get, slice_set, vec_len, vec_capacity, IsTrue, IfOk, IfSome, IfNone, OnOk, OnErr};
 ghost use Rattle.std.specs.Option.{ForSome};
 ghost use Rattle.nt_objects.specs.declared.object.Object.TheVariants.{Thread};
 ghost use Rattle.nt_objects.specs.Object.{owner_of, owned_by, abandoned_by};
@@ -87,11 +87,7 @@ fn pass(owners: &mut Owners, mutex: Handle, from: Option<ThreadId>, to: Option<T
 }
 
 /// Where the thread owns a mutex, the one that came last is free from now on, and marked.
-fn abandon_first(
-    objects: &mut [Object],
-    owners: &mut Owners,
-    thread: ThreadId,
-) -> Option<Handle>
+fn abandon_first(objects: &mut [Object], owners: &mut Owners, thread: ThreadId) -> Option<Handle>
     requires agree { OwnersAgree objects.old owners.old.lists }
     ensures agree { OwnersAgree objects.new owners.new.lists }
     ensures none { IfNone result ((objects.new ≡ objects.old) × (list_of owners.new.lists thread ≡ [])) }
@@ -137,12 +133,12 @@ pub struct ObjectTable {
 }
 
 impl Model for ObjectTable {
-    ghost use Rattle.std.specs.Prelude.{length, ◌≤◌};
+    ghost use Rattle.std.specs.Prelude.{length, min, vec_capacity, ◌≤◌};
     ghost use Rattle.nt_owners.specs.Objects.{Objects, OwnersAgree};
 
     ghost Value = { Objects };
 
-    ghost view = { λ o. record { items = o.objects.items; owned = o.owners.lists } };
+    ghost view = { λ o. record { items = o.objects.items; owned = o.owners.lists; room = min (vec_capacity o.objects) o.owners.room } };
 
     ghost invariant = { λ o. OwnersAgree o.objects.items o.owners.lists × (length o.objects.items ≤ o.owners.room) };
 }
@@ -176,26 +172,34 @@ impl ObjectTable {
         let _ = &self.objects;
     }
 
-    /// Adds an object, last. Where memory is refused nothing changes.
-    pub fn add(&mut self, object: Object) -> Result<(), AllocError>
+    /// Makes room for one object more. Where memory is refused nothing is lost.
+    pub fn make_room(&mut self) -> Result<(), AllocError>
+        ensures room { OnOk result (length self.new.items < self.new.room) }
+        ensures items { self.new.items ≡ self.old.items }
+        ensures owned { self.new.owned ≡ self.old.owned }
+    {
+        self.owners.make_room(self.objects.len() + 1)?;
+        self.objects.reserve(1)?;
+        Ok(())
+    }
+
+    /// Adds an object, last.
+    pub fn add(&mut self, object: Object)
+        requires room { length self.old.items < self.old.room }
         requires few { length self.old.items < 2 ^ 32 }
         requires owner { (t : ℕ) → owned_by object t ≡ true → t < length self.old.owned }
-        ensures ok { OnOk result (self.new.items ≡ self.old.items ++ object ∷ []) }
+        ensures items { self.new.items ≡ self.old.items ++ object ∷ [] }
         ensures threads { length self.new.owned ≡ length self.old.owned }
-        ensures err { OnErr result (self.new ≡ self.old) }
     {
-        let count = self.objects.len();
-        self.owners.make_room(count + 1)?;
-        self.objects.reserve(1)?;
-        pass(&mut self.owners, Handle::new(count as u32), None, object.owner());
+        let handle = Handle::new(self.objects.len() as u32);
+        pass(&mut self.owners, handle, None, object.owner());
         add_object(&mut self.objects, object);
-        Ok(())
     }
 
     /// Puts an object in the place of the one at this handle. Where both have the same owner, or none, the lists stay.
     pub fn put(&mut self, handle: Handle, object: Object)
         requires known { handle < length self.old.items }
-        requires owner { (t : ℕ) → owned_by object t ≡ true → t < length self.old.owned }
+        requires owner { (t : ℕ) → owned_by object t ≡ true → (owned_by (object_at self.old.items handle) t ≡ true) ⊎ (t < length self.old.owned) }
         ensures items { self.new.items ≡ slice_set self.old.items handle object }
         ensures threads { length self.new.owned ≡ length self.old.owned }
         ensures kept { owner_of object ≡ owner_of (object_at self.old.items handle) → self.new.owned ≡ self.old.owned }
@@ -220,7 +224,8 @@ impl ObjectTable {
 
     /// The same objects in memory of their own.
     pub fn copy(&self) -> Result<Self, AllocError>
-        ensures { IfOk result (λ copied. copied ≡ self.now) }
+        ensures items { IfOk result (λ copied. copied.items ≡ self.now.items) }
+        ensures owned { IfOk result (λ copied. copied.owned ≡ self.now.owned) }
     {
         Ok(ObjectTable {
             objects: copy_objects(*self.objects.allocator(), &self.objects)?,

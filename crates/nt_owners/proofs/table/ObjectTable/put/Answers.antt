@@ -1,14 +1,18 @@
-use Rattle.std.proofs.Common.{◌≡◌, ◌<◌, ◌+◌, ℕ, List, [], ◌∷◌, ◌++◌, ◌≤◌, set, length, sym, ap, ◌∙◌, subst, arith}
+use Rattle.std.proofs.Common.{◌≡◌, ◌<◌, ◌+◌, ◌⊎◌, true, ℕ, List, [], ◌∷◌, ◌++◌, ◌≤◌, set, length, sym, ap, ◌∙◌, subst, arith}
 use Rattle.nt_objects.specs.declared.object.Object.{Object}
 use Rattle.std.proofs.lemmas.List.{length-set}
-use Rattle.nt_objects.specs.Object.{owner_of}
-use Rattle.nt_owners.specs.Objects.{Objects, OwnersAgree, IsPassed}
-use Rattle.nt_owners.proofs.PassLemmas.{owner_known, agree_put}
+use Rattle.nt_objects.specs.Object.{owner_of, owned_by}
+use Rattle.nt_owners.specs.Objects.{Objects, object_at, OwnersAgree, IsPassed}
+use Rattle.nt_owners.proofs.PassLemmas.{heir_known, agree_put}
 use Rattle.nt_owners.proofs.table.ObjectTable.put.Goals as goal
 
 pub pass-requires-clause-to : goal.pass-requires-clause-to
 pass-requires-clause-to c x e =
-    subst (λ (t : Objects). x < length t.owned) (sym c.self.view_is) (owner_known c.args.object (length c.args.self.now.owned) c.requires.owner x (sym c.owner-to.ensures ∙ e))
+    let items = c.self.inside.objects.items in
+    let lists = c.self.inside.owners.lists in
+    let heir : (t : ℕ) → owned_by c.args.object t ≡ true → (owned_by (object_at items c.args.handle) t ≡ true) ⊎ (t < length lists) =
+    subst (λ (o : Objects). (t : ℕ) → owned_by c.args.object t ≡ true → (owned_by (object_at o.items c.args.handle) t ≡ true) ⊎ (t < length o.owned)) (sym c.self.view_is) c.requires.owner in
+    heir_known items lists c.args.handle c.args.object c.self.invariant.0 heir x (sym c.owner-to.ensures ∙ e)
 
 pub invariant_of-self : goal.invariant_of-self
 invariant_of-self c =
