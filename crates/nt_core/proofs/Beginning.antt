@@ -202,10 +202,10 @@ other_waits d t u v idle pends same = let h : None ≡ Some v = sym idle ∙ (ap
     absurd_none h = (cc)
 
 -- t's new wait has taken its objects at once
-pub began_taken : (old : Dispatcher) (objects : List Object) (t code : ℕ) (w : Wait) → IsLawful old → IsSoundWait old.threads old.objects t w → fin.get old.table.pending t ≡ None → IsTried old.objects objects t w (Some code) → IsLawful (record old { objects = objects; handing = set old.handing t false })
-began_taken old objects t code w lawful able idle tried =
+pub began_taken : (old : Dispatcher) (objects : List Object) (owned : List (List ℕ)) (t code : ℕ) (w : Wait) → IsLawful old → IsSoundWait old.threads old.objects t w → fin.get old.table.pending t ≡ None → IsTried old.objects objects t w (Some code) → IsLawful (record old { objects = objects; owned = owned; handing = set old.handing t false })
+began_taken old objects owned t code w lawful able idle tried =
     let sound = lawful.sound in
-    let new : Dispatcher = record old { objects = objects; handing = set old.handing t false } in
+    let new : Dispatcher = record old { objects = objects; owned = owned; handing = set old.handing t false } in
     let well = subst (λ (os : List Object). TakesWell old.objects os t) (sym tried.2) (objects_taken_well old.objects t w able.apart (can_take old.objects t old.threads w sound.objects able) tried.0) in
     record {
       sound = record {

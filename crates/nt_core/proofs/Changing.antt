@@ -188,8 +188,8 @@ limit_set (x ∷ os) zero o u kept (suc k) below = below
 limit_set (x ∷ os) (suc h) o u kept zero below = below
 limit_set (x ∷ os) (suc h) o u kept (suc k) below = limit_set os h o u kept k below
 
-pub sound_replaced : (d : Dispatcher) (h : ℕ) (o : Object) → IsSound d → MayReplace (object_at d.objects h) o → IsSound (record d { objects = set d.objects h o })
-sound_replaced d h o sound may = record {
+pub sound_replaced : (d : Dispatcher) (h : ℕ) (o : Object) (owned : List (List ℕ)) → IsSound d → MayReplace (object_at d.objects h) o → IsSound (record d { objects = set d.objects h o; owned = owned })
+sound_replaced d h o owned sound may = record {
   few = sound.few;
   waits = λ t w pends.
       let own = sound.waits t w pends in
@@ -233,8 +233,8 @@ unset_undue (Timer manual was (Some armed)) due = let h : Some armed.due ≡ Non
 unset_undue (Thread ended) due = refl
 
 -- one object more leaves all readings of objects that were there
-pub sound_created : (d : Dispatcher) (o : Object) → IsSound d → is_full d.objects ≡ false → IsLawfulObject o → is_thread o ≡ false → due_of o ≡ None → IsSound (record d { objects = d.objects ++ o ∷ []; alarms = d.alarms ++ None ∷ [] })
-sound_created d o sound room lawful no_thread due = record {
+pub sound_created : (d : Dispatcher) (o : Object) (owned : List (List ℕ)) → IsSound d → is_full d.objects ≡ false → IsLawfulObject o → is_thread o ≡ false → due_of o ≡ None → IsSound (record d { objects = d.objects ++ o ∷ []; owned = owned; alarms = d.alarms ++ None ∷ [] })
+sound_created d o owned sound room lawful no_thread due = record {
   few = sound.few;
   waits = λ t w pends.
       let own = sound.waits t w pends in

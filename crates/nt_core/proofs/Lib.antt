@@ -26,3 +26,4 @@ mod Passing
 mod Rousing
 mod Moments
 mod Coming
+mod Owned

@@ -111,7 +111,7 @@ idle_served old mid new handles fresh changed grants looked is lawful = record {
 -- ---- events
 
 pub set_may_replace : (set : Bool) (o : Object) → is_event o ≡ true → MayReplace o (with_set set o)
-set_may_replace set (Event manual was) is = record { lawful = tt; thread = refl; ended = refl; due = refl; setter = refl; unlimited = λ u below. below }
+set_may_replace set (Event manual was) is = record { lawful = tt; thread = refl; ended = refl; due = refl; setter = refl; owner = λ u owns. owns; unlimited = λ u below. below }
 set_may_replace set (Semaphore count maximum) is = absurd (false≢true is)
 set_may_replace set (Mutex owner depth abandoned) is = absurd (false≢true is)
 set_may_replace set (Timer manual was armed) is = absurd (false≢true is)
@@ -179,7 +179,7 @@ pub reset_lawful : (d : Dispatcher) (h : ℕ) → IsLawful d → is_event (objec
 reset_lawful d h lawful is =
     let o = object_at d.objects h in
     record {
-      sound = sound_replaced d h (with_set false o) lawful.sound (set_may_replace false o is);
+      sound = sound_replaced d h (with_set false o) d.owned lawful.sound (set_may_replace false o is);
       settled = record {
         served = served_fewer (state d) (with_object d.objects h (with_set false)) lawful.settled.served (λ u k e. unready_reset d.objects h u k is e);
         alerted = lawful.settled.alerted;
@@ -255,8 +255,8 @@ mutex_no_thread flags t = go (has_flag flags mutex_initial_owner)
     go true = refl
     go false = refl
 
-pub created_accepted : (old new : Dispatcher) (t : ℕ) (o : Object) (call : Call) (handle : ℕ) → IsFresh old → is_full old.objects ≡ false → IsLawfulObject o → is_thread o ≡ false → due_of o ≡ None → change (state old) t call ≡ created (state old) o → ((s : State) → after_serving call s ≡ s) → ((s : State) → answered (state old) s t call ≡ (Reply.Handle (length old.objects), s)) → handle ≡ length old.objects → new ≡ record old { objects = old.objects ++ o ∷ []; alarms = old.alarms ++ None ∷ [] } → Accepts old new t call (Reply.Handle handle)
-created_accepted old new t o call handle fresh room lawful no_thread due changes after answers is becomes =
+pub created_accepted : (old new : Dispatcher) (t : ℕ) (o : Object) (owned : List (List ℕ)) (call : Call) (handle : ℕ) → IsFresh old → is_full old.objects ≡ false → IsLawfulObject o → is_thread o ≡ false → due_of o ≡ None → change (state old) t call ≡ created (state old) o → ((s : State) → after_serving call s ≡ s) → ((s : State) → answered (state old) s t call ≡ (Reply.Handle (length old.objects), s)) → handle ≡ length old.objects → new ≡ record old { objects = old.objects ++ o ∷ []; owned = owned; alarms = old.alarms ++ None ∷ [] } → Accepts old new t call (Reply.Handle handle)
+created_accepted old new t o owned call handle fresh room lawful no_thread due changes after answers is becomes =
     subst (λ (x : Dispatcher). Accepts old x t call (Reply.Handle handle)) (sym becomes)
     (subst (λ (h : ℕ). Accepts old d t call (Reply.Handle h)) (sym is)
     (accepted old d d t call (Reply.Handle (length old.objects))
@@ -264,11 +264,11 @@ created_accepted old new t o call handle fresh room lawful no_thread due changes
     (sym (after (state d))) refl refl all (sym (answers (state d)))))
   where
     d : Dispatcher
-    d = record old { objects = old.objects ++ o ∷ []; alarms = old.alarms ++ None ∷ [] }
+    d = record old { objects = old.objects ++ o ∷ []; owned = owned; alarms = old.alarms ++ None ∷ [] }
 
     all : IsLawful d
     all = record {
-      sound = sound_created old o fresh.lawful.sound room lawful no_thread due;
+      sound = sound_created old o owned fresh.lawful.sound room lawful no_thread due;
       settled = record {
         served = served_unchanged old (old.objects ++ o ∷ []) fresh.lawful.sound fresh.lawful.settled.served (created_only old.objects o);
         alerted = fresh.lawful.settled.alerted;
@@ -286,7 +286,7 @@ known_semaphore os h is = known_object os h (semaphore_is_no_thread (object_at o
 
 pub released_may_replace : (n : ℤ) (o : Object) → is_semaphore o ≡ true → IsLawfulObject (released n o) → MayReplace o (released n o)
 released_may_replace n (Event manual was) is lawful = absurd (false≢true is)
-released_may_replace n (Semaphore count maximum) is lawful = record { lawful = lawful; thread = refl; ended = refl; due = refl; setter = refl; unlimited = λ u below. below }
+released_may_replace n (Semaphore count maximum) is lawful = record { lawful = lawful; thread = refl; ended = refl; due = refl; setter = refl; owner = λ u owns. owns; unlimited = λ u below. below }
 released_may_replace n (Mutex owner depth abandoned) is lawful = absurd (false≢true is)
 released_may_replace n (Timer manual was armed) is lawful = absurd (false≢true is)
 released_may_replace n (Thread ended) is lawful = absurd (false≢true is)
@@ -329,13 +329,14 @@ unlocked_may_replace (Mutex (Some owner) depth abandoned) t owns lawful after = 
     never false = refl
 
     go : (b : Bool) → nat_le depth 1 ≡ b → IsLawfulObject (if b then Mutex None 0 false else Mutex (Some owner) (depth - 1) abandoned) → MayReplace (Mutex (Some owner) depth abandoned) (if nat_le depth 1 then Mutex None 0 false else Mutex (Some owner) (depth - 1) abandoned)
-    go true is has = rw is (record { lawful = refl; thread = refl; ended = refl; due = refl; setter = refl; unlimited = λ u below. refl })
+    go true is has = rw is (record { lawful = refl; thread = refl; ended = refl; due = refl; setter = refl; owner = λ u owns. absurd (false≢true owns); unlimited = λ u below. refl })
     go false is has = rw is (record {
       lawful = has;
       thread = refl;
       ended = refl;
       due = refl;
       setter = refl;
+      owner = λ u owns. owns;
       unlimited = λ u below. let room : nat_lt (depth - 1) depth_limit ≡ true = fewer lawful.0 lawful.1 in rw room (never (owner == u));
     })
 unlocked_may_replace (Timer manual was armed) t owns lawful after = absurd (false≢true owns)

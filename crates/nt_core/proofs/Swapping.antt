@@ -192,7 +192,7 @@ module _ (old calm : Dispatcher) (t h object ms : ℕ) (alertable : Bool)
 
   left : LeavesCaller (at (state old) h signal) (state calm) calm.grants t
   left =
-      let sound = sound_replaced old h (signal (object_at old.objects h)) fresh.lawful.sound replaced in
+      let sound = sound_replaced old h (signal (object_at old.objects h)) old.owned fresh.lawful.sound replaced in
       serving_leaves old.threads (sequence (state old) served.handles) (at (state old) h signal) (state calm) calm.grants t served.serves.0 (sound.objects, sound.waits) caller.2
 
   pub calm_idle : fin.get calm.table.pending t ≡ None

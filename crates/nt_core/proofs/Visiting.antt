@@ -75,10 +75,10 @@ looked_sound d looked sound = record {
   room = sound.room;
 }
 
-pub visit_passed : (old : Dispatcher) (t : ℕ) (w : Wait) (objects : List Object) (table : Waits) → IsSound old → old.table.looked + 1 < 2 ^ 64 → Some w ≡ map.get old.table.pending t → fits old.objects t w ≡ false → objects ≡ old.objects → table ≡ record old.table { looked = counted_once old.table.looked } → IsVisited old (record old { objects = objects; table = table }) t × IsSound (record old { objects = objects; table = table })
-visit_passed old t w objects table sound small has unfit same looked =
-    let is : record old { objects = objects; table = table } ≡ record old { table = record old.table { looked = old.table.looked + 1 } } =
-    λ i. record old { objects = same i; table = (looked ∙ ap (λ n. record old.table { looked = n }) (counted old.table.looked small)) i } in
+pub visit_passed : (old : Dispatcher) (t : ℕ) (w : Wait) (objects : List Object) (owned : List (List ℕ)) (table : Waits) → IsSound old → old.table.looked + 1 < 2 ^ 64 → Some w ≡ map.get old.table.pending t → fits old.objects t w ≡ false → objects ≡ old.objects → owned ≡ old.owned → table ≡ record old.table { looked = counted_once old.table.looked } → IsVisited old (record old { objects = objects; owned = owned; table = table }) t × IsSound (record old { objects = objects; owned = owned; table = table })
+visit_passed old t w objects owned table sound small has unfit same lists looked =
+    let is : record old { objects = objects; owned = owned; table = table } ≡ record old { table = record old.table { looked = old.table.looked + 1 } } =
+    λ i. record old { objects = same i; owned = lists i; table = (looked ∙ ap (λ n. record old.table { looked = n }) (counted old.table.looked small)) i } in
     subst (λ (new : Dispatcher). IsVisited old new t × IsSound new) (sym is) (
       inr (record {
         unfit = ap (λ o. satisfied old.objects t o) (sym has) ∙ unfit;
@@ -95,9 +95,9 @@ pub state_same : (s r : State) → s.threads ≡ r.threads → s.objects ≡ r.o
 state_same s r threads objects waits queues apcs handing now =
     λ i. record { threads = threads i; objects = objects i; waits = waits i; queues = λ h. queues h i; apcs = apcs i; handing = handing i; now = now i }
 
-pub visit_granted : (old : Dispatcher) (t code : ℕ) (w : Wait) (objects : List Object) (table : Waits) (grants : List Grant) → IsSound old → Some w ≡ map.get old.table.pending t → IsTried old.objects objects t w (Some code) → table.pending ≡ map.remove old.table.pending t → ((h : ℕ) → queue_of table h ≡ others t (queue_of old.table h)) → table.looked ≡ old.table.looked + 1 → Agrees table.pending table.queues → grants ≡ old.grants ++ record { thread = t; status = code } ∷ [] → IsVisited old (record old { objects = objects; table = table; handing = set old.handing t false; grants = grants }) t × IsSound (record old { objects = objects; table = table; handing = set old.handing t false; grants = grants })
-visit_granted old t code w objects table grants sound has tried waits queues looked agrees pushed =
-    let new : Dispatcher = record old { objects = objects; table = table; handing = set old.handing t false; grants = grants } in
+pub visit_granted : (old : Dispatcher) (t code : ℕ) (w : Wait) (objects : List Object) (owned : List (List ℕ)) (table : Waits) (grants : List Grant) → IsSound old → Some w ≡ map.get old.table.pending t → IsTried old.objects objects t w (Some code) → table.pending ≡ map.remove old.table.pending t → ((h : ℕ) → queue_of table h ≡ others t (queue_of old.table h)) → table.looked ≡ old.table.looked + 1 → Agrees table.pending table.queues → grants ≡ old.grants ++ record { thread = t; status = code } ∷ [] → IsVisited old (record old { objects = objects; owned = owned; table = table; handing = set old.handing t false; grants = grants }) t × IsSound (record old { objects = objects; owned = owned; table = table; handing = set old.handing t false; grants = grants })
+visit_granted old t code w objects owned table grants sound has tried waits queues looked agrees pushed =
+    let new : Dispatcher = record old { objects = objects; owned = owned; table = table; handing = set old.handing t false; grants = grants } in
     let own = sound.waits t w (sym has) in
     let well = subst (λ (os : List Object). TakesWell old.objects os t) (sym tried.2) (objects_taken_well old.objects t w own.apart (can_take old.objects t old.threads w sound.objects own) tried.0) in
     let longer : length grants ≡ length old.grants + 1 = ap (λ gs. length gs) pushed ∙ length-append old.grants (record { thread = t; status = code } ∷ []) in

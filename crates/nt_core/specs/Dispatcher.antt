@@ -10,6 +10,8 @@ use Rattle.nt_core.specs.State.{State}
 pub record Dispatcher : Type 0 where
   pub threads : ℕ
   pub objects : List Object
+  -- for each thread the mutexes that it owns
+  pub owned : List (List ℕ)
   -- the pending waits, their queues, and how many pending waits the last call tested
   pub table : Waits
   -- each thread's queued APCs, and the places promised to timers
@@ -37,10 +39,11 @@ state d = record {
 abbrev pub with_prepared : Dispatcher → Option (ℕ × Wait) → Dispatcher
 with_prepared d prepared = record d { table = record d.table { prepared = prepared } }
 
-abbrev pub dispatcher_of : ℕ → List Object → Waits → Apcs → List Bool → ℕ → List Grant → List (Option ℕ) → Dispatcher
-dispatcher_of threads objects table apcs handing now grants alarms = record {
+abbrev pub dispatcher_of : ℕ → List Object → List (List ℕ) → Waits → Apcs → List Bool → ℕ → List Grant → List (Option ℕ) → Dispatcher
+dispatcher_of threads objects owned table apcs handing now grants alarms = record {
   threads = threads;
   objects = objects;
+  owned = owned;
   table = table;
   apcs = apcs;
   handing = handing;

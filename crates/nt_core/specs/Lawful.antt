@@ -22,11 +22,6 @@ pub record IsSettled (s : State) : Type 0 where
   pub alerted : (t : ℕ) → IsAlerted s t → ⊥
   pub passed : NothingDue s s.now
 
--- a mutex stands in a thread's list exactly where the thread owns it, and once
-pub record OwnersAgree (objects : List Object) (owned : List (List ℕ)) : Type 0 where
-  pub named : (t m : ℕ) → IsMember (slice_index_or owned t []) m ↔ IsTrue (owned_by (object_at objects m) t)
-  pub once : (t : ℕ) → AreOnce (slice_index_or owned t [])
-
 -- a running thread waits, for distinct objects that there are, no more than a wait may name; it can take each of them
 pub record IsSoundWait (threads : ℕ) (objects : List Object) (t : ℕ) (w : Wait) : Type 0 where
   pub known : t < threads
@@ -72,4 +67,6 @@ pub record MayReplace (old new : Object) : Type 0 where
   pub ended : has_ended new ≡ has_ended old
   pub due : due_of new ≡ due_of old
   pub setter : setter_of new ≡ setter_of old
+  -- who owns it owned it
+  pub owner : (t : ℕ) → owned_by new t ≡ true → owned_by old t ≡ true
   pub unlimited : (u : ℕ) → (owned_by old u && not (has_room old)) ≡ false → (owned_by new u && not (has_room new)) ≡ false

@@ -4,18 +4,8 @@ ghost use Rattle.nt_status.specs.declared.refusal.Refusal.TheVariants.{Memory};
 
 use crate::call::Grant;
 use crate::machine::Machine;
-use nt_objects::{Armed, Object, Routine};
-use nt_status::{Refusal, ThreadId};
+use nt_status::Refusal;
 use std::alloc::{AllocError, Global};
-
-/// The same objects.
-fn copy_objects(alloc: Global, objects: &[Object]) -> Result<Vec<Object>, AllocError>
-    ensures { IfOk result (λ copied. copied.items ≡ objects.now) }
-{
-    // The kit's check makes the proof of a new vector only where each type inside its items is named in the function.
-    let _inside: (Option<ThreadId>, Option<Armed>, Option<Routine>) = (None, None, None);
-    Vec::from_slice(alloc, objects)
-}
 
 /// The same grants, with room for one of each thread.
 fn copy_grants(alloc: Global, threads: usize, grants: &[Grant]) -> Result<Vec<Grant>, AllocError>
@@ -33,18 +23,20 @@ impl Machine {
         ensures value { IfOk result (λ copied. copied ≡ self.now) }
         ensures memory { IfErr result (λ refusal. refusal ≡ Memory) }
     {
-        let alloc = *self.objects.allocator();
-        let objects = copy_objects(alloc, &self.objects)?;
+        let alloc = *self.grants.allocator();
+        let handing = Vec::from_slice(alloc, &self.handing)?;
+        let alarms = self.alarms.copy()?;
         let grants = copy_grants(alloc, self.threads as usize, &self.grants)?;
+        let objects = self.objects.copy()?;
         Ok(Machine {
             threads: self.threads,
             objects,
             waits: self.waits.copy()?,
             apcs: self.apcs.copy()?,
-            handing: Vec::from_slice(alloc, &self.handing)?,
+            handing,
             moment: self.moment,
             grants,
-            alarms: self.alarms.copy()?,
+            alarms,
         })
     }
 }

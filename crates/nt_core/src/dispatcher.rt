@@ -53,10 +53,13 @@ impl Core {
         if threads == 0 || threads > 256 {
             return Err(Refusal::InvalidParameter);
         }
+        let changed = Vec::with_capacity(alloc, threads as usize)?;
+        let alerted = quiet_alarms(alloc, 256)?;
+        let machine = Machine::new(alloc, threads)?;
         Ok(Core {
-            machine: Machine::new(alloc, threads)?,
-            changed: Vec::with_capacity(alloc, threads as usize)?,
-            alerted: quiet_alarms(alloc, 256)?,
+            machine,
+            changed,
+            alerted,
         })
     }
 
@@ -126,10 +129,10 @@ impl Core {
         ensures value { IfOk result (λ copied. copied ≡ self.now) }
         ensures memory { IfErr result (λ refusal. refusal ≡ Memory) }
     {
-        let machine = self.machine.copy()?;
         let alloc = *self.changed.allocator();
-        let changed = Vec::with_capacity(alloc, machine.objects.len())?;
+        let changed = Vec::with_capacity(alloc, self.machine.objects.as_slice().len())?;
         let alerted = quiet_alarms(alloc, 256)?;
+        let machine = self.machine.copy()?;
         Ok(Core {
             machine,
             changed,

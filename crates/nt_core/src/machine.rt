@@ -1,5 +1,5 @@
 //! The parts of a dispatcher, and the serving of pending waits.
-ghost use Rattle.std.specs.Prelude.{◌≡◌, ◌+◌, ◌≤◌, ◌<◌, ◌^◌, ℕ, [], ◌∷◌, length, IsTrue, IfOk, IfErr};
+ghost use Rattle.std.specs.Prelude.{◌≡◌, ◌+◌, ◌≤◌, ◌<◌, ◌^◌, ℕ, [], ◌∷◌, length, replicate, false, IsTrue, IfOk, IfErr};
 ghost use Rattle.std.specs.FinMap as map;
 ghost use Rattle.nt_status.specs.declared.refusal.Refusal.TheVariants.{Memory};
 ghost use Rattle.nt_core.specs.State.{pends, opening};
@@ -10,21 +10,28 @@ ghost use Rattle.nt_core.specs.Lawful.{IsSound, IsLawful};
 ghost use Rattle.nt_core.specs.Accepts.{IsFresh};
 
 use crate::call::Grant;
-use crate::objects::{quiet_alarms, running_threads};
+use crate::objects::quiet_alarms;
 use crate::serving::try_wait;
 use nt_alarms::Alarms;
 use nt_apc::ApcQueues;
-use nt_objects::Object;
+use nt_owners::ObjectTable;
 use nt_status::{Handle, Moment, Refusal, ThreadId};
 use nt_waits::WaitTable;
-use std::alloc::Global;
+use std::alloc::{AllocError, Global};
 use std::marker::Model;
+
+/// For each of so many threads that it may not take APCs.
+fn none_handing(alloc: Global, count: usize) -> Result<Vec<bool>, AllocError>
+    ensures { IfOk result (λ handing. handing.items ≡ replicate count false) }
+{
+    vec![in alloc; false; count]
+}
 
 /// The parts of a dispatcher, also between a change and the serving after it.
 #[derive(Drop)]
 pub struct Machine {
     pub(crate) threads: u32,
-    pub(crate) objects: Vec<Object>,
+    pub(crate) objects: ObjectTable,
     pub(crate) waits: WaitTable,
     pub(crate) apcs: ApcQueues,
     pub(crate) handing: Vec<bool>,
@@ -34,7 +41,7 @@ pub struct Machine {
 }
 
 impl Model for Machine {
-    ghost use Rattle.std.specs.Prelude.{◌≤◌, vec_capacity};
+    ghost use Rattle.std.specs.Prelude.{◌≡◌, ◌≤◌, length, vec_capacity};
     ghost use Rattle.nt_core.specs.Dispatcher.{Dispatcher, dispatcher_of};
     ghost use Rattle.nt_waits.specs.Waits.{waits_code};
     ghost use Rattle.std.specs.Coded.{codes};
@@ -43,9 +50,9 @@ impl Model for Machine {
 
     ghost coded = { Prim.hlevel (codes, waits_code) };
 
-    ghost view = { λ m. dispatcher_of m.threads m.objects.items m.waits m.apcs m.handing.items m.moment m.grants.items m.alarms };
+    ghost view = { λ m. dispatcher_of m.threads m.objects.items m.objects.owned m.waits m.apcs m.handing.items m.moment m.grants.items m.alarms };
 
-    ghost invariant = { λ m. (m.threads ≤ 256) × (m.threads ≤ vec_capacity m.grants) };
+    ghost invariant = { λ m. (m.threads ≤ 256) × (m.threads ≤ vec_capacity m.grants) × (length m.objects.owned ≡ m.threads) };
 }
 
 impl Machine {
@@ -58,14 +65,16 @@ impl Machine {
         ensures memory { IfErr result (λ refusal. refusal ≡ Memory) }
     {
         let count = threads as usize;
-        let handing = vec![in alloc; false; count]?;
+        let handing = none_handing(alloc, count)?;
         let grants = Vec::with_capacity(alloc, count)?;
         let apcs = ApcQueues::new(alloc, count)?;
         let alarms = quiet_alarms(alloc, count)?;
+        let objects = ObjectTable::new(alloc, count)?;
+        let waits = WaitTable::new(alloc);
         Ok(Machine {
             threads,
-            objects: running_threads(alloc, count)?,
-            waits: WaitTable::new(alloc),
+            objects,
+            waits,
             apcs,
             handing,
             moment: Moment::ZERO,

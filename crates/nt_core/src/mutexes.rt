@@ -1,5 +1,5 @@
 //! Calls on mutexes.
-ghost use Rattle.std.specs.Prelude.{◌≡◌, ◌≤◌, vec_capacity, length, false, IfOk, IsTrue, OnErr};
+ghost use Rattle.std.specs.Prelude.{◌≡◌, ◌≤◌, ◌<◌, vec_capacity, length, false, IfOk, IsTrue, OnErr};
 ghost use Rattle.nt_objects.specs.Object.{is_mutex, owned_by};
 ghost use Rattle.nt_core.specs.State.{object_at};
 ghost use Rattle.nt_core.specs.Refusals.{is_full};
@@ -22,6 +22,7 @@ impl Machine {
         changed: &mut Vec<Handle>,
     ) -> Result<Handle, AllocError>
         requires fresh { IsFresh self.old }
+        requires known { thread < self.old.threads }
         requires few { is_full self.old.objects ≡ false }
         requires room { length self.old.objects ≤ vec_capacity changed.old }
         ensures ok { IfOk result (λ handle. Accepts self.old self.new thread (Call.Act (Act.CreateMutex flags)) (Reply.Handle handle)) }

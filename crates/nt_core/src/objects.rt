@@ -1,6 +1,6 @@
 //! The list of objects, and the creation of more.
-ghost use Rattle.std.specs.Prelude.{◌≡◌, ◌≢◌, ◌<◌, ◌≤◌, vec_capacity, vec_len, None, ◌∷◌, ◌++◌, [], false, replicate, IfOk, OnOk, OnErr, length, slice_set};
-ghost use Rattle.nt_objects.specs.declared.object.Object.TheVariants.{Thread};
+ghost use Rattle.std.specs.Prelude.{◌≡◌, ◌≢◌, ◌<◌, ◌≤◌, ℕ, vec_capacity, None, ◌∷◌, ◌++◌, [], true, false, replicate, IfOk, OnOk, OnErr, length, slice_set};
+ghost use Rattle.nt_objects.specs.Object.{owner_of, owned_by};
 ghost use Rattle.nt_core.specs.State.{object_at};
 ghost use Rattle.nt_core.specs.Refusals.{is_full};
 ghost use Rattle.nt_core.specs.Change.{at};
@@ -10,28 +10,9 @@ ghost use Rattle.nt_core.specs.Accepts.{IsFresh, IsServedAfter};
 
 use crate::machine::Machine;
 use nt_alarms::Alarms;
-use nt_objects::{Armed, Object, Routine};
-use nt_status::{Handle, ThreadId};
+use nt_objects::Object;
+use nt_status::Handle;
 use std::alloc::{AllocError, Global};
-
-/// The objects of so many threads that run.
-pub fn running_threads(alloc: Global, count: usize) -> Result<Vec<Object>, AllocError>
-    ensures { IfOk result (λ objects. objects.items ≡ replicate count (Thread false)) }
-{
-    // The kit's check makes the proof of a new vector only where each type inside its items is named in the function.
-    let _inside: (Option<ThreadId>, Option<Armed>, Option<Routine>) = (None, None, None);
-    vec![in alloc; Object::new_thread(); count]
-}
-
-/// Adds an object, last.
-fn add_object(objects: &mut Vec<Object>, object: Object)
-    requires { vec_len objects.old < vec_capacity objects.old }
-    ensures { objects.new.items ≡ objects.old.items ++ object ∷ [] }
-{
-    // As above.
-    let _inside: (Option<ThreadId>, Option<Armed>, Option<Routine>) = (None, None, None);
-    objects.push_reserved(object);
-}
 
 /// A place for each object's alarm, with no alarm.
 pub fn quiet_alarms(alloc: Global, count: usize) -> Result<Alarms, AllocError>
@@ -54,19 +35,19 @@ impl Machine {
     ) -> Result<Handle, AllocError>
         requires few { is_full self.old.objects ≡ false }
         requires room { length self.old.objects ≤ vec_capacity changed.old }
+        requires owner { (t : ℕ) → owned_by object t ≡ true → t < self.old.threads }
         ensures handle { IfOk result (λ handle. handle ≡ length self.old.objects) }
-        ensures ok { OnOk result (self.new ≡ record self.old { objects = self.old.objects ++ object ∷ []; alarms = self.old.alarms ++ None ∷ [] }) }
+        ensures ok { OnOk result (self.new ≡ record self.old { objects = self.old.objects ++ object ∷ []; owned = self.new.owned; alarms = self.old.alarms ++ None ∷ [] }) }
         ensures err { OnErr result (self.new ≡ self.old) }
         ensures room { length self.new.objects ≤ vec_capacity changed.new }
     {
-        let count = self.objects.len();
-        let handle = Handle::new(count as u32);
+        let count = self.objects.as_slice().len();
         changed.clear();
         changed.reserve(count + 1)?;
-        self.objects.reserve(1)?;
+        self.objects.make_room()?;
         self.alarms.add()?;
-        add_object(&mut self.objects, object);
-        Ok(handle)
+        self.objects.add(object);
+        Ok(Handle::new(count as u32))
     }
 
     /// The object at this handle.
@@ -74,15 +55,25 @@ impl Machine {
         requires { handle < length self.now.objects }
         ensures { result ≡ object_at self.now.objects handle }
     {
-        self.objects[handle.get() as usize]
+        self.objects.as_slice()[handle.get() as usize]
     }
 
-    /// Puts an object in the place of the one at this handle.
+    /// Puts an object in the place of the one at this handle, which had the same owner, or none like this one.
     pub(crate) fn exchange(&mut self, handle: Handle, object: Object)
-        requires { handle < length self.old.objects }
+        requires known { handle < length self.old.objects }
+        requires owner { owner_of object ≡ owner_of (object_at self.old.objects handle) }
         ensures { self.new ≡ record self.old { objects = slice_set self.old.objects handle object } }
     {
-        self.objects[handle.get() as usize] = object;
+        self.objects.put(handle, object);
+    }
+
+    /// Puts an object in the place of the one at this handle, which had the same owner if this one has any.
+    fn exchange_owned(&mut self, handle: Handle, object: Object)
+        requires known { handle < length self.old.objects }
+        requires owner { (t : ℕ) → owned_by object t ≡ true → owned_by (object_at self.old.objects handle) t ≡ true }
+        ensures { self.new ≡ record self.old { objects = slice_set self.old.objects handle object; owned = self.new.owned } }
+    {
+        self.objects.put(handle, object);
     }
 
     /// Puts another object in the place of the one at this handle, and serves the waits that name it.
@@ -94,7 +85,7 @@ impl Machine {
         ensures served { IsServedAfter self.old (at (state self.old) handle (λ _. object)) self.new }
         ensures prepared { self.new.table.prepared ≡ self.old.table.prepared }
     {
-        self.exchange(handle, object);
+        self.exchange_owned(handle, object);
         self.serve(&[handle]);
     }
 }

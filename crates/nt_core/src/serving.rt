@@ -1,4 +1,4 @@
-ghost use Rattle.std.specs.Prelude.{◌≡◌, ◌≤◌, ℕ, IsTrue, None, true, false, length};
+ghost use Rattle.std.specs.Prelude.{◌≡◌, ◌≤◌, ◌<◌, ℕ, IsTrue, IfNone, None, true, false, length};
 ghost use Rattle.std.specs.List.{position, list_all, list_any};
 ghost use Rattle.std.specs.List.{IsDistinct};
 ghost use Rattle.std.specs.Prelude.{nat_eq};
@@ -7,6 +7,7 @@ ghost use Rattle.nt_core.specs.State.{object_at};
 ghost use Rattle.nt_core.specs.Serving.{is_ready, has_mark, status_at, take_at, take_each, wait_for, CanTake, IsTried};
 
 use nt_objects::Object;
+use nt_owners::ObjectTable;
 use nt_status::{Handle, Status, ThreadId};
 
 /// Whether the object at this handle is signaled for the thread. A number that no object has is not.
@@ -66,20 +67,26 @@ fn status_at(marked: bool, place: u32) -> Status
 }
 
 /// The thread takes the object at this handle.
-fn take_at(objects: &mut [Object], thread: ThreadId, handle: Handle)
-    requires ready { IsTrue (is_ready objects.old thread handle) }
-    requires room { IsTrue (has_room (object_at objects.old handle)) }
-    ensures { objects.new ≡ take_at objects.old thread handle }
+fn take_at(objects: &mut ObjectTable, thread: ThreadId, handle: Handle)
+    requires ready { IsTrue (is_ready objects.old.items thread handle) }
+    requires room { IsTrue (has_room (object_at objects.old.items handle)) }
+    requires known { thread < length objects.old.owned }
+    ensures items { objects.new.items ≡ take_at objects.old.items thread handle }
+    ensures threads { length objects.new.owned ≡ length objects.old.owned }
 {
-    let _taken = objects[handle.get() as usize].take_for(thread);
+    let mut object = objects.as_slice()[handle.get() as usize];
+    let _taken = object.take_for(thread);
+    objects.put(handle, object);
 }
 
 /// The thread takes the objects at these handles.
-fn take_each(objects: &mut [Object], thread: ThreadId, handles: &[Handle])
-    requires ready { list_all (is_ready objects.old thread) handles.now ≡ true }
+fn take_each(objects: &mut ObjectTable, thread: ThreadId, handles: &[Handle])
+    requires ready { list_all (is_ready objects.old.items thread) handles.now ≡ true }
     requires apart { IsDistinct nat_eq handles.now }
-    requires room { CanTake objects.old thread handles.now }
-    ensures { objects.new ≡ take_each objects.old thread handles.now }
+    requires room { CanTake objects.old.items thread handles.now }
+    requires known { thread < length objects.old.owned }
+    ensures items { objects.new.items ≡ take_each objects.old.items thread handles.now }
+    ensures threads { length objects.new.owned ≡ length objects.old.owned }
 {
     for handle in handles {
         take_at(objects, thread, *handle);
@@ -87,43 +94,52 @@ fn take_each(objects: &mut [Object], thread: ThreadId, handles: &[Handle])
 }
 
 /// Where the objects satisfy a wait for any of these handles, takes the object at the least, and answers the status.
-fn try_any(objects: &mut [Object], thread: ThreadId, handles: &[Handle]) -> Option<Status>
+fn try_any(objects: &mut ObjectTable, thread: ThreadId, handles: &[Handle]) -> Option<Status>
     requires few { length handles.now ≤ 64 }
-    requires room { CanTake objects.old thread handles.now }
-    ensures { IsTried objects.old objects.new thread (wait_for handles.now false) result }
+    requires room { CanTake objects.old.items thread handles.now }
+    requires known { thread < length objects.old.owned }
+    ensures tried { IsTried objects.old.items objects.new.items thread (wait_for handles.now false) result }
+    ensures none { IfNone result (objects.new ≡ objects.old) }
+    ensures threads { length objects.new.owned ≡ length objects.old.owned }
 {
-    let place = ready_place(objects, thread, handles)?;
+    let place = ready_place(objects.as_slice(), thread, handles)?;
     let handle = handles[place];
-    let marked = has_mark(objects, handle);
+    let marked = has_mark(objects.as_slice(), handle);
     take_at(objects, thread, handle);
     Some(status_at(marked, place as u32))
 }
 
 /// Where the objects satisfy a wait for all these handles, takes them, and answers the status.
-fn try_all(objects: &mut [Object], thread: ThreadId, handles: &[Handle]) -> Option<Status>
+fn try_all(objects: &mut ObjectTable, thread: ThreadId, handles: &[Handle]) -> Option<Status>
     requires apart { IsDistinct nat_eq handles.now }
-    requires room { CanTake objects.old thread handles.now }
-    ensures { IsTried objects.old objects.new thread (wait_for handles.now true) result }
+    requires room { CanTake objects.old.items thread handles.now }
+    requires known { thread < length objects.old.owned }
+    ensures tried { IsTried objects.old.items objects.new.items thread (wait_for handles.now true) result }
+    ensures none { IfNone result (objects.new ≡ objects.old) }
+    ensures threads { length objects.new.owned ≡ length objects.old.owned }
 {
-    if handles.is_empty() || !are_ready(objects, thread, handles) {
+    if handles.is_empty() || !are_ready(objects.as_slice(), thread, handles) {
         return None;
     }
-    let marked = have_mark(objects, handles);
+    let marked = have_mark(objects.as_slice(), handles);
     take_each(objects, thread, handles);
     Some(status_at(marked, 0))
 }
 
 /// Where the objects satisfy a wait for any or all of these handles, takes what it takes of them, and answers its status.
 pub fn try_wait(
-    objects: &mut [Object],
+    objects: &mut ObjectTable,
     thread: ThreadId,
     handles: &[Handle],
     all: bool,
 ) -> Option<Status>
     requires few { length handles.now ≤ 64 }
     requires apart { IsDistinct nat_eq handles.now }
-    requires room { CanTake objects.old thread handles.now }
-    ensures { IsTried objects.old objects.new thread (wait_for handles.now all) result }
+    requires room { CanTake objects.old.items thread handles.now }
+    requires known { thread < length objects.old.owned }
+    ensures tried { IsTried objects.old.items objects.new.items thread (wait_for handles.now all) result }
+    ensures none { IfNone result (objects.new ≡ objects.old) }
+    ensures threads { length objects.new.owned ≡ length objects.old.owned }
 {
     if all {
         try_all(objects, thread, handles)

@@ -65,7 +65,7 @@ impl Machine {
             return Ok(());
         }
         let wait = Wait {
-            handles: Handles::from_slice(*self.objects.allocator(), &[object])?,
+            handles: Handles::from_slice(*self.grants.allocator(), &[object])?,
             all: false,
             alertable,
             deadline: deadline_after(self.moment, ms),

@@ -1,6 +1,6 @@
 //! Calls on timers, and their expiry.
 ghost use Rattle.std.specs.Prelude.{◌≡◌, ◌≤◌, ◌<◌, pos, ◌≤ℤ◌, false, length, slice_set, vec_capacity, is_some, None, Some, IfOk, IfSome, IsSomeAnd, IsTrue, OnOk, OnErr};
-ghost use Rattle.nt_objects.specs.Object.{is_timer, has_ended, due_of};
+ghost use Rattle.nt_objects.specs.Object.{is_timer, has_ended, due_of, owner_of};
 ghost use Rattle.nt_apc.specs.Queues.{withdrawn, place_of};
 ghost use Rattle.nt_core.specs.State.{object_at};
 ghost use Rattle.nt_core.specs.Change.{notified, expired, armed_anew, due_moment, routine_for};
@@ -65,6 +65,7 @@ impl Machine {
     fn put_timer(&mut self, timer: Handle, object: Object)
         requires known { timer < length self.old.objects }
         requires clock { timer < length self.old.alarms }
+        requires owner { owner_of object ≡ owner_of (object_at self.old.objects timer) }
         ensures { self.new ≡ record self.old { objects = slice_set self.old.objects timer object; alarms = slice_set self.old.alarms timer (due_of object) } }
     {
         let place = timer.get() as usize;
@@ -72,7 +73,7 @@ impl Machine {
             Some(due) => self.alarms.set(place, due),
             None => self.alarms.clear(place),
         }
-        self.objects[place] = object;
+        self.objects.put(timer, object);
     }
 
     /// Withdraws the timer's queued APC, if there is one.

@@ -158,7 +158,7 @@ impl Machine {
             return Ok(Reply::Status(status));
         }
         let wait = Wait {
-            handles: Handles::from_slice(*self.objects.allocator(), handles)?,
+            handles: Handles::from_slice(*self.grants.allocator(), handles)?,
             all,
             alertable,
             deadline: deadline_after(self.moment, ms),

@@ -6,7 +6,8 @@ use Rattle.nt_core.proofs.serving.take_each.Given as goal
 
 abbrev pub invariant-loop-handle : goal.invariant-loop-handle
 invariant-loop-handle l = record {
-  taken : l.objects ≡ take_each l.initial.objects l.thread (take l.handle-index l.handles);
-  ready : (j : ℕ) → l.handle-index ≤ j → j < length l.handles → is_ready l.objects l.thread (get_or l.handles j 0) ≡ true;
-  room : (j : ℕ) → l.handle-index ≤ j → j < length l.handles → has_room (object_at l.objects (get_or l.handles j 0)) ≡ true;
+  taken : l.objects.items ≡ take_each l.initial.objects.items l.thread (take l.handle-index l.handles);
+  ready : (j : ℕ) → l.handle-index ≤ j → j < length l.handles → is_ready l.objects.items l.thread (get_or l.handles j 0) ≡ true;
+  room : (j : ℕ) → l.handle-index ≤ j → j < length l.handles → has_room (object_at l.objects.items (get_or l.handles j 0)) ≡ true;
+  threads : length l.objects.owned ≡ length l.initial.objects.owned;
 }

@@ -1,10 +1,14 @@
 use Rattle.std.proofs.Common.{ap, ◌∙◌, set, None}
 use Rattle.nt_objects.specs.declared.object.Object.{Object}
-use Rattle.nt_objects.specs.Object.{armed_with, due_of}
+use Rattle.nt_objects.specs.Object.{owner_of, armed_with, due_of}
 use Rattle.nt_core.specs.State.{object_at}
 use Rattle.nt_core.specs.Dispatcher.{Dispatcher}
+use Rattle.nt_core.proofs.Owned.{owner_armed}
 use Rattle.nt_core.proofs.Timing.{cancel_accepted}
 use Rattle.nt_core.proofs.machine.Machine.cancel_timer.Goals as goal
+
+pub put_timer-requires-clause-owner : goal.put_timer-requires-clause-owner
+put_timer-requires-clause-owner c = ap owner_of c.cancel.ensures ∙ (owner_armed None c.object-object.result ∙ ap owner_of c.object-object.ensures)
 
 pub returns : goal.returns
 returns c =

@@ -15,8 +15,8 @@ returns-clause-ok c =
     let made = c.new_event.ensures in
     ok_both
     (λ handle. handle ≡ length old.objects)
-    (c.create.new.self ≡ record old { objects = old.objects ++ c.new_event.result ∷ []; alarms = old.alarms ++ None ∷ [] })
+    (c.create.new.self ≡ record old { objects = old.objects ++ c.new_event.result ∷ []; owned = c.create.new.self.owned; alarms = old.alarms ++ None ∷ [] })
     (λ handle. Accepts old c.create.new.self c.args.thread (Call.Act (Act.CreateEvent c.args.flags)) (Reply.Handle handle))
-    (λ handle is becomes. created_accepted old c.create.new.self c.args.thread (event_of c.args.flags) (Call.Act (Act.CreateEvent c.args.flags)) handle c.requires.fresh c.requires.few tt refl refl refl (λ s. refl) (λ s. refl) is
-    (becomes ∙ ap (λ (o : Object). record old { objects = old.objects ++ o ∷ []; alarms = old.alarms ++ None ∷ [] }) made.event))
+    (λ handle is becomes. created_accepted old c.create.new.self c.args.thread (event_of c.args.flags) c.create.new.self.owned (Call.Act (Act.CreateEvent c.args.flags)) handle c.requires.fresh c.requires.few tt refl refl refl (λ s. refl) (λ s. refl) is
+    (becomes ∙ ap (λ (o : Object). record old { objects = old.objects ++ o ∷ []; owned = c.create.new.self.owned; alarms = old.alarms ++ None ∷ [] }) made.event))
     c.create.result c.create.ensures.handle c.create.ensures.ok

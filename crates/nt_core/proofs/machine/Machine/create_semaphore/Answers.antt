@@ -24,9 +24,9 @@ returns-clause-ok c =
     let is_o : c.in-Ok.semaphore ≡ o = made.semaphore ∙ (ap (λ (z : ℤ). Semaphore z (to_z w32 (of_z w32 c.args.maximum))) initial ∙ ap (λ (z : ℤ). Semaphore c.args.initial z) maximum) in
     ok_both
     (λ handle. handle ≡ length old.objects)
-    (c.create.new.self ≡ record old { objects = old.objects ++ c.in-Ok.semaphore ∷ []; alarms = old.alarms ++ None ∷ [] })
+    (c.create.new.self ≡ record old { objects = old.objects ++ c.in-Ok.semaphore ∷ []; owned = c.create.new.self.owned; alarms = old.alarms ++ None ∷ [] })
     (λ handle. Accepts old c.create.new.self c.args.thread (Call.Act (Act.CreateSemaphore c.args.initial c.args.maximum)) (Reply.Handle handle))
-    (λ handle is becomes. created_accepted old c.create.new.self c.args.thread o (Call.Act (Act.CreateSemaphore c.args.initial c.args.maximum)) handle c.requires.fresh c.requires.few
+    (λ handle is becomes. created_accepted old c.create.new.self c.args.thread o c.create.new.self.owned (Call.Act (Act.CreateSemaphore c.args.initial c.args.maximum)) handle c.requires.fresh c.requires.few
     (subst IsLawfulObject is_o made.lawful) refl refl refl (λ s. refl) (λ s. refl) is
-    (becomes ∙ ap (λ (x : Object). record old { objects = old.objects ++ x ∷ []; alarms = old.alarms ++ None ∷ [] }) is_o))
+    (becomes ∙ ap (λ (x : Object). record old { objects = old.objects ++ x ∷ []; owned = c.create.new.self.owned; alarms = old.alarms ++ None ∷ [] }) is_o))
     c.create.result c.create.ensures.handle c.create.ensures.ok

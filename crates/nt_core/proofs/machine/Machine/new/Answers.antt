@@ -1,12 +1,22 @@
-use Rattle.std.proofs.Common.{◌≡◌, length, arith, ap, ◌∙◌, []}
+use Rattle.std.proofs.Common.{◌≡◌, ℕ, List, length, ap, false, ◌∙◌, [], refl}
 use Rattle.std.proofs.lemmas.List.{length-replicate}
-use Rattle.nt_core.specs.Dispatcher.{dispatcher_of}
+use Rattle.std.specs.Prelude.{slice_index_or}
+use Rattle.nt_waits.specs.Waits.{queue_of}
+use Rattle.nt_core.specs.State.{opening}
+use Rattle.nt_core.specs.Dispatcher.{state, dispatcher_of}
+use Rattle.nt_core.proofs.Visiting.{state_same}
 use Rattle.nt_core.proofs.Accepting.{opening_lawful}
 use Rattle.nt_core.proofs.machine.Machine.new.Goals as goal
 
 pub returns-clause-lawful : goal.returns-clause-lawful
 returns-clause-lawful c =
-    let d = dispatcher_of c.args.threads c.in_ok-running_threads.field-0.items c.new-2.result c.in_ok-apcs.apcs c.in_ok-handing.handing.items 0 c.in_ok-grants.grants.items c.in_ok-alarms.alarms in
-    let hands : length c.in_ok-handing.handing.items ≡ c.args.threads = omega (arith, c.in_ok-handing.ensures.len, c.in_ok-handing.handing.ok.0) in
+    let d = dispatcher_of c.args.threads c.in_ok-objects.objects.items c.in_ok-objects.objects.owned c.new-waits.result c.in_ok-apcs.apcs c.in_ok-handing.handing.items 0 c.in_ok-grants.grants.items c.in_ok-alarms.alarms in
+    let hands : length c.in_ok-handing.handing.items ≡ c.args.threads = ap (λ hs. length hs) c.in_ok-handing.ensures ∙ length-replicate c.args.threads false in
     let inboxes : length c.in_ok-apcs.apcs.queues ≡ c.args.threads = ap (λ qs. length qs) c.in_ok-apcs.ensures.queues ∙ length-replicate c.args.threads [] in
-    opening_lawful d c.requires c.in_ok-running_threads.ensures c.new-2.ensures.pending c.new-2.ensures.agrees hands inboxes c.in_ok-grants.ensures.items c.in_ok-alarms.ensures
+    opening_lawful d c.requires c.in_ok-objects.ensures.items c.new-waits.ensures.pending c.new-waits.ensures.agrees hands inboxes c.in_ok-grants.ensures.items c.in_ok-alarms.ensures
+
+pub returns-clause-opening : goal.returns-clause-opening
+returns-clause-opening c =
+    let d = dispatcher_of c.args.threads c.in_ok-objects.objects.items c.in_ok-objects.objects.owned c.new-waits.result c.in_ok-apcs.apcs c.in_ok-handing.handing.items 0 c.in_ok-grants.grants.items c.in_ok-alarms.alarms in
+    let queues : (h : ℕ) → queue_of c.new-waits.result h ≡ [] = λ h. ap (λ (qs : List (List ℕ)). slice_index_or qs h []) c.new-waits.ensures.queues in
+    state_same (state d) (opening c.args.threads) refl c.in_ok-objects.ensures.items c.new-waits.ensures.pending queues c.in_ok-apcs.ensures.queues c.in_ok-handing.ensures refl

@@ -9,23 +9,23 @@ use Rattle.nt_core.proofs.machine.Machine.replace.Goals as goal
 
 pub serve-requires-clause-sound : goal.serve-requires-clause-sound
 serve-requires-clause-sound c =
-    subst IsSound (sym c.exchange.ensures) (sound_replaced c.args.self.now c.args.handle c.args.object c.requires.fresh.lawful.sound c.requires.may)
+    subst IsSound (sym c.exchange_owned.ensures) (sound_replaced c.args.self.now c.args.handle c.args.object c.exchange_owned.new.self.owned c.requires.fresh.lawful.sound c.requires.may)
 
 pub serve-requires-clause-local : goal.serve-requires-clause-local
 serve-requires-clause-local c =
-    subst (λ (x : Dispatcher). FitOnlyIn (sequence (state x) (c.args.handle ∷ [])) (state x)) (sym c.exchange.ensures) (replaced_fit c.args.self.now c.args.handle c.args.object c.requires.fresh.lawful)
+    subst (λ (x : Dispatcher). FitOnlyIn (sequence (state x) (c.args.handle ∷ [])) (state x)) (sym c.exchange_owned.ensures) (replaced_fit c.args.self.now c.args.handle c.args.object c.requires.fresh.lawful)
 
 pub serve-requires-clause-countable : goal.serve-requires-clause-countable
 serve-requires-clause-countable c =
-    subst (λ (x : Dispatcher). length (sequence (state x) (c.args.handle ∷ [])) < 2 ^ 64) (sym c.exchange.ensures) (one_few c.args.self.now c.args.handle c.requires.fresh.lawful.sound)
+    subst (λ (x : Dispatcher). length (sequence (state x) (c.args.handle ∷ [])) < 2 ^ 64) (sym c.exchange_owned.ensures) (one_few c.args.self.now c.args.handle c.requires.fresh.lawful.sound)
 
 pub returns-clause-served : goal.returns-clause-served
 returns-clause-served c =
     replaced_served c.args.self.now c.serve.new.self c.args.handle c.args.object c.requires.known c.requires.differs
-    (subst (λ (x : Dispatcher). Serve (sequence (state x) (c.args.handle ∷ [])) (state x) c.serve.new.self.grants (state c.serve.new.self)) c.exchange.ensures c.serve.ensures.served)
+    (subst (λ (x : Dispatcher). Serve (sequence (state x) (c.args.handle ∷ [])) (state x) c.serve.new.self.grants (state c.serve.new.self)) c.exchange_owned.ensures c.serve.ensures.served)
     c.serve.ensures.sound
-    (subst (λ (x : Dispatcher). c.serve.new.self.table.looked ≤ length (sequence (state x) (c.args.handle ∷ []))) c.exchange.ensures c.serve.ensures.most)
+    (subst (λ (x : Dispatcher). c.serve.new.self.table.looked ≤ length (sequence (state x) (c.args.handle ∷ []))) c.exchange_owned.ensures c.serve.ensures.most)
     c.serve.ensures.least
 
 pub returns-clause-prepared : goal.returns-clause-prepared
-returns-clause-prepared c = c.serve.ensures.prepared ∙ ap (λ (x : Dispatcher). x.table.prepared) c.exchange.ensures
+returns-clause-prepared c = c.serve.ensures.prepared ∙ ap (λ (x : Dispatcher). x.table.prepared) c.exchange_owned.ensures

@@ -1,7 +1,7 @@
 use Rattle.std.proofs.Common.{◌≡◌, ◌+◌, ◌≤◌, ◌<◌, ◌^◌, ℕ, List, Some, None, length, sym, subst, ap, ◌∙◌, arith, false, set}
 use Rattle.std.specs.FinMap as map
-use Rattle.std.specs.Vec.{with_items, vec_capacity}
-use Rattle.std.proofs.lemmas.List.{with_items_is}
+use Rattle.std.specs.Vec.{vec_capacity}
+use Rattle.nt_owners.specs.Objects.{Objects}
 use Rattle.nt_waits.specs.Waits.{Waits, queue_of, others}
 use Rattle.nt_objects.specs.declared.object.Object.{Object}
 use Rattle.nt_core.specs.Dispatcher.{Dispatcher, dispatcher_of}
@@ -13,59 +13,62 @@ use Rattle.nt_core.proofs.machine.Machine.visit.Goals as goal
 
 pub try_wait-requires-clause-few : goal.try_wait-requires-clause-few
 try_wait-requires-clause-few c =
-    let d = dispatcher_of c.self.inside.threads c.self.inside.objects.items c.self.inside.waits c.self.inside.apcs c.self.inside.handing.items c.self.inside.moment c.self.inside.grants.items c.self.inside.alarms in
+    let d = dispatcher_of c.self.inside.threads c.self.inside.objects.items c.self.inside.objects.owned c.self.inside.waits c.self.inside.apcs c.self.inside.handing.items c.self.inside.moment c.self.inside.grants.items c.self.inside.alarms in
     let sound : IsSound d = subst IsSound (sym c.self.view_is) c.requires.sound in
     let own = sound.waits c.args.thread c.in-Some.wait.now (sym c.in-Some.ensures.value) in
     rw c.as_slice-handles.ensures own.few
 
 pub try_wait-requires-clause-apart : goal.try_wait-requires-clause-apart
 try_wait-requires-clause-apart c =
-    let d = dispatcher_of c.self.inside.threads c.self.inside.objects.items c.self.inside.waits c.self.inside.apcs c.self.inside.handing.items c.self.inside.moment c.self.inside.grants.items c.self.inside.alarms in
+    let d = dispatcher_of c.self.inside.threads c.self.inside.objects.items c.self.inside.objects.owned c.self.inside.waits c.self.inside.apcs c.self.inside.handing.items c.self.inside.moment c.self.inside.grants.items c.self.inside.alarms in
     let sound : IsSound d = subst IsSound (sym c.self.view_is) c.requires.sound in
     let own = sound.waits c.args.thread c.in-Some.wait.now (sym c.in-Some.ensures.value) in
     rw c.as_slice-handles.ensures own.apart
 
 pub try_wait-requires-clause-room : goal.try_wait-requires-clause-room
 try_wait-requires-clause-room c =
-    let d = dispatcher_of c.self.inside.threads c.self.inside.objects.items c.self.inside.waits c.self.inside.apcs c.self.inside.handing.items c.self.inside.moment c.self.inside.grants.items c.self.inside.alarms in
+    let d = dispatcher_of c.self.inside.threads c.self.inside.objects.items c.self.inside.objects.owned c.self.inside.waits c.self.inside.apcs c.self.inside.handing.items c.self.inside.moment c.self.inside.grants.items c.self.inside.alarms in
     let sound : IsSound d = subst IsSound (sym c.self.view_is) c.requires.sound in
     let own = sound.waits c.args.thread c.in-Some.wait.now (sym c.in-Some.ensures.value) in
     let can : CanTake c.self.inside.objects.items c.args.thread c.in-Some.wait.now.handles = can_take c.self.inside.objects.items c.args.thread d.threads c.in-Some.wait.now sound.objects own in
-    rw c.as_slice-handles.ensures (rw c.deref_mut.ensures.value can)
+    rw c.as_slice-handles.ensures can
+
+pub try_wait-requires-clause-known : goal.try_wait-requires-clause-known
+try_wait-requires-clause-known c =
+    let d = dispatcher_of c.self.inside.threads c.self.inside.objects.items c.self.inside.objects.owned c.self.inside.waits c.self.inside.apcs c.self.inside.handing.items c.self.inside.moment c.self.inside.grants.items c.self.inside.alarms in
+    let sound : IsSound d = subst IsSound (sym c.self.view_is) c.requires.sound in
+    let own = sound.waits c.args.thread c.in-Some.wait.now (sym c.in-Some.ensures.value) in
+    rw c.self.invariant.2 own.known
 
 pub returns-in_default-try_wait-clause-visited : goal.returns-in_default-try_wait-clause-visited
 returns-in_default-try_wait-clause-visited c =
-    let d = dispatcher_of c.self.inside.threads c.self.inside.objects.items c.self.inside.waits c.self.inside.apcs c.self.inside.handing.items c.self.inside.moment c.self.inside.grants.items c.self.inside.alarms in
+    let d = dispatcher_of c.self.inside.threads c.self.inside.objects.items c.self.inside.objects.owned c.self.inside.waits c.self.inside.apcs c.self.inside.handing.items c.self.inside.moment c.self.inside.grants.items c.self.inside.alarms in
     let sound : IsSound d = subst IsSound (sym c.self.view_is) c.requires.sound in
     let small : d.table.looked + 1 < 2 ^ 64 = subst (λ (x : Dispatcher). x.table.looked + 1 < 2 ^ 64) (sym c.self.view_is) c.requires.countable in
-    let objects : List Object = (with_items c.self.inside.objects c.try_wait.new.objects).items in
-    let len : length c.try_wait.new.objects ≡ c.self.inside.objects.len =
-    c.try_wait.auto.objects ∙ (ap (λ (os : List Object). length os) c.deref_mut.ensures.value ∙ sym c.self.inside.objects.ok.0) in
-    let same : objects ≡ c.try_wait.new.objects = with_items_is c.self.inside.objects c.try_wait.new.objects len in
+    let objects = c.try_wait.new.objects.items in
+    let owned = c.try_wait.new.objects.owned in
     let handles = c.as_slice-handles.ensures in
-    let tried : IsTried c.self.inside.objects.items c.try_wait.new.objects c.args.thread c.in-Some.wait.now None =
-    rw (sym c.deref_mut.ensures.value) (subst (λ (hs : List ℕ). IsTried c.deref_mut.result.now c.try_wait.new.objects c.args.thread (wait_for hs c.in-Some.wait.now.all) None) handles c.in_default-try_wait.ensures) in
-    let result = visit_passed d c.args.thread c.in-Some.wait.now objects c.get.follows.lender-at-none sound small c.in-Some.ensures.value tried.0 (same ∙ tried.1) c.get.follows.holds-at-none in
-    subst (λ (x : Dispatcher). IsVisited x (record d { objects = objects; table = c.get.follows.lender-at-none }) c.args.thread) c.self.view_is result.0
+    let tried : IsTried c.self.inside.objects.items c.try_wait.new.objects.items c.args.thread c.in-Some.wait.now None =
+    (subst (λ (hs : List ℕ). IsTried c.self.inside.objects.items c.try_wait.new.objects.items c.args.thread (wait_for hs c.in-Some.wait.now.all) None) handles c.in_default-try_wait.ensures.tried) in
+    let result = visit_passed d c.args.thread c.in-Some.wait.now objects owned c.get.follows.lender-at-none sound small c.in-Some.ensures.value tried.0 tried.1 (ap (λ (o : Objects). o.owned) c.in_default-try_wait.ensures.none) c.get.follows.holds-at-none in
+    subst (λ (x : Dispatcher). IsVisited x (record d { objects = objects; owned = owned; table = c.get.follows.lender-at-none }) c.args.thread) c.self.view_is result.0
 
 pub returns-in_default-try_wait-clause-sound : goal.returns-in_default-try_wait-clause-sound
 returns-in_default-try_wait-clause-sound c =
-    let d = dispatcher_of c.self.inside.threads c.self.inside.objects.items c.self.inside.waits c.self.inside.apcs c.self.inside.handing.items c.self.inside.moment c.self.inside.grants.items c.self.inside.alarms in
+    let d = dispatcher_of c.self.inside.threads c.self.inside.objects.items c.self.inside.objects.owned c.self.inside.waits c.self.inside.apcs c.self.inside.handing.items c.self.inside.moment c.self.inside.grants.items c.self.inside.alarms in
     let sound : IsSound d = subst IsSound (sym c.self.view_is) c.requires.sound in
     let small : d.table.looked + 1 < 2 ^ 64 = subst (λ (x : Dispatcher). x.table.looked + 1 < 2 ^ 64) (sym c.self.view_is) c.requires.countable in
-    let objects : List Object = (with_items c.self.inside.objects c.try_wait.new.objects).items in
-    let len : length c.try_wait.new.objects ≡ c.self.inside.objects.len =
-    c.try_wait.auto.objects ∙ (ap (λ (os : List Object). length os) c.deref_mut.ensures.value ∙ sym c.self.inside.objects.ok.0) in
-    let same : objects ≡ c.try_wait.new.objects = with_items_is c.self.inside.objects c.try_wait.new.objects len in
+    let objects = c.try_wait.new.objects.items in
+    let owned = c.try_wait.new.objects.owned in
     let handles = c.as_slice-handles.ensures in
-    let tried : IsTried c.self.inside.objects.items c.try_wait.new.objects c.args.thread c.in-Some.wait.now None =
-    rw (sym c.deref_mut.ensures.value) (subst (λ (hs : List ℕ). IsTried c.deref_mut.result.now c.try_wait.new.objects c.args.thread (wait_for hs c.in-Some.wait.now.all) None) handles c.in_default-try_wait.ensures) in
-    let result = visit_passed d c.args.thread c.in-Some.wait.now objects c.get.follows.lender-at-none sound small c.in-Some.ensures.value tried.0 (same ∙ tried.1) c.get.follows.holds-at-none in
+    let tried : IsTried c.self.inside.objects.items c.try_wait.new.objects.items c.args.thread c.in-Some.wait.now None =
+    (subst (λ (hs : List ℕ). IsTried c.self.inside.objects.items c.try_wait.new.objects.items c.args.thread (wait_for hs c.in-Some.wait.now.all) None) handles c.in_default-try_wait.ensures.tried) in
+    let result = visit_passed d c.args.thread c.in-Some.wait.now objects owned c.get.follows.lender-at-none sound small c.in-Some.ensures.value tried.0 tried.1 (ap (λ (o : Objects). o.owned) c.in_default-try_wait.ensures.none) c.get.follows.holds-at-none in
     result.1
 
 pub index_mut-requires : goal.index_mut-requires
 index_mut-requires c =
-    let d = dispatcher_of c.self.inside.threads c.self.inside.objects.items c.self.inside.waits c.self.inside.apcs c.self.inside.handing.items c.self.inside.moment c.self.inside.grants.items c.self.inside.alarms in
+    let d = dispatcher_of c.self.inside.threads c.self.inside.objects.items c.self.inside.objects.owned c.self.inside.waits c.self.inside.apcs c.self.inside.handing.items c.self.inside.moment c.self.inside.grants.items c.self.inside.alarms in
     let sound : IsSound d = subst IsSound (sym c.self.view_is) c.requires.sound in
     let small : d.table.looked + 1 < 2 ^ 64 = subst (λ (x : Dispatcher). x.table.looked + 1 < 2 ^ 64) (sym c.self.view_is) c.requires.countable in
     let own = sound.waits c.args.thread c.in-Some.wait.now (sym c.in-Some.ensures.value) in
@@ -76,7 +79,7 @@ index_mut-requires c =
 
 pub push_reserved-requires : goal.push_reserved-requires
 push_reserved-requires c =
-    let d = dispatcher_of c.self.inside.threads c.self.inside.objects.items c.self.inside.waits c.self.inside.apcs c.self.inside.handing.items c.self.inside.moment c.self.inside.grants.items c.self.inside.alarms in
+    let d = dispatcher_of c.self.inside.threads c.self.inside.objects.items c.self.inside.objects.owned c.self.inside.waits c.self.inside.apcs c.self.inside.handing.items c.self.inside.moment c.self.inside.grants.items c.self.inside.alarms in
     let sound : IsSound d = subst IsSound (sym c.self.view_is) c.requires.sound in
     let room : length d.grants < d.threads = room_for d c.args.thread c.in-Some.wait.now sound c.in-Some.ensures.value in
     let capacity : d.threads ≤ vec_capacity c.self.inside.grants = c.self.invariant.1 in
@@ -84,48 +87,44 @@ push_reserved-requires c =
 
 pub returns-clause-visited : goal.returns-clause-visited
 returns-clause-visited c =
-    let d = dispatcher_of c.self.inside.threads c.self.inside.objects.items c.self.inside.waits c.self.inside.apcs c.self.inside.handing.items c.self.inside.moment c.self.inside.grants.items c.self.inside.alarms in
+    let d = dispatcher_of c.self.inside.threads c.self.inside.objects.items c.self.inside.objects.owned c.self.inside.waits c.self.inside.apcs c.self.inside.handing.items c.self.inside.moment c.self.inside.grants.items c.self.inside.alarms in
     let sound : IsSound d = subst IsSound (sym c.self.view_is) c.requires.sound in
     let small : d.table.looked + 1 < 2 ^ 64 = subst (λ (x : Dispatcher). x.table.looked + 1 < 2 ^ 64) (sym c.self.view_is) c.requires.countable in
-    let objects : List Object = (with_items c.self.inside.objects c.try_wait.new.objects).items in
-    let len : length c.try_wait.new.objects ≡ c.self.inside.objects.len =
-    c.try_wait.auto.objects ∙ (ap (λ (os : List Object). length os) c.deref_mut.ensures.value ∙ sym c.self.inside.objects.ok.0) in
-    let same : objects ≡ c.try_wait.new.objects = with_items_is c.self.inside.objects c.try_wait.new.objects len in
+    let objects = c.try_wait.new.objects.items in
+    let owned = c.try_wait.new.objects.owned in
     let left = c.get.follows.holds-at-none in
     let handles = c.as_slice-handles.ensures in
-    let tried : IsTried c.self.inside.objects.items c.try_wait.new.objects c.args.thread c.in-Some.wait.now (Some c.in-Some-try_wait.status) =
-    rw (sym c.deref_mut.ensures.value) (subst (λ (hs : List ℕ). IsTried c.deref_mut.result.now c.try_wait.new.objects c.args.thread (wait_for hs c.in-Some.wait.now.all) (Some c.in-Some-try_wait.status)) handles c.in-Some-try_wait.ensures) in
-    let result = visit_granted d c.args.thread c.in-Some-try_wait.status c.in-Some.wait.now objects c.end-ended.new.self c.push_reserved.new.self.items sound c.in-Some.ensures.value
-    (subst (λ (os : List Object). IsTried c.self.inside.objects.items os c.args.thread c.in-Some.wait.now (Some c.in-Some-try_wait.status)) (sym same) tried)
+    let tried : IsTried c.self.inside.objects.items c.try_wait.new.objects.items c.args.thread c.in-Some.wait.now (Some c.in-Some-try_wait.status) =
+    (subst (λ (hs : List ℕ). IsTried c.self.inside.objects.items c.try_wait.new.objects.items c.args.thread (wait_for hs c.in-Some.wait.now.all) (Some c.in-Some-try_wait.status)) handles c.in-Some-try_wait.ensures.tried) in
+    let result = visit_granted d c.args.thread c.in-Some-try_wait.status c.in-Some.wait.now objects owned c.end-ended.new.self c.push_reserved.new.self.items sound c.in-Some.ensures.value
+    tried
     (c.end-ended.ensures.pending ∙ ap (λ (v : Waits). map.remove v.pending c.args.thread) left)
     (λ h. c.end-ended.ensures.queues h ∙ ap (λ (v : Waits). others c.args.thread (queue_of v h)) left)
     (c.end-ended.ensures.looked ∙ (ap (λ (v : Waits). v.looked) left ∙ counted d.table.looked small))
     c.end-ended.ensures.agrees
     c.push_reserved.ensures.items in
-    subst (λ (x : Dispatcher). IsVisited x (record d { objects = objects; table = c.end-ended.new.self; handing = set d.handing c.get-2.result false; grants = c.push_reserved.new.self.items }) c.args.thread) c.self.view_is
-    (subst (λ (k : ℕ). IsVisited d (record d { objects = objects; table = c.end-ended.new.self; handing = set d.handing k false; grants = c.push_reserved.new.self.items }) c.args.thread) (sym c.get-2.ensures) result.0)
+    subst (λ (x : Dispatcher). IsVisited x (record d { objects = objects; owned = owned; table = c.end-ended.new.self; handing = set d.handing c.get-2.result false; grants = c.push_reserved.new.self.items }) c.args.thread) c.self.view_is
+    (subst (λ (k : ℕ). IsVisited d (record d { objects = objects; owned = owned; table = c.end-ended.new.self; handing = set d.handing k false; grants = c.push_reserved.new.self.items }) c.args.thread) (sym c.get-2.ensures) result.0)
 
 pub returns-clause-sound : goal.returns-clause-sound
 returns-clause-sound c =
-    let d = dispatcher_of c.self.inside.threads c.self.inside.objects.items c.self.inside.waits c.self.inside.apcs c.self.inside.handing.items c.self.inside.moment c.self.inside.grants.items c.self.inside.alarms in
+    let d = dispatcher_of c.self.inside.threads c.self.inside.objects.items c.self.inside.objects.owned c.self.inside.waits c.self.inside.apcs c.self.inside.handing.items c.self.inside.moment c.self.inside.grants.items c.self.inside.alarms in
     let sound : IsSound d = subst IsSound (sym c.self.view_is) c.requires.sound in
     let small : d.table.looked + 1 < 2 ^ 64 = subst (λ (x : Dispatcher). x.table.looked + 1 < 2 ^ 64) (sym c.self.view_is) c.requires.countable in
-    let objects : List Object = (with_items c.self.inside.objects c.try_wait.new.objects).items in
-    let len : length c.try_wait.new.objects ≡ c.self.inside.objects.len =
-    c.try_wait.auto.objects ∙ (ap (λ (os : List Object). length os) c.deref_mut.ensures.value ∙ sym c.self.inside.objects.ok.0) in
-    let same : objects ≡ c.try_wait.new.objects = with_items_is c.self.inside.objects c.try_wait.new.objects len in
+    let objects = c.try_wait.new.objects.items in
+    let owned = c.try_wait.new.objects.owned in
     let left = c.get.follows.holds-at-none in
     let handles = c.as_slice-handles.ensures in
-    let tried : IsTried c.self.inside.objects.items c.try_wait.new.objects c.args.thread c.in-Some.wait.now (Some c.in-Some-try_wait.status) =
-    rw (sym c.deref_mut.ensures.value) (subst (λ (hs : List ℕ). IsTried c.deref_mut.result.now c.try_wait.new.objects c.args.thread (wait_for hs c.in-Some.wait.now.all) (Some c.in-Some-try_wait.status)) handles c.in-Some-try_wait.ensures) in
-    let result = visit_granted d c.args.thread c.in-Some-try_wait.status c.in-Some.wait.now objects c.end-ended.new.self c.push_reserved.new.self.items sound c.in-Some.ensures.value
-    (subst (λ (os : List Object). IsTried c.self.inside.objects.items os c.args.thread c.in-Some.wait.now (Some c.in-Some-try_wait.status)) (sym same) tried)
+    let tried : IsTried c.self.inside.objects.items c.try_wait.new.objects.items c.args.thread c.in-Some.wait.now (Some c.in-Some-try_wait.status) =
+    (subst (λ (hs : List ℕ). IsTried c.self.inside.objects.items c.try_wait.new.objects.items c.args.thread (wait_for hs c.in-Some.wait.now.all) (Some c.in-Some-try_wait.status)) handles c.in-Some-try_wait.ensures.tried) in
+    let result = visit_granted d c.args.thread c.in-Some-try_wait.status c.in-Some.wait.now objects owned c.end-ended.new.self c.push_reserved.new.self.items sound c.in-Some.ensures.value
+    tried
     (c.end-ended.ensures.pending ∙ ap (λ (v : Waits). map.remove v.pending c.args.thread) left)
     (λ h. c.end-ended.ensures.queues h ∙ ap (λ (v : Waits). others c.args.thread (queue_of v h)) left)
     (c.end-ended.ensures.looked ∙ (ap (λ (v : Waits). v.looked) left ∙ counted d.table.looked small))
     c.end-ended.ensures.agrees
     c.push_reserved.ensures.items in
-    subst (λ (k : ℕ). IsSound (record d { objects = objects; table = c.end-ended.new.self; handing = set d.handing k false; grants = c.push_reserved.new.self.items })) (sym c.get-2.ensures) result.1
+    subst (λ (k : ℕ). IsSound (record d { objects = objects; owned = owned; table = c.end-ended.new.self; handing = set d.handing k false; grants = c.push_reserved.new.self.items })) (sym c.get-2.ensures) result.1
 
 pub returns-in_default-try_wait-clause-prepared : goal.returns-in_default-try_wait-clause-prepared
 returns-in_default-try_wait-clause-prepared c = ap (λ (v : Waits). v.prepared) c.get.follows.holds-at-none ∙ ap (λ (x : Dispatcher). x.table.prepared) c.self.view_is
