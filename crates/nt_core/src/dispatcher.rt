@@ -1,6 +1,7 @@
 ghost use Rattle.std.specs.Prelude.{◌≡◌, ◌≤◌, [], IfOk, IfErr, OnOk, OnErr, MatchBool, nat_le, ◌&&◌};
 ghost use Rattle.std.specs.FinMap as map;
 ghost use Rattle.nt_status.specs.declared.refusal.Refusal.TheVariants.{InvalidParameter, Memory};
+ghost use Rattle.nt_owners.specs.Objects.{OwnersAgree};
 ghost use Rattle.nt_core.specs.State.{opening, pends};
 ghost use Rattle.nt_core.specs.Steps.{Called, Ticked};
 ghost use Rattle.nt_core.specs.Dispatcher.{state};
@@ -69,9 +70,12 @@ impl Core {
         ensures called { Called (state self.old) who call.now result self.new.grants (state self.new) }
         ensures lawful { IsLawful self.new }
         ensures local { OnOk result (IsLocal (state self.old) who call.now self.new.table.looked self.new.grants) }
+        ensures owners { OwnersAgree self.new.objects self.new.owned }
         ensures untested { OnErr result (self.new.table.looked ≡ 0) }
     {
-        self.machine.call(who, call, &mut self.changed)
+        let result = self.machine.call(who, call, &mut self.changed);
+        self.machine.agree();
+        result
     }
 
     /// Lets all moments up to `m`, counted in 100 ns, pass. The pending waits whose deadlines come end, each as at its own
@@ -82,9 +86,12 @@ impl Core {
         ensures ticked { Ticked (state self.old) m result self.new.grants (state self.new) }
         ensures lawful { IsLawful self.new }
         ensures local { OnOk result (IsTickLocal (state self.old) m self.new.table.looked self.new.grants) }
+        ensures owners { OwnersAgree self.new.objects self.new.owned }
         ensures untested { OnErr result (self.new.table.looked ≡ 0) }
     {
-        self.machine.tick(m, &mut self.changed, &mut self.alerted)
+        let result = self.machine.tick(m, &mut self.changed, &mut self.alerted);
+        self.machine.agree();
+        result
     }
 
     /// The present moment, counted in 100 ns: that of the last tick.

@@ -2,6 +2,7 @@
 ghost use Rattle.std.specs.Prelude.{◌≡◌, ◌+◌, ◌≤◌, ◌<◌, ◌^◌, ℕ, [], ◌∷◌, length, replicate, false, IsTrue, IfOk, IfErr};
 ghost use Rattle.std.specs.FinMap as map;
 ghost use Rattle.nt_status.specs.declared.refusal.Refusal.TheVariants.{Memory};
+ghost use Rattle.nt_owners.specs.Objects.{OwnersAgree};
 ghost use Rattle.nt_core.specs.State.{pends, opening};
 ghost use Rattle.nt_core.specs.Dispatcher.{state};
 ghost use Rattle.nt_core.specs.Serving.{sequence, Serve};
@@ -158,6 +159,13 @@ impl Machine {
     {
         self.grants.clear();
         self.waits.look_anew();
+    }
+
+    /// The owners' lists agree with the objects, now as ever; there is nothing to do for it.
+    pub fn agree(&self)
+        ensures { OwnersAgree self.now.objects self.now.owned }
+    {
+        self.objects.agree();
     }
 
     pub fn grants(&self) -> &[Grant]
