@@ -211,6 +211,7 @@ call_gains s woken new t (Call.Wait (WaitCall.Swap g object ms alertable)) h rep
     (λ here other.
     let same = sym (eqb-true g h here) in
     signal_gains (object_at s.objects h) (ap (λ x. may_signal (object_at s.objects x)) same ∙ judged.may) (ap (λ x. overflows (pos 1) (object_at s.objects x)) same ∙ judged.fits) other) is
+call_gains s woken new t Call.Exit h reply none answer is = left_gains t (object_at s.objects h) is
 call_gains s woken new t _ h reply none answer is = same_gains (object_at s.objects h) is
 
 settled_gains : (call : Call) (h : ℕ) (o : Object) → counts (settled_at call h o) ≡ true → Gains o (settled_at call h o) (pos 0) 0

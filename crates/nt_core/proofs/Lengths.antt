@@ -67,6 +67,7 @@ length_begun s t w ms = first (fits s.objects t w)
 length_answered : (old s : State) (t : ℕ) (call : Call) → length (answered old s t call).1.objects ≡ length s.objects
 length_answered old s t (Call.Act act) = refl
 length_answered old s t (Call.Wait wait) = length_begun s t (wait_of s.now wait) (timeout_of wait)
+length_answered old s t Call.Exit = refl
 
 -- as many objects as after the change
 pub step_length : (old new : State) (t : ℕ) (call : Call) (reply : Reply) (grants : List Grant) → Step old t call reply grants new → length new.objects ≡ length (change old t call).objects

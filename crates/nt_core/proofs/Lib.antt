@@ -17,6 +17,10 @@ mod Giving
 mod Owing
 mod Setting
 mod Alerting
+mod Listing
+mod Leaving
+mod Exiting
+mod Ending
 mod Ticking
 mod Lengths
 mod Timing

@@ -258,6 +258,7 @@ call_owing t s woken new who (Call.Wait (WaitCall.Swap g object ms alertable)) h
     (λ here other.
     let same = sym (eqb-true g h here) in
     signal_owes t (object_at s.objects h) who (ap (λ x. may_signal (object_at s.objects x)) same ∙ judged.may) (ap (λ x. is_foreign s.objects who x) same ∙ judged.foreign) other) is
+call_owing t s woken new who Call.Exit h reply none answer is = left_owes t (object_at s.objects h) who is
 call_owing t s woken new who _ h reply none answer is = same_owes t (object_at s.objects h) is
 
 settled_owes : (t : ℕ) (call : Call) (h : ℕ) (o : Object) → owns (settled_at call h o) ≡ true → Owes t o (settled_at call h o) (λ k. k)

@@ -49,7 +49,7 @@ length-others t (x ∷ q) once = elim (cases_eq x t) [
     absent t [] none = omega arith
     absent t (x ∷ q) none = rw (is_other x t (λ e. none (inl e))) (let rest = absent t q (λ m. none (inr m)) in omega (arith, rest))
 
-once_few : (n : ℕ) (q : List ℕ) → AreOnce q → ((u : ℕ) → IsMember q u → u < n) → length q ≤ n
+pub once_few : (n : ℕ) (q : List ℕ) → AreOnce q → ((u : ℕ) → IsMember q u → u < n) → length q ≤ n
 once_few zero [] once below = omega arith
 once_few zero (x ∷ q) once below = let lt = below x (inl refl) in absurd (omega (arith, lt))
 once_few (suc n) q once below =

@@ -182,6 +182,7 @@ call_setting s woken new t (Call.Act act) h reply none answer is = act_setting s
 call_setting s woken new t (Call.Wait (WaitCall.Swap g object ms alertable)) h reply none answer is =
     let judged = swap_judged s t g object ms alertable none in
     here_or_not (g == h) (object_at s.objects h) (signal (object_at s.objects h)) (λ here other. signal_sets (object_at s.objects h) (ap (λ x. may_signal (object_at s.objects x)) (sym (eqb-true g h here)) ∙ judged.may) other) is
+call_setting s woken new t Call.Exit h reply none answer is = left_sets t (object_at s.objects h) is
 call_setting s woken new t _ h reply none answer is = same_sets (object_at s.objects h) 0 is
 
 settled_sets : (call : Call) (h : ℕ) (o : Object) → resets (settled_at call h o) ≡ true → Sets o (settled_at call h o) 0 0

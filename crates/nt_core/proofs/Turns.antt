@@ -256,6 +256,7 @@ exited_object s t h plain = elim (cases_eq h t) [
 abbrev pub changed_at : ℕ → ℕ → Call → ℕ → Object → Object
 changed_at n t (Call.Act act) h o = acted n t act h o
 changed_at n t (Call.Wait (WaitCall.Swap g object ms alertable)) h o = cond (g == h) (signal o) o
+changed_at n t Call.Exit h o = left t o
 changed_at n t _ h o = o
 
 change_object : (s : State) (t : ℕ) (call : Call) (h : ℕ) → refusal s t call ≡ None → is_plain (object_at (change s t call).objects h) ≡ true → object_at (change s t call).objects h ≡ changed_at (length s.objects) t call h (object_at s.objects h)
@@ -263,12 +264,14 @@ change_object s t (Call.Act act) h none plain = act_object s t act h none plain
 change_object s t (Call.Wait (WaitCall.Objects handles all ms alertable)) h none plain = refl
 change_object s t (Call.Wait (WaitCall.Sleep ms alertable)) h none plain = refl
 change_object s t (Call.Wait (WaitCall.Swap g object ms alertable)) h none plain = with_object_at s.objects g h signal refl
+change_object s t Call.Exit h none plain = exited_object s t h plain
 
 change_waits : (s : State) (t : ℕ) (call : Call) → (change s t call).waits ≡ s.waits
 change_waits s t (Call.Act act) = act_waits s t act
 change_waits s t (Call.Wait (WaitCall.Objects handles all ms alertable)) = refl
 change_waits s t (Call.Wait (WaitCall.Sleep ms alertable)) = refl
 change_waits s t (Call.Wait (WaitCall.Swap g object ms alertable)) = refl
+change_waits s t Call.Exit = refl
 
 -- what becomes of the object at h once waits are served
 abbrev pub settled_at : Call → ℕ → Object → Object

@@ -1,5 +1,5 @@
 -- What an accepted call does to the dispatcher.
-use Rattle.std.specs.Prelude.{◌≡◌, ℕ, ◌+◌, ◌≢◌, ◌<◌, ◌≤◌, ◌⊎◌, Bool, true, not, ◌&&◌, ◌==◌, List, [], ◌∷◌, ◌++◌, length, Option, Some, IfSome}
+use Rattle.std.specs.Prelude.{◌≡◌, ℕ, ◌+◌, ◌≢◌, ◌<◌, ◌≤◌, ◌⊎◌, Bool, true, not, ◌&&◌, ◌==◌, List, [], ◌∷◌, ◌++◌, length, Option, Some, None, IfSome}
 use Rattle.std.specs.List.{filter}
 use Rattle.std.specs.FinMap.{len, get}
 use Rattle.nt_status.specs.Status.{io_completion_code, timeout_code}
@@ -7,13 +7,14 @@ use Rattle.nt_core.specs.declared.call.Call.{Call}
 use Rattle.nt_core.specs.declared.call.Reply.{Reply}
 use Rattle.nt_core.specs.declared.call.Grant.{Grant}
 use Rattle.nt_core.specs.Rising.{AreRising}
+use Rattle.nt_objects.specs.Object.{armed_with}
 use Rattle.nt_objects.specs.declared.object.Routine.{Routine}
 use Rattle.nt_alarms.specs.Alarms.{alarm_at}
 use Rattle.nt_apc.specs.Queues.{withdrawn, place_of}
 use Rattle.nt_waits.specs.Waits.{IsMember}
 use Rattle.nt_core.specs.State.{State, object_at, wait_over}
 use Rattle.nt_core.specs.Serving.{IsChanged, sequence, sleeps, Serve, IsAlerted, Alert, ending, TimeOut, IsLate}
-use Rattle.nt_core.specs.Change.{change, all_expired, IsTimerDue}
+use Rattle.nt_core.specs.Change.{change, all_expired, exited, IsTimerDue}
 use Rattle.nt_core.specs.Steps.{Step, MomentPasses}
 use Rattle.nt_core.specs.Dispatcher.{Dispatcher, state}
 use Rattle.nt_core.specs.Due.{due_weight, total_weight}
@@ -106,6 +107,20 @@ pub record IsTickLocal (old : State) (m tested : ℕ) (grants : List Grant) : Ty
   pub due : AreRising (IsDueBy old m) timers
   pub most : tested ≤ length (sequence old timers)
   pub least : length (filter (ended_by_objects old) grants) ≤ tested
+
+-- the timers at these handles are not armed any more, and no other object changed
+pub record IsStoppedAfter (old : Dispatcher) (timers : List ℕ) (new : Dispatcher) : Type 0 where
+  pub rest : new ≡ record old { objects = new.objects; alarms = new.alarms }
+  pub count : length new.objects ≡ length old.objects
+  pub stopped : (h : ℕ) → IsMember timers h → object_at new.objects h ≡ armed_with None (object_at old.objects h)
+  pub others : (h : ℕ) → (IsMember timers h → ⊥) → object_at new.objects h ≡ object_at old.objects h
+
+-- the thread has ended and the objects that this changed are listed, but no wait was served yet
+pub record IsExitedAfter (old : Dispatcher) (t : ℕ) (new : Dispatcher) (handles : List ℕ) : Type 0 where
+  pub becomes : state new ≡ exited (state old) t
+  pub changed : AreRising (IsChanged old.objects new.objects) handles
+  pub grants : new.grants ≡ old.grants
+  pub table : new.table ≡ old.table
 
 -- lawful, and nothing told yet of the call that comes
 pub record IsFresh (d : Dispatcher) : Type 0 where

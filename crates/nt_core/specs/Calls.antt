@@ -18,6 +18,7 @@ act_grows _ = false
 abbrev pub grows : Call → Bool
 grows (Call.Act act) = act_grows act
 grows (Call.Wait wait) = true
+grows Call.Exit = false
 
 -- the timeout that a waiting call names, in milliseconds
 abbrev pub timeout_of : WaitCall → ℕ

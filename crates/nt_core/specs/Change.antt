@@ -145,6 +145,7 @@ wait_change s _ = s
 abbrev pub change : State → ℕ → Call → State
 change s t (Call.Act act) = act_change s t act
 change s t (Call.Wait wait) = wait_change s wait
+change s t Call.Exit = exited s t
 
 -- what a call that can't pend answers, by the state before it
 abbrev pub act_reply : State → ℕ → Act → Reply

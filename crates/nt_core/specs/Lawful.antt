@@ -1,12 +1,12 @@
 -- What every call and tick leaves true.
 use Rattle.std.specs.declared.option.Option.{Option}
-use Rattle.std.specs.Prelude.{◌≡◌, ◌↔◌, ℕ, ◌<◌, ◌≤◌, ◌+◌, true, false, not, ◌&&◌, List, [], length, slice_index_or, IsTrue, Some, nat_eq}
+use Rattle.std.specs.Prelude.{◌≡◌, ℕ, ◌<◌, ◌≤◌, ◌+◌, true, false, not, ◌&&◌, List, length, Some, nat_eq}
 use Rattle.std.specs.FinMap as map
 use Rattle.std.specs.FinMap.{get}
 use Rattle.nt_objects.specs.declared.object.Object.{Object}
 use Rattle.nt_objects.specs.Object.{IsLawfulObject, owned_by, has_room, has_ended, is_thread, due_of, setter_of}
 use Rattle.nt_waits.specs.declared.wait.Wait.{Wait}
-use Rattle.nt_waits.specs.Waits.{IsMember, AreOnce, Names, Agrees}
+use Rattle.nt_waits.specs.Waits.{Names, Agrees}
 use Rattle.std.specs.List.{IsDistinct}
 use Rattle.nt_alarms.specs.Alarms.{alarm_at}
 use Rattle.nt_apc.specs.Queues.{place_of}

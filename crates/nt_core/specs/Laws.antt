@@ -88,10 +88,11 @@ act_owes h t who (Act.CreateMutex flags) reply owed = if is_handle h reply && ha
 act_owes h t who (Act.ReleaseMutex g) reply owed = if g == h && who == t then owed - 1 else owed
 act_owes h t who _ reply owed = owed
 
--- and a swap that signals it releases it
+-- and a swap that signals it releases it, and a thread that ends owes none
 abbrev pub call_owes : ℕ → ℕ → ℕ → Call → Reply → ℕ → ℕ
 call_owes h t who (Call.Act act) reply owed = act_owes h t who act reply owed
 call_owes h t who (Call.Wait (WaitCall.Swap g object ms alertable)) reply owed = if g == h && who == t then owed - 1 else owed
+call_owes h t who Call.Exit reply owed = if who == t then 0 else owed
 call_owes h t who _ reply owed = owed
 
 abbrev pub turn_owes : ℕ → ℕ → Turn → ℕ → ℕ

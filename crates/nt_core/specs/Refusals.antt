@@ -123,6 +123,7 @@ wait_causes objects t (WaitCall.Swap h object ms alertable) = swap_causes object
 abbrev pub call_causes : List Object → ℕ → Call → List Cause
 call_causes objects t (Call.Act act) = act_causes objects t act
 call_causes objects t (Call.Wait wait) = wait_causes objects t wait
+call_causes objects t Call.Exit = []
 
 -- the causes of every call come first
 abbrev pub causes : State → ℕ → Call → List Cause

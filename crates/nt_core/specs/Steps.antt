@@ -49,6 +49,7 @@ after_serving _ s = s
 abbrev pub answered : State → State → ℕ → Call → Reply × State
 answered old s t (Call.Act act) = (act_reply old t act, s)
 answered old s t (Call.Wait wait) = begun s t (wait_of s.now wait) (timeout_of wait)
+answered old s t Call.Exit = (Reply.Done, s)
 
 -- one accepted call: its change, serving of the waits on changed objects, alerts, and the caller's own wait
 pub record Step (old : State) (t : ℕ) (call : Call) (reply : Reply) (grants : List Grant) (new : State) : Type 0 where

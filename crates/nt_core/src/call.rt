@@ -73,6 +73,8 @@ pub enum WaitCall {
 pub enum Call {
     Act(Act),
     Wait(WaitCall),
+    /// The calling thread ends.
+    Exit,
 }
 
 /// What an accepted call answers.

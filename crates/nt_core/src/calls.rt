@@ -115,6 +115,10 @@ impl Machine {
         match call {
             Call::Act(act) => self.act(thread, act, changed),
             Call::Wait(wait) => self.wait(thread, wait),
+            Call::Exit => {
+                self.exit(thread, changed);
+                Ok(Reply::Done)
+            }
         }
     }
 

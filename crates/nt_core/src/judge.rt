@@ -319,6 +319,7 @@ impl Machine {
         match call {
             Call::Act(act) => act_refusal(objects, thread, act),
             Call::Wait(wait) => wait_refusal(objects, thread, wait),
+            Call::Exit => None,
         }
     }
 }

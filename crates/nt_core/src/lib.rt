@@ -7,6 +7,7 @@ mod calls;
 mod copy;
 mod dispatcher;
 mod events;
+mod exit;
 mod judge;
 mod laws;
 mod machine;

@@ -3,6 +3,7 @@
 mod apcs;
 mod copies;
 mod events;
+mod exits;
 mod mutexes;
 mod script;
 mod semaphores;

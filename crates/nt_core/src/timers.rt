@@ -62,7 +62,7 @@ impl Machine {
     }
 
     /// Puts the timer in its place, and its alarm at its due moment.
-    fn put_timer(&mut self, timer: Handle, object: Object)
+    pub(crate) fn put_timer(&mut self, timer: Handle, object: Object)
         requires known { timer < length self.old.objects }
         requires clock { timer < length self.old.alarms }
         requires owner { owner_of object ≡ owner_of (object_at self.old.objects timer) }

@@ -40,6 +40,7 @@ pub enum Ask {
     /// Signals the first object, and waits for the second.
     Swap(u32),
     AlertableSwap(u32),
+    Exit,
 }
 
 /// What a call is answered, in the reference's numbers.
@@ -138,6 +139,7 @@ fn call_of(alloc: Global, ask: Ask, objects: &[u32]) -> Result<Call, AllocError>
         Ask::AlertableSleep(ms) => return Ok(sleep_for(ms, true)),
         Ask::Swap(ms) => return Ok(swap_for(objects, ms, false)),
         Ask::AlertableSwap(ms) => return Ok(swap_for(objects, ms, true)),
+        Ask::Exit => return Ok(Call::Exit),
         Ask::Event(flags) => Act::CreateEvent(flags),
         Ask::Semaphore(initial, maximum) => Act::CreateSemaphore { initial, maximum },
         Ask::Mutex(flags) => Act::CreateMutex(flags),

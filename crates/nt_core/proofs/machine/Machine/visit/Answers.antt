@@ -3,7 +3,6 @@ use Rattle.std.specs.FinMap as map
 use Rattle.std.specs.Vec.{vec_capacity}
 use Rattle.nt_owners.specs.Objects.{Objects}
 use Rattle.nt_waits.specs.Waits.{Waits, queue_of, others}
-use Rattle.nt_objects.specs.declared.object.Object.{Object}
 use Rattle.nt_core.specs.Dispatcher.{Dispatcher, dispatcher_of}
 use Rattle.nt_core.specs.Serving.{IsTried, CanTake, wait_for}
 use Rattle.nt_core.specs.Visits.{IsVisited}

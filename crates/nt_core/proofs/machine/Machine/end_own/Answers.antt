@@ -1,0 +1,22 @@
+use Rattle.std.proofs.Common.{◌≡◌, ℕ, true, set, ap, ◌∙◌}
+use Rattle.nt_objects.specs.declared.object.Object.{Object}
+use Rattle.nt_objects.specs.declared.object.Object.TheVariants.{Thread}
+use Rattle.nt_apc.specs.Queues.{place_of, given_up, cleared}
+use Rattle.nt_core.specs.Dispatcher.{Dispatcher}
+use Rattle.nt_core.specs.contracts.machine.Machine.{the_view}
+use Rattle.nt_core.proofs.Ending.{own_ended}
+use Rattle.nt_core.proofs.machine.Machine.end_own.Goals as goal
+
+pub returns : goal.returns
+returns c =
+    let old = c.args.self.now in
+    let t = c.args.thread in
+    let own : c.new-own.result ≡ t = c.new-own.ensures ∙ c.get.ensures in
+    let before : the_view c.self.inside ≡ record old { objects = set old.objects t (Thread true) } =
+    c.self.view_is ∙ (c.exchange.ensures ∙ (ap (λ (h : ℕ). record old { objects = set old.objects h c.end.new.self }) own ∙ ap (λ (o : Object). record old { objects = set old.objects t o }) c.end.ensures)) in
+    let apcs = c.clear.new.self in
+    let all = own_ended old (record (the_view c.self.inside) { apcs = apcs }) t apcs c.requires.sound c.requires.idle c.requires.known c.requires.unset
+    (ap (λ (d : Dispatcher). record d { apcs = apcs }) before)
+    (c.clear.ensures.queues ∙ ap (λ (d : Dispatcher). cleared d.apcs.queues t) before)
+    (λ m. c.clear.ensures.places m ∙ ap (λ (d : Dispatcher). given_up t (place_of d.apcs.places m)) before) in
+    record { ended = all.0; sound = all.1; grants = all.2; table = all.3 }
