@@ -8,6 +8,7 @@ ghost use Rattle.nt_core.specs.Dispatcher.{state};
 ghost use Rattle.nt_core.specs.Refusals.{first_of_causes, act_causes, wait_causes, objects_causes, creation_causes, release_causes, unlock_causes, arm_causes, kind_causes, apc_causes, swap_causes, refusal, is_no, is_unknown, has_twice, is_at_limit};
 
 use crate::call::{Act, Call, WaitCall};
+use crate::handles::named;
 use crate::machine::Machine;
 use nt_objects::Object;
 use nt_status::{EventFlags, Handle, MutexFlags, Refusal, ThreadId, TimerFlags};
@@ -22,7 +23,7 @@ const HANDLE_LIMIT: usize = 65536;
 fn is_no_event(objects: &[Object], handle: Handle) -> bool
     ensures { result ≡ is_no is_event objects.now handle }
 {
-    match objects.get(handle.get() as usize) {
+    match named(objects, handle) {
         Some(object) => !object.is_event(),
         None => true,
     }
@@ -42,7 +43,7 @@ fn has_ended(objects: &[Object], who: u32) -> bool
 fn is_at_limit(objects: &[Object], thread: ThreadId, handle: Handle) -> bool
     ensures { result ≡ is_at_limit objects.now thread handle }
 {
-    match objects.get(handle.get() as usize) {
+    match named(objects, handle) {
         Some(object) => object.is_owned_by(thread) && !object.has_room(),
         None => false,
     }
@@ -67,13 +68,18 @@ fn has_twice(handles: &[Handle]) -> bool
     }
 }
 
-/// Whether no object has one of these numbers.
+/// Whether the handle names nothing.
+fn is_unknown(objects: &[Object], handle: Handle) -> bool
+    ensures { result ≡ is_unknown objects.now handle }
+{
+    named(objects, handle).is_none()
+}
+
+/// Whether one of the handles names nothing.
 fn has_unknown(objects: &[Object], handles: &[Handle]) -> bool
     ensures { result ≡ list_any (is_unknown objects.now) handles.now }
 {
-    handles
-        .iter()
-        .any(|handle| objects.len() <= handle.get() as usize)
+    handles.iter().any(|handle| is_unknown(objects, *handle))
 }
 
 /// Whether each bit is that of a flag of CreateEventEx.
@@ -94,7 +100,7 @@ fn are_mutex_flags(bits: u32) -> bool
 fn release_refusal(objects: &[Object], semaphore: Handle, count: i32) -> Option<Refusal>
     ensures { result ≡ first_of_causes (release_causes objects.now semaphore count) }
 {
-    match objects.get(semaphore.get() as usize) {
+    match named(objects, semaphore) {
         Some(object) if object.is_semaphore() => {
             if count <= 0 {
                 Some(Refusal::InvalidParameter)
@@ -112,7 +118,7 @@ fn release_refusal(objects: &[Object], semaphore: Handle, count: i32) -> Option<
 fn unlock_refusal(objects: &[Object], thread: ThreadId, mutex: Handle) -> Option<Refusal>
     ensures { result ≡ first_of_causes (unlock_causes objects.now thread mutex) }
 {
-    match objects.get(mutex.get() as usize) {
+    match named(objects, mutex) {
         Some(object) if object.is_mutex() => {
             if object.is_owned_by(thread) {
                 None
@@ -135,7 +141,7 @@ fn are_timer_flags(bits: u32) -> bool
 fn is_no_timer(objects: &[Object], handle: Handle) -> bool
     ensures { result ≡ is_no is_timer objects.now handle }
 {
-    match objects.get(handle.get() as usize) {
+    match named(objects, handle) {
         Some(object) => !object.is_timer(),
         None => true,
     }
@@ -169,7 +175,7 @@ fn cancel_refusal(objects: &[Object], timer: Handle) -> Option<Refusal>
 fn apc_refusal(objects: &[Object], thread: Handle) -> Option<Refusal>
     ensures { result ≡ first_of_causes (apc_causes objects.now thread) }
 {
-    match objects.get(thread.get() as usize) {
+    match named(objects, thread) {
         Some(object) if object.is_thread() => {
             if object.has_ended() {
                 Some(Refusal::ThreadGone)
@@ -256,14 +262,14 @@ fn swap_refusal(
 ) -> Option<Refusal>
     ensures { result ≡ first_of_causes (swap_causes objects.now thread signal object) }
 {
-    let signaled = match objects.get(signal.get() as usize) {
+    let signaled = match named(objects, signal) {
         Some(signaled) => *signaled,
         None => return Some(Refusal::InvalidHandle),
     };
     let is_mutex = signaled.is_mutex();
     if !(signaled.is_event() || signaled.is_semaphore() || is_mutex) {
         Some(Refusal::InvalidHandle)
-    } else if objects.len() <= object.get() as usize {
+    } else if is_unknown(objects, object) {
         Some(Refusal::InvalidHandle)
     } else if is_mutex && !signaled.is_owned_by(thread) {
         Some(Refusal::NotOwner)

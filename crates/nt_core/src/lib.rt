@@ -8,6 +8,7 @@ mod copy;
 mod dispatcher;
 mod events;
 mod exit;
+mod handles;
 mod judge;
 mod laws;
 mod machine;
