@@ -1,7 +1,7 @@
 //! The table of calls: each is judged, and then made by the function for it.
-ghost use Rattle.std.specs.Prelude.{◌≡◌, ◌≤◌, vec_capacity, length, None, IfOk, IfErr, OnOk, OnErr, IsTrue};
+ghost use Rattle.std.specs.Prelude.{◌≡◌, ◌≤◌, ℕ, vec_capacity, length, None, IfOk, IfErr, OnOk, OnErr, IsTrue};
 ghost use Rattle.nt_status.specs.declared.refusal.Refusal.TheVariants.{Memory};
-ghost use Rattle.nt_core.specs.Calls.{act_grows, grows};
+ghost use Rattle.nt_core.specs.Calls.{act_creates, act_signals, act_grows, grows};
 ghost use Rattle.nt_core.specs.Dispatcher.{state};
 ghost use Rattle.nt_core.specs.Refusals.{refusal};
 ghost use Rattle.nt_core.specs.Steps.{Called};
@@ -14,6 +14,80 @@ use crate::machine::Machine;
 use nt_status::{EventFlags, Handle, MutexFlags, Refusal, ThreadId, TimerFlags};
 
 impl Machine {
+    /// A creation that no cause refuses: the new object's handle.
+    fn create_object(
+        &mut self,
+        thread: ThreadId,
+        act: &Act,
+        changed: &mut Vec<Handle>,
+    ) -> Result<Handle, Refusal>
+        requires fresh { IsFresh self.old }
+        requires room { length self.old.objects ≤ vec_capacity changed.old }
+        requires free { refusal (state self.old) thread (Call.Act act.now) ≡ None }
+        requires kind { IsTrue (act_creates act.now) }
+        ensures ok { IfOk result (λ handle. Accepts self.old self.new thread (Call.Act act.now) (Reply.Handle handle)) }
+        ensures memory { IfErr result (λ refusal. refusal ≡ Memory) }
+        ensures err { OnErr result (self.new ≡ self.old) }
+        ensures room { length self.new.objects ≤ vec_capacity changed.new }
+    {
+        match act {
+            Act::CreateEvent(flags) => {
+                let Some(flags) = EventFlags::from_bits(*flags) else {
+                    unreachable!()
+                };
+                Ok(self.create_event(thread, flags, changed)?)
+            }
+            Act::CreateSemaphore { initial, maximum } => {
+                Ok(self.create_semaphore(thread, *initial, *maximum, changed)?)
+            }
+            Act::CreateMutex(flags) => {
+                let Some(flags) = MutexFlags::from_bits(*flags) else {
+                    unreachable!()
+                };
+                Ok(self.create_mutex(thread, flags, changed)?)
+            }
+            Act::CreateTimer(flags) => {
+                let Some(flags) = TimerFlags::from_bits(*flags) else {
+                    unreachable!()
+                };
+                Ok(self.create_timer(thread, flags, changed)?)
+            }
+            _ => unreachable!(),
+        }
+    }
+
+    /// An act that signals an object or takes its signal back, and that no cause refuses.
+    fn signal_object(&mut self, thread: ThreadId, act: &Act) -> Reply
+        requires fresh { IsFresh self.old }
+        requires free { refusal (state self.old) thread (Call.Act act.now) ≡ None }
+        requires kind { IsTrue (act_signals act.now) }
+        ensures accepts { Accepts self.old self.new thread (Call.Act act.now) result }
+        ensures room { (room : ℕ) → length self.old.objects ≤ room → length self.new.objects ≤ room }
+    {
+        match act {
+            Act::ReleaseSemaphore { semaphore, count } => {
+                self.release_semaphore(thread, *semaphore, *count)
+            }
+            Act::ReleaseMutex(mutex) => {
+                self.release_mutex(thread, *mutex);
+                Reply::Done
+            }
+            Act::SetEvent(event) => {
+                self.set_event(thread, *event);
+                Reply::Done
+            }
+            Act::ResetEvent(event) => {
+                self.reset_event(thread, *event);
+                Reply::Done
+            }
+            Act::PulseEvent(event) => {
+                self.pulse_event(thread, *event);
+                Reply::Done
+            }
+            _ => unreachable!(),
+        }
+    }
+
     /// An act that no cause refuses.
     fn act(
         &mut self,
@@ -31,34 +105,13 @@ impl Machine {
         ensures room { length self.new.objects ≤ vec_capacity changed.new }
     {
         match act {
-            Act::CreateEvent(flags) => {
-                let Some(flags) = EventFlags::from_bits(*flags) else {
-                    unreachable!()
-                };
-                Ok(Reply::Handle(self.create_event(thread, flags, changed)?))
+            Act::CreateEvent(_)
+            | Act::CreateSemaphore {
+                initial: _,
+                maximum: _,
             }
-            Act::CreateSemaphore { initial, maximum } => {
-                Ok(Reply::Handle(self.create_semaphore(thread, *initial, *maximum, changed)?))
-            }
-            Act::CreateMutex(flags) => {
-                let Some(flags) = MutexFlags::from_bits(*flags) else {
-                    unreachable!()
-                };
-                Ok(Reply::Handle(self.create_mutex(thread, flags, changed)?))
-            }
-            Act::ReleaseSemaphore { semaphore, count } => {
-                Ok(self.release_semaphore(thread, *semaphore, *count))
-            }
-            Act::ReleaseMutex(mutex) => {
-                self.release_mutex(thread, *mutex);
-                Ok(Reply::Done)
-            }
-            Act::CreateTimer(flags) => {
-                let Some(flags) = TimerFlags::from_bits(*flags) else {
-                    unreachable!()
-                };
-                Ok(Reply::Handle(self.create_timer(thread, flags, changed)?))
-            }
+            | Act::CreateMutex(_)
+            | Act::CreateTimer(_) => Ok(Reply::Handle(self.create_object(thread, act, changed)?)),
             Act::SetTimer {
                 timer,
                 due,
@@ -81,18 +134,7 @@ impl Machine {
                 Ok(Reply::Done)
             }
             Act::NextApc => Ok(Reply::Apc(self.next_apc(thread))),
-            Act::SetEvent(event) => {
-                self.set_event(thread, *event);
-                Ok(Reply::Done)
-            }
-            Act::ResetEvent(event) => {
-                self.reset_event(thread, *event);
-                Ok(Reply::Done)
-            }
-            Act::PulseEvent(event) => {
-                self.pulse_event(thread, *event);
-                Ok(Reply::Done)
-            }
+            _ => Ok(self.signal_object(thread, act)),
         }
     }
 

@@ -12,17 +12,6 @@ use Rattle.nt_core.proofs.Lengths.{room_kept, length_apc_taken, length_timer_set
 use Rattle.nt_core.proofs.Arming.{asked}
 use Rattle.nt_core.proofs.machine.Machine.act.Goals as goal
 
-pub returns-in-ReleaseSemaphore-clause-room : goal.returns-in-ReleaseSemaphore-clause-room
-returns-in-ReleaseSemaphore-clause-room c =
-    let old = c.args.self.now in
-    let n = to_z w32 (of_z w32 c.in-ReleaseSemaphore.count) in
-    room_kept old c.release_semaphore.new.self c.args.thread (Call.Act (Act.ReleaseSemaphore c.in-ReleaseSemaphore.semaphore n)) c.release_semaphore.result _ c.release_semaphore.ensures (length-set old.objects c.in-ReleaseSemaphore.semaphore (released n (object_at old.objects c.in-ReleaseSemaphore.semaphore))) c.requires.room
-
-pub returns-in-ReleaseMutex-clause-room : goal.returns-in-ReleaseMutex-clause-room
-returns-in-ReleaseMutex-clause-room c =
-    let old = c.args.self.now in
-    room_kept old c.release_mutex.new.self c.args.thread (Call.Act (Act.ReleaseMutex c.in-ReleaseMutex.mutex)) Reply.Done _ c.release_mutex.ensures (length-set old.objects c.in-ReleaseMutex.mutex (unlocked (object_at old.objects c.in-ReleaseMutex.mutex))) c.requires.room
-
 pub returns-in_ok-queue_apc-in-QueueApc-clause-room : goal.returns-in_ok-queue_apc-in-QueueApc-clause-room
 returns-in_ok-queue_apc-in-QueueApc-clause-room c =
     let old = c.args.self.now in
@@ -32,21 +21,6 @@ pub returns-in-NextApc-clause-room : goal.returns-in-NextApc-clause-room
 returns-in-NextApc-clause-room c =
     let old = c.args.self.now in
     room_kept old c.next_apc.new.self c.args.thread (Call.Act (Act.NextApc)) (Reply.Apc c.next_apc.result) _ c.next_apc.ensures (length_apc_taken (state old) c.args.thread) c.requires.room
-
-pub returns-in-SetEvent-clause-room : goal.returns-in-SetEvent-clause-room
-returns-in-SetEvent-clause-room c =
-    let old = c.args.self.now in
-    room_kept old c.set_event.new.self c.args.thread (Call.Act (Act.SetEvent c.in-SetEvent.event)) Reply.Done _ c.set_event.ensures (length-set old.objects c.in-SetEvent.event (with_set true (object_at old.objects c.in-SetEvent.event))) c.requires.room
-
-pub returns-in-ResetEvent-clause-room : goal.returns-in-ResetEvent-clause-room
-returns-in-ResetEvent-clause-room c =
-    let old = c.args.self.now in
-    room_kept old c.reset_event.new.self c.args.thread (Call.Act (Act.ResetEvent c.in-ResetEvent.event)) Reply.Done _ c.reset_event.ensures (length-set old.objects c.in-ResetEvent.event (with_set false (object_at old.objects c.in-ResetEvent.event))) c.requires.room
-
-pub returns-in-PulseEvent-clause-room : goal.returns-in-PulseEvent-clause-room
-returns-in-PulseEvent-clause-room c =
-    let old = c.args.self.now in
-    room_kept old c.pulse_event.new.self c.args.thread (Call.Act (Act.PulseEvent c.in-PulseEvent.event)) Reply.Done _ c.pulse_event.ensures (length-set old.objects c.in-PulseEvent.event (with_set true (object_at old.objects c.in-PulseEvent.event))) c.requires.room
 
 pub returns-in-CancelTimer-clause-room : goal.returns-in-CancelTimer-clause-room
 returns-in-CancelTimer-clause-room c =
