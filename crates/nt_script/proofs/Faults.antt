@@ -278,5 +278,8 @@ line parse faults same bytes = by (nat_le (length bytes) 4096) (list_all is_plai
 pub statement_fault : (scope : Scope) (bytes : List ℕ) (fault : ScriptFault) → statement_of scope bytes ≡ Err fault → line_fault (words_fault scope) bytes ≡ Some fault
 statement_fault scope bytes fault e = sym (line (statement_at scope) (words_fault scope) (statement scope) bytes) ∙ ap fault_of e
 
+pub no_fault : (scope : Scope) (bytes : List ℕ) (st : Statement) → statement_of scope bytes ≡ Ok st → line_fault (words_fault scope) bytes ≡ None
+no_fault scope bytes st e = sym (line (statement_at scope) (words_fault scope) (statement scope) bytes) ∙ ap fault_of e
+
 pub first_opening_fault : (bytes : List ℕ) (fault : ScriptFault) → opening_of bytes ≡ Err fault → line_fault opening_fault bytes ≡ Some fault
 first_opening_fault bytes fault e = sym (line opening_at opening_fault opening bytes) ∙ ap fault_of e

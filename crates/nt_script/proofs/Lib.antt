@@ -14,3 +14,9 @@ pub mod Opening
 pub mod Carrying
 pub mod Running
 pub mod Failures
+pub mod Plain
+pub mod Joining
+pub mod Recognizing
+pub mod Spelling
+pub mod Saying
+pub mod OneWay

@@ -1,11 +1,14 @@
 pub mod Bytes
 pub mod Lines
 pub mod Words
+pub mod Plain
 pub mod Scope
 pub mod Naming
 pub mod Keywords
 pub mod Grammar
+pub mod Spelling
 pub mod Reading
 pub mod Transcript
 pub mod Progress
 pub mod Running
+pub mod Laws

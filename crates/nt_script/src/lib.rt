@@ -4,6 +4,7 @@
 mod fault;
 mod input;
 mod keyword;
+mod laws;
 mod output;
 mod parser;
 mod places;
@@ -17,6 +18,10 @@ mod transcript;
 mod words;
 
 pub use fault::{RunFault, ScriptFault};
+pub use laws::{
+    lines_read_one_way, lines_spell_statements, output_is_a_function_of_the_input,
+    statements_read_back,
+};
 pub use nt_devices::{Counted, Sink, Source};
 pub use runner::run;
 pub use summary::Summary;

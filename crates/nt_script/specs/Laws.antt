@@ -1,0 +1,87 @@
+-- What follows from the definitions alone.
+use Rattle.std.specs.Prelude.{◌≡◌, ℕ, ◌≤◌, ◌⊎◌, Bool, false, List, [], ◌∷◌, ◌++◌, length, Option, Some, codes}
+use Rattle.std.specs.List.{All}
+use Rattle.std.specs.Fmt.{decimal}
+use Rattle.nt_status.specs.Status.{infinite}
+use Rattle.nt_core.specs.Runs.{Turn, Calls, Ticks}
+use Rattle.nt_core.specs.Laws.{wants_memory}
+use Rattle.nt_script.specs.Words.{words_of, text_of}
+use Rattle.nt_script.specs.Plain.{plain_word}
+use Rattle.nt_script.specs.Scope.{Scope}
+use Rattle.nt_script.specs.Grammar.{named_object}
+use Rattle.nt_script.specs.Spelling.{spelling, statement_text, CanBeSaid}
+use Rattle.nt_script.specs.Transcript.{IsLine, FaultIn}
+use Rattle.nt_script.specs.Running.{Completes, end_of}
+use Rattle.nt_script.specs.declared.fault.ScriptFault.{ScriptFault}
+use Rattle.nt_script.specs.declared.parser.Statement.{Statement}
+use Rattle.nt_script.specs.declared.summary.Summary.{Summary}
+
+-- ---- statements and their text
+
+-- a statement reads back: with lawful names and numbers, and short enough, its own text is a line of that statement and of no other
+abbrev pub StatementsReadBack : Type 0
+StatementsReadBack =
+    (scope : Scope) (statement : Statement)
+    → CanBeSaid scope statement
+    → length (statement_text statement) ≤ 4096
+    → IsLine scope statement (statement_text statement)
+    × ((other : Statement) → IsLine scope other (statement_text statement) → other ≡ statement)
+
+-- the word is that text but for leading zeros; or it is the number of `inf`; or it names the object with that handle
+abbrev pub StandsFor : Scope → List ℕ → List ℕ → Type 0
+StandsFor scope word text =
+    (plain_word word ≡ text)
+    ⊎ ((plain_word word ≡ decimal infinite) × (text ≡ codes "inf"))
+    ⊎ ((handle : ℕ) × (named_object scope word ≡ Some handle) × (text ≡ decimal handle))
+
+-- each word stands for the text in its place
+abbrev pub StandFor : Scope → List (List ℕ) → List (List ℕ) → Type 0
+StandFor scope [] [] = Unit {0}
+StandFor scope (word ∷ words) (text ∷ texts) = StandsFor scope word text × StandFor scope words texts
+StandFor scope words texts = ⊥
+
+-- a line is a statement only where its words are those of the statement's own text, but for leading zeros and names
+abbrev pub LinesSpellStatements : Type 0
+LinesSpellStatements = (scope : Scope) (statement : Statement) (bytes : List ℕ) → IsLine scope statement bytes → StandFor scope (words_of (text_of bytes)) (spelling statement)
+
+-- The line is this statement, no other, and has no fault.
+pub record IsOneStatement (scope : Scope) (bytes : List ℕ) : Type 0 where
+  pub statement : Statement
+  pub is : IsLine scope statement bytes
+  pub only : (other : Statement) → IsLine scope other bytes → other ≡ statement
+  pub faultless : (fault : ScriptFault) → FaultIn (Some scope) bytes fault → ⊥
+
+-- The line has this first fault, and is no statement.
+pub record HasFault (scope : Scope) (bytes : List ℕ) : Type 0 where
+  pub fault : ScriptFault
+  pub has : FaultIn (Some scope) bytes fault
+  pub is_none : (statement : Statement) → IsLine scope statement bytes → ⊥
+
+-- a line is read one way: it is one statement, or it has a first fault
+abbrev pub LinesReadOneWay : Type 0
+LinesReadOneWay = (scope : Scope) (bytes : List ℕ) → IsOneStatement scope bytes ⊎ HasFault scope bytes
+
+-- ---- runs
+
+-- the reply is `error 8`
+abbrev pub is_want : Turn → Bool
+is_want (Calls who call result grants) = wants_memory result
+is_want (Ticks by moment result grants) = wants_memory result
+
+-- no reply is `error 8`
+abbrev pub HadMemory : List Turn → Type 0
+HadMemory turns = All (λ turn. is_want turn ≡ false) turns
+
+-- all that a whole run wrote
+abbrev pub output_of : {left held held' : Option (List ℕ)} {summary : Summary} → Completes left held held' summary → List ℕ
+output_of run = run.text ++ end_of run.end
+
+-- the output is a function of the input: two whole runs of the same input, in which no reply is `error 8`, write the same and count the same
+abbrev pub OutputIsAFunctionOfTheInput : Type 0
+OutputIsAFunctionOfTheInput =
+    (left before after left' before' after' : Option (List ℕ)) (summary summary' : Summary)
+    (run : Completes left before after summary) (other : Completes left' before' after' summary')
+    → run.input ≡ other.input
+    → HadMemory run.turns
+    → HadMemory other.turns
+    → (output_of run ≡ output_of other) × (summary ≡ summary')
