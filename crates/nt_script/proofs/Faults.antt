@@ -5,7 +5,7 @@ use Rattle.std.specs.Str.{bytes_eq}
 use Rattle.nt_core.specs.declared.call.Act.{Act}
 use Rattle.nt_core.specs.declared.call.Call.{Call}
 use Rattle.nt_core.specs.declared.call.WaitCall.{WaitCall}
-use Rattle.nt_script.specs.Words.{text_of, words_of, is_plain, caller_of}
+use Rattle.nt_lines.specs.Words.{text_of, words_of, is_plain, caller_of}
 use Rattle.nt_script.specs.Scope.{Scope}
 use Rattle.nt_script.specs.Keywords.{keyword_of}
 use Rattle.nt_script.specs.Grammar.{Place, NamePlace, ObjectPlace, NumberPlace, SignedPlace, TimePlace, ModePlace, ValuePlace, MomentPlace, fits, only, together_fault, is_word, free_name_in, object_in, number_in, signed_in, time_in, mode_in, options_fault, each_fault, places_fault, shape_of, shape_fault, caller_fault, words_fault, opening_fault, line_fault}

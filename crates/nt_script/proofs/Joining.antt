@@ -6,7 +6,7 @@ use Rattle.std.proofs.lemmas.List.{take_all}
 use Rattle.std.proofs.lemmas.List.Sums.{AllPass-from_list_all}
 use Rattle.std.proofs.lemmas.List.Splits.{slice_split_at, slice_split_none}
 use Rattle.std.proofs.Math.Dec.{eqb-suc-zero}
-use Rattle.nt_script.specs.Words.{text_of, is_semicolon, comment_start, before_comment, is_plain, is_gap, words_of, is_digit, is_name_byte}
+use Rattle.nt_lines.specs.Words.{text_of, is_semicolon, comment_start, before_comment, is_plain, is_gap, words_of, is_digit, is_name_byte}
 use Rattle.nt_script.proofs.Plain.{and_true}
 
 -- a visible byte that begins no comment

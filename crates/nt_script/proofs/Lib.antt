@@ -1,9 +1,6 @@
 pub mod Slices
-pub mod Pieces
-pub mod Splitting
 pub mod Texts
 pub mod Lines
-pub mod Numbers
 pub mod Names
 pub mod Parsing
 pub mod Faults

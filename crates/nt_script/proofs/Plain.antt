@@ -5,17 +5,24 @@ use Rattle.std.specs.Str.{bytes_eq}
 use Rattle.std.specs.Fmt.{decimal, signed_decimal}
 use Rattle.std.proofs.lemmas.Fmt.{decimal_by_steps, decimal_step, decimal_digit, length-decimal-le, decimal_injective}
 use Rattle.std.proofs.lemmas.Slice.Eq.{bytes_eq-Decides}
-use Rattle.std.proofs.lemmas.Bool.{le-leb, ltb-true, leb-true}
+use Rattle.std.proofs.lemmas.Bool.{lt-ltb, le-leb, ltb-true, leb-true}
 use Rattle.std.proofs.Math.Dec.{eqb-suc-zero}
-use Rattle.nt_script.specs.Words.{is_digit, are_digits, value_after, fitting, number_of, up_to, caller_of, is_name, is_identifier, is_name_byte}
+use Rattle.nt_lines.specs.Words.{is_digit, are_digits, value_after, fitting, number_of, up_to, caller_of, is_name, is_identifier, is_name_byte}
 use Rattle.nt_script.specs.Plain.{without_zeros, negative_word, plain_word}
-use Rattle.nt_script.proofs.Numbers.{value_after-le, fitted}
 
 pub and_true : {a b : Bool} → (a && b) ≡ true → (a ≡ true) × (b ≡ true)
 and_true {a = true} {b} h = (refl, h)
 and_true {a = false} {b} h = absurd cc
 
 -- ---- digits
+
+-- more digits make no smaller number
+value_after-le : (n : ℕ) (digits : List ℕ) → n ≤ value_after n digits
+value_after-le n [] = omega arith
+value_after-le n (digit ∷ digits) = omega (arith, value_after-le (n * 10 + (digit - 48)) digits)
+
+fitted : (n : ℕ) → n < 2 ^ 64 → fitting n ≡ Some n
+fitted n lt = rw (lt-ltb _ _ lt) refl
 
 digit_yes : (n : ℕ) → n < 10 → is_digit (48 + n) ≡ true
 digit_yes n lt = let low : nat_le 48 (48 + n) ≡ true = le-leb _ _ (omega arith) in let high : nat_le (48 + n) 57 ≡ true = le-leb _ _ (omega arith) in rw (low, high) refl

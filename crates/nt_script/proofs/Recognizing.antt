@@ -5,7 +5,7 @@ use Rattle.std.proofs.lemmas.Slice.Eq.{bytes_eq-Decides}
 use Rattle.nt_core.specs.declared.call.Call.{Call}
 use Rattle.nt_core.specs.declared.call.Act.{Act}
 use Rattle.nt_core.specs.declared.call.WaitCall.{WaitCall}
-use Rattle.nt_script.specs.Words.{text_of, words_of, caller_of, number_of}
+use Rattle.nt_lines.specs.Words.{text_of, words_of, caller_of, number_of}
 use Rattle.nt_script.specs.Scope.{Scope}
 use Rattle.nt_script.specs.Keywords.{keyword_of}
 use Rattle.nt_script.specs.Keywords as keyword

@@ -5,8 +5,8 @@ use Rattle.std.proofs.lemmas.List.Splits.{slice_split_at, slice_split_none, slic
 use Rattle.std.specs.Io.KnownBytes.{Consumes, Appends, Keeps, IsAtEnd}
 use Rattle.std.proofs.lemmas.Bool.{lt-leb}
 use Rattle.std.proofs.KnownBytes.{Consumes-trans, Appends-trans, Appends-nil, Appends-kept, Consumes-kept}
-use Rattle.nt_script.specs.Bytes.{AppendsFront, to_come}
-use Rattle.nt_script.specs.Lines.{is_feed, HasNoFeed, lines_of, without_empty_last}
+use Rattle.nt_script.specs.Bytes.{AppendsFront}
+use Rattle.nt_lines.specs.Lines.{is_feed, HasNoFeed, lines_of, without_empty_last, to_come}
 use Rattle.nt_core.specs.Runs.{Turn}
 use Rattle.nt_script.specs.Transcript.{FaultIn}
 use Rattle.nt_script.specs.Progress.{Progress, Advances, CarriedOut, scope_of, progress_of}

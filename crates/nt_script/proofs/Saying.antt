@@ -6,7 +6,7 @@ use Rattle.nt_status.specs.Flags.{has_flag, event_bits, event_manual_reset, even
 use Rattle.nt_core.specs.declared.call.Call.{Call}
 use Rattle.nt_core.specs.declared.call.Act.{Act}
 use Rattle.nt_core.specs.declared.call.WaitCall.{WaitCall}
-use Rattle.nt_script.specs.Words.{words_of, text_of, is_plain}
+use Rattle.nt_lines.specs.Words.{words_of, text_of, is_plain}
 use Rattle.nt_script.specs.Scope.{Scope}
 use Rattle.nt_script.specs.Grammar.{Part, Caller, Word, NewName, Object, Number, Signed, Time, Mode, Spells, word_if, one_if, objects, value, routine_parts, IsStatement}
 use Rattle.nt_script.specs.Spelling.{word_given, routine_words, spelling, statement_text, CanAct, CanWait, CanBeSaid, IsRoutine}

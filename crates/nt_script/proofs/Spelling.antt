@@ -9,7 +9,7 @@ use Rattle.std.proofs.lemmas.Fmt.{length-decimal-le}
 use Rattle.std.proofs.lemmas.List.Elements.{All-head, All-tail}
 use Rattle.std.proofs.lemmas.Slice.Eq.{bytes_eq-Decides}
 use Rattle.nt_status.specs.Status.{infinite}
-use Rattle.nt_script.specs.Words.{is_digit, are_digits, is_name, is_name_byte, number_of, up_to}
+use Rattle.nt_lines.specs.Words.{is_digit, are_digits, is_name, is_name_byte, number_of, up_to}
 use Rattle.nt_script.specs.Plain.{plain_word}
 use Rattle.nt_script.specs.Scope.{Scope, bound_in}
 use Rattle.nt_script.specs.Grammar.{at_least, number_in, free_name_in, object_in, is_word, is_negative, signed_in, time_in, mode_in, Part, Caller, Word, NewName, Object, Number, Signed, Time, Mode, Says, Spells, objects}

@@ -6,7 +6,7 @@ use Rattle.nt_status.specs.Status.{infinite}
 use Rattle.nt_core.specs.declared.call.Call.{Call}
 use Rattle.nt_core.specs.declared.call.Act.{Act}
 use Rattle.nt_core.specs.declared.call.WaitCall.{WaitCall}
-use Rattle.nt_script.specs.Words.{words_of, text_of, is_plain, is_digit, are_digits, number_of, caller_of, is_name, up_to}
+use Rattle.nt_lines.specs.Words.{words_of, text_of, is_plain, is_digit, are_digits, number_of, caller_of, is_name, up_to}
 use Rattle.nt_script.specs.Scope.{Scope, bound_in}
 use Rattle.nt_script.specs.declared.fault.ScriptFault.{ScriptFault}
 use Rattle.nt_script.specs.declared.fault.ScriptFault.TheVariants.{LineTooLong, BadByte, ThreadsExpected, UnknownWord, MissingWord, BadNumber, BadName, NameTaken, UnknownName, ExtraWord}

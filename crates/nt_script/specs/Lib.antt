@@ -1,6 +1,4 @@
 pub mod Bytes
-pub mod Lines
-pub mod Words
 pub mod Plain
 pub mod Scope
 pub mod Naming

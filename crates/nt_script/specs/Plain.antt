@@ -1,7 +1,7 @@
 -- Words as they are written plainly: numbers without leading zeros.
 use Rattle.std.specs.Prelude.{ℕ, ◌==◌, ◌&&◌, List, [], ◌∷◌, if◌then◌else◌, codes}
 use Rattle.std.specs.Str.{bytes_eq}
-use Rattle.nt_script.specs.Words.{are_digits}
+use Rattle.nt_lines.specs.Words.{are_digits}
 
 -- digits without leading zeros
 abbrev pub without_zeros : List ℕ → List ℕ

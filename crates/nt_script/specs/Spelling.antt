@@ -7,7 +7,7 @@ use Rattle.nt_status.specs.Flags.{has_flag, event_bits, event_manual_reset, even
 use Rattle.nt_core.specs.declared.call.Call.{Call}
 use Rattle.nt_core.specs.declared.call.Act.{Act}
 use Rattle.nt_core.specs.declared.call.WaitCall.{WaitCall}
-use Rattle.nt_script.specs.Words.{is_name}
+use Rattle.nt_lines.specs.Words.{is_name}
 use Rattle.nt_script.specs.Scope.{Scope, bound_in}
 use Rattle.nt_script.specs.declared.parser.Statement.{Statement}
 use Rattle.nt_script.specs.declared.parser.Statement.TheVariants.{Blank, Create, Perform, Tick}

@@ -14,7 +14,7 @@ use Rattle.nt_script.specs.declared.parser.Statement.{Statement}
 use Rattle.nt_script.specs.declared.parser.Statement.TheVariants.{Blank, Create, Perform, Tick}
 use Rattle.nt_script.specs.declared.fault.LineFault.{LineFault}
 use Rattle.nt_script.specs.declared.fault.LineFault.TheVariants as fault
-use Rattle.nt_script.specs.Words.{words_of, text_of}
+use Rattle.nt_lines.specs.Words.{words_of, text_of}
 use Rattle.nt_script.specs.Scope.{Scope}
 use Rattle.nt_script.specs.Grammar.{IsPlainLine, IsStatement, IsOpening, line_fault, words_fault, opening_fault}
 

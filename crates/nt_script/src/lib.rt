@@ -2,7 +2,6 @@
 #![tactic(auto)]
 
 mod fault;
-mod input;
 mod keyword;
 mod laws;
 mod output;

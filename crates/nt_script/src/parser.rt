@@ -8,8 +8,9 @@ ghost use Rattle.nt_script.specs.Reading.{Gives, objects_at, tick_at, event_at, 
 use crate::fault::{LineFault, ScriptFault};
 use crate::keyword::Keyword;
 use crate::scope::Bindings;
-use crate::words::{Words, caller_of};
+use crate::words::Words;
 use nt_core::{Act, Call, WaitCall};
+use nt_lines::caller_of;
 use nt_status::{Handle, Handles, Moment};
 use std::alloc::{AllocError, Global};
 use std::marker::Model;

@@ -7,7 +7,8 @@ ghost use Rattle.nt_script.specs.Reading.{Takes, number_at, signed_at, routine_a
 
 use crate::fault::ScriptFault;
 use crate::scope::Bindings;
-use crate::words::{Words, are_digits, caller_of, name_of, number_of};
+use crate::words::Words;
+use nt_lines::{are_digits, caller_of, name_of, number_of};
 use nt_status::Handle;
 
 /// The timeout that never comes.

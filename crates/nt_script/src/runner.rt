@@ -1,16 +1,16 @@
 //! Scripts to transcripts.
 
 ghost use Rattle.std.specs.Prelude.{◌≡◌, ◌+◌, ◌-◌, ◌<◌, ◌≤◌, ◌^◌, [], length, IfOk, None, vec_capacity};
-ghost use Rattle.nt_script.specs.Bytes.{to_come};
+ghost use Rattle.nt_lines.specs.Lines.{to_come};
 ghost use Rattle.nt_script.specs.Progress.{AreCounted, progress_of};
 ghost use Rattle.nt_script.specs.Running.{Answers, CountsFailures, CountsFaults, TakesNext, WritesLine, WritesOutput, Ends};
 
 use crate::fault::{LineFault, RunFault, ScriptFault};
-use crate::input::{Ending, Input, MAX_LINE, ReadFault};
 use crate::output::{WriteFailed, write_whole};
 use crate::session::{Session, carry_out};
 use crate::summary::Summary;
 use nt_devices::{Sink, Source};
+use nt_lines::{Ending, Input, MAX_LINE, ReadFault};
 use std::alloc::{AllocError, Global};
 
 #[derive(Drop)]

@@ -15,10 +15,11 @@ use crate::parser::{Name, Statement, parse_opening, parse_statement};
 use crate::scope::Bindings;
 use crate::summary::Summary;
 use crate::tally::Tally;
-use crate::text::{put, put_number};
+use crate::text::put_number;
 use crate::transcript::{MOST_BYTES, put_turn};
 use crate::words::{Words, plain_text};
 use nt_core::{Act, Call, Core, Reply};
+use nt_lines::put;
 use nt_status::{Handle, Moment, Refusal};
 use std::alloc::{AllocError, Global};
 

@@ -1,20 +1,11 @@
 //! Text that is put where there is room for it, so that it can't fail.
 
-ghost use Rattle.std.specs.Prelude.{◌≡◌, ◌+◌, ◌≤◌, ◌<◌, ◌++◌, true, length, vec_len, vec_capacity, decimal};
+ghost use Rattle.std.specs.Prelude.{◌≡◌, ◌+◌, ◌≤◌, ◌<◌, ◌++◌, true, vec_len, vec_capacity, decimal};
 ghost use Rattle.std.specs.Fmt.{digit_glyph, signed_decimal};
 ghost use Rattle.nt_script.specs.Transcript.{hex_digits};
 
 use itoa::Buffer;
-
-/// Puts bytes at the end, where there is room for them.
-pub(crate) fn put(out: &mut Vec<u8>, bytes: &[u8])
-    requires { vec_len out.old + length bytes.now ≤ vec_capacity out.old }
-    ensures items { out.new.items ≡ out.old.items ++ bytes.now }
-    ensures len { vec_len out.new ≡ vec_len out.old + length bytes.now }
-    ensures room { vec_capacity out.old ≤ vec_capacity out.new }
-{
-    let _ = out.extend_from_slice(bytes);
-}
+use nt_lines::put;
 
 /// Puts a number in decimal, where there is room for the most digits.
 #[tactic(auto, using(crate::proofs::Texts::length_most))]

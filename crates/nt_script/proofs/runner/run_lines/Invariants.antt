@@ -1,5 +1,5 @@
 use Rattle.std.proofs.Common.{◌≡◌, ◌≤◌, vec_capacity}
-use Rattle.nt_script.specs.Bytes.{to_come}
+use Rattle.nt_lines.specs.Lines.{to_come}
 use Rattle.nt_script.specs.Progress.{progress_of}
 use Rattle.nt_script.specs.Running.{SoFar}
 use Rattle.nt_script.proofs.runner.run_lines.Given as goal

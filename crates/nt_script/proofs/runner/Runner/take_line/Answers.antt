@@ -1,6 +1,6 @@
 use Rattle.std.proofs.Common.{◌≡◌, ◌<◌, ◌==◌, inr, length, arith, subst, sym, ap, List, ℕ, false}
 use Rattle.std.proofs.lemmas.Bool.Decides.{nat_tests}
-use Rattle.nt_script.specs.Bytes.{to_come}
+use Rattle.nt_lines.specs.Lines.{to_come}
 use Rattle.nt_script.specs.Running.{TakesLine}
 use Rattle.nt_script.proofs.Running.{Turns-err}
 use Rattle.nt_script.proofs.runner.Runner.take_line.Goals as goal

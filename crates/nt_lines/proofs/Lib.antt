@@ -1,0 +1,4 @@
+pub mod Pieces
+pub mod Splitting
+pub mod Numbers
+pub mod Names
