@@ -229,6 +229,7 @@ call_faults scope who Keyword.All words = objects_wait scope who words true
 call_faults scope who Keyword.Sleep words = sleep scope who words
 call_faults scope who Keyword.Swap words = swap scope who words
 call_faults scope who Keyword.Next words = ends (Perform who (Call.Act Act.NextApc)) words
+call_faults scope who Keyword.Exit words = ends (Perform who Call.Exit) words
 
 caller_faults : (scope : Scope) (who : ℕ) (words : Words) → fault_of (caller_at scope who words) ≡ caller_fault scope words
 unfolding caller_at

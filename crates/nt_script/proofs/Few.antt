@@ -114,6 +114,7 @@ begun-len s new t w ms reply e = by (fits s.objects t w) (w.alertable && has_apc
 
 answered-len : (old s new : State) (t : ℕ) (call : Call) (reply : Reply) → (reply, new) ≡ answered old s t call → map.len new.waits ≤ map.len s.waits + 1
 answered-len old s new t (Call.Act act) reply e = let same = ap (λ (x : Reply × State). map.len (x.1).waits) e in omega arith
+answered-len old s new t Call.Exit reply e = let same = ap (λ (x : Reply × State). map.len (x.1).waits) e in omega arith
 answered-len old s new t (Call.Wait wait) reply e = begun-len s new t (wait_of s.now wait) (timeout_of wait) reply e
 
 pub Called-few : (old : State) (who : ℕ) (call : Call) (result : Result Reply Refusal) (grants : List Grant) (new : State) → Called old who call result grants new

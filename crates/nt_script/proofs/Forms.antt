@@ -299,6 +299,7 @@ call_said scope who Keyword.All words st e = objects_wait scope who words st Key
 call_said scope who Keyword.Sleep words st e = sleep scope who words st e
 call_said scope who Keyword.Swap words st e = swap scope who words st e
 call_said scope who Keyword.Next words st e = bare scope who words st Keyword.Next (Call.Act Act.NextApc) (λ first caller spelled. (caller, (refl, spelled))) e
+call_said scope who Keyword.Exit words st e = bare scope who words st Keyword.Exit Call.Exit (λ first caller spelled. (caller, (refl, spelled))) e
 
 -- a keyword is its text
 keyword_said : (ks : List Keyword) (word : List ℕ) (k : Keyword) → keyword_among ks word ≡ Some k → word ≡ keyword.text_of k

@@ -188,6 +188,7 @@ keyword_of-text Keyword.All = refl
 keyword_of-text Keyword.Sleep = refl
 keyword_of-text Keyword.Swap = refl
 keyword_of-text Keyword.Next = refl
+keyword_of-text Keyword.Exit = refl
 
 tick_calls_nobody : (who : ℕ) → caller_of (codes "tick") ≡ Some who → ⊥
 unfolding caller_of number_of
@@ -239,6 +240,7 @@ reads scope (Perform who (Call.Act (Act.SetTimer handle due period given))) word
 reads scope (Perform who (Call.Act (Act.CancelTimer handle))) words is = behind scope who Keyword.Cancel (Object handle ∷ []) words _ is (act scope who (λ object. Act.CancelTimer object) handle)
 reads scope (Perform who (Call.Act (Act.QueueApc handle x arg))) words is = behind scope who Keyword.Apc (Object handle ∷ value x ∷ value arg ∷ []) words _ is (apc scope who handle x arg)
 reads scope (Perform who (Call.Act Act.NextApc)) words is = behind scope who Keyword.Next [] words _ is (λ rest s. ended scope (Perform who (Call.Act Act.NextApc)) rest s)
+reads scope (Perform who Call.Exit) words is = behind scope who Keyword.Exit [] words _ is (λ rest s. ended scope (Perform who Call.Exit) rest s)
 reads scope (Perform who (Call.Wait (WaitCall.Objects handles false ms alertable))) words is =
     behind scope who Keyword.Any (Time ms ∷ Mode alertable ∷ objects handles) words _ is (objects_wait scope who false handles ms alertable)
 reads scope (Perform who (Call.Wait (WaitCall.Objects handles true ms alertable))) words is =

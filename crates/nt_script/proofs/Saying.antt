@@ -50,6 +50,7 @@ wait_parts (WaitCall.Swap signal handle ms alertable) = Word (codes "swap") ∷ 
 abbrev call_parts : Call → List Part
 call_parts (Call.Act act) = act_parts act
 call_parts (Call.Wait wait) = wait_parts wait
+call_parts Call.Exit = Word (codes "exit") ∷ []
 
 abbrev parts_of : Statement → List Part
 parts_of Blank = []
@@ -108,6 +109,7 @@ texts (Perform who (Call.Act (Act.CreateTimer _))) = refl
 texts (Perform who (Call.Wait (WaitCall.Objects handles all ms alertable))) = behind _ (behind _ (behind _ (behind _ (plain-objects handles))))
 texts (Perform who (Call.Wait (WaitCall.Sleep ms alertable))) = refl
 texts (Perform who (Call.Wait (WaitCall.Swap signal handle ms alertable))) = refl
+texts (Perform who Call.Exit) = refl
 
 -- ---- sound words
 
@@ -158,6 +160,7 @@ sound (Perform who (Call.Wait (WaitCall.Objects handles true ms alertable))) = s
 sound (Perform who (Call.Wait (WaitCall.Objects handles false ms alertable))) = sound-objects handles
 sound (Perform who (Call.Wait (WaitCall.Sleep ms alertable))) = refl
 sound (Perform who (Call.Wait (WaitCall.Swap signal handle ms alertable))) = refl
+sound (Perform who Call.Exit) = refl
 
 -- ---- what can be said
 
@@ -216,6 +219,7 @@ can scope (Tick moment) h = (tt, ((omega arith, h, omega (arith, h)), tt))
 can scope (Create who name act) h = (h.0, can_create scope name act (omega arith, h.1, h.2))
 can scope (Perform who (Call.Act act)) h = (h.0, can_act scope act h.1)
 can scope (Perform who (Call.Wait wait)) h = (h.0, can_wait scope wait h.1)
+can scope (Perform who Call.Exit) h = (h.0, (tt, tt))
 
 -- ---- from parts to the statement
 
@@ -264,6 +268,7 @@ is_statement scope (Perform who (Call.Wait (WaitCall.Objects handles false ms al
 is_statement scope (Perform who (Call.Wait (WaitCall.Objects handles true ms alertable))) words h s = s
 is_statement scope (Perform who (Call.Wait (WaitCall.Sleep ms alertable))) words h s = s
 is_statement scope (Perform who (Call.Wait (WaitCall.Swap signal handle ms alertable))) words h s = s
+is_statement scope (Perform who Call.Exit) words h s = s
 
 -- ---- and back
 
@@ -321,6 +326,7 @@ spells scope (Perform who (Call.Wait (WaitCall.Objects handles false ms alertabl
 spells scope (Perform who (Call.Wait (WaitCall.Objects handles true ms alertable))) words is = is
 spells scope (Perform who (Call.Wait (WaitCall.Sleep ms alertable))) words is = is
 spells scope (Perform who (Call.Wait (WaitCall.Swap signal handle ms alertable))) words is = is
+spells scope (Perform who Call.Exit) words is = is
 
 -- ---- the laws
 

@@ -153,6 +153,8 @@ IsStatement scope (Perform who (Call.Act (Act.CancelTimer handle))) words = Spel
 IsStatement scope (Perform who (Call.Act (Act.QueueApc handle apc arg))) words = Spells scope (begins who Keyword.Apc (Object handle ∷ value apc ∷ value arg ∷ [])) words
 -- tN next
 IsStatement scope (Perform who (Call.Act Act.NextApc)) words = Spells scope (begins who Keyword.Next []) words
+-- tN exit
+IsStatement scope (Perform who Call.Exit) words = Spells scope (begins who Keyword.Exit []) words
 -- tN any TIME MODE OBJ.., tN all TIME MODE OBJ..
 IsStatement scope (Perform who (Call.Wait (WaitCall.Objects handles false ms alertable))) words = Spells scope (begins who Keyword.Any (Time ms ∷ Mode alertable ∷ objects handles)) words
 IsStatement scope (Perform who (Call.Wait (WaitCall.Objects handles true ms alertable))) words = Spells scope (begins who Keyword.All (Time ms ∷ Mode alertable ∷ objects handles)) words
@@ -273,6 +275,7 @@ shape_of Keyword.All = shape (TimePlace ∷ ModePlace ∷ []) (Each ObjectPlace)
 shape_of Keyword.Sleep = only (TimePlace ∷ ModePlace ∷ [])
 shape_of Keyword.Swap = only (ObjectPlace ∷ ObjectPlace ∷ TimePlace ∷ ModePlace ∷ [])
 shape_of Keyword.Next = only []
+shape_of Keyword.Exit = only []
 
 -- the words behind a keyword, if it is one
 abbrev pub keyword_fault : Scope → Option Keyword → List (List ℕ) → Option ScriptFault

@@ -21,10 +21,11 @@ text_of Keyword.All = codes "all"
 text_of Keyword.Sleep = codes "sleep"
 text_of Keyword.Swap = codes "swap"
 text_of Keyword.Next = codes "next"
+text_of Keyword.Exit = codes "exit"
 
 abbrev pub keywords : List Keyword
 keywords =
-    Keyword.Event ∷ Keyword.Semaphore ∷ Keyword.Mutex ∷ Keyword.Timer ∷ Keyword.Set ∷ Keyword.Reset ∷ Keyword.Pulse ∷ Keyword.Release ∷ Keyword.Unlock ∷ Keyword.Arm ∷ Keyword.Cancel ∷ Keyword.Apc ∷ Keyword.Any ∷ Keyword.All ∷ Keyword.Sleep ∷ Keyword.Swap ∷ Keyword.Next ∷ []
+    Keyword.Event ∷ Keyword.Semaphore ∷ Keyword.Mutex ∷ Keyword.Timer ∷ Keyword.Set ∷ Keyword.Reset ∷ Keyword.Pulse ∷ Keyword.Release ∷ Keyword.Unlock ∷ Keyword.Arm ∷ Keyword.Cancel ∷ Keyword.Apc ∷ Keyword.Any ∷ Keyword.All ∷ Keyword.Sleep ∷ Keyword.Swap ∷ Keyword.Next ∷ Keyword.Exit ∷ []
 
 abbrev pub keyword_among : List Keyword → List ℕ → Option Keyword
 keyword_among [] word = None

@@ -235,6 +235,7 @@ call_at scope who Keyword.All words = objects_wait_at scope who true words
 call_at scope who Keyword.Sleep words = sleep_at who words
 call_at scope who Keyword.Swap words = swap_at scope who words
 call_at scope who Keyword.Next words = bare_at who (Call.Act Act.NextApc) words
+call_at scope who Keyword.Exit words = bare_at who Call.Exit words
 
 -- behind a caller
 unfoldable pub caller_at : Scope → ℕ → List (List ℕ) → Result Statement ScriptFault

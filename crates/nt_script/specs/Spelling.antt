@@ -66,6 +66,7 @@ wait_words (WaitCall.Swap signal handle ms alertable) = codes "swap" ∷ decimal
 abbrev pub call_words : Call → List (List ℕ)
 call_words (Call.Act act) = act_words act
 call_words (Call.Wait wait) = wait_words wait
+call_words Call.Exit = codes "exit" ∷ []
 
 -- the words of a statement
 abbrev pub spelling : Statement → List (List ℕ)
@@ -129,6 +130,7 @@ CanWait (WaitCall.Swap signal handle ms alertable) = IsHandle signal × IsHandle
 abbrev pub CanCall : Call → Type 0
 CanCall (Call.Act act) = CanAct act
 CanCall (Call.Wait wait) = CanWait wait
+CanCall Call.Exit = Unit {0}
 
 -- a lawful name that stands for nothing yet
 abbrev pub IsFreeName : Scope → List ℕ → Type 0

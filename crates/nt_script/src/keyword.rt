@@ -23,6 +23,7 @@ pub(crate) enum Keyword {
     Sleep,
     Swap,
     Next,
+    Exit,
 }
 
 impl Keyword {
@@ -63,6 +64,8 @@ impl Keyword {
             Some(Keyword::Swap)
         } else if word == b"next".as_slice() {
             Some(Keyword::Next)
+        } else if word == b"exit".as_slice() {
+            Some(Keyword::Exit)
         } else {
             None
         }

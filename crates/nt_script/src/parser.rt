@@ -349,6 +349,7 @@ fn parse_call(
         Keyword::Sleep => Ok(sleep(who, words)?),
         Keyword::Swap => Ok(swap(bindings, who, words)?),
         Keyword::Next => Ok(bare(who, Call::Act(Act::NextApc), words)?),
+        Keyword::Exit => Ok(bare(who, Call::Exit, words)?),
     }
 }
 

@@ -191,6 +191,36 @@ pub const TRANSCRIPTS: &[Worked] = &[
         transcript: b"2: handle 1\n3: ok\n4: ok\n5: ok\n6: status 0x000000C0\n7: apc 7 9 at 10\n8: apc none\nend: pending none\n",
         fault: None,
     },
+    Worked {
+        shows: "a thread that ends abandons the mutexes that it owns, and a wait for any of them tells which",
+        script: b"threads 2\nt0 mutex m1 owned\nt0 mutex m2 owned\nt1 any inf plain m2 m1\nt0 exit\nt1 any 0 plain m1\nt1 unlock m2\n",
+        transcript: b"2: handle 2\n3: handle 3\n4: pending\n5: ok\n5: t1 status 0x00000080\n6: status 0x00000080\n7: ok\nend: pending none\n",
+        fault: None,
+    },
+    Worked {
+        shows: "a thread that ended calls nothing more",
+        script: b"threads 2\nt0 event e\nt1 any inf plain e\ntick 9\ntick 5\nt1 set e\nt0 exit\nt0 next\n",
+        transcript: b"2: handle 2\n3: pending\n4: ok\n5: error 536870917\n6: error 536870913\n7: ok\n8: error 536870914\nend: pending t1\n",
+        fault: None,
+    },
+    Worked {
+        shows: "a thread that ends stops its timers that queue APCs to it, and is itself waited for",
+        script: b"threads 3\nt1 any inf plain t0\nt0 timer x\nt0 arm x -100 0 1 1\nt0 timer y\nt0 arm y -100 0\nt0 exit\nt2 any 0 plain t0\nt2 apc t0 1 1\ntick 100\nt2 any 0 plain x y\n",
+        transcript: b"2: pending\n3: handle 3\n4: ok\n5: handle 4\n6: ok\n7: ok\n7: t1 status 0x00000000\n8: status 0x00000000\n9: error 31\n10: ok\n11: status 0x00000001\nend: pending none\n",
+        fault: None,
+    },
+    Worked {
+        shows: "a wait for all takes an abandoned mutex, and tells of it once",
+        script: b"threads 2\nt0 mutex m owned\nt1 event e set\nt1 all inf plain e m\nt0 exit\nt1 any 0 plain m\n",
+        transcript: b"2: handle 2\n3: handle 3\n4: pending\n5: ok\n5: t1 status 0x00000080\n6: status 0x00000000\nend: pending none\n",
+        fault: None,
+    },
+    Worked {
+        shows: "a thread that ends serves the waits on its mutexes in the order of their handles",
+        script: b"threads 3\nt0 mutex m1 owned\nt0 mutex m2 owned\nt1 any inf plain m2\nt2 any inf plain m1\nt0 exit\n",
+        transcript: b"2: handle 3\n3: handle 4\n4: pending\n5: pending\n6: ok\n6: t2 status 0x00000080\n6: t1 status 0x00000080\nend: pending none\n",
+        fault: None,
+    },
 ];
 
 pub const FAULTS: &[Worked] = &[
@@ -313,5 +343,11 @@ pub const FAULTS: &[Worked] = &[
         script: b"threads 1\nt0 timer x\nt0 arm x 0 0 7\n",
         transcript: b"2: handle 1\n",
         fault: Some((3, ScriptFault::MissingWord)),
+    },
+    Worked {
+        shows: "a word behind exit",
+        script: b"threads 1\nt0 exit t0\n",
+        transcript: b"",
+        fault: Some((2, ScriptFault::ExtraWord)),
     },
 ];
