@@ -1,7 +1,7 @@
 //! Events.
 use crate::tests::script::Answer::{Done, Error, Handle, Pended, Status};
 use crate::tests::script::Ask::{All, Any, Event, Pulse, Reset, Set};
-use crate::tests::script::{INF, TIMEOUT, check, check_waiting, line, open, run_lines};
+use crate::tests::script::{INF, TIMEOUT, check, line};
 use std::test::Fail;
 
 #[test]
@@ -84,26 +84,6 @@ fn pulse_releases_and_leaves_the_event_not_set(rt: HostRuntime) -> Result<(), Fa
         line(3, Any(0), &[4, 5, 6], TIMEOUT, &[]),
     ];
     check(&rt, 4, &lines, &[0])
-}
-
-#[test]
-fn only_waits_on_a_changed_object_are_tested(rt: HostRuntime) -> Result<(), Fail> {
-    let mut core = open(&rt, 3)?;
-    let first = [
-        line(2, Event(0), &[], Handle(3), &[]),
-        line(2, Event(0), &[], Handle(4), &[]),
-        line(0, All(INF), &[3, 4], Pended, &[]),
-        line(1, Any(INF), &[3], Pended, &[]),
-        line(2, Set, &[3], Done, &[(1, 0)]),
-    ];
-    run_lines(&rt, &mut core, &first)?;
-    assert_eq!(rt; core.tested(), 2);
-    run_lines(&rt, &mut core, &[line(2, Set, &[4], Done, &[])])?;
-    assert_eq!(rt; core.tested(), 1);
-    run_lines(&rt, &mut core, &[line(2, Set, &[4], Done, &[])])?;
-    assert_eq!(rt; core.tested(), 0);
-    check_waiting(&rt, &core, &[0]);
-    Ok(())
 }
 
 #[test]
