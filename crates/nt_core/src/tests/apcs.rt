@@ -85,7 +85,7 @@ fn an_alert_is_no_test(rt: HostRuntime) -> Result<(), Fail> {
         line(1, Any(INF), &[3], Pended, &[]),
         line(2, Apc(4, 4), &[0], Done, &[(0, IO_COMPLETION)]),
     ];
-    run_lines(&rt, &mut core, &lines)?;
+    run_lines(&rt, &mut core, &lines);
     assert_eq!(rt; core.tested(), 0);
     assert_eq!(rt; answer_to(&rt, &mut core, 2, Apc(4, 4), &[1])?, Done);
     check_waiting(&rt, &core, &[1]);

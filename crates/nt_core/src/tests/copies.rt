@@ -21,7 +21,7 @@ fn copy_at_last(rt: &(impl Abort + AllocGlobal), core: &Core) -> Result<Core, Re
 /// In a copy the event is set, and thread 0 gets it.
 fn set_in_a_copy(rt: &(impl Abort + AllocGlobal), core: &Core) -> Result<(), Fail> {
     let mut copied = copy_at_last(rt, core)?;
-    run_lines(rt, &mut copied, &[line(2, Set, &[3], Done, &[(0, 0)])])?;
+    run_lines(rt, &mut copied, &[line(2, Set, &[3], Done, &[(0, 0)])]);
     check_waiting(rt, &copied, &[1]);
     Ok(())
 }
@@ -34,7 +34,7 @@ fn a_copy_goes_its_own_way(rt: HostRuntime) -> Result<(), Fail> {
         line(0, Any(INF), &[3], Pended, &[]),
         line(1, Any(INF), &[3], Pended, &[]),
     ];
-    run_lines(&rt, &mut core, &lines)?;
+    run_lines(&rt, &mut core, &lines);
     set_in_a_copy(&rt, &core)?;
     check_waiting(&rt, &core, &[0, 1]);
     Ok(())

@@ -15,14 +15,14 @@ fn the_mutexes_of_a_thread_that_ends_are_free_and_marked(rt: HostRuntime) -> Res
         line(1, Any(INF), &[3, 2], Pended, &[]),
         line(0, Exit, &[], Done, &[(1, 0x80)]),
     ];
-    run_lines(&rt, &mut core, &first)?;
+    run_lines(&rt, &mut core, &first);
     assert_eq!(rt; core.tested(), 1);
     let then = [
         line(1, Any(0), &[2], Status(0x80), &[]),
         line(1, Unlock, &[3], Done, &[]),
         line(1, Any(0), &[3], Status(0), &[]),
     ];
-    run_lines(&rt, &mut core, &then)?;
+    run_lines(&rt, &mut core, &then);
     check_waiting(&rt, &core, &[]);
     Ok(())
 }
@@ -64,13 +64,13 @@ fn a_thread_that_ended_is_signaled_and_its_routines_are_gone(rt: HostRuntime) ->
         line(2, Any(0), &[0], Status(0), &[]),
         line(2, Apc(1, 1), &[0], Error(31), &[]),
     ];
-    run_lines(&rt, &mut core, &first)?;
+    run_lines(&rt, &mut core, &first);
     tick_to(&rt, &mut core, 100, Done, &[]);
     let then = [
         line(2, Any(0), &[3, 4], Status(1), &[]),
         line(2, Any(0), &[3, 4], TIMEOUT, &[]),
     ];
-    run_lines(&rt, &mut core, &then)?;
+    run_lines(&rt, &mut core, &then);
     check_waiting(&rt, &core, &[]);
     Ok(())
 }
@@ -83,7 +83,7 @@ fn a_thread_that_ended_asks_for_nothing(rt: HostRuntime) -> Result<(), Fail> {
         line(1, Any(INF), &[2], Pended, &[]),
         line(1, Exit, &[], Error(536870913), &[]),
     ];
-    run_lines(&rt, &mut core, &first)?;
+    run_lines(&rt, &mut core, &first);
     tick_to(&rt, &mut core, 9, Done, &[]);
     tick_to(&rt, &mut core, 5, Error(536870917), &[]);
     let then = [
@@ -93,7 +93,7 @@ fn a_thread_that_ended_asks_for_nothing(rt: HostRuntime) -> Result<(), Fail> {
         line(0, Exit, &[], Error(536870914), &[]),
         line(2, Exit, &[], Error(536870915), &[]),
     ];
-    run_lines(&rt, &mut core, &then)?;
+    run_lines(&rt, &mut core, &then);
     check_waiting(&rt, &core, &[1]);
     Ok(())
 }

@@ -20,7 +20,7 @@ fn an_expiry_ends_a_wait_before_its_apc_does(rt: HostRuntime) -> Result<(), Fail
         line(0, ArmRoutine(-50000, 0, 7, 9), &[1], Done, &[]),
         line(0, AlertableAny(INF), &[1], Pended, &[]),
     ];
-    run_lines(&rt, &mut core, &first)?;
+    run_lines(&rt, &mut core, &first);
     tick_to(&rt, &mut core, 60000, Done, &[(0, 0)]);
     let then = [
         line(0, Next, &[], NoApc, &[]),
@@ -28,7 +28,7 @@ fn an_expiry_ends_a_wait_before_its_apc_does(rt: HostRuntime) -> Result<(), Fail
         line(0, Next, &[], TimerApc(7, 9, 50000), &[]),
         line(0, Next, &[], NoApc, &[]),
     ];
-    run_lines(&rt, &mut core, &then)?;
+    run_lines(&rt, &mut core, &then);
     Ok(())
 }
 
@@ -41,9 +41,9 @@ fn timers_and_deadlines_come_by_moment(rt: HostRuntime) -> Result<(), Fail> {
             line(0, Arm(80000, 0), &[1], Done, &[]),
             line(0, Any(ms), &[1], Pended, &[]),
         ];
-        run_lines(&rt, &mut core, &first)?;
+        run_lines(&rt, &mut core, &first);
         tick_to(&rt, &mut core, 100000, Done, &[(0, ended)]);
-        run_lines(&rt, &mut core, &[line(0, Any(0), &[1], Status(after), &[])])?;
+        run_lines(&rt, &mut core, &[line(0, Any(0), &[1], Status(after), &[])]);
     }
     Ok(())
 }
@@ -57,7 +57,7 @@ fn a_periodic_timer_expires_once_in_a_tick(rt: HostRuntime) -> Result<(), Fail> 
         line(0, Any(INF), &[2], Pended, &[]),
         line(1, Any(INF), &[2], Pended, &[]),
     ];
-    run_lines(&rt, &mut core, &first)?;
+    run_lines(&rt, &mut core, &first);
     tick_to(&rt, &mut core, 10_000_000, Done, &[(0, 0)]);
     assert_eq!(rt; core.tested(), 2);
     tick_to(&rt, &mut core, 10_009_999, Done, &[]);
@@ -95,9 +95,9 @@ fn the_earlier_of_two_timers_comes_first(rt: HostRuntime) -> Result<(), Fail> {
         line(0, Arm(200, 0), &[2], Done, &[]),
         line(0, Any(INF), &[1, 2], Pended, &[]),
     ];
-    run_lines(&rt, &mut core, &first)?;
+    run_lines(&rt, &mut core, &first);
     tick_to(&rt, &mut core, 300, Done, &[(0, 1)]);
-    run_lines(&rt, &mut core, &[line(0, Any(0), &[1, 2], Status(0), &[])])?;
+    run_lines(&rt, &mut core, &[line(0, Any(0), &[1, 2], Status(0), &[])]);
     Ok(())
 }
 
@@ -111,13 +111,13 @@ fn timers_of_one_moment_expire_together(rt: HostRuntime) -> Result<(), Fail> {
         line(0, Arm(300, 0), &[2], Done, &[]),
         line(0, All(INF), &[1, 2], Pended, &[]),
     ];
-    run_lines(&rt, &mut core, &first)?;
+    run_lines(&rt, &mut core, &first);
     tick_to(&rt, &mut core, 300, Done, &[(0, 0)]);
     run_lines(
         &rt,
         &mut core,
         &[line(0, Any(0), &[1, 2], Status(LATE), &[])],
-    )?;
+    );
     Ok(())
 }
 
@@ -131,9 +131,9 @@ fn setting_a_timer_again_stops_it(rt: HostRuntime) -> Result<(), Fail> {
         line(0, Any(0), &[1], Status(LATE), &[]),
         line(0, Cancel, &[1], Done, &[]),
     ];
-    run_lines(&rt, &mut core, &first)?;
+    run_lines(&rt, &mut core, &first);
     tick_to(&rt, &mut core, 100, Done, &[]);
-    run_lines(&rt, &mut core, &[line(0, Any(0), &[1], Status(LATE), &[])])?;
+    run_lines(&rt, &mut core, &[line(0, Any(0), &[1], Status(LATE), &[])]);
     Ok(())
 }
 
@@ -144,7 +144,7 @@ fn a_queued_apc_keeps_its_place_and_moment(rt: HostRuntime) -> Result<(), Fail> 
         line(0, Timer(0), &[], Handle(1), &[]),
         line(0, ArmRoutine(10, 1, 7, 9), &[1], Done, &[]),
     ];
-    run_lines(&rt, &mut core, &first)?;
+    run_lines(&rt, &mut core, &first);
     tick_to(&rt, &mut core, 10, Done, &[]);
     tick_to(&rt, &mut core, 10010, Done, &[]);
     let then = [
@@ -152,6 +152,6 @@ fn a_queued_apc_keeps_its_place_and_moment(rt: HostRuntime) -> Result<(), Fail> 
         line(0, Next, &[], TimerApc(7, 9, 10), &[]),
         line(0, Next, &[], NoApc, &[]),
     ];
-    run_lines(&rt, &mut core, &then)?;
+    run_lines(&rt, &mut core, &then);
     Ok(())
 }
