@@ -49,6 +49,7 @@ impl Core {
     /// Refused with 87 unless there are 1 to 256 threads, and with 8 where memory is refused.
     pub fn new(alloc: Global, threads: u32) -> Result<Core, Refusal>
         ensures ok { IfOk result (λ core. (1 ≤ threads) × (threads ≤ 256) × (state core ≡ opening threads) × (core.grants ≡ [])) }
+        ensures owners { IfOk result (λ core. OwnersAgree core.objects core.owned) }
         ensures err { IfErr result (λ r. MatchBool (nat_le 1 threads && nat_le threads 256) (r ≡ Memory) (r ≡ InvalidParameter)) }
     {
         if threads == 0 || threads > 256 {
@@ -57,6 +58,7 @@ impl Core {
         let changed = Vec::with_capacity(alloc, threads as usize)?;
         let alerted = quiet_alarms(alloc, 256)?;
         let machine = Machine::new(alloc, threads)?;
+        machine.agree();
         Ok(Core {
             machine,
             changed,

@@ -74,9 +74,7 @@ fn take_at(objects: &mut ObjectTable, thread: ThreadId, handle: Handle)
     ensures items { objects.new.items ≡ take_at objects.old.items thread handle }
     ensures threads { length objects.new.owned ≡ length objects.old.owned }
 {
-    let mut object = objects.as_slice()[handle.get() as usize];
-    let _taken = object.take_for(thread);
-    objects.put(handle, object);
+    let _taken = objects.take(handle, thread);
 }
 
 /// The thread takes the objects at these handles.

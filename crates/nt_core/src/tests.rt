@@ -1,9 +1,10 @@
-//! Scripts of calls with the answers of the Win32 reference. Each test passes also where one growth is refused: run them
-//! with each of the first 40 allocations failing in turn.
+//! Scripts of calls with the answers of the Win32 reference. Each test passes also where one growth is refused:
+//! `bench/refused_tests` runs them with each in turn.
 mod apcs;
 mod copies;
 mod events;
 mod exits;
+mod free;
 mod mutexes;
 mod script;
 mod semaphores;

@@ -2,12 +2,12 @@
 ghost use Rattle.std.specs.Prelude.{◌≡◌, ◌≢◌, ◌<◌, ◌≤◌, ◌⊎◌, ◌+◌, ◌↔◌, ◌++◌, ◌∷◌, ◌^◌, ℕ, [], true, false, None, Some, length, map, replicate, slice_get, slice_set, vec_len, vec_capacity, IsTrue, IfOk, IfSome, IfNone, OnOk, OnErr};
 ghost use Rattle.std.specs.Option.{ForSome};
 ghost use Rattle.nt_objects.specs.declared.object.Object.TheVariants.{Thread};
-ghost use Rattle.nt_objects.specs.Object.{owner_of, owned_by, abandoned_by};
+ghost use Rattle.nt_objects.specs.Object.{owner_of, owned_by, abandoned_by, signaled, taken, has_room, TellsAbandoned};
 ghost use Rattle.nt_owners.specs.Owned.{list_of, IsMember, AreOnce, IsUnowned};
 ghost use Rattle.nt_owners.specs.Objects.{object_at, OwnersAgree, IsPassed, AreListed};
 
 use crate::owners::Owners;
-use nt_objects::{Armed, Object, Routine};
+use nt_objects::{Armed, Object, Routine, Taken};
 use nt_status::{Handle, ThreadId};
 use std::alloc::{AllocError, Global};
 use std::marker::Model;
@@ -209,6 +209,24 @@ impl ObjectTable {
         let to = object.owner();
         pass(&mut self.owners, handle, from, to);
         self.objects[place] = object;
+    }
+
+    /// The thread takes the object at this handle, which is signaled for it, and learns what that tells.
+    pub fn take(&mut self, handle: Handle, thread: ThreadId) -> Taken
+        requires known { handle < length self.old.items }
+        requires signaled { IsTrue (signaled (object_at self.old.items handle) thread) }
+        requires room { IsTrue (has_room (object_at self.old.items handle)) }
+        requires thread { thread < length self.old.owned }
+        ensures items { self.new.items ≡ slice_set self.old.items handle (taken (object_at self.old.items handle) thread) }
+        ensures answer { TellsAbandoned result (object_at self.old.items handle) }
+        ensures threads { length self.new.owned ≡ length self.old.owned }
+    {
+        let place = handle.get() as usize;
+        let before = self.objects[place].owner();
+        let taken = self.objects[place].take_for(thread);
+        let after = self.objects[place].owner();
+        pass(&mut self.owners, handle, before, after);
+        taken
     }
 
     /// The thread ends: each mutex that it owns is free from now on, and marked, and listed.

@@ -260,6 +260,24 @@ pub fn run_lines(rt: &(impl Abort + AllocGlobal), core: &mut Core, lines: &[Scri
     }
 }
 
+/// The same for calls that take no memory: whichever growth is refused, none of them is made twice.
+pub fn run_free_lines(rt: &(impl Abort + AllocGlobal), core: &mut Core, lines: &[ScriptLine]) {
+    for i in 0..lines.len() {
+        let line = lines[i];
+        match call_of(rt.alloc(), line.ask, line.objects) {
+            Ok(call) => {
+                let answer = answer_of(core.call(line.who, &call));
+                assert_eq!(rt; answer, line.answer, "the free line at {i}");
+            }
+            Err(_) => assert!(rt; false, "the free line at {i} has too many objects"),
+        }
+        assert!(rt;
+            are_ended(core.grants(), line.ended),
+            "the free line at {i}"
+        );
+    }
+}
+
 /// Lets all moments up to this one pass, and looks at the answer and at the waits that end.
 pub fn tick_to(
     rt: &(impl Abort + AllocGlobal),
