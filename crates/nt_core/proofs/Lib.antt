@@ -31,3 +31,4 @@ mod Rousing
 mod Moments
 mod Coming
 mod Owned
+mod Counting

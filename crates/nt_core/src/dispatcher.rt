@@ -1,4 +1,4 @@
-ghost use Rattle.std.specs.Prelude.{◌≡◌, ◌≤◌, [], IfOk, IfErr, OnOk, OnErr, MatchBool, nat_le, ◌&&◌};
+ghost use Rattle.std.specs.Prelude.{◌≡◌, ◌≤◌, ◌+◌, [], length, IfOk, IfErr, OnOk, OnErr, MatchBool, nat_le, ◌&&◌};
 ghost use Rattle.std.specs.FinMap as map;
 ghost use Rattle.nt_status.specs.declared.refusal.Refusal.TheVariants.{InvalidParameter, Memory};
 ghost use Rattle.nt_owners.specs.Objects.{OwnersAgree};
@@ -67,11 +67,13 @@ impl Core {
     }
 
     /// Makes the call of this thread, and answers its reply or why it is refused. The pending waits that it ends are in
-    /// `grants`. A refused call changes nothing.
+    /// `grants`, no more than pended before it. A refused call changes nothing.
     pub fn call(&mut self, who: u32, call: &Call) -> Result<Reply, Refusal>
         ensures called { Called (state self.old) who call.now result self.new.grants (state self.new) }
         ensures lawful { IsLawful self.new }
         ensures local { OnOk result (IsLocal (state self.old) who call.now self.new.table.looked self.new.grants) }
+        ensures most { length self.new.grants ≤ map.len (state self.old).waits }
+        ensures few { length self.new.grants + map.len (state self.new).waits ≤ map.len (state self.old).waits + 1 }
         ensures owners { OwnersAgree self.new.objects self.new.owned }
         ensures untested { OnErr result (self.new.table.looked ≡ 0) }
     {
@@ -88,6 +90,7 @@ impl Core {
         ensures ticked { Ticked (state self.old) m result self.new.grants (state self.new) }
         ensures lawful { IsLawful self.new }
         ensures local { OnOk result (IsTickLocal (state self.old) m self.new.table.looked self.new.grants) }
+        ensures few { length self.new.grants + map.len (state self.new).waits ≡ map.len (state self.old).waits }
         ensures owners { OwnersAgree self.new.objects self.new.owned }
         ensures untested { OnErr result (self.new.table.looked ≡ 0) }
     {

@@ -6,7 +6,6 @@ pub mod Parsing
 pub mod Faults
 pub mod Forms
 pub mod Parsed
-pub mod Few
 pub mod Opening
 pub mod Carrying
 pub mod Running

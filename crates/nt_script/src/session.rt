@@ -76,22 +76,6 @@ pub(crate) fn open(alloc: Global, line: &[u8]) -> Result<Option<Session>, LineFa
     }
 }
 
-/// Makes one call. It ends no more waits than there were, and begins one at most.
-fn call_core(core: &mut Core, who: u32, call: &Call) -> Result<Reply, Refusal>
-    ensures called { Called (state core.old) who call.now result core.new.grants (state core.new) }
-    ensures counts { length core.new.grants + len (state core.new).waits ≤ len (state core.old).waits + 1 }
-{
-    core.call(who, call)
-}
-
-/// Makes one tick. It ends as many waits as there are fewer behind it.
-fn tick_core(core: &mut Core, moment: Moment) -> Result<Reply, Refusal>
-    ensures ticked { Ticked (state core.old) moment result core.new.grants (state core.new) }
-    ensures counts { length core.new.grants + len (state core.new).waits ≡ len (state core.old).waits }
-{
-    core.tick(moment)
-}
-
 impl Session {
     ghost use Rattle.nt_script.specs.Progress.{progress, LineAnswers, IsCounted, IsFresh, add_tally, tally_of};
     ghost use Rattle.nt_core.specs.Runs.{Calls, Ticks};
@@ -162,7 +146,7 @@ impl Session {
         ensures counted { IsCounted (number + 1) (progress self.new) }
         ensures bindings { self.new.bindings ≡ self.old.bindings }
     {
-        let answer = call_core(&mut self.core, who, call);
+        let answer = self.core.call(who, call);
         let grants = self.core.grants();
         put_turn(out, number, &answer, grants);
         self.tally.count(&answer, grants.len());
@@ -181,7 +165,7 @@ impl Session {
         ensures counted { IsCounted (number + 1) (progress self.new) }
         ensures bindings { self.new.bindings ≡ self.old.bindings }
     {
-        let answer = tick_core(&mut self.core, moment);
+        let answer = self.core.tick(moment);
         let ended = self.core.grants();
         put_turn(out, number, &answer, ended);
         self.tally.count(&answer, ended.len());

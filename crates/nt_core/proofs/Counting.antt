@@ -1,4 +1,4 @@
--- A turn ends no more waits than there were, and begins one at most.
+-- A call ends no more waits than pended before it, and begins one at most; a tick ends as many as are gone after it.
 use Rattle.std.proofs.Common.{◌≡◌, ◌≢◌, ℕ, ◌+◌, ◌-◌, ◌≤◌, ◌<◌, Bool, true, false, cond, List, [], ◌∷◌, ◌++◌, length, length-append, refl, sym, ap, ◌∙◌, arith, Option, Some, None, Ok, Err, Result, is_some, ◌&&◌, ◌==◌, inl, inr}
 use Rattle.std.proofs.lemmas.List.{length-map}
 use Rattle.std.proofs.lemmas.Bool.{le-ltb, ne_eqb}
@@ -19,7 +19,7 @@ use Rattle.nt_core.specs.Rising.{IsRising}
 use Rattle.nt_core.specs.State.{State, Pending, wait_over, waits_over}
 use Rattle.nt_core.specs.Serving.{fits, granted, Grants, Alert, TimeOut}
 use Rattle.nt_core.specs.Change.{change, may_take, expired, expired_as, all_expired}
-use Rattle.nt_core.specs.Steps.{Called, Ticked, MomentPasses, MomentsPass, after_serving, answered, begun, wait_of}
+use Rattle.nt_core.specs.Steps.{Called, Step, Ticked, MomentPasses, MomentsPass, after_serving, answered, begun, wait_of}
 
 len_removed : (m : Pending) (t : ℕ) (w : Wait) → map.get m t ≡ Some w → map.len (map.remove m t) + 1 ≡ map.len m
 len_removed m t w e =
@@ -117,19 +117,25 @@ answered-len old s new t (Call.Act act) reply e = let same = ap (λ (x : Reply �
 answered-len old s new t Call.Exit reply e = let same = ap (λ (x : Reply × State). map.len (x.1).waits) e in omega arith
 answered-len old s new t (Call.Wait wait) reply e = begun-len s new t (wait_of s.now wait) (timeout_of wait) reply e
 
-pub Called-few : (old : State) (who : ℕ) (call : Call) (result : Result Reply Refusal) (grants : List Grant) (new : State) → Called old who call result grants new
-    → length grants + map.len new.waits ≤ map.len old.waits + 1
-Called-few old who call (Err r) grants new h =
-    let none = ap length h.1 in
-    let same = ap (λ (s : State). map.len s.waits) h.2 in
-    omega arith
-Called-few old who call (Ok reply) grants new h =
-    let step = h.1 in
+-- the waits that pend when the caller's own comes are those from before without the granted ones
+woken_len : (old : State) (who : ℕ) (call : Call) (reply : Reply) (grants : List Grant) (new : State) (step : Step old who call reply grants new) → length grants + map.len (step.woken).waits ≡ map.len old.waits
+woken_len old who call reply grants new step =
     let served = grants-len _ step.served (change old who call) step.calm step.serves.0 in
     let alerted = alert-len (after_serving call step.calm) step.woken step.alerted step.alerts in
     let both : length grants ≡ length step.served + length step.alerted = ap length step.in_order ∙ length-append step.served step.alerted in
-    let last = answered-len old step.woken new who call reply step.answers in
-    omega (arith, served, alerted, both, last, change-len old who call, after-len call step.calm)
+    omega (arith, served, alerted, both, change-len old who call, after-len call step.calm)
+
+pub called_most : (old : State) (who : ℕ) (call : Call) (result : Result Reply Refusal) (grants : List Grant) (new : State) → Called old who call result grants new → length grants ≤ map.len old.waits
+called_most old who call (Err r) grants new h = let none = ap length h.1 in omega arith
+called_most old who call (Ok reply) grants new h = omega (arith, woken_len old who call reply grants new h.1)
+
+pub called_few : (old : State) (who : ℕ) (call : Call) (result : Result Reply Refusal) (grants : List Grant) (new : State) → Called old who call result grants new → length grants + map.len new.waits ≤ map.len old.waits + 1
+called_few old who call (Err r) grants new h =
+    let none = ap length h.1 in
+    let same = ap (λ (s : State). map.len s.waits) h.2 in
+    omega arith
+called_few old who call (Ok reply) grants new h =
+    omega (arith, woken_len old who call reply grants new h.1, answered-len old (h.1).woken new who call reply (h.1).answers)
 
 -- ---- a tick
 
@@ -166,10 +172,10 @@ moments-len m (u ∷ us) old new grants (here, later, mid, next, passes, rest, e
     let both : length grants ≡ length here + length later = ap length e ∙ length-append here later in
     omega (arith, first, more, both)
 
-pub Ticked-few : (old : State) (m : ℕ) (result : Result Reply Refusal) (grants : List Grant) (new : State) → Ticked old m result grants new
+pub ticked_few : (old : State) (m : ℕ) (result : Result Reply Refusal) (grants : List Grant) (new : State) → Ticked old m result grants new
     → length grants + map.len new.waits ≡ map.len old.waits
-Ticked-few old m (Err r) grants new h =
+ticked_few old m (Err r) grants new h =
     let none = ap length h.2 in
     let same = ap (λ (s : State). map.len s.waits) h.3 in
     omega arith
-Ticked-few old m (Ok reply) grants new h = moments-len m h.2.0 old new grants h.2.1
+ticked_few old m (Ok reply) grants new h = moments-len m h.2.0 old new grants h.2.1

@@ -1,0 +1,6 @@
+use Rattle.nt_core.specs.Dispatcher.{state}
+use Rattle.nt_core.proofs.Counting.{ticked_few}
+use Rattle.nt_core.proofs.dispatcher.Core.tick.Goals as goal
+
+pub returns-clause-few : goal.returns-clause-few
+returns-clause-few c = ticked_few (state c.args.self.now) c.args.m c.tick-result.result c.tick-result.new.self.grants (state c.tick-result.new.self) (rw c.self.view_is at c.tick-result.ensures.ticked)
