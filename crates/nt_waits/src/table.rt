@@ -111,6 +111,7 @@ impl WaitTable {
 
     /// Begins the thread's wait, last in the queue of each handle that it names, and forgets the prepared wait. Refused only where
     /// memory is, and then nothing changes.
+    #[inline(always)]
     pub fn begin(&mut self, t: ThreadId, wait: Wait) -> Result<(), Refusal>
         requires free { wait_of self.old t ≡ None }
         requires few { length wait.handles ≤ 64 }
@@ -184,6 +185,7 @@ impl WaitTable {
     }
 
     /// Ends the thread's wait, and hands it back. The other threads keep their order in every queue.
+    #[inline(always)]
     pub fn end(&mut self, t: ThreadId) -> Wait
         requires { IsSome (wait_of self.old t) }
         ensures wait { wait_of self.old t ≡ Some result }

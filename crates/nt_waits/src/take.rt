@@ -13,6 +13,7 @@ use crate::wait::Wait;
 use nt_status::{Handle, ThreadId};
 
 /// Takes the wait of the thread out of its place, and its blocks out of their queues.
+#[inline(always)]
 pub fn take_wait(queues: &mut Queues, waits: &mut Vec<Option<Pending>>, t: ThreadId) -> Wait
     requires table { IsTable queues.old waits.old.items }
     requires there { IsSome (slot_at waits.old.items t) }
