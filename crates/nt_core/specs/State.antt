@@ -1,5 +1,5 @@
 -- The state of the machine, as plain data.
-use Rattle.std.specs.Prelude.{ℕ, ◌+◌, ◌++◌, Bool, false, List, [], ◌∷◌, slice_index_or, slice_set, replicate, is_some, ◌==◌, if◌then◌else◌}
+use Rattle.std.specs.Prelude.{ℕ, ◌+◌, ◌++◌, Bool, false, List, [], ◌∷◌, slice_set, replicate, is_some, ◌==◌, if◌then◌else◌}
 use Rattle.std.specs.List.{list_any}
 use Rattle.std.specs.Ordering.{nat_cmp}
 use Rattle.std.specs.FinMap.{FinMap, empty, get, insert, remove}
@@ -9,6 +9,7 @@ use Rattle.nt_status.specs.Status.{infinite}
 use Rattle.nt_objects.specs.Object.{units}
 use Rattle.nt_objects.specs.declared.object.Object.{Object}
 use Rattle.nt_objects.specs.declared.object.Object.TheVariants.{Thread}
+pub use Rattle.nt_owners.specs.Objects.{object_at}
 use Rattle.nt_waits.specs.declared.wait.Wait.{Wait}
 use Rattle.nt_waits.specs.Waits.{others}
 use Rattle.nt_apc.specs.declared.apc.Queued.{Queued}
@@ -44,10 +45,6 @@ opening n = record {
   handing = replicate n false;
   now = 0;
 }
-
--- the object at a handle; a number that no object has is as good as a thread that runs
-abbrev pub object_at : List Object → ℕ → Object
-object_at objects h = slice_index_or objects h (Thread false)
 
 -- the objects, the one at h changed by f
 abbrev pub with_object : List Object → ℕ → (Object → Object) → List Object
