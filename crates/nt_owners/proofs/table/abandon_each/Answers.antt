@@ -1,9 +1,7 @@
-use Rattle.std.proofs.Common.{◌≡◌, ◌<◌, ◌+◌, ℕ, List, length, map, refl, sym, ap, ◌∙◌, subst, arith, rules, Some, None}
+use Rattle.std.proofs.Common.{ℕ, List, map, refl, sym, ap, ◌∙◌, subst, rules}
 use Rattle.nt_objects.specs.declared.object.Object.{Object}
 use Rattle.nt_objects.specs.Object.{abandoned_by}
-use Rattle.nt_owners.specs.Owned.{list_of}
-use Rattle.nt_owners.specs.Objects.{OwnersAgree}
-use Rattle.nt_owners.proofs.AbandonLemmas.{ListedSoFar, Owns, abandoned_at, none_listed, one_listed, few_listed, all_listed, all_the_same, none_abandoned, none_owned}
+use Rattle.nt_owners.proofs.AbandonLemmas.{ListedSoFar, abandoned_at, none_listed, one_listed, few_listed, all_listed, all_the_same, none_abandoned, none_owned}
 use Rattle.nt_owners.proofs.table.abandon_each.Goals as goal
 
 pub loop-mutex-init : goal.loop-mutex-init

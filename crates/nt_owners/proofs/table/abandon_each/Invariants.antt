@@ -1,4 +1,4 @@
-use Rattle.std.proofs.Common.{◌≡◌, ◌≤◌, ℕ, map, length, vec_capacity}
+use Rattle.std.proofs.Common.{◌≡◌, map, length, vec_capacity}
 use Rattle.nt_objects.specs.Object.{abandoned_by}
 use Rattle.nt_owners.specs.Owned.{list_of}
 use Rattle.nt_owners.specs.Objects.{OwnersAgree}

@@ -1,11 +1,11 @@
-use Rattle.std.proofs.Common.{◌≡◌, ◌<◌, ℕ, List, set, true, false, length, sym, ap, ◌∙◌, subst, arith, Some, None}
+use Rattle.std.proofs.Common.{◌≡◌, List, set, false, sym, ap, ◌∙◌, subst}
 use Rattle.std.specs.Option.{IsSome}
-use Rattle.std.specs.Prelude.{slice_get, is_some}
+use Rattle.std.specs.Prelude.{is_some}
 use Rattle.std.proofs.lemmas.List.{get_or_read}
 use Rattle.nt_objects.specs.declared.object.Object.{Object}
 use Rattle.nt_objects.specs.declared.object.Object.TheVariants.{Thread}
 use Rattle.nt_objects.specs.Object.{owner_of, abandoned_by}
-use Rattle.nt_owners.specs.Owned.{Owned, list_of}
+use Rattle.nt_owners.specs.Owned.{Owned}
 use Rattle.nt_owners.specs.Objects.{object_at, OwnersAgree}
 use Rattle.nt_owners.proofs.PassLemmas.{first_owner, owned_below, abandoned_is, agree_abandoned}
 use Rattle.nt_owners.proofs.table.abandon_first.Goals as goal

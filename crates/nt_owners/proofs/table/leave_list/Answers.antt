@@ -1,5 +1,5 @@
-use Rattle.std.proofs.Common.{◌≡◌, ℕ, List, sym, ap, ◌∙◌, None, subst}
-use Rattle.nt_owners.specs.Owned.{Owned, list_of, IsMember}
+use Rattle.std.proofs.Common.{sym, None, subst}
+use Rattle.nt_owners.specs.Owned.{Owned}
 use Rattle.nt_owners.specs.Objects.{IsPassed}
 use Rattle.nt_owners.proofs.PassLemmas.{removed_passed}
 use Rattle.nt_owners.proofs.table.leave_list.Goals as goal

@@ -1,8 +1,8 @@
 use Rattle.std.proofs.Common.{refl, w32, w64}
 use mir.Val.{to_z, of_z}
 use Rattle.std.proofs.lemmas.List.{length-set}
-use Rattle.std.specs.Prelude.{true, false, None}
-use Rattle.nt_objects.specs.Object.{with_set, released, unlocked, armed_with}
+use Rattle.std.specs.Prelude.{None}
+use Rattle.nt_objects.specs.Object.{armed_with}
 use Rattle.nt_core.specs.declared.call.Act.{Act}
 use Rattle.nt_core.specs.declared.call.Call.{Call}
 use Rattle.nt_core.specs.declared.call.Reply.{Reply}

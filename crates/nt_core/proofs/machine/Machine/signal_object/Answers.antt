@@ -1,15 +1,13 @@
-use Rattle.std.proofs.Common.{refl, w32, w64}
+use Rattle.std.proofs.Common.{w32}
 use mir.Val.{to_z, of_z}
 use Rattle.std.proofs.lemmas.List.{length-set}
-use Rattle.std.specs.Prelude.{true, false, None}
-use Rattle.nt_objects.specs.Object.{with_set, released, unlocked, armed_with}
+use Rattle.std.specs.Prelude.{true, false}
+use Rattle.nt_objects.specs.Object.{with_set, released, unlocked}
 use Rattle.nt_core.specs.declared.call.Act.{Act}
 use Rattle.nt_core.specs.declared.call.Call.{Call}
 use Rattle.nt_core.specs.declared.call.Reply.{Reply}
 use Rattle.nt_core.specs.State.{object_at}
-use Rattle.nt_core.specs.Dispatcher.{state}
-use Rattle.nt_core.proofs.Lengths.{room_kept, length_apc_taken, length_timer_set}
-use Rattle.nt_core.proofs.Arming.{asked}
+use Rattle.nt_core.proofs.Lengths.{room_kept}
 use Rattle.nt_core.proofs.machine.Machine.signal_object.Goals as goal
 
 pub returns-in-ReleaseSemaphore-clause-room : goal.returns-in-ReleaseSemaphore-clause-room

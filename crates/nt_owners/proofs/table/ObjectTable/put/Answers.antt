@@ -1,5 +1,4 @@
-use Rattle.std.proofs.Common.{◌≡◌, ◌<◌, ◌+◌, ◌⊎◌, true, ℕ, List, [], ◌∷◌, ◌++◌, ◌≤◌, set, length, sym, ap, ◌∙◌, subst, arith}
-use Rattle.nt_objects.specs.declared.object.Object.{Object}
+use Rattle.std.proofs.Common.{◌≡◌, ◌<◌, ◌⊎◌, true, ℕ, ◌≤◌, set, length, sym, ◌∙◌, subst}
 use Rattle.std.proofs.lemmas.List.{length-set}
 use Rattle.nt_objects.specs.Object.{owner_of, owned_by}
 use Rattle.nt_owners.specs.Objects.{Objects, object_at, OwnersAgree, IsPassed}
