@@ -91,6 +91,7 @@ impl Machine {
         ensures sound { IsSound self.new }
         ensures grants { self.new.grants ≡ self.old.grants }
         ensures looked { self.new.table.looked ≡ self.old.table.looked }
+        ensures prepared { self.new.table.prepared ≡ None }
     {
         self.waits.begin_prepared();
     }
@@ -108,6 +109,7 @@ impl Machine {
         requires fresh { IsFresh self.old }
         requires free { refusal (state self.old) thread (Call.Wait (WaitCall.Swap signal object ms alertable)) ≡ None }
         ensures ok { IfOk result (λ reply. Accepts self.old self.new thread (Call.Wait (WaitCall.Swap signal object ms alertable)) reply) }
+        ensures prepared { OnOk result (self.new.table.prepared ≡ None) }
         ensures memory { IfErr result (λ refusal. refusal ≡ Memory) }
         ensures err { OnErr result (self.new ≡ self.old) }
     {

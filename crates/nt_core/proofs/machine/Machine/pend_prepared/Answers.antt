@@ -32,3 +32,9 @@ returns-clause-looked c =
     let found = some_of c.args.self.now.table.prepared c.requires.there in
     let done = c.begin_prepared.ensures.begins found.0 (ap (λ (x : Dispatcher). x.table.prepared) c.self.view_is ∙ found.1) in
     done.looked ∙ ap (λ (x : Dispatcher). x.table.looked) c.self.view_is
+
+pub returns-clause-prepared : goal.returns-clause-prepared
+returns-clause-prepared c =
+    let found = some_of c.args.self.now.table.prepared c.requires.there in
+    let done = c.begin_prepared.ensures.begins found.0 (ap (λ (x : Dispatcher). x.table.prepared) c.self.view_is ∙ found.1) in
+    done.prepared
