@@ -23,7 +23,7 @@ use Rattle.nt_core.specs.Dispatcher.{Dispatcher, state}
 use Rattle.nt_core.specs.Serving.{satisfied, IsServed, IsAlerted, Alert, ending}
 use Rattle.nt_core.specs.Steps.{NothingDue, IsAwaited}
 use Rattle.nt_core.specs.Lawful.{IsSound, IsSettled, IsLawful}
-use Rattle.nt_core.specs.Accepts.{is_by_objects, IsAlertedAfter, IsFresh, Accepts}
+use Rattle.nt_core.specs.Accepts.{is_by_objects, IsRoused, IsAlertedAfter, IsFresh, Accepts}
 use Rattle.nt_core.proofs.Walks.{get_removed}
 use Rattle.nt_core.proofs.Visiting.{state_same, len_removed}
 use Rattle.nt_core.proofs.Changing.{none_changed, same_changed}
@@ -101,6 +101,11 @@ none_alerted old calm = record {
   looked = refl;
 }
 
+-- one thread was roused, or was not to be alerted, and no other was
+pub roused_alone : (old new : Dispatcher) (t : ℕ) → IsRoused old new t → ((u : ℕ) → IsAlerted (state old) u → u ≡ t) → IsAlertedAfter old new
+roused_alone old new t (inl ended) alone = one_alerted old new t ended.0 alone ended.1 ended.2 ended.3
+roused_alone old new t (inr quiet) alone = subst (IsAlertedAfter old) (sym quiet.1) (none_alerted old (λ u alerted. quiet.0 (subst (IsAlerted (state old)) (alone u alerted) alerted)))
+
 about_none : (o : Option Wait) → option_map about_of o ≡ None → o ≡ None
 about_none None e = refl
 about_none (Some w) e = (cc)
@@ -110,36 +115,13 @@ about_some None a e = (cc)
 about_some (Some w) a e = let same : about_of w ≡ a = (cc) in (w, refl, ap (λ (x : About). x.alertable) same)
 
 -- who does not wait is not alerted
-pub calm_idle : (s : State) (t : ℕ) → None ≡ option_map about_of (fin.get s.waits t) → ((u : ℕ) → IsAlerted s u → u ≡ t) → IsCalm s
-calm_idle s t none alone u alerted =
-    let idle = about_none (fin.get s.waits t) (sym none) in
-    let pends : fin.get s.waits t ≡ Some alerted.0 = ap (λ (k : ℕ). fin.get s.waits k) (sym (alone u alerted)) ∙ alerted.1 in
-    let h : None ≡ Some alerted.0 = sym idle ∙ pends in absurd_none alerted.0 h
-  where
-    absurd_none : (v : Wait) → None ≡ Some v → ⊥
-    absurd_none v h = (cc)
-
--- whose wait is not alertable, or who has no APC, is not alerted
-pub calm_quiet : (s : State) (t : ℕ) (a : About) → Some a ≡ option_map about_of (fin.get s.waits t) → (a.alertable && has_apc s.apcs t) ≡ false → ((u : ℕ) → IsAlerted s u → u ≡ t) → IsCalm s
-calm_quiet s t a some quiet alone u alerted =
-    let own = about_some (fin.get s.waits t) a (sym some) in
-    let pends : fin.get s.waits t ≡ Some alerted.0 = ap (λ (k : ℕ). fin.get s.waits k) (sym (alone u alerted)) ∙ alerted.1 in
-    let both : Some own.0 ≡ Some alerted.0 = sym own.1 ∙ pends in
-    let same : own.0 ≡ alerted.0 = some_same own.0 alerted.0 both in
-    let test : (a.alertable && has_apc s.apcs t) ≡ true =
-    ap (λ b. b && has_apc s.apcs t) (sym own.2) ∙ (ap (λ (x : Wait). x.alertable && has_apc s.apcs t) same ∙ (ap (λ (k : ℕ). (alerted.0).alertable && has_apc s.apcs k) (sym (alone u alerted)) ∙ alerted.2)) in
-    false≢true (sym quiet ∙ test)
-  where
-    some_same : (v w : Wait) → Some v ≡ Some w → v ≡ w
-    some_same v w h = (cc)
-
--- the same of one thread alone
 pub idle_here : (s : State) (t : ℕ) → None ≡ option_map about_of (fin.get s.waits t) → IsAlerted s t → ⊥
 idle_here s t none alerted = let idle = about_none (fin.get s.waits t) (sym none) in waits_not alerted.0 (sym idle ∙ alerted.1)
   where
     waits_not : (v : Wait) → None ≡ Some v → ⊥
     waits_not v h = (cc)
 
+-- whose wait is not alertable, or who has no APC, is not alerted
 pub quiet_here : (s : State) (t : ℕ) (a : About) → Some a ≡ option_map about_of (fin.get s.waits t) → (a.alertable && has_apc s.apcs t) ≡ false → IsAlerted s t → ⊥
 quiet_here s t a some quiet alerted =
     let own = about_some (fin.get s.waits t) a (sym some) in

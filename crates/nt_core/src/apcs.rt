@@ -23,18 +23,11 @@ impl Machine {
     /// other thread is to be alerted.
     fn alert(&mut self, thread: ThreadId)
         requires sound { IsSound self.old }
-        requires known { thread < self.old.threads }
         requires alone { (t : ℕ) → IsAlerted (state self.old) t → t ≡ thread }
         ensures alerted { IsAlertedAfter self.old self.new }
         ensures sound { IsSound self.new }
     {
-        let Some(about) = self.waits.about(thread) else {
-            return;
-        };
-        if !self.is_alerted(thread, about.alertable) {
-            return;
-        }
-        self.end_wait(thread, Status::IO_COMPLETION, true);
+        self.rouse(thread);
     }
 
     /// Where this thread's wait pends, is alertable and an APC is queued for it, ends the wait.
