@@ -19,15 +19,15 @@ pub(crate) fn put_number(out: &mut Vec<u8>, number: u64)
     put(out, buffer.format(number).as_bytes());
 }
 
-/// Puts a signed number in decimal, where there is room for the most digits.
-pub(crate) fn put_signed(out: &mut Vec<u8>, number: i32)
+/// Puts a count, which may be negative, in decimal, where there is room for the most digits.
+pub(crate) fn put_signed(out: &mut Vec<u8>, count: i32)
     requires { vec_len out.old + 11 ≤ vec_capacity out.old }
-    ensures items { out.new.items ≡ out.old.items ++ signed_decimal number }
+    ensures items { out.new.items ≡ out.old.items ++ signed_decimal count }
     ensures len { vec_len out.new ≤ vec_len out.old + 11 }
     ensures room { vec_capacity out.old ≤ vec_capacity out.new }
 {
     let mut buffer = Buffer::new();
-    put(out, buffer.format(number).as_bytes());
+    put(out, buffer.format(count).as_bytes());
 }
 
 fn hex_digit(digit: u8) -> u8
