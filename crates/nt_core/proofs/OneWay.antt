@@ -15,8 +15,7 @@ use Rattle.nt_core.specs.Rising.{IsRising, AreRising}
 use Rattle.nt_core.specs.State.{State, waits_over}
 use Rattle.nt_core.specs.Serving.{Serve, Alert, TimeOut, sequence, IsLate, ending, late_status, sleeps}
 use Rattle.nt_core.specs.Change.{change, all_expired}
-use Rattle.nt_core.specs.Calls.{grows}
-use Rattle.nt_core.specs.Refusals.{refusal, IsRefusal}
+use Rattle.nt_core.specs.Refusals.{refusal, grows, IsRefusal}
 use Rattle.nt_core.specs.Steps.{Step, Called, after_serving, answered, MomentPasses, MomentsPass, IsNextMoment, NothingDue, Ticked}
 use Rattle.nt_core.specs.Runs.{Turn, Calls, Ticks, IsTurn, Turns}
 use Rattle.nt_core.specs.Laws.{AsksCall, AsksTick, wants_memory, question}
@@ -80,7 +79,7 @@ step_same old a b t call r q gs hs x y =
 
 -- where no first cause holds, only want of memory refuses
 only_memory : (old : State) (who : ℕ) (call : Call) (r : Refusal) → refusal old who call ≡ None → IsRefusal old who call r → r ≡ Memory
-only_memory old who call r none is = let h : IsTrue (grows call) × (r ≡ Memory) = rw none at is in h.1
+only_memory old who call r none is = let h : IsTrue (grows old who call) × (r ≡ Memory) = rw none at is in h.1
 
 first_cause : (old : State) (who : ℕ) (call : Call) (r f : Refusal) → refusal old who call ≡ Some f → IsRefusal old who call r → r ≡ f
 first_cause old who call r f some is = rw some at is

@@ -1,8 +1,9 @@
 -- What a call alone says.
-use Rattle.std.specs.Prelude.{ℕ, Bool, true, false, is_some}
-use Rattle.nt_core.specs.declared.call.Call.{Call}
+use Rattle.std.specs.Prelude.{ℕ, Bool, true, false, [], ◌∷◌, is_some}
+use Rattle.nt_waits.specs.declared.wait.Wait.{Wait}
 use Rattle.nt_core.specs.declared.call.Act.{Act}
 use Rattle.nt_core.specs.declared.call.WaitCall.{WaitCall}
+use Rattle.nt_core.specs.State.{deadline_after}
 
 -- the acts that create an object
 abbrev pub act_creates : Act → Bool
@@ -31,14 +32,14 @@ act_grows (Act.SetTimer timer due period routine) = is_some routine
 act_grows (Act.QueueApc thread routine arg) = true
 act_grows _ = false
 
--- the calls that may want memory
-abbrev pub grows : Call → Bool
-grows (Call.Act act) = act_grows act
-grows (Call.Wait wait) = true
-grows Call.Exit = false
-
 -- the timeout that a waiting call names, in milliseconds
 abbrev pub timeout_of : WaitCall → ℕ
 timeout_of (WaitCall.Objects handles all ms alertable) = ms
 timeout_of (WaitCall.Sleep ms alertable) = ms
 timeout_of (WaitCall.Swap h object ms alertable) = ms
+
+-- the wait that a waiting call asks for at this moment
+abbrev pub wait_of : ℕ → WaitCall → Wait
+wait_of now (WaitCall.Objects handles all ms alertable) = record { handles = handles; all = all; alertable = alertable; deadline = deadline_after now ms }
+wait_of now (WaitCall.Sleep ms alertable) = record { handles = []; all = false; alertable = alertable; deadline = deadline_after now ms }
+wait_of now (WaitCall.Swap h object ms alertable) = record { handles = object ∷ []; all = false; alertable = alertable; deadline = deadline_after now ms }

@@ -8,11 +8,14 @@ use Rattle.nt_status.specs.declared.refusal.Refusal.{Refusal}
 use Rattle.nt_status.specs.declared.refusal.Refusal.TheVariants.{InvalidHandle, Memory, ThreadGone, InvalidParameter, NotOwner, TooManyPosts, ThreadWaiting, ThreadEnded, UnknownThread, RecursionLimit, HandleLimit}
 use Rattle.nt_objects.specs.declared.object.Object.{Object}
 use Rattle.nt_objects.specs.Object.{is_event, is_semaphore, is_mutex, is_timer, is_thread, has_ended, owned_by, has_room, overflows, may_count}
+use Rattle.nt_waits.specs.declared.wait.Wait.{Wait}
+use Rattle.nt_apc.specs.Queues.{has_apc}
 use Rattle.nt_core.specs.declared.call.Call.{Call}
 use Rattle.nt_core.specs.declared.call.Act.{Act}
 use Rattle.nt_core.specs.declared.call.WaitCall.{WaitCall}
-use Rattle.nt_core.specs.Calls.{grows}
+use Rattle.nt_core.specs.Calls.{act_grows, wait_of, timeout_of}
 use Rattle.nt_core.specs.State.{State, object_at, pends}
+use Rattle.nt_core.specs.Serving.{fits}
 
 -- a cause, and the refusal that answers it
 abbrev pub Cause : Type 0
@@ -137,7 +140,19 @@ causes s who call =
 abbrev pub refusal : State → ℕ → Call → Option Refusal
 refusal s who call = first_of_causes (causes s who call)
 
+-- nothing ends t's wait at once: it does not fit, no APC is queued for it, and its timeout is not 0
+abbrev pub would_pend : State → ℕ → Wait → ℕ → Bool
+would_pend s t w ms = not (fits s.objects t w) && not (w.alertable && has_apc s.apcs t) && not (ms == 0)
+
+-- whether a call may want memory: an act that may, a wait that would pend, and a swap with a timeout other than 0, since it makes
+-- the room for its wait before it signals
+abbrev pub grows : State → ℕ → Call → Bool
+grows s t (Call.Act act) = act_grows act
+grows s t (Call.Wait (WaitCall.Swap h object ms alertable)) = not (ms == 0)
+grows s t (Call.Wait wait) = would_pend s t (wait_of s.now wait) (timeout_of wait)
+grows s t Call.Exit = false
+
 -- want of memory is the last cause, of the calls that may want it
 abbrev pub IsRefusal : State → ℕ → Call → Refusal → Type 0
 IsRefusal s who call r =
-    MatchOption (refusal s who call) (IsTrue (grows call) × (r ≡ Memory)) (λ first. r ≡ first)
+    MatchOption (refusal s who call) (IsTrue (grows s who call) × (r ≡ Memory)) (λ first. r ≡ first)

@@ -12,23 +12,16 @@ use Rattle.nt_waits.specs.declared.wait.Wait.{Wait}
 use Rattle.nt_apc.specs.Queues.{has_apc}
 use Rattle.nt_core.specs.declared.call.Call.{Call}
 use Rattle.nt_core.specs.declared.call.Act.{Act}
-use Rattle.nt_core.specs.declared.call.WaitCall.{WaitCall}
 use Rattle.nt_core.specs.declared.call.Reply.{Reply}
 use Rattle.nt_core.specs.declared.call.Grant.{Grant}
-use Rattle.nt_core.specs.Calls.{timeout_of}
+pub use Rattle.nt_core.specs.Calls.{wait_of, timeout_of}
 use Rattle.nt_core.specs.Rising.{AreRising}
-use Rattle.nt_core.specs.State.{State, with_handing, pending_too, deadline_after}
+use Rattle.nt_core.specs.State.{State, with_handing, pending_too}
 use Rattle.nt_core.specs.Serving.{fits, status, taken_by, IsChanged, sequence, Serve, Alert, TimeOut, late_status, is_sleep}
 use Rattle.nt_core.specs.Change.{at, change, act_reply, all_expired, IsTimerDue}
 use Rattle.nt_core.specs.Refusals.{refusal, IsRefusal}
 
 -- ---- a wait begins
-
--- the wait that a waiting call asks for
-abbrev pub wait_of : ℕ → WaitCall → Wait
-wait_of now (WaitCall.Objects handles all ms alertable) = record { handles = handles; all = all; alertable = alertable; deadline = deadline_after now ms }
-wait_of now (WaitCall.Sleep ms alertable) = record { handles = []; all = false; alertable = alertable; deadline = deadline_after now ms }
-wait_of now (WaitCall.Swap h object ms alertable) = record { handles = object ∷ []; all = false; alertable = alertable; deadline = deadline_after now ms }
 
 -- how t's wait begins, the first case that holds: it fits, an APC is queued, the timeout is 0, it pends
 abbrev pub begun : State → ℕ → Wait → ℕ → Reply × State

@@ -1,9 +1,9 @@
 //! The table of calls: each is judged, and then made by the function for it.
 ghost use Rattle.std.specs.Prelude.{◌≡◌, ◌≤◌, ℕ, vec_capacity, length, None, IfOk, IfErr, OnOk, OnErr, IsTrue};
 ghost use Rattle.nt_status.specs.declared.refusal.Refusal.TheVariants.{Memory};
-ghost use Rattle.nt_core.specs.Calls.{act_creates, act_signals, act_grows, grows};
+ghost use Rattle.nt_core.specs.Calls.{act_creates, act_signals, act_grows};
 ghost use Rattle.nt_core.specs.Dispatcher.{state};
-ghost use Rattle.nt_core.specs.Refusals.{refusal};
+ghost use Rattle.nt_core.specs.Refusals.{refusal, grows};
 ghost use Rattle.nt_core.specs.Steps.{Called};
 ghost use Rattle.nt_core.specs.Lawful.{IsLawful};
 ghost use Rattle.nt_core.specs.Accepts.{IsFresh, IsLocal, Accepts};
@@ -150,7 +150,7 @@ impl Machine {
         requires free { refusal (state self.old) thread call.now ≡ None }
         ensures ok { IfOk result (λ reply. Accepts self.old self.new thread call.now reply) }
         ensures memory { IfErr result (λ refusal. refusal ≡ Memory) }
-        ensures grows { OnErr result (IsTrue (grows call.now)) }
+        ensures grows { OnErr result (IsTrue (grows (state self.old) thread call.now)) }
         ensures err { OnErr result (self.new ≡ self.old) }
         ensures room { length self.new.objects ≤ vec_capacity changed.new }
     {

@@ -1,5 +1,5 @@
 //! SignalObjectAndWait: one object is signaled, the others are served, and then the caller waits.
-ghost use Rattle.std.specs.Prelude.{◌≡◌, ◌≢◌, ◌∷◌, ◌+◌, ◌<◌, [], false, None, Some, IfOk, IfErr, OnOk, OnErr, IsSome, IsTrue, length, pos};
+ghost use Rattle.std.specs.Prelude.{◌≡◌, ◌≢◌, ◌∷◌, ◌+◌, ◌<◌, [], false, None, Some, IfOk, IfErr, OnOk, OnErr, IsSome, IsTrue, length, pos, not, ◌==◌};
 ghost use Rattle.std.specs.Option.{ForSome};
 ghost use Rattle.std.specs.FinMap as map;
 ghost use Rattle.nt_status.specs.declared.refusal.Refusal.TheVariants.{Memory};
@@ -58,6 +58,7 @@ impl Machine {
     ) -> Result<(), Refusal>
         ensures ready { OnOk result (ms ≢ 0 → self.new.table.prepared ≡ Some (thread, record { handles = object ∷ []; all = false; alertable = alertable; deadline = deadline_after self.old.now ms })) }
         ensures kept { self.new ≡ with_prepared self.old self.new.table.prepared }
+        ensures grows { OnErr result (IsTrue (not (ms == 0))) }
         ensures memory { IfErr result (λ refusal. refusal ≡ Memory) }
         ensures err { OnErr result (self.new ≡ self.old) }
     {
@@ -110,6 +111,7 @@ impl Machine {
         requires free { refusal (state self.old) thread (Call.Wait (WaitCall.Swap signal object ms alertable)) ≡ None }
         ensures ok { IfOk result (λ reply. Accepts self.old self.new thread (Call.Wait (WaitCall.Swap signal object ms alertable)) reply) }
         ensures prepared { OnOk result (self.new.table.prepared ≡ None) }
+        ensures grows { OnErr result (IsTrue (not (ms == 0))) }
         ensures memory { IfErr result (λ refusal. refusal ≡ Memory) }
         ensures err { OnErr result (self.new ≡ self.old) }
     {

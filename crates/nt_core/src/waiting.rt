@@ -1,5 +1,5 @@
 //! How a thread's own wait begins.
-ghost use Rattle.std.specs.Prelude.{◌≡◌, ◌≢◌, ◌&&◌, ◌+◌, ◌<◌, [], None, true, false, OnOk, OnErr, IfOk, IfErr, is_some, IfSome, IfNone, length, slice_set, Option, ℕ};
+ghost use Rattle.std.specs.Prelude.{◌≡◌, ◌≢◌, ◌&&◌, ◌+◌, ◌<◌, [], None, true, false, OnOk, OnErr, IfOk, IfErr, is_some, IfSome, IfNone, IsTrue, length, slice_set, Option, ℕ};
 ghost use Rattle.std.specs.Option.{OnSome};
 ghost use Rattle.std.specs.FinMap as map;
 ghost use Rattle.nt_status.specs.declared.refusal.Refusal.TheVariants.{Memory};
@@ -8,7 +8,7 @@ ghost use Rattle.nt_core.specs.State.{deadline_after, pending_too};
 ghost use Rattle.nt_core.specs.Dispatcher.{state};
 ghost use Rattle.nt_core.specs.Serving.{late_status, wait_for, fits, status, taken_by};
 ghost use Rattle.nt_core.specs.Steps.{begun, wait_of};
-ghost use Rattle.nt_core.specs.Refusals.{refusal};
+ghost use Rattle.nt_core.specs.Refusals.{refusal, grows, would_pend};
 ghost use Rattle.nt_core.specs.declared.call.Call.{Call};
 ghost use Rattle.nt_core.specs.Lawful.{IsSoundWait, IsSound, IsLawful};
 ghost use Rattle.nt_core.specs.Accepts.{IsFresh, Accepts};
@@ -151,6 +151,7 @@ impl Machine {
         ensures lawful { IsLawful self.new }
         ensures grants { self.new.grants ≡ self.old.grants }
         ensures looked { self.new.table.looked ≡ self.old.table.looked }
+        ensures grows { OnErr result (IsTrue (would_pend (state self.old) thread (record { handles = handles.now; all = all; alertable = alertable; deadline = deadline_after self.old.now ms }) ms)) }
         ensures memory { IfErr result (λ refusal. refusal ≡ Memory) }
         ensures err { OnErr result (self.new ≡ self.old) }
     {
@@ -172,6 +173,7 @@ impl Machine {
         requires fresh { IsFresh self.old }
         requires free { refusal (state self.old) thread (Call.Wait call.now) ≡ None }
         ensures ok { IfOk result (λ reply. Accepts self.old self.new thread (Call.Wait call.now) reply) }
+        ensures grows { OnErr result (IsTrue (grows (state self.old) thread (Call.Wait call.now))) }
         ensures memory { IfErr result (λ refusal. refusal ≡ Memory) }
         ensures err { OnErr result (self.new ≡ self.old) }
     {
