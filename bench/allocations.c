@@ -1,11 +1,11 @@
 /* Counts a program's allocations, and refuses one of them. Preloaded by bench/allocations.
    REFUSE: the number of the allocation that is refused, counting from 1; 0 for none. The count goes to descriptor 9. */
-#define _GNU_SOURCE
-#include <errno.h>
-#include <stdio.h>
-#include <stdlib.h>
-#include <unistd.h>
-
+/* The C library, declared here, so that a machine without its headers can compile this. */
+typedef unsigned long size_t;
+extern char *getenv(const char *);
+extern long atol(const char *);
+extern int snprintf(char *, size_t, const char *, ...);
+extern long write(int, const void *, size_t);
 extern void *__libc_malloc(size_t);
 extern void *__libc_calloc(size_t, size_t);
 extern void *__libc_realloc(void *, size_t);
@@ -23,17 +23,17 @@ static int is_refused(void)
     return ++made == refused;
 }
 
-void *malloc(size_t size) { return is_refused() ? NULL : __libc_malloc(size); }
-void *calloc(size_t count, size_t size) { return is_refused() ? NULL : __libc_calloc(count, size); }
-void *realloc(void *old, size_t size) { return is_refused() ? NULL : __libc_realloc(old, size); }
-void *aligned_alloc(size_t align, size_t size) { return is_refused() ? NULL : __libc_memalign(align, size); }
+void *malloc(size_t size) { return is_refused() ? (void *)0 : __libc_malloc(size); }
+void *calloc(size_t count, size_t size) { return is_refused() ? (void *)0 : __libc_calloc(count, size); }
+void *realloc(void *old, size_t size) { return is_refused() ? (void *)0 : __libc_realloc(old, size); }
+void *aligned_alloc(size_t align, size_t size) { return is_refused() ? (void *)0 : __libc_memalign(align, size); }
 
 int posix_memalign(void **to, size_t align, size_t size)
 {
     if (is_refused())
-        return ENOMEM;
+        return 12 /* ENOMEM */;
     *to = __libc_memalign(align, size);
-    return *to ? 0 : ENOMEM;
+    return *to ? 0 : 12 /* ENOMEM */;
 }
 
 __attribute__((destructor)) static void tell(void)

@@ -3,8 +3,15 @@ use crate::{Act, Call, Core, Grant, Reply, WaitCall};
 use nt_apc::Apc;
 use nt_status::{Handle, Handles, Moment, Refusal};
 use std::alloc::{AllocError, Global};
+use std::env::{Env, var};
+use std::io::Print;
 use std::process::Abort;
 use std::test::Fail;
+
+/// What the tests want of the system.
+pub trait Host: Abort + AllocGlobal + Env + Print {}
+
+impl<R: Abort + AllocGlobal + Env + Print> Host for R {}
 
 /// INFINITE, a timeout that never passes.
 pub const INF: u32 = 0xFFFF_FFFF;
@@ -209,24 +216,36 @@ fn are_ended(grants: &[Grant], expected: &[(u16, u32)]) -> bool {
         })
 }
 
+/// Tells that a growth was refused, and whose it was. That is right only where the run refuses one on purpose, as
+/// `bench/refused_tests` does: it sets REFUSE, and wants exactly one such line of each test.
+pub fn tell_refused(rt: &impl Host, whose: &str) {
+    assert!(rt;
+        var(rt, "REFUSE").is_ok(),
+        "want of memory with ample memory: {whose}"
+    );
+    assert!(rt; println!(rt; "refused: {whose}").is_ok());
+}
+
 /// A dispatcher, with a second try where memory is refused.
-pub fn open(rt: &(impl Abort + AllocGlobal), threads: u32) -> Result<Core, Refusal> {
+pub fn open(rt: &impl Host, threads: u32) -> Result<Core, Refusal> {
     match Core::new(rt.alloc(), threads) {
         Ok(core) => Ok(core),
         Err(refusal) => {
             assert_eq!(rt; refusal.number(), 8);
+            tell_refused(rt, "an opening");
             Core::new(rt.alloc(), threads)
         }
     }
 }
 
 /// Makes the call, a second time where memory is refused. What was refused ended no wait, began none, and tested none.
-fn call_at_last(rt: &(impl Abort + AllocGlobal), core: &mut Core, who: u32, call: &Call) -> Answer {
+fn call_at_last(rt: &impl Host, core: &mut Core, who: u32, call: &Call) -> Answer {
     let pending = core.pending();
     let answer = answer_of(core.call(who, call));
     if answer != Answer::Error(8) {
         return answer;
     }
+    tell_refused(rt, "a call");
     assert!(rt; core.grants().is_empty());
     assert_eq!(rt; core.pending(), pending);
     assert_eq!(rt; core.tested(), 0);
@@ -235,7 +254,7 @@ fn call_at_last(rt: &(impl Abort + AllocGlobal), core: &mut Core, who: u32, call
 
 /// Asks for this of these objects.
 pub fn answer_to(
-    rt: &(impl Abort + AllocGlobal),
+    rt: &impl Host,
     core: &mut Core,
     who: u32,
     what: Ask,
@@ -243,13 +262,16 @@ pub fn answer_to(
 ) -> Result<Answer, AllocError> {
     let call = match call_of(rt.alloc(), what, objects) {
         Ok(call) => call,
-        Err(_) => call_of(rt.alloc(), what, objects)?,
+        Err(_) => {
+            tell_refused(rt, "the test itself");
+            call_of(rt.alloc(), what, objects)?
+        }
     };
     Ok(call_at_last(rt, core, who, &call))
 }
 
 /// Makes the calls of the lines in turn, and looks at their answers and at the waits that they end.
-pub fn run_lines(rt: &(impl Abort + AllocGlobal), core: &mut Core, lines: &[ScriptLine]) {
+pub fn run_lines(rt: &impl Host, core: &mut Core, lines: &[ScriptLine]) {
     for i in 0..lines.len() {
         let line = lines[i];
         match answer_to(rt, core, line.who, line.ask, line.objects) {
@@ -261,7 +283,7 @@ pub fn run_lines(rt: &(impl Abort + AllocGlobal), core: &mut Core, lines: &[Scri
 }
 
 /// The same for calls that take no memory: whichever growth is refused, none of them is made twice.
-pub fn run_free_lines(rt: &(impl Abort + AllocGlobal), core: &mut Core, lines: &[ScriptLine]) {
+pub fn run_free_lines(rt: &impl Host, core: &mut Core, lines: &[ScriptLine]) {
     for i in 0..lines.len() {
         let line = lines[i];
         match call_of(rt.alloc(), line.ask, line.objects) {
@@ -280,7 +302,7 @@ pub fn run_free_lines(rt: &(impl Abort + AllocGlobal), core: &mut Core, lines: &
 
 /// Lets all moments up to this one pass, and looks at the answer and at the waits that end.
 pub fn tick_to(
-    rt: &(impl Abort + AllocGlobal),
+    rt: &impl Host,
     core: &mut Core,
     moment: u64,
     expected: Answer,
@@ -296,7 +318,7 @@ pub fn tick_to(
 }
 
 /// Looks whether exactly these threads wait.
-pub fn check_waiting(rt: &(impl Abort + AllocGlobal), core: &Core, waiting: &[u32]) {
+pub fn check_waiting(rt: &impl Host, core: &Core, waiting: &[u32]) {
     assert_eq!(rt; core.pending(), waiting.len());
     for thread in waiting {
         assert!(rt; core.is_waiting(*thread), "thread {thread}");
@@ -305,7 +327,7 @@ pub fn check_waiting(rt: &(impl Abort + AllocGlobal), core: &Core, waiting: &[u3
 
 /// Makes the calls of the lines on a new dispatcher, and looks who waits at the end.
 pub fn check(
-    rt: &(impl Abort + AllocGlobal),
+    rt: &impl Host,
     threads: u32,
     lines: &[ScriptLine],
     waiting: &[u32],
