@@ -32,3 +32,4 @@ mod Moments
 mod Coming
 mod Owned
 mod Counting
+mod Plain

@@ -13,3 +13,4 @@ pub mod Due
 pub mod Lawful
 pub mod Accepts
 pub mod Laws
+pub mod Plain

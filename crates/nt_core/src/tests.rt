@@ -6,6 +6,7 @@ mod events;
 mod exits;
 mod free;
 mod mutexes;
+mod plain;
 mod script;
 mod semaphores;
 mod swaps;

@@ -69,11 +69,11 @@ pub enum Answer {
 /// A call as a script shows it.
 #[derive(Clone, Copy)]
 pub struct ScriptLine<'a> {
-    who: u32,
-    ask: Ask,
-    objects: &'a [u32],
-    answer: Answer,
-    ended: &'a [(u16, u32)],
+    pub who: u32,
+    pub ask: Ask,
+    pub objects: &'a [u32],
+    pub answer: Answer,
+    pub ended: &'a [(u16, u32)],
 }
 
 /// The caller, what it asks of these objects, what it is answered, and the threads whose waits end, with their statuses.
@@ -137,7 +137,7 @@ fn swap_for(objects: &[u32], ms: u32, alertable: bool) -> Call {
     })
 }
 
-fn call_of(alloc: Global, ask: Ask, objects: &[u32]) -> Result<Call, AllocError> {
+pub fn call_of(alloc: Global, ask: Ask, objects: &[u32]) -> Result<Call, AllocError> {
     let act = match ask {
         Ask::Any(ms) => return wait_for(alloc, objects, false, ms, false),
         Ask::All(ms) => return wait_for(alloc, objects, true, ms, false),
@@ -196,7 +196,7 @@ fn apc_of(apc: &Apc) -> Answer {
     }
 }
 
-fn reply_of(reply: &Reply) -> Answer {
+pub fn reply_of(reply: &Reply) -> Answer {
     match reply {
         Reply::Done => Answer::Done,
         Reply::Handle(handle) => Answer::Handle(handle.get()),
@@ -209,7 +209,7 @@ fn reply_of(reply: &Reply) -> Answer {
 }
 
 /// Whether these waits ended, in this order.
-fn are_ended(grants: &[Grant], expected: &[(u16, u32)]) -> bool {
+pub fn are_ended(grants: &[Grant], expected: &[(u16, u32)]) -> bool {
     grants.len() == expected.len()
         && grants.iter().zip(expected).all(|(grant, (thread, code))| {
             grant.thread.get() == *thread && grant.status.code() == *code
