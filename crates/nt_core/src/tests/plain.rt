@@ -13,10 +13,11 @@ ghost use Rattle.nt_core.specs.Accepts.{IsFresh};
 use crate::machine::Machine;
 use crate::tests::script::Answer::{Handle as Created, Pended};
 use crate::tests::script::Ask::{All, Any, Event, Semaphore};
-use crate::tests::script::{INF, ScriptLine, are_ended, call_of, line, reply_of};
+use crate::tests::script::{
+    Host, INF, ScriptLine, are_ended, call_of, line, reply_of, tell_refused,
+};
 use nt_objects::Object;
 use nt_status::{Handle, Refusal, ThreadId};
-use std::process::Abort;
 use std::test::Fail;
 
 /// The looks at waits are counted from 0 again.
@@ -152,11 +153,7 @@ fn signal(machine: &mut Machine, handle: Handle) -> bool
 }
 
 /// A machine after the calls of these lines.
-fn machine_after(
-    rt: &(impl Abort + AllocGlobal),
-    threads: u32,
-    lines: &[ScriptLine],
-) -> Result<Machine, Refusal>
+fn machine_after(rt: &impl Host, threads: u32, lines: &[ScriptLine]) -> Result<Machine, Refusal>
     requires { threads ≤ 256 }
     ensures { IfOk result (λ machine. IsLawful machine) }
 {
@@ -173,7 +170,7 @@ fn machine_after(
 
 /// Signals the object after these calls in two equal machines, serves the waits both ways, and looks at what each grants.
 fn serve_both_ways(
-    rt: &(impl Abort + AllocGlobal),
+    rt: &impl Host,
     threads: u32,
     lines: &[ScriptLine],
     object: u32,
@@ -194,7 +191,7 @@ fn serve_both_ways(
 
 /// The same, with a second try where memory is refused.
 fn check_both_ways(
-    rt: &(impl Abort + AllocGlobal),
+    rt: &impl Host,
     threads: u32,
     lines: &[ScriptLine],
     object: u32,
@@ -204,6 +201,7 @@ fn check_both_ways(
 {
     if let Err(refusal) = serve_both_ways(rt, threads, lines, object, ended) {
         assert_eq!(rt; refusal.number(), 8);
+        tell_refused(rt, "what two machines and their calls took");
         serve_both_ways(rt, threads, lines, object, ended)?;
     }
     Ok(())
