@@ -98,7 +98,7 @@ fn replace_plainly(machine: &mut Machine, handle: Handle, object: Object)
     serve_plainly(machine, &[handle]);
 }
 
-/// An event that is set once it was not, or a semaphore of 2 once it was of 0.
+/// The object once it is signaled: an event that was not set is set, a semaphore of 0 has 2. None for any other.
 fn signaled(object: Object) -> Option<Object>
     requires { IsLawfulObject object }
     ensures may { IfSome result (λ after. MayReplace object after) }
@@ -140,7 +140,7 @@ fn signal_plainly(machine: &mut Machine, handle: Handle) -> bool
     true
 }
 
-/// The same, but the waits are served as in each call.
+/// The same, but the waits are served as in each call, by one walk.
 fn signal(machine: &mut Machine, handle: Handle) -> bool
     requires { IsLawful machine.old }
 {
