@@ -117,6 +117,31 @@ impl Runner {
             Err(_) => Err(RunFault::Memory { line }),
         }
     }
+
+    /// Carries out the script line by line.
+    fn take_lines<R: Source, W: Sink>(
+        &mut self,
+        alloc: Global,
+        reader: &mut R,
+        writer: &mut W,
+    ) -> Result<Summary, RunFault>
+        requires input { self.old.input ≡ [] }
+        requires session { self.old.session ≡ None }
+        requires line { 4097 ≤ vec_capacity self.old.line }
+        ensures answers { Answers (R.remaining reader.old) (W.contents writer.old) (W.contents writer.new) result }
+        ensures counts { CountsFaults (R.failed reader.old) (R.failed reader.new) (W.failed writer.old) (W.failed writer.new) result }
+        ensures lines { IfOk result (λ summary. summary.lines < 2 ^ 64 - 1) }
+    {
+        for number in 1..u64::MAX {
+            match self.take_line(alloc, number, reader, writer) {
+                Ok(Taken::Line) => {}
+                Ok(Taken::LastLine) => return self.end(number, writer),
+                Ok(Taken::Nothing) => return self.end(number - 1, writer),
+                Err(fault) => return Err(fault),
+            }
+        }
+        Err(RunFault::Memory { line: u64::MAX })
+    }
 }
 
 /// Carries out a line, and writes what it says.
@@ -163,18 +188,10 @@ fn run_lines<R: Source, W: Sink>(
     ensures counts { CountsFaults (R.failed reader.old) (R.failed reader.new) (W.failed writer.old) (W.failed writer.new) result }
     ensures lines { IfOk result (λ summary. summary.lines < 2 ^ 64 - 1) }
 {
-    let Ok(mut runner) = Runner::new(alloc) else {
-        return Err(RunFault::Memory { line: 1 });
-    };
-    for number in 1..u64::MAX {
-        match runner.take_line(alloc, number, reader, writer) {
-            Ok(Taken::Line) => {}
-            Ok(Taken::LastLine) => return runner.end(number, writer),
-            Ok(Taken::Nothing) => return runner.end(number - 1, writer),
-            Err(fault) => return Err(fault),
-        }
+    match Runner::new(alloc) {
+        Ok(mut runner) => runner.take_lines(alloc, reader, writer),
+        Err(_) => Err(RunFault::Memory { line: 1 }),
     }
-    Err(RunFault::Memory { line: u64::MAX })
 }
 
 /// Carries out the script that the reader gives, and writes its transcript.
