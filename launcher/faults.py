@@ -6,7 +6,7 @@ import os
 import re
 import stat
 
-# What stands after the caller of a line, as in the table of lines of README.md.
+# What stands after the caller of a line, as in the table of lines of docs/SCRIPTS.md, which the tests compare.
 LINES = """
 event NAME [manual] [set]
 semaphore NAME INIT MAX
