@@ -159,7 +159,8 @@ def read_to(file, number):
     scope = Scope()
     for _ in range(number - 1):
         scope.reads([it for _, it in words_in(shown(file.readline(GREATEST_LINE + 2).rstrip(b"\r\n")))])
-    return file.readline(GREATEST_LINE + 1).rstrip(b"\n").removesuffix(b"\r"), scope
+    line = file.readline(GREATEST_LINE + 1).rstrip(b"\n")
+    return line[:-1] if line.endswith(b"\r") else line, scope
 
 
 def explained(path, name, number, fault):
