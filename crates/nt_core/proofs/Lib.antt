@@ -32,4 +32,3 @@ mod Moments
 mod Coming
 mod Owned
 mod Counting
-mod Plain
