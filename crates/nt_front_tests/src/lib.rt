@@ -2,6 +2,8 @@
 #![tactic(auto)]
 
 #[cfg(test)]
+mod front;
+#[cfg(test)]
 mod mail;
 #[cfg(test)]
 mod refused;

@@ -1,0 +1,97 @@
+//! Growths of memory that are refused: an opening is made again, and a creation that is refused stands in the history, where the
+//! same creation, made again, succeeds. `bench/refused_tests` refuses each allocation in turn.
+ghost use Rattle.std.specs.Prelude.{◌≡◌};
+
+use crate::refused::{Host, tell_refused};
+use nt_core::{Act, Reply};
+use nt_front::{Blank, Front, Held, Named, Pass, Receipt, open, prepare};
+use nt_status::{Handle, Refusal};
+use std::alloc::Global;
+use std::marker::Brand;
+use std::sync::Wait;
+use std::test::Fail;
+
+/// A front of two threads with room for four entries, with a second try where memory is refused.
+fn prepared(rt: &(impl Host + Wait)) -> Result<Blank, Refusal> {
+    match prepare(rt.alloc(), 2, 4) {
+        Err(Refusal::Memory) => {
+            tell_refused(rt, "an opening");
+            prepare(rt.alloc(), 2, 4)
+        }
+        answer => answer,
+    }
+}
+
+/// The entries and results of a creation, and of the one after it where the first was refused for want of memory.
+#[derive(Clone, Copy, Default)]
+struct Created {
+    refused: bool,
+    is_right: bool,
+    entries: usize,
+}
+
+/// Whether the event was created under this entry.
+fn is_event(answer: Result<Receipt, Refusal>, entry: u64) -> bool {
+    let result = Ok(Reply::Handle(Handle::new(2)));
+    answer == Ok(Receipt { entry, result })
+}
+
+/// Creates an event, and does so again where memory was refused.
+fn create<N: Named>(rt: &impl Wait, front: &Front<N>, pass: &mut Pass<N>, created: &mut Created) {
+    let first = front.call(rt, pass, Act::CreateEvent(0));
+    let result = Err(Refusal::Memory);
+    created.refused = first == Ok(Receipt { entry: 1, result });
+    created.is_right = if created.refused {
+        is_event(front.call(rt, pass, Act::CreateEvent(0)), 2)
+    } else {
+        is_event(first, 1)
+    };
+}
+
+/// Opens the front, creates an event, and counts what the history has.
+fn create_on<N: Named>(rt: &impl Wait, alloc: Global, blank: Blank) -> Result<Created, Refusal>
+    requires { (blank.table ≡ N.table) × (blank.threads ≡ 2) }
+{
+    let mut holds = Vec::with_capacity(alloc, 2)?;
+    let (front, mut passes) = match open::<N>(alloc, blank) {
+        Ok(opened) => opened,
+        Err(refused) => {
+            holds.destroy_empty();
+            return Err(refused);
+        }
+    };
+    let mut created = Created::default();
+    while let Some(mut pass) = passes.pop() {
+        if pass.thread().get() == 0 {
+            create(rt, &front, &mut pass, &mut created);
+        }
+        holds.push_reserved(Held::Pass(pass));
+    }
+    passes.destroy_empty();
+    created.entries = front.finish(holds).entries.len();
+    Ok(created)
+}
+
+/// The same, with a second try where the opening finds no memory.
+fn create_at_last(rt: &(impl Host + Wait)) -> Result<Created, Refusal> {
+    let blank = prepared(rt)?;
+    match create_on::<Brand>(rt, rt.alloc(), blank) {
+        Err(Refusal::Memory) => {
+            tell_refused(rt, "an opening");
+            let blank = prepare(rt.alloc(), 2, 4)?;
+            create_on::<Brand>(rt, rt.alloc(), blank)
+        }
+        answer => answer,
+    }
+}
+
+#[test]
+fn a_refused_creation_stands_in_the_history(rt: HostRuntime) -> Result<(), Fail> {
+    let created = create_at_last(&rt)?;
+    if created.refused {
+        tell_refused(&rt, "a call");
+    }
+    assert!(rt; created.is_right);
+    assert_eq!(rt; created.entries, 1 + usize::from(created.refused));
+    Ok(())
+}

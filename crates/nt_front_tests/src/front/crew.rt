@@ -1,0 +1,299 @@
+//! A crew: a thread for each pass of one front, each with a job, and the history that they leave.
+ghost use Rattle.std.specs.Prelude.{◌≡◌, ◌+◌, ◌<◌, ◌≤◌, [], vec_len, vec_capacity};
+
+use crate::front::jobs::{Job, work};
+use crate::front::replay::first_difference;
+use crate::front::steps::Creation;
+use crate::front::told::{Entries, Told};
+use nt_core::Reply;
+use nt_front::{Blank, Carried, Front, Held, History, Named, Pass, open};
+use nt_status::{Handle, Refusal, ThreadId};
+use std::alloc::Global;
+use std::sync::Wait;
+use std::sync::atomic::{AtomicBool, AtomicU64};
+use std::thread;
+use std::thread::{Promise, Scope, Threads};
+use std::time::Clock;
+
+/// What the threads of a crew share.
+#[derive(Drop)]
+pub struct Crew {
+    pub alloc: Global,
+    pub threads: u32,
+    /// What the first thread creates before the others start.
+    pub creations: &'static [Creation],
+    /// The thread with the number t has the job at t; those past the last have the last.
+    pub jobs: &'static [Job],
+    /// How many threads roam.
+    pub roaming: AtomicU64,
+    /// Whether some thread's wait has pended.
+    pub awaited: AtomicBool,
+    /// How often the clock ticks at the most.
+    pub ticks: u64,
+    /// From which the calls of those that roam are drawn.
+    pub seed: u64,
+}
+
+impl Crew {
+    fn job_of(&self, thread: ThreadId) -> Job {
+        match self.jobs.get(usize::from(thread.get())) {
+            Some(job) => *job,
+            None => match self.jobs.last() {
+                Some(job) => *job,
+                None => Job::Tick,
+            },
+        }
+    }
+}
+
+/// What a thread brings back.
+#[derive(Drop)]
+pub struct Back<N: Named> {
+    held: Carried<Held<N>>,
+    thread: ThreadId,
+    told: Told,
+}
+
+/// Of what comes back nothing is promised.
+#[derive(Clone, Copy)]
+pub struct Nothing;
+
+impl<N: Named> Promise<Back<N>> for Nothing {
+    ghost use Rattle.std.specs.Prelude.{◌≡◌};
+
+    ghost kept_by = { λ p r. p ≡ p };
+}
+
+/// What became of a crew.
+#[derive(Clone, Copy, Default, PartialEq, Eq, Debug)]
+pub struct Seen {
+    /// How many entries the history has.
+    pub entries: usize,
+    /// The calls and ticks that were written, and the grants that were given, as the threads were told of them.
+    pub calls: Entries,
+    pub grants: Entries,
+    /// Threads that were told of other entries than the history has of them.
+    pub differ: u64,
+    /// Threads whose wait still pends at the end.
+    pub sleeping: u64,
+    pub lost: u64,
+    /// The number of the first entry that a fresh dispatcher answers otherwise; 0 where there is none.
+    pub difference: usize,
+}
+
+/// A thread of the crew does its job.
+fn serve_in<N: Named, R: Wait + Clock>(
+    rt: &R,
+    front: &Front<N>,
+    crew: &Crew,
+    carried: Carried<Pass<N>>,
+    mut told: Told,
+) -> Back<N> {
+    let pass = carried.into_hold();
+    let thread = pass.thread();
+    let held = work(rt, front, crew, pass, crew.job_of(thread), &mut told);
+    Back {
+        held: Carried { hold: held },
+        thread,
+        told,
+    }
+}
+
+/// Starts a thread for each carrier, and does the first thread's job beside them.
+fn start_each<'s, 'e: 's, N: Named + Send + Sync + 'e, R: Threads + Wait + Clock + Sync>(
+    scope: &'s Scope<'s, &'e ()>,
+    rt: &'e R,
+    front: &'e Front<N>,
+    crew: &'e Crew,
+    first: Carried<Pass<N>>,
+    told: Told,
+    mut carriers: Vec<Carried<Pass<N>>>,
+    back: Vec<Back<N>>,
+) -> Vec<Back<N>>
+    requires { vec_len back + vec_len carriers < vec_capacity back }
+    ensures count { vec_len result ≤ vec_len back + vec_len carriers + 1 }
+    ensures capacity { vec_capacity result ≡ vec_capacity back }
+{
+    let Some(carried) = carriers.pop() else {
+        let mut back = back;
+        back.push_reserved(serve_in(rt, front, crew, first, told));
+        return back;
+    };
+    match scope.spawn_with(
+        Nothing,
+        move || serve_in(rt, front, crew, carried, Told::default()),
+    ) {
+        Ok(child) => {
+            let mut back = start_each(scope, rt, front, crew, first, told, carriers, back);
+            back.push_reserved(child.join(rt));
+            back
+        }
+        Err(_) => start_each(scope, rt, front, crew, first, told, carriers, back),
+    }
+}
+
+fn start_all<N: Named + Send + Sync, R: Threads + Wait + Clock + Sync>(
+    rt: &R,
+    front: &Front<N>,
+    crew: &Crew,
+    first: Carried<Pass<N>>,
+    told: Told,
+    carriers: Vec<Carried<Pass<N>>>,
+    back: Vec<Back<N>>,
+) -> Vec<Back<N>>
+    requires { vec_len back + vec_len carriers < vec_capacity back }
+    ensures { vec_len result ≤ vec_len back + vec_len carriers + 1 }
+{
+    thread::scope(
+        thread::scope_env(),
+        rt,
+        move |scope| -> Vec<Back<N>>
+            requires { vec_len back + vec_len carriers < vec_capacity back }
+            ensures { vec_len result ≤ vec_len back + vec_len carriers + 1 }
+        { start_each(scope, rt, front, crew, first, told, carriers, back) },
+    )
+}
+
+/// Creates the objects of the crew, in their order: their handles follow on from those of the threads.
+fn create_all<N: Named>(
+    rt: &impl Wait,
+    front: &Front<N>,
+    pass: &mut Pass<N>,
+    threads: u32,
+    creations: &[Creation],
+    told: &mut Told,
+) {
+    for i in 0..creations.len() {
+        let wanted = Reply::Handle(Handle::new(threads.wrapping_add(i as u32)));
+        match front.call(rt, pass, creations[i].act()) {
+            Ok(receipt) => {
+                told.called(&receipt);
+                if receipt.result != Ok(wanted) {
+                    told.lost();
+                }
+            }
+            Err(_) => told.lost(),
+        }
+    }
+}
+
+/// Takes the passes into carriers, the first thread's last.
+fn carry<N: Named>(
+    mut passes: Vec<Pass<N>>,
+    carriers: Vec<Carried<Pass<N>>>,
+) -> Vec<Carried<Pass<N>>>
+    requires { (carriers.items ≡ []) × (vec_len passes ≤ vec_capacity carriers) }
+    ensures count { vec_len result ≡ vec_len passes }
+    ensures capacity { vec_capacity result ≡ vec_capacity carriers }
+{
+    let mut carriers = carriers;
+    while let Some(pass) = passes.pop() {
+        carriers.push_reserved(Carried { hold: pass });
+    }
+    passes.destroy_empty();
+    carriers
+}
+
+/// Looks at what the threads were told, beside what the history has of them.
+fn look_at(history: &History, told: &[(ThreadId, Told)], seen: &mut Seen) {
+    seen.entries = history.entries.len();
+    for (thread, told) in told {
+        seen.calls.join(told.calls);
+        seen.grants.join(told.grants);
+        seen.lost = seen.lost.wrapping_add(told.lost);
+        let written = Told::by_history(history.entries.as_slice(), *thread);
+        let is_same = written.calls == told.calls
+            && written.grants == told.grants
+            && written.codes == told.codes;
+        seen.differ = seen.differ.wrapping_add(u64::from(!is_same));
+    }
+}
+
+/// Puts the holds of all threads together, and ends the front.
+fn finish<N: Named>(
+    front: Front<N>,
+    mut back: Vec<Back<N>>,
+    mut holds: Vec<Held<N>>,
+    told: &mut Vec<(ThreadId, Told)>,
+    seen: &mut Seen,
+) -> History
+    requires holds { (holds.items ≡ []) × (vec_len back ≤ vec_capacity holds) }
+    requires told { vec_len told.old + vec_len back ≤ vec_capacity told.old }
+{
+    while let Some(one) = back.pop() {
+        let Back {
+            held,
+            thread,
+            told: known,
+        } = one;
+        let held = held.into_hold();
+        if matches!(&held, Held::Sleeping(_)) {
+            seen.sleeping = seen.sleeping.wrapping_add(1);
+        }
+        told.push_reserved((thread, known));
+        holds.push_reserved(held);
+    }
+    front.finish(holds)
+}
+
+/// Has the crew do its jobs, and ends the front.
+fn run<N: Named + Send + Sync, R: Threads + Wait + Clock + Sync>(
+    rt: &R,
+    front: Front<N>,
+    mut carriers: Vec<Carried<Pass<N>>>,
+    back: Vec<Back<N>>,
+    holds: Vec<Held<N>>,
+    crew: &Crew,
+    told: &mut Vec<(ThreadId, Told)>,
+    seen: &mut Seen,
+) -> History
+    requires back { (vec_len back ≡ 0) × (vec_len carriers ≤ vec_capacity back) }
+    requires holds { (holds.items ≡ []) × (vec_len carriers ≤ vec_capacity holds) }
+    requires told { vec_len told.old + vec_len carriers ≤ vec_capacity told.old }
+{
+    let Some(first) = carriers.pop() else {
+        return front.finish(holds);
+    };
+    let mut pass = first.into_hold();
+    let mut created = Told::default();
+    create_all(
+        rt,
+        &front,
+        &mut pass,
+        crew.threads,
+        crew.creations,
+        &mut created,
+    );
+    let first = Carried { hold: pass };
+    let back = start_all(rt, &front, crew, first, created, carriers, back);
+    finish(front, back, holds, told, seen)
+}
+
+/// Opens the front, has the crew do its jobs, and looks at all that is left.
+pub fn man<N: Named + Send + Sync, R: Threads + Wait + Clock + Sync>(
+    rt: &R,
+    blank: Blank,
+    crew: &Crew,
+) -> Result<Seen, Refusal>
+    requires { (blank.table ≡ N.table) × (blank.threads ≡ crew.now.threads) }
+{
+    let alloc = crew.alloc;
+    let count = crew.threads as usize;
+    let carriers = Vec::with_capacity(alloc, count)?;
+    let back = Vec::with_capacity(alloc, count)?;
+    let mut told = Vec::with_capacity(alloc, count)?;
+    let mut seen = Seen::default();
+    let holds = Vec::with_capacity(alloc, count)?;
+    let (front, passes) = match open::<N>(alloc, blank) {
+        Ok(opened) => opened,
+        Err(refused) => {
+            holds.destroy_empty();
+            return Err(refused);
+        }
+    };
+    let carriers = carry(passes, carriers);
+    let history = run(rt, front, carriers, back, holds, crew, &mut told, &mut seen);
+    look_at(&history, told.as_slice(), &mut seen);
+    seen.difference = first_difference(alloc, &history)?.unwrap_or(0);
+    Ok(seen)
+}

@@ -1,0 +1,395 @@
+//! What the threads of a crew do.
+use crate::front::crew::Crew;
+use crate::front::steps::{Draws, INFINITE, objects};
+use crate::front::told::Told;
+use nt_core::{Act, WaitCall};
+use nt_front::{Begun, Exited, Front, Held, Named, Pass, Polled, Sleeper};
+use nt_status::{Handle, Moment};
+use std::sync::Wait;
+use std::sync::atomic::Ordering;
+use std::thread;
+use std::time::{Clock, Duration};
+
+/// A thread's job. Objects are told by the numbers of their handles.
+#[derive(Clone, Copy)]
+pub enum Job {
+    /// Makes so many calls of all sorts, and then ends its thread.
+    Roam { calls: u32, manner: Manner },
+    /// Lets the moment pass, 1 ms at a time, until the others are done.
+    Tick,
+    /// So often: sets one event, and waits for the other.
+    Serve { sets: u32, waits: u32, times: u32 },
+    /// So often: waits for one event, and sets the other.
+    Answer { waits: u32, sets: u32, times: u32 },
+    /// So often: waits for the mutex, and releases it.
+    Lock { mutex: u32, times: u32 },
+    /// Waits for the event by so many polls at the most, with its turn given up between two.
+    Poll { event: u32, polls: u32 },
+    /// Sets the event once a thread waits for it, after so many turns given up at the most.
+    SetWhenAwaited { event: u32, turns: u32 },
+    /// The same, and sets it again.
+    SetTwice { event: u32, turns: u32 },
+}
+
+/// How a thread waits for its grant.
+#[derive(Clone, Copy)]
+pub enum Manner {
+    Asleep,
+    /// By so many polls at the most.
+    Polling(u32),
+}
+
+/// Does the job, and answers what is held at its end.
+pub fn work<N: Named, R: Wait + Clock>(
+    rt: &R,
+    front: &Front<N>,
+    crew: &Crew,
+    mut pass: Pass<N>,
+    job: Job,
+    told: &mut Told,
+) -> Held<N> {
+    match job {
+        Job::Roam { calls, manner } => roam(rt, front, crew, pass, calls, manner, told),
+        Job::Tick => {
+            tick(rt, front, crew, &mut pass, told);
+            Held::Pass(pass)
+        }
+        Job::Serve { sets, waits, times } => {
+            Held::Pass(serve(
+                rt,
+                front,
+                crew,
+                pass,
+                Handle::new(sets),
+                Handle::new(waits),
+                times,
+                told,
+            ))
+        }
+        Job::Answer { waits, sets, times } => {
+            Held::Pass(answer(
+                rt,
+                front,
+                crew,
+                pass,
+                Handle::new(waits),
+                Handle::new(sets),
+                times,
+                told,
+            ))
+        }
+        Job::Lock { mutex, times } => Held::Pass(lock(
+            rt,
+            front,
+            crew,
+            pass,
+            Handle::new(mutex),
+            times,
+            told,
+        )),
+        Job::Poll { event, polls } => poll(rt, front, crew, pass, Handle::new(event), polls, told),
+        Job::SetWhenAwaited { event, turns } => {
+            set_when_awaited(rt, front, crew, &mut pass, Handle::new(event), turns, told);
+            Held::Pass(pass)
+        }
+        Job::SetTwice { event, turns } => {
+            set_when_awaited(rt, front, crew, &mut pass, Handle::new(event), turns, told);
+            call(
+                rt,
+                front,
+                &mut pass,
+                Act::SetEvent(Handle::new(event)),
+                told,
+            );
+            Held::Pass(pass)
+        }
+    }
+}
+
+/// Makes a call that never pends.
+fn call<N: Named>(rt: &impl Wait, front: &Front<N>, pass: &mut Pass<N>, act: Act, told: &mut Told) {
+    match front.call(rt, pass, act) {
+        Ok(receipt) => told.called(&receipt),
+        Err(_) => told.lost(),
+    }
+}
+
+/// Begins a wait and waits for its end. Where the polls are used up the thread still sleeps.
+fn wait<N: Named>(
+    rt: &impl Wait,
+    front: &Front<N>,
+    crew: &Crew,
+    pass: Pass<N>,
+    asked: WaitCall,
+    manner: Manner,
+    told: &mut Told,
+) -> Held<N> {
+    match front.begin(rt, pass, asked) {
+        Begun::Done(pass, receipt) => {
+            told.called(&receipt);
+            Held::Pass(pass)
+        }
+        Begun::NoRoom(pass) => {
+            told.lost();
+            Held::Pass(pass)
+        }
+        Begun::Pended(sleeper, receipt) => {
+            told.called(&receipt);
+            crew.awaited.store(true, Ordering::SeqCst);
+            match manner {
+                Manner::Asleep => {
+                    let (pass, receipt) = front.sleep(rt, sleeper);
+                    told.granted(&receipt);
+                    Held::Pass(pass)
+                }
+                Manner::Polling(polls) => poll_for(front, sleeper, polls, told),
+            }
+        }
+    }
+}
+
+/// Polls so often at the most, and gives up its turn between two.
+fn poll_for<N: Named>(
+    front: &Front<N>,
+    sleeper: Sleeper<N>,
+    polls: u32,
+    told: &mut Told,
+) -> Held<N> {
+    let mut sleeper = sleeper;
+    for _ in 0..polls {
+        match front.poll(sleeper) {
+            Polled::Ready(pass, receipt) => {
+                told.granted(&receipt);
+                return Held::Pass(pass);
+            }
+            Polled::Still(still) => sleeper = still,
+        }
+        thread::yield_now();
+    }
+    Held::Sleeping(sleeper)
+}
+
+/// Waits asleep for one object.
+fn wait_for<N: Named>(
+    rt: &impl Wait,
+    front: &Front<N>,
+    crew: &Crew,
+    pass: Pass<N>,
+    object: Handle,
+    told: &mut Told,
+) -> Pass<N> {
+    let Ok(asked) = objects(crew.alloc, &[object], false, INFINITE, false) else {
+        told.lost();
+        return pass;
+    };
+    match front.begin(rt, pass, asked) {
+        Begun::Done(pass, receipt) => {
+            told.called(&receipt);
+            pass
+        }
+        Begun::NoRoom(pass) => {
+            told.lost();
+            pass
+        }
+        Begun::Pended(sleeper, receipt) => {
+            told.called(&receipt);
+            let (pass, receipt) = front.sleep(rt, sleeper);
+            told.granted(&receipt);
+            pass
+        }
+    }
+}
+
+/// Makes so many calls of all sorts, and then ends the thread.
+fn roam<N: Named>(
+    rt: &impl Wait,
+    front: &Front<N>,
+    crew: &Crew,
+    pass: Pass<N>,
+    calls: u32,
+    manner: Manner,
+    told: &mut Told,
+) -> Held<N> {
+    let mut draws = Draws::new(
+        crew.seed
+            .wrapping_mul(256)
+            .wrapping_add(u64::from(pass.thread().get())),
+    );
+    let mut held = Held::Pass(pass);
+    for _ in 0..calls {
+        held = step(rt, front, crew, held, &mut draws, manner, told);
+    }
+    crew.roaming.fetch_sub(1, Ordering::SeqCst);
+    end(rt, front, held, told)
+}
+
+/// Makes one call.
+fn step<N: Named>(
+    rt: &impl Wait,
+    front: &Front<N>,
+    crew: &Crew,
+    held: Held<N>,
+    draws: &mut Draws,
+    manner: Manner,
+    told: &mut Told,
+) -> Held<N> {
+    let Held::Pass(mut pass) = held else {
+        return held;
+    };
+    if !draws.waits() {
+        call(rt, front, &mut pass, draws.act(), told);
+        return Held::Pass(pass);
+    }
+    match draws.wait(crew.alloc) {
+        Ok(asked) => wait(rt, front, crew, pass, asked, manner, told),
+        Err(_) => {
+            told.lost();
+            Held::Pass(pass)
+        }
+    }
+}
+
+/// Ends the thread.
+fn end<N: Named>(rt: &impl Wait, front: &Front<N>, held: Held<N>, told: &mut Told) -> Held<N> {
+    let Held::Pass(pass) = held else {
+        return held;
+    };
+    match front.exit(rt, pass) {
+        Exited::Ended(ended, receipt) => {
+            told.called(&receipt);
+            Held::Ended(ended)
+        }
+        Exited::NoRoom(pass) => {
+            told.lost();
+            Held::Pass(pass)
+        }
+    }
+}
+
+/// Lets the moment pass until nobody roams any more.
+fn tick<N: Named, R: Wait + Clock>(
+    rt: &R,
+    front: &Front<N>,
+    crew: &Crew,
+    pass: &mut Pass<N>,
+    told: &mut Told,
+) {
+    for number in 1..=crew.ticks {
+        if crew.roaming.load(Ordering::SeqCst) == 0 {
+            return;
+        }
+        tick_to(rt, front, pass, number.wrapping_mul(10_000), told);
+        thread::sleep(rt, Duration::from_micros(20));
+    }
+    told.lost();
+}
+
+/// Lets all moments up to this one pass, and looks at the present one.
+fn tick_to<N: Named>(
+    rt: &impl Wait,
+    front: &Front<N>,
+    pass: &mut Pass<N>,
+    moment: u64,
+    told: &mut Told,
+) {
+    let Some(moment) = Moment::new(moment) else {
+        told.lost();
+        return;
+    };
+    match front.tick(rt, pass, moment) {
+        Ok(receipt) => told.called(&receipt),
+        Err(_) => told.lost(),
+    }
+    if front.now(pass) != moment {
+        told.lost();
+    }
+}
+
+fn serve<N: Named>(
+    rt: &impl Wait,
+    front: &Front<N>,
+    crew: &Crew,
+    mut pass: Pass<N>,
+    sets: Handle,
+    waits: Handle,
+    times: u32,
+    told: &mut Told,
+) -> Pass<N> {
+    for _ in 0..times {
+        call(rt, front, &mut pass, Act::SetEvent(sets), told);
+        pass = wait_for(rt, front, crew, pass, waits, told);
+    }
+    pass
+}
+
+fn answer<N: Named>(
+    rt: &impl Wait,
+    front: &Front<N>,
+    crew: &Crew,
+    mut pass: Pass<N>,
+    waits: Handle,
+    sets: Handle,
+    times: u32,
+    told: &mut Told,
+) -> Pass<N> {
+    for _ in 0..times {
+        pass = wait_for(rt, front, crew, pass, waits, told);
+        call(rt, front, &mut pass, Act::SetEvent(sets), told);
+    }
+    pass
+}
+
+fn lock<N: Named>(
+    rt: &impl Wait,
+    front: &Front<N>,
+    crew: &Crew,
+    mut pass: Pass<N>,
+    mutex: Handle,
+    times: u32,
+    told: &mut Told,
+) -> Pass<N> {
+    for _ in 0..times {
+        pass = wait_for(rt, front, crew, pass, mutex, told);
+        call(rt, front, &mut pass, Act::ReleaseMutex(mutex), told);
+    }
+    pass
+}
+
+/// Waits for the event by polls.
+fn poll<N: Named>(
+    rt: &impl Wait,
+    front: &Front<N>,
+    crew: &Crew,
+    pass: Pass<N>,
+    event: Handle,
+    polls: u32,
+    told: &mut Told,
+) -> Held<N> {
+    match objects(crew.alloc, &[event], false, INFINITE, false) {
+        Ok(asked) => wait(rt, front, crew, pass, asked, Manner::Polling(polls), told),
+        Err(_) => {
+            told.lost();
+            Held::Pass(pass)
+        }
+    }
+}
+
+/// Sets the event once somebody waits.
+fn set_when_awaited<N: Named>(
+    rt: &impl Wait,
+    front: &Front<N>,
+    crew: &Crew,
+    pass: &mut Pass<N>,
+    event: Handle,
+    turns: u32,
+    told: &mut Told,
+) {
+    for _ in 0..turns {
+        if crew.awaited.load(Ordering::SeqCst) {
+            call(rt, front, pass, Act::SetEvent(event), told);
+            return;
+        }
+        thread::yield_now();
+    }
+    told.lost();
+}

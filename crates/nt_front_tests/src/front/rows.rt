@@ -1,0 +1,83 @@
+//! Short histories, entry by entry.
+use crate::front::jobs::Job;
+use crate::front::runs::{Roll, man_all};
+use crate::front::steps::Creation;
+use nt_front::prepare;
+use std::test::Fail;
+
+/// The event of two threads.
+const EVENT: u32 = 2;
+
+/// The first thread creates an event; the other begins to wait for it, in a thread of its own; the first sets it, and the other
+/// polls at most so often; the first sets it once more.
+const fn hand_over(room: usize, jobs: &'static [Job]) -> Roll {
+    Roll {
+        threads: 2,
+        creations: &[Creation::Event(0)],
+        jobs,
+        roaming: 0,
+        room,
+    }
+}
+
+#[test]
+fn a_front_has_threads_and_room(rt: HostRuntime) -> Result<(), Fail> {
+    for (threads, room) in [(0, 4), (257, 4), (2, 0), (2, 1_048_577)] {
+        match prepare(rt.alloc(), threads, room) {
+            Err(refusal) => assert_eq!(rt;
+                refusal.number(),
+                87,
+                "{threads} threads, room for {room}"
+            ),
+            Ok(_) => return Err(Fail::from("prepared")),
+        }
+    }
+    Ok(())
+}
+
+/// There is room for the creation and the wait, but not for a set with the grant that it may bring.
+#[test]
+fn room_is_kept_for_each_pending_wait(rt: HostRuntime) -> Result<(), Fail> {
+    const JOBS: &[Job] = &[
+        Job::SetTwice {
+            event: EVENT,
+            turns: 1_000_000,
+        },
+        Job::Poll {
+            event: EVENT,
+            polls: 1,
+        },
+    ];
+    let seen = man_all(&rt, rt.alloc(), hand_over(3, JOBS), 0)?;
+    assert_eq!(rt; seen.entries, 2);
+    // both sets found no room, and the wait still pends
+    assert_eq!(rt; (seen.lost, seen.sleeping), (2, 1));
+    assert_eq!(rt; (seen.calls.count, seen.calls.sum), (2, 3));
+    assert_eq!(rt;
+        (seen.grants.count, seen.differ, seen.difference),
+        (0, 0, 0)
+    );
+    Ok(())
+}
+
+/// With one place more the set is entry 3 and the grant entry 4, which a poll finds without the lock; then there is no room.
+#[test]
+fn a_poll_finds_the_grant(rt: HostRuntime) -> Result<(), Fail> {
+    const JOBS: &[Job] = &[
+        Job::SetTwice {
+            event: EVENT,
+            turns: 1_000_000,
+        },
+        Job::Poll {
+            event: EVENT,
+            polls: 1_000_000,
+        },
+    ];
+    let seen = man_all(&rt, rt.alloc(), hand_over(4, JOBS), 0)?;
+    assert_eq!(rt; seen.entries, 4);
+    assert_eq!(rt; (seen.lost, seen.sleeping), (1, 0));
+    assert_eq!(rt; (seen.calls.count, seen.calls.sum), (3, 6));
+    assert_eq!(rt; (seen.grants.count, seen.grants.sum), (1, 4));
+    assert_eq!(rt; (seen.differ, seen.difference), (0, 0));
+    Ok(())
+}

@@ -1,0 +1,180 @@
+//! Crews at work: nobody is left asleep, each thread is told exactly what the history has of it, and a fresh dispatcher answers
+//! each call of the history as it was answered.
+use crate::front::crew::{Crew, Seen, man};
+use crate::front::jobs::{Job, Manner};
+use crate::front::steps::{CREATIONS, Creation, ROAMERS};
+use nt_front::prepare;
+use nt_status::Refusal;
+use std::alloc::Global;
+use std::env::{Env, var};
+use std::marker::Brand;
+use std::process::Abort;
+use std::sync::Wait;
+use std::sync::atomic::{AtomicBool, AtomicU64};
+use std::test::Fail;
+use std::thread::Threads;
+use std::time::Clock;
+
+/// What a crew is, as data.
+#[derive(Clone, Copy)]
+pub struct Roll {
+    pub threads: u32,
+    pub creations: &'static [Creation],
+    pub jobs: &'static [Job],
+    /// How many of the threads roam.
+    pub roaming: u64,
+    /// The room of the journal, in entries.
+    pub room: usize,
+}
+
+/// Two threads hand over to one another 200,000 times, each asleep while it waits.
+const PAIR: Roll = Roll {
+    threads: 2,
+    creations: &[Creation::Event(0), Creation::Event(0)],
+    jobs: &[
+        Job::Serve {
+            sets: 2,
+            waits: 3,
+            times: 100_000,
+        },
+        Job::Answer {
+            waits: 2,
+            sets: 3,
+            times: 100_000,
+        },
+    ],
+    roaming: 0,
+    room: 700_000,
+};
+
+/// 64 threads at one mutex.
+const LOCKERS: Roll = Roll {
+    threads: 64,
+    creations: &[Creation::Mutex],
+    jobs: &[Job::Lock {
+        mutex: 64,
+        times: 500,
+    }],
+    roaming: 0,
+    room: 100_000,
+};
+
+const ASLEEP: Job = Job::Roam {
+    calls: 2_858,
+    manner: Manner::Asleep,
+};
+
+const POLLING: Job = Job::Roam {
+    calls: 2_858,
+    manner: Manner::Polling(u32::MAX),
+};
+
+/// Seven threads of 8 make 20,006 calls of all sorts, some asleep while they wait and some by polls; the first is the clock.
+const ROAM: Roll = Roll {
+    threads: ROAMERS,
+    creations: CREATIONS,
+    jobs: &[
+        Job::Tick,
+        ASLEEP,
+        POLLING,
+        ASLEEP,
+        POLLING,
+        ASLEEP,
+        ASLEEP,
+        ASLEEP,
+    ],
+    roaming: 7,
+    room: 1_000_000,
+};
+
+/// One thread keeps its wait open by polls until the other sets the event.
+const HELD: Roll = Roll {
+    threads: 2,
+    creations: &[Creation::Event(0)],
+    jobs: &[
+        Job::SetWhenAwaited {
+            event: 2,
+            turns: 1_000_000,
+        },
+        Job::Poll {
+            event: 2,
+            polls: 1_000_000,
+        },
+    ],
+    roaming: 0,
+    room: 8,
+};
+
+/// Has this crew work on a new front.
+pub fn man_all<R: Threads + Wait + Clock + Sync>(
+    rt: &R,
+    alloc: Global,
+    roll: Roll,
+    seed: u64,
+) -> Result<Seen, Refusal> {
+    let blank = prepare(alloc, roll.threads, roll.room)?;
+    let crew = Crew {
+        alloc,
+        threads: roll.threads,
+        creations: roll.creations,
+        jobs: roll.jobs,
+        roaming: AtomicU64::new(roll.roaming),
+        awaited: AtomicBool::new(false),
+        ticks: 400_000,
+        seed,
+    };
+    man::<Brand, _>(rt, blank, &crew)
+}
+
+/// Nothing was lost, nobody is left asleep, and history and threads say the same.
+pub fn assert_whole(rt: &impl Abort, seen: &Seen) {
+    assert_eq!(rt; seen.lost, 0, "{seen:?}");
+    assert_eq!(rt; seen.sleeping, 0, "{seen:?}");
+    assert_eq!(rt; seen.differ, 0, "{seen:?}");
+    assert_eq!(rt; seen.difference, 0, "{seen:?}");
+}
+
+#[test]
+fn two_sleepers_hand_over(rt: HostRuntime) -> Result<(), Fail> {
+    let seen = man_all(&rt, rt.alloc(), PAIR, 0)?;
+    assert_whole(&rt, &seen);
+    // two creations, and a set and a wait for each of the 200,000
+    assert_eq!(rt; seen.calls.count, 400_002);
+    Ok(())
+}
+
+#[test]
+fn many_threads_share_a_mutex(rt: HostRuntime) -> Result<(), Fail> {
+    let seen = man_all(&rt, rt.alloc(), LOCKERS, 0)?;
+    assert_whole(&rt, &seen);
+    // one creation, and a wait and a release for each of the 500 rounds of each of the 64 threads
+    assert_eq!(rt; seen.calls.count, 64_001);
+    Ok(())
+}
+
+/// How many such crews, one after another: 1, or what ROUNDS says.
+fn rounds(env: &(impl AllocGlobal + Env)) -> u64 {
+    match var(env, "ROUNDS") {
+        Ok(text) => text.as_str().parse::<u64>().unwrap_or(1),
+        Err(_) => 1,
+    }
+}
+
+#[test]
+fn threads_of_all_sorts_roam(rt: HostRuntime) -> Result<(), Fail> {
+    for round in 0..rounds(&rt) {
+        let seen = man_all(&rt, rt.alloc(), ROAM, round)?;
+        assert_whole(&rt, &seen);
+    }
+    Ok(())
+}
+
+#[test]
+fn hold_until_answered(rt: HostRuntime) -> Result<(), Fail> {
+    let seen = man_all(&rt, rt.alloc(), HELD, 0)?;
+    assert_whole(&rt, &seen);
+    // the creation, the wait, the set, and the grant under the number after it
+    assert_eq!(rt; (seen.calls.count, seen.calls.sum), (3, 6));
+    assert_eq!(rt; (seen.grants.count, seen.grants.sum), (1, 4));
+    Ok(())
+}
