@@ -1,5 +1,5 @@
 //! Openings: a dispatcher has 1 to 256 threads.
-use crate::tests::memory::Host;
+use crate::tests::memory::{Host, let_go};
 use crate::tests::play::play_all;
 use crate::tests::script::Answer::Handle;
 use crate::tests::script::Ask::Event;
@@ -28,7 +28,10 @@ const TOO_FEW_OR_MANY: &[u32] = &[0, 257, u32::MAX];
 /// What an opening with so many threads answers.
 fn opening(alloc: Global, threads: u32) -> Answer {
     match Core::new(alloc, threads) {
-        Ok(_) => Answer::Done,
+        Ok(core) => {
+            let_go(core);
+            Answer::Done
+        }
         Err(refusal) => Answer::Error(refusal.number()),
     }
 }

@@ -1,6 +1,6 @@
 //! The walk over the steps of a scenario. A step that fails is told with what the scenario shows, and with its number, from 1.
 use crate::tests::calls::{answer_of, are_ended};
-use crate::tests::memory::{Host, answer_at_once, answer_to, open};
+use crate::tests::memory::{Host, answer_at_once, answer_to, let_go, open};
 use crate::tests::script::{Answer, Ask, Ended, Scenario, Step};
 use nt_core::Core;
 use nt_status::{Moment, Refusal};
@@ -111,15 +111,11 @@ pub fn take_steps(rt: &impl Host, core: &mut Core, shows: &'static str, steps: &
     }
 }
 
-/// Takes the steps in turn, and lets the dispatcher go.
-fn play_on(rt: &impl Host, mut core: Core, scenario: &Scenario) {
-    take_steps(rt, &mut core, scenario.shows, scenario.steps);
-}
-
 /// Takes the steps of the scenario from a new dispatcher on.
 fn play(rt: &impl Host, scenario: &Scenario) -> Result<(), Refusal> {
-    let core = open(rt, scenario.threads)?;
-    play_on(rt, core, scenario);
+    let mut core = open(rt, scenario.threads)?;
+    take_steps(rt, &mut core, scenario.shows, scenario.steps);
+    let_go(core);
     Ok(())
 }
 

@@ -1,6 +1,6 @@
 //! Long sequences of signals and waits, drawn by numbers that look like chance: the core answers and grants as the plain reference.
 use crate::tests::calls::are_ended;
-use crate::tests::memory::{Host, answer_to, open, tell_refused};
+use crate::tests::memory::{Host, answer_to, let_go, open, tell_refused};
 use crate::tests::plain::PlainObject::Thread;
 use crate::tests::plain::{PlainCore, PlainObject};
 use crate::tests::play::take_steps;
@@ -215,21 +215,12 @@ fn open_plain(rt: &impl Host) -> Result<PlainCore, AllocError> {
     }
 }
 
-/// Compares the two over a sequence, and lets both go.
-fn compare_both(
-    rt: &impl Host,
-    mut core: Core,
-    mut plain: PlainCore,
-    seed: u64,
-) -> Result<(), AllocError> {
-    compare_turns(rt, &mut core, &mut plain, seed)
-}
-
 fn compare_sequence(rt: &impl Host, seed: u64) -> Result<(), Fail> {
-    let plain = open_plain(rt)?;
-    let core = open(rt, THREADS)?;
-    compare_both(rt, core, plain, seed)?;
-    Ok(())
+    let mut plain = open_plain(rt)?;
+    let mut core = open(rt, THREADS)?;
+    let compared = compare_turns(rt, &mut core, &mut plain, seed);
+    let_go(core);
+    Ok(compared?)
 }
 
 #[test]
