@@ -54,7 +54,7 @@ pub record MovesBytes (old new line line' : List ℕ) : Type 0 where
   pub front : old ≡ bytes ++ new
   pub behind : line' ≡ line ++ bytes
 
--- the line's last bytes, and the LF behind them
+-- the line's last bytes, and the LF after them
 pub record EndsLine (old new line line' : List ℕ) : Type 0 where
   pub bytes : List ℕ
   pub feedless : HasNoFeed bytes

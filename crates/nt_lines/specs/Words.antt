@@ -36,7 +36,7 @@ is_no_gap byte = not (is_gap byte)
 abbrev pub words_of : List ℕ → List (List ℕ)
 words_of text = filter (λ word. not (length word == 0)) (slice_split is_gap text)
 
--- the first word, and the words of what stands behind it
+-- the first word, and the words of what stands after it
 abbrev pub IsFirstWord : List ℕ → Option (Bor (List ℕ) × Bor (List ℕ)) → Type 0
 IsFirstWord text None = words_of text ≡ []
 IsFirstWord text (Some parts) = words_of text ≡ parts.0.now ∷ words_of parts.1.now
@@ -49,7 +49,7 @@ is_digit byte = nat_le 48 byte && nat_le byte 57
 abbrev pub are_digits : List ℕ → Bool
 are_digits word = list_all is_digit word
 
--- the number that digits write behind those of n
+-- the number that digits write after those of n
 abbrev pub value_after : ℕ → List ℕ → ℕ
 value_after n [] = n
 value_after n (digit ∷ digits) = value_after (n * 10 + (digit - 48)) digits

@@ -5,7 +5,7 @@ ghost use Rattle.std.specs.List.{list_all, position_or_len};
 ghost use Rattle.std.specs.Str.Lines.{strip_carriage_return};
 ghost use Rattle.nt_lines.specs.Words.{is_gap, is_no_gap, are_digits, is_digit, number_of, value_after, fitting, caller_of, is_letter, is_name_byte, is_identifier, is_thread_like, is_name, is_plain, is_semicolon, comment_start, text_of, IsFirstWord};
 
-/// The first word, and what stands behind it.
+/// The first word, and what stands after it.
 pub fn first_word<'a>(text: &'a [u8]) -> Option<(&'a [u8], &'a [u8])>
     ensures { IsFirstWord text.now result }
 {

@@ -209,13 +209,13 @@ ValuePlace = NumberPlace 0 (2 ^ 64 - 1)
 abbrev pub MomentPlace : Place
 MomentPlace = NumberPlace 0 (2 ^ 62)
 
--- what may stand behind the places: these words in this order, each or not; or one word of a kind, any number of times; or all of these places or none
+-- what may stand after the places: these words in this order, each or not; or one word of a kind, any number of times; or all of these places or none
 pub data Behind : Type 0 where
   Options : List (List ℕ) → Behind
   Each : Place → Behind
   Together : List Place → Behind
 
--- the places of a line, and what may stand behind them
+-- the places of a line, and what may stand after them
 pub record Shape : Type 0 where
   pub places : List Place
   pub behind : Behind
@@ -230,7 +230,7 @@ abbrev pub each_fault : Scope → Place → List (List ℕ) → Option ScriptFau
 each_fault scope place [] = None
 each_fault scope place (word ∷ words) = if fits scope place word then each_fault scope place words else Some (blame place word)
 
--- the first place that lacks its word, or the first word that may not stand where it does; then what is said of the words behind
+-- the first place that lacks its word, or the first word that may not stand where it does; then what is said of the words after them
 abbrev pub places_fault : Scope → List Place → (List (List ℕ) → Option ScriptFault) → List (List ℕ) → Option ScriptFault
 places_fault scope [] behind words = behind words
 places_fault scope (place ∷ places) behind [] = Some MissingWord
@@ -277,17 +277,17 @@ shape_of Keyword.Swap = only (ObjectPlace ∷ ObjectPlace ∷ TimePlace ∷ Mode
 shape_of Keyword.Next = only []
 shape_of Keyword.Exit = only []
 
--- the words behind a keyword, if it is one
+-- the words after a keyword, if it is one
 abbrev pub keyword_fault : Scope → Option Keyword → List (List ℕ) → Option ScriptFault
 keyword_fault scope None words = Some UnknownWord
 keyword_fault scope (Some keyword) words = shape_fault scope (shape_of keyword) words
 
--- the words behind a caller
+-- the words after a caller
 abbrev pub caller_fault : Scope → List (List ℕ) → Option ScriptFault
 caller_fault scope [] = Some MissingWord
 caller_fault scope (word ∷ words) = keyword_fault scope (keyword_of word) words
 
--- the first fault of a line's words behind `threads`
+-- the first fault of a line's words after `threads`
 abbrev pub words_fault : Scope → List (List ℕ) → Option ScriptFault
 words_fault scope [] = None
 words_fault scope (first ∷ words) =

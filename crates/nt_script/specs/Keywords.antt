@@ -1,4 +1,4 @@
--- The keywords behind a caller, and their words.
+-- The keywords after a caller, and their words.
 use Rattle.std.specs.Prelude.{ℕ, List, [], ◌∷◌, Option, Some, None, if◌then◌else◌, codes}
 use Rattle.std.specs.Str.{bytes_eq}
 use Rattle.nt_script.specs.declared.keyword.Keyword.{Keyword}

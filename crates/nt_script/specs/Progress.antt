@@ -12,7 +12,7 @@ use Rattle.nt_script.specs.declared.tally.Tally.{Tally}
 use Rattle.nt_script.specs.Scope.{Scope}
 use Rattle.nt_script.specs.Transcript.{Transcript, LineGives, FaultIn, IsBlankLine, IsOpeningLine, opened_scope}
 
--- behind the `threads` line: what is bound, the machine's state, and what was counted
+-- after the `threads` line: what is bound, the machine's state, and what was counted
 pub record Progress : Type 0 where
   pub scope : Scope
   pub state : State

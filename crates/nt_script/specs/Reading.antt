@@ -148,7 +148,7 @@ timer_at scope who words = do
   ended ← end_at manual.1
   Ok (Create who name.0 (Act.CreateTimer (if manual.0 then 1 else 0)))
 
--- one object, and nothing behind it
+-- one object, and nothing after it
 unfoldable pub only_object_at : Scope → List (List ℕ) → Result ℕ ScriptFault
 only_object_at scope words = do
   object ← object_at scope words
@@ -237,7 +237,7 @@ call_at scope who Keyword.Swap words = swap_at scope who words
 call_at scope who Keyword.Next words = bare_at who (Call.Act Act.NextApc) words
 call_at scope who Keyword.Exit words = bare_at who Call.Exit words
 
--- behind a caller
+-- after a caller
 unfoldable pub caller_at : Scope → ℕ → List (List ℕ) → Result Statement ScriptFault
 caller_at scope who words = do
   word ← word_at words
@@ -270,6 +270,6 @@ short_line bytes = if nat_le (length bytes) 4096 then Ok bytes else Err LineTooL
 abbrev pub opening_of : List ℕ → Result (Option ℕ) ScriptFault
 opening_of bytes = short_line bytes >>= λ line. (plain_text line >>= λ text. opening_at (words_of text))
 
--- what a line says behind it
+-- what a line says after it
 abbrev pub statement_of : Scope → List ℕ → Result Statement ScriptFault
 statement_of scope bytes = short_line bytes >>= λ line. (plain_text line >>= λ text. statement_at scope (words_of text))

@@ -36,7 +36,7 @@ routine_words (Some routine) = decimal routine.0 ∷ decimal routine.1 ∷ []
 
 -- ---- the words of a statement
 
--- a creation, behind its caller
+-- a creation, after its caller
 abbrev pub creation_words : List ℕ → Act → List (List ℕ)
 creation_words name (Act.CreateEvent flags) = codes "event" ∷ name ∷ (word_given (has_flag flags event_manual_reset) (codes "manual") ++ word_given (has_flag flags event_initial_set) (codes "set"))
 creation_words name (Act.CreateSemaphore initial maximum) = codes "semaphore" ∷ name ∷ signed_decimal initial ∷ signed_decimal maximum ∷ []
@@ -44,7 +44,7 @@ creation_words name (Act.CreateMutex flags) = codes "mutex" ∷ name ∷ word_gi
 creation_words name (Act.CreateTimer flags) = codes "timer" ∷ name ∷ word_given (has_flag flags timer_manual_reset) (codes "manual")
 creation_words name _ = []
 
--- another act, behind its caller
+-- another act, after its caller
 abbrev pub act_words : Act → List (List ℕ)
 act_words (Act.SetEvent handle) = codes "set" ∷ decimal handle ∷ []
 act_words (Act.ResetEvent handle) = codes "reset" ∷ decimal handle ∷ []
@@ -57,7 +57,7 @@ act_words (Act.QueueApc handle apc arg) = codes "apc" ∷ decimal handle ∷ dec
 act_words Act.NextApc = codes "next" ∷ []
 act_words _ = []
 
--- a waiting call, behind its caller
+-- a waiting call, after its caller
 abbrev pub wait_words : WaitCall → List (List ℕ)
 wait_words (WaitCall.Objects handles all ms alertable) = (if all then codes "all" else codes "any") ∷ time_word ms ∷ mode_word alertable ∷ map decimal handles
 wait_words (WaitCall.Sleep ms alertable) = codes "sleep" ∷ time_word ms ∷ mode_word alertable ∷ []

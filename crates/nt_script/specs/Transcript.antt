@@ -69,7 +69,7 @@ abbrev pub or_none : List ℕ → List ℕ
 or_none [] = codes " none"
 or_none (byte ∷ bytes) = byte ∷ bytes
 
--- the line behind the last
+-- the line after the last
 abbrev pub end_text : ℕ → State → List ℕ
 end_text threads s = codes "end: pending" ++ or_none (waiting_text s threads) ++ 10 ∷ []
 
@@ -138,7 +138,7 @@ ReadsOpening bytes (Ok (Some threads)) = IsOpeningLine threads bytes
 ReadsOpening bytes (Err (fault.Script script)) = FaultIn None bytes script
 ReadsOpening bytes (Err fault.Memory) = Unit {0}
 
--- A line behind `threads` is this statement, or has this first fault.
+-- A line after `threads` is this statement, or has this first fault.
 abbrev pub ReadsStatement : Scope → List ℕ → Result Statement LineFault → Type 0
 ReadsStatement scope bytes (Ok statement) = IsLine scope statement bytes
 ReadsStatement scope bytes (Err (fault.Script script)) = FaultIn (Some scope) bytes script

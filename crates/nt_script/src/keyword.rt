@@ -1,9 +1,9 @@
-//! The keywords behind a caller.
+//! The keywords after a caller.
 
 ghost use Rattle.std.specs.Prelude.{◌≡◌};
 ghost use Rattle.nt_script.specs.Keywords.{keyword_of};
 
-/// What a line behind `threads` is about, by the word after its caller.
+/// What a line after `threads` is about, by the word after its caller.
 #[derive(Clone, Copy, Debug, PartialEq, Eq)]
 pub(crate) enum Keyword {
     Event,

@@ -45,7 +45,7 @@ impl Name {
     }
 }
 
-/// What a line behind `threads` says.
+/// What a line after `threads` says.
 #[derive(Drop)]
 pub(crate) enum Statement {
     Blank,
@@ -172,7 +172,7 @@ fn timer(
     Ok(Statement::Create { who, name, act })
 }
 
-/// One object, and nothing behind it.
+/// One object, and nothing after it.
 #[tactic(auto, unfolding(crate::specs::Reading::only_object_at))]
 fn only_object(bindings: &Bindings, mut words: Words) -> Result<Handle, ScriptFault>
     ensures { result ≡ only_object_at bindings.now.scope words.entry }
@@ -353,7 +353,7 @@ fn parse_call(
     }
 }
 
-/// A line behind its caller.
+/// A line after its caller.
 #[tactic(auto, unfolding(crate::specs::Reading::caller_at))]
 fn parse_caller_line(
     alloc: Global,
@@ -369,7 +369,7 @@ fn parse_caller_line(
     parse_call(alloc, bindings, who, keyword, words)
 }
 
-/// A line behind `threads`.
+/// A line after `threads`.
 #[tactic(auto, unfolding(crate::specs::Reading::statement_at))]
 pub(crate) fn parse_statement(
     alloc: Global,

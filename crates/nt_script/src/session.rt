@@ -1,4 +1,4 @@
-//! What a script speaks to behind its `threads` line.
+//! What a script speaks to after its `threads` line.
 
 ghost use Rattle.std.specs.Prelude.{◌≡◌, ◌+◌, ◌*◌, ◌-◌, ◌<◌, ◌≤◌, ◌^◌, ◌∷◌, [], ◌++◌, OnOk, OnErr, IfOk, IfErr, IfSome, length, None, Some, vec_len, vec_capacity, Result, Ok, Err};
 ghost use Rattle.std.specs.FinMap.{len};
@@ -23,7 +23,7 @@ use nt_lines::put;
 use nt_status::{Handle, Moment, Refusal};
 use std::alloc::{AllocError, Global};
 
-/// How the line behind the last begins.
+/// How the line after the last begins.
 const END: &[u8] = b"end: pending";
 
 /// The core, the names bound so far, and the count of calls.
@@ -96,7 +96,7 @@ impl Session {
         }
     }
 
-    /// Parses a line behind `threads`.
+    /// Parses a line after `threads`.
     fn parse(&self, alloc: Global, line: &[u8]) -> Result<Statement, LineFault>
         requires { length line.now ≤ 4096 }
         ensures exact { Gives (λ statement. statement) result (statement_of self.now.bindings.scope line.now) }
@@ -106,7 +106,7 @@ impl Session {
         parse_statement(alloc, &self.bindings, words)
     }
 
-    /// Reads a line behind `threads`.
+    /// Reads a line after `threads`.
     fn read(&self, alloc: Global, line: &[u8]) -> Result<Statement, LineFault>
         requires { length line.now ≤ 4096 }
         ensures reads { ReadsStatement self.now.bindings.scope line.now result }
@@ -200,7 +200,7 @@ impl Session {
         answer
     }
 
-    /// Carries out a line behind `threads`, and puts what it says into `out`.
+    /// Carries out a line after `threads`, and puts what it says into `out`.
     pub(crate) fn carry_out(
         &mut self,
         alloc: Global,
@@ -276,7 +276,7 @@ impl Session {
         }
     }
 
-    /// Puts the line behind the last.
+    /// Puts the line after the last.
     pub(crate) fn put_end(&self, out: &mut Vec<u8>) -> Result<(), AllocError>
         requires { out.old.items ≡ [] }
         ensures { OnOk result (out.new.items ≡ end_of (progress self.now)) }
@@ -291,7 +291,7 @@ impl Session {
         Ok(())
     }
 
-    /// What the run came to, behind so many lines.
+    /// What the run came to, after so many lines.
     pub(crate) fn summary(&self, lines: u64) -> Summary
         ensures { result ≡ summary_at lines (progress self.now) }
     {

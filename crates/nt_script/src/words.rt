@@ -1,4 +1,4 @@
-//! The words of a line, with a fault where one is wanting or too many.
+//! The words of a line, with a fault where one is missing or too many.
 
 ghost use Rattle.std.specs.Prelude.{◌≡◌, length, ◌==◌};
 ghost use Rattle.nt_lines.specs.Words.{words_of};
@@ -50,7 +50,7 @@ impl<'a> Words<'a> {
         first_word(self.left).is_none()
     }
 
-    /// Nothing may stand behind the words that were taken.
+    /// Nothing may stand after the words that were taken.
     pub(crate) fn end(&self) -> Result<(), ScriptFault>
         ensures { result ≡ end_at self.now }
     {
