@@ -9,3 +9,4 @@ pub mod Transcript
 pub mod Progress
 pub mod Running
 pub mod Laws
+pub mod Message

@@ -1,48 +1,105 @@
 //! Why a script can't be carried out.
 
-ghost use Rattle.std.specs.Prelude.{◌≡◌};
+ghost use Rattle.std.specs.Prelude.{◌≡◌, Some};
+ghost use Rattle.nt_script.specs.Message.{fault_text, fault_words, line_number, reason_of};
 ghost use Rattle.nt_script.specs.declared.fault.LineFault.TheVariants.{Memory, Script};
 
 use std::alloc::AllocError;
-use thiserror::Error;
+use std::error::Error;
+use std::fmt;
 
 /// What is wrong with a line of a script.
-#[derive(Clone, Copy, Debug, PartialEq, Eq, Error)]
+#[derive(Clone, Copy, Debug, PartialEq, Eq)]
 pub enum ScriptFault {
-    #[error("line too long")]
     LineTooLong,
-    #[error("bad byte")]
     BadByte,
-    #[error("threads expected")]
     ThreadsExpected,
-    #[error("unknown word")]
     UnknownWord,
-    #[error("missing word")]
     MissingWord,
-    #[error("bad number")]
     BadNumber,
-    #[error("bad name")]
     BadName,
-    #[error("name taken")]
     NameTaken,
-    #[error("unknown name")]
     UnknownName,
-    #[error("extra word")]
     ExtraWord,
 }
 
+impl ScriptFault {
+    /// The fault in words.
+    pub fn words(self) -> &'static str
+        ensures { result.now ≡ fault_words self }
+    {
+        match self {
+            ScriptFault::LineTooLong => "line too long",
+            ScriptFault::BadByte => "bad byte",
+            ScriptFault::ThreadsExpected => "threads expected",
+            ScriptFault::UnknownWord => "unknown word",
+            ScriptFault::MissingWord => "missing word",
+            ScriptFault::BadNumber => "bad number",
+            ScriptFault::BadName => "bad name",
+            ScriptFault::NameTaken => "name taken",
+            ScriptFault::UnknownName => "unknown name",
+            ScriptFault::ExtraWord => "extra word",
+        }
+    }
+}
+
+impl fmt::Display for ScriptFault {
+    ghost output = { λ fault. Some (fault_words fault) };
+
+    fn fmt<W: fmt::Write>(&self, f: &mut fmt::Formatter<W>) -> fmt::Result {
+        let words = self.words();
+        write!(f, "{words}")
+    }
+}
+
+impl Error for ScriptFault {}
+
 /// Why a run ended before its script did.
-#[derive(Clone, Copy, Debug, PartialEq, Eq, Error)]
+#[derive(Clone, Copy, Debug, PartialEq, Eq)]
 pub enum RunFault {
-    #[error("line {line}: {fault}")]
     Script { line: u64, fault: ScriptFault },
-    #[error("line {line}: read failed")]
     Read { line: u64 },
-    #[error("line {line}: write failed")]
     Write { line: u64 },
-    #[error("line {line}: out of memory")]
     Memory { line: u64 },
 }
+
+impl RunFault {
+    /// The number of the line at which the run ended, from 1 on.
+    pub fn line(self) -> u64
+        ensures { result ≡ line_number self }
+    {
+        match self {
+            RunFault::Script { line, .. }
+            | RunFault::Read { line }
+            | RunFault::Write { line }
+            | RunFault::Memory { line } => line,
+        }
+    }
+
+    /// Why it ended there, in words.
+    pub fn reason(self) -> &'static str
+        ensures { result.now ≡ reason_of self }
+    {
+        match self {
+            RunFault::Script { fault, .. } => fault.words(),
+            RunFault::Read { .. } => "read failed",
+            RunFault::Write { .. } => "write failed",
+            RunFault::Memory { .. } => "out of memory",
+        }
+    }
+}
+
+impl fmt::Display for RunFault {
+    ghost output = { λ fault. Some (fault_text fault) };
+
+    fn fmt<W: fmt::Write>(&self, f: &mut fmt::Formatter<W>) -> fmt::Result {
+        let line = self.line();
+        let reason = self.reason();
+        write!(f, "line {line}: {reason}")
+    }
+}
+
+impl Error for RunFault {}
 
 /// Why one line can't be carried out.
 #[derive(Clone, Copy, Debug, PartialEq, Eq)]

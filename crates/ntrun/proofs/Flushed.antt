@@ -10,8 +10,8 @@ use Rattle.nt_script.specs.declared.fault.RunFault.{RunFault}
 use Rattle.nt_script.specs.declared.fault.RunFault.TheVariants.{Script, Read, Write, Memory}
 use Rattle.ntrun.specs.Ending.{CountsReads, IsFlushed, Outcome}
 
-still_done : (left held mid held' : Option (List ℕ)) (summary : Summary) → Answers left held mid (Ok summary) → Keeps mid held' → Answers left held held' (Ok summary)
-still_done left held mid held' summary done kept = record {
+still_done : (left left' held mid held' : Option (List ℕ)) (summary : Summary) → Answers left left' held mid (Ok summary) → Keeps mid held' → Answers left left' held held' (Ok summary)
+still_done left left' held mid held' summary done kept = record {
   input = done.input;
   turns = done.turns;
   text = done.text;
@@ -22,7 +22,7 @@ still_done left held mid held' summary done kept = record {
   written = Appends-kept held mid held' (done.text ++ end_of done.end) done.written kept;
 }
 
-still_stopped : (left held mid held' : Option (List ℕ)) (number : ℕ) (IsCause : Option Progress → List (List ℕ) → Type 0) → Stops left held mid number IsCause → Keeps mid held' → Stops left held held' number IsCause
+still_stopped : (left held mid held' : Option (List ℕ)) (number : ℕ) (IsCause : List (List ℕ) → Option Progress → List (List ℕ) → Type 0) → Stops left held mid number IsCause → Keeps mid held' → Stops left held held' number IsCause
 still_stopped left held mid held' number IsCause stops kept = record {
   input = stops.input;
   turns = stops.turns;
@@ -47,28 +47,28 @@ flushed written mid written' handed (Err e) room same counts hands = inr (counts
 
 -- ---- what is answered
 
-pub done : (left held mid held' : Option (List ℕ)) (read read' written before written' : ℕ) (handed : Bool) (summary : Summary)
-    → Answers left held mid (Ok summary) → CountsFailures read read' written before (Ok summary) → Keeps mid held' → written' ≡ before → handed ≡ true
-    → Outcome left held held' written written' handed (Ok summary) × CountsReads read read' (Ok summary)
-done left held mid held' read read' written before written' handed summary answers counts kept same hands = ((still_done left held mid held' summary answers kept, same ∙ counts.1, hands), counts.0)
+pub done : (left left' held mid held' : Option (List ℕ)) (read read' written before written' : ℕ) (handed : Bool) (summary : Summary)
+    → Answers left left' held mid (Ok summary) → CountsFailures read read' written before (Ok summary) → Keeps mid held' → written' ≡ before → handed ≡ true
+    → Outcome left left' held held' written written' handed (Ok summary) × CountsReads read read' (Ok summary)
+done left left' held mid held' read read' written before written' handed summary answers counts kept same hands = ((still_done left left' held mid held' summary answers kept, same ∙ counts.1, hands), counts.0)
 
-pub not_handed_on : (left held mid held' : Option (List ℕ)) (read read' written before written' : ℕ) (handed : Bool) (summary : Summary) (line : ℕ) → written < 2 ^ 64 - 1
-    → Answers left held mid (Ok summary) → CountsFailures read read' written before (Ok summary) → Keeps mid held' → written' ≡ one_more before → handed ≡ false → line ≡ summary.lines + 1
-    → Outcome left held held' written written' handed (Err (Write line)) × CountsReads read read' (Err (Write line))
-not_handed_on left held mid held' read read' written before written' handed summary line room answers counts kept more hands is =
-    ((more ∙ ap one_more counts.1 ∙ one_more_is written room, inr (summary, still_done left held mid held' summary answers kept, is, hands)), counts.0)
+pub not_handed_on : (left left' held mid held' : Option (List ℕ)) (read read' written before written' : ℕ) (handed : Bool) (summary : Summary) (line : ℕ) → written < 2 ^ 64 - 1
+    → Answers left left' held mid (Ok summary) → CountsFailures read read' written before (Ok summary) → Keeps mid held' → written' ≡ one_more before → handed ≡ false → line ≡ summary.lines + 1
+    → Outcome left left' held held' written written' handed (Err (Write line)) × CountsReads read read' (Err (Write line))
+not_handed_on left left' held mid held' read read' written before written' handed summary line room answers counts kept more hands is =
+    ((more ∙ ap one_more counts.1 ∙ one_more_is written room, inr (summary, still_done left left' held mid held' summary answers kept, is, hands)), counts.0)
 
-pub write_failed : (left held held' : Option (List ℕ)) (read read' written written' : ℕ) (handed : Bool) (line : ℕ) → Answers left held held' (Err (Write line)) → CountsFailures {X = Summary} read read' written written' (Err (Write line))
-    → Outcome left held held' written written' handed (Err (Write line)) × CountsReads read read' (Err (Write line))
-write_failed left held held' read read' written written' handed line answers counts = ((counts.1, inl answers), counts.0)
+pub write_failed : (left left' held held' : Option (List ℕ)) (read read' written written' : ℕ) (handed : Bool) (line : ℕ) → Answers left left' held held' (Err (Write line)) → CountsFailures {X = Summary} read read' written written' (Err (Write line))
+    → Outcome left left' held held' written written' handed (Err (Write line)) × CountsReads read read' (Err (Write line))
+write_failed left left' held held' read read' written written' handed line answers counts = ((counts.1, inl answers), counts.0)
 
-pub cut_short : {X E : Type 0} (left held mid held' : Option (List ℕ)) (read read' written before written' : ℕ) (handed : Bool) (flush : Result X E) (fault : RunFault) → written < 2 ^ 64 - 1
-    → ((line : ℕ) → fault ≡ Write line → ⊥) → Answers left held mid (Err fault) → CountsFailures {X = Summary} read read' written before (Err fault) → Keeps mid held' → Counts before written' flush → HandsOn handed flush
-    → Outcome left held held' written written' handed (Err fault) × CountsReads read read' (Err fault)
-cut_short left held mid held' read read' written before written' handed flush (Script line fault) room other answers counts kept more hands =
+pub cut_short : {X E : Type 0} (left left' held mid held' : Option (List ℕ)) (read read' written before written' : ℕ) (handed : Bool) (flush : Result X E) (fault : RunFault) → written < 2 ^ 64 - 1
+    → ((line : ℕ) → fault ≡ Write line → ⊥) → Answers left left' held mid (Err fault) → CountsFailures {X = Summary} read read' written before (Err fault) → Keeps mid held' → Counts before written' flush → HandsOn handed flush
+    → Outcome left left' held held' written written' handed (Err fault) × CountsReads read read' (Err fault)
+cut_short left left' held mid held' read read' written before written' handed flush (Script line fault) room other answers counts kept more hands =
     ((still_stopped left held mid held' line _ answers kept, flushed written before written' handed flush room counts.1 more hands), counts.0)
-cut_short left held mid held' read read' written before written' handed flush (Read line) room other answers counts kept more hands =
+cut_short left left' held mid held' read read' written before written' handed flush (Read line) room other answers counts kept more hands =
     ((still_stopped left held mid held' line _ answers kept, flushed written before written' handed flush room counts.1 more hands), counts.0)
-cut_short left held mid held' read read' written before written' handed flush (Memory line) room other answers counts kept more hands =
+cut_short left left' held mid held' read read' written before written' handed flush (Memory line) room other answers counts kept more hands =
     ((still_stopped left held mid held' line _ answers kept, flushed written before written' handed flush room counts.1 more hands), counts.0)
-cut_short left held mid held' read read' written before written' handed flush (Write line) room other answers counts kept more hands = absurd (other line refl)
+cut_short left left' held mid held' read read' written before written' handed flush (Write line) room other answers counts kept more hands = absurd (other line refl)

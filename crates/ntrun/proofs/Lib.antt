@@ -4,3 +4,4 @@ pub mod Faults
 pub mod Scripts
 pub mod CommandLines
 pub mod Matches
+pub mod Saying

@@ -1,20 +1,24 @@
 //! `ntrun script FILE` runs a script to standard output.
 #![tactic(auto)]
 
-ghost use Rattle.std.specs.Prelude.{◌≡◌};
+ghost use Rattle.ntrun.specs.Ending.{PlanEnds, PrintEnds};
 
+mod errors;
 mod plan;
 mod script;
 
-use nt_devices::Counted;
+use errors::say;
+use nt_devices::{Counted, Sink};
 use plan::{Plan, PlanFault, plan_of};
-use script::script_over;
-use std::alloc::{AllocError, Global};
-use std::io::{self, BufWriter, Write};
+use script::run_file;
+use std::alloc::AllocError;
+use std::env;
+use std::io::{self, BufWriter};
 use std::process::ExitCode;
-use std::{env, fs};
 
 const USAGE: &str = "ntrun: usage: ntrun script FILE or ntrun threads N ROUNDS";
+
+const OUT_OF_MEMORY: &str = "ntrun: out of memory";
 
 /// The words of the command line, the program's own name first.
 fn words(rt: &HostRuntime) -> Result<Vec<String>, AllocError> {
@@ -25,41 +29,37 @@ fn words(rt: &HostRuntime) -> Result<Vec<String>, AllocError> {
     Ok(words)
 }
 
-/// Runs the script in this file, and answers the exit status.
-fn run_file(rt: &HostRuntime, path: &str, errors: &mut impl Write) -> u8 {
-    let Ok(file) = fs::open(rt, path) else {
-        return say(errors, "ntrun: cannot open", 1);
-    };
-    let Ok(writer) = BufWriter::new(rt.alloc(), io::writer(rt)) else {
-        return say(errors, "ntrun: out of memory", 1);
-    };
-    let mut reader = Counted::new(file);
-    let mut writer = Counted::new(writer);
-    script_over(rt.alloc(), &mut reader, &mut writer, errors)
+/// Runs the script in this file to standard output, and answers the exit status.
+fn print_file<E: Sink>(rt: &HostRuntime, path: &str, errors: &mut E) -> u8
+    ensures { PrintEnds (E.contents errors.old) (E.contents errors.new) (E.failed errors.old) (E.failed errors.new) result }
+{
+    match BufWriter::new(rt.alloc(), io::writer(rt)) {
+        Ok(writer) => run_file(rt, path, &mut Counted::new(writer), errors),
+        Err(_) => say(errors, OUT_OF_MEMORY, 1),
+    }
 }
 
-/// Writes a line to standard error. A failure to write it is ignored.
-fn say(errors: &mut impl Write, line: &str, status: u8) -> u8
-    ensures { result ≡ status }
+/// Does what was planned, and answers the exit status.
+fn carry_out<E: Sink>(rt: &HostRuntime, plan: Result<Plan, PlanFault>, errors: &mut E) -> u8
+    ensures { PlanEnds plan (E.contents errors.old) (E.contents errors.new) (E.failed errors.old) (E.failed errors.new) result }
 {
-    let _ = writeln!(errors, "{line}");
-    status
+    match plan {
+        Ok(Plan::Script(path)) => print_file(rt, path.as_str(), errors),
+        Err(PlanFault::Usage) => say(errors, USAGE, 2),
+        Err(PlanFault::Memory) => say(errors, OUT_OF_MEMORY, 1),
+    }
 }
 
 /// Does what the words ask for, and answers the exit status.
-fn carry_out(rt: &HostRuntime, errors: &mut impl Write) -> u8 {
-    let Ok(words) = words(rt) else {
-        return say(errors, "ntrun: out of memory", 1);
-    };
-    match plan_of(rt.alloc(), words.as_slice()) {
-        Ok(Plan::Script(path)) => run_file(rt, path.as_str(), errors),
-        Err(PlanFault::Usage) => say(errors, USAGE, 2),
-        Err(PlanFault::Memory) => say(errors, "ntrun: out of memory", 1),
+fn start<E: Sink>(rt: &HostRuntime, errors: &mut E) -> u8 {
+    match words(rt) {
+        Ok(words) => carry_out(rt, plan_of(rt.alloc(), words.as_slice()), errors),
+        Err(_) => carry_out(rt, Err(PlanFault::Memory), errors),
     }
 }
 
 fn main(rt: HostRuntime) -> ExitCode {
-    ExitCode::from(carry_out(&rt, &mut rt.stderr()))
+    ExitCode::from(start(&rt, &mut Counted::new(rt.stderr())))
 }
 
 #[cfg(test)]

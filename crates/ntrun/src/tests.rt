@@ -21,7 +21,8 @@ fn run_over(alloc: Global, given: Given<'_>, mut taken: Taken) -> Ran {
     let mut reader = Counted::new(given);
     let mut writer = Counted::new(&mut taken);
     let mut errors = Taken::new(alloc);
-    let status = script_over(alloc, &mut reader, &mut writer, &mut errors);
+    let mut says = Counted::new(&mut errors);
+    let status = script_over(alloc, &mut reader, &mut writer, &mut says);
     Ran {
         written: taken.bytes,
         said: errors.bytes,
@@ -110,7 +111,7 @@ fn a_failed_write_is_told_with_its_line(rt: HostRuntime) {
 }
 
 #[test]
-fn a_failed_flush_is_told_behind_the_last_line(rt: HostRuntime) {
+fn a_failed_flush_is_told_after_the_last_line(rt: HostRuntime) {
     let given = Given::all(HAND_OVER.as_bytes());
     let ran = run_over(rt.alloc(), given, Taken::never_flushed(rt.alloc()));
     assert_eq!(rt; ran.written.as_slice(), HAND_OVER_TRANSCRIPT.as_bytes());
