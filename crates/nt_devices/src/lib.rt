@@ -8,6 +8,3 @@ mod source;
 pub use counted::Counted;
 pub use sink::Sink;
 pub use source::Source;
-
-#[cfg(test)]
-mod tests;

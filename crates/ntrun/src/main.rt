@@ -3,12 +3,8 @@
 
 ghost use Rattle.std.specs.Prelude.{◌≡◌};
 
-mod plan;
-mod script;
-
+use nt_commands::{Plan, PlanFault, plan_of, script_over};
 use nt_devices::Counted;
-use plan::{Plan, PlanFault, plan_of};
-use script::script_over;
 use std::alloc::{AllocError, Global};
 use std::io::{self, BufWriter, Write};
 use std::process::ExitCode;
@@ -61,6 +57,3 @@ fn carry_out(rt: &HostRuntime, errors: &mut impl Write) -> u8 {
 fn main(rt: HostRuntime) -> ExitCode {
     ExitCode::from(carry_out(&rt, &mut rt.stderr()))
 }
-
-#[cfg(test)]
-mod tests;
