@@ -2,8 +2,6 @@
 #![tactic(auto)]
 
 mod alarms;
-#[cfg(test)]
-mod tests;
 mod tree;
 
 pub use alarms::Alarms;

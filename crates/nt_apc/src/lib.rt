@@ -6,8 +6,6 @@ mod inbox;
 mod linked;
 mod place;
 mod queues;
-#[cfg(test)]
-mod tests;
 
 pub use apc::{Apc, Queued};
 pub use queues::ApcQueues;

@@ -10,6 +10,3 @@ pub use counted::Counted;
 pub use output::{WriteFailed, write_whole};
 pub use sink::Sink;
 pub use source::Source;
-
-#[cfg(test)]
-mod tests;

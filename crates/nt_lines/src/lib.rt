@@ -8,6 +8,3 @@ mod words;
 pub use input::{Ending, Input, MAX_LINE, ReadFault};
 pub use text::put;
 pub use words::{are_digits, caller_of, first_word, name_of, number_of, text_of};
-
-#[cfg(test)]
-mod tests;

@@ -4,8 +4,6 @@
 mod links;
 mod owners;
 mod table;
-#[cfg(test)]
-mod tests;
 
 pub use owners::Owners;
 pub use table::ObjectTable;

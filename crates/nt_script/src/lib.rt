@@ -23,6 +23,3 @@ pub use laws::{
 pub use nt_devices::{Counted, Sink, Source};
 pub use runner::run;
 pub use summary::Summary;
-
-#[cfg(test)]
-mod tests;

@@ -7,8 +7,6 @@ mod moment;
 mod mutex_flags;
 mod refusal;
 mod status;
-#[cfg(test)]
-mod tests;
 mod thread_id;
 mod timer_flags;
 

@@ -12,8 +12,6 @@ mod prepared;
 mod queues;
 mod table;
 mod take;
-#[cfg(test)]
-mod tests;
 mod wait;
 
 pub use table::WaitTable;

@@ -1,16 +1,10 @@
 //! `ntrun script FILE` runs a script to standard output.
 #![tactic(auto)]
 
-ghost use Rattle.ntrun.specs.Ending.{PlanEnds, PrintEnds};
+ghost use Rattle.nt_commands.specs.Ending.{PlanEnds, PrintEnds};
 
-mod errors;
-mod plan;
-mod script;
-
-use errors::say;
+use nt_commands::{Plan, PlanFault, plan_of, run_file, say};
 use nt_devices::{Counted, Sink};
-use plan::{Plan, PlanFault, plan_of};
-use script::run_file;
 use std::alloc::AllocError;
 use std::env;
 use std::io::{self, BufWriter};
@@ -61,6 +55,3 @@ fn start<E: Sink>(rt: &HostRuntime, errors: &mut E) -> u8 {
 fn main(rt: HostRuntime) -> ExitCode {
     ExitCode::from(start(&rt, &mut Counted::new(rt.stderr())))
 }
-
-#[cfg(test)]
-mod tests;

@@ -1,0 +1,5 @@
+use Rattle.nt_commands.proofs.Saying.{Writes-said}
+use Rattle.nt_commands.proofs.errors.tell.Goals as goal
+
+pub returns : goal.returns
+returns g c = Writes-said _ _ _ _ _ c.write_message.result c.write_message.ensures

@@ -1,0 +1,85 @@
+//! Running a script between a reader and two writers.
+
+ghost use Rattle.std.specs.Prelude.{◌≡◌, ◌-◌, ◌<◌, ◌^◌, Err};
+ghost use Rattle.nt_commands.specs.Ending.{CountsReads, FileEnds, Outcome, ScriptEnds, status_of};
+
+use crate::errors::{say, tell};
+use nt_devices::{Counted, Sink, Source};
+use nt_script::{RunFault, Summary, run};
+use std::alloc::Global;
+use std::fs;
+use std::rt::Files;
+
+/// Runs the script that the reader gives, and answers the exit status: 0 where it was done, 2 where the script has a fault,
+/// 1 where reading, writing or memory failed. Why it is not 0 is said on `errors`; a failure to write that is ignored.
+pub fn script_over<R: Source, W: Sink, E: Sink>(
+    alloc: Global,
+    reader: &mut R,
+    writer: &mut W,
+    errors: &mut E,
+) -> u8
+    requires read_failures { R.failed reader.old < 2 ^ 64 - 1 }
+    requires write_failures { W.failed writer.old < 2 ^ 64 - 1 }
+    ensures { ScriptEnds (R.remaining reader.old) (R.remaining reader.new) (W.contents writer.old) (W.contents writer.new) (R.failed reader.old) (R.failed reader.new)
+        (W.failed writer.old) (W.failed writer.new) (W.handed_on writer.new) (E.contents errors.old) (E.contents errors.new) (E.failed errors.old) (E.failed errors.new) result }
+{
+    match run_and_flush(alloc, reader, writer) {
+        Ok(_) => 0,
+        Err(fault) => {
+            tell(errors, fault);
+            status_of(fault)
+        }
+    }
+}
+
+/// Runs the script in this file, and answers the exit status as `script_over` does; 1 where the file can't be opened, which
+/// is said on `errors`.
+pub fn run_file<F: Files + AllocGlobal, W: Sink, E: Sink>(
+    files: &F,
+    path: &str,
+    writer: &mut W,
+    errors: &mut E,
+) -> u8
+    requires { W.failed writer.old < 2 ^ 64 - 1 }
+    ensures { FileEnds (W.contents writer.old) (W.contents writer.new) (W.failed writer.old) (W.failed writer.new) (W.handed_on writer.new) (E.contents errors.old) (E.contents errors.new) (E.failed errors.old) (E.failed errors.new) result }
+{
+    match fs::open(files, path) {
+        Ok(file) => script_over(files.alloc(), &mut Counted::new(file), writer, errors),
+        Err(_) => say(errors, "ntrun: cannot open", 1),
+    }
+}
+
+/// Runs the script, and then hands on what the writer holds back. After a failed write nothing more is written.
+fn run_and_flush<R: Source, W: Sink>(
+    alloc: Global,
+    reader: &mut R,
+    writer: &mut W,
+) -> Result<Summary, RunFault>
+    requires read_failures { R.failed reader.old < 2 ^ 64 - 1 }
+    requires write_failures { W.failed writer.old < 2 ^ 64 - 1 }
+    ensures { Outcome (R.remaining reader.old) (R.remaining reader.new) (W.contents writer.old) (W.contents writer.new) (W.failed writer.old) (W.failed writer.new) (W.handed_on writer.new) result × CountsReads (R.failed reader.old) (R.failed reader.new) result }
+{
+    match run(alloc, reader, writer) {
+        Ok(summary) => match writer.flush_counted() {
+            Ok(()) => Ok(summary),
+            Err(_) => Err(RunFault::Write {
+                line: summary.lines + 1,
+            }),
+        },
+        Err(RunFault::Write { line }) => Err(RunFault::Write { line }),
+        Err(fault) => {
+            let _ = writer.flush_counted();
+            Err(fault)
+        }
+    }
+}
+
+/// The exit status of a run that was not done.
+fn status_of(fault: RunFault) -> u8
+    ensures { result ≡ status_of (Err fault) }
+{
+    match fault {
+        RunFault::Script { .. } => 2,
+        RunFault::Read { .. } | RunFault::Write { .. } | RunFault::Memory { .. } => 1,
+    }
+}

@@ -1,0 +1,266 @@
+//! What a script's run says, how it ends, and what the words of a command line ask for.
+
+use crate::devices::{Given, Room, Taken};
+use crate::refused::{Host, before_refusal, tell_refused};
+use nt_commands::{Plan, PlanFault, plan_of, script_over};
+use nt_devices::Counted;
+use std::alloc::{AllocError, Global};
+use std::test::Fail;
+
+/// What a run of a script wrote, what it said on standard error, and its exit status.
+#[derive(Drop)]
+struct Ran {
+    written: Vec<u8>,
+    said: Vec<u8>,
+    status: u8,
+    /// Whether the memory to keep either was refused.
+    is_lost: bool,
+}
+
+impl Ran {
+    /// Whether memory was refused.
+    fn is_refused(&self) -> bool {
+        let written = self.written.as_slice();
+        self.is_lost
+            || self.said.as_slice().ends_with(b": out of memory\n")
+            || before_refusal(written).len() < written.len()
+    }
+}
+
+fn run_once(alloc: Global, given: Given<'_>, room: Room) -> Ran {
+    let mut taken = Taken::new(alloc, room);
+    let mut errors = Taken::new(alloc, Room::ENDLESS);
+    let status = script_over(
+        alloc,
+        &mut Counted::new(given),
+        &mut Counted::new(&mut taken),
+        &mut errors,
+    );
+    Ran {
+        is_lost: taken.is_refused || errors.is_refused,
+        written: taken.bytes,
+        said: errors.bytes,
+        status,
+    }
+}
+
+/// Runs the script, a second time where memory is refused: what stands before the refusal was right.
+fn run_over(rt: &impl Host, given: Given<'_>, room: Room) -> Ran {
+    let ran = run_once(rt.alloc(), given, room);
+    if !ran.is_refused() {
+        return ran;
+    }
+    tell_refused(rt, "a run");
+    let again = run_once(rt.alloc(), given, room);
+    let sure = before_refusal(ran.written.as_slice());
+    assert!(rt; again.written.as_slice().starts_with(sure));
+    again
+}
+
+/// One event with two threads that wait for it in turn.
+const HAND_OVER: &str =
+    "threads 3\nt0 event e\nt0 any inf plain e\nt1 any inf plain e\nt2 set e\nt2 set e\n";
+
+const HAND_OVER_TRANSCRIPT: &str =
+    "2: handle 3\n3: pending\n4: pending\n5: ok\n5: t0 status 0x00000000\n6: ok\n6: t1 status 0x00000000\nend: pending none\n";
+
+const FAULTY: &str = "threads 1\nt0 event e\nt0 sett e\n";
+
+/// What a run writes to standard output and to standard error, and its exit status.
+#[derive(Clone, Copy)]
+struct Ending {
+    written: &'static str,
+    said: &'static str,
+    status: u8,
+}
+
+fn is_ending(ran: &Ran, ending: Ending) -> bool {
+    ran.written.as_slice() == ending.written.as_bytes()
+        && ran.said.as_slice() == ending.said.as_bytes()
+        && ran.status == ending.status
+}
+
+fn check(rt: &impl Host, given: Given<'_>, room: Room, ending: Ending) {
+    let ran = run_over(rt, given, room);
+    assert!(rt; is_ending(&ran, ending), "{}", ending.said);
+}
+
+/// Scripts, and how they end.
+const WORKED: &[(&str, Ending)] = &[
+    (
+        HAND_OVER,
+        Ending {
+            written: HAND_OVER_TRANSCRIPT,
+            said: "",
+            status: 0,
+        },
+    ),
+    (
+        FAULTY,
+        Ending {
+            written: "2: handle 1\n",
+            said: "ntrun: line 3: unknown word\n",
+            status: 2,
+        },
+    ),
+    (
+        "",
+        Ending {
+            written: "",
+            said: "ntrun: line 1: threads expected\n",
+            status: 2,
+        },
+    ),
+];
+
+#[test]
+fn a_script_ends_with_its_status_and_message(rt: HostRuntime) {
+    for (script, ending) in WORKED {
+        check(&rt, Given::all(script.as_bytes()), Room::ENDLESS, *ending);
+    }
+}
+
+#[test]
+fn a_failed_read_is_told_with_its_line(rt: HostRuntime) {
+    for (count, written, said) in [
+        (0, "", "ntrun: line 1: read failed\n"),
+        (10, "", "ntrun: line 2: read failed\n"),
+        (
+            HAND_OVER.len(),
+            "2: handle 3\n3: pending\n4: pending\n5: ok\n5: t0 status 0x00000000\n6: ok\n6: t1 status 0x00000000\n",
+            "ntrun: line 7: read failed\n",
+        ),
+    ] {
+        let given = Given::failing_after(HAND_OVER.as_bytes(), count);
+        let ending = Ending {
+            written,
+            said,
+            status: 1,
+        };
+        check(&rt, given, Room::ENDLESS, ending);
+    }
+}
+
+fn check_failed_write(rt: &impl Host, room: usize, said: &'static str) {
+    let ending = Ending {
+        written: HAND_OVER_TRANSCRIPT.get(..room).unwrap_or(""),
+        said,
+        status: 1,
+    };
+    let given = Given::all(HAND_OVER.as_bytes());
+    check(rt, given, Room::of(room), ending);
+}
+
+#[test]
+fn a_failed_write_is_told_with_its_line(rt: HostRuntime) {
+    check_failed_write(&rt, 0, "ntrun: line 2: write failed\n");
+    check_failed_write(&rt, 12, "ntrun: line 3: write failed\n");
+    let all_but_one = HAND_OVER_TRANSCRIPT.len() - 1;
+    check_failed_write(&rt, all_but_one, "ntrun: line 7: write failed\n");
+}
+
+#[test]
+fn a_failed_flush_is_told_after_the_last_line(rt: HostRuntime) {
+    let given = Given::all(HAND_OVER.as_bytes());
+    let ending = Ending {
+        written: HAND_OVER_TRANSCRIPT,
+        said: "ntrun: line 7: write failed\n",
+        status: 1,
+    };
+    check(&rt, given, Room::NEVER_FLUSHED, ending);
+}
+
+#[test]
+fn a_failed_flush_hides_no_fault(rt: HostRuntime) {
+    let given = Given::all(FAULTY.as_bytes());
+    let ending = Ending {
+        written: "2: handle 1\n",
+        said: "ntrun: line 3: unknown word\n",
+        status: 2,
+    };
+    check(&rt, given, Room::NEVER_FLUSHED, ending);
+}
+
+/// The words of a command line, the program's own name first.
+fn words_of(alloc: Global, words: &[&str]) -> Result<Vec<String>, AllocError> {
+    let mut list = Vec::new(alloc);
+    list.push(String::from_str(alloc, "ntrun")?)?;
+    for word in words {
+        list.push(String::from_str(alloc, word)?)?;
+    }
+    Ok(list)
+}
+
+/// The same. Where memory is refused, a second try goes on.
+fn words_at_last(rt: &impl Host, words: &[&str]) -> Result<Vec<String>, AllocError> {
+    match words_of(rt.alloc(), words) {
+        Ok(list) => Ok(list),
+        Err(_) => {
+            tell_refused(rt, "the test itself");
+            words_of(rt.alloc(), words)
+        }
+    }
+}
+
+/// What the words after the program's name ask for. Where memory is refused, a second try goes on.
+fn plan_at_last(rt: &impl Host, words: &[&str]) -> Result<Result<Plan, PlanFault>, AllocError> {
+    let list = words_at_last(rt, words)?;
+    match plan_of(rt.alloc(), list.as_slice()) {
+        Err(PlanFault::Memory) => {
+            tell_refused(rt, "a plan");
+            Ok(plan_of(rt.alloc(), list.as_slice()))
+        }
+        plan => Ok(plan),
+    }
+}
+
+/// The words after the program's name, and the file that they ask to run.
+const PLANS: &[(&[&str], &str)] = &[
+    (&["script", "hand_over.nts"], "hand_over.nts"),
+    (&["script", "script"], "script"),
+    (&["script", "-"], "-"),
+    (&["script", ""], ""),
+    (&["script", "--", "-one.nts"], "-one.nts"),
+    (&["script", "--", "--"], "--"),
+    (&["script", "one.nts", "--"], "one.nts"),
+];
+
+#[test]
+fn script_and_a_file_ask_for_a_run_of_it(rt: HostRuntime) -> Result<(), Fail> {
+    for (words, wanted) in PLANS {
+        match plan_at_last(&rt, words)? {
+            Ok(Plan::Script(file)) => assert_eq!(rt; file.as_str(), *wanted),
+            Err(fault) => assert!(rt; false, "{words:?}: {fault:?}"),
+        }
+    }
+    Ok(())
+}
+
+const NO_PLAN: &[&[&str]] = &[
+    &[],
+    &["help"],
+    &["--help"],
+    &["-h"],
+    &["script"],
+    &["script", "--help"],
+    &["script", "one.nts", "two.nts"],
+    &["script", "--"],
+    &["script", "-x"],
+    &["script", "--file=one.nts"],
+    &["script", "one.nts", "--", "two.nts"],
+    &["script", "--", "one.nts", "--"],
+    &["--", "script", "one.nts"],
+    &["-s", "one.nts"],
+    &["scripts", "one.nts"],
+    &["one.nts"],
+    &["threads", "2", "100"],
+];
+
+#[test]
+fn all_other_words_ask_for_the_usage(rt: HostRuntime) -> Result<(), Fail> {
+    for words in NO_PLAN {
+        let usage = matches!(plan_at_last(&rt, words)?, Err(PlanFault::Usage));
+        assert!(rt; usage, "{words:?}");
+    }
+    Ok(())
+}

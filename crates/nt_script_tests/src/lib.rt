@@ -1,0 +1,11 @@
+//! Tests of scripts and of the program's commands, by their contracts alone.
+#![tactic(auto)]
+
+#[cfg(test)]
+mod commands;
+#[cfg(test)]
+mod devices;
+#[cfg(test)]
+mod refused;
+#[cfg(test)]
+mod scripts;

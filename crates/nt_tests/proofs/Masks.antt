@@ -1,0 +1,65 @@
+-- Handles that rise, and who stands in a queue.
+use Rattle.std.proofs.Common.{◌≡◌, ◌≢◌, ◌<◌, ◌≤◌, ◌+◌, ℕ, List, [], ◌∷◌, ◌++◌, length, get_or, Some, true, false, cond, eqb, refl, inl, inr, arith}
+use Rattle.std.proofs.lemmas.Bool.{cases_eq}
+use Rattle.std.proofs.lemmas.List.{get_or_push, get_or_append_left, length_push}
+use Rattle.std.proofs.lemmas.Map.Keys.{IsDistinct-from_apart, apart_from_distinct}
+use Rattle.std.proofs.lemmas.Option.{none-some, same_Some}
+use Rattle.std.specs.Prelude.{nat_eq, slice_get}
+use Rattle.std.specs.List.{IsDistinct}
+use Rattle.nt_waits.specs.Waits.{IsMember, next_after}
+
+other_test : (a b : ℕ) → a ≢ b → eqb a b ≡ false
+other_test a b e = grind (arith, nat_tests)
+
+-- distinct handles below a number
+pub record AreBelow (handles : List ℕ) (number : ℕ) : Type 0 where
+  pub few : length handles ≤ number
+  pub below : (j d : ℕ) → j < length handles → get_or handles j d < number
+  pub distinct : IsDistinct nat_eq handles
+
+pub below_none : (handles : List ℕ) → handles ≡ [] → AreBelow handles 0
+below_none handles e = rw e (record {
+  few = omega arith;
+  below = λ j d within. absurd (omega arith);
+  distinct = IsDistinct-from_apart nat_eq [] (λ i j d before within. absurd (omega arith));
+})
+
+pub below_kept : (handles : List ℕ) (number : ℕ) → AreBelow handles number → AreBelow handles (number + 1)
+below_kept handles number b = record {
+  few = omega (arith, b.few);
+  below = λ j d within. omega (arith, b.below j d within);
+  distinct = b.distinct;
+}
+
+pub below_pushed : (handles : List ℕ) (number : ℕ) → AreBelow handles number → AreBelow (handles ++ number ∷ []) (number + 1)
+below_pushed handles number b = record {
+  few = omega (arith, b.few, length_push handles number);
+  below = λ j d within. elim (cases_eq j (length handles)) [
+    | inl last ↦ rw (last, get_or_push handles number d (length handles) refl) (omega arith)
+    | inr earlier ↦
+        let before : j < length handles = omega (arith, within, length_push handles number) in
+        rw (get_or_append_left handles (number ∷ []) d j before) (omega (arith, b.below j d before))
+  ];
+  distinct = IsDistinct-from_apart nat_eq (handles ++ number ∷ []) (λ i j d before within. elim (cases_eq j (length handles)) [
+    | inl last ↦
+        let earlier : i < length handles = omega arith in
+        let lower = b.below i d earlier in
+        rw (last, get_or_push handles number d (length handles) refl, get_or_append_left handles (number ∷ []) d i earlier) (other_test (get_or handles i d) number (omega (arith, lower)))
+    | inr not_last ↦
+        let inside : j < length handles = omega (arith, within, length_push handles number) in
+        let earlier : i < length handles = omega arith in
+        rw (get_or_append_left handles (number ∷ []) d j inside, get_or_append_left handles (number ∷ []) d i earlier) (apart_from_distinct nat_eq handles i j d b.distinct before inside)
+  ]);
+}
+
+-- who is first in a queue, or next, stands in it
+pub first_member : (queue : List ℕ) (u : ℕ) → slice_get queue 0 ≡ Some u → IsMember queue u
+first_member [] u e = absurd (none-some u e)
+first_member (first ∷ queue) u e = inl (same_Some first u e)
+
+pub next_member : (t : ℕ) (queue : List ℕ) (u : ℕ) → next_after t queue ≡ Some u → IsMember queue u
+next_member t [] u = λ e. absurd (none-some u e)
+next_member t (first ∷ queue) u = elim (eqb first t) as (λ b. cond b (slice_get queue 0) (next_after t queue) ≡ Some u → IsMember (first ∷ queue) u) [
+  | true ↦ λ e. inr (first_member queue u e)
+  | false ↦ λ e. inr (next_member t queue u e)
+]

@@ -1,0 +1,132 @@
+//! Mutexes and their owners' lists.
+
+ghost use Rattle.std.specs.Prelude.{◌≡◌, ◌<◌, ◌≤◌, length, IfOk, OnOk, vec_len, vec_capacity};
+
+use crate::refused::{Host, tell_refused};
+use nt_objects::Object;
+use nt_owners::{ObjectTable, Owners};
+use nt_status::{Handle, MutexFlags, ThreadId};
+use std::alloc::AllocError;
+use std::test::Fail;
+
+/// No thread of two owns a mutex. Where memory is refused, a second try goes on.
+fn owners_of_two(rt: &impl Host) -> Result<Owners, AllocError> {
+    match Owners::new(rt.alloc(), 2) {
+        Ok(owners) => Ok(owners),
+        Err(_) => {
+            tell_refused(rt, "the owners");
+            Owners::new(rt.alloc(), 2)
+        }
+    }
+}
+
+/// Makes room, a second time where memory is refused.
+fn make_room(rt: &impl Host, owners: &mut Owners, count: usize) -> Result<(), AllocError> {
+    match owners.make_room(count) {
+        Ok(()) => Ok(()),
+        Err(_) => {
+            tell_refused(rt, "room for mutexes");
+            owners.make_room(count)
+        }
+    }
+}
+
+fn check_nobody_owns(rt: &impl Host, owners: &mut Owners) -> Result<(), Fail> {
+    make_room(rt, owners, 8)?;
+    make_room(rt, owners, 3)?;
+    for number in [0, 1, 2] {
+        assert_eq!(rt; owners.first(ThreadId::new(number)), None);
+    }
+    Ok(())
+}
+
+#[test]
+fn nobody_owns_a_mutex_that_has_room(rt: HostRuntime) -> Result<(), Fail> {
+    check_nobody_owns(&rt, &mut owners_of_two(&rt)?)
+}
+
+/// The objects of two threads. Where memory is refused, a second try goes on.
+fn table_of_two(rt: &impl Host) -> Result<ObjectTable, AllocError>
+    ensures objects { IfOk result (λ table. length table.items ≡ 2) }
+    ensures threads { IfOk result (λ table. length table.owned ≡ 2) }
+{
+    match ObjectTable::new(rt.alloc(), 2) {
+        Ok(table) => Ok(table),
+        Err(_) => {
+            tell_refused(rt, "the objects");
+            ObjectTable::new(rt.alloc(), 2)
+        }
+    }
+}
+
+/// Makes room for an object, a second time where memory is refused.
+fn make_object_room(rt: &impl Host, table: &mut ObjectTable) -> Result<(), AllocError>
+    ensures room { OnOk result (length table.new.items < table.new.room) }
+    ensures items { table.new.items ≡ table.old.items }
+    ensures owned { table.new.owned ≡ table.old.owned }
+{
+    match table.make_room() {
+        Ok(()) => Ok(()),
+        Err(_) => {
+            tell_refused(rt, "room for an object");
+            table.make_room()
+        }
+    }
+}
+
+/// No handle, with room for eight. Where memory is refused, a second try goes on.
+fn room_for_handles(rt: &impl Host) -> Result<Vec<Handle>, AllocError>
+    ensures empty { IfOk result (λ handles. vec_len handles ≡ 0) }
+    ensures room { IfOk result (λ handles. 8 ≤ vec_capacity handles) }
+{
+    match Vec::with_capacity(rt.alloc(), 8) {
+        Ok(handles) => Ok(handles),
+        Err(_) => {
+            tell_refused(rt, "the handles");
+            Vec::with_capacity(rt.alloc(), 8)
+        }
+    }
+}
+
+/// Thread 1 makes a mutex that it owns, and ends.
+fn leave_mutex(
+    rt: &impl Host,
+    table: &mut ObjectTable,
+    listed: &mut Vec<Handle>,
+) -> Result<bool, AllocError>
+    requires objects { length table.old.items ≡ 2 }
+    requires threads { length table.old.owned ≡ 2 }
+    requires empty { vec_len listed.old ≡ 0 }
+    requires room { 8 ≤ vec_capacity listed.old }
+{
+    let owner = ThreadId::new(1);
+    make_object_room(rt, table)?;
+    table.add(Object::new_mutex(MutexFlags::INITIAL_OWNER, owner));
+    let was_owned = table.as_slice()[2].is_owned_by(owner);
+    table.abandon_all(owner, listed);
+    Ok(was_owned)
+}
+
+/// Whether the mutex alone is listed, is free, and says that it was abandoned.
+fn is_left(table: &ObjectTable, listed: &[Handle]) -> bool {
+    let is_abandoned = match table.as_slice() {
+        [_, _, mutex] => mutex.is_abandoned() && mutex.owner().is_none(),
+        _ => false,
+    };
+    is_abandoned && listed == [Handle::new(2)].as_slice()
+}
+
+fn check_left_mutex(rt: &impl Host, table: &mut ObjectTable) -> Result<(), Fail>
+    requires objects { length table.old.items ≡ 2 }
+    requires threads { length table.old.owned ≡ 2 }
+{
+    let mut listed = room_for_handles(rt)?;
+    let was_owned = leave_mutex(rt, table, &mut listed)?;
+    assert!(rt; was_owned && is_left(table, listed.as_slice()));
+    Ok(())
+}
+
+#[test]
+fn whoever_ends_leaves_its_mutex(rt: HostRuntime) -> Result<(), Fail> {
+    check_left_mutex(&rt, &mut table_of_two(&rt)?)
+}

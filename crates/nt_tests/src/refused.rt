@@ -1,0 +1,28 @@
+//! What the tests do where memory is refused.
+
+use std::env::Env;
+use std::io::Print;
+use std::process::Abort;
+
+/// What the tests want of the system.
+pub trait Host: Abort + AllocGlobal + Env + Print {}
+
+impl<R: Abort + AllocGlobal + Env + Print> Host for R {}
+
+/// Whether growths are refused on purpose, as `bench/refused_tests` does: it sets REFUSE.
+pub fn is_refusing(rt: &impl Host) -> bool {
+    let mut number = [0; 20];
+    rt.var("REFUSE", &mut number).is_ok()
+}
+
+/// Tells that a growth was refused, and whose it was. That is right only in a run that refuses one on purpose:
+/// `bench/refused_tests` wants exactly one such line of it.
+pub fn tell_refused(rt: &impl Host, whose: &str) {
+    assert!(rt; is_refusing(rt), "out of memory with ample memory: {whose}");
+    assert!(rt; println!(rt; "refused: {whose}").is_ok());
+}
+
+/// How often a long test goes round: seldom where growths are refused, since each growth is then one more run.
+pub fn rounds(rt: &impl Host, often: u16, seldom: u16) -> u16 {
+    if is_refusing(rt) { seldom } else { often }
+}

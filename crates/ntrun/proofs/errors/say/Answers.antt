@@ -1,5 +1,0 @@
-use Rattle.ntrun.proofs.Saying.{Writes-said}
-use Rattle.ntrun.proofs.errors.say.Goals as goal
-
-pub returns-clause-said : goal.returns-clause-said
-returns-clause-said g c = Writes-said _ _ _ _ _ c.write_line.result c.write_line.ensures

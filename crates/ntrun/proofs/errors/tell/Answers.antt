@@ -1,5 +1,0 @@
-use Rattle.ntrun.proofs.Saying.{Writes-said}
-use Rattle.ntrun.proofs.errors.tell.Goals as goal
-
-pub returns : goal.returns
-returns g c = Writes-said _ _ _ _ _ c.write_message.result c.write_message.ensures
