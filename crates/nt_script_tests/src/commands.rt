@@ -34,7 +34,7 @@ fn run_once(alloc: Global, given: Given<'_>, room: Room) -> Ran {
         alloc,
         &mut Counted::new(given),
         &mut Counted::new(&mut taken),
-        &mut errors,
+        &mut Counted::new(&mut errors),
     );
     Ran {
         is_lost: taken.is_refused || errors.is_refused,

@@ -186,13 +186,15 @@ fn a_manual_reset_event_stays_set_until_reset(rt: HostRuntime) {
 #[test]
 fn semaphores_count_between_zero_and_their_maximum(rt: HostRuntime) {
     for (initial, maximum) in [(0, 0), (0, -1), (-1, 1), (2, 1)] {
-        let refused = Object::new_semaphore(initial, maximum).map_err(Refusal::number);
-        assert_eq!(rt; refused, Err(87), "{initial} of {maximum}");
+        match Object::new_semaphore(initial, maximum) {
+            Ok(_) => assert!(rt; false, "{initial} of {maximum}"),
+            Err(refusal) => assert_eq!(rt; refusal.number(), 87),
+        }
     }
 }
 
 #[test]
-fn a_release_past_the_maximum_changes_nothing(rt: HostRuntime) -> Result<(), Fail> {
+fn a_release_past_the_maximum_changes_nothing(rt: HostRuntime) {
     let steps = [
         Step::Release(0, Err(87)),
         Step::Release(-1, Err(87)),
@@ -206,8 +208,10 @@ fn a_release_past_the_maximum_changes_nothing(rt: HostRuntime) -> Result<(), Fai
         Step::Take(0, Taken::Plain),
         Step::Signaled(0, false),
     ];
-    play(&rt, Object::new_semaphore(1, 3)?, &steps);
-    Ok(())
+    match Object::new_semaphore(1, 3) {
+        Ok(semaphore) => play(&rt, semaphore, &steps),
+        Err(_) => assert!(rt; false, "1 of 3"),
+    }
 }
 
 #[test]

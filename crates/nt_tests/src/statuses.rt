@@ -40,6 +40,14 @@ fn statuses_have_their_codes(rt: HostRuntime) {
         (Status::TIMEOUT, 0x0000_0102),
     ] {
         assert_eq!(rt; status.code(), code);
+        assert_eq!(rt; Status::from_code(code), Some(status));
+    }
+}
+
+#[test]
+fn other_codes_are_no_statuses(rt: HostRuntime) {
+    for code in [0x40, 0x7F, 0xC1, 0x101, 0x103, 0xFFFF_FFFF] {
+        assert_eq!(rt; Status::from_code(code), None);
     }
 }
 
@@ -140,16 +148,37 @@ fn handles_of(rt: &impl Host, handles: &[Handle]) -> Result<Handles, AllocError>
     }
 }
 
+/// Whether these are the handles, in this order.
+fn are(handles: &Handles, numbers: &[u32]) -> bool {
+    let handles = handles.as_slice();
+    handles.len() == numbers.len()
+        && handles
+            .iter()
+            .zip(numbers)
+            .all(|(handle, number)| handle.get() == *number)
+}
+
+fn copy_is(rt: &impl Host, handles: &Handles, numbers: &[u32]) -> Result<bool, AllocError> {
+    Ok(are(&copy_of(rt, handles)?, numbers))
+}
+
+fn remade_is(rt: &impl Host, handles: &Handles, numbers: &[u32]) -> Result<bool, AllocError> {
+    Ok(are(&handles_of(rt, handles.as_slice())?, numbers))
+}
+
+/// Whether these are the handles, those of a copy, and those that are made of their slice.
+fn are_all(rt: &impl Host, handles: &Handles, numbers: &[u32]) -> Result<bool, AllocError> {
+    Ok(are(handles, numbers) && copy_is(rt, handles, numbers)? && remade_is(rt, handles, numbers)?)
+}
+
 /// Nine handles: one more than lie in place.
+const NINE: &[u32] = &[8, 1, 7, 2, 6, 3, 5, 4, 9];
+
 fn check_nine(rt: &impl Host, handles: &mut Handles) -> Result<(), Fail> {
-    for number in [8, 1, 7, 2, 6, 3, 5, 4, 9] {
-        push(rt, handles, number)?;
+    for number in NINE {
+        push(rt, handles, *number)?;
     }
-    let copied = copy_of(rt, handles)?;
-    let again = handles_of(rt, copied.as_slice())?;
-    assert_eq!(rt; again.as_slice().len(), 9);
-    assert_eq!(rt; again.as_slice().first(), Some(&Handle::new(8)));
-    assert_eq!(rt; again.as_slice().last(), Some(&Handle::new(9)));
+    assert!(rt; are_all(rt, handles, NINE)?);
     Ok(())
 }
 

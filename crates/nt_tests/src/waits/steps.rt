@@ -315,9 +315,10 @@ fn begin_in_the_copy(rt: &impl Host, table: &mut WaitTable, copied: &mut WaitTab
 }
 
 fn copy_the_prepared(rt: &impl Host, table: &mut WaitTable) -> Result<(), Fail> {
-    prepare_at_last(rt, table, wide(1, &[]))?;
+    let wait = wide(1, &[]);
+    prepare_at_last(rt, table, wait)?;
     let mut copied = copy_at_last(rt, table)?;
-    begin_in_the_copy(rt, table, &mut copied, ThreadId::new(1));
+    begin_in_the_copy(rt, table, &mut copied, ThreadId::new(wait.thread));
     Ok(())
 }
 
