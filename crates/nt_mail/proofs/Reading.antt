@@ -8,14 +8,15 @@ use lib.ListN.{get_elem?}
 use prog.Atomic.{either}
 use Rattle.atomic_table.specs.Table.{State, Me, Act, keeps, Valid, carried_after, Allows, stepped}
 use Rattle.nt_core.specs.Moves.{one_if}
+use Rattle.nt_mail.specs.declared.entry.Entry.{Entry}
 use Rattle.nt_mail.specs.declared.knowledge.View.{View}
 use Rattle.nt_mail.specs.declared.knowledge.Got.{Got}
 use Rattle.nt_mail.specs.declared.knowledge.Knowledge.{Knowledge}
-use Rattle.nt_mail.specs.Entries.{Each, given, grants_of, is_armed, last_of}
+use Rattle.nt_mail.specs.Entries.{Each, given, grants_of, is_armed, last_of, pended_in}
 use Rattle.nt_mail.specs.Words.{idle_word, granted_word, grant_in}
 use Rattle.nt_mail.specs.Knowledge.{with_got, with_polled, with_moment, after_take, latest}
 use Rattle.nt_mail.specs.Views.{holder, with_parts}
-use Rattle.nt_mail.specs.Rule.{IsTaken, IsGranted, IsReplyWord, IsPart, keeping, parts_of, IsMail}
+use Rattle.nt_mail.specs.Rule.{IsTaken, IsGranted, IsReplyWord, IsWordFor, IsPart, IsCounted, keeping, parts_of, IsMail}
 use Rattle.nt_mail.specs.Seats.{known_in}
 use Rattle.nt_mail.proofs.Totals.{total-set, two_le, le_one}
 use Rattle.nt_mail.proofs.Taken.{taken-both, taken-but_last, read-push}
@@ -56,7 +57,11 @@ thread_steps s id place k after now h at same len else mine =
 unread : (words : List ℕ) (i : ℕ) → slice_set words i (slice_index words i) ≡ words
 unread words i = set-get_or words i 0
 
-pub polls : (slots id : ℕ) (k : Knowledge) (held : List (ℕ × Unit {0})) → Allows IsMail slots id (holder k, held) (k.thread + 1) (λ n. n) (λ n after. after ≡ (with_parts (with_polled n) (holder k), held))
+-- a thread's own word is one that it may have
+own_word : (words : List ℕ) (log : List Entry) (ms : List ℕ) (k : Knowledge) → IsCounted k.thread log → IsPart words log ms k → IsWordFor k (slice_index words (k.thread + 1))
+own_word words log ms k c p = record { armed = is_armed k.thread log; last = last_of k.thread log; sent = grants_of k.thread log; taken = p.taken; count = ap pended_in p.made ∙ c.count; word_is = p.word }
+
+pub polls : (slots id : ℕ) (k : Knowledge) (held : List (ℕ × Unit {0})) → Allows IsMail slots id (holder k, held) (k.thread + 1) (λ n. n) (λ n after. (after ≡ (with_parts (with_polled n) (holder k), held)) × Each (λ x. IsWordFor x n) (k ∷ []))
 polls slots id k held s h sizes at fits64 =
     let n = slice_index s.words (k.thread + 1) in
     let p = (h.2.seats id (holder k) at).1.0 in
@@ -66,7 +71,7 @@ polls slots id k held s h sizes at fits64 =
       tt,
       thread_steps s id 0 k (with_polled n k) (slice_set s.words (k.thread + 1) n) h at refl (ap length same) (λ y ne. ap (λ l. slice_index l y) same)
           (subst (λ ws. IsPart ws h.0 h.1 (with_polled n k)) (sym same) (record { inside = p.inside; made = p.made; word = p.word; taken = p.taken; moments = p.moments })),
-      refl,
+      (refl, (own_word s.words h.0 h.1 k (h.2.counted k.thread) p, tt)),
     )
 
 pub reads : (slots id : ℕ) (k : Knowledge) (held : List (ℕ × Unit {0})) → Allows IsMail slots id (holder k, held) 0 (λ n. n) (λ n after. (after ≡ (with_parts (with_moment n) (holder k), held)) × Each (λ x. latest 0 x.moments ≤ n) (k ∷ []) × (n ≤ 2 ^ 62))
@@ -102,13 +107,13 @@ taken_word false n last e status g sent is small h taken = ⊎_elim
     h
 
 pub takes : (slots id : ℕ) (k : Knowledge) (held : List (ℕ × Unit {0})) (old : ℕ) → 2 ≤ old % 1024
-    → Allows IsMail slots id (holder k, held) (k.thread + 1) (λ n. either (eqb n old) (idle_word (old / 1024)) n) (λ n after. after ≡ (with_parts (after_take old n) (holder k), held))
+    → Allows IsMail slots id (holder k, held) (k.thread + 1) (λ n. either (eqb n old) (idle_word (old / 1024)) n) (λ n after. (after ≡ (with_parts (after_take old n) (holder k), held)) × Each (λ x. IsWordFor x n) (k ∷ []))
 takes slots id k held old granted s h sizes at fits64 = found (ℕ_discrete (slice_index s.words (k.thread + 1)) old)
   where
     Step : Bool → Type 0
     Step b = (w : View) × (a : Act (Unit {0})) × Valid s.homes held a
         × IsMail (stepped s (k.thread + 1) (either b (idle_word (old / 1024)) (slice_index s.words (k.thread + 1))) id held w a)
-        × ◌≡◌ {A = Me (Unit {0}) View} (w, carried_after held a) (record { keeps = false; written = []; published = []; parts = map (cond b (with_got (grant_in old)) (with_polled (slice_index s.words (k.thread + 1)))) (k ∷ []) }, held)
+        × (◌≡◌ {A = Me (Unit {0}) View} (w, carried_after held a) (record { keeps = false; written = []; published = []; parts = map (cond b (with_got (grant_in old)) (with_polled (slice_index s.words (k.thread + 1)))) (k ∷ []) }, held) × Each (λ x. IsWordFor x (slice_index s.words (k.thread + 1))) (k ∷ []))
 
     found : Dec (slice_index s.words (k.thread + 1) ≡ old) → Step (eqb (slice_index s.words (k.thread + 1)) old)
     found (yes e) =
@@ -130,7 +135,7 @@ takes slots id k held old granted s h sizes at fits64 = found (ℕ_discrete (sli
             taken = word.1;
             moments = p.moments;
           }),
-          refl,
+          (refl, (own_word s.words h.0 h.1 k (h.2.counted k.thread) p, tt)),
         ) in
         subst Step (sym (eq-eqb n old e)) hit
     found (no ne) =
@@ -143,14 +148,14 @@ takes slots id k held old granted s h sizes at fits64 = found (ℕ_discrete (sli
           tt,
           thread_steps s id 0 k (with_polled n k) (slice_set s.words (k.thread + 1) n) h at refl (ap length same) (λ y ne. ap (λ l. slice_index l y) same)
               (subst (λ ws. IsPart ws h.0 h.1 (with_polled n k)) (sym same) (record { inside = p.inside; made = p.made; word = p.word; taken = p.taken; moments = p.moments })),
-          refl,
+          (refl, (own_word s.words h.0 h.1 k (h.2.counted k.thread) p, tt)),
         ) in
         subst Step (sym (ne_eqb n old ne)) miss
 
 pub polls_as : (slots id place : ℕ) (me : Me (Unit {0}) View) → me ≡ (holder (known_in me.0), []) → (known_in me.0).thread + 1 ≡ place
-    → Allows IsMail slots id me place (λ n. n) (λ n after. after ≡ (with_parts (with_polled n) me.0, me.1))
+    → Allows IsMail slots id me place (λ n. n) (λ n after. (after ≡ (with_parts (with_polled n) me.0, me.1)) × Each (λ x. IsWordFor x n) me.0.parts)
 polls_as slots id place me is at =
-    let P : (Me (Unit {0}) View × ℕ) → Type 0 = λ x. Allows IsMail slots id x.0 x.1 (λ n. n) (λ n after. after ≡ (with_parts (with_polled n) x.0.0, x.0.1)) in
+    let P : (Me (Unit {0}) View × ℕ) → Type 0 = λ x. Allows IsMail slots id x.0 x.1 (λ n. n) (λ n after. (after ≡ (with_parts (with_polled n) x.0.0, x.0.1)) × Each (λ k. IsWordFor k n) x.0.0.parts) in
     subst P (λ i. (sym is i, at i)) (polls slots id (known_in me.0) [])
 
 pub reads_as : (slots id : ℕ) (me : Me (Unit {0}) View) → me ≡ (holder (known_in me.0), [])
@@ -160,7 +165,7 @@ reads_as slots id me is =
     subst P (sym is) (reads slots id (known_in me.0) [])
 
 pub takes_as : (slots id place old new : ℕ) (me : Me (Unit {0}) View) → me ≡ (holder (known_in me.0), []) → (known_in me.0).thread + 1 ≡ place → 2 ≤ old % 1024 → new ≡ idle_word (old / 1024)
-    → Allows IsMail slots id me place (λ n. either (eqb n old) new n) (λ n after. after ≡ (with_parts (after_take old n) me.0, me.1))
+    → Allows IsMail slots id me place (λ n. either (eqb n old) new n) (λ n after. (after ≡ (with_parts (after_take old n) me.0, me.1)) × Each (λ x. IsWordFor x n) me.0.parts)
 takes_as slots id place old new me is at granted bits =
-    let P : (Me (Unit {0}) View × ℕ × ℕ) → Type 0 = λ x. Allows IsMail slots id x.0 x.1 (λ n. either (eqb n old) x.2 n) (λ n after. after ≡ (with_parts (after_take old n) x.0.0, x.0.1)) in
+    let P : (Me (Unit {0}) View × ℕ × ℕ) → Type 0 = λ x. Allows IsMail slots id x.0 x.1 (λ n. either (eqb n old) x.2 n) (λ n after. (after ≡ (with_parts (after_take old n) x.0.0, x.0.1)) × Each (λ k. IsWordFor k n) x.0.0.parts) in
     subst P (λ i. (sym is i, at i, sym bits i)) (takes slots id (known_in me.0) [] old granted)

@@ -27,6 +27,15 @@ abbrev pub IsReplyWord : Bool → ℕ → ℕ → List Got → List Got → Type
 IsReplyWord true word last got sent = word ≡ armed_word last
 IsReplyWord false word last got sent = (word ≡ idle_word last) ⊎ IsGranted word last got sent
 
+-- the word may be the thread's, by what the thread knows: of some grants that were sent it took a part, one more of its calls pended where it is armed, and the word tells of the last
+pub record IsWordFor (k : Knowledge) (word : ℕ) : Type 0 where
+  pub armed : Bool
+  pub last : ℕ
+  pub sent : List Got
+  pub taken : IsTaken k.got sent
+  pub count : pended_in k.made ≡ length sent + one_if armed
+  pub word_is : IsReplyWord armed word last k.got sent
+
 -- the moments never fall, from `before` on
 abbrev pub NeverFall : ℕ → List ℕ → Type 0
 NeverFall before [] = Unit {0}

@@ -52,10 +52,12 @@ pub(crate) struct Polls;
 
 impl Play<(), View> for Polls {
     ghost use Rattle.std.specs.Prelude.{◌≡◌};
+    ghost use Rattle.nt_mail.specs.Entries.{Each};
     ghost use Rattle.nt_mail.specs.Knowledge.{with_polled};
+    ghost use Rattle.nt_mail.specs.Rule.{IsWordFor};
     ghost use Rattle.nt_mail.specs.Views.{with_parts};
 
-    ghost then = { λ step before found after. after ≡ (with_parts (with_polled found) before.0, before.1) };
+    ghost then = { λ step before found after. (after ≡ (with_parts (with_polled found) before.0, before.1)) × Each (λ k. IsWordFor k found) before.0.parts };
 }
 
 /// A thread takes the grant that it read in its word, where the word is still that one.
@@ -63,10 +65,12 @@ pub(crate) struct Takes;
 
 impl Play<(), View> for Takes {
     ghost use Rattle.std.specs.Prelude.{◌≡◌};
+    ghost use Rattle.nt_mail.specs.Entries.{Each};
     ghost use Rattle.nt_mail.specs.Knowledge.{after_take};
+    ghost use Rattle.nt_mail.specs.Rule.{IsWordFor};
     ghost use Rattle.nt_mail.specs.Views.{with_parts};
 
-    ghost then = { λ step before found after. after ≡ (with_parts (after_take step.first found) before.0, before.1) };
+    ghost then = { λ step before found after. (after ≡ (with_parts (after_take step.first found) before.0, before.1)) × Each (λ k. IsWordFor k found) before.0.parts };
 }
 
 /// The dispatcher publishes a moment.

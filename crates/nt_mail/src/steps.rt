@@ -5,6 +5,7 @@ ghost use Rattle.nt_mail.specs.declared.entry.Entry.TheVariants.{Granted};
 ghost use Rattle.nt_mail.specs.Entries.{IsOwn, arms, is_armed};
 ghost use Rattle.nt_mail.specs.Words.{called_word, grant_in};
 ghost use Rattle.nt_mail.specs.Knowledge.{with_call, with_polled, with_got, with_moment, latest, IsEarlier};
+ghost use Rattle.nt_mail.specs.Rule.{IsWordFor};
 ghost use Rattle.nt_mail.specs.Views.{keeper, with_entry};
 ghost use Rattle.nt_mail.specs.Seats.{seated, known_in};
 
@@ -121,7 +122,8 @@ impl Mail {
     /// Reads the thread's word, once. `told_by` says whether it tells a grant.
     pub fn poll(&self, seat: &mut ThreadSeat) -> u64
         requires { seat.old.table ≡ self.now }
-        ensures { seat.new ≡ seated self.now (with_polled result seat.old.known) }
+        ensures read { seat.new ≡ seated self.now (with_polled result seat.old.known) }
+        ensures tells { IsWordFor seat.old.known result }
     {
         self.table
             .shared
@@ -135,6 +137,7 @@ impl Mail {
         requires granted { 2 ≤ word % 1024 }
         ensures ok { OnOk result (seat.new ≡ seated self.now (with_got (grant_in word) seat.old.known)) }
         ensures err { IfErr result (λ found. (found ≢ word) × (seat.new ≡ seated self.now (with_polled found seat.old.known))) }
+        ensures tells { IfErr result (IsWordFor seat.old.known) }
     {
         let idle = idle_of(word);
         let found = self
