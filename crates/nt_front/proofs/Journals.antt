@@ -1,0 +1,264 @@
+-- The journal and the dispatcher, step by step.
+use Rattle.std.proofs.Common.{◌≡◌, ℕ, ◌+◌, ◌<◌, ◌≤◌, List, [], ◌∷◌, ◌++◌, length, map, Result, Ok, Err, Bool, true, false, cond, eqb, eq-eqb, ne_eqb, refl, sym, ap, ◌∙◌, subst, arith, append_assoc, ⊎_elim}
+use Rattle.std.specs.Prelude.{◌||◌, ◌↔◌, IfOk, nat_le, slice_set}
+use Rattle.std.proofs.lemmas.Bool.Decides.{leb_tells}
+use Rattle.std.proofs.Math.ListN.{get_or}
+use Rattle.std.proofs.Math.Seq.{set-append_seam, get_or-append_seam}
+use Rattle.std.proofs.lemmas.List.{append-nil}
+use Rattle.std.proofs.lemmas.Bool.{false≢true}
+use native.Mathlib.Decide.{ℕ_discrete}
+use Rattle.nt_status.specs.declared.refusal.Refusal.{Refusal}
+use Rattle.nt_core.specs.declared.call.Call.{Call}
+use Rattle.nt_core.specs.declared.call.Reply.{Reply}
+use Rattle.nt_core.specs.declared.call.Grant.{Grant}
+use Rattle.std.proofs.Common.{Option, is_some}
+use Rattle.std.specs.FinMap.{get-empty}
+use Rattle.std.specs.Ordering.{nat_cmp}
+use Rattle.nt_waits.specs.declared.wait.Wait.{Wait}
+use Rattle.nt_core.specs.State.{State, pends, opening}
+use Rattle.nt_core.specs.Runs.{Turn, Calls, Ticks, IsTurn}
+use Rattle.nt_core.specs.Dispatcher.{Dispatcher, state}
+use Rattle.nt_core.specs.Lawful.{IsLawful}
+use Rattle.nt_mail.specs.declared.entry.Entry.{Entry}
+use Rattle.nt_mail.specs.declared.entry.Entry.TheVariants.{Called, Ticked}
+use Rattle.nt_core.specs.Moves.{one_if, pended, granted_to, Moves, IsMomentAfter}
+use Rattle.nt_core.proofs.Lawful.{who_waits}
+use Rattle.nt_core.proofs.Runs.{turns-append}
+use Rattle.nt_mail.specs.Entries.{arms, is_armed, accepted, accepted_at, IsOwn}
+use Rattle.nt_mail.specs.Knowledge.{latest}
+use Rattle.nt_mail.proofs.Calls.{same_push, after_call, after_grant, one_or, own_thread}
+use Rattle.nt_mail.proofs.Taken.{latest-push}
+use Rattle.nt_front.specs.Runs.{granted, entries_of, journal_of, IsRun, Agree, AreArmed}
+use Rattle.nt_front.specs.Books.{Stands, ledger}
+
+-- ---- the journal as a run
+
+journal_of-append : (first more : List Turn) → journal_of (first ++ more) ≡ journal_of first ++ journal_of more
+journal_of-append [] more = refl
+journal_of-append (turn ∷ turns) more = ap (λ l. entries_of turn ++ l) (journal_of-append turns more) ∙ sym (append_assoc (entries_of turn) (journal_of turns) (journal_of more))
+
+run_goes_on : (n : ℕ) (es : List Entry) (old new : State) (turn : Turn) → IsRun n es old → IsTurn old turn new → IsRun n (es ++ entries_of turn) new
+run_goes_on n es old new turn r step = record {
+  turns = r.turns ++ turn ∷ [];
+  run = turns-append (opening n) old new r.turns (turn ∷ []) r.run (new, step, refl);
+  entries = ap (λ l. l ++ entries_of turn) r.entries ∙ (ap (λ l. journal_of r.turns ++ l) (sym (append-nil (entries_of turn))) ∙ sym (journal_of-append r.turns (turn ∷ [])));
+}
+
+pub stands_after : (core after : Dispatcher) (es next : List Entry) (room : ℕ) (turn : Turn) → Stands (ledger core es room) → IsLawful after → after.threads ≡ core.threads
+    → IsTurn (state core) turn (state after) → next ≡ es ++ entries_of turn → Stands (ledger after next room)
+stands_after core after es next room turn s lawful same step grown = record {
+  lawful = lawful;
+  run = subst (λ (x : ℕ × List Entry). IsRun x.0 x.1 (state after)) (λ i. (sym same i, sym grown i)) (run_goes_on core.threads es (state core) (state after) turn s.run step);
+}
+
+pub stands_at_first : (core : Dispatcher) (n room : ℕ) (es : List Entry) → state core ≡ opening n → IsLawful core → es ≡ [] → Stands (ledger core es room)
+stands_at_first core n room es new lawful none = record {
+  lawful = lawful;
+  run = record { turns = []; run = new ∙ ap opening (sym (ap (λ (s : State). s.threads) new)); entries = none };
+}
+
+pub agree_at_first : (n : ℕ) (es : List Entry) (s : State) → s ≡ opening n → es ≡ [] → Agree n es s
+agree_at_first n es s new none = subst (λ (x : List Entry × State). Agree n x.0 x.1) (λ i. (sym none i, sym new i)) (record { threads = refl; waits = λ t. sym (ap (λ (o : Option Wait). is_some o) (get-empty nat_cmp t)); moment = refl })
+
+-- ---- who is armed
+
+one_if-same : (a b : Bool) → one_if a ≡ one_if b → a ≡ b
+one_if-same true true e = refl
+one_if-same true false e = absurd (omega arith)
+one_if-same false true e = absurd (omega arith)
+one_if-same false false e = refl
+
+must_be : (b : Bool) → 1 ≤ one_if b → b ≡ true
+must_be true le = refl
+must_be false le = absurd (omega arith)
+
+-- what is armed after the entry of a call or tick
+own_armed : (es : List Entry) (e : Entry) (who : ℕ) (armed : Bool) → IsOwn who e → one_if (is_armed who es) + one_if (arms e) ≡ one_if armed
+    → (t : ℕ) → one_if (is_armed t (es ++ e ∷ [])) ≡ one_if (is_armed t es) + cond (eqb who t) (one_if (arms e)) 0
+own_armed es e who armed own one t = at (ℕ_discrete who t)
+  where
+    at : Dec (who ≡ t) → one_if (is_armed t (es ++ e ∷ [])) ≡ one_if (is_armed t es) + cond (eqb who t) (one_if (arms e)) 0
+    at (yes is) =
+        let a = ap one_if ((after_call who es e own).armed ∙ one_or (is_armed who es) (arms e) armed one) in
+        let b = ap (λ x. cond x (one_if (arms e)) 0) (eq-eqb who who refl) in
+        let g : one_if (is_armed who (es ++ e ∷ [])) ≡ one_if (is_armed who es) + cond (eqb who who) (one_if (arms e)) 0 = omega arith in
+        subst (λ (x : ℕ). one_if (is_armed x (es ++ e ∷ [])) ≡ one_if (is_armed x es) + cond (eqb who x) (one_if (arms e)) 0) is g
+    at (no ne) =
+        let a = ap one_if (same_push t es e (λ is. ne (sym (own_thread who e own) ∙ is))).armed in
+        let b = ap (λ x. cond x (one_if (arms e)) 0) (ne_eqb who t ne) in
+        omega arith
+
+-- one grant
+grant_armed : (es : List Entry) (g : Grant) → is_armed g.thread es ≡ true → (t : ℕ) → one_if (is_armed t (es ++ granted g ∷ [])) + one_if (eqb g.thread t) ≡ one_if (is_armed t es)
+grant_armed es g armed t = at (ℕ_discrete g.thread t)
+  where
+    at : Dec (g.thread ≡ t) → one_if (is_armed t (es ++ granted g ∷ [])) + one_if (eqb g.thread t) ≡ one_if (is_armed t es)
+    at (yes is) =
+        let a = ap one_if (after_grant g.thread es g.status).armed in
+        let b = ap one_if (eq-eqb g.thread g.thread refl) in
+        let c = ap one_if armed in
+        let h : one_if (is_armed g.thread (es ++ granted g ∷ [])) + one_if (eqb g.thread g.thread) ≡ one_if (is_armed g.thread es) = omega arith in
+        subst (λ (x : ℕ). one_if (is_armed x (es ++ granted g ∷ [])) + one_if (eqb g.thread x) ≡ one_if (is_armed x es)) is h
+    at (no ne) =
+        let a = ap one_if (same_push t es (granted g) ne).armed in
+        let b = ap one_if (ne_eqb g.thread t ne) in
+        omega arith
+
+-- where no thread has more grants than it has waits, each grant meets a pending wait
+armed_all : (n : ℕ) (es : List Entry) (gs : List Grant) → ((t : ℕ) → granted_to t gs ≤ one_if (is_armed t es)) → ((t : ℕ) → 1 ≤ granted_to t gs → t < n) → AreArmed n es gs
+armed_all n es [] le below = tt
+armed_all n es (g ∷ gs) le below =
+    let own = ap one_if (eq-eqb g.thread g.thread refl) in
+    let here : is_armed g.thread es ≡ true = must_be (is_armed g.thread es) (let a = le g.thread in omega arith) in (
+      here,
+      below g.thread (omega arith),
+      armed_all n (es ++ granted g ∷ []) gs (λ t. (let a = le t in let b = grant_armed es g here t in omega arith)) (λ t some. below t (omega arith)),
+    )
+
+-- what is armed after the grants
+armed_left : (n : ℕ) (es : List Entry) (gs : List Grant) → AreArmed n es gs → (t : ℕ) → one_if (is_armed t (es ++ map granted gs)) + granted_to t gs ≡ one_if (is_armed t es)
+armed_left n es [] are t = let a = ap (λ l. one_if (is_armed t l)) (append-nil es) in omega arith
+armed_left n es (g ∷ gs) are t =
+    let a = armed_left n (es ++ granted g ∷ []) gs are.2 t in
+    let b = grant_armed es g are.0 t in
+    let c = ap (λ l. one_if (is_armed t l)) (append_assoc es (granted g ∷ []) (map granted gs)) in
+    omega arith
+
+-- a call or tick: its entry, whose it is, and whether a wait of it pends after it
+record IsPosted (es : List Entry) (s : State) (who : ℕ) (result : Result Reply Refusal) (e : Entry) (armed : Bool) : Type 0 where
+  own : IsOwn who e
+  arm : arms e ≡ pended result
+  one : one_if (is_armed who es) + one_if (arms e) ≡ one_if armed
+
+-- each thread that waits has a number below n
+abbrev AreBelow : ℕ → State → Type 0
+AreBelow n s = (t : ℕ) → pends s t ≡ true → t < n
+
+-- the grants of a step can be sent
+can_send : (n : ℕ) (es : List Entry) (s new : State) (who : ℕ) (result : Result Reply Refusal) (e : Entry) (armed : Bool) (gs : List Grant) → Agree n es s → AreBelow n s → Moves s who (pended result) gs new → IsPosted es s who result e armed → AreArmed n (es ++ e ∷ []) gs
+can_send n es s new who result e armed gs a below moved p =
+    armed_all n (es ++ e ∷ []) gs
+    (λ t. (let b = own_armed es e who armed p.own p.one t in let c = moved.ended t in let d = ap one_if (a.waits t) in omega arith))
+    (λ t some. below t (must_be (pends s t) (let c = moved.ended t in omega arith)))
+
+accepted-append : (xs ys : List Entry) → accepted (xs ++ ys) ≡ accepted xs ++ accepted ys
+accepted-append [] ys = refl
+accepted-append (x ∷ xs) ys = ap (λ l. accepted_at x ++ l) (accepted-append xs ys) ∙ sym (append_assoc (accepted_at x) (accepted xs) (accepted ys))
+
+accepted-granted : (gs : List Grant) → accepted (map granted gs) ≡ []
+accepted-granted [] = refl
+accepted-granted (g ∷ gs) = accepted-granted gs
+
+-- the moments after a step
+pub accepted-step : (es : List Entry) (e : Entry) (gs : List Grant) → accepted (es ++ e ∷ map granted gs) ≡ accepted es ++ accepted_at e
+accepted-step es e gs = accepted-append es (e ∷ map granted gs) ∙ ap (λ l. accepted es ++ (accepted_at e ++ l)) (accepted-granted gs) ∙ ap (λ l. accepted es ++ l) (append-nil (accepted_at e))
+
+agree_goes_on : (n : ℕ) (es : List Entry) (s new : State) (who : ℕ) (result : Result Reply Refusal) (e : Entry) (armed : Bool) (gs : List Grant) → Agree n es s → AreBelow n s → Moves s who (pended result) gs new → IsPosted es s who result e armed
+    → latest 0 (accepted es ++ accepted_at e) ≡ new.now → Agree n (es ++ e ∷ map granted gs) new
+agree_goes_on n es s new who result e armed gs a below moved p moment = record {
+  threads = moved.threads ∙ a.threads;
+  waits = λ t. one_if-same (is_armed t (es ++ e ∷ map granted gs)) (pends new t) (
+      let sent = can_send n es s new who result e armed gs a below moved p in
+      let b = own_armed es e who armed p.own p.one t in
+      let c = moved.each t in
+      let d = ap one_if (a.waits t) in
+      let f = ap (λ x. cond (eqb who t) (one_if x) 0) p.arm in
+      let g = armed_left n (es ++ e ∷ []) gs sent t in
+      let h = ap (λ l. one_if (is_armed t l)) (append_assoc es (e ∷ []) (map granted gs)) in
+      omega arith);
+  moment = ap (latest 0) (accepted-step es e gs) ∙ moment;
+}
+
+-- ---- a call
+
+or_one : (waited p : Bool) → (p ≡ true → waited ≡ false) → one_if waited + one_if p ≡ one_if (waited || p)
+or_one true true h = absurd (let a = ap one_if (h refl) in omega arith)
+or_one true false h = refl
+or_one false true h = refl
+or_one false false h = refl
+
+-- whether a wait of the caller pends after its call
+pub call_arms : (n : ℕ) (es : List Entry) (s : State) (who : ℕ) (call : Call) (result : Result Reply Refusal) (gs : List Grant) (new : State) (waited : Bool) → Agree n es s → Moves s who (pended result) gs new → waited ≡ pends s who
+    → one_if (is_armed who es) + one_if (pended result) ≡ one_if (waited || pended result)
+call_arms n es s who call result gs new waited a moved is =
+    let b = ap one_if (a.waits who ∙ sym is) in
+    let c = or_one waited (pended result) (λ p. is ∙ moved.free p) in
+    omega arith
+
+posted_call : (n : ℕ) (es : List Entry) (s : State) (who : ℕ) (call : Call) (result : Result Reply Refusal) (gs : List Grant) (new : State) (waited : Bool) → Agree n es s → Moves s who (pended result) gs new → waited ≡ pends s who
+    → IsPosted es s who result (Called who call result) (waited || pended result)
+posted_call n es s who call result gs new waited a moved is = record { own = refl; arm = refl; one = call_arms n es s who call result gs new waited a moved is }
+
+pub call_sends : (n : ℕ) (es : List Entry) (s : State) (who : ℕ) (call : Call) (result : Result Reply Refusal) (gs : List Grant) (new : State) (waited : Bool) → Agree n es s → AreBelow n s → Moves s who (pended result) gs new → waited ≡ pends s who
+    → AreArmed n (es ++ Called who call result ∷ []) gs
+call_sends n es s who call result gs new waited a below moved is =
+    can_send n es s new who result (Called who call result) (waited || pended result) gs a below moved (posted_call n es s who call result gs new waited a moved is)
+
+pub agree_after_call : (n : ℕ) (es : List Entry) (s : State) (who : ℕ) (call : Call) (result : Result Reply Refusal) (gs : List Grant) (new : State) (waited : Bool) → Agree n es s → AreBelow n s → Moves s who (pended result) gs new → waited ≡ pends s who
+    → new.now ≡ s.now → Agree n (es ++ entries_of (Calls who call result gs)) new
+agree_after_call n es s who call result gs new waited a below moved is same =
+    agree_goes_on n es s new who result (Called who call result) (waited || pended result) gs a below moved (posted_call n es s who call result gs new waited a moved is)
+    (ap (latest 0) (append-nil (accepted es)) ∙ (a.moment ∙ sym same))
+
+-- ---- a tick
+
+-- a wait of who ticks pends after the tick where it did before
+pub tick_arms : (n : ℕ) (es : List Entry) (s : State) (by : ℕ) (result : Result Reply Refusal) (waited : Bool) → Agree n es s → pended result ≡ false → waited ≡ pends s by
+    → one_if (is_armed by es) + one_if (pended result) ≡ one_if waited
+tick_arms n es s by result waited a stays is =
+    let b = ap one_if (a.waits by ∙ sym is) in
+    let c = ap one_if stays in
+    omega arith
+
+posted_tick : (n : ℕ) (es : List Entry) (s : State) (by m : ℕ) (result : Result Reply Refusal) (waited : Bool) → Agree n es s → pended result ≡ false → waited ≡ pends s by → IsPosted es s by result (Ticked by m result) waited
+posted_tick n es s by m result waited a stays is = record { own = refl; arm = refl; one = tick_arms n es s by result waited a stays is }
+
+moved_by : (s : State) (by : ℕ) (result : Result Reply Refusal) (gs : List Grant) (new : State) → pended result ≡ false → Moves s by false gs new → Moves s by (pended result) gs new
+moved_by s by result gs new stays moved = subst (λ b. Moves s by b gs new) (sym stays) moved
+
+pub tick_sends : (n : ℕ) (es : List Entry) (s : State) (by m : ℕ) (result : Result Reply Refusal) (gs : List Grant) (new : State) (waited : Bool) → Agree n es s → AreBelow n s → pended result ≡ false → Moves s by false gs new → waited ≡ pends s by
+    → AreArmed n (es ++ Ticked by m result ∷ []) gs
+tick_sends n es s by m result gs new waited a below stays moved is =
+    can_send n es s new by result (Ticked by m result) waited gs a below (moved_by s by result gs new stays moved) (posted_tick n es s by m result waited a stays is)
+
+tick_moment : (es : List Entry) (s : State) (by m : ℕ) (result : Result Reply Refusal) (new : State) → latest 0 (accepted es) ≡ s.now → IsMomentAfter s.now m result new.now
+    → latest 0 (accepted es ++ accepted_at (Ticked by m result)) ≡ new.now
+tick_moment es s by m (Ok reply) new is come = latest-push 0 (accepted es) m ∙ sym come.1
+tick_moment es s by m (Err cause) new is come = ap (latest 0) (append-nil (accepted es)) ∙ (is ∙ sym come)
+
+pub agree_after_tick : (n : ℕ) (es : List Entry) (s : State) (by m : ℕ) (result : Result Reply Refusal) (gs : List Grant) (new : State) (waited : Bool) → Agree n es s → AreBelow n s → pended result ≡ false → Moves s by false gs new → IsMomentAfter s.now m result new.now → waited ≡ pends s by
+    → Agree n (es ++ entries_of (Ticks by m result gs)) new
+agree_after_tick n es s by m result gs new waited a below stays moved come is =
+    agree_goes_on n es s new by result (Ticked by m result) waited gs a below (moved_by s by result gs new stays moved) (posted_tick n es s by m result waited a stays is)
+    (tick_moment es s by m result new a.moment come)
+
+-- an accepted tick is to no moment before those published
+pub tick_rises : (n : ℕ) (es : List Entry) (s : State) (m : ℕ) (result : Result Reply Refusal) (new : State) (published : List ℕ) → Agree n es s → IsMomentAfter s.now m result new.now → published ≡ accepted es → IfOk result (λ _. latest 0 published ≤ m)
+tick_rises n es s m (Ok reply) new published a come is = let b = ap (latest 0) is in let c = a.moment in let d = come.0 in omega arith
+tick_rises n es s m (Err cause) new published a come is = tt
+
+-- ---- the book
+
+-- whoever waits is one of the threads
+pub below : (d : Dispatcher) (n : ℕ) → IsLawful d → d.threads ≡ n → AreBelow n (state d)
+below d n lawful same t pending = let known = who_waits d t lawful pending in omega (arith, known, same)
+
+-- the last entry is replaced
+pub set_last : (es : List Entry) (e new : Entry) (all : List Entry) (place : ℕ) → all ≡ es ++ e ∷ [] → place ≡ length es → slice_set all place new ≡ es ++ new ∷ []
+set_last es e new all place is here = ap (λ (l : List Entry). slice_set l place new) is ∙ (ap (λ n. slice_set (es ++ e ∷ []) n new) here ∙ set-append_seam es e [] new)
+
+-- the last entry is read
+pub last_is : (es : List Entry) (e : Entry) (all : List Entry) (place : ℕ) (x : Entry) → x ≡ get_or all place x → all ≡ es ++ e ∷ [] → place ≡ length es → x ≡ e
+last_is es e all place x value is here = value ∙ (ap (λ (l : List Entry). get_or l place x) is ∙ (ap (λ n. get_or (es ++ e ∷ []) n x) here ∙ get_or-append_seam es e [] x))
+
+-- there is room for an entry, and one more for each pending wait
+pub room_left : (entries room pending : ℕ) (full : Bool) → (full ≡ true) ↔ (room < entries + 1 + pending) → full ≡ false → entries + 1 + pending ≤ room
+room_left entries room pending full exactly free = ⊎_elim
+    (λ (enough : (nat_le (entries + 1 + pending) room ≡ true) × (entries + 1 + pending ≤ room)). enough.1)
+    (λ (less : (nat_le (entries + 1 + pending) room ≡ false) × (room < entries + 1 + pending)). absurd (false≢true (sym free ∙ exactly.1 less.1)))
+    (leb_tells (entries + 1 + pending) room)
+
+-- the journal after the entry and the grants were written
+pub journal_is : (es now next : List Entry) (e : Entry) (gs sent : List Grant) → now ≡ es ++ e ∷ [] → next ≡ now ++ map granted sent → sent ≡ gs → next ≡ es ++ e ∷ map granted gs
+journal_is es now next e gs sent posted grown same =
+    grown ∙ ap (λ l. l ++ map granted sent) posted ∙ append_assoc es (e ∷ []) (map granted sent) ∙ ap (λ l. es ++ (e ∷ map granted l)) same

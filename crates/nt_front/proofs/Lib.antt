@@ -1,0 +1,5 @@
+pub mod Journals
+pub mod Floors
+pub mod Polling
+pub mod Passed
+pub mod Closing

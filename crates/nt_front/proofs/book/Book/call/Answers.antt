@@ -1,0 +1,93 @@
+use Rattle.std.proofs.Common.{◌≡◌, ◌+◌, ◌-◌, ℕ, List, ◌∷◌, [], ◌++◌, length, rules, arith, subst, sym, ap, ◌∙◌}
+use Rattle.std.proofs.lemmas.List.{append-nil}
+use Rattle.atomic_table.specs.Seated.{TableId}
+use Rattle.nt_core.specs.declared.call.Grant.{Grant}
+use Rattle.nt_core.specs.State.{pends}
+use Rattle.nt_core.specs.Dispatcher.{state}
+use Rattle.nt_core.specs.Runs.{Calls}
+use Rattle.nt_mail.specs.declared.entry.Entry.{Entry}
+use Rattle.nt_mail.specs.declared.entry.Entry.TheVariants.{Called}
+use Rattle.nt_mail.specs.declared.knowledge.Asked.{Asked}
+use Rattle.nt_mail.specs.declared.knowledge.Knowledge.{Knowledge}
+use Rattle.nt_mail.specs.Entries.{accepted}
+use Rattle.nt_mail.specs.Seats.{Dispatcher, Seated}
+use Rattle.nt_front.specs.Runs.{Agree, AreArmed, entries_of}
+use Rattle.nt_front.specs.Holds.{floor_of, with_call, AreNumbered}
+use Rattle.nt_front.proofs.Journals.{below, stands_after, call_sends, agree_after_call, accepted-step, journal_is, last_is, room_left}
+use Rattle.nt_front.proofs.Floors.{fewer_calls, floor_calls, calls_made, numbered_made, made_call}
+use Rattle.nt_front.proofs.book.Book.call.Goals as goal
+
+pub overflow_add-caller : goal.overflow_add-caller
+overflow_add-caller g c =
+    let fewer = fewer_calls c.caller.inside.seat.known (c.len-place.result + 1) c.caller.invariant.3 (omega arith) c.tell.ensures.earlier in
+    let count = c.caller.invariant.2 in
+    let place = c.len-place.ensures in
+    let room = c.self.invariant.3 in
+    omega (arith, fewer, count)
+
+pub send-requires-clause-room : goal.send-requires-clause-room
+send-requires-clause-room g c =
+    let free = room_left c.len.result c.self.inside.room c.pending.result c.is_full.result c.is_full.ensures c.if-is_full.false in
+    let entries = c.len.ensures in
+    let pending = c.pending.ensures in
+    let most = c.write_call-result.ensures.carried_out.most in
+    let granted = ap length c.grants.ensures in
+    let written = c.write_call-result.ensures.room in
+    (omega (arith, free, entries, pending, most, granted, written.0, written.1, c.self.invariant.2), omega (arith, free, entries, pending, most, granted, written.0, c.self.invariant.3))
+
+pub send-requires-clause-armed : goal.send-requires-clause-armed
+send-requires-clause-armed g c =
+    let es = c.self.inside.journal.items in
+    let n = c.self.inside.threads in
+    let old = state c.self.inside.core in
+    let new = state c.write_call-result.new.core in
+    let done = c.write_call-result.ensures.carried_out in
+    let grants = c.write_call-result.new.core.grants in
+    let waited = subst (λ (t : ℕ). c.is_waiting-waited.result ≡ pends old t) (c.from.ensures ∙ c.get.ensures) c.is_waiting-waited.ensures in
+    let words = ap (λ (t : TableId). t.words) c.requires.mail in
+    let count : c.args.mail.now.words - 1 ≡ n = omega (arith, words, c.self.invariant.5) in
+    let known = below c.self.inside.core n c.self.invariant.0.lawful c.self.invariant.1.threads in
+    subst (λ (x : ℕ × List Entry × List Grant). AreArmed x.0 x.1 x.2) (λ i. (sym count i, sym c.write_call-result.ensures.journal i, sym c.grants.ensures i))
+    (call_sends n es old c.thread-who.result c.args.call c.write_call-result.result grants new c.is_waiting-waited.result c.self.invariant.1 known done.moves waited)
+
+pub invariant_of-self : goal.invariant_of-self
+invariant_of-self g c =
+    let es = c.self.inside.journal.items in
+    let n = c.self.inside.threads in
+    let old = state c.self.inside.core in
+    let after = c.write_call-result.new.core in
+    let new = state after in
+    let done = c.write_call-result.ensures.carried_out in
+    let result = c.write_call-result.result in
+    let grants = after.grants in
+    let waited = subst (λ (t : ℕ). c.is_waiting-waited.result ≡ pends old t) (c.from.ensures ∙ c.get.ensures) c.is_waiting-waited.ensures in
+    let known = below c.self.inside.core n c.self.invariant.0.lawful c.self.invariant.1.threads in
+    let turn = Calls c.thread-who.result c.args.call result grants in
+    let e = Called c.thread-who.result c.args.call result in
+    let next = c.send.new.journal.items in
+    let grown : next ≡ es ++ entries_of turn = journal_is es c.write_call-result.new.journal.items next e grants c.grants.result.now c.write_call-result.ensures.journal c.send.ensures.journal c.grants.ensures in
+    let kept = c.send.ensures.written ∙ ap (λ (d : Dispatcher). record d { written = next }) (c.tell.ensures.written ∙ ap (λ (d : Dispatcher). record d { written = d.written ++ c.index.result.now ∷ [] }) c.self.invariant.4) in
+    let now = ap accepted grown ∙ (accepted-step es e grants ∙ append-nil (accepted es)) in (
+      stands_after c.self.inside.core after es next c.self.inside.room turn c.self.invariant.0 done.lawful done.moves.threads done.called grown,
+      subst (λ l. Agree n l new) (sym grown) (agree_after_call n es old c.thread-who.result c.args.call result grants new c.is_waiting-waited.result c.self.invariant.1 known done.moves waited done.moment),
+      omega (arith, c.self.invariant.2, c.write_call-result.ensures.room.1, c.send.ensures.capacity),
+      c.self.invariant.3,
+      kept ∙ (λ i. record { table = g.N.Named.table; written = next; published = sym now i }),
+      c.self.invariant.5,
+    )
+
+pub invariant_of-caller : goal.invariant_of-caller
+invariant_of-caller g c =
+    let known = c.caller.inside.seat.known in
+    let result = c.write_call-result.result in
+    let es = c.self.inside.journal.items in
+    let here : c.len-place.result ≡ length es = search rules in
+    let entry = last_is es (Called c.thread-who.result c.args.call result) c.write_call-result.new.journal.items c.len-place.result c.index.result.now c.index.ensures c.write_call-result.ensures.journal here in
+    let becomes : c.tell.new.caller.known ≡ with_call known (c.len-place.result + 1) c.args.call result =
+    ap (λ (s : Seated). s.known) c.tell.ensures.made ∙ made_call known (c.len-place.result + 1) c.index.result.now c.thread-who.result c.args.call result entry (c.thread-who.ensures ∙ ap (λ (k : Knowledge). k.thread) (sym c.caller.view_is)) in
+    let count = c.caller.invariant.2 in (
+      ap (λ (s : Seated). s.table) c.tell.ensures.made ∙ c.requires.mail,
+      c.caller.invariant.1 ∙ (sym (floor_calls known (c.len-place.result + 1) c.args.call result) ∙ sym (ap floor_of becomes)),
+      (let a = calls_made known (c.len-place.result + 1) (Asked.Call c.args.call) result in let b = ap (λ (k : Knowledge). length k.made) becomes in omega (arith, a, b, count)),
+      subst (λ (k : Knowledge). AreNumbered k.made) (sym becomes) (numbered_made known (c.len-place.result + 1) (Asked.Call c.args.call) result c.caller.invariant.3 (omega arith) c.tell.ensures.earlier),
+    )

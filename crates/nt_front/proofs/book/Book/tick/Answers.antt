@@ -1,0 +1,86 @@
+use Rattle.std.proofs.Common.{◌≡◌, ◌+◌, ◌-◌, ℕ, List, ◌∷◌, [], ◌++◌, length, rules, arith, subst, sym, ap, ◌∙◌}
+use Rattle.atomic_table.specs.Seated.{TableId}
+use Rattle.nt_core.specs.declared.call.Grant.{Grant}
+use Rattle.nt_core.specs.State.{pends}
+use Rattle.nt_core.specs.Dispatcher.{state}
+use Rattle.nt_core.specs.Runs.{Ticks}
+use Rattle.nt_mail.specs.declared.entry.Entry.{Entry}
+use Rattle.nt_mail.specs.declared.entry.Entry.TheVariants.{Ticked}
+use Rattle.nt_mail.specs.declared.knowledge.Asked.{Asked}
+use Rattle.nt_mail.specs.declared.knowledge.Knowledge.{Knowledge}
+use Rattle.nt_mail.specs.Entries.{accepted, accepted_if}
+use Rattle.nt_mail.specs.Seats.{Dispatcher, Seated}
+use Rattle.nt_front.specs.Runs.{Agree, AreArmed, entries_of}
+use Rattle.nt_front.specs.Holds.{floor_of, moment_if, with_tick, AreNumbered}
+use Rattle.nt_front.proofs.Journals.{below, stands_after, tick_sends, agree_after_tick, accepted-step, journal_is, last_is}
+use Rattle.nt_front.proofs.Floors.{fewer_calls, floor_ticks, calls_made, numbered_made, made_tick}
+use Rattle.std.specs.Prelude.{max}
+use Rattle.nt_front.proofs.book.Book.tick.Goals as goal
+
+pub overflow_add-caller : goal.overflow_add-caller
+overflow_add-caller g c =
+    let fewer = fewer_calls c.caller.inside.seat.known (c.len-place.result + 1) c.caller.invariant.3 (omega arith) c.tell.ensures.earlier in
+    let count = c.caller.invariant.2 in
+    omega (arith, fewer, count)
+
+pub send-requires-clause-armed : goal.send-requires-clause-armed
+send-requires-clause-armed g c =
+    let es = c.self.inside.journal.items in
+    let n = c.self.inside.threads in
+    let old = state c.self.inside.core in
+    let done = c.tick-result.ensures in
+    let new = state c.tick-result.new.self in
+    let grants = c.tick-result.new.self.grants in
+    let waited = subst (λ (t : ℕ). c.is_waiting-armed.result ≡ pends old t) (c.from.ensures ∙ c.get.ensures) c.is_waiting-armed.ensures in
+    let words = ap (λ (t : TableId). t.words) c.requires.mail in
+    let count : c.args.mail.now.words - 1 ≡ n = omega (arith, words, c.self.invariant.5) in
+    let known = below c.self.inside.core n c.self.invariant.0.lawful c.self.invariant.1.threads in
+    subst (λ (x : ℕ × List Entry × List Grant). AreArmed x.0 x.1 x.2) (λ i. (sym count i, sym c.push_reserved.ensures.items i, sym c.grants.ensures i))
+    (tick_sends n es old c.thread-by.result c.args.moment c.tick-result.result grants new c.is_waiting-armed.result c.self.invariant.1 known done.waits (done.moves c.thread-by.result) waited)
+
+pub invariant_of-self : goal.invariant_of-self
+invariant_of-self g c =
+    let es = c.self.inside.journal.items in
+    let n = c.self.inside.threads in
+    let old = state c.self.inside.core in
+    let done = c.tick-result.ensures in
+    let after = c.tick-result.new.self in
+    let new = state after in
+    let by = c.thread-by.result in
+    let result = c.tick-result.result in
+    let grants = after.grants in
+    let moved = done.moves by in
+    let waited = subst (λ (t : ℕ). c.is_waiting-armed.result ≡ pends old t) (c.from.ensures ∙ c.get.ensures) c.is_waiting-armed.ensures in
+    let known = below c.self.inside.core n c.self.invariant.0.lawful c.self.invariant.1.threads in
+    let turn = Ticks by c.args.moment result grants in
+    let e = Ticked by c.args.moment result in
+    let next = c.send.new.journal.items in
+    let grown : next ≡ es ++ entries_of turn = journal_is es c.push_reserved.new.self.items next e grants c.grants.result.now c.push_reserved.ensures.items c.send.ensures.journal c.grants.ensures in
+    let sent = c.send.ensures.written ∙ ap (λ (d : Dispatcher). record d { written = next }) (c.tell.ensures.written ∙ ap (λ (d : Dispatcher). record d { written = d.written ++ c.index.result.now ∷ [] }) c.self.invariant.4) in
+    let kept = c.publish.ensures ∙ ap (λ (d : Dispatcher). record d { published = d.published ++ accepted_if c.args.moment result }) sent in
+    let now = ap accepted grown ∙ accepted-step es e grants in (
+      stands_after c.self.inside.core after es next c.self.inside.room turn c.self.invariant.0 done.lawful moved.threads done.ticked grown,
+      subst (λ l. Agree n l new) (sym grown) (agree_after_tick n es old by c.args.moment result grants new c.is_waiting-armed.result c.self.invariant.1 known done.waits moved done.moment waited),
+      omega (arith, c.self.invariant.2, c.push_reserved.ensures.capacity, c.send.ensures.capacity),
+      c.self.invariant.3,
+      kept ∙ (λ i. record { table = g.N.Named.table; written = next; published = sym now i }),
+      c.self.invariant.5,
+    )
+
+pub invariant_of-caller : goal.invariant_of-caller
+invariant_of-caller g c =
+    let known = c.caller.inside.seat.known in
+    let number = c.len-place.result + 1 in
+    let moment = c.args.moment in
+    let result = c.tick-result.result in
+    let es = c.self.inside.journal.items in
+    let here : c.len-place.result ≡ length es = search rules in
+    let entry = last_is es (Ticked c.thread-by.result moment result) c.push_reserved.new.self.items c.len-place.result c.index.result.now c.index.ensures c.push_reserved.ensures.items here in
+    let becomes : c.tell.new.caller.known ≡ with_tick known number moment result =
+    ap (λ (s : Seated). s.known) c.tell.ensures.made ∙ made_tick known number c.index.result.now c.thread-by.result moment result entry (c.thread-by.ensures ∙ ap (λ (k : Knowledge). k.thread) (sym c.caller.view_is)) in
+    let count = c.caller.invariant.2 in (
+      ap (λ (s : Seated). s.table) c.tell.ensures.made ∙ c.requires.mail,
+      c.floor_after-caller-inside.ensures ∙ (ap (λ (floor : ℕ). max floor (moment_if (Asked.Tick moment) result)) c.caller.invariant.1 ∙ (sym (floor_ticks known number moment result) ∙ sym (ap floor_of becomes))),
+      (let a = calls_made known number (Asked.Tick moment) result in let b = ap (λ (k : Knowledge). length k.made) becomes in omega (arith, a, b, count)),
+      subst (λ (k : Knowledge). AreNumbered k.made) (sym becomes) (numbered_made known number (Asked.Tick moment) result c.caller.invariant.3 (omega arith) c.tell.ensures.earlier),
+    )

@@ -1,0 +1,59 @@
+-- What contracts see of a book.
+use Rattle.std.specs.Prelude.{◌≡◌, ℕ, ◌+◌, ◌<◌, ◌≤◌, List, ◌++◌, length, true, Result}
+use Rattle.std.specs.FinMap.{len}
+use Rattle.atomic_table.specs.Seated.{TableId}
+use Rattle.nt_status.specs.declared.refusal.Refusal.{Refusal}
+use Rattle.nt_core.specs.declared.call.Call.{Call}
+use Rattle.nt_core.specs.declared.call.Reply.{Reply}
+use Rattle.nt_core.specs.Dispatcher.{Dispatcher, state}
+use Rattle.nt_core.specs.Lawful.{IsLawful}
+use Rattle.nt_core.specs.Steps.{Called}
+use Rattle.nt_core.specs.Moves.{Moves, pended, is_wait}
+use Rattle.nt_core.specs.Runs.{Turn, Calls, Ticks, IsTurn}
+use Rattle.nt_mail.specs.declared.entry.Entry.{Entry}
+use Rattle.nt_front.specs.Runs.{entries_of, IsRun}
+
+-- the dispatcher, the entries written, and the number of places in the journal
+pub record Ledger : Type 0 where
+  pub core : Dispatcher
+  pub journal : List Entry
+  pub room : ℕ
+
+abbrev pub ledger : Dispatcher → List Entry → ℕ → Ledger
+ledger core journal room = record { core = core; journal = journal; room = room }
+
+-- the headline: the dispatcher is lawful, and the journal is a run that leads to this very state
+pub record Stands (b : Ledger) : Type 0 where
+  pub lawful : IsLawful b.core
+  pub run : IsRun b.core.threads b.journal (state b.core)
+
+-- the turn is one of the machine, and its entries were written
+pub record Writes (old : Ledger) (turn : Turn) (new : Ledger) : Type 0 where
+  pub step : IsTurn (state old.core) turn (state new.core)
+  pub journal : new.journal ≡ old.journal ++ entries_of turn
+  pub room : new.room ≡ old.room
+
+abbrev pub WritesCall : Ledger → ℕ → Call → Result Reply Refusal → Ledger → Type 0
+WritesCall old who call result new = Writes old (Calls who call result new.core.grants) new
+
+abbrev pub WritesTick : Ledger → ℕ → ℕ → Result Reply Refusal → Ledger → Type 0
+WritesTick old by moment result new = Writes old (Ticks by moment result new.core.grants) new
+
+-- the dispatcher carried out a thread's call, with this result
+pub record IsCarriedOut (old : Dispatcher) (who : ℕ) (call : Call) (result : Result Reply Refusal) (new : Dispatcher) : Type 0 where
+  pub called : Called (state old) who call result new.grants (state new)
+  pub lawful : IsLawful new
+  pub moves : Moves (state old) who (pended result) new.grants (state new)
+  pub waits : pended result ≡ true → is_wait call ≡ true
+  pub moment : (state new).now ≡ (state old).now
+  pub most : length new.grants ≤ len (state old).waits
+
+-- the room left is too small for an entry and one more for each pending wait
+abbrev pub IsFull : Ledger → Type 0
+IsFull b = b.room < length b.journal + 1 + len (state b.core).waits
+
+-- a front that no name stands for yet: its mail, how many threads it has, and the places in its journal
+pub record Prepared : Type 0 where
+  pub table : TableId
+  pub threads : ℕ
+  pub room : ℕ

@@ -1,0 +1,42 @@
+-- What a poll, a wait that begins and the end of a thread answer.
+use Rattle.std.specs.Prelude.{◌≡◌, ◌≢◌, ◌⊎◌, ℕ, true, Result}
+use Rattle.nt_core.specs.declared.call.Call.{Call}
+use Rattle.nt_core.specs.declared.call.Reply.{Reply}
+use Rattle.nt_core.specs.declared.call.WaitCall.{WaitCall}
+use Rattle.nt_status.specs.declared.refusal.Refusal.{Refusal}
+use Rattle.nt_core.specs.Moves.{pended}
+use Rattle.nt_mail.specs.declared.knowledge.Knowledge.{Knowledge}
+use Rattle.nt_front.specs.declared.polls.Polled.{Polled}
+use Rattle.nt_front.specs.declared.calls.Begun.{Begun}
+use Rattle.nt_front.specs.declared.calls.Exited.{Exited}
+use Rattle.nt_mail.specs.declared.word.Word.{Word}
+use Rattle.nt_mail.specs.Words.{IsLawfulWord, granted_word}
+use Rattle.nt_mail.specs.Knowledge.{with_polled, IsEarlier}
+use Rattle.nt_front.specs.Holds.{IsGiven, with_call}
+
+-- the word tells no grant
+abbrev pub IsUngranted : ℕ → Type 0
+IsUngranted word = (n status : ℕ) → IsLawfulWord (Word.Granted n status) → granted_word n status ≢ word
+
+-- nothing was found: the one word that was read tells no grant, or it did, and the exchange that was to take it found another word
+abbrev pub IsStill : Knowledge → Knowledge → Type 0
+IsStill old new =
+    ((word : ℕ) × IsUngranted word × (new ≡ with_polled word old))
+    ⊎ ((word found : ℕ) × (found ≢ word) × (new ≡ with_polled found (with_polled word old)))
+
+abbrev pub IsPolled : {X : Type 0} → Knowledge → Polled X → Type 0
+IsPolled old (Polled.Ready new receipt) = IsGiven old receipt.entry receipt.result new
+IsPolled old (Polled.Still new) = IsStill old new
+
+-- the call was written under a number above all that the thread had
+abbrev pub IsMade : Knowledge → Call → ℕ → Result Reply Refusal → Knowledge → Type 0
+IsMade old call number result new = (new ≡ with_call old number call result) × IsEarlier number old
+
+abbrev pub IsBegun : {X : Type 0} → Knowledge → WaitCall → Begun X → Type 0
+IsBegun old wait (Begun.Done new receipt) = IsMade old (Call.Wait wait) receipt.entry receipt.result new
+IsBegun old wait (Begun.Pended new receipt) = IsMade old (Call.Wait wait) receipt.entry receipt.result new × (pended receipt.result ≡ true)
+IsBegun old wait (Begun.NoRoom new) = new ≡ old
+
+abbrev pub IsExited : {X : Type 0} → Knowledge → Exited X → Type 0
+IsExited old (Exited.Ended new receipt) = IsMade old Call.Exit receipt.entry receipt.result new
+IsExited old (Exited.NoRoom new) = new ≡ old

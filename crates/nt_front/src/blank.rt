@@ -1,0 +1,137 @@
+//! How a front is made.
+ghost use Rattle.std.specs.Prelude.{◌≡◌, ◌+◌, ◌≤◌, ◌<◌, ◌^◌, ◌&&◌, [], vec_len, vec_capacity, IfOk, IfErr, MatchBool, nat_le};
+ghost use Rattle.nt_status.specs.declared.refusal.Refusal.TheVariants.{InvalidParameter, Memory};
+ghost use Rattle.nt_mail.specs.Knowledge.{newcomers};
+ghost use Rattle.nt_front.specs.Holds.{new_threads};
+
+use crate::book::Book;
+use crate::front::Front;
+use crate::hold::{Hold, Pass};
+use crate::named::Named;
+use crate::wake::Bells;
+use nt_core::Core;
+use nt_mail::{Entry, JoinedSeats, Mail, Opened};
+use nt_status::{Moment, Refusal, ThreadId};
+use std::alloc::Global;
+use std::marker::{Model, PhantomData};
+use std::sync::Mutex;
+
+/// The most entries that a journal may have.
+const MOST_ENTRIES: usize = 1_048_576;
+
+/// A front that no name stands for yet.
+#[derive(Drop)]
+pub struct Blank {
+    mail: Mail,
+    seats: JoinedSeats,
+    core: Core,
+    journal: Vec<Entry>,
+    threads: u32,
+    room: usize,
+}
+
+impl Model for Blank {
+    ghost use Rattle.std.specs.Prelude.{◌≡◌, ◌+◌, ◌≤◌, ◌<◌, ◌^◌, [], vec_capacity};
+    ghost use Rattle.nt_core.specs.State.{opening};
+    ghost use Rattle.nt_core.specs.Dispatcher.{state};
+    ghost use Rattle.nt_core.specs.Lawful.{IsLawful};
+    ghost use Rattle.nt_mail.specs.Knowledge.{newcomers};
+    ghost use Rattle.nt_front.specs.Books.{Prepared};
+
+    ghost Value = { Prepared };
+
+    ghost view = { λ b. record { table = b.mail; threads = b.threads; room = b.room } };
+
+    ghost invariant = { λ b. (b.seats ≡ record { table = b.mail; written = []; published = []; parts = newcomers 0 b.threads }) × (b.mail.words ≡ b.threads + 1) × (state b.core ≡ opening b.threads) × IsLawful b.core × (b.journal.items ≡ []) × (b.room ≤ vec_capacity b.journal) × (b.room < 2 ^ 54) × (b.threads ≤ 256) };
+}
+
+/// Makes what a front for these threads needs, with this room in its journal.
+///
+/// Refused with 87 unless there are 1 to 256 threads and room for 1 to 1048576 entries, and with 8 where memory is refused.
+pub fn prepare(alloc: Global, threads: u32, journal_room: usize) -> Result<Blank, Refusal>
+    ensures ok { IfOk result (λ b. (b.threads ≡ threads) × (b.room ≡ journal_room)) }
+    ensures err { IfErr result (λ r. MatchBool (nat_le 1 threads && nat_le threads 256 && nat_le 1 journal_room && nat_le journal_room 1048576) (r ≡ Memory) (r ≡ InvalidParameter)) }
+{
+    if !is_lawful(threads, journal_room) {
+        return Err(Refusal::InvalidParameter);
+    }
+    parts(alloc, threads, journal_room)
+}
+
+/// Opens the front under its name. The passes are in the order of the threads.
+///
+/// Refused with 8 where memory is refused.
+pub fn open<N: Named>(alloc: Global, blank: Blank) -> Result<(Front<N>, Vec<Pass<N>>), Refusal>
+    requires { blank.table ≡ N.table }
+    ensures passes { IfOk result (λ r. r.1.items ≡ new_threads blank.threads) }
+    ensures count { IfOk result (λ r. vec_len r.1 ≡ blank.threads) }
+    ensures memory { IfErr result (λ r. r ≡ Memory) }
+{
+    let Blank {
+        mail,
+        mut seats,
+        core,
+        journal,
+        threads,
+        room,
+    } = blank;
+    let bells = Bells::new(alloc, threads as usize)?;
+    let mut passes = Vec::with_capacity(alloc, threads as usize)?;
+    hand_out(&mail, &mut seats, threads as u16, &mut passes);
+    let book = Book::new(core, threads, journal, room, seats.into_dispatcher());
+    let front = Front {
+        mail,
+        book: Mutex::new(book),
+        bells,
+    };
+    Ok((front, passes))
+}
+
+/// Whether a front may have so many threads, and its journal so much room.
+fn is_lawful(threads: u32, room: usize) -> bool
+    ensures { result ≡ (nat_le 1 threads && nat_le threads 256 && nat_le 1 room && nat_le room 1048576) }
+{
+    1 <= threads && threads <= 256 && 1 <= room && room <= MOST_ENTRIES
+}
+
+/// The parts of a front.
+fn parts(alloc: Global, threads: u32, room: usize) -> Result<Blank, Refusal>
+    requires { (1 ≤ threads) × (threads ≤ 256) × (room < 2 ^ 54) }
+    ensures ok { IfOk result (λ b. (b.threads ≡ threads) × (b.room ≡ room)) }
+    ensures memory { IfErr result (λ r. r ≡ Memory) }
+{
+    let core = Core::new(alloc, threads)?;
+    let journal = Vec::with_capacity(alloc, room)?;
+    let Ok(Opened { mail, seats }) = Mail::new(alloc, threads) else {
+        return Err(Refusal::Memory);
+    };
+    Ok(Blank {
+        mail,
+        seats,
+        core,
+        journal,
+        threads,
+        room,
+    })
+}
+
+/// Gives each thread its pass.
+fn hand_out<N: Named>(mail: &Mail, seats: &mut JoinedSeats, threads: u16, passes: &mut Vec<Pass<N>>)
+    requires mail { (mail.now ≡ N.table) × (mail.now.words ≡ threads + 1) }
+    requires seats { seats.old ≡ record { table = mail.now; written = []; published = []; parts = newcomers 0 threads } }
+    requires room { (passes.old.items ≡ []) × (threads ≤ vec_capacity passes.old) }
+    ensures seats { seats.new ≡ record { table = mail.now; written = []; published = []; parts = [] } }
+    ensures passes { passes.new.items ≡ new_threads threads }
+    ensures count { vec_len passes.new ≡ threads }
+{
+    for thread in 0..threads {
+        let seat = mail.part(seats, ThreadId::new(thread));
+        let hold = Hold {
+            seat,
+            floor: Moment::ZERO,
+            calls: 0,
+            of: PhantomData,
+        };
+        passes.push_reserved(Pass { hold });
+    }
+}

@@ -1,0 +1,224 @@
+//! What lies behind the lock.
+ghost use Rattle.std.specs.Prelude.{◌≡◌, ◌+◌, ◌^◌, ◌<◌, ◌≤◌, ◌↔◌, [], length, vec_capacity, true, false, IfOk, IfErr, OnErr, Err};
+ghost use Rattle.nt_status.specs.declared.refusal.Refusal.TheVariants.{JournalFull};
+ghost use Rattle.nt_core.specs.State.{opening};
+ghost use Rattle.nt_core.specs.Dispatcher.{state};
+ghost use Rattle.nt_core.specs.Lawful.{IsLawful};
+ghost use Rattle.nt_core.specs.Moves.{pended, is_wait};
+ghost use Rattle.nt_mail.specs.Entries.{accepted};
+ghost use Rattle.nt_mail.specs.Knowledge.{IsEarlier};
+ghost use Rattle.nt_front.specs.Runs.{IsRun};
+ghost use Rattle.nt_front.specs.Books.{Stands, WritesCall, WritesTick, IsFull};
+ghost use Rattle.nt_front.specs.Holds.{with_call, with_tick};
+
+use crate::hold::Hold;
+use crate::moments::floor_after;
+use crate::named::Named;
+use crate::receipt::{History, Receipt};
+use crate::wake::Marks;
+use crate::write::{publish, send, tell, write_call};
+use nt_core::{Call, Core, Reply};
+use nt_mail::{DispatcherSeat, Entry, Mail};
+use nt_status::{Moment, Refusal};
+use std::marker::{Model, PhantomData};
+
+/// The dispatcher, its journal, and the seat that knows the journal. Only `open` makes one.
+///
+/// Its type keeps that the dispatcher is lawful, and that the journal is a run which leads to this very state.
+#[derive(Drop)]
+pub struct Book<N: Named> {
+    core: Core,
+    journal: Vec<Entry>,
+    room: usize,
+    threads: u32,
+    dispatcher: DispatcherSeat,
+    of: PhantomData<N>,
+}
+
+impl<N: Named> Model for Book<N> {
+    ghost use Rattle.std.specs.Prelude.{◌≡◌, ◌≤◌, ◌<◌, ◌+◌, ◌^◌, vec_capacity};
+    ghost use Rattle.std.specs.Coded.{codes};
+    ghost use Rattle.nt_waits.specs.Waits.{waits_code};
+    ghost use Rattle.nt_core.specs.Dispatcher.{state};
+    ghost use Rattle.nt_mail.specs.Entries.{accepted};
+    ghost use Rattle.nt_front.specs.Books.{Ledger, Stands, ledger};
+    ghost use Rattle.nt_front.specs.Runs.{Agree};
+
+    ghost Value = { Ledger };
+
+    ghost coded = { Prim.hlevel (codes, waits_code) };
+
+    ghost view = { λ b. ledger b.core b.journal.items b.room };
+
+    ghost invariant = { λ b. Stands (ledger b.core b.journal.items b.room) × Agree b.threads b.journal.items (state b.core) × (b.room ≤ vec_capacity b.journal) × (b.room < 2 ^ 54) × (b.dispatcher ≡ record { table = N.table; written = b.journal.items; published = accepted b.journal.items }) × (N.table.words ≡ b.threads + 1) };
+}
+
+impl<N: Named> Book<N> {
+    /// Makes a call for the thread of this hold, and writes it with the waits that it ended.
+    ///
+    /// Refused with JournalFull where the room left is too small for an entry and one more for each pending wait; nothing changes
+    /// then. Every other answer of the dispatcher is written, a refusal too.
+    pub fn call(
+        &mut self,
+        mail: &Mail,
+        caller: &mut Hold<N>,
+        call: Call,
+    ) -> Result<Receipt, Refusal>
+        requires mail { mail.now ≡ N.table }
+        ensures book { IfOk result (λ r. WritesCall self.old caller.old.thread call r.result self.new) }
+        ensures entry { IfOk result (λ r. r.entry ≡ length self.old.journal + 1) }
+        ensures made { IfOk result (λ r. caller.new ≡ with_call caller.old r.entry call r.result) }
+        ensures earlier { IfOk result (λ r. IsEarlier r.entry caller.old) }
+        ensures waits { IfOk result (λ r. pended r.result ≡ true → is_wait call ≡ true) }
+        ensures full { (result ≡ Err JournalFull) ↔ IsFull self.old }
+        ensures only { IfErr result (λ r. r ≡ JournalFull) }
+        ensures err { OnErr result ((self.new ≡ self.old) × (caller.new ≡ caller.old)) }
+    {
+        if is_full(self.journal.len(), self.room, self.core.pending()) {
+            return Err(Refusal::JournalFull);
+        }
+        let who = caller.thread();
+        let waited = self.core.is_waiting(u32::from(who.get()));
+        let place = self.journal.len();
+        let entry = place as u64 + 1;
+        let result = write_call(&mut self.core, &mut self.journal, who, call);
+        let armed = waited | has_pended(&result);
+        tell(
+            mail,
+            &mut self.dispatcher,
+            &mut caller.seat,
+            &self.journal[place],
+            entry,
+            armed,
+        );
+        caller.calls += 1;
+        send(
+            mail,
+            &mut self.dispatcher,
+            &mut self.journal,
+            self.core.grants(),
+        );
+        Ok(Receipt { entry, result })
+    }
+
+    /// Makes a tick by the thread of this hold, and writes it with the waits that it ended.
+    ///
+    /// Refused with JournalFull as a call is.
+    pub fn tick(
+        &mut self,
+        mail: &Mail,
+        caller: &mut Hold<N>,
+        moment: Moment,
+    ) -> Result<Receipt, Refusal>
+        requires mail { mail.now ≡ N.table }
+        ensures book { IfOk result (λ r. WritesTick self.old caller.old.thread moment r.result self.new) }
+        ensures entry { IfOk result (λ r. r.entry ≡ length self.old.journal + 1) }
+        ensures made { IfOk result (λ r. caller.new ≡ with_tick caller.old r.entry moment r.result) }
+        ensures earlier { IfOk result (λ r. IsEarlier r.entry caller.old) }
+        ensures waits { IfOk result (λ r. pended r.result ≡ false) }
+        ensures full { (result ≡ Err JournalFull) ↔ IsFull self.old }
+        ensures only { IfErr result (λ r. r ≡ JournalFull) }
+        ensures err { OnErr result ((self.new ≡ self.old) × (caller.new ≡ caller.old)) }
+    {
+        if is_full(self.journal.len(), self.room, self.core.pending()) {
+            return Err(Refusal::JournalFull);
+        }
+        let by = caller.thread();
+        let armed = self.core.is_waiting(u32::from(by.get()));
+        let place = self.journal.len();
+        let entry = place as u64 + 1;
+        let result = self.core.tick(moment);
+        self.journal
+            .push_reserved(Entry::Ticked { by, moment, result });
+        tell(
+            mail,
+            &mut self.dispatcher,
+            &mut caller.seat,
+            &self.journal[place],
+            entry,
+            armed,
+        );
+        caller.calls += 1;
+        caller.floor = floor_after(caller.floor, moment, &result);
+        send(
+            mail,
+            &mut self.dispatcher,
+            &mut self.journal,
+            self.core.grants(),
+        );
+        publish(mail, &mut self.dispatcher, moment, &result);
+        Ok(Receipt { entry, result })
+    }
+
+    /// A mark for each thread whose wait the last call or tick ended.
+    pub(crate) fn ended(&self) -> Marks {
+        Marks::of(self.core.grants())
+    }
+
+    /// A book with an empty journal.
+    pub(crate) fn new(
+        core: Core,
+        threads: u32,
+        journal: Vec<Entry>,
+        room: usize,
+        dispatcher: DispatcherSeat,
+    ) -> Book<N>
+        requires core { (state core ≡ opening threads) × IsLawful core }
+        requires journal { (journal.items ≡ []) × (room ≤ vec_capacity journal) × (room < 2 ^ 54) }
+        requires dispatcher { dispatcher ≡ record { table = N.table; written = []; published = [] } }
+        requires words { N.table.words ≡ threads + 1 }
+        ensures { result ≡ record { core = core; journal = []; room = room } }
+    {
+        Book {
+            core,
+            journal,
+            room,
+            threads,
+            dispatcher,
+            of: PhantomData,
+        }
+    }
+
+    /// The dispatcher is lawful and the journal a run to its state, now as ever; there is nothing to do for it.
+    pub fn stands(&self)
+        ensures { Stands self.now }
+    {
+        let _ = &self.core;
+    }
+
+    /// The journal, and the seat that knows it.
+    pub(crate) fn into_history(self) -> (History, DispatcherSeat)
+        ensures entries { result.0.entries.items ≡ self.journal }
+        ensures lawful { IsLawful self.core }
+        ensures run { IsRun result.0.threads result.0.entries.items (state self.core) }
+        ensures seat { result.1 ≡ record { table = N.table; written = result.0.entries.items; published = accepted result.0.entries.items } }
+    {
+        let Book {
+            core: _,
+            journal,
+            room: _,
+            threads,
+            dispatcher,
+            of: _,
+        } = self;
+        let history = History {
+            threads,
+            entries: journal,
+        };
+        (history, dispatcher)
+    }
+}
+
+/// There is no place for one entry and one more for each pending wait.
+fn is_full(entries: usize, room: usize, pending: usize) -> bool
+    ensures { (result ≡ true) ↔ (room < entries + 1 + pending) }
+{
+    room < entries || room - entries < 1 || room - entries - 1 < pending
+}
+
+/// Whether the caller's wait pends from now on.
+pub(crate) fn has_pended(answer: &Result<Reply, Refusal>) -> bool
+    ensures { result ≡ pended answer.now }
+{
+    matches!(answer, Ok(Reply::Pended))
+}

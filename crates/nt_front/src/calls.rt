@@ -1,0 +1,112 @@
+//! What a thread with a pass may do under the lock.
+ghost use Rattle.std.specs.Prelude.{◌≡◌, true, IfOk, IfErr, OnErr};
+ghost use Rattle.nt_status.specs.declared.refusal.Refusal.TheVariants.{JournalFull};
+ghost use Rattle.nt_core.specs.declared.call.Call.{Call};
+ghost use Rattle.nt_core.specs.Moves.{pended, is_wait};
+ghost use Rattle.nt_mail.specs.Knowledge.{IsEarlier};
+ghost use Rattle.nt_front.specs.Holds.{with_tick};
+ghost use Rattle.nt_front.specs.Polls.{IsMade, IsBegun, IsExited};
+
+use crate::book::has_pended;
+use crate::front::Front;
+use crate::hold::{Ended, Hold, Pass, Sleeper};
+use crate::named::Named;
+use crate::receipt::Receipt;
+use nt_core::{Act, Call, WaitCall};
+use nt_status::{Moment, Refusal};
+use std::sync::Wait;
+
+/// What a wait that begins answers.
+pub enum Begun<N: Named> {
+    /// The wait ended at once, or was refused.
+    Done(Pass<N>, Receipt),
+    /// The wait pends.
+    Pended(Sleeper<N>, Receipt),
+    /// The journal is full, and nothing was done.
+    NoRoom(Pass<N>),
+}
+
+/// What the end of a thread answers.
+pub enum Exited<N: Named> {
+    Ended(Ended<N>, Receipt),
+    /// The journal is full, and nothing was done.
+    NoRoom(Pass<N>),
+}
+
+impl<N: Named> Front<N> {
+    /// Makes a call that never pends.
+    ///
+    /// Refused with JournalFull alone, and the pass is unchanged then; what the dispatcher answers, a refusal too, is in the receipt.
+    #[tactic(auto, using(crate::proofs::Floors::free_unless_waits))]
+    pub fn call(&self, rt: &impl Wait, pass: &mut Pass<N>, act: Act) -> Result<Receipt, Refusal>
+        ensures made { IfOk result (λ r. IsMade pass.old (Call.Act act) r.entry r.result pass.new) }
+        ensures err { IfErr result (λ r. (r ≡ JournalFull) × (pass.new ≡ pass.old)) }
+    {
+        self.make(rt, &mut pass.hold, Call::Act(act))
+    }
+
+    /// Makes a tick. From then on the pass knows no earlier moment.
+    ///
+    /// Refused with JournalFull alone, and the pass is unchanged then.
+    #[tactic(auto, using(crate::proofs::Floors::free_ticks))]
+    pub fn tick(
+        &self,
+        rt: &impl Wait,
+        pass: &mut Pass<N>,
+        moment: Moment,
+    ) -> Result<Receipt, Refusal>
+        ensures made { IfOk result (λ r. pass.new ≡ with_tick pass.old r.entry moment r.result) }
+        ensures earlier { IfOk result (λ r. IsEarlier r.entry pass.old) }
+        ensures err { IfErr result (λ r. (r ≡ JournalFull) × (pass.new ≡ pass.old)) }
+    {
+        let mut book = self.book.lock(rt);
+        let receipt = book.tick(&self.mail, &mut pass.hold, moment)?;
+        let ended = book.ended();
+        drop(book);
+        self.bells.ring(ended);
+        Ok(receipt)
+    }
+
+    /// Begins a wait. The journal takes it in; nothing of it is copied. Where the journal is full it is dropped.
+    pub fn begin(&self, rt: &impl Wait, pass: Pass<N>, wait: WaitCall) -> Begun<N>
+        ensures { IsBegun pass wait result }
+    {
+        let Pass { mut hold } = pass;
+        match self.make(rt, &mut hold, Call::Wait(wait)) {
+            Err(_) => Begun::NoRoom(Pass { hold }),
+            Ok(receipt) => {
+                if has_pended(&receipt.result) {
+                    Begun::Pended(Sleeper { hold }, receipt)
+                } else {
+                    Begun::Done(Pass { hold }, receipt)
+                }
+            }
+        }
+    }
+
+    /// Ends the thread.
+    pub fn exit(&self, rt: &impl Wait, pass: Pass<N>) -> Exited<N>
+        ensures { IsExited pass result }
+    {
+        let Pass { mut hold } = pass;
+        match self.make(rt, &mut hold, Call::Exit) {
+            Err(_) => Exited::NoRoom(Pass { hold }),
+            Ok(receipt) => Exited::Ended(Ended { hold }, receipt),
+        }
+    }
+
+    /// Makes a call under the lock, and wakes whom it granted once the lock is given back.
+    fn make(&self, rt: &impl Wait, caller: &mut Hold<N>, call: Call) -> Result<Receipt, Refusal>
+        ensures made { IfOk result (λ r. IsMade caller.old call r.entry r.result caller.new) }
+        ensures waits { IfOk result (λ r. pended r.result ≡ true → is_wait call ≡ true) }
+        ensures only { IfErr result (λ r. r ≡ JournalFull) }
+        ensures err { OnErr result (caller.new ≡ caller.old) }
+    {
+        let mut book = self.book.lock(rt);
+        let receipt = book.call(&self.mail, caller, call)?;
+        let ended = book.ended();
+        drop(book);
+        self.bells.ring(ended);
+        Ok(receipt)
+    }
+}

@@ -1,0 +1,163 @@
+//! What a thread holds of a front.
+ghost use Rattle.std.specs.Prelude.{◌≡◌, length};
+ghost use Rattle.nt_mail.specs.Seats.{seated};
+ghost use Rattle.nt_front.specs.Held.{knowledge_of, IsOfKind};
+
+use crate::named::Named;
+use nt_mail::ThreadSeat;
+use nt_status::{Moment, ThreadId};
+use std::marker::{Model, PhantomData};
+
+/// What every hold has: the thread's seat, the greatest moment that the thread knows, and how many calls and ticks it made.
+///
+/// Contracts see it, and each hold, as what the thread knows.
+pub struct Hold<N: Named> {
+    pub(crate) seat: ThreadSeat,
+    pub(crate) floor: Moment,
+    pub(crate) calls: u64,
+    pub(crate) of: PhantomData<N>,
+}
+
+impl<N: Named> Model for Hold<N> {
+    ghost use Rattle.std.specs.Prelude.{◌≡◌, length};
+    ghost use Rattle.nt_mail.specs.declared.knowledge.Knowledge.{Knowledge};
+    ghost use Rattle.nt_front.specs.Holds.{floor_of, AreNumbered};
+
+    ghost Value = { Knowledge };
+
+    ghost view = { λ h. h.seat.known };
+
+    ghost invariant = { λ h. (h.seat.table ≡ N.table) × (h.floor ≡ floor_of h.seat.known) × (h.calls ≡ length h.seat.known.made) × AreNumbered h.seat.known.made };
+}
+
+impl<N: Named> Hold<N> {
+    /// The thread's number.
+    pub fn thread(&self) -> ThreadId
+        ensures { result ≡ self.now.thread }
+    {
+        self.seat.thread()
+    }
+
+    /// How many calls and ticks of the thread were written.
+    pub fn calls(&self) -> u64
+        ensures { result ≡ length self.now.made }
+    {
+        self.calls
+    }
+
+    /// The thread's seat alone.
+    pub(crate) fn into_seat(self) -> ThreadSeat
+        ensures { result ≡ seated N.table self }
+    {
+        let Hold {
+            seat,
+            floor: _,
+            calls: _,
+            of: _,
+        } = self;
+        seat
+    }
+}
+
+/// The right of a thread to call. It was given a grant for each of its waits. It must be spent.
+pub struct Pass<N: Named> {
+    pub(crate) hold: Hold<N>,
+}
+
+impl<N: Named> Model for Pass<N> {
+    ghost use Rattle.nt_mail.specs.declared.knowledge.Knowledge.{Knowledge};
+    ghost use Rattle.nt_mail.specs.Knowledge.{IsFree};
+
+    ghost Value = { Knowledge };
+
+    ghost view = { λ p. p.hold };
+
+    ghost invariant = { λ p. IsFree p.hold };
+}
+
+impl<N: Named> Pass<N> {
+    /// The thread's number.
+    pub fn thread(&self) -> ThreadId
+        ensures { result ≡ self.now.thread }
+    {
+        self.hold.thread()
+    }
+
+    /// How many calls and ticks of the thread were written. In the history it has as many entries of calls and ticks.
+    pub fn calls(&self) -> u64
+        ensures { result ≡ length self.now.made }
+    {
+        self.hold.calls()
+    }
+}
+
+/// A thread with one wait for which it was given no grant. It must be spent.
+pub struct Sleeper<N: Named> {
+    pub(crate) hold: Hold<N>,
+}
+
+impl<N: Named> Model for Sleeper<N> {
+    ghost use Rattle.nt_mail.specs.declared.knowledge.Knowledge.{Knowledge};
+    ghost use Rattle.nt_mail.specs.Knowledge.{IsWaiting};
+
+    ghost Value = { Knowledge };
+
+    ghost view = { λ s. s.hold };
+
+    ghost invariant = { λ s. IsWaiting s.hold };
+}
+
+impl<N: Named> Sleeper<N> {
+    /// The thread's number.
+    pub fn thread(&self) -> ThreadId
+        ensures { result ≡ self.now.thread }
+    {
+        self.hold.thread()
+    }
+}
+
+/// A thread that has ended. It must be spent.
+pub struct Ended<N: Named> {
+    pub(crate) hold: Hold<N>,
+}
+
+impl<N: Named> Model for Ended<N> {
+    ghost use Rattle.nt_mail.specs.declared.knowledge.Knowledge.{Knowledge};
+    ghost use Rattle.nt_mail.specs.Knowledge.{IsFree};
+
+    ghost Value = { Knowledge };
+
+    ghost view = { λ e. e.hold };
+
+    ghost invariant = { λ e. IsFree e.hold };
+}
+
+impl<N: Named> Ended<N> {
+    /// The thread's number.
+    pub fn thread(&self) -> ThreadId
+        ensures { result ≡ self.now.thread }
+    {
+        self.hold.thread()
+    }
+}
+
+/// What `finish` takes of each thread.
+pub enum Held<N: Named> {
+    Pass(Pass<N>),
+    Sleeping(Sleeper<N>),
+    Ended(Ended<N>),
+}
+
+impl<N: Named> Held<N> {
+    /// The thread's seat, to be joined.
+    pub(crate) fn into_seat(self) -> ThreadSeat
+        ensures seat { result ≡ seated N.table (knowledge_of self) }
+        ensures kind { IsOfKind self }
+    {
+        match self {
+            Held::Pass(Pass { hold }) => hold.into_seat(),
+            Held::Sleeping(Sleeper { hold }) => hold.into_seat(),
+            Held::Ended(Ended { hold }) => hold.into_seat(),
+        }
+    }
+}

@@ -1,0 +1,57 @@
+//! The dispatcher behind one lock, for the threads of a process.
+//!
+//! Whoever takes the lock finds a lawful dispatcher, and beside it the journal: each call and tick with its answer, and each wait
+//! that ended, in their order. The journal is a run of the machine from its opening to the state that lies beside it, so all that
+//! is proved of runs is true of what the threads were told.
+//!
+//! ```text
+//!    thread 0: a pass      thread 1: a sleeper      thread 2: a pass
+//!        |                       |                        |
+//!        | call, tick,           | poll: its own word,    | now: the moment's word,
+//!        | begin, exit           |       once             |      once
+//!        v                       v                        v
+//!    [ the lock ]        [ moment | thread 0 | thread 1 | thread 2 ]   the mail: atomic words, which no lock guards
+//!        |                       ^
+//!        v                       |  under the lock: the word of each thread that called or was granted
+//!    the book: dispatcher and journal
+//! ```
+//!
+//! - A **pass** is a thread's right to call. It knows the calls that it made, with their numbers in the journal and their answers,
+//!   the grants that it was given, and the greatest moment that it was told. There is one for each thread, and it can't be copied
+//!   or lost: it is spent by what turns it into another hold.
+//! - A wait that pends turns the pass into a **sleeper**, which can only `poll`, `sleep`, or be there at the end. A poll reads one
+//!   word and never waits for the lock; once the wait is granted, it gives the pass back with the entry of the grant.
+//! - A thread that ends its work with `exit` keeps an **ended** mark.
+//! - `finish` takes the holds of all threads, and gives out the whole journal. What each hold knows is what stands there: no call
+//!   is missing, none is there twice, and no grant was given that the journal does not have.
+//!
+//! Every entry has its place before the call is made: a call is refused with JournalFull, and changes nothing, where there would be
+//! no room for its entry and one for each pending wait. So nothing that the dispatcher did can fail to be written.
+//!
+//! A sleeper that does not want to poll waits with `sleep` on a condition variable of its own: a grant wakes the thread that was
+//! granted, and no other, once the lock is given back.
+#![tactic(auto)]
+
+mod blank;
+mod book;
+mod calls;
+mod carried;
+mod front;
+mod hold;
+mod moments;
+mod named;
+mod polls;
+mod receipt;
+mod wake;
+mod write;
+
+pub use blank::{Blank, open, prepare};
+pub use book::Book;
+pub use calls::{Begun, Exited};
+pub use carried::{Carried, LetGo};
+pub use front::Front;
+pub use hold::{Ended, Held, Hold, Pass, Sleeper};
+pub use named::Named;
+pub use nt_mail::Entry;
+pub use polls::Polled;
+pub use receipt::{History, Receipt};

@@ -1,0 +1,104 @@
+//! How entries are written, and told to their threads.
+ghost use Rattle.std.specs.Prelude.{◌≡◌, ◌+◌, ◌-◌, ◌^◌, ◌<◌, ◌≤◌, ◌++◌, ◌∷◌, [], length, map, vec_len, vec_capacity, IfOk};
+ghost use Rattle.nt_core.specs.Moves.{one_if};
+ghost use Rattle.nt_mail.specs.declared.entry.Entry.TheVariants.{Called};
+ghost use Rattle.nt_mail.specs.Entries.{accepted_if, arms, is_armed, IsOwn};
+ghost use Rattle.nt_mail.specs.Seats.{seated};
+ghost use Rattle.nt_mail.specs.Knowledge.{with_call, latest, IsEarlier};
+ghost use Rattle.nt_front.specs.Runs.{granted, AreArmed};
+ghost use Rattle.nt_front.specs.Books.{IsCarriedOut};
+
+use nt_core::{Call, Core, Grant, Reply};
+use nt_mail::{DispatcherSeat, Entry, Mail, ThreadSeat};
+use nt_status::{Moment, Refusal, ThreadId};
+
+/// Moves the call into the journal, carries it out where it lies, and writes its result beside it.
+pub(crate) fn write_call(
+    core: &mut Core,
+    journal: &mut Vec<Entry>,
+    who: ThreadId,
+    call: Call,
+) -> Result<Reply, Refusal>
+    requires room { vec_len journal.old < vec_capacity journal.old }
+    ensures carried_out { IsCarriedOut core.old who call result core.new }
+    ensures journal { journal.new.items ≡ journal.old.items ++ Called who call result ∷ [] }
+    ensures room { (vec_len journal.new ≡ vec_len journal.old + 1) × (vec_capacity journal.new ≡ vec_capacity journal.old) }
+{
+    let place = journal.len();
+    journal.push_reserved(Entry::Called {
+        who,
+        call,
+        result: Err(Refusal::JournalFull),
+    });
+    let Entry::Called { who, call, result } = &mut journal[place] else {
+        unreachable!()
+    };
+    *result = core.call(u32::from(who.get()), call);
+    *result
+}
+
+/// Tells the thread of its entry, and whether a wait of it is pending.
+pub(crate) fn tell(
+    mail: &Mail,
+    dispatcher: &mut DispatcherSeat,
+    caller: &mut ThreadSeat,
+    entry: &Entry,
+    number: u64,
+    armed: bool,
+)
+    requires table { (dispatcher.old.table ≡ mail.now) × (caller.old.table ≡ mail.now) }
+    requires entry { IsOwn caller.old.known.thread entry.now }
+    requires armed { one_if (is_armed caller.old.known.thread dispatcher.old.written) + one_if (arms entry.now) ≡ one_if armed }
+    requires number { (number ≡ length dispatcher.old.written + 1) × (number < 2 ^ 54) }
+    ensures written { dispatcher.new ≡ record dispatcher.old { written = dispatcher.old.written ++ entry.now ∷ [] } }
+    ensures made { caller.new ≡ seated mail.now (with_call number entry.now caller.old.known) }
+    ensures earlier { IsEarlier number caller.old.known }
+{
+    if armed {
+        mail.arm(dispatcher, caller, entry, number);
+    } else {
+        mail.note(dispatcher, caller, entry, number);
+    }
+}
+
+/// Makes the moment of an accepted tick known.
+pub(crate) fn publish(
+    mail: &Mail,
+    dispatcher: &mut DispatcherSeat,
+    moment: Moment,
+    answer: &Result<Reply, Refusal>,
+)
+    requires table { dispatcher.old.table ≡ mail.now }
+    requires moment { IfOk answer.now (λ _. latest 0 dispatcher.old.published ≤ moment) }
+    ensures { dispatcher.new ≡ record dispatcher.old { published = dispatcher.old.published ++ accepted_if moment answer.now } }
+{
+    if answer.is_ok() {
+        mail.publish_moment(dispatcher, moment);
+    }
+}
+
+/// Writes the grants, and sends them.
+pub(crate) fn send(
+    mail: &Mail,
+    dispatcher: &mut DispatcherSeat,
+    journal: &mut Vec<Entry>,
+    grants: &[Grant],
+)
+    requires table { dispatcher.old.table ≡ mail.now }
+    requires journal { dispatcher.old.written ≡ journal.old.items }
+    requires room { (vec_len journal.old + length grants.now ≤ vec_capacity journal.old) × (vec_len journal.old + length grants.now < 2 ^ 54) }
+    requires armed { AreArmed (mail.now.words - 1) journal.old.items grants.now }
+    ensures journal { journal.new.items ≡ journal.old.items ++ map granted grants.now }
+    ensures capacity { vec_capacity journal.new ≡ vec_capacity journal.old }
+    ensures written { dispatcher.new ≡ record dispatcher.old { written = journal.new.items } }
+{
+    for grant in grants {
+        let Grant { thread, status } = *grant;
+        let number = journal.len() as u64 + 1;
+        journal.push_reserved(Entry::Granted {
+            who: thread,
+            status,
+        });
+        mail.grant(dispatcher, thread, status, number);
+    }
+}
