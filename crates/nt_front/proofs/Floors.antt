@@ -56,9 +56,9 @@ floor_calls k n call result = later (latest 0 k.moments) (ticked_to k.made) 0 _ 
 -- a call that pended, and one that did not
 pub waits_after : (k : Knowledge) (n : ℕ) (call : Call) (result : Result Reply Refusal) → pended result ≡ true → IsFree k → IsEarlier n k → IsWaiting (with_call k n call result)
 waits_after k n call result p free early = (
-    (let a = pended_in-push k.made (item n (Asked.Call call) result) in let b = ap one_if p in omega (arith, free)),
-    subst (λ (x : ℕ). AreBelow x k.got) (sym (last_pended-push 0 k.made (item n (Asked.Call call) result) p)) early.got,
-  )
+  (let a = pended_in-push k.made (item n (Asked.Call call) result) in let b = ap one_if p in omega (arith, free)),
+  subst (λ (x : ℕ). AreBelow x k.got) (sym (last_pended-push 0 k.made (item n (Asked.Call call) result) p)) early.got,
+)
 
 pub free_after : (k : Knowledge) (n : ℕ) (call : Call) (result : Result Reply Refusal) → pended result ≡ false → IsFree k → IsFree (with_call k n call result)
 free_after k n call result stays free = free_made k n (Asked.Call call) result stays free
@@ -76,12 +76,12 @@ free_unless_waits k n call result no_wait waits free = free_after k n call resul
 pub made_call : (k : Knowledge) (n : ℕ) (e : Entry) (who : ℕ) (call : Call) (result : Result Reply Refusal) → e ≡ Called who call result → who ≡ k.thread → entry_known n e k ≡ with_call k n call result
 made_call k n e who call result is own =
     ap (λ (x : Entry). entry_known n x k) is
-        ∙ ap (λ (b : Bool). knows k.thread (k.made ++ cond b (item n (Asked.Call call) result ∷ []) []) k.got k.polled k.moments) (eq-eqb who k.thread own)
+    ∙ ap (λ (b : Bool). knows k.thread (k.made ++ cond b (item n (Asked.Call call) result ∷ []) []) k.got k.polled k.moments) (eq-eqb who k.thread own)
 
 pub made_tick : (k : Knowledge) (n : ℕ) (e : Entry) (who moment : ℕ) (result : Result Reply Refusal) → e ≡ Ticked who moment result → who ≡ k.thread → entry_known n e k ≡ with_tick k n moment result
 made_tick k n e who moment result is own =
     ap (λ (x : Entry). entry_known n x k) is
-        ∙ ap (λ (b : Bool). knows k.thread (k.made ++ cond b (item n (Asked.Tick moment) result ∷ []) []) k.got k.polled k.moments) (eq-eqb who k.thread own)
+    ∙ ap (λ (b : Bool). knows k.thread (k.made ++ cond b (item n (Asked.Tick moment) result ∷ []) []) k.got k.polled k.moments) (eq-eqb who k.thread own)
 
 -- ---- how many calls there are
 

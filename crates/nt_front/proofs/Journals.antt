@@ -109,8 +109,7 @@ armed_all : (n : ℕ) (es : List Entry) (gs : List Grant) → ((t : ℕ) → gra
 armed_all n es [] le below = tt
 armed_all n es (g ∷ gs) le below =
     let own = ap one_if (eq-eqb g.thread g.thread refl) in
-    let here : is_armed g.thread es ≡ true = must_be (is_armed g.thread es) (let a = le g.thread in omega arith) in
-    (
+    let here : is_armed g.thread es ≡ true = must_be (is_armed g.thread es) (let a = le g.thread in omega arith) in (
       here,
       below g.thread (omega arith),
       armed_all n (es ++ granted g ∷ []) gs (λ t. (let a = le t in let b = grant_armed es g here t in omega arith)) (λ t some. below t (omega arith)),
@@ -139,8 +138,8 @@ AreBelow n s = (t : ℕ) → pends s t ≡ true → t < n
 can_send : (n : ℕ) (es : List Entry) (s new : State) (who : ℕ) (result : Result Reply Refusal) (e : Entry) (armed : Bool) (gs : List Grant) → Agree n es s → AreBelow n s → Moves s who (pended result) gs new → IsPosted es s who result e armed → AreArmed n (es ++ e ∷ []) gs
 can_send n es s new who result e armed gs a below moved p =
     armed_all n (es ++ e ∷ []) gs
-        (λ t. (let b = own_armed es e who armed p.own p.one t in let c = moved.ended t in let d = ap one_if (a.waits t) in omega arith))
-        (λ t some. below t (must_be (pends s t) (let c = moved.ended t in omega arith)))
+    (λ t. (let b = own_armed es e who armed p.own p.one t in let c = moved.ended t in let d = ap one_if (a.waits t) in omega arith))
+    (λ t some. below t (must_be (pends s t) (let c = moved.ended t in omega arith)))
 
 accepted-append : (xs ys : List Entry) → accepted (xs ++ ys) ≡ accepted xs ++ accepted ys
 accepted-append [] ys = refl
@@ -199,7 +198,7 @@ pub agree_after_call : (n : ℕ) (es : List Entry) (s : State) (who : ℕ) (call
     → new.now ≡ s.now → Agree n (es ++ entries_of (Calls who call result gs)) new
 agree_after_call n es s who call result gs new waited a below moved is same =
     agree_goes_on n es s new who result (Called who call result) (waited || pended result) gs a below moved (posted_call n es s who call result gs new waited a moved is)
-        (ap (latest 0) (append-nil (accepted es)) ∙ (a.moment ∙ sym same))
+    (ap (latest 0) (append-nil (accepted es)) ∙ (a.moment ∙ sym same))
 
 -- ---- a tick
 
@@ -231,7 +230,7 @@ pub agree_after_tick : (n : ℕ) (es : List Entry) (s : State) (by m : ℕ) (res
     → Agree n (es ++ entries_of (Ticks by m result gs)) new
 agree_after_tick n es s by m result gs new waited a below stays moved come is =
     agree_goes_on n es s new by result (Ticked by m result) waited gs a below (moved_by s by result gs new stays moved) (posted_tick n es s by m result waited a stays is)
-        (tick_moment es s by m result new a.moment come)
+    (tick_moment es s by m result new a.moment come)
 
 -- an accepted tick is to no moment before those published
 pub tick_rises : (n : ℕ) (es : List Entry) (s : State) (m : ℕ) (result : Result Reply Refusal) (new : State) (published : List ℕ) → Agree n es s → IsMomentAfter s.now m result new.now → published ≡ accepted es → IfOk result (λ _. latest 0 published ≤ m)

@@ -71,10 +71,10 @@ ticks_of t n (e ∷ es) =
     let here = ticked_to (call_at t n e) in
     let rest = ticked_to (calls_from t (suc n) es) in
     subst (WasPublished (accepted_at e ++ accepted es)) (sym (ticked_to-append (call_at t n e) (calls_from t (suc n) es)))
-        (later_of (accepted_at e ++ accepted es) here rest (of-left here (accepted_at e) (accepted es) (one_entry t n e)) (of-right rest (accepted_at e) (accepted es) (ticks_of t (suc n) es)))
+    (later_of (accepted_at e ++ accepted es) here rest (of-left here (accepted_at e) (accepted es) (one_entry t n e)) (of-right rest (accepted_at e) (accepted es) (ticks_of t (suc n) es)))
 
 -- the greatest moment that a thread knows
 pub floor_passed : (es : List Entry) (k : Knowledge) → k.made ≡ calls_of k.thread es → Each (WasPublished (accepted es)) k.moments → WasPublished (accepted es) (floor_of k)
 floor_passed es k made read =
     later_of (accepted es) (latest 0 k.moments) (ticked_to k.made) (latest_of (accepted es) k.moments 0 (inl refl) read)
-        (subst (λ (ms : List Made). WasPublished (accepted es) (ticked_to ms)) (sym made) (ticks_of k.thread 1 es))
+    (subst (λ (ms : List Made). WasPublished (accepted es) (ticked_to ms)) (sym made) (ticks_of k.thread 1 es))

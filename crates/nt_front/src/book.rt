@@ -58,7 +58,12 @@ impl<N: Named> Book<N> {
     ///
     /// Refused with JournalFull where the room left is too small for an entry and one more for each pending wait; nothing changes
     /// then. Every other answer of the dispatcher is written, a refusal too.
-    pub fn call(&mut self, mail: &Mail, caller: &mut Hold<N>, call: Call) -> Result<Receipt, Refusal>
+    pub fn call(
+        &mut self,
+        mail: &Mail,
+        caller: &mut Hold<N>,
+        call: Call,
+    ) -> Result<Receipt, Refusal>
         requires mail { mail.now ≡ N.table }
         ensures book { IfOk result (λ r. WritesCall self.old caller.old.thread call r.result self.new) }
         ensures entry { IfOk result (λ r. r.entry ≡ length self.old.journal + 1) }
@@ -78,16 +83,33 @@ impl<N: Named> Book<N> {
         let entry = place as u64 + 1;
         let result = write_call(&mut self.core, &mut self.journal, who, call);
         let armed = waited | has_pended(&result);
-        tell(mail, &mut self.dispatcher, &mut caller.seat, &self.journal[place], entry, armed);
+        tell(
+            mail,
+            &mut self.dispatcher,
+            &mut caller.seat,
+            &self.journal[place],
+            entry,
+            armed,
+        );
         caller.calls += 1;
-        send(mail, &mut self.dispatcher, &mut self.journal, self.core.grants());
+        send(
+            mail,
+            &mut self.dispatcher,
+            &mut self.journal,
+            self.core.grants(),
+        );
         Ok(Receipt { entry, result })
     }
 
     /// Makes a tick by the thread of this hold, and writes it with the waits that it ended.
     ///
     /// Refused with JournalFull as a call is.
-    pub fn tick(&mut self, mail: &Mail, caller: &mut Hold<N>, moment: Moment) -> Result<Receipt, Refusal>
+    pub fn tick(
+        &mut self,
+        mail: &Mail,
+        caller: &mut Hold<N>,
+        moment: Moment,
+    ) -> Result<Receipt, Refusal>
         requires mail { mail.now ≡ N.table }
         ensures book { IfOk result (λ r. WritesTick self.old caller.old.thread moment r.result self.new) }
         ensures entry { IfOk result (λ r. r.entry ≡ length self.old.journal + 1) }
@@ -106,11 +128,24 @@ impl<N: Named> Book<N> {
         let place = self.journal.len();
         let entry = place as u64 + 1;
         let result = self.core.tick(moment);
-        self.journal.push_reserved(Entry::Ticked { by, moment, result });
-        tell(mail, &mut self.dispatcher, &mut caller.seat, &self.journal[place], entry, armed);
+        self.journal
+            .push_reserved(Entry::Ticked { by, moment, result });
+        tell(
+            mail,
+            &mut self.dispatcher,
+            &mut caller.seat,
+            &self.journal[place],
+            entry,
+            armed,
+        );
         caller.calls += 1;
         caller.floor = floor_after(caller.floor, moment, &result);
-        send(mail, &mut self.dispatcher, &mut self.journal, self.core.grants());
+        send(
+            mail,
+            &mut self.dispatcher,
+            &mut self.journal,
+            self.core.grants(),
+        );
         publish(mail, &mut self.dispatcher, moment, &result);
         Ok(Receipt { entry, result })
     }
@@ -121,7 +156,13 @@ impl<N: Named> Book<N> {
     }
 
     /// A book with an empty journal.
-    pub(crate) fn new(core: Core, threads: u32, journal: Vec<Entry>, room: usize, dispatcher: DispatcherSeat) -> Book<N>
+    pub(crate) fn new(
+        core: Core,
+        threads: u32,
+        journal: Vec<Entry>,
+        room: usize,
+        dispatcher: DispatcherSeat,
+    ) -> Book<N>
         requires core { (state core ≡ opening threads) × IsLawful core }
         requires journal { (journal.items ≡ []) × (room ≤ vec_capacity journal) × (room < 2 ^ 54) }
         requires dispatcher { dispatcher ≡ record { table = N.table; written = []; published = [] } }

@@ -49,7 +49,12 @@ impl<N: Named> Front<N> {
     ///
     /// Refused with JournalFull alone, and the pass is unchanged then.
     #[tactic(auto, using(crate::proofs::Floors::free_ticks))]
-    pub fn tick(&self, rt: &impl Wait, pass: &mut Pass<N>, moment: Moment) -> Result<Receipt, Refusal>
+    pub fn tick(
+        &self,
+        rt: &impl Wait,
+        pass: &mut Pass<N>,
+        moment: Moment,
+    ) -> Result<Receipt, Refusal>
         ensures made { IfOk result (λ r. pass.new ≡ with_tick pass.old r.entry moment r.result) }
         ensures earlier { IfOk result (λ r. IsEarlier r.entry pass.old) }
         ensures err { IfErr result (λ r. (r ≡ JournalFull) × (pass.new ≡ pass.old)) }

@@ -13,7 +13,12 @@ use nt_mail::{DispatcherSeat, Entry, Mail, ThreadSeat};
 use nt_status::{Moment, Refusal, ThreadId};
 
 /// Moves the call into the journal, carries it out where it lies, and writes its result beside it.
-pub(crate) fn write_call(core: &mut Core, journal: &mut Vec<Entry>, who: ThreadId, call: Call) -> Result<Reply, Refusal>
+pub(crate) fn write_call(
+    core: &mut Core,
+    journal: &mut Vec<Entry>,
+    who: ThreadId,
+    call: Call,
+) -> Result<Reply, Refusal>
     requires room { vec_len journal.old < vec_capacity journal.old }
     ensures carried_out { IsCarriedOut core.old who call result core.new }
     ensures journal { journal.new.items ≡ journal.old.items ++ Called who call result ∷ [] }
@@ -33,7 +38,14 @@ pub(crate) fn write_call(core: &mut Core, journal: &mut Vec<Entry>, who: ThreadI
 }
 
 /// Tells the thread of its entry, and whether a wait of it is pending.
-pub(crate) fn tell(mail: &Mail, dispatcher: &mut DispatcherSeat, caller: &mut ThreadSeat, entry: &Entry, number: u64, armed: bool)
+pub(crate) fn tell(
+    mail: &Mail,
+    dispatcher: &mut DispatcherSeat,
+    caller: &mut ThreadSeat,
+    entry: &Entry,
+    number: u64,
+    armed: bool,
+)
     requires table { (dispatcher.old.table ≡ mail.now) × (caller.old.table ≡ mail.now) }
     requires entry { IsOwn caller.old.known.thread entry.now }
     requires armed { one_if (is_armed caller.old.known.thread dispatcher.old.written) + one_if (arms entry.now) ≡ one_if armed }
@@ -50,7 +62,12 @@ pub(crate) fn tell(mail: &Mail, dispatcher: &mut DispatcherSeat, caller: &mut Th
 }
 
 /// Makes the moment of an accepted tick known.
-pub(crate) fn publish(mail: &Mail, dispatcher: &mut DispatcherSeat, moment: Moment, answer: &Result<Reply, Refusal>)
+pub(crate) fn publish(
+    mail: &Mail,
+    dispatcher: &mut DispatcherSeat,
+    moment: Moment,
+    answer: &Result<Reply, Refusal>,
+)
     requires table { dispatcher.old.table ≡ mail.now }
     requires moment { IfOk answer.now (λ _. latest 0 dispatcher.old.published ≤ moment) }
     ensures { dispatcher.new ≡ record dispatcher.old { published = dispatcher.old.published ++ accepted_if moment answer.now } }
@@ -61,7 +78,12 @@ pub(crate) fn publish(mail: &Mail, dispatcher: &mut DispatcherSeat, moment: Mome
 }
 
 /// Writes the grants, and sends them.
-pub(crate) fn send(mail: &Mail, dispatcher: &mut DispatcherSeat, journal: &mut Vec<Entry>, grants: &[Grant])
+pub(crate) fn send(
+    mail: &Mail,
+    dispatcher: &mut DispatcherSeat,
+    journal: &mut Vec<Entry>,
+    grants: &[Grant],
+)
     requires table { dispatcher.old.table ≡ mail.now }
     requires journal { dispatcher.old.written ≡ journal.old.items }
     requires room { (vec_len journal.old + length grants.now ≤ vec_capacity journal.old) × (vec_len journal.old + length grants.now < 2 ^ 54) }
@@ -73,7 +95,10 @@ pub(crate) fn send(mail: &Mail, dispatcher: &mut DispatcherSeat, journal: &mut V
     for grant in grants {
         let Grant { thread, status } = *grant;
         let number = journal.len() as u64 + 1;
-        journal.push_reserved(Entry::Granted { who: thread, status });
+        journal.push_reserved(Entry::Granted {
+            who: thread,
+            status,
+        });
         mail.grant(dispatcher, thread, status, number);
     }
 }

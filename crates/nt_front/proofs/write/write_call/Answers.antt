@@ -23,6 +23,6 @@ returns-clause-journal c =
     let here : c.len-place.result ≡ length es = search rules in
     let found : Called c.in-Called.who c.in-Called.call c.in-Called.result ≡ unanswered =
     sym c.in-Called.is ∙ (c.index_mut.ensures.value ∙ (ap (λ (l : List Entry). get_or l c.len-place.result d) c.push_reserved.ensures.items
-        ∙ (ap (λ n. get_or (es ++ unanswered ∷ []) n d) here ∙ get_or-append_seam es unanswered [] d))) in
+    ∙ (ap (λ n. get_or (es ++ unanswered ∷ []) n d) here ∙ get_or-append_seam es unanswered [] d))) in
     set_last es unanswered (Called c.in-Called.who c.in-Called.call c.call.result) c.push_reserved.new.self.items c.len-place.result c.push_reserved.ensures.items here
-        ∙ ap (λ e. es ++ e ∷ []) (ap (answered c.call.result) found)
+    ∙ ap (λ e. es ++ e ∷ []) (ap (answered c.call.result) found)

@@ -48,7 +48,7 @@ send-requires-clause-armed g c =
     let count : c.args.mail.now.words - 1 ≡ n = omega (arith, words, c.self.invariant.5) in
     let known = below c.self.inside.core n c.self.invariant.0.lawful c.self.invariant.1.threads in
     subst (λ (x : ℕ × List Entry × List Grant). AreArmed x.0 x.1 x.2) (λ i. (sym count i, sym c.write_call-result.ensures.journal i, sym c.grants.ensures i))
-        (call_sends n es old c.thread-who.result c.args.call c.write_call-result.result grants new c.is_waiting-waited.result c.self.invariant.1 known done.moves waited)
+    (call_sends n es old c.thread-who.result c.args.call c.write_call-result.result grants new c.is_waiting-waited.result c.self.invariant.1 known done.moves waited)
 
 pub invariant_of-self : goal.invariant_of-self
 invariant_of-self g c =

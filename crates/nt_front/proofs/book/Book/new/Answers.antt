@@ -8,10 +8,10 @@ use Rattle.nt_front.proofs.book.Book.new.Goals as goal
 
 pub invariant_of-result : goal.invariant_of-result
 invariant_of-result g c = (
-    stands_at_first c.args.core c.args.threads c.args.room c.args.journal.items c.requires.core.0 c.requires.core.1 c.requires.journal.0,
-    agree_at_first c.args.threads c.args.journal.items (state c.args.core) c.requires.core.0 c.requires.journal.0,
-    c.requires.journal.1,
-    c.requires.journal.2,
-    c.requires.dispatcher ∙ ap (λ (es : List Entry). record { table = g.N.Named.table; written = es; published = accepted es }) (sym c.requires.journal.0),
-    c.requires.words,
-  )
+  stands_at_first c.args.core c.args.threads c.args.room c.args.journal.items c.requires.core.0 c.requires.core.1 c.requires.journal.0,
+  agree_at_first c.args.threads c.args.journal.items (state c.args.core) c.requires.core.0 c.requires.journal.0,
+  c.requires.journal.1,
+  c.requires.journal.2,
+  c.requires.dispatcher ∙ ap (λ (es : List Entry). record { table = g.N.Named.table; written = es; published = accepted es }) (sym c.requires.journal.0),
+  c.requires.words,
+)

@@ -36,7 +36,7 @@ send-requires-clause-armed g c =
     let count : c.args.mail.now.words - 1 ≡ n = omega (arith, words, c.self.invariant.5) in
     let known = below c.self.inside.core n c.self.invariant.0.lawful c.self.invariant.1.threads in
     subst (λ (x : ℕ × List Entry × List Grant). AreArmed x.0 x.1 x.2) (λ i. (sym count i, sym c.push_reserved.ensures.items i, sym c.grants.ensures i))
-        (tick_sends n es old c.thread-by.result c.args.moment c.tick-result.result grants new c.is_waiting-armed.result c.self.invariant.1 known done.waits (done.moves c.thread-by.result) waited)
+    (tick_sends n es old c.thread-by.result c.args.moment c.tick-result.result grants new c.is_waiting-armed.result c.self.invariant.1 known done.waits (done.moves c.thread-by.result) waited)
 
 pub invariant_of-self : goal.invariant_of-self
 invariant_of-self g c =

@@ -7,4 +7,4 @@ use Rattle.nt_front.proofs.front.Front.exit.Goals as goal
 pub invariant_of-result-in-Ok : goal.invariant_of-result-in-Ok
 invariant_of-result-in-Ok g c =
     subst IsFree (sym c.in-Ok.ensures.made.0)
-        (free_unless_waits c.pass.inside.hold c.in-Ok.receipt.entry Call.Exit c.in-Ok.receipt.result refl c.in-Ok.ensures.waits c.pass.invariant)
+    (free_unless_waits c.pass.inside.hold c.in-Ok.receipt.entry Call.Exit c.in-Ok.receipt.result refl c.in-Ok.ensures.waits c.pass.invariant)
