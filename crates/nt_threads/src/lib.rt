@@ -1,0 +1,10 @@
+//! The plan of the program's threads: real threads that share a mutex, a semaphore and an event.
+#![tactic(auto)]
+
+mod door;
+mod driving;
+mod plan;
+
+pub use door::Door;
+pub use driving::{Driven, drive};
+pub use plan::Objects;
