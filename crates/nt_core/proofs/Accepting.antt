@@ -21,7 +21,7 @@ use Rattle.nt_core.specs.Dispatcher.{Dispatcher, state}
 use Rattle.nt_core.specs.Serving.{satisfied, granted, take_at, take_each, objects_taken, least, IsChanged, Grants, Serve, IsAlerted, Alert}
 use Rattle.nt_core.specs.Change.{change}
 use Rattle.nt_core.specs.Steps.{IsAwaited, NothingDue, after_serving, answered}
-use Rattle.nt_core.specs.Lawful.{IsSettled, IsLawful}
+use Rattle.nt_core.specs.Lawful.{IsSettled, IsSteady}
 use Rattle.nt_core.specs.Accepts.{is_by_objects, IsFresh, IsServedAfter, Accepts}
 use Rattle.std.proofs.Common.{◌||◌, is_some, ◌==◌, nat_lt}
 use Rattle.std.specs.Prelude.{nat_le, nat_eq, Result, Ok, Err, IfOk, OnOk}
@@ -117,8 +117,8 @@ no_alert s new is calm = record {
 -- ---- the whole call
 
 -- the change and the serving, what comes after it, and no alerts: `calm` is the dispatcher when waits are served
-pub accepted : (old calm new : Dispatcher) (t : ℕ) (call : Call) (reply : Reply) → IsServedAfter old (change (state old) t call) calm → state new ≡ after_serving call (state calm) → new.grants ≡ calm.grants → new.table.looked ≡ calm.table.looked → IsLawful new → (reply, state new) ≡ answered (state old) (state new) t call → Accepts old new t call reply
-accepted old calm new t call reply served after same looked lawful answers = record {
+pub accepted : (old calm new : Dispatcher) (t : ℕ) (call : Call) (reply : Reply) → IsServedAfter old (change (state old) t call) calm → state new ≡ after_serving call (state calm) → new.grants ≡ calm.grants → new.table.looked ≡ calm.table.looked → IsSteady new → (reply, state new) ≡ answered (state old) (state new) t call → Accepts old new t call reply
+accepted old calm new t call reply served after same looked steady answers = record {
   step = record {
     handles = served.handles;
     served = calm.grants;
@@ -127,11 +127,11 @@ accepted old calm new t call reply served after same looked lawful answers = rec
     woken = state new;
     changed = served.changed;
     serves = served.serves;
-    alerts = no_alert (after_serving call (state calm)) (state new) after (subst IsCalm after lawful.settled.alerted);
+    alerts = no_alert (after_serving call (state calm)) (state new) after (subst IsCalm after steady.settled.alerted);
     in_order = same ∙ sym (append-nil calm.grants);
     answers = answers;
   };
-  lawful = lawful;
+  steady = steady;
   local = record {
     handles = served.handles;
     changed = served.changed;
@@ -155,8 +155,8 @@ quiet_alarms zero h = refl
 quiet_alarms (suc n) zero = refl
 quiet_alarms (suc n) (suc h) = quiet_alarms n h
 
-pub opening_lawful : (d : Dispatcher) → d.threads ≤ 256 → d.objects ≡ replicate d.threads (Thread false) → d.table.pending ≡ fin.empty → Agrees d.table.pending d.table.queues → length d.handing ≡ d.threads → length d.apcs.queues ≡ d.threads → d.grants ≡ [] → d.alarms ≡ replicate d.threads None → IsLawful d
-opening_lawful d few objects waits agrees hands inboxes grants alarms = record {
+pub opening_steady : (d : Dispatcher) → d.threads ≤ 256 → d.objects ≡ replicate d.threads (Thread false) → d.table.pending ≡ fin.empty → Agrees d.table.pending d.table.queues → length d.handing ≡ d.threads → length d.apcs.queues ≡ d.threads → d.grants ≡ [] → d.alarms ≡ replicate d.threads None → IsSteady d
+opening_steady d few objects waits agrees hands inboxes grants alarms = record {
   sound = record {
     few = few;
     waits = λ t w pends. nobody t w pends;
@@ -204,31 +204,31 @@ opening_lawful d few objects waits agrees hands inboxes grants alarms = record {
 
 -- ---- a call begins
 
-pub told_anew : (d : Dispatcher) (table : Waits) → IsLawful d → table ≡ record d.table { looked = 0 } → IsFresh (record d { table = table; grants = [] })
-told_anew d table lawful is = subst (λ (v : Waits). IsFresh (record d { table = v; grants = [] })) (sym is) (record {
-  lawful = record {
+pub told_anew : (d : Dispatcher) (table : Waits) → IsSteady d → table ≡ record d.table { looked = 0 } → IsFresh (record d { table = table; grants = [] })
+told_anew d table steady is = subst (λ (v : Waits). IsFresh (record d { table = v; grants = [] })) (sym is) (record {
+  steady = record {
     sound = record {
-      few = lawful.sound.few;
-      waits = lawful.sound.waits;
-      blocks = lawful.sound.blocks;
-      hands = lawful.sound.hands;
-      inboxes = lawful.sound.inboxes;
-      objects = lawful.sound.objects;
-      own = lawful.sound.own;
-      none_else = lawful.sound.none_else;
-      timers = lawful.sound.timers;
-      handles = lawful.sound.handles;
-      room = let room = lawful.sound.room in omega (arith, room);
+      few = steady.sound.few;
+      waits = steady.sound.waits;
+      blocks = steady.sound.blocks;
+      hands = steady.sound.hands;
+      inboxes = steady.sound.inboxes;
+      objects = steady.sound.objects;
+      own = steady.sound.own;
+      none_else = steady.sound.none_else;
+      timers = steady.sound.timers;
+      handles = steady.sound.handles;
+      room = let room = steady.sound.room in omega (arith, room);
     };
-    settled = lawful.settled;
+    settled = steady.settled;
   };
   no_grants = refl;
   untested = refl;
 })
 
 -- a wait that nothing precedes: nothing is changed, nothing served, and the caller's wait begins
-pub wait_accepted : (old new : Dispatcher) (t : ℕ) (wait : WaitCall) (reply : Reply) → IsFresh old → new.grants ≡ old.grants → new.table.looked ≡ old.table.looked → IsLawful new → wait_change (state old) wait ≡ state old → (reply, state new) ≡ begun (state old) t (wait_of old.now wait) (timeout_of wait) → Accepts old new t (Call.Wait wait) reply
-wait_accepted old new t wait reply fresh grants looked lawful same begins = record {
+pub wait_accepted : (old new : Dispatcher) (t : ℕ) (wait : WaitCall) (reply : Reply) → IsFresh old → new.grants ≡ old.grants → new.table.looked ≡ old.table.looked → IsSteady new → wait_change (state old) wait ≡ state old → (reply, state new) ≡ begun (state old) t (wait_of old.now wait) (timeout_of wait) → Accepts old new t (Call.Wait wait) reply
+wait_accepted old new t wait reply fresh grants looked steady same begins = record {
   step = record {
     handles = [];
     served = [];
@@ -236,12 +236,12 @@ wait_accepted old new t wait reply fresh grants looked lawful same begins = reco
     alerted = [];
     woken = state old;
     changed = changed;
-    serves = (sym same, fresh.lawful.settled.served);
-    alerts = no_alert (state old) (state old) refl fresh.lawful.settled.alerted;
+    serves = (sym same, fresh.steady.settled.served);
+    alerts = no_alert (state old) (state old) refl fresh.steady.settled.alerted;
     in_order = grants ∙ fresh.no_grants;
     answers = begins;
   };
-  lawful = lawful;
+  steady = steady;
   local = record {
     handles = [];
     changed = changed;

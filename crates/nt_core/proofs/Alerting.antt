@@ -22,7 +22,7 @@ use Rattle.nt_core.specs.State.{State, pends, wait_over, waits_over, object_at}
 use Rattle.nt_core.specs.Dispatcher.{Dispatcher, state}
 use Rattle.nt_core.specs.Serving.{satisfied, IsServed, IsAlerted, Alert, ending}
 use Rattle.nt_core.specs.Steps.{NothingDue, IsAwaited}
-use Rattle.nt_core.specs.Lawful.{IsSound, IsSettled, IsLawful}
+use Rattle.nt_core.specs.Lawful.{IsSound, IsSettled, IsSteady}
 use Rattle.nt_core.specs.Accepts.{is_by_objects, IsRoused, IsAlertedAfter, IsFresh, Accepts}
 use Rattle.nt_core.proofs.Walks.{get_removed}
 use Rattle.nt_core.proofs.Visiting.{state_same, len_removed}
@@ -230,9 +230,9 @@ queued_accepted old new t h routine arg fresh sound after = record {
     in_order = after.grants ∙ ap (λ gs. gs ++ after.ended) fresh.no_grants;
     answers = refl;
   };
-  lawful = record {
+  steady = record {
     sound = sound;
-    settled = alerted_settled (state mid) (state new) after.ended after.alerts served fresh.lawful.settled.passed;
+    settled = alerted_settled (state mid) (state new) after.ended after.alerts served fresh.steady.settled.passed;
   };
   local = record {
     handles = [];
@@ -246,7 +246,7 @@ queued_accepted old new t h routine arg fresh sound after = record {
     mid = record old { apcs = record old.apcs { queues = pushed old.apcs.queues h (record { apc = record { routine = routine; arg = arg; at = None }; timer = None }) } }
 
     served : IsServed (state mid)
-    served = fresh.lawful.settled.served
+    served = fresh.steady.settled.served
 
 -- a thread's object stands at the thread's number
 pub thread_known : (d : Dispatcher) (h : ℕ) → IsSound d → h < length d.objects → is_thread (object_at d.objects h) ≡ true → h < d.threads
@@ -257,28 +257,28 @@ thread_known d h sound known is = lt_of_not-le (λ beyond. false≢true (sym (so
 has_taken_other : (qs : List (List Queued)) (t u : ℕ) → u ≢ t → has_apc (taken qs t) u ≡ has_apc qs u
 has_taken_other qs t u differs = ap (λ (xs : List Queued). list_any (λ _. true) xs) (get_or-set_other qs t u (without_oldest (inbox_of qs t)) [] differs)
 
-taken_lawful : (d : Dispatcher) (t : ℕ) → IsLawful d → fin.get d.table.pending t ≡ None → IsLawful (record d { apcs = record d.apcs { queues = taken d.apcs.queues t } })
-taken_lawful d t lawful idle = record {
+taken_steady : (d : Dispatcher) (t : ℕ) → IsSteady d → fin.get d.table.pending t ≡ None → IsSteady (record d { apcs = record d.apcs { queues = taken d.apcs.queues t } })
+taken_steady d t steady idle = record {
   sound = record {
-    few = lawful.sound.few;
-    waits = lawful.sound.waits;
-    blocks = lawful.sound.blocks;
-    hands = lawful.sound.hands;
-    inboxes = length-set d.apcs.queues t (without_oldest (inbox_of d.apcs.queues t)) ∙ lawful.sound.inboxes;
-    objects = lawful.sound.objects;
-    own = lawful.sound.own;
-    none_else = lawful.sound.none_else;
-    timers = lawful.sound.timers;
-    handles = lawful.sound.handles;
-    room = lawful.sound.room;
+    few = steady.sound.few;
+    waits = steady.sound.waits;
+    blocks = steady.sound.blocks;
+    hands = steady.sound.hands;
+    inboxes = length-set d.apcs.queues t (without_oldest (inbox_of d.apcs.queues t)) ∙ steady.sound.inboxes;
+    objects = steady.sound.objects;
+    own = steady.sound.own;
+    none_else = steady.sound.none_else;
+    timers = steady.sound.timers;
+    handles = steady.sound.handles;
+    room = steady.sound.room;
   };
   settled = record {
-    served = lawful.settled.served;
+    served = steady.settled.served;
     alerted = λ u alerted. elim (cases_eq u t) [
       | inl same ↦ waits_not alerted.0 (sym idle ∙ (ap (λ (k : ℕ). fin.get d.table.pending k) (sym same) ∙ alerted.1))
-      | inr differs ↦ lawful.settled.alerted u (alerted.0, alerted.1, ap (λ b. (alerted.0).alertable && b) (sym (has_taken_other d.apcs.queues t u differs)) ∙ alerted.2)
+      | inr differs ↦ steady.settled.alerted u (alerted.0, alerted.1, ap (λ b. (alerted.0).alertable && b) (sym (has_taken_other d.apcs.queues t u differs)) ∙ alerted.2)
     ];
-    passed = lawful.settled.passed;
+    passed = steady.settled.passed;
   };
 }
   where
@@ -286,20 +286,20 @@ taken_lawful d t lawful idle = record {
     waits_not v h = (cc)
 
 -- a call that changes no object and no wait
-quiet_accepted : (old new : Dispatcher) (t : ℕ) (call : Call) (reply : Reply) → IsFresh old → new.grants ≡ old.grants → new.table.looked ≡ old.table.looked → new.objects ≡ old.objects → state new ≡ change (state old) t call → state new ≡ after_serving call (state new) → IsLawful new → (reply, state new) ≡ answered (state old) (state new) t call → Accepts old new t call reply
-quiet_accepted old new t call reply fresh grants looked objects is after lawful answers =
+quiet_accepted : (old new : Dispatcher) (t : ℕ) (call : Call) (reply : Reply) → IsFresh old → new.grants ≡ old.grants → new.table.looked ≡ old.table.looked → new.objects ≡ old.objects → state new ≡ change (state old) t call → state new ≡ after_serving call (state new) → IsSteady new → (reply, state new) ≡ answered (state old) (state new) t call → Accepts old new t call reply
+quiet_accepted old new t call reply fresh grants looked objects is after steady answers =
     accepted old new new t call reply
-    (idle_served old (change (state old) t call) new [] fresh (same_changed old.objects (change (state old) t call).objects (ap (λ (s : State). s.objects) (sym is) ∙ objects)) grants looked is lawful)
-    after refl refl lawful answers
+    (idle_served old (change (state old) t call) new [] fresh (same_changed old.objects (change (state old) t call).objects (ap (λ (s : State). s.objects) (sym is) ∙ objects)) grants looked is steady)
+    after refl refl steady answers
 
 pub taken_accepted : (old : Dispatcher) (t : ℕ) → IsFresh old → fin.get old.table.pending t ≡ None → may_take (state old) t ≡ true → Accepts old (record old { apcs = record old.apcs { queues = taken old.apcs.queues t } }) t (Call.Act Act.NextApc) (Reply.Apc (apc_of (oldest (inbox_of old.apcs.queues t))))
 taken_accepted old t fresh idle may =
     quiet_accepted old (record old { apcs = record old.apcs { queues = taken old.apcs.queues t } }) t (Call.Act Act.NextApc) (Reply.Apc (apc_of (oldest (inbox_of old.apcs.queues t)))) fresh refl refl refl
-    (sym (rw may refl)) refl (taken_lawful old t fresh.lawful idle)
+    (sym (rw may refl)) refl (taken_steady old t fresh.steady idle)
     (λ i. (Reply.Apc (if sym may i then apc_of (oldest (inbox_of old.apcs.queues t)) else None), state (record old { apcs = record old.apcs { queues = taken old.apcs.queues t } })))
 
-pub untaken_accepted : (old : Dispatcher) (t : ℕ) → IsFresh old → may_take (state old) t ≡ false → IsLawful (record old { handing = set old.handing t false }) → Accepts old (record old { handing = set old.handing t false }) t (Call.Act Act.NextApc) (Reply.Apc None)
-untaken_accepted old t fresh may lawful =
+pub untaken_accepted : (old : Dispatcher) (t : ℕ) → IsFresh old → may_take (state old) t ≡ false → IsSteady (record old { handing = set old.handing t false }) → Accepts old (record old { handing = set old.handing t false }) t (Call.Act Act.NextApc) (Reply.Apc None)
+untaken_accepted old t fresh may steady =
     quiet_accepted old (record old { handing = set old.handing t false }) t (Call.Act Act.NextApc) (Reply.Apc None) fresh refl refl refl
-    (sym (rw may refl)) refl lawful
+    (sym (rw may refl)) refl steady
     (λ i. (Reply.Apc (if sym may i then apc_of (oldest (inbox_of old.apcs.queues t)) else None), state (record old { handing = set old.handing t false })))

@@ -26,7 +26,7 @@ use Rattle.nt_core.specs.Serving.{is_ready, sequence, Serve}
 use Rattle.nt_core.specs.Change.{change}
 use Rattle.nt_core.specs.Steps.{NothingDue}
 use Rattle.nt_core.specs.Visits.{FitOnlyIn}
-use Rattle.nt_core.specs.Lawful.{IsSound, IsLawful, IsSettled}
+use Rattle.nt_core.specs.Lawful.{IsSound, IsSteady, IsSettled}
 use Rattle.nt_core.specs.Accepts.{IsFresh, IsPromised, IsServedAfter, Accepts}
 use Rattle.nt_core.proofs.Changing.{object_at-set_same, object_at-set_other, served_fewer, fit_only_in, changed_at_one, one_changed}
 use Rattle.nt_core.proofs.Accepting.{IsCalm, accepted, settled_after}
@@ -161,18 +161,18 @@ set_quietly old new t h due period routine manual was now a setting queues fresh
     let changed = timer_changed old.objects h manual was now a setting is in
     let known = known_timer old.objects h (ap is_timer is) in
     let settled : IsSettled s = record {
-      served = served_fewer (state old) (set old.objects h o) fresh.lawful.settled.served (λ u k e. unready_timed (state old) h manual was now a setting is rises u k e);
-      alerted = calm_timed (state old) t h o queues idle fewer fresh.lawful.settled.alerted;
-      passed = due_timed (state old) h old.now o queues known later fresh.lawful.settled.passed;
+      served = served_fewer (state old) (set old.objects h o) fresh.steady.settled.served (λ u k e. unready_timed (state old) h manual was now a setting is rises u k e);
+      alerted = calm_timed (state old) t h o queues idle fewer fresh.steady.settled.alerted;
+      passed = due_timed (state old) h old.now o queues known later fresh.steady.settled.passed;
     } in
-    let lawful : IsLawful new = record { sound = sound; settled = subst IsSettled (sym becomes) settled } in
+    let steady : IsSteady new = record { sound = sound; settled = subst IsSettled (sym becomes) settled } in
     accepted old new new t (Call.Act (Act.SetTimer h due period routine)) Reply.Done
-    (subst (λ (x : State). IsServedAfter old x new) (sym changes) (idle_served old s new changed.0 fresh changed.1 grants looked becomes lawful))
-    refl refl refl lawful refl
+    (subst (λ (x : State). IsServedAfter old x new) (sym changes) (idle_served old s new changed.0 fresh changed.1 grants looked becomes steady))
+    refl refl refl steady refl
 
 -- what fits once the timer is set names it
 pub set_fit : (old : Dispatcher) (h : ℕ) (o : Object) (queues : List (List Queued)) → IsFresh old → FitOnlyIn (sequence (timed_state (state old) h o queues) (h ∷ [])) (timed_state (state old) h o queues)
-set_fit old h o queues fresh = fit_only_in (h ∷ []) old (set old.objects h o) fresh.lawful.sound fresh.lawful.settled.served (changed_at_one old.objects h o)
+set_fit old h o queues fresh = fit_only_in (h ∷ []) old (set old.objects h o) fresh.steady.sound fresh.steady.settled.served (changed_at_one old.objects h o)
 
 -- the timer was not set, is set now, and the waits that name it were served
 pub set_served : (old mid new : Dispatcher) (t h : ℕ) (due period : ℤ) (routine : Option (ℕ × ℕ)) (manual : Bool) (a setting : Option Armed) (queues : List (List Queued)) → IsFresh old → fin.get old.table.pending t ≡ None → object_at old.objects h ≡ Timer manual false a → ((v : ℕ) → due_of (Timer manual true setting) ≡ Some v → old.now < v) → ((u : ℕ) → u ≢ t → has_apc queues u ≡ true → has_apc old.apcs.queues u ≡ true) → state mid ≡ timed_state (state old) h (Timer manual true setting) queues → Serve (sequence (state mid) (h ∷ [])) (state mid) new.grants (state new) → IsSound new → new.table.looked ≤ length (sequence (state mid) (h ∷ [])) → length new.grants ≤ new.table.looked → change (state old) t (Call.Act (Act.SetTimer h due period routine)) ≡ timed_state (state old) h (Timer manual true setting) queues → Accepts old new t (Call.Act (Act.SetTimer h due period routine)) Reply.Done
@@ -190,13 +190,13 @@ set_served old mid new t h due period routine manual a setting queues fresh idle
       most = subst (λ (x : State). new.table.looked ≤ length (sequence x (h ∷ []))) becomes most;
       least = least;
     } in
-    let lawful : IsLawful new = record {
+    let steady : IsSteady new = record {
       sound = sound;
-      settled = settled_after (sequence s (h ∷ [])) s (state new) new.grants serves (calm_timed (state old) t h o queues idle fewer fresh.lawful.settled.alerted) (due_timed (state old) h old.now o queues known later fresh.lawful.settled.passed);
+      settled = settled_after (sequence s (h ∷ [])) s (state new) new.grants serves (calm_timed (state old) t h o queues idle fewer fresh.steady.settled.alerted) (due_timed (state old) h old.now o queues known later fresh.steady.settled.passed);
     } in
     accepted old new new t (Call.Act (Act.SetTimer h due period routine)) Reply.Done
     (subst (λ (x : State). IsServedAfter old x new) (sym changes) after)
-    refl refl refl lawful refl
+    refl refl refl steady refl
 
 -- ---- what the code of an arming and of an expiry leaves is sound
 

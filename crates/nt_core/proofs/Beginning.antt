@@ -24,7 +24,7 @@ use Rattle.nt_objects.specs.Object.{due_of, units}
 use Rattle.nt_core.specs.State.{object_at, deadline_after}
 use Rattle.nt_core.specs.Serving.{fits, is_ready, satisfied, is_due, IsTried}
 use Rattle.nt_core.specs.Steps.{begun, IsAwaited}
-use Rattle.nt_core.specs.Lawful.{IsSettled, IsLawful}
+use Rattle.nt_core.specs.Lawful.{IsSettled, IsSteady}
 use Rattle.nt_core.proofs.Taking.{unready_after}
 use Rattle.nt_core.proofs.Keeping.{TakesWell, objects_taken_well, taken_timers}
 use Rattle.nt_core.proofs.Changing.{served_fewer, due_kept}
@@ -202,9 +202,9 @@ other_waits d t u v idle pends same = let h : None ≡ Some v = sym idle ∙ (ap
     absurd_none h = (cc)
 
 -- t's new wait has taken its objects at once
-pub began_taken : (old : Dispatcher) (objects : List Object) (owned : List (List ℕ)) (t code : ℕ) (w : Wait) → IsLawful old → IsSoundWait old.threads old.objects t w → fin.get old.table.pending t ≡ None → IsTried old.objects objects t w (Some code) → IsLawful (record old { objects = objects; owned = owned; handing = set old.handing t false })
-began_taken old objects owned t code w lawful able idle tried =
-    let sound = lawful.sound in
+pub began_taken : (old : Dispatcher) (objects : List Object) (owned : List (List ℕ)) (t code : ℕ) (w : Wait) → IsSteady old → IsSoundWait old.threads old.objects t w → fin.get old.table.pending t ≡ None → IsTried old.objects objects t w (Some code) → IsSteady (record old { objects = objects; owned = owned; handing = set old.handing t false })
+began_taken old objects owned t code w steady able idle tried =
+    let sound = steady.sound in
     let new : Dispatcher = record old { objects = objects; owned = owned; handing = set old.handing t false } in
     let well = subst (λ (os : List Object). TakesWell old.objects os t) (sym tried.2) (objects_taken_well old.objects t w able.apart (can_take old.objects t old.threads w sound.objects able) tried.0) in
     record {
@@ -231,38 +231,38 @@ began_taken old objects owned t code w lawful able idle tried =
         room = sound.room;
       };
       settled = record {
-        served = served_fewer (state old) objects lawful.settled.served (λ u k e. subst (λ (os : List Object). is_ready os u k ≡ false) (sym tried.2) (unready_after old.objects t w u k e));
-        alerted = lawful.settled.alerted;
-        passed = due_kept (state old) (state new) old.now (λ h. inl (subst (λ (os : List Object). due_of (object_at os h) ≡ due_of (object_at old.objects h)) (sym tried.2) (due_taken_by old.objects t w h))) refl lawful.settled.passed;
+        served = served_fewer (state old) objects steady.settled.served (λ u k e. subst (λ (os : List Object). is_ready os u k ≡ false) (sym tried.2) (unready_after old.objects t w u k e));
+        alerted = steady.settled.alerted;
+        passed = due_kept (state old) (state new) old.now (λ h. inl (subst (λ (os : List Object). due_of (object_at os h) ≡ due_of (object_at old.objects h)) (sym tried.2) (due_taken_by old.objects t w h))) refl steady.settled.passed;
       };
     }
 
 -- its timeout is 0, or an APC is queued: only whether it may take its APCs is changed
-pub handed_lawful : (old : Dispatcher) (t : ℕ) (may : Bool) → IsLawful old → IsLawful (record old { handing = set old.handing t may })
-handed_lawful old t may lawful = record {
+pub handed_steady : (old : Dispatcher) (t : ℕ) (may : Bool) → IsSteady old → IsSteady (record old { handing = set old.handing t may })
+handed_steady old t may steady = record {
   sound = record {
-    few = lawful.sound.few;
-    waits = lawful.sound.waits;
-    blocks = lawful.sound.blocks;
-    hands = length-set old.handing t may ∙ lawful.sound.hands;
-    inboxes = lawful.sound.inboxes;
-    objects = lawful.sound.objects;
-    own = lawful.sound.own;
-    none_else = lawful.sound.none_else;
-    timers = lawful.sound.timers;
-    handles = lawful.sound.handles;
-    room = lawful.sound.room;
+    few = steady.sound.few;
+    waits = steady.sound.waits;
+    blocks = steady.sound.blocks;
+    hands = length-set old.handing t may ∙ steady.sound.hands;
+    inboxes = steady.sound.inboxes;
+    objects = steady.sound.objects;
+    own = steady.sound.own;
+    none_else = steady.sound.none_else;
+    timers = steady.sound.timers;
+    handles = steady.sound.handles;
+    room = steady.sound.room;
   };
   settled = record {
-    served = lawful.settled.served;
-    alerted = lawful.settled.alerted;
-    passed = lawful.settled.passed;
+    served = steady.settled.served;
+    alerted = steady.settled.alerted;
+    passed = steady.settled.passed;
   };
 }
 
 -- it pends
-pub began_pending : (old new : Dispatcher) (t ms : ℕ) (w : Wait) → IsLawful old → fits old.objects t w ≡ false → (w.alertable && has_apc old.apcs.queues t) ≡ false → ms ≢ 0 → w.deadline ≡ deadline_after old.now ms → state new ≡ pending_too (state old) t w → IsSound new → IsLawful new
-began_pending old new t ms w lawful unfit quiet later deadline becomes sound =
+pub began_pending : (old new : Dispatcher) (t ms : ℕ) (w : Wait) → IsSteady old → fits old.objects t w ≡ false → (w.alertable && has_apc old.apcs.queues t) ≡ false → ms ≢ 0 → w.deadline ≡ deadline_after old.now ms → state new ≡ pending_too (state old) t w → IsSound new → IsSteady new
+began_pending old new t ms w steady unfit quiet later deadline becomes sound =
     record {
       sound = sound;
       settled = subst IsSettled (sym becomes) (record {
@@ -276,7 +276,7 @@ began_pending old new t ms w lawful unfit quiet later deadline becomes sound =
     unalerted u v alert (inl same) =
         let here : (w.alertable && has_apc old.apcs.queues t) ≡ true = ap (λ (x : Wait). x.alertable && has_apc old.apcs.queues t) same.1 ∙ (ap (λ (k : ℕ). v.alertable && has_apc old.apcs.queues k) (sym same.0) ∙ alert) in
         false≢true (sym quiet ∙ here)
-    unalerted u v alert (inr older) = lawful.settled.alerted u (v, older, alert)
+    unalerted u v alert (inr older) = steady.settled.alerted u (v, older, alert)
 
     served : (u : ℕ) → is_due (pending_too (state old) t w) u ≡ false
     served u = by (fin.get (fin.insert old.table.pending t w) u) refl
@@ -285,12 +285,12 @@ began_pending old new t ms w lawful unfit quiet later deadline becomes sound =
         by None e = refl
         by (Some v) e = elim (get_inserted old.table.pending t u w v e) [
           | inl same ↦ rw (same.0, ← same.1) unfit
-          | inr older ↦ sym (ap (λ o. satisfied old.objects u o) older) ∙ lawful.settled.served u
+          | inr older ↦ sym (ap (λ o. satisfied old.objects u o) older) ∙ steady.settled.served u
         ]
 
     passed : (v : ℕ) → IsAwaited (pending_too (state old) t w) v → old.now < v
-    passed v (inl timer) = lawful.settled.passed v (inl timer)
+    passed v (inl timer) = steady.settled.passed v (inl timer)
     passed v (inr late) = elim (get_inserted old.table.pending t late.0 w late.1 late.2) [
       | inl same ↦ ahead old.now ms v later (sym deadline ∙ (ap (λ x. x.deadline) same.1 ∙ late.3))
-      | inr older ↦ lawful.settled.passed v (inr (late.0, late.1, older, late.3))
+      | inr older ↦ steady.settled.passed v (inr (late.0, late.1, older, late.3))
     ]

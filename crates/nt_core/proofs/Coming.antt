@@ -21,7 +21,7 @@ use Rattle.nt_core.specs.Due.{is_up_to, due_weight, total_weight}
 use Rattle.nt_core.specs.Serving.{satisfied, sequence, IsServed, IsAlerted, ending, late_status, sleeps}
 use Rattle.nt_core.specs.Change.{all_expired}
 use Rattle.nt_core.specs.Steps.{IsAwaited, IsNextMoment, NothingDue, MomentPasses, Ticked}
-use Rattle.nt_core.specs.Lawful.{IsSound, IsLawful}
+use Rattle.nt_core.specs.Lawful.{IsSound, IsSteady}
 use Rattle.nt_core.specs.Accepts.{IsFresh, IsPassedAfter, IsDueBy, is_by_objects, ended_by_objects, IsTickLocal}
 use Rattle.nt_core.proofs.Accepting.{IsCalm}
 use Rattle.nt_core.proofs.Alerting.{over_pending, over_objects, over_apcs}
@@ -50,9 +50,9 @@ pub tick_first : (d : Dispatcher) (m : ℕ) → IsFresh d → TickSoFar d d m
 tick_first d m fresh = record {
   moments = [];
   passed = (fresh.no_grants, refl);
-  sound = fresh.lawful.sound;
-  served = fresh.lawful.settled.served;
-  calm = fresh.lawful.settled.alerted;
+  sound = fresh.steady.sound;
+  served = fresh.steady.settled.served;
+  calm = fresh.steady.settled.alerted;
   kept = λ t w pends. pends;
   most = let none = fresh.untested in omega (arith, none);
   least = subst (λ (gs : List Grant). length (filter (ended_by_objects (state d)) gs) ≤ d.table.looked) (sym fresh.no_grants) (omega arith);
@@ -291,7 +291,7 @@ all_due s m = record {
 }
 
 -- nothing up to m is due any more
-pub tick_end : (old now : Dispatcher) (m : ℕ) → old.now ≤ m → TickSoFar old now m → NothingDue (state now) m → Ticked (state old) m (Ok Reply.Done) now.grants (state (record now { now = m })) × IsLawful (record now { now = m }) × IsTickLocal (state old) m now.table.looked now.grants
+pub tick_end : (old now : Dispatcher) (m : ℕ) → old.now ≤ m → TickSoFar old now m → NothingDue (state now) m → Ticked (state old) m (Ok Reply.Done) now.grants (state (record now { now = m })) × IsSteady (record now { now = m }) × IsTickLocal (state old) m now.table.looked now.grants
 tick_end old now m forward far none = (
   (forward, refl, (far.moments, Passed-end far.moments (state old) (state now) m now.grants far.passed none)),
   record {

@@ -20,7 +20,7 @@ use Rattle.nt_core.specs.Rising.{Lists, IsRising, AreRising}
 use Rattle.nt_core.specs.Serving.{IsChanged, sequence, Serve}
 use Rattle.nt_core.specs.Change.{exited}
 use Rattle.nt_core.specs.Visits.{FitOnlyIn}
-use Rattle.nt_core.specs.Lawful.{IsSound, IsLawful}
+use Rattle.nt_core.specs.Lawful.{IsSound, IsSteady}
 use Rattle.nt_core.specs.Accepts.{IsFresh, IsStoppedAfter, IsExitedAfter, Accepts}
 use Rattle.nt_core.specs.declared.call.Call.{Call}
 use Rattle.nt_core.specs.declared.call.Reply.{Reply}
@@ -245,12 +245,12 @@ sorted_changed old t mutexes all sorted sound known runs listed moved up =
 
 -- ---- waits are served
 
-pub exited_fit : (old : Dispatcher) (t : ℕ) (handles : List ℕ) → IsLawful old → t < old.threads → has_ended (object_at old.objects t) ≡ false → AreRising (IsChanged old.objects (objects_left old.objects t)) handles → FitOnlyIn (sequence (exited (state old) t) handles) (exited (state old) t)
-exited_fit old t handles lawful known runs changed = fit_only_in handles old (objects_left old.objects t) lawful.sound lawful.settled.served only
+pub exited_fit : (old : Dispatcher) (t : ℕ) (handles : List ℕ) → IsSteady old → t < old.threads → has_ended (object_at old.objects t) ≡ false → AreRising (IsChanged old.objects (objects_left old.objects t)) handles → FitOnlyIn (sequence (exited (state old) t) handles) (exited (state old) t)
+exited_fit old t handles steady known runs changed = fit_only_in handles old (objects_left old.objects t) steady.sound steady.settled.served only
   where
     only : ChangedOnlyAt handles old.objects (objects_left old.objects t)
     only h there = elim (altered_or_same old.objects t h) [
-      | inl altered ↦ inr ((changed.exactly h).1 (altered_changed old t h lawful.sound known runs altered))
+      | inl altered ↦ inr ((changed.exactly h).1 (altered_changed old t h steady.sound known runs altered))
       | inr same ↦ inl same
     ]
 
@@ -276,9 +276,9 @@ exited_few old t handles sound changed =
 pub exited_accepted : (old mid new : Dispatcher) (t : ℕ) (handles : List ℕ) → IsFresh old → IsExitedAfter old t mid handles → Serve (sequence (state mid) handles) (state mid) new.grants (state new) → IsSound new → new.table.looked ≤ length (sequence (state mid) handles) → length new.grants ≤ new.table.looked → Accepts old new t Call.Exit Reply.Done
 exited_accepted old mid new t handles fresh after serve sound most least =
     let served : Serve (sequence (state old) handles) (exited (state old) t) new.grants (state new) = subst (λ (s : State). Serve (sequence s handles) s new.grants (state new)) after.becomes serve in
-    let lawful : IsLawful new = record {
+    let steady : IsSteady new = record {
       sound = sound;
-      settled = settled_after (sequence (state old) handles) (exited (state old) t) (state new) new.grants served (calm_exited (state old) t fresh.lawful.settled.alerted) (due_exited old t old.now fresh.lawful.sound fresh.lawful.settled.passed);
+      settled = settled_after (sequence (state old) handles) (exited (state old) t) (state new) new.grants served (calm_exited (state old) t fresh.steady.settled.alerted) (due_exited old t old.now fresh.steady.sound fresh.steady.settled.passed);
     } in
     let objects : mid.objects ≡ objects_left old.objects t = ap (λ (s : State). s.objects) after.becomes in
     accepted old new new t Call.Exit Reply.Done (record {
@@ -288,4 +288,4 @@ exited_accepted old mid new t handles fresh after serve sound most least =
       sound = sound;
       most = subst (λ (s : State). new.table.looked ≤ length (sequence s handles)) after.becomes most;
       least = least;
-    }) refl refl refl lawful refl
+    }) refl refl refl steady refl

@@ -32,4 +32,7 @@ mod Moments
 mod Coming
 mod Owned
 mod Counting
+mod Moves
+pub mod Runs
+pub mod Lawful
 mod Plain

@@ -24,7 +24,7 @@ use Rattle.nt_core.specs.Change.{change, at, created}
 use Rattle.nt_core.specs.Steps.{after_serving, answered}
 use Rattle.nt_core.specs.Refusals.{is_full}
 use Rattle.nt_core.specs.Visits.{FitOnlyIn}
-use Rattle.nt_core.specs.Lawful.{IsSound, IsLawful, MayReplace}
+use Rattle.nt_core.specs.Lawful.{IsSound, IsSteady, MayReplace}
 use Rattle.nt_core.specs.Accepts.{IsFresh, IsServedAfter, Accepts}
 use Rattle.nt_core.proofs.Changing.{ChangedOnlyAt, one_changed, same_changed, fit_only_in, changed_at_one, sound_replaced, served_fewer, due_replaced, none_created, sound_created, served_unchanged, object_at-append, due_kept, known_event, known_object, set_as_before, object_at-set_same}
 use Rattle.nt_core.proofs.Accepting.{accepted, settled_after, reading_taken_by}
@@ -71,8 +71,8 @@ one_few d h sound = let few = queue_few d h sound in rw (append-nil ((state d).q
 
 -- ---- one object is exchanged for another that satisfies more waits, and the waits on it are served
 
-pub replaced_fit : (d : Dispatcher) (h : ℕ) (o : Object) → IsLawful d → FitOnlyIn (sequence (state d) (h ∷ [])) (state (record d { objects = set d.objects h o }))
-replaced_fit d h o lawful = fit_only_in (h ∷ []) d (set d.objects h o) lawful.sound lawful.settled.served (changed_at_one d.objects h o)
+pub replaced_fit : (d : Dispatcher) (h : ℕ) (o : Object) → IsSteady d → FitOnlyIn (sequence (state d) (h ∷ [])) (state (record d { objects = set d.objects h o }))
+replaced_fit d h o steady = fit_only_in (h ∷ []) d (set d.objects h o) steady.sound steady.settled.served (changed_at_one d.objects h o)
 
 pub replaced_served : (old new : Dispatcher) (h : ℕ) (o : Object) → h < length old.objects → o ≢ object_at old.objects h → Serve (sequence (state old) (h ∷ [])) (state (record old { objects = set old.objects h o })) new.grants (state new) → IsSound new → new.table.looked ≤ length (sequence (state old) (h ∷ [])) → length new.grants ≤ new.table.looked → IsServedAfter old (state (record old { objects = set old.objects h o })) new
 replaced_served old new h o known differs serve sound most least = record {
@@ -85,11 +85,11 @@ replaced_served old new h o known differs serve sound most least = record {
 }
 
 -- what holds once the waits on it are served
-pub replaced_settled : (old new : Dispatcher) (h : ℕ) (o : Object) → IsFresh old → MayReplace (object_at old.objects h) o → IsServedAfter old (at (state old) h (λ _. o)) new → IsLawful new
+pub replaced_settled : (old new : Dispatcher) (h : ℕ) (o : Object) → IsFresh old → MayReplace (object_at old.objects h) o → IsServedAfter old (at (state old) h (λ _. o)) new → IsSteady new
 replaced_settled old new h o fresh may after = record {
   sound = after.sound;
-  settled = settled_after (sequence (state old) after.handles) (at (state old) h (λ _. o)) (state new) new.grants after.serves fresh.lawful.settled.alerted
-      (due_replaced (state old) h o old.now may.due fresh.lawful.settled.passed);
+  settled = settled_after (sequence (state old) after.handles) (at (state old) h (λ _. o)) (state new) new.grants after.serves fresh.steady.settled.alerted
+      (due_replaced (state old) h o old.now may.due fresh.steady.settled.passed);
 }
 
 -- a call that exchanges one object and answers at once
@@ -98,12 +98,12 @@ replaced_accepted old new t h o call reply fresh may changes after answers serve
     accepted old new new t call reply (subst (λ (s : State). IsServedAfter old s new) (sym changes) served) after refl refl (replaced_settled old new h o fresh may served) answers
 
 -- nothing is changed, or nothing that satisfies more waits
-pub idle_served : (old : Dispatcher) (mid : State) (new : Dispatcher) (handles : List ℕ) → IsFresh old → AreRising (IsChanged old.objects mid.objects) handles → new.grants ≡ old.grants → new.table.looked ≡ old.table.looked → state new ≡ mid → IsLawful new → IsServedAfter old mid new
-idle_served old mid new handles fresh changed grants looked is lawful = record {
+pub idle_served : (old : Dispatcher) (mid : State) (new : Dispatcher) (handles : List ℕ) → IsFresh old → AreRising (IsChanged old.objects mid.objects) handles → new.grants ≡ old.grants → new.table.looked ≡ old.table.looked → state new ≡ mid → IsSteady new → IsServedAfter old mid new
+idle_served old mid new handles fresh changed grants looked is steady = record {
   handles = handles;
   changed = changed;
-  serves = subst (λ (gs : List Grant). Serve (sequence (state old) handles) mid gs (state new)) (sym (grants ∙ fresh.no_grants)) (is, lawful.settled.served);
-  sound = lawful.sound;
+  serves = subst (λ (gs : List Grant). Serve (sequence (state old) handles) mid gs (state new)) (sym (grants ∙ fresh.no_grants)) (is, steady.settled.served);
+  sound = steady.sound;
   most = let none : new.table.looked ≡ 0 = looked ∙ fresh.untested in omega (arith, none);
   least = let none : length new.grants ≡ 0 = ap (λ gs. length gs) (grants ∙ fresh.no_grants) in omega (arith, none);
 }
@@ -154,14 +154,14 @@ raised_idle old t h fresh is was =
     let o = object_at old.objects h in
     let same : with_set true o ≡ o = ap (λ b. with_set b o) (sym was) ∙ with_set_same o t is in
     let objects : with_object old.objects h (with_set true) ≡ old.objects = set_as_before old.objects h (with_set true o) same in
-    idle_served old (at (state old) h (with_set true)) old [] fresh (same_changed old.objects (with_object old.objects h (with_set true)) objects) refl refl (λ i. record (state old) { objects = sym objects i }) fresh.lawful
+    idle_served old (at (state old) h (with_set true)) old [] fresh (same_changed old.objects (with_object old.objects h (with_set true)) objects) refl refl (λ i. record (state old) { objects = sym objects i }) fresh.steady
 
 -- what holds of a state at which an event was set, and waits are served
-pub raised_settled : (old new : Dispatcher) (h : ℕ) → IsFresh old → is_event (object_at old.objects h) ≡ true → IsServedAfter old (at (state old) h (with_set true)) new → IsLawful new
+pub raised_settled : (old new : Dispatcher) (h : ℕ) → IsFresh old → is_event (object_at old.objects h) ≡ true → IsServedAfter old (at (state old) h (with_set true)) new → IsSteady new
 raised_settled old new h fresh is after = record {
   sound = after.sound;
-  settled = settled_after (sequence (state old) after.handles) (at (state old) h (with_set true)) (state new) new.grants after.serves fresh.lawful.settled.alerted
-      (due_replaced (state old) h (with_set true (object_at old.objects h)) old.now (due_with_set true (object_at old.objects h) is) fresh.lawful.settled.passed);
+  settled = settled_after (sequence (state old) after.handles) (at (state old) h (with_set true)) (state new) new.grants after.serves fresh.steady.settled.alerted
+      (due_replaced (state old) h (with_set true (object_at old.objects h)) old.now (due_with_set true (object_at old.objects h) is) fresh.steady.settled.passed);
 }
 
 pub set_accepted : (old new : Dispatcher) (t h : ℕ) → IsFresh old → is_event (object_at old.objects h) ≡ true → IsServedAfter old (at (state old) h (with_set true)) new → Accepts old new t (Call.Act (Act.SetEvent h)) Reply.Done
@@ -175,15 +175,15 @@ unready_reset (o ∷ os) zero u (suc k) is e = e
 unready_reset (o ∷ os) (suc h) u zero is e = e
 unready_reset (o ∷ os) (suc h) u (suc k) is e = unready_reset os h u k is e
 
-pub reset_lawful : (d : Dispatcher) (h : ℕ) → IsLawful d → is_event (object_at d.objects h) ≡ true → IsLawful (record d { objects = with_object d.objects h (with_set false) })
-reset_lawful d h lawful is =
+pub reset_steady : (d : Dispatcher) (h : ℕ) → IsSteady d → is_event (object_at d.objects h) ≡ true → IsSteady (record d { objects = with_object d.objects h (with_set false) })
+reset_steady d h steady is =
     let o = object_at d.objects h in
     record {
-      sound = sound_replaced d h (with_set false o) d.owned lawful.sound (set_may_replace false o is);
+      sound = sound_replaced d h (with_set false o) d.owned steady.sound (set_may_replace false o is);
       settled = record {
-        served = served_fewer (state d) (with_object d.objects h (with_set false)) lawful.settled.served (λ u k e. unready_reset d.objects h u k is e);
-        alerted = lawful.settled.alerted;
-        passed = due_replaced (state d) h (with_set false o) d.now (due_with_set false o is) lawful.settled.passed;
+        served = served_fewer (state d) (with_object d.objects h (with_set false)) steady.settled.served (λ u k e. unready_reset d.objects h u k is e);
+        alerted = steady.settled.alerted;
+        passed = due_replaced (state d) h (with_set false o) d.now (due_with_set false o is) steady.settled.passed;
       };
     }
 
@@ -196,8 +196,8 @@ reset_accepted old t h fresh is = go (signaled (object_at old.objects h) t) refl
     whole : (handles : List ℕ) → AreRising (IsChanged old.objects new.objects) handles → Accepts old new t (Call.Act (Act.ResetEvent h)) Reply.Done
     whole handles changed =
         accepted old new new t (Call.Act (Act.ResetEvent h)) Reply.Done
-        (idle_served old (state new) new handles fresh changed refl refl refl (reset_lawful old h fresh.lawful is))
-        refl refl refl (reset_lawful old h fresh.lawful is) refl
+        (idle_served old (state new) new handles fresh changed refl refl refl (reset_steady old h fresh.steady is))
+        refl refl refl (reset_steady old h fresh.steady is) refl
 
     go : (b : Bool) → signaled (object_at old.objects h) t ≡ b → Accepts old new t (Call.Act (Act.ResetEvent h)) Reply.Done
     go true was = whole (h ∷ []) (one_changed old.objects h (with_set false (object_at old.objects h)) (known_event old.objects h is) (λ e. false≢true (sym (signaled_with_set false (object_at old.objects h) t is) ∙ (ap (λ x. signaled x t) e ∙ was))))
@@ -227,7 +227,7 @@ pub pulse_accepted : (old mid : Dispatcher) (t h : ℕ) → IsFresh old → is_e
 pulse_accepted old mid t h fresh is after =
     let still = still_event old mid h is after in
     accepted old mid (record mid { objects = with_object mid.objects h (with_set false) }) t (Call.Act (Act.PulseEvent h)) Reply.Done after refl refl refl
-    (reset_lawful mid h (raised_settled old mid h fresh is after) still) refl
+    (reset_steady mid h (raised_settled old mid h fresh is after) still) refl
 
 -- ---- creations
 
@@ -266,13 +266,13 @@ created_accepted old new t o owned call handle fresh room lawful no_thread due c
     d : Dispatcher
     d = record old { objects = old.objects ++ o ∷ []; owned = owned; alarms = old.alarms ++ None ∷ [] }
 
-    all : IsLawful d
+    all : IsSteady d
     all = record {
-      sound = sound_created old o owned fresh.lawful.sound room lawful no_thread due;
+      sound = sound_created old o owned fresh.steady.sound room lawful no_thread due;
       settled = record {
-        served = served_unchanged old (old.objects ++ o ∷ []) fresh.lawful.sound fresh.lawful.settled.served (created_only old.objects o);
-        alerted = fresh.lawful.settled.alerted;
-        passed = due_kept (state old) (state d) old.now (λ k. due_created old.objects o k due) refl fresh.lawful.settled.passed;
+        served = served_unchanged old (old.objects ++ o ∷ []) fresh.steady.sound fresh.steady.settled.served (created_only old.objects o);
+        alerted = fresh.steady.settled.alerted;
+        passed = due_kept (state old) (state d) old.now (λ k. due_created old.objects o k due) refl fresh.steady.settled.passed;
       };
     }
 

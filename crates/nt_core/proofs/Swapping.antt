@@ -22,7 +22,7 @@ use Rattle.nt_core.specs.Serving.{wait_for, sequence, Grants, granted, objects_t
 use Rattle.nt_core.specs.Change.{at, signal}
 use Rattle.nt_core.specs.Refusals.{may_signal, is_foreign, is_no, is_unknown, is_at_limit, refusal}
 use Rattle.nt_core.specs.Steps.{begun, wait_of}
-use Rattle.nt_core.specs.Lawful.{IsSoundWait, IsSound, IsLawful, MayReplace}
+use Rattle.nt_core.specs.Lawful.{IsSoundWait, IsSound, IsSteady, MayReplace}
 use Rattle.nt_core.specs.Accepts.{is_by_objects, IsFresh, IsServedAfter, Accepts}
 use Rattle.nt_objects.proofs.Lawful.{lawful_released, lawful_unlocked}
 use Rattle.nt_core.proofs.Accepting.{next_causes, own_causes, free_caller, no_alert}
@@ -34,7 +34,7 @@ use Rattle.nt_core.proofs.Changing.{reading_set, limit_set, sound_replaced}
 use Rattle.nt_core.proofs.Beginning.{room_to_begin}
 use Rattle.nt_core.proofs.Replacing.{set_may_replace, released_may_replace, unlocked_may_replace, replaced_settled}
 
--- ---- which wait is prepared is no part of what is lawful
+-- ---- which wait is prepared is no part of what is steady
 
 pub sound_prepared : (d : Dispatcher) (prepared : Option (ℕ × Wait)) → IsSound d → IsSound (with_prepared d prepared)
 sound_prepared d prepared sound = record {
@@ -51,11 +51,11 @@ sound_prepared d prepared sound = record {
   room = sound.room;
 }
 
-pub lawful_prepared : (d : Dispatcher) (prepared : Option (ℕ × Wait)) → IsLawful d → IsLawful (with_prepared d prepared)
-lawful_prepared d prepared lawful = record { sound = sound_prepared d prepared lawful.sound; settled = lawful.settled }
+pub steady_prepared : (d : Dispatcher) (prepared : Option (ℕ × Wait)) → IsSteady d → IsSteady (with_prepared d prepared)
+steady_prepared d prepared steady = record { sound = sound_prepared d prepared steady.sound; settled = steady.settled }
 
 pub fresh_prepared : (d : Dispatcher) (prepared : Option (ℕ × Wait)) → IsFresh d → IsFresh (with_prepared d prepared)
-fresh_prepared d prepared fresh = record { lawful = lawful_prepared d prepared fresh.lawful; no_grants = fresh.no_grants; untested = fresh.untested }
+fresh_prepared d prepared fresh = record { steady = steady_prepared d prepared fresh.steady; no_grants = fresh.no_grants; untested = fresh.untested }
 
 -- ---- one object that may be signaled
 
@@ -185,14 +185,14 @@ module _ (old calm : Dispatcher) (t h object ms : ℕ) (alertable : Bool)
   may = may_swap (state old) t h object ms alertable free
 
   replaced : MayReplace (object_at old.objects h) (signal (object_at old.objects h))
-  replaced = let lawful = fresh.lawful.sound.objects h in signal_may_replace (object_at old.objects h) t may.may may.owner lawful (lawful_signal (object_at old.objects h) may.within lawful)
+  replaced = let lawful = fresh.steady.sound.objects h in signal_may_replace (object_at old.objects h) t may.may may.owner lawful (lawful_signal (object_at old.objects h) may.within lawful)
 
-  pub calm_lawful : IsLawful calm
-  calm_lawful = replaced_settled old calm h (signal (object_at old.objects h)) fresh replaced served
+  pub calm_steady : IsSteady calm
+  calm_steady = replaced_settled old calm h (signal (object_at old.objects h)) fresh replaced served
 
   left : LeavesCaller (at (state old) h signal) (state calm) calm.grants t
   left =
-      let sound = sound_replaced old h (signal (object_at old.objects h)) old.owned fresh.lawful.sound replaced in
+      let sound = sound_replaced old h (signal (object_at old.objects h)) old.owned fresh.steady.sound replaced in
       serving_leaves old.threads (sequence (state old) served.handles) (at (state old) h signal) (state calm) calm.grants t served.serves.0 (sound.objects, sound.waits) caller.2
 
   pub calm_idle : fin.get calm.table.pending t ≡ None
@@ -220,14 +220,14 @@ module _ (old calm : Dispatcher) (t h object ms : ℕ) (alertable : Bool)
 
   pub calm_room : length calm.grants + fin.len calm.table.pending < calm.threads
   calm_room =
-      let room = room_to_begin old t (wait_for [] false) fresh.lawful.sound caller.0 caller.2 in
+      let room = room_to_begin old t (wait_for [] false) fresh.steady.sound caller.0 caller.2 in
       let fewer = left.fewer in
       let threads = left.threads in
       omega (arith, room, fewer, threads)
 
   -- the whole call
-  pub swap_accepted : (new : Dispatcher) (reply : Reply) → new.grants ≡ calm.grants → new.table.looked ≡ calm.table.looked → IsLawful new → (reply, state new) ≡ begun (state calm) t (wait_of calm.now (WaitCall.Swap h object ms alertable)) ms → Accepts old new t (Call.Wait (WaitCall.Swap h object ms alertable)) reply
-  swap_accepted new reply same looked lawful answers = record {
+  pub swap_accepted : (new : Dispatcher) (reply : Reply) → new.grants ≡ calm.grants → new.table.looked ≡ calm.table.looked → IsSteady new → (reply, state new) ≡ begun (state calm) t (wait_of calm.now (WaitCall.Swap h object ms alertable)) ms → Accepts old new t (Call.Wait (WaitCall.Swap h object ms alertable)) reply
+  swap_accepted new reply same looked steady answers = record {
     step = record {
       handles = served.handles;
       served = calm.grants;
@@ -236,11 +236,11 @@ module _ (old calm : Dispatcher) (t h object ms : ℕ) (alertable : Bool)
       woken = state calm;
       changed = served.changed;
       serves = served.serves;
-      alerts = no_alert (state calm) (state calm) refl calm_lawful.settled.alerted;
+      alerts = no_alert (state calm) (state calm) refl calm_steady.settled.alerted;
       in_order = same ∙ sym (append-nil calm.grants);
       answers = answers;
     };
-    lawful = lawful;
+    steady = steady;
     local = record {
       handles = served.handles;
       changed = served.changed;
@@ -252,7 +252,7 @@ module _ (old calm : Dispatcher) (t h object ms : ℕ) (alertable : Bool)
 -- ---- the prepared wait
 
 pub accepts_prepared : (old new : Dispatcher) (prepared : Option (ℕ × Wait)) (t : ℕ) (call : Call) (reply : Reply) → Accepts (with_prepared old prepared) new t call reply → Accepts old new t call reply
-accepts_prepared old new prepared t call reply accepts = record { step = accepts.step; lawful = accepts.lawful; local = accepts.local }
+accepts_prepared old new prepared t call reply accepts = record { step = accepts.step; steady = accepts.steady; local = accepts.local }
 
 pub distinct_one : (h : ℕ) → IsDistinct nat_eq (h ∷ [])
 unfolding IsDistinct

@@ -18,7 +18,7 @@ use Rattle.nt_core.specs.State.{object_at}
 use Rattle.nt_core.specs.Dispatcher.{Dispatcher, state}
 use Rattle.nt_core.specs.Serving.{IsChanged}
 use Rattle.nt_core.specs.Change.{timer_cancelled}
-use Rattle.nt_core.specs.Lawful.{IsSound, IsLawful}
+use Rattle.nt_core.specs.Lawful.{IsSound, IsSteady}
 use Rattle.nt_core.specs.Accepts.{IsFresh, Accepts}
 use Rattle.nt_core.proofs.Changing.{reading_set, limit_set, property_set, object_at-set_same, object_at-set_other, set_as_before, known_object, one_changed, same_changed, served_fewer, due_kept}
 use Rattle.nt_core.proofs.Accepting.{accepted}
@@ -274,16 +274,16 @@ signaled_cancelled (Mutex owner depth abandoned) u = refl
 signaled_cancelled (Timer manual was armed) u = refl
 signaled_cancelled (Thread ended) u = refl
 
-cancel_lawful : (d : Dispatcher) (h : ℕ) → IsLawful d → is_timer (object_at d.objects h) ≡ true → IsLawful (retimed d h (armed_with None (object_at d.objects h)) (record d.apcs { queues = withdrawn d.apcs.queues h }))
-cancel_lawful d h lawful is =
+cancel_steady : (d : Dispatcher) (h : ℕ) → IsSteady d → is_timer (object_at d.objects h) ≡ true → IsSteady (retimed d h (armed_with None (object_at d.objects h)) (record d.apcs { queues = withdrawn d.apcs.queues h }))
+cancel_steady d h steady is =
     let o = object_at d.objects h in
     let new = retimed d h (armed_with None o) (record d.apcs { queues = withdrawn d.apcs.queues h }) in
     record {
-      sound = retimed_sound d h (armed_with None o) (record d.apcs { queues = withdrawn d.apcs.queues h }) lawful.sound is (timer_cancelled_too o ∙ is) (length_withdrawn h d.apcs.queues) (λ t sets. nobody t (sym (unset_cancelled o is) ∙ sets)) (λ m other. refl);
+      sound = retimed_sound d h (armed_with None o) (record d.apcs { queues = withdrawn d.apcs.queues h }) steady.sound is (timer_cancelled_too o ∙ is) (length_withdrawn h d.apcs.queues) (λ t sets. nobody t (sym (unset_cancelled o is) ∙ sets)) (λ m other. refl);
       settled = record {
-        served = served_fewer (state d) (set d.objects h (armed_with None o)) lawful.settled.served (λ u k e. reading_set (λ x. signaled x u) d.objects h (armed_with None o) (signaled_cancelled o u) k ∙ e);
-        alerted = λ t alerted. lawful.settled.alerted t (alerted.0, alerted.1, and_kept (alerted.0).alertable (has_apc (withdrawn d.apcs.queues h) t) (has_apc d.apcs.queues t) (has_withdrawn h d.apcs.queues t) alerted.2);
-        passed = due_kept (state d) (state new) d.now (λ k. due k) refl lawful.settled.passed;
+        served = served_fewer (state d) (set d.objects h (armed_with None o)) steady.settled.served (λ u k e. reading_set (λ x. signaled x u) d.objects h (armed_with None o) (signaled_cancelled o u) k ∙ e);
+        alerted = λ t alerted. steady.settled.alerted t (alerted.0, alerted.1, and_kept (alerted.0).alertable (has_apc (withdrawn d.apcs.queues h) t) (has_apc d.apcs.queues t) (has_withdrawn h d.apcs.queues t) alerted.2);
+        passed = due_kept (state d) (state new) d.now (λ k. due k) refl steady.settled.passed;
       };
     }
   where
@@ -303,8 +303,8 @@ cancel_accepted old new t h fresh is becomes =
     let o : armed_with None (object_at old.objects h) ≡ Timer parts.0 parts.1 None = ap (armed_with None) parts.3 in
     let changed = timer_changed old.objects h parts.0 parts.1 parts.1 parts.2 None parts.3 in
     let changes = subst (λ (x : Object). AreRising (IsChanged old.objects (set old.objects h x)) changed.0) (sym o) changed.1 in
-    let lawful = cancel_lawful old h fresh.lawful is in
+    let steady = cancel_steady old h fresh.steady is in
     subst (λ (x : Dispatcher). Accepts old x t (Call.Act (Act.CancelTimer h)) Reply.Done) (sym becomes)
     (accepted old d d t (Call.Act (Act.CancelTimer h)) Reply.Done
-    (idle_served old (timer_cancelled (state old) h) d changed.0 fresh changes refl refl refl lawful)
-    refl refl refl lawful refl)
+    (idle_served old (timer_cancelled (state old) h) d changed.0 fresh changes refl refl refl steady)
+    refl refl refl steady refl)

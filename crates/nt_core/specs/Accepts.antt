@@ -18,7 +18,7 @@ use Rattle.nt_core.specs.Change.{change, all_expired, exited, IsTimerDue}
 use Rattle.nt_core.specs.Steps.{Step, MomentPasses}
 use Rattle.nt_core.specs.Dispatcher.{Dispatcher, state}
 use Rattle.nt_core.specs.Due.{due_weight, total_weight}
-use Rattle.nt_core.specs.Lawful.{IsSound, IsLawful}
+use Rattle.nt_core.specs.Lawful.{IsSound, IsSteady}
 
 -- whether the wait ended by objects: neither by an APC nor by its deadline
 abbrev pub is_by_objects : Grant → Bool
@@ -122,14 +122,14 @@ pub record IsExitedAfter (old : Dispatcher) (t : ℕ) (new : Dispatcher) (handle
   pub grants : new.grants ≡ old.grants
   pub table : new.table ≡ old.table
 
--- lawful, and nothing told yet of the call that comes
+-- steady, and nothing told yet of the call that comes
 pub record IsFresh (d : Dispatcher) : Type 0 where
-  pub lawful : IsLawful d
+  pub steady : IsSteady d
   pub no_grants : d.grants ≡ []
   pub untested : d.table.looked ≡ 0
 
--- the call is a step of the machine, local, and leaves the dispatcher lawful
+-- the call is a step of the machine, local, and leaves the dispatcher steady
 pub record Accepts (old new : Dispatcher) (t : ℕ) (call : Call) (reply : Reply) : Type 0 where
   pub step : Step (state old) t call reply new.grants (state new)
-  pub lawful : IsLawful new
+  pub steady : IsSteady new
   pub local : IsLocal (state old) t call new.table.looked new.grants

@@ -4,6 +4,7 @@ use Rattle.std.specs.Prelude.{◌≡◌, ℕ, ◌<◌, ◌≤◌, ◌+◌, true,
 use Rattle.std.specs.FinMap as map
 use Rattle.std.specs.FinMap.{get}
 use Rattle.nt_objects.specs.declared.object.Object.{Object}
+use Rattle.nt_owners.specs.Objects.{OwnersAgree}
 use Rattle.nt_objects.specs.Object.{IsLawfulObject, owned_by, has_room, has_ended, is_thread, due_of, setter_of}
 use Rattle.nt_waits.specs.declared.wait.Wait.{Wait}
 use Rattle.nt_waits.specs.Waits.{Names, Agrees}
@@ -55,9 +56,16 @@ pub record IsSound (d : Dispatcher) : Type 0 where
   -- each pending wait can be granted
   pub room : length d.grants + map.len (state d).waits ≤ d.threads
 
-pub record IsLawful (d : Dispatcher) : Type 0 where
+-- what each call and tick of the machine keeps; the table of the objects keeps the owners' lists by itself
+pub record IsSteady (d : Dispatcher) : Type 0 where
   pub sound : IsSound d
   pub settled : IsSettled (state d)
+
+-- what holds between any two calls
+pub record IsLawful (d : Dispatcher) : Type 0 where
+  pub steady : IsSteady d
+  -- mutexes and the lists of their owners name each other exactly
+  pub owners : OwnersAgree d.objects d.owned
 
 -- the object may take the place of the other: it is lawful, a thread's object stays one, a timer stays armed as it is, and
 -- no thread comes to hold a mutex at the greatest depth

@@ -5,7 +5,7 @@ ghost use Rattle.nt_core.specs.Calls.{act_creates, act_signals, act_grows};
 ghost use Rattle.nt_core.specs.Dispatcher.{state};
 ghost use Rattle.nt_core.specs.Refusals.{refusal, grows};
 ghost use Rattle.nt_core.specs.Steps.{Called};
-ghost use Rattle.nt_core.specs.Lawful.{IsLawful};
+ghost use Rattle.nt_core.specs.Lawful.{IsSteady};
 ghost use Rattle.nt_core.specs.Accepts.{IsFresh, IsLocal, Accepts};
 ghost use Rattle.nt_core.specs.declared.call.Call.{Call};
 
@@ -171,10 +171,10 @@ impl Machine {
         call: &Call,
         changed: &mut Vec<Handle>,
     ) -> Result<Reply, Refusal>
-        requires lawful { IsLawful self.old }
+        requires steady { IsSteady self.old }
         requires room { length self.old.objects ≤ vec_capacity changed.old }
         ensures called { Called (state self.old) who call.now result self.new.grants (state self.new) }
-        ensures lawful { IsLawful self.new }
+        ensures steady { IsSteady self.new }
         ensures local { OnOk result (IsLocal (state self.old) who call.now self.new.table.looked self.new.grants) }
         ensures untested { OnErr result (self.new.table.looked ≡ 0) }
         ensures room { length self.new.objects ≤ vec_capacity changed.new }

@@ -1,12 +1,12 @@
-ghost use Rattle.std.specs.Prelude.{◌≡◌, ◌≤◌, ◌+◌, [], length, IfOk, IfErr, OnOk, OnErr, MatchBool, nat_le, ◌&&◌};
+ghost use Rattle.std.specs.Prelude.{◌≡◌, ◌≤◌, ◌+◌, ℕ, true, false, [], length, IfOk, IfErr, OnOk, OnErr, MatchBool, nat_le, ◌&&◌};
 ghost use Rattle.std.specs.FinMap as map;
 ghost use Rattle.nt_status.specs.declared.refusal.Refusal.TheVariants.{InvalidParameter, Memory};
-ghost use Rattle.nt_owners.specs.Objects.{OwnersAgree};
 ghost use Rattle.nt_core.specs.State.{opening, pends};
 ghost use Rattle.nt_core.specs.Steps.{Called, Ticked};
 ghost use Rattle.nt_core.specs.Dispatcher.{state};
 ghost use Rattle.nt_core.specs.Lawful.{IsLawful};
 ghost use Rattle.nt_core.specs.Accepts.{IsLocal, IsTickLocal};
+ghost use Rattle.nt_core.specs.Moves.{Moves, IsMomentAfter, pended, is_wait};
 
 use crate::call::{Call, Grant, Reply};
 use crate::machine::Machine;
@@ -49,7 +49,7 @@ impl Core {
     /// Refused with 87 unless there are 1 to 256 threads, and with 8 where memory is refused.
     pub fn new(alloc: Global, threads: u32) -> Result<Core, Refusal>
         ensures ok { IfOk result (λ core. (1 ≤ threads) × (threads ≤ 256) × (state core ≡ opening threads) × (core.grants ≡ [])) }
-        ensures owners { IfOk result (λ core. OwnersAgree core.objects core.owned) }
+        ensures lawful { IfOk result (λ core. IsLawful core) }
         ensures err { IfErr result (λ r. MatchBool (nat_le 1 threads && nat_le threads 256) (r ≡ Memory) (r ≡ InvalidParameter)) }
     {
         if threads == 0 || threads > 256 {
@@ -74,7 +74,9 @@ impl Core {
         ensures local { OnOk result (IsLocal (state self.old) who call.now self.new.table.looked self.new.grants) }
         ensures most { length self.new.grants ≤ map.len (state self.old).waits }
         ensures few { length self.new.grants + map.len (state self.new).waits ≤ map.len (state self.old).waits + 1 }
-        ensures owners { OwnersAgree self.new.objects self.new.owned }
+        ensures moves { Moves (state self.old) who (pended result) self.new.grants (state self.new) }
+        ensures waits { pended result ≡ true → is_wait call.now ≡ true }
+        ensures moment { (state self.new).now ≡ (state self.old).now }
         ensures untested { OnErr result (self.new.table.looked ≡ 0) }
     {
         let result = self.machine.call(who, call, &mut self.changed);
@@ -91,7 +93,9 @@ impl Core {
         ensures lawful { IsLawful self.new }
         ensures local { OnOk result (IsTickLocal (state self.old) m self.new.table.looked self.new.grants) }
         ensures few { length self.new.grants + map.len (state self.new).waits ≡ map.len (state self.old).waits }
-        ensures owners { OwnersAgree self.new.objects self.new.owned }
+        ensures moves { (by : ℕ) → Moves (state self.old) by false self.new.grants (state self.new) }
+        ensures waits { pended result ≡ false }
+        ensures moment { IsMomentAfter (state self.old).now m result (state self.new).now }
         ensures untested { OnErr result (self.new.table.looked ≡ 0) }
     {
         let result = self.machine.tick(m, &mut self.changed, &mut self.alerted);

@@ -7,7 +7,7 @@ ghost use Rattle.nt_core.specs.State.{pends, opening};
 ghost use Rattle.nt_core.specs.Dispatcher.{state};
 ghost use Rattle.nt_core.specs.Serving.{sequence, Serve};
 ghost use Rattle.nt_core.specs.Visits.{IsVisited, Visits, FitOnlyIn};
-ghost use Rattle.nt_core.specs.Lawful.{IsSound, IsLawful};
+ghost use Rattle.nt_core.specs.Lawful.{IsSound, IsSteady};
 ghost use Rattle.nt_core.specs.Accepts.{IsFresh};
 
 use crate::call::Grant;
@@ -62,7 +62,7 @@ impl Machine {
         requires { threads ≤ 256 }
         ensures opening { IfOk result (λ m. state m ≡ opening threads) }
         ensures grants { IfOk result (λ m. m.grants ≡ []) }
-        ensures lawful { IfOk result (λ m. IsLawful m) }
+        ensures steady { IfOk result (λ m. IsSteady m) }
         ensures memory { IfErr result (λ refusal. refusal ≡ Memory) }
     {
         let count = threads as usize;
@@ -153,7 +153,7 @@ impl Machine {
 impl Machine {
     /// Nothing is told yet of the call or tick that comes.
     pub fn tell_anew(&mut self)
-        requires { IsLawful self.old }
+        requires { IsSteady self.old }
         ensures state { state self.new ≡ state self.old }
         ensures fresh { IsFresh self.new }
     {
@@ -188,7 +188,7 @@ impl Machine {
     }
 
     pub fn is_waiting(&self, thread: u32) -> bool
-        requires { IsLawful self.now }
+        requires { IsSteady self.now }
         ensures { result ≡ pends (state self.now) thread }
     {
         thread < self.threads && self.waits.about(ThreadId::new(thread as u16)).is_some()

@@ -8,7 +8,7 @@ ghost use Rattle.nt_core.specs.State.{pends, wait_over};
 ghost use Rattle.nt_core.specs.Dispatcher.{state};
 ghost use Rattle.nt_core.specs.Serving.{ending, late_status, sleeps, IsServed, IsAlerted};
 ghost use Rattle.nt_core.specs.Steps.{IsNextMoment, NothingDue, Ticked};
-ghost use Rattle.nt_core.specs.Lawful.{IsSound, IsLawful};
+ghost use Rattle.nt_core.specs.Lawful.{IsSound, IsSteady};
 ghost use Rattle.nt_core.specs.Accepts.{IsTimedOutAfter, IsAlertedAfter, IsExpiredAfter, IsPassedAfter, IsTickLocal};
 
 use crate::call::{Grant, Reply};
@@ -130,11 +130,11 @@ impl Machine {
         changed: &mut Vec<Handle>,
         alerted: &mut Alarms,
     ) -> Result<Reply, Refusal>
-        requires lawful { IsLawful self.old }
+        requires steady { IsSteady self.old }
         requires room { length self.old.objects ≤ vec_capacity changed.old }
         requires marks { length alerted.old ≡ 256 }
         ensures ticked { Ticked (state self.old) m result self.new.grants (state self.new) }
-        ensures lawful { IsLawful self.new }
+        ensures steady { IsSteady self.new }
         ensures local { OnOk result (IsTickLocal (state self.old) m self.new.table.looked self.new.grants) }
         ensures untested { OnErr result (self.new.table.looked ≡ 0) }
         ensures room { length self.new.objects ≤ vec_capacity changed.new }

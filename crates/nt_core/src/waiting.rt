@@ -10,7 +10,7 @@ ghost use Rattle.nt_core.specs.Serving.{late_status, wait_for, fits, status, tak
 ghost use Rattle.nt_core.specs.Steps.{begun, wait_of};
 ghost use Rattle.nt_core.specs.Refusals.{refusal, grows, would_pend};
 ghost use Rattle.nt_core.specs.declared.call.Call.{Call};
-ghost use Rattle.nt_core.specs.Lawful.{IsSoundWait, IsSound, IsLawful};
+ghost use Rattle.nt_core.specs.Lawful.{IsSoundWait, IsSound, IsSteady};
 ghost use Rattle.nt_core.specs.Accepts.{IsFresh, Accepts};
 
 use crate::call::{Reply, WaitCall};
@@ -64,10 +64,10 @@ impl Machine {
 
     /// Whether the thread may take its APCs from now on.
     pub(crate) fn hand(&mut self, thread: ThreadId, may: bool)
-        requires lawful { IsLawful self.old }
+        requires steady { IsSteady self.old }
         requires known { thread < self.old.threads }
         ensures handing { self.new ≡ record self.old { handing = slice_set self.old.handing thread may } }
-        ensures lawful { IsLawful self.new }
+        ensures steady { IsSteady self.new }
     {
         self.handing[thread.get() as usize] = may;
     }
@@ -85,11 +85,11 @@ impl Machine {
     fn take_now(&mut self, thread: ThreadId, handles: &[Handle], all: bool) -> Option<Status>
         requires idle { map.get self.old.table.pending thread ≡ None }
         requires able { IsSoundWait self.old.threads self.old.objects thread (wait_for handles.now all) }
-        requires lawful { IsLawful self.old }
+        requires steady { IsSteady self.old }
         ensures fits { is_some result ≡ fits self.old.objects thread (wait_for handles.now all) }
         ensures status { IfSome result (λ code. code ≡ status self.old.objects thread (wait_for handles.now all)) }
         ensures taken { OnSome result (state self.new ≡ taken_by (state self.old) thread (wait_for handles.now all)) }
-        ensures lawful { IsLawful self.new }
+        ensures steady { IsSteady self.new }
         ensures grants { self.new.grants ≡ self.old.grants }
         ensures table { self.new.table ≡ self.old.table }
         ensures none { IfNone result (self.new ≡ self.old) }
@@ -111,10 +111,10 @@ impl Machine {
     ) -> Option<Status>
         requires idle { map.get self.old.table.pending thread ≡ None }
         requires able { IsSoundWait self.old.threads self.old.objects thread (wait_for handles.now all) }
-        requires lawful { IsLawful self.old }
+        requires steady { IsSteady self.old }
         ensures begun { IfSome result (λ code. (deadline : Option ℕ) → (Reply.Status code, state self.new) ≡ begun (state self.old) thread (record { handles = handles.now; all = all; alertable = alertable; deadline = deadline }) ms) }
         ensures pends { IfNone result ((fits self.old.objects thread (wait_for handles.now all) ≡ false) × ((alertable && has_apc self.old.apcs.queues thread) ≡ false) × (ms ≢ 0)) }
-        ensures lawful { IsLawful self.new }
+        ensures steady { IsSteady self.new }
         ensures grants { self.new.grants ≡ self.old.grants }
         ensures table { self.new.table ≡ self.old.table }
         ensures none { IfNone result (self.new ≡ self.old) }
@@ -146,9 +146,9 @@ impl Machine {
         requires idle { map.get self.old.table.pending thread ≡ None }
         requires able { IsSoundWait self.old.threads self.old.objects thread (wait_for handles.now all) }
         requires room { length self.old.grants + map.len self.old.table.pending < self.old.threads }
-        requires lawful { IsLawful self.old }
+        requires steady { IsSteady self.old }
         ensures begun { IfOk result (λ reply. (reply, state self.new) ≡ begun (state self.old) thread (record { handles = handles.now; all = all; alertable = alertable; deadline = deadline_after self.old.now ms }) ms) }
-        ensures lawful { IsLawful self.new }
+        ensures steady { IsSteady self.new }
         ensures grants { self.new.grants ≡ self.old.grants }
         ensures looked { self.new.table.looked ≡ self.old.table.looked }
         ensures grows { OnErr result (IsTrue (would_pend (state self.old) thread (record { handles = handles.now; all = all; alertable = alertable; deadline = deadline_after self.old.now ms }) ms)) }

@@ -4,14 +4,11 @@ use Rattle.std.specs.List.{sum_by}
 use Rattle.std.proofs.lemmas.List.Sums.{sum_by-append}
 use Rattle.nt_core.specs.State.{State, opening}
 use Rattle.nt_core.specs.Runs.{Turn, Turns}
+use Rattle.nt_core.proofs.Runs.{turns-append}
 use Rattle.nt_script.specs.declared.tally.Tally.{Tally}
 use Rattle.nt_script.specs.Scope.{Scope}
 use Rattle.nt_script.specs.Transcript.{Transcript, LineGives}
 use Rattle.nt_script.specs.Progress.{Progress, Goes, Ran, Advances, CarriedOut, scope_of, tally_of, add_tally, is_refused, granted_by}
-
-pub Turns-then : (a b c : State) (first more : List Turn) → Turns a first b → Turns b more c → Turns a (first ++ more) c
-Turns-then a b c [] more p q = subst (λ (s : State). Turns s more c) p q
-Turns-then a b c (turn ∷ turns) more p q = (p.0, p.1, Turns-then p.0 b c turns more p.2 q)
 
 pub Transcript-then : (line : ℕ) (a b c : Option Scope) (lines : List (List ℕ)) (turns : List Turn) (text : List ℕ) (bytes : List ℕ) (more : List Turn) (more_text : List ℕ)
     → Transcript line a lines turns text b → LineGives (line + length lines) bytes b more more_text c
@@ -53,7 +50,7 @@ ran-then number bytes turns more text None (Some new) p gives goes =
     (subst (λ (all : List Turn). Turns (opening new.scope.threads) all new.state) (sym none) goes.state, goes.tally ∙ ap tally_of (sym none))
 ran-then number bytes turns more text (Some old) None p gives goes = absurd goes
 ran-then number bytes turns more text (Some old) (Some new) p gives goes = (
-  Turns-then (opening new.scope.threads) old.state new.state turns more (subst (λ (n : ℕ). Turns (opening n) turns old.state) (sym goes.threads) p.0) goes.run,
+  turns-append (opening new.scope.threads) old.state new.state turns more (subst (λ (n : ℕ). Turns (opening n) turns old.state) (sym goes.threads) p.0) goes.run,
   goes.tally ∙ ap (λ (tally : Tally). add_tally tally (tally_of more)) p.1 ∙ tally-then turns more,
 )
 

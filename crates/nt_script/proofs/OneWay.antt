@@ -17,7 +17,7 @@ use Rattle.nt_script.specs.Running.{end_of, summary_of}
 use Rattle.nt_script.specs.Laws.{is_want, HadMemory, OutputIsAFunctionOfTheInput}
 use Rattle.nt_script.specs.declared.parser.Statement.{Statement}
 use Rattle.nt_script.specs.declared.parser.Statement.TheVariants.{Blank, Create, Perform, Tick}
-use Rattle.nt_script.proofs.Carrying.{Turns-then}
+use Rattle.nt_core.proofs.Runs.{turns-append}
 use Rattle.nt_script.proofs.Recognizing.{one_statement, one_opening, blank_opens_none}
 
 abbrev Texts : Type 0
@@ -119,7 +119,7 @@ module _ (one_way : RunsOneWay) (n : ℕ) where
       let carried = subst (λ (st : Statement). IsCarriedOut line st scope other text' after') same q.2 in
       let asks = asks_same line p.0 scope first other text text' after after' p.2 carried h k in
       let questions : map question (before ++ first) ≡ map question (before ++ other) = map-append question before first ∙ ap (λ asked. map question before ++ asked) asks ∙ sym (map-append question before other) in
-      let all = one_way n (before ++ first) (before ++ other) a b (Turns-then (opening n) s a before first run x) (Turns-then (opening n) s b before other run y) questions in
+      let all = one_way n (before ++ first) (before ++ other) a b (turns-append (opening n) s a before first run x) (turns-append (opening n) s b before other run y) questions in
       let turns = append_cancel_left before first other all.0 in
       let writes = writes_same line p.0 scope first other text text' after after' p.2 carried turns in
       record { in_turns = turns; in_text = writes.0; in_scope = writes.1; in_state = all.1 }
@@ -144,7 +144,7 @@ module _ (one_way : RunsOneWay) (n : ℕ) where
           let had = subst HadMemory p.5 h in
           let had' = subst HadMemory q.5 k in
           let here = one_line line bytes scope before p.0 q.0 p.2 q.2 mid mid' s xs.0 ys.0 run xs.1 ys.1 gives gives' (had_first p.0 p.1 had) (had_first q.0 q.1 had') in
-          let behind = rest mid after after' (before ++ p.0) p.1 q.1 p.3 q.3 xs.0 a b (Turns-then (opening n) s xs.0 before p.0 run xs.1) xs.2
+          let behind = rest mid after after' (before ++ p.0) p.1 q.1 p.3 q.3 xs.0 a b (turns-append (opening n) s xs.0 before p.0 run xs.1) xs.2
           (subst (λ (s : State). Turns s q.1 b) (sym here.in_state) ys.2) more (subst (λ (mid : Scope). Transcript (line + 1) (Some mid) lines q.1 q.3 (Some after')) (sym here.in_scope) more')
           (had_more p.0 p.1 had) (had_more q.0 q.1 had') in
           record {

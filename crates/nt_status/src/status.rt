@@ -1,4 +1,4 @@
-ghost use Rattle.std.specs.Prelude.{◌≡◌, ◌<◌, IsTrue};
+ghost use Rattle.std.specs.Prelude.{◌≡◌, ◌<◌, ◌↔◌, IsTrue, IsSome, IfSome};
 ghost use Rattle.nt_status.specs.Status.{object_code, abandoned_code, is_status_code};
 
 use std::marker::Model;
@@ -42,6 +42,18 @@ impl Status {
         ensures { result ≡ abandoned_code index }
     {
         Status(0x80 + index)
+    }
+
+    /// The status with this code. None where no wait ends with it.
+    pub fn from_code(code: u32) -> Option<Self>
+        ensures known { IsSome result ↔ IsTrue (is_status_code code) }
+        ensures value { IfSome result (λ status. status ≡ code) }
+    {
+        if code < 64 || (0x80 <= code && code < 0xC0) || code == 0xC0 || code == 0x102 {
+            Some(Status(code))
+        } else {
+            None
+        }
     }
 
     /// The number that the wait functions answer.

@@ -34,6 +34,14 @@ fn statuses_have_their_codes(rt: HostRuntime) {
         (Status::TIMEOUT, 0x0000_0102),
     ] {
         assert_eq!(rt; status.code(), code);
+        assert_eq!(rt; Status::from_code(code), Some(status));
+    }
+}
+
+#[test]
+fn other_codes_are_no_statuses(rt: HostRuntime) {
+    for code in [0x40, 0x7F, 0xC1, 0x101, 0x103, 0xFFFF_FFFF] {
+        assert_eq!(rt; Status::from_code(code), None);
     }
 }
 

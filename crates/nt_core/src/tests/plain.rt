@@ -7,7 +7,7 @@ ghost use Rattle.nt_core.specs.Dispatcher.{Dispatcher, state};
 ghost use Rattle.nt_core.specs.Serving.{sequence, Serve};
 ghost use Rattle.nt_core.specs.Visits.{IsGranted, IsPassed, FitOnlyIn};
 ghost use Rattle.nt_core.specs.Plain.{IsFirstGranted, IsNoneGranted};
-ghost use Rattle.nt_core.specs.Lawful.{IsSound, IsLawful, MayReplace};
+ghost use Rattle.nt_core.specs.Lawful.{IsSound, IsSteady, MayReplace};
 ghost use Rattle.nt_core.specs.Accepts.{IsFresh};
 
 use crate::machine::Machine;
@@ -130,7 +130,7 @@ fn signaled_at(machine: &Machine, handle: Handle) -> Option<Object>
 
 /// Signals the object, where it can be, and serves the waits that name it plainly. Tells whether it could be.
 fn signal_plainly(machine: &mut Machine, handle: Handle) -> bool
-    requires { IsLawful machine.old }
+    requires { IsSteady machine.old }
 {
     machine.tell_anew();
     let Some(object) = signaled_at(machine, handle) else {
@@ -142,7 +142,7 @@ fn signal_plainly(machine: &mut Machine, handle: Handle) -> bool
 
 /// The same, but the waits are served as in each call, by one walk.
 fn signal(machine: &mut Machine, handle: Handle) -> bool
-    requires { IsLawful machine.old }
+    requires { IsSteady machine.old }
 {
     machine.tell_anew();
     let Some(object) = signaled_at(machine, handle) else {
@@ -155,7 +155,7 @@ fn signal(machine: &mut Machine, handle: Handle) -> bool
 /// A machine after the calls of these lines.
 fn machine_after(rt: &impl Host, threads: u32, lines: &[ScriptLine]) -> Result<Machine, Refusal>
     requires { threads ≤ 256 }
-    ensures { IfOk result (λ machine. IsLawful machine) }
+    ensures { IfOk result (λ machine. IsSteady machine) }
 {
     let mut machine = Machine::new(rt.alloc(), threads)?;
     let mut changed = Vec::with_capacity(rt.alloc(), threads as usize)?;

@@ -20,8 +20,8 @@ returns-clause-begun c =
     let becomes : state c.pend.new.self ≡ pending_too (state old) c.args.thread w = c.in_ok-pend.ensures.state ∙ (λ i. pending_too (state (same i)) c.args.thread (record { handles = handles i; all = c.args.all; alertable = c.args.alertable; deadline = deadline i })) in
     ap (λ (s : State). (Reply.Pended, s)) becomes ∙ sym (begun_pends (state old) c.args.thread w c.args.ms pends.0 pends.1 pends.2)
 
-pub returns-clause-lawful : goal.returns-clause-lawful
-returns-clause-lawful c =
+pub returns-clause-steady : goal.returns-clause-steady
+returns-clause-steady c =
     let d = c.end_at_once.new.self in
     let w : Wait = record { handles = c.in_ok-from_slice.field-0; all = c.args.all; alertable = c.args.alertable; deadline = c.deadline_after.result } in
     let same = c.in_default.ensures.none in
@@ -30,4 +30,4 @@ returns-clause-lawful c =
     subst (λ (hs : List ℕ). fits d.objects c.args.thread (wait_for hs c.args.all) ≡ false) (sym c.in_ok-from_slice.ensures) (subst (λ (x : Dispatcher). fits x.objects c.args.thread (wait_for c.args.handles.now c.args.all) ≡ false) (sym same) pends.0) in
     let quiet : (w.alertable && has_apc d.apcs.queues c.args.thread) ≡ false = subst (λ (x : Dispatcher). (c.args.alertable && has_apc x.apcs.queues c.args.thread) ≡ false) (sym same) pends.1 in
     let deadline : w.deadline ≡ deadline_after d.now c.args.ms = c.deadline_after.ensures ∙ ap (λ (x : Dispatcher). deadline_after x.now c.args.ms) c.self.view_is in
-    began_pending d c.pend.new.self c.args.thread c.args.ms w c.end_at_once.ensures.lawful unfit quiet pends.2 deadline c.in_ok-pend.ensures.state c.pend.ensures.sound
+    began_pending d c.pend.new.self c.args.thread c.args.ms w c.end_at_once.ensures.steady unfit quiet pends.2 deadline c.in_ok-pend.ensures.state c.pend.ensures.sound

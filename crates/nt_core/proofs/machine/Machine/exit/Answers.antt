@@ -15,7 +15,7 @@ use Rattle.nt_core.proofs.Ending.{exited_fit, exited_few, exited_accepted}
 use Rattle.nt_core.proofs.machine.Machine.exit.Goals as goal
 
 pub leave-requires : goal.leave-requires
-leave-requires c = record { sound = c.requires.fresh.lawful.sound; idle = c.requires.idle; known = c.requires.known; runs = c.requires.runs; room = c.requires.room }
+leave-requires c = record { sound = c.requires.fresh.steady.sound; idle = c.requires.idle; known = c.requires.known; runs = c.requires.runs; room = c.requires.room }
 
 pub serve-requires : goal.serve-requires
 serve-requires c =
@@ -23,11 +23,11 @@ serve-requires c =
     let mid = c.leave.new.self in
     let t = c.args.thread in
     let left = c.leave.ensures.left in
-    let sound = c.requires.fresh.lawful.sound in
+    let sound = c.requires.fresh.steady.sound in
     let handles = c.leave.new.changed.items in
     let items : c.as_slice.result.now ≡ handles = c.as_slice.ensures.value in
     let changed : AreRising (IsChanged old.objects (objects_left old.objects t)) handles = subst (λ (os : List Object). AreRising (IsChanged old.objects os) handles) (ap (λ (s : State). s.objects) left.becomes) left.changed in
-    let fit : FitOnlyIn (sequence (state mid) handles) (state mid) = subst (λ (s : State). FitOnlyIn (sequence s handles) s) (sym left.becomes) (exited_fit old t handles c.requires.fresh.lawful c.requires.known c.requires.runs changed) in
+    let fit : FitOnlyIn (sequence (state mid) handles) (state mid) = subst (λ (s : State). FitOnlyIn (sequence s handles) s) (sym left.becomes) (exited_fit old t handles c.requires.fresh.steady c.requires.known c.requires.runs changed) in
     let few : length (sequence (state mid) handles) < 2 ^ 64 = subst (λ (s : State). length (sequence s handles) < 2 ^ 64) (sym left.becomes) (exited_few old t handles sound changed) in
     record {
       sound = c.leave.ensures.sound;

@@ -5,15 +5,15 @@ use Rattle.nt_waits.specs.Waits.{queue_of}
 use Rattle.nt_core.specs.State.{opening}
 use Rattle.nt_core.specs.Dispatcher.{state, dispatcher_of}
 use Rattle.nt_core.proofs.Visiting.{state_same}
-use Rattle.nt_core.proofs.Accepting.{opening_lawful}
+use Rattle.nt_core.proofs.Accepting.{opening_steady}
 use Rattle.nt_core.proofs.machine.Machine.new.Goals as goal
 
-pub returns-clause-lawful : goal.returns-clause-lawful
-returns-clause-lawful c =
+pub returns-clause-steady : goal.returns-clause-steady
+returns-clause-steady c =
     let d = dispatcher_of c.args.threads c.in_ok-objects.objects.items c.in_ok-objects.objects.owned c.new-waits.result c.in_ok-apcs.apcs c.in_ok-handing.handing.items 0 c.in_ok-grants.grants.items c.in_ok-alarms.alarms in
     let hands : length c.in_ok-handing.handing.items ≡ c.args.threads = ap (λ hs. length hs) c.in_ok-handing.ensures ∙ length-replicate c.args.threads false in
     let inboxes : length c.in_ok-apcs.apcs.queues ≡ c.args.threads = ap (λ qs. length qs) c.in_ok-apcs.ensures.queues ∙ length-replicate c.args.threads [] in
-    opening_lawful d c.requires c.in_ok-objects.ensures.items c.new-waits.ensures.pending c.new-waits.ensures.agrees hands inboxes c.in_ok-grants.ensures.items c.in_ok-alarms.ensures
+    opening_steady d c.requires c.in_ok-objects.ensures.items c.new-waits.ensures.pending c.new-waits.ensures.agrees hands inboxes c.in_ok-grants.ensures.items c.in_ok-alarms.ensures
 
 pub returns-clause-opening : goal.returns-clause-opening
 returns-clause-opening c =

@@ -7,7 +7,7 @@ use Rattle.nt_core.specs.declared.call.Act.{Act}
 use Rattle.nt_core.specs.declared.call.Reply.{Reply}
 use Rattle.nt_core.specs.Dispatcher.{Dispatcher, state}
 use Rattle.nt_core.specs.Change.{may_take}
-use Rattle.nt_core.specs.Lawful.{IsLawful}
+use Rattle.nt_core.specs.Lawful.{IsSteady}
 use Rattle.nt_core.specs.Accepts.{Accepts}
 use Rattle.nt_core.proofs.Alerting.{taken_accepted, untaken_accepted}
 use Rattle.nt_core.proofs.machine.Machine.next_apc.Goals as goal
@@ -25,4 +25,4 @@ returns-else-may_take c =
     let old = c.args.self.now in
     let may : may_take (state old) c.args.thread ≡ false = sym c.may_take.ensures ∙ c.if-may_take.false in
     subst (λ (d : Dispatcher). Accepts old d c.args.thread (Call.Act Act.NextApc) (Reply.Apc None)) (sym c.hand.ensures.handing)
-    (untaken_accepted old c.args.thread c.requires.fresh may (subst IsLawful c.hand.ensures.handing c.hand.ensures.lawful))
+    (untaken_accepted old c.args.thread c.requires.fresh may (subst IsSteady c.hand.ensures.handing c.hand.ensures.steady))

@@ -12,13 +12,13 @@ pub alert-requires-clause-sound : goal.alert-requires-clause-sound
 alert-requires-clause-sound c =
     let old = c.args.self.now in
     let q : Queued = record { apc = record { routine = c.args.routine; arg = c.args.arg; at = None }; timer = None } in
-    subst IsSound (sym c.in_ok-post.ensures.ok) (posted_sound old c.new-target.result q c.requires.fresh.lawful.sound)
+    subst IsSound (sym c.in_ok-post.ensures.ok) (posted_sound old c.new-target.result q c.requires.fresh.steady.sound)
 
 pub alert-requires-clause-alone : goal.alert-requires-clause-alone
 alert-requires-clause-alone c =
     let old = c.args.self.now in
     let q : Queued = record { apc = record { routine = c.args.routine; arg = c.args.arg; at = None }; timer = None } in
-    subst (λ (d : Dispatcher). (u : ℕ) → IsAlerted (state d) u → u ≡ c.new-target.result) (sym c.in_ok-post.ensures.ok) (alone_pushed old c.new-target.result q c.requires.fresh.lawful.settled.alerted)
+    subst (λ (d : Dispatcher). (u : ℕ) → IsAlerted (state d) u → u ≡ c.new-target.result) (sym c.in_ok-post.ensures.ok) (alone_pushed old c.new-target.result q c.requires.fresh.steady.settled.alerted)
 
 pub returns-clause-ok : goal.returns-clause-ok
 returns-clause-ok c =

@@ -17,7 +17,7 @@ returns c =
     let o = object_at old.objects c.args.mutex in
     let made = c.in-Ok.ensures in
     let becomes : c.release_mutex.new.self ≡ unlocked o = made.ok ∙ ap unlocked c.object-object.ensures in
-    let before : IsLawfulObject o = c.requires.fresh.lawful.sound.objects c.args.mutex in
+    let before : IsLawfulObject o = c.requires.fresh.steady.sound.objects c.args.mutex in
     let lawful : IsLawfulObject (unlocked o) = subst IsLawfulObject becomes (made.lawful (subst IsLawfulObject (sym c.object-object.ensures) before)) in
     let after : IsServedAfter old (at (state old) c.args.mutex (λ _. unlocked o)) c.replace.new.self = subst (λ (x : Object). IsServedAfter old (at (state old) c.args.mutex (λ _. x)) c.replace.new.self) becomes c.replace.ensures.served in
     replaced_accepted old c.replace.new.self c.args.thread c.args.mutex (unlocked o) (Call.Act (Act.ReleaseMutex c.args.mutex)) Reply.Done c.requires.fresh

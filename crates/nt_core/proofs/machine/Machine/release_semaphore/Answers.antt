@@ -22,7 +22,7 @@ returns c =
     let made = c.in-Ok.ensures in
     let count : to_z w32 (of_z w32 c.args.count) ≡ c.args.count = to_z-of_z w32 c.args.count c.ranges.count in
     let becomes : c.release_semaphore.new.self ≡ released c.args.count o = made.ok ∙ (ap (λ (z : ℤ). released z c.object-object.result) count ∙ ap (λ (x : Object). released c.args.count x) c.object-object.ensures) in
-    let lawful : IsLawfulObject (released c.args.count o) = subst IsLawfulObject becomes (made.lawful (subst IsLawfulObject (sym c.object-object.ensures) (c.requires.fresh.lawful.sound.objects c.args.semaphore))) in
+    let lawful : IsLawfulObject (released c.args.count o) = subst IsLawfulObject becomes (made.lawful (subst IsLawfulObject (sym c.object-object.ensures) (c.requires.fresh.steady.sound.objects c.args.semaphore))) in
     let after : IsServedAfter old (at (state old) c.args.semaphore (λ _. released c.args.count o)) c.replace.new.self = subst (λ (x : Object). IsServedAfter old (at (state old) c.args.semaphore (λ _. x)) c.replace.new.self) becomes c.replace.ensures.served in
     let previous : c.in-Ok.previous ≡ count_of o = made.previous ∙ ap count_of c.object-object.ensures in
     let reading : to_z w32 (of_z w32 c.in-Ok.previous) ≡ c.in-Ok.previous = (let k = c.release_semaphore.type_inv in let m = c.in-Ok.is in to_z-of_z w32 c.in-Ok.previous (search (rules, k))) in

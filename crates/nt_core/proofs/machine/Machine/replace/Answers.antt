@@ -9,15 +9,15 @@ use Rattle.nt_core.proofs.machine.Machine.replace.Goals as goal
 
 pub serve-requires-clause-sound : goal.serve-requires-clause-sound
 serve-requires-clause-sound c =
-    subst IsSound (sym c.exchange_owned.ensures) (sound_replaced c.args.self.now c.args.handle c.args.object c.exchange_owned.new.self.owned c.requires.fresh.lawful.sound c.requires.may)
+    subst IsSound (sym c.exchange_owned.ensures) (sound_replaced c.args.self.now c.args.handle c.args.object c.exchange_owned.new.self.owned c.requires.fresh.steady.sound c.requires.may)
 
 pub serve-requires-clause-local : goal.serve-requires-clause-local
 serve-requires-clause-local c =
-    subst (λ (x : Dispatcher). FitOnlyIn (sequence (state x) (c.args.handle ∷ [])) (state x)) (sym c.exchange_owned.ensures) (replaced_fit c.args.self.now c.args.handle c.args.object c.requires.fresh.lawful)
+    subst (λ (x : Dispatcher). FitOnlyIn (sequence (state x) (c.args.handle ∷ [])) (state x)) (sym c.exchange_owned.ensures) (replaced_fit c.args.self.now c.args.handle c.args.object c.requires.fresh.steady)
 
 pub serve-requires-clause-countable : goal.serve-requires-clause-countable
 serve-requires-clause-countable c =
-    subst (λ (x : Dispatcher). length (sequence (state x) (c.args.handle ∷ [])) < 2 ^ 64) (sym c.exchange_owned.ensures) (one_few c.args.self.now c.args.handle c.requires.fresh.lawful.sound)
+    subst (λ (x : Dispatcher). length (sequence (state x) (c.args.handle ∷ [])) < 2 ^ 64) (sym c.exchange_owned.ensures) (one_few c.args.self.now c.args.handle c.requires.fresh.steady.sound)
 
 pub returns-clause-served : goal.returns-clause-served
 returns-clause-served c =

@@ -10,10 +10,10 @@ use Rattle.nt_core.specs.Dispatcher.{Dispatcher, state, with_prepared}
 use Rattle.nt_core.specs.Serving.{wait_for}
 use Rattle.nt_core.specs.Refusals.{refusal}
 use Rattle.nt_core.specs.Steps.{begun, wait_of}
-use Rattle.nt_core.specs.Lawful.{IsSoundWait, IsLawful}
+use Rattle.nt_core.specs.Lawful.{IsSoundWait, IsSteady}
 use Rattle.nt_core.specs.Accepts.{IsFresh, Accepts}
 use Rattle.nt_core.proofs.Beginning.{began_pending, begun_pends}
-use Rattle.nt_core.proofs.Swapping.{fresh_prepared, lawful_prepared, calm_lawful, calm_idle, calm_now, calm_able, calm_room, swap_accepted, accepts_prepared}
+use Rattle.nt_core.proofs.Swapping.{fresh_prepared, steady_prepared, calm_steady, calm_idle, calm_now, calm_able, calm_room, swap_accepted, accepts_prepared}
 use Rattle.nt_core.proofs.machine.Machine.swap.Goals as goal
 use Rattle.nt_core.proofs.machine.Machine.swap.Goals.{In_ok-prepare, In_default}
 
@@ -37,10 +37,10 @@ end_at_once-requires-clause-able c =
     let here = (goal.at.end_at_once-requires-clause-able c).In_ok-prepare in
     calm_able c.prepare.new.self c.signal.new.self c.args.thread c.args.signal c.args.object c.args.ms c.args.alertable (fresh here) (free here) c.signal.ensures.served (wait_for (c.args.object ∷ []) false) refl
 
-pub end_at_once-requires-clause-lawful : goal.end_at_once-requires-clause-lawful
-end_at_once-requires-clause-lawful c =
-    let here = (goal.at.end_at_once-requires-clause-lawful c).In_ok-prepare in
-    calm_lawful c.prepare.new.self c.signal.new.self c.args.thread c.args.signal c.args.object c.args.ms c.args.alertable (fresh here) (free here) c.signal.ensures.served
+pub end_at_once-requires-clause-steady : goal.end_at_once-requires-clause-steady
+end_at_once-requires-clause-steady c =
+    let here = (goal.at.end_at_once-requires-clause-steady c).In_ok-prepare in
+    calm_steady c.prepare.new.self c.signal.new.self c.args.thread c.args.signal c.args.object c.args.ms c.args.alertable (fresh here) (free here) c.signal.ensures.served
 
 -- the wait ended at once
 pub returns-in-Some-clause-ok : goal.returns-in-Some-clause-ok
@@ -54,7 +54,7 @@ returns-in-Some-clause-ok c =
     let call = Call.Wait (WaitCall.Swap c.args.signal c.args.object c.args.ms c.args.alertable) in
     let w = wait_of calm.now (WaitCall.Swap c.args.signal c.args.object c.args.ms c.args.alertable) in
     let accepted = swap_accepted mid calm c.args.thread c.args.signal c.args.object c.args.ms c.args.alertable (fresh here) (free here) c.signal.ensures.served new (Reply.Status c.in-Some.status)
-    c.end_at_once.ensures.grants (ap (λ v. v.looked) c.end_at_once.ensures.table) (lawful_prepared ended None c.end_at_once.ensures.lawful) (c.in-Some.ensures.begun w.deadline) in
+    c.end_at_once.ensures.grants (ap (λ v. v.looked) c.end_at_once.ensures.table) (steady_prepared ended None c.end_at_once.ensures.steady) (c.in-Some.ensures.begun w.deadline) in
     let from_old : Accepts old new c.args.thread call (Reply.Status c.in-Some.status) = accepts_prepared old new mid.table.prepared c.args.thread call (Reply.Status c.in-Some.status) (subst (λ (d : Dispatcher). Accepts d new c.args.thread call (Reply.Status c.in-Some.status)) c.prepare.ensures.kept accepted) in
     subst (λ (d : Dispatcher). Accepts old d c.args.thread call (Reply.Status c.in-Some.status)) (sym c.forget_prepared.ensures) from_old
 
@@ -101,11 +101,11 @@ returns-clause-ok c =
     let w : Wait = record { handles = c.args.object ∷ []; all = false; alertable = c.args.alertable; deadline = deadline_after old.now c.args.ms } in
     let same : c.end_at_once.new.self ≡ calm = c.in_default.ensures.none in
     let pends = c.in_default.ensures.pends in
-    let lawful : IsLawful calm = calm_lawful mid calm t c.args.signal c.args.object c.args.ms c.args.alertable (fresh here) (free here) c.signal.ensures.served in
+    let steady : IsSteady calm = calm_steady mid calm t c.args.signal c.args.object c.args.ms c.args.alertable (fresh here) (free here) c.signal.ensures.served in
     let moment : calm.now ≡ old.now = calm_now mid calm t c.args.signal c.args.object c.args.ms c.args.alertable (fresh here) (free here) c.signal.ensures.served ∙ ap (λ (d : Dispatcher). d.now) c.prepare.ensures.kept in
     let deadline : w.deadline ≡ deadline_after calm.now c.args.ms = ap (λ (n : ℕ). deadline_after n c.args.ms) (sym moment) in
     let becomes : state new ≡ pending_too (state calm) t w = c.pend_prepared.ensures.state (t, w) (prepared now) ∙ ap (λ (d : Dispatcher). pending_too (state d) t w) same in
-    let settled : IsLawful new = began_pending calm new t c.args.ms w lawful pends.0 pends.1 pends.2 deadline becomes c.pend_prepared.ensures.sound in
+    let settled : IsSteady new = began_pending calm new t c.args.ms w steady pends.0 pends.1 pends.2 deadline becomes c.pend_prepared.ensures.sound in
     let answers : (Reply.Pended, state new) ≡ begun (state calm) t w c.args.ms = ap (λ (s : State). (Reply.Pended, s)) becomes ∙ sym (begun_pends (state calm) t w c.args.ms pends.0 pends.1 pends.2) in
     let accepted = swap_accepted mid calm t c.args.signal c.args.object c.args.ms c.args.alertable (fresh here) (free here) c.signal.ensures.served new Reply.Pended
     (c.pend_prepared.ensures.grants ∙ c.end_at_once.ensures.grants) (c.pend_prepared.ensures.looked ∙ ap (λ v. v.looked) c.end_at_once.ensures.table) settled

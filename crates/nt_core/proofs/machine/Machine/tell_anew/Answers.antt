@@ -1,7 +1,7 @@
 use Rattle.std.proofs.Common.{List, sym, subst}
 use Rattle.nt_core.specs.Dispatcher.{dispatcher_of}
 use Rattle.nt_core.specs.declared.call.Grant.{Grant}
-use Rattle.nt_core.specs.Lawful.{IsLawful}
+use Rattle.nt_core.specs.Lawful.{IsSteady}
 use Rattle.nt_core.specs.Accepts.{IsFresh}
 use Rattle.nt_core.proofs.Accepting.{told_anew}
 use Rattle.nt_core.proofs.machine.Machine.tell_anew.Goals as goal
@@ -9,5 +9,5 @@ use Rattle.nt_core.proofs.machine.Machine.tell_anew.Goals as goal
 pub returns-clause-fresh : goal.returns-clause-fresh
 returns-clause-fresh c =
     let d = dispatcher_of c.self.inside.threads c.self.inside.objects.items c.self.inside.objects.owned c.self.inside.waits c.self.inside.apcs c.self.inside.handing.items c.self.inside.moment c.self.inside.grants.items c.self.inside.alarms in
-    let lawful : IsLawful d = subst IsLawful (sym c.self.view_is) c.requires in
-    subst (λ (gs : List Grant). IsFresh (record d { table = c.look_anew.new.self; grants = gs })) (sym c.clear.ensures.items) (told_anew d c.look_anew.new.self lawful c.look_anew.ensures)
+    let steady : IsSteady d = subst IsSteady (sym c.self.view_is) c.requires in
+    subst (λ (gs : List Grant). IsFresh (record d { table = c.look_anew.new.self; grants = gs })) (sym c.clear.ensures.items) (told_anew d c.look_anew.new.self steady c.look_anew.ensures)

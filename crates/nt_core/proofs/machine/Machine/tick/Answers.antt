@@ -4,14 +4,14 @@ use Rattle.nt_core.specs.declared.call.Reply.{Reply}
 use Rattle.nt_core.specs.State.{State}
 use Rattle.nt_core.specs.Dispatcher.{Dispatcher, state}
 use Rattle.nt_core.specs.Steps.{Ticked}
-use Rattle.nt_core.specs.Lawful.{IsLawful}
+use Rattle.nt_core.specs.Lawful.{IsSteady}
 use Rattle.nt_core.specs.Accepts.{IsTickLocal}
 use Rattle.nt_core.proofs.Coming.{left_to_come, left_smaller, tick_first, tick_next, tick_end, tick_countable}
 use Rattle.nt_core.specs.contracts.machine.Machine.{the_view}
 use Rattle.nt_core.proofs.machine.Machine.tick.Goals as goal
 
 pub pass-requires-clause-countable : goal.pass-requires-clause-countable
-pass-requires-clause-countable c = tick_countable c.tell_anew.new.self c.loop-u.self c.args.m c.tell_anew.ensures.fresh.lawful.sound c.loop-u.invariant.far
+pass-requires-clause-countable c = tick_countable c.tell_anew.new.self c.loop-u.self c.args.m c.tell_anew.ensures.fresh.steady.sound c.loop-u.invariant.far
 
 pub pass-requires-clause-room : goal.pass-requires-clause-room
 pass-requires-clause-room c =
@@ -37,7 +37,7 @@ loop-u-preserved c = record {
 }
 
 -- the tick's end, where nothing is due any more
-ended : (c : goal.After-m-1) → Ticked (state c.tell_anew.new.self) c.args.m (Ok Reply.Done) c.loop-u.self.grants (state (record c.loop-u.self { now = c.args.m })) × IsLawful (record c.loop-u.self { now = c.args.m }) × IsTickLocal (state c.tell_anew.new.self) c.args.m c.loop-u.self.table.looked c.loop-u.self.grants
+ended : (c : goal.After-m-1) → Ticked (state c.tell_anew.new.self) c.args.m (Ok Reply.Done) c.loop-u.self.grants (state (record c.loop-u.self { now = c.args.m })) × IsSteady (record c.loop-u.self { now = c.args.m }) × IsTickLocal (state c.tell_anew.new.self) c.args.m c.loop-u.self.table.looked c.loop-u.self.grants
 ended c =
     let h : c.get-present.result ≤ c.get-asked.result = c.if-asked-present.false in
     let k : c.get-asked.result ≡ c.args.m = c.get-asked.ensures.value in
@@ -50,8 +50,8 @@ returns-clause-ticked c =
     subst (λ (s : State). Ticked s c.args.m (Ok Reply.Done) c.self-2.inside.grants.items (state (record (the_view c.self-2.inside) { now = c.args.m }))) c.tell_anew.ensures.state
     (subst (λ (x : Dispatcher). Ticked (state c.tell_anew.new.self) c.args.m (Ok Reply.Done) x.grants (state (record x { now = c.args.m }))) (sym c.self-2.view_is) (ended c).0)
 
-pub returns-clause-lawful : goal.returns-clause-lawful
-returns-clause-lawful c = subst (λ (x : Dispatcher). IsLawful (record x { now = c.args.m })) (sym c.self-2.view_is) (ended c).1
+pub returns-clause-steady : goal.returns-clause-steady
+returns-clause-steady c = subst (λ (x : Dispatcher). IsSteady (record x { now = c.args.m })) (sym c.self-2.view_is) (ended c).1
 
 pub returns-clause-local : goal.returns-clause-local
 returns-clause-local c =

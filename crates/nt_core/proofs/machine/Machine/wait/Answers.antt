@@ -23,7 +23,7 @@ pub begin_wait-requires-clause-room : goal.begin_wait-requires-clause-room
 begin_wait-requires-clause-room c =
     let d = c.args.self.now in
     let caller = free_caller (state d) c.args.thread (Call.Wait c.args.call.now) c.requires.free in
-    let room = room_to_begin d c.args.thread (wait_for [] false) c.requires.fresh.lawful.sound caller.0 caller.2 in
+    let room = room_to_begin d c.args.thread (wait_for [] false) c.requires.fresh.steady.sound caller.0 caller.2 in
     let first : length d.grants ≡ 0 = ap (λ gs. length gs) c.requires.fresh.no_grants in
     omega (arith, room, first)
 
@@ -37,7 +37,7 @@ pub begin_wait-requires-in-Sleep-clause-room : goal.begin_wait-requires-in-Sleep
 begin_wait-requires-in-Sleep-clause-room c =
     let d = c.args.self.now in
     let caller = free_caller (state d) c.args.thread (Call.Wait c.args.call.now) c.requires.free in
-    let room = room_to_begin d c.args.thread (wait_for [] false) c.requires.fresh.lawful.sound caller.0 caller.2 in
+    let room = room_to_begin d c.args.thread (wait_for [] false) c.requires.fresh.steady.sound caller.0 caller.2 in
     let first : length d.grants ≡ 0 = ap (λ gs. length gs) c.requires.fresh.no_grants in
     omega (arith, room, first)
 
@@ -51,7 +51,7 @@ returns-in-Objects-clause-ok c =
     (λ reply. Accepts old new c.args.thread (Call.Wait c.args.call.now) reply)
     (λ reply begins.
     subst (λ (w : WaitCall). Accepts old new c.args.thread (Call.Wait w) reply) (sym c.in-Objects.is)
-    (wait_accepted old new c.args.thread (WaitCall.Objects c.in-Objects.handles c.in-Objects.all c.in-Objects.ms c.in-Objects.alertable) reply c.requires.fresh began.grants began.looked began.lawful refl
+    (wait_accepted old new c.args.thread (WaitCall.Objects c.in-Objects.handles c.in-Objects.all c.in-Objects.ms c.in-Objects.alertable) reply c.requires.fresh began.grants began.looked began.steady refl
     (begins ∙ ap (λ (hs : List ℕ). begun (state old) c.args.thread (record { handles = hs; all = c.in-Objects.all; alertable = c.in-Objects.alertable; deadline = deadline_after old.now c.in-Objects.ms }) c.in-Objects.ms) c.as_slice.ensures)))
     c.begin_wait.result began.begun
 
@@ -65,5 +65,5 @@ returns-in-Sleep-clause-ok c =
     (λ reply. Accepts old new c.args.thread (Call.Wait c.args.call.now) reply)
     (λ reply begins.
     subst (λ (w : WaitCall). Accepts old new c.args.thread (Call.Wait w) reply) (sym c.in-Sleep.is)
-    (wait_accepted old new c.args.thread (WaitCall.Sleep c.in-Sleep.ms c.in-Sleep.alertable) reply c.requires.fresh began.grants began.looked began.lawful refl begins))
+    (wait_accepted old new c.args.thread (WaitCall.Sleep c.in-Sleep.ms c.in-Sleep.alertable) reply c.requires.fresh began.grants began.looked began.steady refl begins))
     c.begin_wait-in-Sleep.result began.begun

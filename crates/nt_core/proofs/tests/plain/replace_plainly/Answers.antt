@@ -9,11 +9,11 @@ use Rattle.nt_core.proofs.tests.plain.replace_plainly.Goals as goal
 
 pub serve_plainly-requires-clause-sound : goal.serve_plainly-requires-clause-sound
 serve_plainly-requires-clause-sound c =
-    subst IsSound (sym c.exchange.ensures) (sound_replaced c.args.machine.now c.args.handle c.args.object c.args.machine.now.owned c.requires.fresh.lawful.sound c.requires.may)
+    subst IsSound (sym c.exchange.ensures) (sound_replaced c.args.machine.now c.args.handle c.args.object c.args.machine.now.owned c.requires.fresh.steady.sound c.requires.may)
 
 pub serve_plainly-requires-clause-local : goal.serve_plainly-requires-clause-local
 serve_plainly-requires-clause-local c =
-    subst (λ (x : Dispatcher). FitOnlyIn (sequence (state x) (c.args.handle ∷ [])) (state x)) (sym c.exchange.ensures) (replaced_fit c.args.machine.now c.args.handle c.args.object c.requires.fresh.lawful)
+    subst (λ (x : Dispatcher). FitOnlyIn (sequence (state x) (c.args.handle ∷ [])) (state x)) (sym c.exchange.ensures) (replaced_fit c.args.machine.now c.args.handle c.args.object c.requires.fresh.steady)
 
 pub serve_plainly-requires-clause-first : goal.serve_plainly-requires-clause-first
 serve_plainly-requires-clause-first c = ap (λ (x : Dispatcher). x.grants) c.exchange.ensures ∙ c.requires.fresh.no_grants

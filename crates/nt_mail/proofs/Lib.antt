@@ -1,0 +1,9 @@
+pub mod Totals
+pub mod Calls
+pub mod Taken
+pub mod Words
+pub mod Parts
+pub mod Writing
+pub mod Seating
+pub mod Reading
+pub mod Closing

@@ -1,0 +1,6 @@
+pub mod Entries
+pub mod Words
+pub mod Knowledge
+pub mod Views
+pub mod Rule
+pub mod Seats

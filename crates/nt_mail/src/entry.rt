@@ -1,0 +1,25 @@
+//! The entries of the journal.
+use nt_core::{Call, Reply};
+use nt_status::{Moment, Refusal, Status, ThreadId};
+
+/// One entry of the journal. Entries are numbered from 1.
+#[derive(Drop)]
+pub enum Entry {
+    /// A thread's call, with its answer.
+    Called {
+        who: ThreadId,
+        call: Call,
+        result: Result<Reply, Refusal>,
+    },
+    /// A tick, with its answer.
+    Ticked {
+        by: ThreadId,
+        moment: Moment,
+        result: Result<Reply, Refusal>,
+    },
+    /// A pending wait of this thread ended.
+    Granted {
+        who: ThreadId,
+        status: Status,
+    },
+}
