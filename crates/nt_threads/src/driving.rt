@@ -40,8 +40,8 @@ impl<D: Door> Promise<Worked<D>> for Works<D> {
 ///
 /// The first creates a mutex, a semaphore with room for each release and a manual-reset event, starts the others, sets the
 /// event, and waits for the end of all. Each of the others waits for the event; `rounds` times it waits for the mutex,
-/// releases the semaphore by 1 and releases the mutex; then it ends. After a refusal a thread ends at once, and no thread is
-/// started any more. `back` takes the doors.
+/// releases the semaphore by 1 and releases the mutex; then it ends. After a refusal a thread ends at once, and
+/// where a thread cannot be started, no more are. `back` takes the doors.
 pub fn drive<D: Door + Send, R: Threads + Wait + Sync>(
     rt: &R,
     alloc: Global,
@@ -167,13 +167,7 @@ fn start_each<'s, 'e: 's, D: Door + Send + 'e, R: Threads + Wait + Sync>(
 }
 
 /// Lets the workers begin that were started, and ends the first thread and those that were not started.
-fn stop_all<D: Door, R: Wait>(
-    rt: &R,
-    plan: &Plan,
-    first: D,
-    others: Vec<D>,
-    back: Vec<D>,
-) -> Vec<D>
+fn stop_all<D: Door, R: Wait>(rt: &R, plan: &Plan, first: D, others: Vec<D>, back: Vec<D>) -> Vec<D>
     requires back { (back.items ≡ []) × (vec_len others + 1 ≤ vec_capacity back) }
     ensures threads { map D.thread_of result.items ≡ D.thread_of first ∷ map D.thread_of others.items }
     ensures count { vec_len result ≡ vec_len others + 1 }
