@@ -1,6 +1,5 @@
 //! The seven steps. Each is one atomic operation on one word: a store, a load or an exchange.
 ghost use Rattle.std.specs.Prelude.{◌≡◌, ◌≢◌, ◌<◌, ◌≤◌, ◌+◌, ◌^◌, ◌%◌, ◌++◌, ◌∷◌, [], length, true, false, IfErr, OnOk};
-ghost use Rattle.nt_status.specs.Status.{is_status_code};
 ghost use Rattle.nt_core.specs.Moves.{one_if};
 ghost use Rattle.nt_mail.specs.declared.entry.Entry.TheVariants.{Granted};
 ghost use Rattle.nt_mail.specs.Entries.{IsOwn, arms, is_armed};
@@ -15,6 +14,7 @@ use crate::rule::{
     Apart, Letters, Place, Polls, Publishes, Reads, Spare, Takes, Together, Writes, Writing,
 };
 use crate::seat::{DispatcherSeat, ThreadSeat};
+use crate::word::{Word, idle_of};
 use nt_status::{Moment, Status, ThreadId};
 use std::marker::Brand;
 use std::mem;
@@ -104,13 +104,7 @@ impl Mail {
         requires number { (number ≡ length dispatcher.old.written + 1) × (number < 2 ^ 54) }
         ensures { dispatcher.new ≡ record dispatcher.old { written = dispatcher.old.written ++ Granted thread status ∷ [] } }
     {
-        store_grant::<Brand>(
-            &self.table,
-            &mut dispatcher.seat,
-            thread,
-            status.code(),
-            number,
-        );
+        store_grant::<Brand>(&self.table, &mut dispatcher.seat, thread, status, number);
     }
 
     /// Makes a moment known to all threads, never one below the last.
@@ -142,7 +136,7 @@ impl Mail {
         ensures ok { OnOk result (seat.new ≡ seated self.now (with_got (grant_in word) seat.old.known)) }
         ensures err { IfErr result (λ found. (found ≢ word) × (seat.new ≡ seated self.now (with_polled found seat.old.known))) }
     {
-        let idle = word / 1024 * 1024;
+        let idle = idle_of(word);
         let found = self
             .table
             .shared
@@ -192,19 +186,19 @@ fn store_grant<W: Writing>(
     table: &Letters,
     seat: &mut Place,
     thread: ThreadId,
-    status: u32,
+    status: Status,
     number: u64,
 )
     requires table { (seat.old.table_id ≡ table.now.shared.table_id) × (thread + 1 < seat.old.table_id.words) }
     requires entry { W.entry ≡ Granted thread status }
     requires view { seat.old.me ≡ (keeper seat.old.me.0.written seat.old.me.0.published [], []) }
     requires armed { is_armed thread seat.old.me.0.written ≡ true }
-    requires status { is_status_code status ≡ true }
     requires number { (number ≡ length seat.old.me.0.written + 1) × (number < 2 ^ 54) }
     ensures table { (seat.new.table_id ≡ seat.old.table_id) × (seat.new.id ≡ seat.old.id) }
     ensures view { seat.new.me ≡ (with_entry (Granted thread status) seat.old.me.0, []) }
 {
-    table.shared.store::<Writes<W>>(seat, word_of(thread), number * 1024 + 2 + u64::from(status));
+    let word = Word::Granted(number, status).bits();
+    table.shared.store::<Writes<W>>(seat, word_of(thread), word);
 }
 
 // The place of the thread's word. The moment's is the first.
@@ -216,7 +210,7 @@ fn word_of(thread: ThreadId) -> usize
 
 // The word that a call or tick leaves.
 fn call_word(number: u64, armed: bool) -> u64
-    requires { number < 2 ^ 54 }
+    requires { (0 < number) × (number < 2 ^ 54) }
     ensures { result ≡ called_word armed number }
 {
     if armed {

@@ -1,7 +1,7 @@
 //! What a thread's reply word says.
-ghost use Rattle.std.specs.Prelude.{◌≡◌, ◌≢◌, ℕ, IfSome, IfNone};
+ghost use Rattle.std.specs.Prelude.{◌≡◌, ◌≢◌, ◌/◌, ℕ, IfSome, IfNone};
 ghost use Rattle.nt_mail.specs.declared.word.Word.{Word};
-ghost use Rattle.nt_mail.specs.Words.{IsLawfulWord, TellsGrant, bits_of, granted_word};
+ghost use Rattle.nt_mail.specs.Words.{IsLawfulWord, TellsGrant, bits_of, granted_word, idle_word};
 
 use nt_core::Reply;
 use nt_status::Status;
@@ -52,6 +52,13 @@ impl Word {
             None => None,
         }
     }
+}
+
+/// The idle word with the same number.
+pub(crate) fn idle_of(bits: u64) -> u64
+    ensures { result ≡ idle_word (bits / 1024) }
+{
+    bits / 1024 * 1024
 }
 
 /// The entry's number and the reply that a granted word tells. None where the bits are of no granted word.

@@ -1,0 +1,7 @@
+//! Tests of the mail and of the front by their public contracts alone.
+#![tactic(auto)]
+
+#[cfg(test)]
+mod mail;
+#[cfg(test)]
+mod refused;
