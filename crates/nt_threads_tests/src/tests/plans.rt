@@ -122,7 +122,7 @@ fn check<R: Host + Threads + Wait + Sync>(rt: &R, workers: u16, rounds: u32, wan
 
 /// The calls of a whole plan: waits, releases of the semaphore and of the mutex, and ends of threads. The others are three
 /// creations and one set.
-fn made(waits: u32, releases: u32, exits: u32) -> Made {
+fn whole_plan(waits: u32, releases: u32, exits: u32) -> Made {
     Made {
         waits,
         releases,
@@ -134,16 +134,16 @@ fn made(waits: u32, releases: u32, exits: u32) -> Made {
 
 #[test]
 fn two_workers_make_three_rounds(rt: HostRuntime) {
-    check(&rt, 2, 3, made(9, 6, 3));
+    check(&rt, 2, 3, whole_plan(9, 6, 3));
 }
 
 #[test]
 fn one_worker_makes_one_round(rt: HostRuntime) {
-    check(&rt, 1, 1, made(3, 1, 2));
+    check(&rt, 1, 1, whole_plan(3, 1, 2));
 }
 
 /// A wait for so many objects takes memory of its own.
 #[test]
 fn ten_workers_make_two_rounds(rt: HostRuntime) {
-    check(&rt, 10, 2, made(31, 20, 11));
+    check(&rt, 10, 2, whole_plan(31, 20, 11));
 }
