@@ -38,6 +38,10 @@ workers (suc n) = workers n ++ suc n ∷ []
 abbrev pub lead_of : Objects → ℕ → List Call
 lead_of o n = Call.Act (Act.SetEvent o.start) ∷ wait_for_all (workers n) ∷ Call.Exit ∷ []
 
+-- what has been made through each door once the workers are started and all is done, from what was made through it before
+abbrev pub led : {X : Type 0} → (X → List Call) → Objects → ℕ → ℕ → X → List X → List (List Call)
+led made o workers rounds first others = (made first ++ lead_of o workers) ∷ map (λ d. made d ++ work_of o rounds) others
+
 -- what has been made through each door once the plan is carried out, from what was made through it before
 abbrev pub carried_out : {X : Type 0} → (X → List Call) → Objects → ℕ → List X → List (List Call)
 carried_out made o rounds [] = []

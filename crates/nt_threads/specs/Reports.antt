@@ -1,10 +1,7 @@
 -- What the program prints.
-use Rattle.std.specs.Prelude.{◌≡◌, ℕ, suc, List, [], ◌∷◌, ◌++◌, codes}
+use Rattle.std.specs.Prelude.{ℕ, List, [], ◌∷◌, ◌++◌, codes}
 use Rattle.std.specs.Fmt.{decimal}
-use Rattle.nt_core.specs.State.{State}
-use Rattle.nt_mail.specs.declared.entry.Entry.{Entry}
 use Rattle.nt_threads.specs.declared.counts.Counts.{Counts}
-use Rattle.nt_threads.specs.Counts.{abandoned, acquired, posted, released}
 
 -- a name, which ends in a space, a number, and a line feed
 abbrev pub line_of : List ℕ → ℕ → List ℕ

@@ -1,7 +1,7 @@
 //! The plan, carried out by a thread for each door.
 ghost use Rattle.std.specs.Prelude.{◌≡◌, ◌++◌, ◌∷◌, ◌+◌, ◌*◌, ◌<◌, ◌≤◌, ◌^◌, [], true, map, vec_len, vec_capacity, IfSome, IfNone};
 ghost use Rattle.nt_threads.specs.declared.plan.Objects.{Objects};
-ghost use Rattle.nt_threads.specs.Plans.{carried_out, creations, lead_of, work_of};
+ghost use Rattle.nt_threads.specs.Plans.{carried_out, led};
 
 use crate::door::Door;
 use crate::plan::{Objects, Plan, Worked, create_all, lead, work};
@@ -103,7 +103,7 @@ fn start_all<D: Door + Send, R: Threads + Wait + Sync>(
 ) -> Driven<D>
     requires back { (back.items ≡ []) × (vec_len others + 1 ≤ vec_capacity back) }
     ensures threads { map D.thread_of result.doors.items ≡ D.thread_of first ∷ map D.thread_of others.items }
-    ensures whole { result.whole ≡ true → map D.made_of result.doors.items ≡ (D.made_of first ++ lead_of plan.now.objects plan.now.workers) ∷ map (λ d. D.made_of d ++ work_of plan.now.objects plan.now.rounds) others.items }
+    ensures whole { result.whole ≡ true → map D.made_of result.doors.items ≡ led D.made_of plan.now.objects plan.now.workers plan.now.rounds first others.items }
 {
     thread::scope(
         thread::scope_env(),
@@ -111,7 +111,7 @@ fn start_all<D: Door + Send, R: Threads + Wait + Sync>(
         move |scope| -> Driven<D>
             requires { (back.items ≡ []) × (vec_len others + 1 ≤ vec_capacity back) }
             ensures threads { map D.thread_of result.doors.items ≡ D.thread_of first ∷ map D.thread_of others.items }
-            ensures whole { result.whole ≡ true → map D.made_of result.doors.items ≡ (D.made_of first ++ lead_of plan.entry.now.objects plan.entry.now.workers) ∷ map (λ d. D.made_of d ++ work_of plan.entry.now.objects plan.entry.now.rounds) others.items }
+            ensures whole { result.whole ≡ true → map D.made_of result.doors.items ≡ led D.made_of plan.entry.now.objects plan.entry.now.workers plan.entry.now.rounds first others.items }
         { start_each(scope, rt, plan, first, others, back) },
     )
 }
@@ -128,7 +128,7 @@ fn start_each<'s, 'e: 's, D: Door + Send + 'e, R: Threads + Wait + Sync>(
 ) -> Driven<D>
     requires back { (back.items ≡ []) × (vec_len others + 1 ≤ vec_capacity back) }
     ensures threads { map D.thread_of result.doors.items ≡ D.thread_of first ∷ map D.thread_of others.items }
-    ensures whole { result.whole ≡ true → map D.made_of result.doors.items ≡ (D.made_of first ++ lead_of plan.now.objects plan.now.workers) ∷ map (λ d. D.made_of d ++ work_of plan.now.objects plan.now.rounds) others.items }
+    ensures whole { result.whole ≡ true → map D.made_of result.doors.items ≡ led D.made_of plan.now.objects plan.now.workers plan.now.rounds first others.items }
     ensures count { vec_len result.doors ≡ vec_len others + 1 }
     ensures capacity { vec_capacity result.doors ≡ vec_capacity back }
 {

@@ -1,5 +1,4 @@
-use Rattle.std.proofs.Common.{rules, ◌≡◌, ◌≤◌, arith, length}
-use Rattle.nt_threads.specs.Counts.{posts_in}
+use Rattle.std.proofs.Common.{rules}
 use Rattle.nt_threads.proofs.Counting.{counted_more, counted_all}
 use Rattle.nt_threads.proofs.counts.counts_of.Goals as goal
 
