@@ -6,6 +6,8 @@ extern char *getenv(const char *);
 extern long atol(const char *);
 extern int snprintf(char *, size_t, const char *, ...);
 extern long write(int, const void *, size_t);
+extern long syscall(long, ...);
+extern int *__errno_location(void);
 extern void *__libc_malloc(size_t);
 extern void *__libc_calloc(size_t, size_t);
 extern void *__libc_realloc(void *, size_t);
@@ -20,7 +22,10 @@ static int is_refused(void)
         const char *word = getenv("REFUSE");
         refused = word ? atol(word) : 0;
     }
-    return ++made == refused;
+    if (__atomic_add_fetch(&made, 1, __ATOMIC_SEQ_CST) != refused)
+        return 0;
+    *__errno_location() = 12 /* ENOMEM */;
+    return 1;
 }
 
 void *malloc(size_t size) { return is_refused() ? (void *)0 : __libc_malloc(size); }
@@ -42,4 +47,12 @@ __attribute__((destructor)) static void tell(void)
     int length = snprintf(text, sizeof text, "%ld", made);
     if (write(9, text, (size_t)length) < 0)
         return;
+}
+
+/* A program with threads ends by this, and then no destructor runs. */
+void _exit(int status)
+{
+    tell();
+    for (;;)
+        syscall(231 /* exit_group */, status);
 }

@@ -1,4 +1,6 @@
 //! What threads that roam ask for, drawn by a plain generator of numbers.
+ghost use Rattle.std.specs.Prelude.{◌<◌};
+
 use nt_core::{Act, WaitCall};
 use nt_status::{Handle, Handles};
 use std::alloc::{AllocError, Global};

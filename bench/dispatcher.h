@@ -1,0 +1,51 @@
+/* A dispatcher written by hand in plain C, as a peer for the front: real threads, one lock, one condition variable for each
+   thread, first-come hand-over, and a journal. It has events, semaphores, mutexes, timers and thread objects, waits for any or
+   for all of up to 64 of them without a timeout or with 0, and ticks. It has no APCs, no deadlines, no swap and no pulse, and
+   proves nothing. Objects are named by number: those of the threads come first. */
+#ifndef DISPATCHER_H
+#define DISPATCHER_H
+#include <stdbool.h>
+#include <stddef.h>
+#include <stdint.h>
+
+enum { MOST_HANDLES = 64, INLINE_HANDLES = 8 };
+enum { DONE = 0, TIMEOUT = 0x102, PENDED = -1, REFUSED = -2, FULL = -3, MEMORY = -4 };
+#define INFINITE UINT32_MAX
+
+enum call { CREATE, SET, RESET, RELEASE, UNLOCK, ARM, WAIT, EXIT, TICK, GRANT };
+
+/* One entry of the journal: what was called, or which wait was granted, and the answer. */
+struct entry {
+    uint8_t call;
+    bool all;
+    uint16_t who;
+    uint32_t object;
+    int32_t count, answer;
+    uint64_t moment;
+    uint32_t handles[INLINE_HANDLES];
+    uint32_t *more;
+};
+
+struct dispatcher;
+
+/* A dispatcher of so many threads; without a journal where room is 0, without a lock where it is for one caller. */
+struct dispatcher *open_dispatcher(uint32_t threads, size_t room, bool locked);
+void close_dispatcher(struct dispatcher *d);
+const struct entry *journal_of(const struct dispatcher *d, size_t *entries);
+
+int create_event(struct dispatcher *d, uint32_t who, bool manual);
+int create_semaphore(struct dispatcher *d, uint32_t who, int32_t count, int32_t maximum);
+int create_mutex(struct dispatcher *d, uint32_t who);
+int create_timer(struct dispatcher *d, uint32_t who, bool manual);
+int set_event(struct dispatcher *d, uint32_t who, uint32_t event);
+int reset_event(struct dispatcher *d, uint32_t who, uint32_t event);
+int release_semaphore(struct dispatcher *d, uint32_t who, uint32_t semaphore, int32_t count);
+int release_mutex(struct dispatcher *d, uint32_t who, uint32_t mutex);
+int arm_timer(struct dispatcher *d, uint32_t who, uint32_t timer, uint64_t due, uint64_t period);
+int exit_thread(struct dispatcher *d, uint32_t who);
+int tick(struct dispatcher *d, uint32_t who, uint64_t moment);
+
+/* A wait answers its status, or PENDED where it pends and the caller does not sleep; then a poll tells whether it was granted. */
+int wait_objects(struct dispatcher *d, uint32_t who, const uint32_t *handles, uint32_t count, bool all, uint32_t ms, bool sleeps);
+int poll_wait(struct dispatcher *d, uint32_t who);
+#endif

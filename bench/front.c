@@ -1,0 +1,259 @@
+/* The calls that crates/nt_front_bench times on the front, made on the dispatcher of bench/dispatcher.c, and what lies below both:
+   a bare pthread mutex, and a round trip over two futexes.
+
+   usage: front [SHAPE ROUNDS]      without words, each shape once, small, without times */
+#define _GNU_SOURCE
+#include "dispatcher.h"
+#include <linux/futex.h>
+#include <pthread.h>
+#include <stdatomic.h>
+#include <stdio.h>
+#include <stdlib.h>
+#include <string.h>
+#include <sys/syscall.h>
+#include <time.h>
+#include <unistd.h>
+
+enum { CROWD_THREADS = 256, CROWD_OBJECTS = 10000 };
+
+static void *some(void *made) { if (!made) { fputs("out of memory\n", stderr); exit(1); } return made; }
+static void wants(bool it) { if (!it) { fputs("a call was refused\n", stderr); exit(1); } }
+
+static uint64_t now(void) {
+    struct timespec t;
+    clock_gettime(CLOCK_MONOTONIC, &t);
+    return (uint64_t)t.tv_sec * 1000000000u + (uint64_t)t.tv_nsec;
+}
+
+/* What a shape was given, and what it made. */
+struct run { uint32_t size; uint64_t rounds, calls, grants, nanos; };
+
+/* A dispatcher of so many threads, or of a crowd: then with objects that no call touches. The journal has room for all. */
+static struct dispatcher *stage(uint32_t threads, bool crowd, size_t entries, bool journal, bool locked) {
+    uint32_t all = crowd ? CROWD_THREADS : threads;
+    struct dispatcher *d = some(open_dispatcher(all, journal ? entries + CROWD_OBJECTS + 1000 : 0, locked));
+    for (uint32_t i = 0; crowd && i < CROWD_OBJECTS; i++) wants(create_event(d, 0, false) >= 0);
+    return d;
+}
+
+/* ---- one thread: the pairs */
+
+static void events_on(struct run *r, bool crowd, bool journal, bool locked) {
+    struct dispatcher *d = stage(1, crowd, 2 * r->rounds, journal, locked);
+    uint32_t e = (uint32_t)create_event(d, 0, false);
+    uint64_t began = now();
+    for (uint64_t i = 0; i < r->rounds; i++) {
+        wants(set_event(d, 0, e) == DONE);
+        wants(wait_objects(d, 0, &e, 1, false, 0, false) == 0);
+    }
+    r->nanos = now() - began;
+    r->calls = 2 * r->rounds;
+    close_dispatcher(d);
+}
+
+static void event(struct run *r) { events_on(r, r->size > 1, true, true); }
+static void event_no_journal(struct run *r) { events_on(r, false, false, true); }
+static void event_no_lock(struct run *r) { events_on(r, false, false, false); }
+
+static void mutex(struct run *r) {
+    struct dispatcher *d = stage(1, r->size > 1, 2 * r->rounds, true, true);
+    uint32_t m = (uint32_t)create_mutex(d, 0);
+    uint64_t began = now();
+    for (uint64_t i = 0; i < r->rounds; i++) {
+        wants(wait_objects(d, 0, &m, 1, false, INFINITE, false) == 0);
+        wants(release_mutex(d, 0, m) == DONE);
+    }
+    r->nanos = now() - began;
+    r->calls = 2 * r->rounds;
+    close_dispatcher(d);
+}
+
+static void semaphore(struct run *r) {
+    struct dispatcher *d = stage(1, r->size > 1, 2 * r->rounds, true, true);
+    uint32_t s = (uint32_t)create_semaphore(d, 0, 0, 1);
+    uint64_t began = now();
+    for (uint64_t i = 0; i < r->rounds; i++) {
+        wants(release_semaphore(d, 0, s, 1) == 0);
+        wants(wait_objects(d, 0, &s, 1, false, INFINITE, false) == 0);
+    }
+    r->nanos = now() - began;
+    r->calls = 2 * r->rounds;
+    close_dispatcher(d);
+}
+
+/* A wait for any of 64 objects, none of which is signaled. */
+static void any_of_64(struct run *r) {
+    struct dispatcher *d = stage(1, r->size > 1, r->rounds, true, true);
+    uint32_t handles[MOST_HANDLES];
+    for (uint32_t i = 0; i < MOST_HANDLES; i++) handles[i] = (uint32_t)create_event(d, 0, false);
+    uint64_t began = now();
+    for (uint64_t i = 0; i < r->rounds; i++) wants(wait_objects(d, 0, handles, MOST_HANDLES, false, 0, false) == TIMEOUT);
+    r->nanos = now() - began;
+    r->calls = r->rounds;
+    close_dispatcher(d);
+}
+
+/* 64 threads wait for all of a common event and one of their own. One waits, its own is set, and then the common one. */
+static void one_of_64(struct run *r) {
+    struct dispatcher *d = stage(65, r->size > 1, 4 * r->rounds + 64, true, true);
+    uint32_t common = (uint32_t)create_event(d, 0, false), own[65];
+    for (uint32_t t = 1; t <= 64; t++) own[t] = (uint32_t)create_event(d, 0, false);
+    for (uint32_t t = 1; t <= 64; t++) wants(wait_objects(d, t, (uint32_t[]){common, own[t]}, 2, true, INFINITE, false) == PENDED);
+    uint64_t began = now();
+    for (uint64_t i = 0; i < r->rounds; i++) {
+        uint32_t t = (uint32_t)(i % 64) + 1;
+        wants(set_event(d, 0, own[t]) == DONE);
+        wants(set_event(d, 0, common) == DONE);
+        wants(poll_wait(d, t) == 0);
+        wants(wait_objects(d, t, (uint32_t[]){common, own[t]}, 2, true, INFINITE, false) == PENDED);
+    }
+    r->nanos = now() - began;
+    r->calls = 3 * r->rounds;
+    r->grants = r->rounds;
+    close_dispatcher(d);
+}
+
+/* So many periodic timers, one of which is due at each tick. */
+static void ticks(struct run *r) {
+    struct dispatcher *d = stage(1, false, r->rounds + 3 * (size_t)r->size, true, true);
+    uint64_t period = (uint64_t)r->size * 10000;
+    for (uint32_t i = 0; i < r->size; i++) {
+        uint32_t x = (uint32_t)create_timer(d, 0, true);
+        wants(arm_timer(d, 0, x, (i + 1) * (uint64_t)10000, period) == DONE);
+    }
+    uint64_t began = now();
+    for (uint64_t i = 0; i < r->rounds; i++) wants(tick(d, 0, (i + 1) * 10000) == DONE);
+    r->nanos = now() - began;
+    r->calls = r->rounds;
+    close_dispatcher(d);
+}
+
+/* ---- two threads */
+
+struct player { struct dispatcher *d; uint32_t who, mine, other; uint64_t rounds; };
+
+static void *answers(void *it) {
+    struct player *p = it;
+    for (uint64_t i = 0; i < p->rounds; i++) {
+        wants(wait_objects(p->d, p->who, &p->mine, 1, false, INFINITE, true) == 0);
+        wants(set_event(p->d, p->who, p->other) == DONE);
+    }
+    return NULL;
+}
+
+static void round_trip(struct run *r) {
+    struct dispatcher *d = stage(2, r->size > 1, 6 * r->rounds, true, true);
+    uint32_t a = (uint32_t)create_event(d, 0, false), b = (uint32_t)create_event(d, 0, false);
+    struct player second = {d, 1, b, a, r->rounds};
+    pthread_t child;
+    wants(pthread_create(&child, NULL, answers, &second) == 0);
+    uint64_t began = now();
+    for (uint64_t i = 0; i < r->rounds; i++) {
+        wants(set_event(d, 0, b) == DONE);
+        wants(wait_objects(d, 0, &a, 1, false, INFINITE, true) == 0);
+    }
+    r->nanos = now() - began;
+    pthread_join(child, NULL);
+    r->calls = 4 * r->rounds;
+    close_dispatcher(d);
+}
+
+/* ---- the plan of `ntrun threads`: workers take a mutex, release a semaphore and release the mutex */
+
+struct worker { struct dispatcher *d; uint32_t who, mutex, semaphore, start; uint64_t rounds; };
+
+static void *work(void *it) {
+    struct worker *w = it;
+    wants(wait_objects(w->d, w->who, &w->start, 1, false, INFINITE, true) == 0);
+    for (uint64_t i = 0; i < w->rounds; i++) {
+        wants(wait_objects(w->d, w->who, &w->mutex, 1, false, INFINITE, true) == 0);
+        wants(release_semaphore(w->d, w->who, w->semaphore, 1) >= 0);
+        wants(release_mutex(w->d, w->who, w->mutex) == DONE);
+    }
+    wants(exit_thread(w->d, w->who) == DONE);
+    return NULL;
+}
+
+static void workers(struct run *r) {
+    uint32_t n = r->size;
+    uint64_t began = now();
+    struct dispatcher *d = some(open_dispatcher(n + 1, 7 + n * (4 * r->rounds + 3), true));
+    uint32_t m = (uint32_t)create_mutex(d, 0), s = (uint32_t)create_semaphore(d, 0, 0, (int32_t)(n * r->rounds));
+    uint32_t start = (uint32_t)create_event(d, 0, true), threads[MOST_HANDLES];
+    struct worker worker[MOST_HANDLES];
+    pthread_t child[MOST_HANDLES];
+    for (uint32_t i = 0; i < n; i++) {
+        threads[i] = i + 1;
+        worker[i] = (struct worker){d, i + 1, m, s, start, r->rounds};
+        wants(pthread_create(&child[i], NULL, work, &worker[i]) == 0);
+    }
+    wants(set_event(d, 0, start) == DONE);
+    wants(wait_objects(d, 0, threads, n, true, INFINITE, true) == 0);
+    wants(exit_thread(d, 0) == DONE);
+    for (uint32_t i = 0; i < n; i++) pthread_join(child[i], NULL);
+    size_t entries;
+    const struct entry *journal = journal_of(d, &entries);
+    for (size_t i = 0; i < entries; i++) r->grants += journal[i].call == RELEASE && journal[i].answer >= 0;
+    r->nanos = now() - began;
+    wants(r->grants == n * r->rounds);
+    r->calls = 3 * n * r->rounds;
+    close_dispatcher(d);
+}
+
+/* ---- what lies below */
+
+static void bare_mutex(struct run *r) {
+    pthread_mutex_t lock = PTHREAD_MUTEX_INITIALIZER;
+    volatile uint64_t held = 0;
+    uint64_t began = now();
+    for (uint64_t i = 0; i < r->rounds; i++) { pthread_mutex_lock(&lock); held++; pthread_mutex_unlock(&lock); }
+    r->nanos = now() - began;
+    r->calls = r->rounds;
+}
+
+static _Atomic uint32_t turn;
+
+static void futex_until(uint32_t wanted) {
+    for (uint32_t seen; (seen = atomic_load(&turn)) != wanted;) syscall(SYS_futex, &turn, FUTEX_WAIT_PRIVATE, seen, NULL, NULL, 0);
+}
+static void futex_pass(uint32_t to) { atomic_store(&turn, to); syscall(SYS_futex, &turn, FUTEX_WAKE_PRIVATE, 1, NULL, NULL, 0); }
+static void *futex_answers(void *it) {
+    for (uint64_t i = 0; i < *(uint64_t *)it; i++) { futex_until(1); futex_pass(0); }
+    return NULL;
+}
+
+static void futex_round_trip(struct run *r) {
+    pthread_t child;
+    turn = 0;
+    wants(pthread_create(&child, NULL, futex_answers, &r->rounds) == 0);
+    uint64_t began = now();
+    for (uint64_t i = 0; i < r->rounds; i++) { futex_pass(1); futex_until(0); }
+    r->nanos = now() - began;
+    pthread_join(child, NULL);
+    r->calls = 4 * r->rounds;
+}
+
+/* ---- the program */
+
+static const struct { const char *name; void (*run)(struct run *); uint32_t size; } shapes[] = {
+    {"event", event, 1}, {"event_crowd", event, 2}, {"mutex", mutex, 1}, {"mutex_crowd", mutex, 2},
+    {"semaphore", semaphore, 1}, {"semaphore_crowd", semaphore, 2}, {"any_of_64", any_of_64, 1}, {"any_of_64_crowd", any_of_64, 2},
+    {"one_of_64", one_of_64, 1}, {"one_of_64_crowd", one_of_64, 2}, {"tick_100", ticks, 100}, {"tick_10000", ticks, 10000},
+    {"round_trip", round_trip, 1}, {"round_trip_crowd", round_trip, 2},
+    {"threads_2", workers, 2}, {"threads_8", workers, 8}, {"threads_64", workers, 64},
+    {"event_no_journal", event_no_journal, 1}, {"event_no_lock", event_no_lock, 1},
+    {"bare_lock", bare_mutex, 1}, {"futex_round_trip", futex_round_trip, 1},
+};
+
+int main(int count, char **words) {
+    bool asked = count > 2;
+    for (size_t i = 0; i < sizeof shapes / sizeof *shapes; i++) {
+        if (asked && strcmp(words[1], shapes[i].name)) continue;
+        struct run r = {.size = shapes[i].size, .rounds = asked ? strtoull(words[2], NULL, 10) : 3};
+        shapes[i].run(&r);
+        printf("%s: %llu calls, %llu grants", shapes[i].name, (unsigned long long)r.calls, (unsigned long long)r.grants);
+        if (asked) printf(", %llu ps a call", (unsigned long long)(r.nanos * 1000 / (r.calls ? r.calls : 1)));
+        puts("");
+    }
+    return 0;
+}

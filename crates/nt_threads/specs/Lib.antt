@@ -1,0 +1,4 @@
+pub mod Plans
+pub mod Doors
+pub mod Counts
+pub mod Reports

@@ -1,0 +1,13 @@
+//! The plan of the program's threads: real threads that share a mutex, a semaphore and an event.
+#![tactic(auto)]
+
+mod counts;
+mod door;
+mod driving;
+mod plan;
+mod report;
+
+pub use counts::{Counts, counts_of};
+pub use door::Door;
+pub use driving::{Driven, drive};
+pub use plan::Objects;
