@@ -1,10 +1,11 @@
-//! What a command line asks for, and what its commands do between a reader and two writers.
+//! What a command line asks for, and what its commands do.
 #![tactic(auto)]
 
+mod commands;
 mod errors;
 mod plan;
 mod script;
 
-pub use errors::say;
+pub use commands::carry_out;
 pub use plan::{Plan, PlanFault, plan_of};
 pub use script::{run_file, script_over};

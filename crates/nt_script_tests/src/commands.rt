@@ -1,18 +1,20 @@
-//! What a script's run says, how it ends, and what the words of a command line ask for.
+//! What a script's run says, and how it ends.
+
+mod plans;
+mod words;
 
 use crate::devices::{Given, Room, Taken};
 use crate::refused::{Host, before_refusal, tell_refused};
-use nt_commands::{Plan, PlanFault, plan_of, script_over};
+use nt_commands::script_over;
 use nt_devices::Counted;
-use std::alloc::{AllocError, Global};
-use std::test::Fail;
+use std::alloc::Global;
 
 /// What a run of a script wrote, what it said on standard error, and its exit status.
 #[derive(Drop)]
-struct Ran {
+pub struct Ran {
     written: Vec<u8>,
-    said: Vec<u8>,
-    status: u8,
+    pub said: Vec<u8>,
+    pub status: u8,
     /// Whether the memory to keep either was refused.
     is_lost: bool,
 }
@@ -45,7 +47,7 @@ fn run_once(alloc: Global, given: Given<'_>, room: Room) -> Ran {
 }
 
 /// Runs the script, a second time where memory is refused: what stands before the refusal was right.
-fn run_over(rt: &impl Host, given: Given<'_>, room: Room) -> Ran {
+pub fn run_over(rt: &impl Host, given: Given<'_>, room: Room) -> Ran {
     let ran = run_once(rt.alloc(), given, room);
     if !ran.is_refused() {
         return ran;
@@ -179,88 +181,4 @@ fn a_failed_flush_hides_no_fault(rt: HostRuntime) {
         status: 2,
     };
     check(&rt, given, Room::NEVER_FLUSHED, ending);
-}
-
-/// The words of a command line, the program's own name first.
-fn words_of(alloc: Global, words: &[&str]) -> Result<Vec<String>, AllocError> {
-    let mut list = Vec::new(alloc);
-    list.push(String::from_str(alloc, "ntrun")?)?;
-    for word in words {
-        list.push(String::from_str(alloc, word)?)?;
-    }
-    Ok(list)
-}
-
-/// The same. Where memory is refused, a second try goes on.
-fn words_at_last(rt: &impl Host, words: &[&str]) -> Result<Vec<String>, AllocError> {
-    match words_of(rt.alloc(), words) {
-        Ok(list) => Ok(list),
-        Err(_) => {
-            tell_refused(rt, "the test itself");
-            words_of(rt.alloc(), words)
-        }
-    }
-}
-
-/// What the words after the program's name ask for. Where memory is refused, a second try goes on.
-fn plan_at_last(rt: &impl Host, words: &[&str]) -> Result<Result<Plan, PlanFault>, AllocError> {
-    let list = words_at_last(rt, words)?;
-    match plan_of(rt.alloc(), list.as_slice()) {
-        Err(PlanFault::Memory) => {
-            tell_refused(rt, "a plan");
-            Ok(plan_of(rt.alloc(), list.as_slice()))
-        }
-        plan => Ok(plan),
-    }
-}
-
-/// The words after the program's name, and the file that they ask to run.
-const PLANS: &[(&[&str], &str)] = &[
-    (&["script", "hand_over.nts"], "hand_over.nts"),
-    (&["script", "script"], "script"),
-    (&["script", "-"], "-"),
-    (&["script", ""], ""),
-    (&["script", "--", "-one.nts"], "-one.nts"),
-    (&["script", "--", "--"], "--"),
-    (&["script", "one.nts", "--"], "one.nts"),
-];
-
-#[test]
-fn script_and_a_file_ask_for_a_run_of_it(rt: HostRuntime) -> Result<(), Fail> {
-    for (words, wanted) in PLANS {
-        match plan_at_last(&rt, words)? {
-            Ok(Plan::Script(file)) => assert_eq!(rt; file.as_str(), *wanted),
-            Err(fault) => assert!(rt; false, "{words:?}: {fault:?}"),
-        }
-    }
-    Ok(())
-}
-
-const NO_PLAN: &[&[&str]] = &[
-    &[],
-    &["help"],
-    &["--help"],
-    &["-h"],
-    &["script"],
-    &["script", "--help"],
-    &["script", "one.nts", "two.nts"],
-    &["script", "--"],
-    &["script", "-x"],
-    &["script", "--file=one.nts"],
-    &["script", "one.nts", "--", "two.nts"],
-    &["script", "--", "one.nts", "--"],
-    &["--", "script", "one.nts"],
-    &["-s", "one.nts"],
-    &["scripts", "one.nts"],
-    &["one.nts"],
-    &["threads", "2", "100"],
-];
-
-#[test]
-fn all_other_words_ask_for_the_usage(rt: HostRuntime) -> Result<(), Fail> {
-    for words in NO_PLAN {
-        let usage = matches!(plan_at_last(&rt, words)?, Err(PlanFault::Usage));
-        assert!(rt; usage, "{words:?}");
-    }
-    Ok(())
 }

@@ -1,9 +1,13 @@
 //! Scripts whose transcripts are known from the Win32 reference, and devices that fail.
 
+mod forms;
+mod readings;
 mod worked;
 
 use crate::devices::{Given, Room, Taken};
 use crate::refused::{Host, before_refusal, is_refusing, tell_refused};
+use crate::scripts::forms::FORMS;
+use crate::scripts::readings::READINGS;
 use crate::scripts::worked::{FAULTS, TRANSCRIPTS, Worked};
 use nt_script::{Counted, RunFault, ScriptFault, Summary, run};
 use std::alloc::{AllocError, Global};
@@ -76,6 +80,20 @@ fn check(rt: &impl Host, worked: &Worked) {
 #[test]
 fn worked_scripts_have_their_transcripts(rt: HostRuntime) {
     for worked in TRANSCRIPTS {
+        check(&rt, worked);
+    }
+}
+
+#[test]
+fn the_reference_is_read_as_it_is_meant(rt: HostRuntime) {
+    for worked in READINGS {
+        check(&rt, worked);
+    }
+}
+
+#[test]
+fn lines_are_read_in_their_forms(rt: HostRuntime) {
+    for worked in FORMS {
         check(&rt, worked);
     }
 }

@@ -1,5 +1,5 @@
 use Rattle.std.proofs.Common.{inl, inr}
-use Rattle.ntrun.proofs.print_file.Goals as goal
+use Rattle.nt_commands.proofs.commands.print_file.Goals as goal
 
 pub returns-in-Ok : goal.returns-in-Ok
 returns-in-Ok g c = inr (_, _, _, _, _, c.run_file.ensures)
