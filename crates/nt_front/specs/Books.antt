@@ -1,5 +1,5 @@
 -- What contracts see of a book.
-use Rattle.std.specs.Prelude.{◌≡◌, ℕ, ◌+◌, ◌<◌, ◌≤◌, List, ◌++◌, length, true, Result}
+use Rattle.std.specs.Prelude.{◌≡◌, ℕ, Bool, ◌+◌, ◌<◌, ◌≤◌, ◌^◌, ◌&&◌, nat_le, List, [], ◌++◌, length, true, Result}
 use Rattle.std.specs.FinMap.{len}
 use Rattle.atomic_table.specs.Seated.{TableId}
 use Rattle.nt_status.specs.declared.refusal.Refusal.{Refusal}
@@ -10,8 +10,12 @@ use Rattle.nt_core.specs.Lawful.{IsLawful}
 use Rattle.nt_core.specs.Steps.{Called}
 use Rattle.nt_core.specs.Moves.{Moves, pended, is_wait}
 use Rattle.nt_core.specs.Runs.{Turn, Calls, Ticks, IsTurn}
+use Rattle.nt_core.specs.State.{opening}
 use Rattle.nt_mail.specs.declared.entry.Entry.{Entry}
-use Rattle.nt_front.specs.Runs.{entries_of, IsRun}
+use Rattle.nt_mail.specs.Entries.{accepted}
+use Rattle.nt_mail.specs.Knowledge.{newcomers}
+use Rattle.nt_mail.specs.Seats.{Dispatcher as Seat, Gathered}
+use Rattle.nt_front.specs.Runs.{entries_of, IsRun, Agree}
 
 -- the dispatcher, the entries written, and the number of places in the journal
 pub record Ledger : Type 0 where
@@ -57,3 +61,30 @@ pub record Prepared : Type 0 where
   pub table : TableId
   pub threads : ℕ
   pub room : ℕ
+
+abbrev pub prepared : TableId → ℕ → ℕ → Prepared
+prepared table threads room = record { table = table; threads = threads; room = room }
+
+-- so many threads and so much room are lawful
+abbrev pub is_lawful_front : ℕ → ℕ → Bool
+is_lawful_front threads room = nat_le 1 threads && nat_le threads 256 && nat_le 1 room && nat_le room 1048576
+
+-- what a front without a name keeps: the seats of new threads, a dispatcher at its opening, and an empty journal with places for its room
+pub record IsBlank (b : Prepared) (all : Gathered) (core : Dispatcher) (journal : List Entry) (capacity : ℕ) : Type 0 where
+  pub seats : all ≡ record { table = b.table; written = []; published = []; parts = newcomers 0 b.threads }
+  pub words : b.table.words ≡ b.threads + 1
+  pub opens : state core ≡ opening b.threads
+  pub lawful : IsLawful core
+  pub empty : journal ≡ []
+  pub places : b.room ≤ capacity
+  pub numbers : b.room < 2 ^ 54
+  pub few : b.threads ≤ 256
+
+-- what a book keeps: the headline, entries that agree with the state, places for its room, and a seat that knows the journal
+pub record IsBook (b : Ledger) (threads capacity : ℕ) (dispatcher : Seat) (table : TableId) : Type 0 where
+  pub stands : Stands b
+  pub agree : Agree threads b.journal (state b.core)
+  pub places : b.room ≤ capacity
+  pub numbers : b.room < 2 ^ 54
+  pub seat : dispatcher ≡ record { table = table; written = b.journal; published = accepted b.journal }
+  pub words : table.words ≡ threads + 1

@@ -3,6 +3,8 @@ use Rattle.std.specs.Prelude.{◌≡◌, ℕ, ◌≤◌, max, zero, suc, List, [
 use Rattle.nt_core.specs.declared.call.Call.{Call}
 use Rattle.nt_core.specs.declared.call.Reply.{Reply}
 use Rattle.nt_status.specs.declared.refusal.Refusal.{Refusal}
+use Rattle.atomic_table.specs.Seated.{TableId}
+use Rattle.nt_mail.specs.Seats.{Seated}
 use Rattle.nt_mail.specs.declared.knowledge.Knowledge.{Knowledge}
 use Rattle.nt_mail.specs.declared.knowledge.Made.{Made}
 use Rattle.nt_mail.specs.declared.knowledge.Asked.{Asked}
@@ -63,3 +65,10 @@ last_made last (m ∷ ms) = last_made m.number ms
 -- there are no more calls than the number of the last one
 abbrev pub AreNumbered : List Made → Type 0
 AreNumbered made = length made ≤ last_made 0 made
+
+-- what a hold keeps: its seat is of this table, its floor is the greatest moment that the thread knows, and its calls are counted
+pub record IsHold (named : TableId) (seat : Seated) (greatest count : ℕ) : Type 0 where
+  pub table : seat.table ≡ named
+  pub floor : greatest ≡ floor_of seat.known
+  pub calls : count ≡ length seat.known.made
+  pub numbered : AreNumbered seat.known.made

@@ -2,6 +2,7 @@
 ghost use Rattle.std.specs.Prelude.{◌≡◌, ◌+◌, ◌≤◌, ◌<◌, ◌^◌, ◌&&◌, [], vec_len, vec_capacity, IfOk, IfErr, MatchBool, nat_le};
 ghost use Rattle.nt_status.specs.declared.refusal.Refusal.TheVariants.{InvalidParameter, Memory};
 ghost use Rattle.nt_mail.specs.Knowledge.{newcomers};
+ghost use Rattle.nt_front.specs.Books.{is_lawful_front};
 ghost use Rattle.nt_front.specs.Holds.{new_threads};
 
 use crate::book::Book;
@@ -31,18 +32,14 @@ pub struct Blank {
 }
 
 impl Model for Blank {
-    ghost use Rattle.std.specs.Prelude.{◌≡◌, ◌+◌, ◌≤◌, ◌<◌, ◌^◌, [], vec_capacity};
-    ghost use Rattle.nt_core.specs.State.{opening};
-    ghost use Rattle.nt_core.specs.Dispatcher.{state};
-    ghost use Rattle.nt_core.specs.Lawful.{IsLawful};
-    ghost use Rattle.nt_mail.specs.Knowledge.{newcomers};
-    ghost use Rattle.nt_front.specs.Books.{Prepared};
+    ghost use Rattle.std.specs.Prelude.{vec_capacity};
+    ghost use Rattle.nt_front.specs.Books.{Prepared, IsBlank, prepared};
 
     ghost Value = { Prepared };
 
-    ghost view = { λ b. record { table = b.mail; threads = b.threads; room = b.room } };
+    ghost view = { λ b. prepared b.mail b.threads b.room };
 
-    ghost invariant = { λ b. (b.seats ≡ record { table = b.mail; written = []; published = []; parts = newcomers 0 b.threads }) × (b.mail.words ≡ b.threads + 1) × (state b.core ≡ opening b.threads) × IsLawful b.core × (b.journal.items ≡ []) × (b.room ≤ vec_capacity b.journal) × (b.room < 2 ^ 54) × (b.threads ≤ 256) };
+    ghost invariant = { λ b. IsBlank (prepared b.mail b.threads b.room) b.seats b.core b.journal.items (vec_capacity b.journal) };
 }
 
 /// Makes what a front for these threads needs, with this room in its journal.
@@ -50,7 +47,7 @@ impl Model for Blank {
 /// Refused with 87 unless there are 1 to 256 threads and room for 1 to 1048576 entries, and with 8 where memory is refused.
 pub fn prepare(alloc: Global, threads: u32, journal_room: usize) -> Result<Blank, Refusal>
     ensures ok { IfOk result (λ b. (b.threads ≡ threads) × (b.room ≡ journal_room)) }
-    ensures err { IfErr result (λ r. MatchBool (nat_le 1 threads && nat_le threads 256 && nat_le 1 journal_room && nat_le journal_room 1048576) (r ≡ Memory) (r ≡ InvalidParameter)) }
+    ensures err { IfErr result (λ r. MatchBool (is_lawful_front threads journal_room) (r ≡ Memory) (r ≡ InvalidParameter)) }
 {
     if !is_lawful(threads, journal_room) {
         return Err(Refusal::InvalidParameter);
@@ -89,7 +86,7 @@ pub fn open<N: Named>(alloc: Global, blank: Blank) -> Result<(Front<N>, Vec<Pass
 
 /// Whether a front may have so many threads, and its journal so much room.
 fn is_lawful(threads: u32, room: usize) -> bool
-    ensures { result ≡ (nat_le 1 threads && nat_le threads 256 && nat_le 1 room && nat_le room 1048576) }
+    ensures { result ≡ is_lawful_front threads room }
 {
     1 <= threads && threads <= 256 && 1 <= room && room <= MOST_ENTRIES
 }

@@ -36,13 +36,10 @@ pub struct Book<N: Named> {
 }
 
 impl<N: Named> Model for Book<N> {
-    ghost use Rattle.std.specs.Prelude.{◌≡◌, ◌≤◌, ◌<◌, ◌+◌, ◌^◌, vec_capacity};
+    ghost use Rattle.std.specs.Prelude.{vec_capacity};
     ghost use Rattle.std.specs.Coded.{codes};
     ghost use Rattle.nt_waits.specs.Waits.{waits_code};
-    ghost use Rattle.nt_core.specs.Dispatcher.{state};
-    ghost use Rattle.nt_mail.specs.Entries.{accepted};
-    ghost use Rattle.nt_front.specs.Books.{Ledger, Stands, ledger};
-    ghost use Rattle.nt_front.specs.Runs.{Agree};
+    ghost use Rattle.nt_front.specs.Books.{Ledger, IsBook, ledger};
 
     ghost Value = { Ledger };
 
@@ -50,7 +47,7 @@ impl<N: Named> Model for Book<N> {
 
     ghost view = { λ b. ledger b.core b.journal.items b.room };
 
-    ghost invariant = { λ b. Stands (ledger b.core b.journal.items b.room) × Agree b.threads b.journal.items (state b.core) × (b.room ≤ vec_capacity b.journal) × (b.room < 2 ^ 54) × (b.dispatcher ≡ record { table = N.table; written = b.journal.items; published = accepted b.journal.items }) × (N.table.words ≡ b.threads + 1) };
+    ghost invariant = { λ b. IsBook (ledger b.core b.journal.items b.room) b.threads (vec_capacity b.journal) b.dispatcher N.table };
 }
 
 impl<N: Named> Book<N> {

@@ -19,15 +19,14 @@ pub struct Hold<N: Named> {
 }
 
 impl<N: Named> Model for Hold<N> {
-    ghost use Rattle.std.specs.Prelude.{◌≡◌, length};
     ghost use Rattle.nt_mail.specs.declared.knowledge.Knowledge.{Knowledge};
-    ghost use Rattle.nt_front.specs.Holds.{floor_of, AreNumbered};
+    ghost use Rattle.nt_front.specs.Holds.{IsHold};
 
     ghost Value = { Knowledge };
 
     ghost view = { λ h. h.seat.known };
 
-    ghost invariant = { λ h. (h.seat.table ≡ N.table) × (h.floor ≡ floor_of h.seat.known) × (h.calls ≡ length h.seat.known.made) × AreNumbered h.seat.known.made };
+    ghost invariant = { λ h. IsHold N.table h.seat h.floor h.calls };
 }
 
 impl<N: Named> Hold<N> {

@@ -31,9 +31,9 @@ invariant_of-hold-in-loop-thread g c =
     let t = c.loop-thread.thread in
     let next = newcomers-next t c.args.threads (omega arith) in
     let none : c.part-seat.result.known ≡ knows t [] [] [] [] =
-    ap (λ (s : Seated). s.known) c.part-seat.ensures.seat ∙ ap (λ (s : Gathered). first_of s.parts) c.loop-thread.invariant.seats ∙ ap first_of next in (
-      ap (λ (s : Seated). s.table) c.part-seat.ensures.seat ∙ c.requires.mail.0,
-      sym (ap floor_of none),
-      sym (ap (λ (k : Knowledge). length k.made) none),
-      subst (λ (k : Knowledge). AreNumbered k.made) (sym none) (omega arith),
-    )
+    ap (λ (s : Seated). s.known) c.part-seat.ensures.seat ∙ ap (λ (s : Gathered). first_of s.parts) c.loop-thread.invariant.seats ∙ ap first_of next in record {
+      table = ap (λ (s : Seated). s.table) c.part-seat.ensures.seat ∙ c.requires.mail.0;
+      floor = sym (ap floor_of none);
+      calls = sym (ap (λ (k : Knowledge). length k.made) none);
+      numbered = subst (λ (k : Knowledge). AreNumbered k.made) (sym none) (omega arith);
+    }

@@ -19,10 +19,10 @@ use Rattle.nt_front.proofs.book.Book.call.Goals as goal
 
 pub overflow_add-caller : goal.overflow_add-caller
 overflow_add-caller g c =
-    let fewer = fewer_calls c.caller.inside.seat.known (c.len-place.result + 1) c.caller.invariant.3 (omega arith) c.tell.ensures.earlier in
-    let count = c.caller.invariant.2 in
+    let fewer = fewer_calls c.caller.inside.seat.known (c.len-place.result + 1) c.caller.invariant.numbered (omega arith) c.tell.ensures.earlier in
+    let count = c.caller.invariant.calls in
     let place = c.len-place.ensures in
-    let room = c.self.invariant.3 in
+    let room = c.self.invariant.numbers in
     omega (arith, fewer, count)
 
 pub send-requires-clause-room : goal.send-requires-clause-room
@@ -33,7 +33,7 @@ send-requires-clause-room g c =
     let most = c.write_call-result.ensures.carried_out.most in
     let granted = ap length c.grants.ensures in
     let written = c.write_call-result.ensures.room in
-    (omega (arith, free, entries, pending, most, granted, written.0, written.1, c.self.invariant.2), omega (arith, free, entries, pending, most, granted, written.0, c.self.invariant.3))
+    (omega (arith, free, entries, pending, most, granted, written.0, written.1, c.self.invariant.places), omega (arith, free, entries, pending, most, granted, written.0, c.self.invariant.numbers))
 
 pub send-requires-clause-armed : goal.send-requires-clause-armed
 send-requires-clause-armed g c =
@@ -45,10 +45,10 @@ send-requires-clause-armed g c =
     let grants = c.write_call-result.new.core.grants in
     let waited = subst (λ (t : ℕ). c.is_waiting-waited.result ≡ pends old t) (c.from.ensures ∙ c.get.ensures) c.is_waiting-waited.ensures in
     let words = ap (λ (t : TableId). t.words) c.requires.mail in
-    let count : c.args.mail.now.words - 1 ≡ n = omega (arith, words, c.self.invariant.5) in
-    let known = below c.self.inside.core n c.self.invariant.0.lawful c.self.invariant.1.threads in
+    let count : c.args.mail.now.words - 1 ≡ n = omega (arith, words, c.self.invariant.words) in
+    let known = below c.self.inside.core n c.self.invariant.stands.lawful c.self.invariant.agree.threads in
     subst (λ (x : ℕ × List Entry × List Grant). AreArmed x.0 x.1 x.2) (λ i. (sym count i, sym c.write_call-result.ensures.journal i, sym c.grants.ensures i))
-    (call_sends n es old c.thread-who.result c.args.call c.write_call-result.result grants new c.is_waiting-waited.result c.self.invariant.1 known done.moves waited)
+    (call_sends n es old c.thread-who.result c.args.call c.write_call-result.result grants new c.is_waiting-waited.result c.self.invariant.agree known done.moves waited)
 
 pub invariant_of-self : goal.invariant_of-self
 invariant_of-self g c =
@@ -61,20 +61,20 @@ invariant_of-self g c =
     let result = c.write_call-result.result in
     let grants = after.grants in
     let waited = subst (λ (t : ℕ). c.is_waiting-waited.result ≡ pends old t) (c.from.ensures ∙ c.get.ensures) c.is_waiting-waited.ensures in
-    let known = below c.self.inside.core n c.self.invariant.0.lawful c.self.invariant.1.threads in
+    let known = below c.self.inside.core n c.self.invariant.stands.lawful c.self.invariant.agree.threads in
     let turn = Calls c.thread-who.result c.args.call result grants in
     let e = Called c.thread-who.result c.args.call result in
     let next = c.send.new.journal.items in
     let grown : next ≡ es ++ entries_of turn = journal_is es c.write_call-result.new.journal.items next e grants c.grants.result.now c.write_call-result.ensures.journal c.send.ensures.journal c.grants.ensures in
-    let kept = c.send.ensures.written ∙ ap (λ (d : Dispatcher). record d { written = next }) (c.tell.ensures.written ∙ ap (λ (d : Dispatcher). record d { written = d.written ++ c.index.result.now ∷ [] }) c.self.invariant.4) in
-    let now = ap accepted grown ∙ (accepted-step es e grants ∙ append-nil (accepted es)) in (
-      stands_after c.self.inside.core after es next c.self.inside.room turn c.self.invariant.0 done.lawful done.moves.threads done.called grown,
-      subst (λ l. Agree n l new) (sym grown) (agree_after_call n es old c.thread-who.result c.args.call result grants new c.is_waiting-waited.result c.self.invariant.1 known done.moves waited done.moment),
-      omega (arith, c.self.invariant.2, c.write_call-result.ensures.room.1, c.send.ensures.capacity),
-      c.self.invariant.3,
-      kept ∙ (λ i. record { table = g.N.Named.table; written = next; published = sym now i }),
-      c.self.invariant.5,
-    )
+    let kept = c.send.ensures.written ∙ ap (λ (d : Dispatcher). record d { written = next }) (c.tell.ensures.written ∙ ap (λ (d : Dispatcher). record d { written = d.written ++ c.index.result.now ∷ [] }) c.self.invariant.seat) in
+    let now = ap accepted grown ∙ (accepted-step es e grants ∙ append-nil (accepted es)) in record {
+      stands = stands_after c.self.inside.core after es next c.self.inside.room turn c.self.invariant.stands done.lawful done.moves.threads done.called grown;
+      agree = subst (λ l. Agree n l new) (sym grown) (agree_after_call n es old c.thread-who.result c.args.call result grants new c.is_waiting-waited.result c.self.invariant.agree known done.moves waited done.moment);
+      places = omega (arith, c.self.invariant.places, c.write_call-result.ensures.room.1, c.send.ensures.capacity);
+      numbers = c.self.invariant.numbers;
+      seat = kept ∙ (λ i. record { table = g.N.Named.table; written = next; published = sym now i });
+      words = c.self.invariant.words;
+    }
 
 pub invariant_of-caller : goal.invariant_of-caller
 invariant_of-caller g c =
@@ -85,9 +85,9 @@ invariant_of-caller g c =
     let entry = last_is es (Called c.thread-who.result c.args.call result) c.write_call-result.new.journal.items c.len-place.result c.index.result.now c.index.ensures c.write_call-result.ensures.journal here in
     let becomes : c.tell.new.caller.known ≡ with_call known (c.len-place.result + 1) c.args.call result =
     ap (λ (s : Seated). s.known) c.tell.ensures.made ∙ made_call known (c.len-place.result + 1) c.index.result.now c.thread-who.result c.args.call result entry (c.thread-who.ensures ∙ ap (λ (k : Knowledge). k.thread) (sym c.caller.view_is)) in
-    let count = c.caller.invariant.2 in (
-      ap (λ (s : Seated). s.table) c.tell.ensures.made ∙ c.requires.mail,
-      c.caller.invariant.1 ∙ (sym (floor_calls known (c.len-place.result + 1) c.args.call result) ∙ sym (ap floor_of becomes)),
-      (let a = calls_made known (c.len-place.result + 1) (Asked.Call c.args.call) result in let b = ap (λ (k : Knowledge). length k.made) becomes in omega (arith, a, b, count)),
-      subst (λ (k : Knowledge). AreNumbered k.made) (sym becomes) (numbered_made known (c.len-place.result + 1) (Asked.Call c.args.call) result c.caller.invariant.3 (omega arith) c.tell.ensures.earlier),
-    )
+    let count = c.caller.invariant.calls in record {
+      table = ap (λ (s : Seated). s.table) c.tell.ensures.made ∙ c.requires.mail;
+      floor = c.caller.invariant.floor ∙ (sym (floor_calls known (c.len-place.result + 1) c.args.call result) ∙ sym (ap floor_of becomes));
+      calls = (let a = calls_made known (c.len-place.result + 1) (Asked.Call c.args.call) result in let b = ap (λ (k : Knowledge). length k.made) becomes in omega (arith, a, b, count));
+      numbered = subst (λ (k : Knowledge). AreNumbered k.made) (sym becomes) (numbered_made known (c.len-place.result + 1) (Asked.Call c.args.call) result c.caller.invariant.numbered (omega arith) c.tell.ensures.earlier);
+    }

@@ -7,11 +7,11 @@ use Rattle.nt_front.proofs.Journals.{stands_at_first, agree_at_first}
 use Rattle.nt_front.proofs.book.Book.new.Goals as goal
 
 pub invariant_of-result : goal.invariant_of-result
-invariant_of-result g c = (
-  stands_at_first c.args.core c.args.threads c.args.room c.args.journal.items c.requires.core.0 c.requires.core.1 c.requires.journal.0,
-  agree_at_first c.args.threads c.args.journal.items (state c.args.core) c.requires.core.0 c.requires.journal.0,
-  c.requires.journal.1,
-  c.requires.journal.2,
-  c.requires.dispatcher ∙ ap (λ (es : List Entry). record { table = g.N.Named.table; written = es; published = accepted es }) (sym c.requires.journal.0),
-  c.requires.words,
-)
+invariant_of-result g c = record {
+  stands = stands_at_first c.args.core c.args.threads c.args.room c.args.journal.items c.requires.core.0 c.requires.core.1 c.requires.journal.0;
+  agree = agree_at_first c.args.threads c.args.journal.items (state c.args.core) c.requires.core.0 c.requires.journal.0;
+  places = c.requires.journal.1;
+  numbers = c.requires.journal.2;
+  seat = c.requires.dispatcher ∙ ap (λ (es : List Entry). record { table = g.N.Named.table; written = es; published = accepted es }) (sym c.requires.journal.0);
+  words = c.requires.words;
+}

@@ -19,8 +19,8 @@ use Rattle.nt_front.proofs.book.Book.tick.Goals as goal
 
 pub overflow_add-caller : goal.overflow_add-caller
 overflow_add-caller g c =
-    let fewer = fewer_calls c.caller.inside.seat.known (c.len-place.result + 1) c.caller.invariant.3 (omega arith) c.tell.ensures.earlier in
-    let count = c.caller.invariant.2 in
+    let fewer = fewer_calls c.caller.inside.seat.known (c.len-place.result + 1) c.caller.invariant.numbered (omega arith) c.tell.ensures.earlier in
+    let count = c.caller.invariant.calls in
     omega (arith, fewer, count)
 
 pub send-requires-clause-armed : goal.send-requires-clause-armed
@@ -33,10 +33,10 @@ send-requires-clause-armed g c =
     let grants = c.tick-result.new.self.grants in
     let waited = subst (λ (t : ℕ). c.is_waiting-armed.result ≡ pends old t) (c.from.ensures ∙ c.get.ensures) c.is_waiting-armed.ensures in
     let words = ap (λ (t : TableId). t.words) c.requires.mail in
-    let count : c.args.mail.now.words - 1 ≡ n = omega (arith, words, c.self.invariant.5) in
-    let known = below c.self.inside.core n c.self.invariant.0.lawful c.self.invariant.1.threads in
+    let count : c.args.mail.now.words - 1 ≡ n = omega (arith, words, c.self.invariant.words) in
+    let known = below c.self.inside.core n c.self.invariant.stands.lawful c.self.invariant.agree.threads in
     subst (λ (x : ℕ × List Entry × List Grant). AreArmed x.0 x.1 x.2) (λ i. (sym count i, sym c.push_reserved.ensures.items i, sym c.grants.ensures i))
-    (tick_sends n es old c.thread-by.result c.args.moment c.tick-result.result grants new c.is_waiting-armed.result c.self.invariant.1 known done.waits (done.moves c.thread-by.result) waited)
+    (tick_sends n es old c.thread-by.result c.args.moment c.tick-result.result grants new c.is_waiting-armed.result c.self.invariant.agree known done.waits (done.moves c.thread-by.result) waited)
 
 pub invariant_of-self : goal.invariant_of-self
 invariant_of-self g c =
@@ -51,21 +51,21 @@ invariant_of-self g c =
     let grants = after.grants in
     let moved = done.moves by in
     let waited = subst (λ (t : ℕ). c.is_waiting-armed.result ≡ pends old t) (c.from.ensures ∙ c.get.ensures) c.is_waiting-armed.ensures in
-    let known = below c.self.inside.core n c.self.invariant.0.lawful c.self.invariant.1.threads in
+    let known = below c.self.inside.core n c.self.invariant.stands.lawful c.self.invariant.agree.threads in
     let turn = Ticks by c.args.moment result grants in
     let e = Ticked by c.args.moment result in
     let next = c.send.new.journal.items in
     let grown : next ≡ es ++ entries_of turn = journal_is es c.push_reserved.new.self.items next e grants c.grants.result.now c.push_reserved.ensures.items c.send.ensures.journal c.grants.ensures in
-    let sent = c.send.ensures.written ∙ ap (λ (d : Dispatcher). record d { written = next }) (c.tell.ensures.written ∙ ap (λ (d : Dispatcher). record d { written = d.written ++ c.index.result.now ∷ [] }) c.self.invariant.4) in
+    let sent = c.send.ensures.written ∙ ap (λ (d : Dispatcher). record d { written = next }) (c.tell.ensures.written ∙ ap (λ (d : Dispatcher). record d { written = d.written ++ c.index.result.now ∷ [] }) c.self.invariant.seat) in
     let kept = c.publish.ensures ∙ ap (λ (d : Dispatcher). record d { published = d.published ++ accepted_if c.args.moment result }) sent in
-    let now = ap accepted grown ∙ accepted-step es e grants in (
-      stands_after c.self.inside.core after es next c.self.inside.room turn c.self.invariant.0 done.lawful moved.threads done.ticked grown,
-      subst (λ l. Agree n l new) (sym grown) (agree_after_tick n es old by c.args.moment result grants new c.is_waiting-armed.result c.self.invariant.1 known done.waits moved done.moment waited),
-      omega (arith, c.self.invariant.2, c.push_reserved.ensures.capacity, c.send.ensures.capacity),
-      c.self.invariant.3,
-      kept ∙ (λ i. record { table = g.N.Named.table; written = next; published = sym now i }),
-      c.self.invariant.5,
-    )
+    let now = ap accepted grown ∙ accepted-step es e grants in record {
+      stands = stands_after c.self.inside.core after es next c.self.inside.room turn c.self.invariant.stands done.lawful moved.threads done.ticked grown;
+      agree = subst (λ l. Agree n l new) (sym grown) (agree_after_tick n es old by c.args.moment result grants new c.is_waiting-armed.result c.self.invariant.agree known done.waits moved done.moment waited);
+      places = omega (arith, c.self.invariant.places, c.push_reserved.ensures.capacity, c.send.ensures.capacity);
+      numbers = c.self.invariant.numbers;
+      seat = kept ∙ (λ i. record { table = g.N.Named.table; written = next; published = sym now i });
+      words = c.self.invariant.words;
+    }
 
 pub invariant_of-caller : goal.invariant_of-caller
 invariant_of-caller g c =
@@ -78,9 +78,9 @@ invariant_of-caller g c =
     let entry = last_is es (Ticked c.thread-by.result moment result) c.push_reserved.new.self.items c.len-place.result c.index.result.now c.index.ensures c.push_reserved.ensures.items here in
     let becomes : c.tell.new.caller.known ≡ with_tick known number moment result =
     ap (λ (s : Seated). s.known) c.tell.ensures.made ∙ made_tick known number c.index.result.now c.thread-by.result moment result entry (c.thread-by.ensures ∙ ap (λ (k : Knowledge). k.thread) (sym c.caller.view_is)) in
-    let count = c.caller.invariant.2 in (
-      ap (λ (s : Seated). s.table) c.tell.ensures.made ∙ c.requires.mail,
-      c.floor_after-caller-inside.ensures ∙ (ap (λ (floor : ℕ). max floor (moment_if (Asked.Tick moment) result)) c.caller.invariant.1 ∙ (sym (floor_ticks known number moment result) ∙ sym (ap floor_of becomes))),
-      (let a = calls_made known number (Asked.Tick moment) result in let b = ap (λ (k : Knowledge). length k.made) becomes in omega (arith, a, b, count)),
-      subst (λ (k : Knowledge). AreNumbered k.made) (sym becomes) (numbered_made known number (Asked.Tick moment) result c.caller.invariant.3 (omega arith) c.tell.ensures.earlier),
-    )
+    let count = c.caller.invariant.calls in record {
+      table = ap (λ (s : Seated). s.table) c.tell.ensures.made ∙ c.requires.mail;
+      floor = c.floor_after-caller-inside.ensures ∙ (ap (λ (floor : ℕ). max floor (moment_if (Asked.Tick moment) result)) c.caller.invariant.floor ∙ (sym (floor_ticks known number moment result) ∙ sym (ap floor_of becomes)));
+      calls = (let a = calls_made known number (Asked.Tick moment) result in let b = ap (λ (k : Knowledge). length k.made) becomes in omega (arith, a, b, count));
+      numbered = subst (λ (k : Knowledge). AreNumbered k.made) (sym becomes) (numbered_made known number (Asked.Tick moment) result c.caller.invariant.numbered (omega arith) c.tell.ensures.earlier);
+    }
