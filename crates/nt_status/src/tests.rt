@@ -107,7 +107,7 @@ fn numbers_come_back(rt: HostRuntime) {
     assert_eq!(rt; Handle::new(65535).get(), 65535);
 }
 
-// Nine handles are one more than lie in place: each growth may be refused.
+// Nine handles are more than the four that lie in place: each growth may be refused.
 #[test]
 fn handles_keep_their_order(rt: HostRuntime) -> Result<(), Fail> {
     let mut handles = Handles::new(rt.alloc());
