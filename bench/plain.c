@@ -1,5 +1,5 @@
 /* What a script costs where nothing is dispatched: reads lines, parts their words, and prints as many lines as a
-   transcript has: one for each line but the first, and one more behind each `set`. */
+   transcript has: one for each line but the first, and one more after each `set`. */
 #define _GNU_SOURCE
 #include <stdio.h>
 #include <stdlib.h>

@@ -35,4 +35,3 @@ mod Counting
 mod Moves
 pub mod Runs
 pub mod Lawful
-mod Plain

@@ -17,8 +17,6 @@ mod objects;
 mod semaphores;
 mod serving;
 mod swap;
-#[cfg(test)]
-mod tests;
 mod ticks;
 mod timers;
 mod waiting;

@@ -85,7 +85,7 @@ impl Machine {
     }
 
     /// Tests the pending wait of this thread, and ends it where it fits.
-    pub(crate) fn visit(&mut self, thread: ThreadId)
+    fn visit(&mut self, thread: ThreadId)
         requires pends { IsTrue (pends (state self.old) thread) }
         requires sound { IsSound self.old }
         requires countable { self.old.table.looked + 1 < 2 ^ 64 }

@@ -3,18 +3,20 @@
 ghost use Rattle.std.specs.Prelude.{◌≡◌, ◌<◌, false, length, IfOk};
 ghost use Rattle.std.specs.Io.{ReadsAtMost, WritesAtMost};
 ghost use Rattle.std.specs.Io.KnownBytes.{Keeps, ReadConsumes, WriteAppends};
-ghost use Rattle.nt_devices.specs.Device.{Counts, HandsOn};
-ghost use Rattle.nt_devices.specs.Counted.{device_of, failures_of, handed_on_of};
+ghost use Rattle.nt_devices.specs.Device.{Counts, HandsOn, one_more};
+ghost use Rattle.nt_devices.specs.Counted.{device_of, failures_of, flushes_of, handed_on_of};
 
 use crate::sink::Sink;
 use crate::source::Source;
 use std::io::{self, ErrorKind, Read, Write};
 
-/// Any reader or writer, with a count of its failures, which stops at `u64::MAX`.
+/// Any reader or writer, with a count of its failures and one of its flushes. Both stop at `u64::MAX`.
 #[derive(Debug, Drop)]
 pub struct Counted<T> {
     device: T,
     failures: u64,
+    /// How many flushes were tried.
+    flushes: u64,
     /// Whether a flush succeeded, and nothing was written since.
     handed_on: bool,
 }
@@ -24,11 +26,13 @@ impl<T> Counted<T> {
     pub fn new(device: T) -> Counted<T>
         ensures device { device_of result ≡ device }
         ensures failures { failures_of result ≡ 0 }
+        ensures flushes { flushes_of result ≡ 0 }
         ensures held { handed_on_of result ≡ false }
     {
         Counted {
             device,
             failures: 0,
+            flushes: 0,
             handed_on: false,
         }
     }
@@ -44,6 +48,7 @@ impl<T> Counted<T> {
     fn note<X>(&mut self, outcome: &io::Result<X>)
         ensures counted { Counts (failures_of self.old) (failures_of self.new) outcome.now }
         ensures device { device_of self.new ≡ device_of self.old }
+        ensures flushes { flushes_of self.new ≡ flushes_of self.old }
         ensures handed { handed_on_of self.new ≡ handed_on_of self.old }
     {
         if outcome.is_err() {
@@ -90,6 +95,7 @@ impl<W: Write> Counted<W> {
         ensures bytes { WriteAppends (W.contents (device_of self.old)) (W.contents (device_of self.new)) result buf.now }
         ensures some { 0 < length buf.now → IfOk result (λ n. 0 < n) }
         ensures counted { Counts (failures_of self.old) (failures_of self.new) result }
+        ensures unflushed { flushes_of self.new ≡ flushes_of self.old }
         ensures held { handed_on_of self.new ≡ false }
     {
         self.handed_on = false;
@@ -104,8 +110,10 @@ impl<W: Write> Counted<W> {
     fn flush_once(&mut self) -> io::Result<()>
         ensures bytes { Keeps (W.contents (device_of self.old)) (W.contents (device_of self.new)) }
         ensures counted { Counts (failures_of self.old) (failures_of self.new) result }
+        ensures flushed { flushes_of self.new ≡ one_more (flushes_of self.old) }
         ensures handed { HandsOn (handed_on_of self.new) result }
     {
+        self.flushes = self.flushes.saturating_add(1);
         let result = self.device.flush();
         self.note(&result);
         self.handed_on = result.is_ok();
@@ -127,6 +135,8 @@ impl<W: Write> Write for Counted<W> {
 
 impl<W: Write> Sink for Counted<W> {
     ghost failed = { λ c. c.failures };
+
+    ghost flushes = { λ c. c.flushes };
 
     ghost handed_on = { λ c. c.handed_on };
 

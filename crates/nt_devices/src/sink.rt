@@ -1,15 +1,18 @@
-//! What writes, counts the writes and flushes that failed, and knows whether all was handed on.
+//! What writes, counts its flushes and what failed, and knows whether all was handed on.
 
 ghost use Rattle.std.specs.Prelude.{◌≡◌, ◌<◌, ℕ, Bool, false, length, IfOk};
 ghost use Rattle.std.specs.Io.{WritesAtMost};
 ghost use Rattle.std.specs.Io.KnownBytes.{Keeps, WriteAppends};
-ghost use Rattle.nt_devices.specs.Device.{Counts, HandsOn};
+ghost use Rattle.nt_devices.specs.Device.{Counts, HandsOn, one_more};
 
 use std::io::{self, Write};
 
 /// A writer with a count of the writes and flushes that failed. A write that takes no bytes is a failure.
 pub trait Sink: Write {
     ghost failed: { Self → ℕ };
+
+    // how many flushes were tried
+    ghost flushes: { Self → ℕ };
 
     // whether a flush succeeded, and nothing was written since
     ghost handed_on: { Self → Bool };
@@ -23,11 +26,13 @@ pub trait Sink: Write {
         ensures bytes { WriteAppends (Self.contents self.old) (Self.contents self.new) result buf.now }
         ensures some { 0 < length buf.now → IfOk result (λ n. 0 < n) }
         ensures counted { Counts (failed self.old) (failed self.new) result }
+        ensures unflushed { flushes self.new ≡ flushes self.old }
         ensures held { handed_on self.new ≡ false };
 
     /// Hands on what the writer holds back. A failure is counted, and not tried again.
     fn flush_counted(&mut self) -> io::Result<()>
         ensures bytes { Keeps (Self.contents self.old) (Self.contents self.new) }
         ensures counted { Counts (failed self.old) (failed self.new) result }
+        ensures flushed { flushes self.new ≡ one_more (flushes self.old) }
         ensures handed { HandsOn (handed_on self.new) result };
 }

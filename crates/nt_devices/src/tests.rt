@@ -1,6 +1,6 @@
 //! Devices that fail, and what is counted of it.
 
-use crate::{Counted, Sink, Source};
+use crate::{Counted, Sink, Source, WriteFailed, write_whole};
 use std::io::{self, ErrorKind, Read, Write};
 
 /// A reader of zeros and a writer that keeps nothing. It fails as often as it is told to, and then no more.
@@ -9,10 +9,21 @@ struct Failing {
     times: u64,
     /// How many bytes it gives or takes at once.
     at_once: usize,
+    /// How often it was called.
+    calls: u64,
 }
 
 impl Failing {
+    fn new(times: u64, at_once: usize) -> Failing {
+        Failing {
+            times,
+            at_once,
+            calls: 0,
+        }
+    }
+
     fn fails(&mut self) -> bool {
+        self.calls = self.calls.saturating_add(1);
         let fails = self.times > 0;
         self.times = self.times.saturating_sub(1);
         fails
@@ -48,10 +59,7 @@ impl Write for Failing {
 
 #[test]
 fn each_failed_read_is_counted(rt: HostRuntime) {
-    let mut reader = Counted::new(Failing {
-        times: 2,
-        at_once: 3,
-    });
+    let mut reader = Counted::new(Failing::new(2, 3));
     let mut bytes = [1; 4];
     assert_eq!(rt; Source::failures(&reader), 0);
     assert!(rt; reader.read_counted(&mut bytes).is_err());
@@ -64,10 +72,7 @@ fn each_failed_read_is_counted(rt: HostRuntime) {
 
 #[test]
 fn each_failed_write_and_flush_is_counted(rt: HostRuntime) {
-    let mut writer = Counted::new(Failing {
-        times: 3,
-        at_once: 3,
-    });
+    let mut writer = Counted::new(Failing::new(3, 3));
     assert_eq!(rt; Sink::failures(&writer), 0);
     assert!(rt; writer.write_counted(b"four").is_err());
     assert!(rt; writer.flush_counted().is_err());
@@ -81,12 +86,45 @@ fn each_failed_write_and_flush_is_counted(rt: HostRuntime) {
 
 #[test]
 fn a_write_of_no_bytes_is_a_failure_where_there_are_some(rt: HostRuntime) {
-    let mut writer = Counted::new(Failing {
-        times: 0,
-        at_once: 0,
-    });
+    let mut writer = Counted::new(Failing::new(0, 0));
     assert!(rt; matches!(writer.write_counted(b""), Ok(0)));
     assert_eq!(rt; Sink::failures(&writer), 0);
     assert!(rt; writer.write_counted(b"four").is_err());
     assert_eq!(rt; Sink::failures(&writer), 1);
+}
+
+/// One counted call, and whether it succeeded.
+fn call_counted(device: &mut Failing, call: &str) -> bool {
+    let mut counted = Counted::new(device);
+    match call {
+        "read" => counted.read_counted(&mut [0; 4]).is_ok(),
+        "write" => counted.write_counted(b"four").is_ok(),
+        _ => counted.flush_counted().is_ok(),
+    }
+}
+
+#[test]
+fn each_counted_call_is_one_call_of_the_device(rt: HostRuntime) {
+    for call in ["read", "write", "flush"] {
+        let mut device = Failing::new(1, 3);
+        assert!(rt; !call_counted(&mut device, call), "{call}");
+        assert_eq!(rt; device.calls, 1, "{call}");
+        assert!(rt; call_counted(&mut device, call), "{call}");
+        assert_eq!(rt; device.calls, 2, "{call}");
+    }
+}
+
+#[test]
+fn a_failed_write_ends_the_writing_of_a_whole(rt: HostRuntime) {
+    for (times, at_once, calls, outcome) in [
+        (0, 3, 3, Ok(())),
+        (0, 9, 1, Ok(())),
+        (1, 3, 1, Err(WriteFailed)),
+    ] {
+        let mut device = Failing::new(times, at_once);
+        let mut writer = Counted::new(&mut device);
+        assert_eq!(rt; write_whole(&mut writer, b"of nine b"), outcome);
+        assert_eq!(rt; Sink::failures(&writer), times);
+        assert_eq!(rt; device.calls, calls);
+    }
 }

@@ -80,6 +80,7 @@ impl Input {
         ensures bytes { Keeps (to_come self.old (R.remaining reader.old)) (to_come self.new (R.remaining reader.new)) }
         ensures end { OnOk result (self.new ≡ [] → IsAtEnd (R.remaining reader.new)) }
         ensures failed { OnErr result (result ≡ Err ReadFault.Failed) }
+        ensures nothing_ahead { OnErr result (self.new ≡ []) }
         ensures uncounted { OnOk result (R.failed reader.new ≡ R.failed reader.old) }
         ensures counted { OnErr result (R.failed reader.new ≡ one_more (R.failed reader.old)) }
     {
@@ -134,7 +135,8 @@ impl Input {
         }
     }
 
-    /// Reads the next line into `line`, without the LF that ends it.
+    /// Reads the next line into `line`, without the LF that ends it. Where a read failed, `line` has the bytes of it that
+    /// were read before, and nothing else was read ahead.
     pub fn read_line<R: Source>(
         &mut self,
         reader: &mut R,
@@ -143,6 +145,7 @@ impl Input {
         requires { 4097 ≤ vec_capacity line.old }
         ensures ok { IfOk result (ReadsLine (to_come self.old (R.remaining reader.old)) (to_come self.new (R.remaining reader.new)) line.new.items) }
         ensures err { IfErr result (StopsInLine (to_come self.old (R.remaining reader.old)) (to_come self.new (R.remaining reader.new)) line.new.items) }
+        ensures nothing_ahead { result ≡ Err ReadFault.Failed → self.new ≡ [] }
         ensures counted { CountsReadFault (R.failed reader.old) (R.failed reader.new) result }
         ensures room { vec_capacity line.old ≤ vec_capacity line.new }
     {

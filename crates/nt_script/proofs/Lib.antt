@@ -1,4 +1,3 @@
-pub mod Slices
 pub mod Texts
 pub mod Lines
 pub mod Names

@@ -4,13 +4,12 @@ use Rattle.std.specs.List.{slice_split, onto_first, AllByRecursion}
 use Rattle.std.proofs.lemmas.List.Splits.{slice_split_at, slice_split_none, slice_split-cons_yes, slice_split-cons_no}
 use Rattle.std.specs.Io.KnownBytes.{Consumes, Appends, Keeps, IsAtEnd}
 use Rattle.std.proofs.lemmas.Bool.{lt-leb}
-use Rattle.std.proofs.KnownBytes.{Consumes-trans, Appends-trans, Appends-nil, Appends-kept, Consumes-kept}
-use Rattle.nt_script.specs.Bytes.{AppendsFront}
+use Rattle.std.proofs.KnownBytes.{Consumes-trans, Appends-trans, Appends-nil, Appends-kept, Consumes-kept, prepend_known-nil}
 use Rattle.nt_lines.specs.Lines.{is_feed, HasNoFeed, lines_of, without_empty_last, to_come}
 use Rattle.nt_core.specs.Runs.{Turn}
 use Rattle.nt_script.specs.Transcript.{FaultIn}
 use Rattle.nt_script.specs.Progress.{Progress, Advances, CarriedOut, scope_of, progress_of}
-use Rattle.nt_script.specs.Running.{Has, end_of, summary_at, Stops, FaultNext, AnyCause, WritesAt, Breaks, Answers, with_feeds, TakesLine, FindsFault, FailsIn, TakesNext, SoFar, Whole, Ends, WritesLine}
+use Rattle.nt_script.specs.Running.{Has, end_of, summary_at, Stops, FaultNext, AnyCause, ReadsPart, OutputNext, Breaks, Answers, with_feeds, TakesLine, FindsFault, FailsIn, TakesNext, NothingAhead, SoFar, Whole, Ends, WritesLine}
 use Rattle.nt_script.specs.declared.fault.ScriptFault.{ScriptFault}
 use Rattle.nt_script.specs.declared.fault.ScriptFault.TheVariants.{LineTooLong}
 use Rattle.nt_script.specs.declared.fault.RunFault.{RunFault}
@@ -93,17 +92,6 @@ input_at_end None left' taken h end = tt
 input_at_end (Some bytes) None taken h end = absurd h
 input_at_end (Some bytes) (Some rest) taken h end = h ∙ ap (λ (l : List ℕ). taken ++ l) end ∙ append-nil taken
 
--- a beginning of what comes behind other text
-pub front_behind : (a b c : Option (List ℕ)) (text more : List ℕ) → Appends a b text → AppendsFront b c more → AppendsFront a c (text ++ more)
-front_behind a b c text more p q =
-    (length text + q.0, subst (Appends a c) (sym (take_behind text more q.0)) (Appends-trans a b c text (take q.0 more) p q.1))
-  where
-    take_behind : (xs ys : List ℕ) (n : ℕ) → take (length xs + n) (xs ++ ys) ≡ xs ++ take n ys
-    take_behind [] ys n = ap (λ (k : ℕ). take k ys) (zero-add n)
-    take_behind (x ∷ xs) ys n =
-        let next : length (x ∷ xs) + n ≡ suc (length xs + n) = omega arith in
-        ap (λ (k : ℕ). take k ((x ∷ xs) ++ ys)) next ∙ ap (λ (l : List ℕ). x ∷ l) (take_behind xs ys n)
-
 -- ---- one line more
 
 with_feeds-more : (lines : List (List ℕ)) (line : List ℕ) → with_feeds (lines ++ line ∷ []) ≡ with_feeds lines ++ (line ++ 10 ∷ [])
@@ -184,7 +172,8 @@ module _ (number : ℕ) (old new : Option Progress) (left mid left' held between
       }
 
   -- the lines before this one, and these behind them
-  stops : (IsCause : Option Progress → List (List ℕ) → Type 0) (rest : List ℕ) (after : List (List ℕ)) → Has left (with_feeds s.lines ++ rest) → lines_of rest ≡ after → IsCause old after → Keeps between held'
+  pub stops : (IsCause : List (List ℕ) → Option Progress → List (List ℕ) → Type 0) (rest : List ℕ) (after : List (List ℕ)) → Has left (with_feeds s.lines ++ rest) → lines_of rest ≡ after → IsCause s.lines old after
+      → Keeps between held'
       → Stops left held held' number IsCause
   stops IsCause rest after has lines cause kept = record {
     input = with_feeds s.lines ++ rest;
@@ -201,11 +190,16 @@ module _ (number : ℕ) (old new : Option Progress) (left mid left' held between
     cause = cause;
   }
 
-  -- reading stopped within a line
-  stops-within : (bytes : List ℕ) → Consumes mid left' bytes → Keeps between held' → Stops left held held' number AnyCause
-  stops-within bytes taken kept =
+  -- the run stopped within a line, or after it
+  pub stops-within : (IsCause : List (List ℕ) → Option Progress → List (List ℕ) → Type 0) (bytes : List ℕ) → Consumes mid left' bytes → ((after : List (List ℕ)) → IsCause s.lines old after)
+      → Keeps between held' → Stops left held held' number IsCause
+  stops-within IsCause bytes taken cause kept =
       let input = input_of left left' (with_feeds s.lines ++ bytes) (Consumes-trans left mid left' (with_feeds s.lines) bytes s.taken taken) in
-      stops AnyCause (bytes ++ input.0) (lines_of (bytes ++ input.0)) (rw append_assoc at input.1) refl tt kept
+      stops IsCause (bytes ++ input.0) (lines_of (bytes ++ input.0)) (rw append_assoc at input.1) refl (cause (lines_of (bytes ++ input.0))) kept
+
+  -- what was taken in all, where a part of a line was
+  pub consumed : (part : List ℕ) → Consumes mid left' part → Consumes left left' (with_feeds s.lines ++ part)
+  consumed part taken = Consumes-trans left mid left' (with_feeds s.lines) part s.taken taken
 
   -- a line that was read whole: the lines of the input from it on
   from_line : (line : List ℕ) → TakesLine mid left' line → (rest : List ℕ) × (others : List (List ℕ)) × Has left (with_feeds s.lines ++ rest) × (lines_of rest ≡ line ∷ others)
@@ -234,36 +228,49 @@ module _ (number : ℕ) (old new : Option Progress) (left mid left' held between
       let line = h.0 in
       let input = input_of left left' (with_feeds s.lines ++ line) (Consumes-trans left mid left' (with_feeds s.lines) line s.taken h.3) in
       let long = lines_of-long line input.0 h.1 (omega (arith, h.2)) in
-      stops (FaultNext fault) (line ++ input.0) ((line ++ long.0) ∷ long.1) (rw append_assoc at input.1) long.2 (subst (λ (f : ScriptFault). FaultIn (scope_of old) (line ++ long.0) f) (sym h.4) (too_long line long.0 h.2)) kept
+      stops (FaultNext fault) (line ++ input.0) ((line ++ long.0) ∷ long.1) (rw append_assoc at input.1) long.2 (subst (λ (f : ScriptFault). FaultIn (scope_of old) (line ++ long.0) f) (sym h.4) (too_long line long.0 (omega (arith, h.2)))) kept
 
   pub Breaks-in : FailsIn number old new mid left' between held' → Breaks left held held' number
   Breaks-in f =
       let from = from_line f.line f.taken in
       record {
         input = with_feeds s.lines ++ from.0;
-        turns = s.turns ++ f.turns;
-        text = s.text ++ f.text;
-        whole = s.text ++ f.text;
-        before = s.lines ++ f.line ∷ [];
-        after = from.1;
-        now = new;
+        turns = s.turns;
+        text = s.text;
+        output = f.text;
+        before = s.lines;
+        after = f.line ∷ from.1;
+        now = old;
+        taken = f.written.0;
         has = from.2;
-        lines = lines_of-feeds s.lines from.0 s.feedless ∙ ap (λ (others : List (List ℕ)). s.lines ++ others) from.3 ∙ sym (append_assoc s.lines (f.line ∷ []) from.1);
-        carried = carried-more f.line f.turns f.text f.advances;
-        place = at from.1 new (omega (arith, s.place, length-append s.lines (f.line ∷ [])));
-        written = front_behind held between held' s.text f.text s.written f.written;
+        lines = lines_of-feeds s.lines from.0 s.feedless ∙ ap (λ (others : List (List ℕ)). s.lines ++ others) from.3;
+        place = s.place;
+        carried = s.carried;
+        next = (f.turns, new, f.advances);
+        written = Appends-trans held between held' s.text (take f.written.0 f.text) s.written f.written.2;
+        not_whole = f.written.1;
       }
-    where
-      at : (after : List (List ℕ)) (now : Option Progress) → number ≡ length (s.lines ++ f.line ∷ []) → WritesAt number (s.lines ++ f.line ∷ []) after now (s.text ++ f.text) (s.text ++ f.text)
-      at after None e = (e, refl)
-      at after (Some now) e = inl (e, refl)
 
-  -- a line that was not carried out ends the run
-  pub Answers-err : (fault : RunFault) → TakesNext number old new mid left' between held' (Err fault) → Answers left held held' (Err fault)
-  Answers-err (Script place fault) t = subst (λ (n : ℕ). Stops left held held' n (FaultNext fault)) (sym t.0) (Stops-fault fault t.1 t.2)
-  Answers-err (Read place) t = subst (λ (n : ℕ). Stops left held held' n AnyCause) (sym t.0) (stops-within t.1.0 t.1.1 t.2)
-  Answers-err (Memory place) t = subst (λ (n : ℕ). Stops left held held' n AnyCause) (sym t.0) (stops-within t.1.0 t.1.1 t.2)
-  Answers-err (Write place) t = subst (Breaks left held held') (sym t.0) (Breaks-in t.1)
+-- what the reader has left, where nothing was read ahead
+reader_left : (ahead : List ℕ) (left reader : Option (List ℕ)) (bytes : List ℕ) → ahead ≡ [] → Consumes left (to_come ahead reader) bytes → Consumes left reader bytes
+reader_left ahead left reader bytes none taken =
+    let same : to_come ahead reader ≡ reader = ap (λ (l : List ℕ). to_come l reader) none ∙ prepend_known-nil reader in
+    subst (λ (rest : Option (List ℕ)). Consumes left rest bytes) same taken
+
+-- a line that was not carried out ends the run
+pub Answers-err : (number : ℕ) (old new : Option Progress) (left mid : Option (List ℕ)) (ahead : List ℕ) (reader held between held' : Option (List ℕ)) → SoFar number old left mid held between → (fault : RunFault)
+    → TakesNext number old new mid (to_come ahead reader) between held' (Err fault) → NothingAhead ahead fault → Answers left reader held held' (Err fault)
+Answers-err number old new left mid ahead reader held between held' s (Script place fault) t none =
+    subst (λ (n : ℕ). Stops left held held' n (FaultNext fault)) (sym t.0) (Stops-fault number old new left mid (to_come ahead reader) held between held' s fault t.1 t.2)
+Answers-err number old new left mid ahead reader held between held' s (Read place) t none =
+    let part = t.1 in
+    let taken = reader_left ahead left reader (with_feeds s.lines ++ part.0) none (consumed number old new left mid (to_come ahead reader) held between held' s part.0 part.3) in
+    subst (λ (n : ℕ). Stops left held held' n (ReadsPart left reader)) (sym t.0)
+    (stops-within number old new left mid (to_come ahead reader) held between held' s (ReadsPart left reader) part.0 part.3 (λ after. (part.0, part.1, part.2, taken)) t.2)
+Answers-err number old new left mid ahead reader held between held' s (Memory place) t none =
+    subst (λ (n : ℕ). Stops left held held' n AnyCause) (sym t.0) (stops-within number old new left mid (to_come ahead reader) held between held' s AnyCause t.1.0 t.1.1 (λ after. tt) t.2)
+Answers-err number old new left mid ahead reader held between held' s (Write place) t none =
+    subst (Breaks left held held') (sym t.0) (Breaks-in number old new left mid (to_come ahead reader) held between held' s t.1)
 
 -- ---- a line that was read
 
@@ -282,10 +289,10 @@ Turns-err number line old new left left' held held' (Read place) t w = absurd w
 
 -- ---- the end
 
--- the end was written, or not, behind all lines
-pub Answers-end : (count : ℕ) (now : Option Progress) (left held between held' : Option (List ℕ)) (result : Result Summary RunFault)
-    → Whole count now left held between → Ends count now between held' result → Answers left held held' result
-Answers-end count None left held between held' (Err (Script place fault)) w e = record {
+-- the end was written, or not, after all lines
+pub Answers-end : (count : ℕ) (now : Option Progress) (left reader held between held' : Option (List ℕ)) (result : Result Summary RunFault)
+    → Whole count now left held between → Ends count now between held' result → Answers left reader held held' result
+Answers-end count None left reader held between held' (Err (Script place fault)) w e = record {
   input = w.input;
   turns = w.turns;
   text = w.text;
@@ -299,7 +306,7 @@ Answers-end count None left held between held' (Err (Script place fault)) w e = 
   written = Appends-kept held between held' w.text w.written e.2;
   cause = (refl, e.1);
 }
-Answers-end count (Some now) left held between held' (Ok summary) w e = record {
+Answers-end count (Some now) left reader held between held' (Ok summary) w e = record {
   input = w.input;
   turns = w.turns;
   text = w.text;
@@ -309,7 +316,7 @@ Answers-end count (Some now) left held between held' (Ok summary) w e = record {
   written = Appends-trans held between held' w.text (end_of now) w.written e.1;
   counts = e.0 ∙ ap (λ (n : ℕ). summary_at n now) w.counted ∙ ap (λ (tally : Tally). summary_at (length (lines_of w.input)) (record now { tally = tally })) w.carried.ran.1;
 }
-Answers-end count (Some now) left held between held' (Err (Memory place)) w e = record {
+Answers-end count (Some now) left reader held between held' (Err (Memory place)) w e = record {
   input = w.input;
   turns = w.turns;
   text = w.text;
@@ -323,30 +330,33 @@ Answers-end count (Some now) left held between held' (Err (Memory place)) w e = 
   written = Appends-kept held between held' w.text w.written e.1;
   cause = tt;
 }
-Answers-end count (Some now) left held between held' (Err (Write place)) w e = record {
+Answers-end count (Some now) left reader held between held' (Err (Write place)) w e = record {
   input = w.input;
   turns = w.turns;
   text = w.text;
-  whole = w.text ++ end_of now;
+  output = end_of now;
   before = lines_of w.input;
   after = [];
   now = Some now;
+  taken = e.1.0;
   has = w.has;
   lines = sym (append-nil (lines_of w.input));
+  place = e.0 ∙ ap (λ (n : ℕ). 1 + n) w.counted;
   carried = w.carried;
-  place = inr (e.0 ∙ ap (λ (n : ℕ). 1 + n) w.counted, refl, refl);
-  written = front_behind held between held' w.text (end_of now) w.written e.1;
+  next = refl;
+  written = Appends-trans held between held' w.text (take e.1.0 (end_of now)) w.written e.1.2;
+  not_whole = e.1.1;
 }
-Answers-end count None left held between held' (Ok summary) w e = absurd e
-Answers-end count None left held between held' (Err (Read place)) w e = absurd e
-Answers-end count None left held between held' (Err (Memory place)) w e = absurd e
-Answers-end count None left held between held' (Err (Write place)) w e = absurd e
-Answers-end count (Some now) left held between held' (Err (Script place fault)) w e = absurd e
-Answers-end count (Some now) left held between held' (Err (Read place)) w e = absurd e
+Answers-end count None left reader held between held' (Ok summary) w e = absurd e
+Answers-end count None left reader held between held' (Err (Read place)) w e = absurd e
+Answers-end count None left reader held between held' (Err (Memory place)) w e = absurd e
+Answers-end count None left reader held between held' (Err (Write place)) w e = absurd e
+Answers-end count (Some now) left reader held between held' (Err (Script place fault)) w e = absurd e
+Answers-end count (Some now) left reader held between held' (Err (Read place)) w e = absurd e
 
 -- nothing was taken yet
-pub Answers-none : (left held : Option (List ℕ)) → Answers left held held (Err (Memory 1))
-Answers-none left held =
+pub Answers-none : (left reader held : Option (List ℕ)) → Answers left reader held held (Err (Memory 1))
+Answers-none left reader held =
     let input = all_of left in
     record {
       input = input.0;
@@ -368,8 +378,8 @@ Answers-none left held =
     all_of (Some bytes) = (bytes, refl)
 
 -- more lines than numbers
-pub Answers-full : (number : ℕ) (now : Option Progress) (left left' held held' : Option (List ℕ)) → SoFar number now left left' held held' → Answers left held held' (Err (Memory number))
-Answers-full number now left left' held held' s =
+pub Answers-full : (number : ℕ) (now : Option Progress) (left left' reader held held' : Option (List ℕ)) → SoFar number now left left' held held' → Answers left reader held held' (Err (Memory number))
+Answers-full number now left left' reader held held' s =
     let input = input_of left left' (with_feeds s.lines) s.taken in
     record {
       input = with_feeds s.lines ++ input.0;

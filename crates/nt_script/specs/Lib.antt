@@ -1,4 +1,3 @@
-pub mod Bytes
 pub mod Plain
 pub mod Scope
 pub mod Naming

@@ -1,10 +1,9 @@
 -- What a run of a script took, wrote and answered.
-use Rattle.std.specs.Prelude.{◌≡◌, ℕ, ◌+◌, ◌<◌, ◌⊎◌, List, [], ◌∷◌, ◌++◌, length, count_by, ⊤, Option, None, Some, Result, Ok, Err}
+use Rattle.std.specs.Prelude.{◌≡◌, ℕ, ◌+◌, ◌<◌, ◌≤◌, ◌⊎◌, List, [], ◌∷◌, ◌++◌, length, take, count_by, ⊤, Option, None, Some, Result, Ok, Err}
 use Rattle.std.specs.List.{flat_map, sum_by, AllByRecursion}
 use Rattle.std.specs.FinMap.{len}
 use Rattle.std.specs.Io.KnownBytes.{Consumes, Appends, Keeps, IsAtEnd}
-use Rattle.nt_devices.specs.Device.{one_more}
-use Rattle.nt_script.specs.Bytes.{AppendsFront}
+use Rattle.nt_devices.specs.Device.{AppendsPart, one_more}
 use Rattle.nt_lines.specs.Lines.{HasNoFeed, lines_of}
 use Rattle.nt_core.specs.Runs.{Turn}
 use Rattle.nt_script.specs.Transcript.{FaultIn, end_text}
@@ -49,7 +48,7 @@ pub record Completes (left held held' : Option (List ℕ)) (summary : Summary) :
   pub counts : summary ≡ summary_of (lines_of input) turns end
 
 -- The lines before this one were carried out, and this one was not.
-pub record Stops (left held held' : Option (List ℕ)) (number : ℕ) (IsCause : Option Progress → List (List ℕ) → Type 0) : Type 0 where
+pub record Stops (left held held' : Option (List ℕ)) (number : ℕ) (IsCause : List (List ℕ) → Option Progress → List (List ℕ) → Type 0) : Type 0 where
   pub input : List ℕ
   pub turns : List Turn
   pub text : List ℕ
@@ -61,43 +60,55 @@ pub record Stops (left held held' : Option (List ℕ)) (number : ℕ) (IsCause :
   pub place : number ≡ 1 + length before
   pub carried : CarriedOut before turns text now
   pub written : Appends held held' text
-  pub cause : IsCause now after
+  pub cause : IsCause before now after
 
 -- the first fault of the next line; or the input ended with no `threads` line
-abbrev pub FaultNext : ScriptFault → Option Progress → List (List ℕ) → Type 0
-FaultNext fault now [] = (now ≡ None) × (fault ≡ ThreadsExpected)
-FaultNext fault now (bytes ∷ others) = FaultIn (scope_of now) bytes fault
+abbrev pub FaultNext : ScriptFault → List (List ℕ) → Option Progress → List (List ℕ) → Type 0
+FaultNext fault before now [] = (now ≡ None) × (fault ≡ ThreadsExpected)
+FaultNext fault before now (bytes ∷ others) = FaultIn (scope_of now) bytes fault
 
-abbrev pub AnyCause : Option Progress → List (List ℕ) → Type 0
-AnyCause now after = Unit {0}
+-- lines, each with its LF
+abbrev pub with_feeds : List (List ℕ) → List ℕ
+with_feeds lines = flat_map (λ line. line ++ 10 ∷ []) lines
 
--- The output of the line with this number, or of the end, was being written.
-abbrev pub WritesAt : ℕ → List (List ℕ) → List (List ℕ) → Option Progress → List ℕ → List ℕ → Type 0
-WritesAt number before after None text whole = (number ≡ length before) × (whole ≡ text)
-WritesAt number before after (Some now) text whole =
-    ((number ≡ length before) × (whole ≡ text)) ⊎ ((number ≡ 1 + length before) × (after ≡ []) × (whole ≡ text ++ end_of now))
+-- The lines before the next were read whole, and of the next a part without its LF: 4096 bytes at most.
+abbrev pub ReadsPart : (left left' : Option (List ℕ)) → List (List ℕ) → Option Progress → List (List ℕ) → Type 0
+ReadsPart left left' before now after = (part : List ℕ) × HasNoFeed part × (length part ≤ 4096) × Consumes left left' (with_feeds before ++ part)
 
--- These lines were carried out, and not all of their output was written.
+abbrev pub AnyCause : List (List ℕ) → Option Progress → List (List ℕ) → Type 0
+AnyCause before now after = Unit {0}
+
+-- This output comes next: that of the next line; or, the input being over, that of the end.
+abbrev pub OutputNext : ℕ → List (List ℕ) → Option Progress → List ℕ → Type 0
+OutputNext number (bytes ∷ others) now output = (turns : List Turn) × (new : Option Progress) × Advances number bytes now turns output new
+OutputNext number [] None output = ⊥
+OutputNext number [] (Some now) output = output ≡ end_of now
+
+-- The lines before this one were carried out and their output written whole; of the output that comes next a part was written.
 pub record Breaks (left held held' : Option (List ℕ)) (number : ℕ) : Type 0 where
   pub input : List ℕ
   pub turns : List Turn
   pub text : List ℕ
-  pub whole : List ℕ
+  pub output : List ℕ
   pub before : List (List ℕ)
   pub after : List (List ℕ)
   pub now : Option Progress
+  pub taken : ℕ
   pub has : Has left input
   pub lines : lines_of input ≡ before ++ after
+  pub place : number ≡ 1 + length before
   pub carried : CarriedOut before turns text now
-  pub place : WritesAt number before after now text whole
-  pub written : AppendsFront held held' whole
+  pub next : OutputNext number after now output
+  pub written : Appends held held' (text ++ take taken output)
+  pub not_whole : taken < length output
 
-abbrev pub Answers : Option (List ℕ) → Option (List ℕ) → Option (List ℕ) → Result Summary RunFault → Type 0
-Answers left held held' (Ok summary) = Completes left held held' summary
-Answers left held held' (Err (Script number fault)) = Stops left held held' number (FaultNext fault)
-Answers left held held' (Err (Read number)) = Stops left held held' number AnyCause
-Answers left held held' (Err (Memory number)) = Stops left held held' number AnyCause
-Answers left held held' (Err (Write number)) = Breaks left held held' number
+-- What the reader had left and has left, and what the writer held and holds, when a run ends so.
+abbrev pub Answers : (left left' held held' : Option (List ℕ)) → Result Summary RunFault → Type 0
+Answers left left' held held' (Ok summary) = Completes left held held' summary
+Answers left left' held held' (Err (Script number fault)) = Stops left held held' number (FaultNext fault)
+Answers left left' held held' (Err (Read number)) = Stops left held held' number (ReadsPart left left')
+Answers left left' held held' (Err (Memory number)) = Stops left held held' number AnyCause
+Answers left left' held held' (Err (Write number)) = Breaks left held held' number
 
 -- A device's count of failures grows by one where it is the fault, and stays otherwise.
 abbrev pub CountsFaults : {X : Type 0} → ℕ → ℕ → ℕ → ℕ → Result X RunFault → Type 0
@@ -117,10 +128,6 @@ CountsFailures read read' written written' (Ok x) = (read' ≡ read) × (written
 
 -- ---- one line
 
--- lines, each with its LF
-abbrev pub with_feeds : List (List ℕ) → List ℕ
-with_feeds lines = flat_map (λ line. line ++ 10 ∷ []) lines
-
 -- One line was taken: with its LF, or as the last.
 abbrev pub TakesLine : Option (List ℕ) → Option (List ℕ) → List ℕ → Type 0
 TakesLine left left' line = HasNoFeed line × (Consumes left left' (line ++ 10 ∷ []) ⊎ (0 < length line × Consumes left left' line × IsAtEnd left'))
@@ -133,11 +140,11 @@ pub record Carries (number : ℕ) (old new : Option Progress) (held held' : Opti
   pub advances : Advances number line old turns text new
   pub counted : AreCounted (number + 1) new
 
--- A fault was found in the line; or its first bytes are too many.
+-- A fault was found in the line; or its first 4097 bytes have no LF among them.
 abbrev pub FindsFault : Option (List ℕ) → Option (List ℕ) → Option Progress → ScriptFault → Type 0
 FindsFault left left' old fault =
     ((line : List ℕ) × TakesLine left left' line × FaultIn (scope_of old) line fault)
-    ⊎ ((line : List ℕ) × HasNoFeed line × (4096 < length line) × Consumes left left' line × (fault ≡ LineTooLong))
+    ⊎ ((line : List ℕ) × HasNoFeed line × (length line ≡ 4097) × Consumes left left' line × (fault ≡ LineTooLong))
 
 -- the line was carried out, and its text not written whole
 pub record FailsIn (number : ℕ) (old new : Option Progress) (left left' held held' : Option (List ℕ)) : Type 0 where
@@ -146,12 +153,12 @@ pub record FailsIn (number : ℕ) (old new : Option Progress) (left left' held h
   pub text : List ℕ
   pub taken : TakesLine left left' line
   pub advances : Advances number line old turns text new
-  pub written : AppendsFront held held' text
+  pub written : AppendsPart held held' text
 
--- All of an output was written, or the front of it.
+-- All of an output was written; or a part of it, and the fault tells this line.
 abbrev pub WritesOutput : ℕ → List ℕ → Option (List ℕ) → Option (List ℕ) → ℕ → ℕ → Result (Unit {0}) RunFault → Type 0
 WritesOutput number output held held' failed failed' (Ok done) = Appends held held' output × (failed' ≡ failed)
-WritesOutput number output held held' failed failed' (Err (Write place)) = (place ≡ number) × AppendsFront held held' output × (failed' ≡ one_more failed)
+WritesOutput number output held held' failed failed' (Err (Write place)) = (place ≡ number) × AppendsPart held held' output × (failed' ≡ one_more failed)
 WritesOutput number output held held' failed failed' (Err fault) = ⊥
 
 -- A line was carried out and written, or why not.
@@ -159,7 +166,7 @@ abbrev pub WritesLine : ℕ → List ℕ → Option Progress → Option Progress
 WritesLine number line old new held held' (Ok done) = Carries number old new held held' line
 WritesLine number line old new held held' (Err (Script place fault)) = (place ≡ number) × FaultIn (scope_of old) line fault × Keeps held held'
 WritesLine number line old new held held' (Err (Memory place)) = (place ≡ number) × Keeps held held'
-WritesLine number line old new held held' (Err (Write place)) = (place ≡ number) × ((turns : List Turn) × (text : List ℕ) × Advances number line old turns text new × AppendsFront held held' text)
+WritesLine number line old new held held' (Err (Write place)) = (place ≡ number) × ((turns : List Turn) × (text : List ℕ) × Advances number line old turns text new × AppendsPart held held' text)
 WritesLine number line old new held held' (Err (Read place)) = ⊥
 
 -- The next line was taken and carried out, or there was none, or why the run ends here.
@@ -169,9 +176,16 @@ TakesNext number old new left left' held held' (Ok LastLine) =
     (line : List ℕ) × HasNoFeed line × (0 < length line) × Consumes left left' line × IsAtEnd left' × Carries number old new held held' line
 TakesNext number old new left left' held held' (Ok Nothing) = Keeps left left' × IsAtEnd left' × Keeps held held' × (new ≡ old)
 TakesNext number old new left left' held held' (Err (Script place fault)) = (place ≡ number) × FindsFault left left' old fault × Keeps held held'
-TakesNext number old new left left' held held' (Err (Read place)) = (place ≡ number) × ((bytes : List ℕ) × Consumes left left' bytes) × Keeps held held'
+TakesNext number old new left left' held held' (Err (Read place)) = (place ≡ number) × ((part : List ℕ) × HasNoFeed part × (length part ≤ 4096) × Consumes left left' part) × Keeps held held'
 TakesNext number old new left left' held held' (Err (Memory place)) = (place ≡ number) × ((bytes : List ℕ) × Consumes left left' bytes) × Keeps held held'
 TakesNext number old new left left' held held' (Err (Write place)) = (place ≡ number) × FailsIn number old new left left' held held'
+
+-- Where a read failed, nothing is left of what was read before.
+abbrev pub NothingAhead : List ℕ → RunFault → Type 0
+NothingAhead ahead (Read place) = ahead ≡ []
+NothingAhead ahead (Script place fault) = Unit {0}
+NothingAhead ahead (Memory place) = Unit {0}
+NothingAhead ahead (Write place) = Unit {0}
 
 -- These whole lines were taken and carried out so far.
 pub record SoFar (number : ℕ) (now : Option Progress) (left left' held held' : Option (List ℕ)) : Type 0 where
@@ -201,10 +215,10 @@ abbrev pub summary_at : ℕ → Progress → Summary
 summary_at lines now =
     record { lines = lines; calls = now.tally.calls; refused = now.tally.refused; granted = now.tally.granted; pending = len now.state.waits }
 
--- The end was written behind so many lines, or why not.
+-- The end was written after so many lines, or why not.
 abbrev pub Ends : ℕ → Option Progress → Option (List ℕ) → Option (List ℕ) → Result Summary RunFault → Type 0
 Ends lines None held held' (Err (Script place fault)) = (place ≡ 1 + lines) × (fault ≡ ThreadsExpected) × Keeps held held'
 Ends lines (Some now) held held' (Ok summary) = (summary ≡ summary_at lines now) × Appends held held' (end_of now)
 Ends lines (Some now) held held' (Err (Memory place)) = (place ≡ 1 + lines) × Keeps held held'
-Ends lines (Some now) held held' (Err (Write place)) = (place ≡ 1 + lines) × AppendsFront held held' (end_of now)
+Ends lines (Some now) held held' (Err (Write place)) = (place ≡ 1 + lines) × AppendsPart held held' (end_of now)
 Ends lines now held held' result = ⊥

@@ -4,7 +4,6 @@
 mod fault;
 mod keyword;
 mod laws;
-mod output;
 mod parser;
 mod places;
 mod runner;

@@ -1,15 +1,14 @@
 //! Scripts to transcripts.
 
-ghost use Rattle.std.specs.Prelude.{◌≡◌, ◌+◌, ◌-◌, ◌<◌, ◌≤◌, ◌^◌, [], length, IfOk, None, vec_capacity};
+ghost use Rattle.std.specs.Prelude.{◌≡◌, ◌+◌, ◌-◌, ◌<◌, ◌≤◌, ◌^◌, [], length, IfOk, IfErr, OnOk, None, false, vec_capacity};
 ghost use Rattle.nt_lines.specs.Lines.{to_come};
 ghost use Rattle.nt_script.specs.Progress.{AreCounted, progress_of};
-ghost use Rattle.nt_script.specs.Running.{Answers, CountsFailures, CountsFaults, TakesNext, WritesLine, WritesOutput, Ends};
+ghost use Rattle.nt_script.specs.Running.{Answers, CountsFailures, CountsFaults, NothingAhead, TakesNext, WritesLine, WritesOutput, Ends};
 
 use crate::fault::{LineFault, RunFault, ScriptFault};
-use crate::output::{WriteFailed, write_whole};
 use crate::session::{Session, carry_out};
 use crate::summary::Summary;
-use nt_devices::{Sink, Source};
+use nt_devices::{Sink, Source, WriteFailed, write_whole};
 use nt_lines::{Ending, Input, MAX_LINE, ReadFault};
 use std::alloc::{AllocError, Global};
 
@@ -43,7 +42,7 @@ impl Runner {
         })
     }
 
-    /// Reads one line and carries it out. What it says is written before the next is read.
+    /// Reads one line, carries it out, and writes what it says.
     fn take_line<R: Source, W: Sink>(
         &mut self,
         alloc: Global,
@@ -54,6 +53,8 @@ impl Runner {
         requires counted { AreCounted number (progress_of self.old.session) }
         requires line { 4097 ≤ vec_capacity self.old.line }
         ensures line { 4097 ≤ vec_capacity self.new.line }
+        ensures ahead { IfErr result (NothingAhead self.new.input) }
+        ensures unflushed { W.flushes writer.new ≡ W.flushes writer.old }
         ensures next { TakesNext number (progress_of self.old.session) (progress_of self.new.session) (to_come self.old.input (R.remaining reader.old)) (to_come self.new.input (R.remaining reader.new)) (W.contents writer.old) (W.contents writer.new) result }
         ensures counts { CountsFaults (R.failed reader.old) (R.failed reader.new) (W.failed writer.old) (W.failed writer.new) result }
     {
@@ -96,10 +97,12 @@ impl Runner {
         }
     }
 
-    /// Writes which threads still wait, behind so many lines.
+    /// Writes which threads still wait, after so many lines.
     fn end<W: Sink>(&mut self, lines: u64, writer: &mut W) -> Result<Summary, RunFault>
         requires { lines + 1 < 2 ^ 64 }
         ensures lines { IfOk result (λ summary. summary.lines ≡ lines) }
+        ensures unflushed { W.flushes writer.new ≡ W.flushes writer.old }
+        ensures held { OnOk result (W.handed_on writer.new ≡ false) }
         ensures ends { Ends lines (progress_of self.old.session) (W.contents writer.old) (W.contents writer.new) result }
         ensures counts { CountsFaults 0 0 (W.failed writer.old) (W.failed writer.new) result }
     {
@@ -117,6 +120,33 @@ impl Runner {
             Err(_) => Err(RunFault::Memory { line }),
         }
     }
+
+    /// Carries out the script line by line.
+    fn take_lines<R: Source, W: Sink>(
+        &mut self,
+        alloc: Global,
+        reader: &mut R,
+        writer: &mut W,
+    ) -> Result<Summary, RunFault>
+        requires input { self.old.input ≡ [] }
+        requires session { self.old.session ≡ None }
+        requires line { 4097 ≤ vec_capacity self.old.line }
+        ensures answers { Answers (R.remaining reader.old) (R.remaining reader.new) (W.contents writer.old) (W.contents writer.new) result }
+        ensures counts { CountsFaults (R.failed reader.old) (R.failed reader.new) (W.failed writer.old) (W.failed writer.new) result }
+        ensures unflushed { W.flushes writer.new ≡ W.flushes writer.old }
+        ensures held { OnOk result (W.handed_on writer.new ≡ false) }
+        ensures lines { IfOk result (λ summary. summary.lines < 2 ^ 64 - 1) }
+    {
+        for number in 1..u64::MAX {
+            match self.take_line(alloc, number, reader, writer) {
+                Ok(Taken::Line) => {}
+                Ok(Taken::LastLine) => return self.end(number, writer),
+                Ok(Taken::Nothing) => return self.end(number - 1, writer),
+                Err(fault) => return Err(fault),
+            }
+        }
+        Err(RunFault::Memory { line: u64::MAX })
+    }
 }
 
 /// Carries out a line, and writes what it says.
@@ -130,6 +160,7 @@ fn write_line<W: Sink>(
 ) -> Result<(), RunFault>
     requires short { length line.now ≤ 4096 }
     requires counted { AreCounted number (progress_of session.old) }
+    ensures unflushed { W.flushes writer.new ≡ W.flushes writer.old }
     ensures line { WritesLine number line.now (progress_of session.old) (progress_of session.new) (W.contents writer.old) (W.contents writer.new) result }
     ensures counts { CountsFaults 0 0 (W.failed writer.old) (W.failed writer.new) result }
 {
@@ -145,7 +176,9 @@ fn write_line<W: Sink>(
 
 /// Writes the output of the line with this number.
 fn write_output<W: Sink>(number: u64, output: &[u8], writer: &mut W) -> Result<(), RunFault>
-    ensures { WritesOutput number output.now (W.contents writer.old) (W.contents writer.new) (W.failed writer.old) (W.failed writer.new) result }
+    ensures unflushed { W.flushes writer.new ≡ W.flushes writer.old }
+    ensures held { 0 < length output.now → W.handed_on writer.new ≡ false }
+    ensures output { WritesOutput number output.now (W.contents writer.old) (W.contents writer.new) (W.failed writer.old) (W.failed writer.new) result }
 {
     match write_whole(writer, output) {
         Ok(()) => Ok(()),
@@ -159,28 +192,24 @@ fn run_lines<R: Source, W: Sink>(
     reader: &mut R,
     writer: &mut W,
 ) -> Result<Summary, RunFault>
-    ensures answers { Answers (R.remaining reader.old) (W.contents writer.old) (W.contents writer.new) result }
+    ensures answers { Answers (R.remaining reader.old) (R.remaining reader.new) (W.contents writer.old) (W.contents writer.new) result }
     ensures counts { CountsFaults (R.failed reader.old) (R.failed reader.new) (W.failed writer.old) (W.failed writer.new) result }
+    ensures unflushed { W.flushes writer.new ≡ W.flushes writer.old }
+    ensures held { OnOk result (W.handed_on writer.new ≡ false) }
     ensures lines { IfOk result (λ summary. summary.lines < 2 ^ 64 - 1) }
 {
-    let Ok(mut runner) = Runner::new(alloc) else {
-        return Err(RunFault::Memory { line: 1 });
-    };
-    for number in 1..u64::MAX {
-        match runner.take_line(alloc, number, reader, writer) {
-            Ok(Taken::Line) => {}
-            Ok(Taken::LastLine) => return runner.end(number, writer),
-            Ok(Taken::Nothing) => return runner.end(number - 1, writer),
-            Err(fault) => return Err(fault),
-        }
+    match Runner::new(alloc) {
+        Ok(mut runner) => runner.take_lines(alloc, reader, writer),
+        Err(_) => Err(RunFault::Memory { line: 1 }),
     }
-    Err(RunFault::Memory { line: u64::MAX })
 }
 
 /// Carries out the script that the reader gives, and writes its transcript.
 ///
-/// Each line that was read whole is carried out, and its output written, before the next is read. The writer is never
-/// flushed, and no failed read or write is tried again. A script of 2^64 - 1 lines is answered by `Memory` at its last.
+/// Where a read fails, each line that was read whole before it was carried out, and their output is all that was
+/// written. Where a write fails, the output of the lines before was written whole, and of this line's a part that is not
+/// the whole of it. The writer is never flushed: on `Ok` what was written is not handed on yet. No failed read or write is
+/// tried again. A script of 2^64 - 1 lines is answered by `Memory` at its last.
 pub fn run<R: Source, W: Sink>(
     alloc: Global,
     reader: &mut R,
@@ -188,8 +217,10 @@ pub fn run<R: Source, W: Sink>(
 ) -> Result<Summary, RunFault>
     requires read_failures { R.failed reader.old < 2 ^ 64 - 1 }
     requires write_failures { W.failed writer.old < 2 ^ 64 - 1 }
-    ensures answers { Answers (R.remaining reader.old) (W.contents writer.old) (W.contents writer.new) result }
+    ensures answers { Answers (R.remaining reader.old) (R.remaining reader.new) (W.contents writer.old) (W.contents writer.new) result }
     ensures failures { CountsFailures (R.failed reader.old) (R.failed reader.new) (W.failed writer.old) (W.failed writer.new) result }
+    ensures unflushed { W.flushes writer.new ≡ W.flushes writer.old }
+    ensures held { OnOk result (W.handed_on writer.new ≡ false) }
     ensures lines { IfOk result (λ summary. summary.lines < 2 ^ 64 - 1) }
 {
     run_lines(alloc, reader, writer)

@@ -1,0 +1,23 @@
+//! Each file has the scenarios of one subject, as data, and the one test that plays them. Each test passes also where one growth is
+//! refused: `bench/refused_tests` runs them with each in turn.
+mod apcs;
+mod callers;
+mod calls;
+mod copies;
+mod corners;
+mod events;
+mod exits;
+mod free;
+mod memory;
+mod mutexes;
+mod openings;
+mod plain;
+mod play;
+mod script;
+mod semaphores;
+mod sequences;
+mod serving;
+mod swaps;
+mod ticks;
+mod timers;
+mod waits;

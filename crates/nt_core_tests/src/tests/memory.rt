@@ -1,0 +1,104 @@
+//! Second tries where a growth is refused, each told.
+use crate::tests::calls::{answer_of, call_of};
+use crate::tests::script::{Answer, Ask};
+use nt_core::{Call, Core};
+use nt_status::Refusal;
+use std::alloc::AllocError;
+use std::env::{Env, var};
+use std::io::Print;
+use std::process::Abort;
+
+/// What the tests want of the system.
+pub trait Host: Abort + AllocGlobal + Env + Print {}
+
+impl<R: Abort + AllocGlobal + Env + Print> Host for R {}
+
+/// Where memory was refused, as the dispatcher answers it: ERROR_NOT_ENOUGH_MEMORY.
+pub const NOT_ENOUGH_MEMORY: u32 = 8;
+
+/// Tells that a growth was refused, and whose it was. That is right only where the run refuses one on purpose, as
+/// `bench/refused_tests` does: it sets REFUSE, and wants exactly one such line of each run.
+pub fn tell_refused(rt: &impl Host, whose: &str) {
+    assert!(rt;
+        var(rt, "REFUSE").is_ok(),
+        "out of memory with ample memory: {whose}"
+    );
+    assert!(rt; println!(rt; "refused: {whose}").is_ok());
+}
+
+/// A dispatcher, with a second try where memory is refused.
+pub fn open(rt: &impl Host, threads: u32) -> Result<Core, Refusal> {
+    match Core::new(rt.alloc(), threads) {
+        Ok(core) => Ok(core),
+        Err(refusal) => {
+            assert_eq!(rt; refusal.number(), NOT_ENOUGH_MEMORY);
+            tell_refused(rt, "an opening");
+            Core::new(rt.alloc(), threads)
+        }
+    }
+}
+
+/// An equal dispatcher, with a second try where memory is refused.
+pub fn copy_at_last(rt: &impl Host, core: &Core) -> Result<Core, Refusal> {
+    match core.copy() {
+        Ok(copied) => Ok(copied),
+        Err(refusal) => {
+            assert_eq!(rt; refusal.number(), NOT_ENOUGH_MEMORY);
+            tell_refused(rt, "a copy");
+            core.copy()
+        }
+    }
+}
+
+/// Whether the last call ended no wait, began none where so many pended, and tested none.
+fn is_unmoved(core: &Core, pending: usize) -> bool {
+    core.grants().is_empty() && core.pending() == pending && core.tested() == 0
+}
+
+/// Makes the call, a second time where memory is refused, which must have changed nothing.
+fn call_at_last(rt: &impl Host, core: &mut Core, who: u32, call: &Call) -> Answer {
+    let pending = core.pending();
+    let answer = answer_of(core.call(who, call));
+    if answer != Answer::Error(NOT_ENOUGH_MEMORY) {
+        return answer;
+    }
+    tell_refused(rt, "a call");
+    assert!(rt;
+        is_unmoved(core, pending),
+        "a refused call changed something"
+    );
+    answer_of(core.call(who, call))
+}
+
+/// The call that asks for this of these objects, with a second try where memory is refused.
+fn call_of_at_last(rt: &impl Host, ask: Ask, objects: &[u32]) -> Result<Call, AllocError> {
+    match call_of(rt.alloc(), ask, objects) {
+        Ok(call) => Ok(call),
+        Err(_) => {
+            tell_refused(rt, "the test itself");
+            call_of(rt.alloc(), ask, objects)
+        }
+    }
+}
+
+/// Asks for this of these objects.
+pub fn answer_to(rt: &impl Host, core: &mut Core, who: u32, ask: Ask, objects: &[u32]) -> Answer {
+    match call_of_at_last(rt, ask, objects) {
+        Ok(call) => call_at_last(rt, core, who, &call),
+        Err(_) => Answer::NotAsked,
+    }
+}
+
+/// Asks for this of these objects once: whichever growth is refused, the call is answered, since it takes no memory.
+pub fn answer_at_once(
+    rt: &impl Host,
+    core: &mut Core,
+    who: u32,
+    ask: Ask,
+    objects: &[u32],
+) -> Answer {
+    match call_of(rt.alloc(), ask, objects) {
+        Ok(call) => answer_of(core.call(who, &call)),
+        Err(_) => Answer::NotAsked,
+    }
+}

@@ -1,0 +1,132 @@
+//! The walk over the steps of a scenario. A step that fails is told with what the scenario shows, and with its number, from 1.
+use crate::tests::calls::{answer_of, are_ended};
+use crate::tests::memory::{Host, answer_at_once, answer_to, open};
+use crate::tests::script::{Answer, Ask, Ended, Scenario, Step};
+use nt_core::Core;
+use nt_status::{Moment, Refusal};
+use std::test::Fail;
+
+/// Which step of which scenario.
+#[derive(Clone, Copy)]
+struct Place {
+    shows: &'static str,
+    step: usize,
+}
+
+fn expect_answer(rt: &impl Host, found: Answer, expected: Answer, place: Place) {
+    let Place { shows, step } = place;
+    assert_eq!(rt; found, expected, "{shows}, step {step}");
+}
+
+/// Looks whether these waits ended, in this order.
+fn expect_ended(rt: &impl Host, core: &Core, ended: &[Ended], place: Place) {
+    let Place { shows, step } = place;
+    let grants = core.grants();
+    assert!(rt;
+        are_ended(grants, ended),
+        "{shows}, step {step}: these ended: {grants:?}"
+    );
+}
+
+fn expect_number(rt: &impl Host, found: u64, expected: u64, place: Place) {
+    let Place { shows, step } = place;
+    assert_eq!(rt; found, expected, "{shows}, step {step}");
+}
+
+/// Looks whether each of these threads waits, or none.
+fn expect_waiting(rt: &impl Host, core: &Core, threads: &[u32], waits: bool, place: Place) {
+    let Place { shows, step } = place;
+    for thread in threads {
+        assert_eq!(rt;
+            core.is_waiting(*thread),
+            waits,
+            "{shows}, step {step}: thread {thread}"
+        );
+    }
+}
+
+/// Creates events with these handles, in turn.
+fn create_events(rt: &impl Host, core: &mut Core, who: u32, first: u32, last: u32, place: Place) {
+    for handle in first..=last {
+        let found = answer_to(rt, core, who, Ask::Event(0), &[]);
+        expect_answer(rt, found, Answer::Handle(handle), place);
+    }
+}
+
+/// Lets all moments up to this one pass.
+fn tick_to(core: &mut Core, moment: u64) -> Answer {
+    match Moment::new(moment) {
+        Some(moment) => answer_of(core.tick(moment)),
+        None => Answer::NotAsked,
+    }
+}
+
+/// Takes a step that is answered: what it answers, what it is to answer, and the waits that are to end. None for any other.
+fn answered(
+    rt: &impl Host,
+    core: &mut Core,
+    step: Step,
+) -> Option<(Answer, Answer, &'static [Ended])> {
+    match step {
+        Step::Call(who, ask, objects, answer, ended) => {
+            Some((answer_to(rt, core, who, ask, objects), answer, ended))
+        }
+        Step::NoGrowth(who, ask, objects, answer, ended) => {
+            Some((answer_at_once(rt, core, who, ask, objects), answer, ended))
+        }
+        Step::Tick(moment, answer, ended) => Some((tick_to(core, moment), answer, ended)),
+        _ => None,
+    }
+}
+
+/// Takes a step that looks at the dispatcher, or that creates events.
+fn look(rt: &impl Host, core: &mut Core, step: Step, place: Place) {
+    match step {
+        Step::CreateEvents(who, first, last) => create_events(rt, core, who, first, last, place),
+        Step::Tested(count) => expect_number(rt, core.tested(), count, place),
+        Step::Now(moment) => expect_number(rt, core.now().get(), moment, place),
+        Step::Waiting(threads) => {
+            expect_number(rt, core.pending() as u64, threads.len() as u64, place);
+            expect_waiting(rt, core, threads, true, place);
+        }
+        Step::Idle(threads) => expect_waiting(rt, core, threads, false, place),
+        _ => {}
+    }
+}
+
+fn take_step(rt: &impl Host, core: &mut Core, step: Step, place: Place) {
+    match answered(rt, core, step) {
+        Some((found, expected, ended)) => {
+            expect_answer(rt, found, expected, place);
+            expect_ended(rt, core, ended, place);
+        }
+        None => look(rt, core, step, place),
+    }
+}
+
+/// Takes these steps in turn.
+pub fn take_steps(rt: &impl Host, core: &mut Core, shows: &'static str, steps: &[Step]) {
+    for (i, step) in steps.iter().enumerate() {
+        take_step(rt, core, *step, Place { shows, step: i + 1 });
+    }
+}
+
+/// Takes the steps in turn, and lets the dispatcher go.
+fn play_on(rt: &impl Host, mut core: Core, scenario: &Scenario) {
+    take_steps(rt, &mut core, scenario.shows, scenario.steps);
+}
+
+/// Takes the steps of the scenario from a new dispatcher on.
+fn play(rt: &impl Host, scenario: &Scenario) -> Result<(), Refusal> {
+    let core = open(rt, scenario.threads)?;
+    play_on(rt, core, scenario);
+    Ok(())
+}
+
+/// Plays these scenarios in turn.
+pub fn play_all(rt: &impl Host, scenarios: &[Scenario]) -> Result<(), Fail> {
+    for scenario in scenarios {
+        play(rt, scenario)?;
+    }
+    Ok(())
+}
