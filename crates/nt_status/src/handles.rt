@@ -32,10 +32,10 @@ impl Handle {
     }
 }
 
-/// The handles that a wait names, in order. Up to eight take no memory.
+/// The handles that a wait names, in order. Up to four take no memory.
 #[derive(Drop)]
 pub struct Handles {
-    items: SmallVec<Handle, 8>,
+    items: SmallVec<Handle, 4>,
 }
 
 impl Model for Handles {
