@@ -32,7 +32,11 @@ fn moment(units: u64) -> Moment {
 
 /// Whether the answer stands under this entry with this result.
 fn is_told(answer: Result<Receipt, Refusal>, entry: u64, told: Result<Reply, Refusal>) -> bool {
-    answer == Ok(Receipt { entry, result: told })
+    answer
+        == Ok(Receipt {
+            entry,
+            result: told,
+        })
 }
 
 /// The first pass reads, ticks to 70 and reads; the other reads; the first ticks to 60 and reads.
