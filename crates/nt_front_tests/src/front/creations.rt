@@ -1,6 +1,6 @@
 //! Growths of memory that are refused: an opening is made again, and a creation that is refused stands in the history, where the
 //! same creation, made again, succeeds. `bench/refused_tests` refuses each allocation in turn.
-ghost use Rattle.std.specs.Prelude.{◌≡◌};
+ghost use Rattle.std.specs.Prelude.{◌≡◌, ◌+◌, ◌≤◌, vec_len, vec_capacity};
 
 use crate::refused::{Host, tell_refused};
 use nt_core::{Act, Reply};
@@ -48,6 +48,25 @@ fn create<N: Named>(rt: &impl Wait, front: &Front<N>, pass: &mut Pass<N>, create
     };
 }
 
+/// Has the first thread create an event, and puts all passes among the holds.
+fn create_by<N: Named>(
+    rt: &impl Wait,
+    front: &Front<N>,
+    passes: &mut Vec<Pass<N>>,
+    holds: &mut Vec<Held<N>>,
+    created: &mut Created,
+)
+    requires { vec_len holds.old + vec_len passes.old ≤ vec_capacity holds.old }
+    ensures { vec_len passes.new ≡ 0 }
+{
+    while let Some(mut pass) = passes.pop() {
+        if pass.thread().get() == 0 {
+            create(rt, front, &mut pass, created);
+        }
+        holds.push_reserved(Held::Pass(pass));
+    }
+}
+
 /// Opens the front, creates an event, and counts what the history has.
 fn create_on<N: Named>(rt: &impl Wait, alloc: Global, blank: Blank) -> Result<Created, Refusal>
     requires { (blank.table ≡ N.table) × (blank.threads ≡ 2) }
@@ -61,12 +80,7 @@ fn create_on<N: Named>(rt: &impl Wait, alloc: Global, blank: Blank) -> Result<Cr
         }
     };
     let mut created = Created::default();
-    while let Some(mut pass) = passes.pop() {
-        if pass.thread().get() == 0 {
-            create(rt, &front, &mut pass, &mut created);
-        }
-        holds.push_reserved(Held::Pass(pass));
-    }
+    create_by(rt, &front, &mut passes, &mut holds, &mut created);
     passes.destroy_empty();
     created.entries = front.finish(holds).entries.len();
     Ok(created)

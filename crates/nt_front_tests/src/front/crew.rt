@@ -1,5 +1,5 @@
 //! A crew: a thread for each pass of one front, each with a job, and the history that they leave.
-ghost use Rattle.std.specs.Prelude.{◌≡◌, ◌+◌, ◌<◌, ◌≤◌, [], vec_len, vec_capacity};
+ghost use Rattle.std.specs.Prelude.{◌≡◌, ◌+◌, ◌<◌, ◌≤◌, [], vec_len, vec_capacity, IfOk};
 
 use crate::front::jobs::{Job, work};
 use crate::front::replay::first_difference;
@@ -8,7 +8,7 @@ use crate::front::told::{Entries, Told};
 use nt_core::Reply;
 use nt_front::{Blank, Carried, Front, Held, History, Named, Pass, open};
 use nt_status::{Handle, Refusal, ThreadId};
-use std::alloc::Global;
+use std::alloc::{AllocError, Global};
 use std::sync::Wait;
 use std::sync::atomic::{AtomicBool, AtomicU64};
 use std::thread;
@@ -194,8 +194,13 @@ fn carry<N: Named>(
     carriers
 }
 
-/// Looks at what the threads were told, beside what the history has of them.
-fn look_at(history: &History, told: &[(ThreadId, Told)], seen: &mut Seen) {
+/// Looks at what the threads were told, beside what the history has of them, and makes its calls again.
+fn look_at(
+    alloc: Global,
+    history: &History,
+    told: &[(ThreadId, Told)],
+    mut seen: Seen,
+) -> Result<Seen, Refusal> {
     seen.entries = history.entries.len();
     for (thread, told) in told {
         seen.calls.join(told.calls);
@@ -207,6 +212,8 @@ fn look_at(history: &History, told: &[(ThreadId, Told)], seen: &mut Seen) {
             && written.codes == told.codes;
         seen.differ = seen.differ.wrapping_add(u64::from(!is_same));
     }
+    seen.difference = first_difference(alloc, history)?;
+    Ok(seen)
 }
 
 /// Puts the holds of all threads together, and ends the front.
@@ -269,6 +276,73 @@ fn run<N: Named + Send + Sync, R: Threads + Wait + Clock + Sync>(
     finish(front, back, holds, told, seen)
 }
 
+/// Room for what a crew takes along and brings back.
+struct Room<N: Named> {
+    carriers: Vec<Carried<Pass<N>>>,
+    back: Vec<Back<N>>,
+    holds: Vec<Held<N>>,
+    told: Vec<(ThreadId, Told)>,
+}
+
+impl<N: Named> Room<N> {
+    /// Room for so many threads.
+    fn new(alloc: Global, threads: usize) -> Result<Room<N>, AllocError>
+        ensures carriers { IfOk result (λ r. (r.carriers.items ≡ []) × (threads ≤ vec_capacity r.carriers)) }
+        ensures back { IfOk result (λ r. (vec_len r.back ≡ 0) × (threads ≤ vec_capacity r.back)) }
+        ensures holds { IfOk result (λ r. (r.holds.items ≡ []) × (threads ≤ vec_capacity r.holds)) }
+        ensures told { IfOk result (λ r. (vec_len r.told ≡ 0) × (threads ≤ vec_capacity r.told)) }
+    {
+        let carriers = Vec::with_capacity(alloc, threads)?;
+        let back = Vec::with_capacity(alloc, threads)?;
+        let told = Vec::with_capacity(alloc, threads)?;
+        let holds = Vec::with_capacity(alloc, threads)?;
+        Ok(Room {
+            carriers,
+            back,
+            holds,
+            told,
+        })
+    }
+
+    /// Gives back what was never used.
+    fn let_go(self)
+        requires { self.holds.items ≡ [] }
+    {
+        let Room {
+            carriers: _,
+            back: _,
+            holds,
+            told: _,
+        } = self;
+        holds.destroy_empty();
+    }
+}
+
+/// Has the crew do its jobs with these passes, and looks at all that is left.
+fn seen_of<N: Named + Send + Sync, R: Threads + Wait + Clock + Sync>(
+    rt: &R,
+    front: Front<N>,
+    passes: Vec<Pass<N>>,
+    room: Room<N>,
+    crew: &Crew,
+) -> Result<Seen, Refusal>
+    requires carriers { (room.carriers.items ≡ []) × (vec_len passes ≤ vec_capacity room.carriers) }
+    requires back { (vec_len room.back ≡ 0) × (vec_len passes ≤ vec_capacity room.back) }
+    requires holds { (room.holds.items ≡ []) × (vec_len passes ≤ vec_capacity room.holds) }
+    requires told { (vec_len room.told ≡ 0) × (vec_len passes ≤ vec_capacity room.told) }
+{
+    let Room {
+        carriers,
+        back,
+        holds,
+        mut told,
+    } = room;
+    let mut seen = Seen::default();
+    let carriers = carry(passes, carriers);
+    let history = run(rt, front, carriers, back, holds, crew, &mut told, &mut seen);
+    look_at(crew.alloc, &history, told.as_slice(), seen)
+}
+
 /// Opens the front, has the crew do its jobs, and looks at all that is left.
 pub fn man<N: Named + Send + Sync, R: Threads + Wait + Clock + Sync>(
     rt: &R,
@@ -277,23 +351,14 @@ pub fn man<N: Named + Send + Sync, R: Threads + Wait + Clock + Sync>(
 ) -> Result<Seen, Refusal>
     requires { (blank.table ≡ N.table) × (blank.threads ≡ crew.now.threads) }
 {
-    let alloc = crew.alloc;
-    let count = crew.threads as usize;
-    let carriers = Vec::with_capacity(alloc, count)?;
-    let back = Vec::with_capacity(alloc, count)?;
-    let mut told = Vec::with_capacity(alloc, count)?;
-    let mut seen = Seen::default();
-    let holds = Vec::with_capacity(alloc, count)?;
-    let (front, passes) = match open::<N>(alloc, blank) {
-        Ok(opened) => opened,
-        Err(refused) => {
-            holds.destroy_empty();
-            return Err(refused);
-        }
+    let Ok(room) = Room::new(crew.alloc, crew.threads as usize) else {
+        return Err(Refusal::Memory);
     };
-    let carriers = carry(passes, carriers);
-    let history = run(rt, front, carriers, back, holds, crew, &mut told, &mut seen);
-    look_at(&history, told.as_slice(), &mut seen);
-    seen.difference = first_difference(alloc, &history)?.unwrap_or(0);
-    Ok(seen)
+    match open::<N>(crew.alloc, blank) {
+        Ok((front, passes)) => seen_of(rt, front, passes, room, crew),
+        Err(refused) => {
+            room.let_go();
+            Err(refused)
+        }
+    }
 }

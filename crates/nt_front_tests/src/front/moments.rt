@@ -1,5 +1,5 @@
 //! What two passes read of the moment, while the first of them is the clock.
-ghost use Rattle.std.specs.Prelude.{◌≡◌};
+ghost use Rattle.std.specs.Prelude.{◌≡◌, ◌+◌, ◌≤◌, vec_len, vec_capacity};
 
 use nt_core::Reply;
 use nt_front::{Blank, Front, Held, Named, Pass, Receipt, open, prepare};
@@ -56,6 +56,27 @@ fn read_by_turns<N: Named>(
     read.at_the_end = front.now(first).get();
 }
 
+/// Has both passes read, and puts them among the holds.
+fn read_by_both<N: Named>(
+    rt: &impl Wait,
+    front: &Front<N>,
+    passes: &mut Vec<Pass<N>>,
+    holds: &mut Vec<Held<N>>,
+    read: &mut Read,
+)
+    requires { (vec_len passes.old ≡ 2) × (vec_len holds.old + 2 ≤ vec_capacity holds.old) }
+    ensures { vec_len passes.new ≡ 0 }
+{
+    let Some(mut other) = passes.pop() else {
+        return;
+    };
+    if let Some(mut first) = passes.pop() {
+        read_by_turns(rt, front, &mut first, &mut other, read);
+        holds.push_reserved(Held::Pass(first));
+    }
+    holds.push_reserved(Held::Pass(other));
+}
+
 /// The moments that the two passes of this front read, and how many entries its history has.
 fn read_of<N: Named>(rt: &impl Wait, alloc: Global, blank: Blank) -> Result<(Read, usize), Refusal>
     requires { (blank.table ≡ N.table) × (blank.threads ≡ 2) }
@@ -69,13 +90,7 @@ fn read_of<N: Named>(rt: &impl Wait, alloc: Global, blank: Blank) -> Result<(Rea
         }
     };
     let mut read = Read::default();
-    if let Some(mut other) = passes.pop() {
-        if let Some(mut first) = passes.pop() {
-            read_by_turns(rt, &front, &mut first, &mut other, &mut read);
-            holds.push_reserved(Held::Pass(first));
-        }
-        holds.push_reserved(Held::Pass(other));
-    }
+    read_by_both(rt, &front, &mut passes, &mut holds, &mut read);
     passes.destroy_empty();
     Ok((read, front.finish(holds).entries.len()))
 }

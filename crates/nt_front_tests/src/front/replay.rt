@@ -4,14 +4,14 @@ use nt_front::{Entry, History};
 use nt_status::{Refusal, Status, ThreadId};
 use std::alloc::Global;
 
-/// The number of the first entry whose result or grant is another on a fresh dispatcher; none where all are the same.
-pub fn first_difference(alloc: Global, history: &History) -> Result<Option<usize>, Refusal> {
+/// The number of the first entry whose result or grant is another on a fresh dispatcher; 0 where all are the same.
+pub fn first_difference(alloc: Global, history: &History) -> Result<usize, Refusal> {
     let mut core = Core::new(alloc, history.threads)?;
     Ok(difference_on(&mut core, history.entries.as_slice()))
 }
 
 /// The same on this dispatcher. After each call or tick come its grants, in their order, and no others.
-fn difference_on(core: &mut Core, entries: &[Entry]) -> Option<usize> {
+fn difference_on(core: &mut Core, entries: &[Entry]) -> usize {
     let mut granted = 0_usize;
     for i in 0..entries.len() {
         let is_same = match &entries[i] {
@@ -26,13 +26,13 @@ fn difference_on(core: &mut Core, entries: &[Entry]) -> Option<usize> {
             }
         };
         if !is_same {
-            return Some(i.wrapping_add(1));
+            return i.wrapping_add(1);
         }
     }
     if granted == core.grants().len() {
-        None
+        0
     } else {
-        Some(entries.len())
+        entries.len()
     }
 }
 
