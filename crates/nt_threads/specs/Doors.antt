@@ -3,8 +3,8 @@ use Rattle.std.specs.Prelude.{List, [], ◌∷◌, ◌++◌, Option, Some, None,
 use Rattle.nt_core.specs.declared.call.Call.{Call}
 use Rattle.nt_core.specs.declared.call.Reply.{Reply}
 use Rattle.nt_status.specs.declared.refusal.Refusal.{Refusal}
-use Rattle.nt_mail.specs.declared.view.Asked.{Asked}
-use Rattle.nt_mail.specs.declared.view.Made.{Made}
+use Rattle.nt_mail.specs.declared.knowledge.Asked.{Asked}
+use Rattle.nt_mail.specs.declared.knowledge.Made.{Made}
 
 -- the call, where it was not refused
 abbrev pub accepted_call : Asked → Result Reply Refusal → List Call

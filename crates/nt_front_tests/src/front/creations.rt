@@ -1,6 +1,6 @@
 //! Growths of memory that are refused: an opening is made again, and a creation that is refused stands in the history, where the
 //! same creation, made again, succeeds. `bench/refused_tests` refuses each allocation in turn.
-ghost use Rattle.std.specs.Prelude.{◌≡◌, ◌+◌, ◌≤◌, vec_len, vec_capacity};
+ghost use Rattle.std.specs.Prelude.{◌≡◌, ◌+◌, ◌≤◌, vec_len, vec_capacity, IfOk};
 
 use crate::refused::{Host, tell_refused};
 use nt_core::{Act, Reply};
@@ -12,7 +12,9 @@ use std::sync::Wait;
 use std::test::Fail;
 
 /// A front of two threads with room for four entries, with a second try where memory is refused.
-fn prepared(rt: &(impl Host + Wait)) -> Result<Blank, Refusal> {
+fn prepared(rt: &(impl Host + Wait)) -> Result<Blank, Refusal>
+    ensures { IfOk result (λ blank. blank.threads ≡ 2) }
+{
     match prepare(rt.alloc(), 2, 4) {
         Err(Refusal::Memory) => {
             tell_refused(rt, "an opening");
@@ -86,14 +88,21 @@ fn create_on<N: Named>(rt: &impl Wait, alloc: Global, blank: Blank) -> Result<Cr
     Ok(created)
 }
 
+/// Opens a front of these parts, and creates an event on it.
+fn create_in(rt: &impl Wait, alloc: Global, blank: Blank) -> Result<Created, Refusal>
+    requires { blank.threads ≡ 2 }
+{
+    create_on::<Brand>(rt, alloc, blank)
+}
+
 /// The same, with a second try where the opening finds no memory.
 fn create_at_last(rt: &(impl Host + Wait)) -> Result<Created, Refusal> {
     let blank = prepared(rt)?;
-    match create_on::<Brand>(rt, rt.alloc(), blank) {
+    match create_in(rt, rt.alloc(), blank) {
         Err(Refusal::Memory) => {
             tell_refused(rt, "an opening");
             let blank = prepare(rt.alloc(), 2, 4)?;
-            create_on::<Brand>(rt, rt.alloc(), blank)
+            create_in(rt, rt.alloc(), blank)
         }
         answer => answer,
     }

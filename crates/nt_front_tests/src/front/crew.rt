@@ -163,16 +163,13 @@ fn create_all<N: Named>(
     creations: &[Creation],
     told: &mut Told,
 ) {
-    for i in 0..creations.len() {
-        let wanted = Reply::Handle(Handle::new(threads.wrapping_add(i as u32)));
-        match front.call(rt, pass, creations[i].act()) {
-            Ok(receipt) => {
-                told.called(&receipt);
-                if receipt.result != Ok(wanted) {
-                    told.lost();
-                }
-            }
-            Err(_) => told.lost(),
+    let mut next = threads;
+    for creation in creations {
+        let wanted = Ok(Reply::Handle(Handle::new(next)));
+        next = next.wrapping_add(1);
+        match front.call(rt, pass, creation.act()) {
+            Ok(receipt) if receipt.result == wanted => told.called(&receipt),
+            _ => told.lost(),
         }
     }
 }

@@ -69,6 +69,7 @@ impl Draws {
     /// A number below this one, which is above 0.
     fn below(&mut self, bound: u64) -> u64
         requires { 0 < bound }
+        ensures { result < bound }
     {
         self.state = self
             .state
