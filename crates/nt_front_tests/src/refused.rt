@@ -1,6 +1,6 @@
 //! Growths that a run refuses on purpose.
 use std::alloc::AllocGlobal;
-use std::env::{Env, var};
+use std::env::Env;
 use std::io::Print;
 use std::process::Abort;
 
@@ -8,12 +8,15 @@ pub trait Host: Abort + AllocGlobal + Env + Print {}
 
 impl<R: Abort + AllocGlobal + Env + Print> Host for R {}
 
+/// Whether growths are refused on purpose, as `bench/refused_tests` does: it sets REFUSE. This takes no memory itself.
+pub fn is_refusing(rt: &impl Env) -> bool {
+    let mut number = [0; 20];
+    rt.var("REFUSE", &mut number).is_ok()
+}
+
 /// Tells that a growth was refused, and whose it was. That is right only where the run refuses one on purpose, as
 /// `bench/refused_tests` does: it sets REFUSE, and wants exactly one such line of each test.
 pub fn tell_refused(rt: &impl Host, whose: &str) {
-    assert!(rt;
-        var(rt, "REFUSE").is_ok(),
-        "memory refused with ample memory: {whose}"
-    );
+    assert!(rt; is_refusing(rt), "out of memory with ample memory: {whose}");
     assert!(rt; println!(rt; "refused: {whose}").is_ok());
 }

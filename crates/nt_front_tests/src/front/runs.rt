@@ -3,6 +3,7 @@
 use crate::front::crew::{Crew, Seen, man};
 use crate::front::jobs::{Job, Manner};
 use crate::front::steps::{CREATIONS, Creation, ROAMERS};
+use crate::refused::is_refusing;
 use nt_front::prepare;
 use nt_status::Refusal;
 use std::alloc::Global;
@@ -136,6 +137,9 @@ pub fn assert_whole(rt: &impl Abort, seen: &Seen) {
 
 #[test]
 fn two_sleepers_hand_over(rt: HostRuntime) -> Result<(), Fail> {
+    if is_refusing(&rt) {
+        return Ok(());
+    }
     let seen = man_all(&rt, rt.alloc(), PAIR, 0)?;
     assert_whole(&rt, &seen);
     // two creations, and a set and a wait for each of the 200,000
@@ -145,6 +149,9 @@ fn two_sleepers_hand_over(rt: HostRuntime) -> Result<(), Fail> {
 
 #[test]
 fn many_threads_share_a_mutex(rt: HostRuntime) -> Result<(), Fail> {
+    if is_refusing(&rt) {
+        return Ok(());
+    }
     let seen = man_all(&rt, rt.alloc(), LOCKERS, 0)?;
     assert_whole(&rt, &seen);
     // one creation, and a wait and a release for each of the 500 rounds of each of the 64 threads
@@ -162,6 +169,9 @@ fn rounds(env: &(impl AllocGlobal + Env)) -> u64 {
 
 #[test]
 fn threads_of_all_sorts_roam(rt: HostRuntime) -> Result<(), Fail> {
+    if is_refusing(&rt) {
+        return Ok(());
+    }
     for round in 0..rounds(&rt) {
         let seen = man_all(&rt, rt.alloc(), ROAM, round)?;
         assert_whole(&rt, &seen);
@@ -171,6 +181,9 @@ fn threads_of_all_sorts_roam(rt: HostRuntime) -> Result<(), Fail> {
 
 #[test]
 fn hold_until_answered(rt: HostRuntime) -> Result<(), Fail> {
+    if is_refusing(&rt) {
+        return Ok(());
+    }
     let seen = man_all(&rt, rt.alloc(), HELD, 0)?;
     assert_whole(&rt, &seen);
     // the creation, the wait, the set, and the grant under the number after it
