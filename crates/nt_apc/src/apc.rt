@@ -1,6 +1,6 @@
 ghost use Rattle.std.specs.Prelude.{◌≡◌};
 
-use nt_status::{Handle, Moment};
+use nt_status::{Handle, OptionalMoment};
 
 /// An APC as its thread takes it, as QueueUserAPC or SetWaitableTimer queued it.
 #[derive(Clone, Copy, PartialEq, Eq, Debug)]
@@ -8,7 +8,7 @@ pub struct Apc {
     pub routine: u64,
     pub arg: u64,
     /// The due moment of the timer that queued it.
-    pub at: Option<Moment>,
+    pub at: OptionalMoment,
 }
 
 /// An APC in its queue, and the timer that it came from.

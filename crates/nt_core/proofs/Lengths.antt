@@ -125,7 +125,7 @@ length_apc_taken s t = go (may_take s t)
 
 -- a waiting call creates nothing
 pub length_wait_change : (s : State) (wait : WaitCall) → length (wait_change s wait).objects ≡ length s.objects
-length_wait_change s (WaitCall.Objects handles all ms alertable) = refl
+length_wait_change s (WaitCall.Objects all alertable ms handles) = refl
 length_wait_change s (WaitCall.Sleep ms alertable) = refl
 length_wait_change s (WaitCall.Swap h object ms alertable) = length-set s.objects h (signal (object_at s.objects h))
 

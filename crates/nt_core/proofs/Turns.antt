@@ -261,14 +261,14 @@ changed_at n t _ h o = o
 
 change_object : (s : State) (t : ℕ) (call : Call) (h : ℕ) → refusal s t call ≡ None → is_plain (object_at (change s t call).objects h) ≡ true → object_at (change s t call).objects h ≡ changed_at (length s.objects) t call h (object_at s.objects h)
 change_object s t (Call.Act act) h none plain = act_object s t act h none plain
-change_object s t (Call.Wait (WaitCall.Objects handles all ms alertable)) h none plain = refl
+change_object s t (Call.Wait (WaitCall.Objects all alertable ms handles)) h none plain = refl
 change_object s t (Call.Wait (WaitCall.Sleep ms alertable)) h none plain = refl
 change_object s t (Call.Wait (WaitCall.Swap g object ms alertable)) h none plain = with_object_at s.objects g h signal refl
 change_object s t Call.Exit h none plain = exited_object s t h plain
 
 change_waits : (s : State) (t : ℕ) (call : Call) → (change s t call).waits ≡ s.waits
 change_waits s t (Call.Act act) = act_waits s t act
-change_waits s t (Call.Wait (WaitCall.Objects handles all ms alertable)) = refl
+change_waits s t (Call.Wait (WaitCall.Objects all alertable ms handles)) = refl
 change_waits s t (Call.Wait (WaitCall.Sleep ms alertable)) = refl
 change_waits s t (Call.Wait (WaitCall.Swap g object ms alertable)) = refl
 change_waits s t Call.Exit = refl
@@ -321,7 +321,7 @@ begun_fair s t w ms reply new fair all is = go (fits s.objects t w) (w.alertable
 
 -- a wait that no cause refuses is fair
 fair_call : (s : State) (t : ℕ) (wait : WaitCall) (now : ℕ) → refusal s t (Call.Wait wait) ≡ None → IsFair (wait_of now wait)
-fair_call s t (WaitCall.Objects handles all ms alertable) now none = let sound = sound_objects s t handles all alertable ms none in (sound.few, sound.apart)
+fair_call s t (WaitCall.Objects all alertable ms handles) now none = let sound = sound_objects s t handles all alertable ms none in (sound.few, sound.apart)
 fair_call s t (WaitCall.Sleep ms alertable) now none =
     let caller = free_caller s t (Call.Wait (WaitCall.Sleep ms alertable)) none in
     let sound = sound_sleep s t caller.0 caller.1 in
@@ -329,7 +329,7 @@ fair_call s t (WaitCall.Sleep ms alertable) now none =
 fair_call s t (WaitCall.Swap g object ms alertable) now none = (omega arith, distinct_handles (object ∷ []) refl)
 
 same_handles : (t now then : ℕ) (wait : WaitCall) (reply : Reply) → reply_took t (wait_of now wait) reply ≡ reply_took t (wait_of then wait) reply
-same_handles t now then (WaitCall.Objects handles all ms alertable) (Reply.Status code) = refl
+same_handles t now then (WaitCall.Objects all alertable ms handles) (Reply.Status code) = refl
 same_handles t now then (WaitCall.Sleep ms alertable) (Reply.Status code) = refl
 same_handles t now then (WaitCall.Swap g object ms alertable) (Reply.Status code) = refl
 same_handles t now then wait Reply.Done = refl

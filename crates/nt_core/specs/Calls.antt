@@ -34,12 +34,12 @@ act_grows _ = false
 
 -- the timeout that a waiting call names, in milliseconds
 abbrev pub timeout_of : WaitCall → ℕ
-timeout_of (WaitCall.Objects handles all ms alertable) = ms
+timeout_of (WaitCall.Objects all alertable ms handles) = ms
 timeout_of (WaitCall.Sleep ms alertable) = ms
 timeout_of (WaitCall.Swap h object ms alertable) = ms
 
 -- the wait that a waiting call asks for at this moment
 abbrev pub wait_of : ℕ → WaitCall → Wait
-wait_of now (WaitCall.Objects handles all ms alertable) = record { handles = handles; all = all; alertable = alertable; deadline = deadline_after now ms }
+wait_of now (WaitCall.Objects all alertable ms handles) = record { handles = handles; all = all; alertable = alertable; deadline = deadline_after now ms }
 wait_of now (WaitCall.Sleep ms alertable) = record { handles = []; all = false; alertable = alertable; deadline = deadline_after now ms }
 wait_of now (WaitCall.Swap h object ms alertable) = record { handles = object ∷ []; all = false; alertable = alertable; deadline = deadline_after now ms }

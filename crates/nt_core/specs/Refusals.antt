@@ -119,7 +119,7 @@ act_causes objects t (Act.QueueApc h routine arg) = apc_causes objects h
 act_causes objects t Act.NextApc = []
 
 abbrev pub wait_causes : List Object → ℕ → WaitCall → List Cause
-wait_causes objects t (WaitCall.Objects handles all ms alertable) = objects_causes objects t handles
+wait_causes objects t (WaitCall.Objects all alertable ms handles) = objects_causes objects t handles
 wait_causes objects t (WaitCall.Sleep ms alertable) = []
 wait_causes objects t (WaitCall.Swap h object ms alertable) = swap_causes objects t h object
 

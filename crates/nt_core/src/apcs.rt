@@ -15,7 +15,7 @@ ghost use Rattle.nt_core.specs.Accepts.{IsFresh, IsRoused, IsAlertedAfter, Accep
 use crate::call::Grant;
 use crate::machine::Machine;
 use nt_apc::Apc;
-use nt_status::{Handle, Status, ThreadId};
+use nt_status::{Handle, OptionalMoment, Status, ThreadId};
 use std::alloc::AllocError;
 
 impl Machine {
@@ -87,7 +87,7 @@ impl Machine {
         let apc = Apc {
             routine,
             arg,
-            at: None,
+            at: OptionalMoment::new(None),
         };
         self.post(target, apc)?;
         self.alert(target);

@@ -49,10 +49,10 @@ pub enum Act {
 pub enum WaitCall {
     /// WaitForMultipleObjectsEx: for any of the objects, or for all.
     Objects {
-        handles: Handles,
         all: bool,
-        ms: u32,
         alertable: bool,
+        ms: u32,
+        handles: Handles,
     },
     /// SleepEx.
     Sleep {

@@ -16,7 +16,7 @@ ghost use Rattle.nt_core.specs.declared.call.Reply.{Reply};
 use crate::machine::Machine;
 use nt_apc::Apc;
 use nt_objects::{Armed, Object, Routine};
-use nt_status::{Handle, Moment, ThreadId, TimerFlags};
+use nt_status::{Handle, Moment, OptionalMoment, ThreadId, TimerFlags};
 use std::alloc::AllocError;
 
 /// The due moment of a due time in units of 100 ns: from now on where it is negative.
@@ -98,7 +98,7 @@ impl Machine {
             let apc = Apc {
                 routine: routine.routine,
                 arg: routine.arg,
-                at: Some(due),
+                at: OptionalMoment::new(Some(due)),
             };
             self.apcs.push_promised(thread, timer, apc);
         }

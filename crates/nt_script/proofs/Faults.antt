@@ -188,9 +188,9 @@ module _ (scope : Scope) (who : ℕ) (words : Words) where
   objects_wait : (all : Bool) → fault_of (objects_wait_at scope who all words) ≡ places_fault scope (TimePlace ∷ ModePlace ∷ []) (each_fault scope ObjectPlace) words
   unfolding objects_wait_at
   objects_wait all = time_step scope (ModePlace ∷ []) (each_fault scope ObjectPlace)
-      (λ ms rest. mode_at rest >>= λ mode. (objects_at scope mode.1 >>= λ handles. Ok (Perform who (Call.Wait (WaitCall.Objects handles all ms mode.0)))))
-      (λ ms rest. mode_step scope [] (each_fault scope ObjectPlace) (λ mode left. objects_at scope left >>= λ handles. Ok (Perform who (Call.Wait (WaitCall.Objects handles all ms mode))))
-      (λ mode left. made (λ handles. Perform who (Call.Wait (WaitCall.Objects handles all ms mode))) (objects_at scope left) ∙ each scope left) rest) words
+      (λ ms rest. mode_at rest >>= λ mode. (objects_at scope mode.1 >>= λ handles. Ok (Perform who (Call.Wait (WaitCall.Objects all mode.0 ms handles)))))
+      (λ ms rest. mode_step scope [] (each_fault scope ObjectPlace) (λ mode left. objects_at scope left >>= λ handles. Ok (Perform who (Call.Wait (WaitCall.Objects all mode ms handles))))
+      (λ mode left. made (λ handles. Perform who (Call.Wait (WaitCall.Objects all mode ms handles))) (objects_at scope left) ∙ each scope left) rest) words
 
   sleep : faults_as Keyword.Sleep (sleep_at who words)
   unfolding sleep_at

@@ -242,13 +242,13 @@ module _ (scope : Scope) (who : ℕ) (words : Words) (st : Statement) where
       subst (λ (st : Statement). IsStatement scope st (first ∷ keyword.text_of Keyword.Apc ∷ words)) end.same (caller, (refl, object.spells (value apc.first ∷ value arg.first ∷ []) (apc.spells (value arg.first ∷ []) (arg.spells [] end.spells))))
 
   objects_wait : (k : Keyword) (all : Bool)
-      → ((handles : List ℕ) (ms : ℕ) (mode : Bool) (first : List ℕ) → caller_of first ≡ Some who → Spells scope (Time ms ∷ Mode mode ∷ objects handles) words → IsStatement scope (Perform who (Call.Wait (WaitCall.Objects handles all ms mode))) (first ∷ keyword.text_of k ∷ words))
+      → ((handles : List ℕ) (ms : ℕ) (mode : Bool) (first : List ℕ) → caller_of first ≡ Some who → Spells scope (Time ms ∷ Mode mode ∷ objects handles) words → IsStatement scope (Perform who (Call.Wait (WaitCall.Objects all mode ms handles))) (first ∷ keyword.text_of k ∷ words))
       → objects_wait_at scope who all words ≡ Ok st → Behind scope who k st words
   unfolding objects_wait_at
   objects_wait k all makes e first caller =
-      let time = time_step scope words st (λ ms rest. mode_at rest >>= λ mode. (objects_at scope mode.1 >>= λ handles. Ok (Perform who (Call.Wait (WaitCall.Objects handles all ms mode.0))))) e in
-      let mode = mode_step scope time.rest st (λ mode rest. objects_at scope rest >>= λ handles. Ok (Perform who (Call.Wait (WaitCall.Objects handles all time.first mode)))) time.after in
-      let handles = bound (objects_at scope mode.rest) (λ handles. Perform who (Call.Wait (WaitCall.Objects handles all time.first mode.first))) st mode.after in
+      let time = time_step scope words st (λ ms rest. mode_at rest >>= λ mode. (objects_at scope mode.1 >>= λ handles. Ok (Perform who (Call.Wait (WaitCall.Objects all mode.0 ms handles))))) e in
+      let mode = mode_step scope time.rest st (λ mode rest. objects_at scope rest >>= λ handles. Ok (Perform who (Call.Wait (WaitCall.Objects all mode time.first handles)))) time.after in
+      let handles = bound (objects_at scope mode.rest) (λ handles. Perform who (Call.Wait (WaitCall.Objects all mode.first time.first handles))) st mode.after in
       subst (λ (st : Statement). IsStatement scope st (first ∷ keyword.text_of k ∷ words)) handles.same
       (makes handles.first time.first mode.first first caller (time.spells (Mode mode.first ∷ objects handles.first) (mode.spells (objects handles.first) (objects_said scope mode.rest handles.first handles.reads))))
 

@@ -151,7 +151,7 @@ module _ (scope : Scope) (who : ℕ) where
   apc handle x arg words s = object scope (value x ∷ value arg ∷ []) _ words handle _ s (λ w1 s1. number scope (value arg ∷ []) _ w1 0 (2 ^ 64 - 1) x _ s1 (λ w2 s2. number scope [] _ w2 0 (2 ^ 64 - 1) arg _ s2 (λ w3 s3. ended scope _ w3 s3)))
 
   objects_wait : (all : Bool) (handles : List ℕ) (ms : ℕ) (alertable : Bool) (words : Words) → Spells scope (Time ms ∷ Mode alertable ∷ objects handles) words
-      → objects_wait_at scope who all words ≡ Ok (Perform who (Call.Wait (WaitCall.Objects handles all ms alertable)))
+      → objects_wait_at scope who all words ≡ Ok (Perform who (Call.Wait (WaitCall.Objects all alertable ms handles)))
   unfolding objects_wait_at
   objects_wait all handles ms alertable words s = time scope (Mode alertable ∷ objects handles) _ words ms _ s (λ w1 s1. mode scope (objects handles) _ w1 alertable _ s1 (λ w2 s2. rw (handles_read scope handles w2 s2) refl))
 
@@ -241,9 +241,9 @@ reads scope (Perform who (Call.Act (Act.CancelTimer handle))) words is = behind 
 reads scope (Perform who (Call.Act (Act.QueueApc handle x arg))) words is = behind scope who Keyword.Apc (Object handle ∷ value x ∷ value arg ∷ []) words _ is (apc scope who handle x arg)
 reads scope (Perform who (Call.Act Act.NextApc)) words is = behind scope who Keyword.Next [] words _ is (λ rest s. ended scope (Perform who (Call.Act Act.NextApc)) rest s)
 reads scope (Perform who Call.Exit) words is = behind scope who Keyword.Exit [] words _ is (λ rest s. ended scope (Perform who Call.Exit) rest s)
-reads scope (Perform who (Call.Wait (WaitCall.Objects handles false ms alertable))) words is =
+reads scope (Perform who (Call.Wait (WaitCall.Objects false alertable ms handles))) words is =
     behind scope who Keyword.Any (Time ms ∷ Mode alertable ∷ objects handles) words _ is (objects_wait scope who false handles ms alertable)
-reads scope (Perform who (Call.Wait (WaitCall.Objects handles true ms alertable))) words is =
+reads scope (Perform who (Call.Wait (WaitCall.Objects true alertable ms handles))) words is =
     behind scope who Keyword.All (Time ms ∷ Mode alertable ∷ objects handles) words _ is (objects_wait scope who true handles ms alertable)
 reads scope (Perform who (Call.Wait (WaitCall.Sleep ms alertable))) words is = behind scope who Keyword.Sleep (Time ms ∷ Mode alertable ∷ []) words _ is (sleep scope who ms alertable)
 reads scope (Perform who (Call.Wait (WaitCall.Swap signal handle ms alertable))) words is =

@@ -43,7 +43,7 @@ act_parts Act.NextApc = Word (codes "next") ∷ []
 act_parts _ = []
 
 abbrev wait_parts : WaitCall → List Part
-wait_parts (WaitCall.Objects handles all ms alertable) = Word (if all then codes "all" else codes "any") ∷ Time ms ∷ Mode alertable ∷ objects handles
+wait_parts (WaitCall.Objects all alertable ms handles) = Word (if all then codes "all" else codes "any") ∷ Time ms ∷ Mode alertable ∷ objects handles
 wait_parts (WaitCall.Sleep ms alertable) = Word (codes "sleep") ∷ Time ms ∷ Mode alertable ∷ []
 wait_parts (WaitCall.Swap signal handle ms alertable) = Word (codes "swap") ∷ Object signal ∷ Object handle ∷ Time ms ∷ Mode alertable ∷ []
 
@@ -106,7 +106,7 @@ texts (Perform who (Call.Act (Act.CreateEvent _))) = refl
 texts (Perform who (Call.Act (Act.CreateSemaphore _ _))) = refl
 texts (Perform who (Call.Act (Act.CreateMutex _))) = refl
 texts (Perform who (Call.Act (Act.CreateTimer _))) = refl
-texts (Perform who (Call.Wait (WaitCall.Objects handles all ms alertable))) = behind _ (behind _ (behind _ (behind _ (plain-objects handles))))
+texts (Perform who (Call.Wait (WaitCall.Objects all alertable ms handles))) = behind _ (behind _ (behind _ (behind _ (plain-objects handles))))
 texts (Perform who (Call.Wait (WaitCall.Sleep ms alertable))) = refl
 texts (Perform who (Call.Wait (WaitCall.Swap signal handle ms alertable))) = refl
 texts (Perform who Call.Exit) = refl
@@ -156,8 +156,8 @@ sound (Perform who (Call.Act (Act.CreateEvent _))) = refl
 sound (Perform who (Call.Act (Act.CreateSemaphore _ _))) = refl
 sound (Perform who (Call.Act (Act.CreateMutex _))) = refl
 sound (Perform who (Call.Act (Act.CreateTimer _))) = refl
-sound (Perform who (Call.Wait (WaitCall.Objects handles true ms alertable))) = sound-objects handles
-sound (Perform who (Call.Wait (WaitCall.Objects handles false ms alertable))) = sound-objects handles
+sound (Perform who (Call.Wait (WaitCall.Objects true alertable ms handles))) = sound-objects handles
+sound (Perform who (Call.Wait (WaitCall.Objects false alertable ms handles))) = sound-objects handles
 sound (Perform who (Call.Wait (WaitCall.Sleep ms alertable))) = refl
 sound (Perform who (Call.Wait (WaitCall.Swap signal handle ms alertable))) = refl
 sound (Perform who Call.Exit) = refl
@@ -209,7 +209,7 @@ can_act scope (Act.CreateMutex _) h = tt
 can_act scope (Act.CreateTimer _) h = tt
 
 can_wait : (scope : Scope) (wait : WaitCall) → CanWait wait → CanSayAll scope (wait_parts wait)
-can_wait scope (WaitCall.Objects handles all ms alertable) h = (tt, (h.1, (tt, can_say-objects scope handles h.0)))
+can_wait scope (WaitCall.Objects all alertable ms handles) h = (tt, (h.1, (tt, can_say-objects scope handles h.0)))
 can_wait scope (WaitCall.Sleep ms alertable) h = (tt, (h, (tt, tt)))
 can_wait scope (WaitCall.Swap signal handle ms alertable) h = (tt, (h.0, (h.1, (h.2, (tt, tt)))))
 
@@ -264,8 +264,8 @@ is_statement scope (Perform who (Call.Act (Act.CreateEvent _))) words h s = absu
 is_statement scope (Perform who (Call.Act (Act.CreateSemaphore _ _))) words h s = absurd h.1
 is_statement scope (Perform who (Call.Act (Act.CreateMutex _))) words h s = absurd h.1
 is_statement scope (Perform who (Call.Act (Act.CreateTimer _))) words h s = absurd h.1
-is_statement scope (Perform who (Call.Wait (WaitCall.Objects handles false ms alertable))) words h s = s
-is_statement scope (Perform who (Call.Wait (WaitCall.Objects handles true ms alertable))) words h s = s
+is_statement scope (Perform who (Call.Wait (WaitCall.Objects false alertable ms handles))) words h s = s
+is_statement scope (Perform who (Call.Wait (WaitCall.Objects true alertable ms handles))) words h s = s
 is_statement scope (Perform who (Call.Wait (WaitCall.Sleep ms alertable))) words h s = s
 is_statement scope (Perform who (Call.Wait (WaitCall.Swap signal handle ms alertable))) words h s = s
 is_statement scope (Perform who Call.Exit) words h s = s
@@ -322,8 +322,8 @@ spells scope (Perform who (Call.Act (Act.CreateEvent _))) words is = absurd is
 spells scope (Perform who (Call.Act (Act.CreateSemaphore _ _))) words is = absurd is
 spells scope (Perform who (Call.Act (Act.CreateMutex _))) words is = absurd is
 spells scope (Perform who (Call.Act (Act.CreateTimer _))) words is = absurd is
-spells scope (Perform who (Call.Wait (WaitCall.Objects handles false ms alertable))) words is = is
-spells scope (Perform who (Call.Wait (WaitCall.Objects handles true ms alertable))) words is = is
+spells scope (Perform who (Call.Wait (WaitCall.Objects false alertable ms handles))) words is = is
+spells scope (Perform who (Call.Wait (WaitCall.Objects true alertable ms handles))) words is = is
 spells scope (Perform who (Call.Wait (WaitCall.Sleep ms alertable))) words is = is
 spells scope (Perform who (Call.Wait (WaitCall.Swap signal handle ms alertable))) words is = is
 spells scope (Perform who Call.Exit) words is = is

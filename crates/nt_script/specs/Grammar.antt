@@ -156,8 +156,8 @@ IsStatement scope (Perform who (Call.Act Act.NextApc)) words = Spells scope (beg
 -- tN exit
 IsStatement scope (Perform who Call.Exit) words = Spells scope (begins who Keyword.Exit []) words
 -- tN any TIME MODE OBJ.., tN all TIME MODE OBJ..
-IsStatement scope (Perform who (Call.Wait (WaitCall.Objects handles false ms alertable))) words = Spells scope (begins who Keyword.Any (Time ms ∷ Mode alertable ∷ objects handles)) words
-IsStatement scope (Perform who (Call.Wait (WaitCall.Objects handles true ms alertable))) words = Spells scope (begins who Keyword.All (Time ms ∷ Mode alertable ∷ objects handles)) words
+IsStatement scope (Perform who (Call.Wait (WaitCall.Objects false alertable ms handles))) words = Spells scope (begins who Keyword.Any (Time ms ∷ Mode alertable ∷ objects handles)) words
+IsStatement scope (Perform who (Call.Wait (WaitCall.Objects true alertable ms handles))) words = Spells scope (begins who Keyword.All (Time ms ∷ Mode alertable ∷ objects handles)) words
 -- tN sleep TIME MODE
 IsStatement scope (Perform who (Call.Wait (WaitCall.Sleep ms alertable))) words = Spells scope (begins who Keyword.Sleep (Time ms ∷ Mode alertable ∷ [])) words
 -- tN swap OBJ OBJ TIME MODE

@@ -192,7 +192,7 @@ objects_wait_at scope who all words = do
   time ← time_at words
   mode ← mode_at time.1
   handles ← objects_at scope mode.1
-  Ok (Perform who (Call.Wait (WaitCall.Objects handles all time.0 mode.0)))
+  Ok (Perform who (Call.Wait (WaitCall.Objects all mode.0 time.0 handles)))
 
 -- tN sleep TIME MODE
 unfoldable pub sleep_at : ℕ → List (List ℕ) → Result Statement ScriptFault

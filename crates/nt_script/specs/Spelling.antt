@@ -59,7 +59,7 @@ act_words _ = []
 
 -- a waiting call, after its caller
 abbrev pub wait_words : WaitCall → List (List ℕ)
-wait_words (WaitCall.Objects handles all ms alertable) = (if all then codes "all" else codes "any") ∷ time_word ms ∷ mode_word alertable ∷ map decimal handles
+wait_words (WaitCall.Objects all alertable ms handles) = (if all then codes "all" else codes "any") ∷ time_word ms ∷ mode_word alertable ∷ map decimal handles
 wait_words (WaitCall.Sleep ms alertable) = codes "sleep" ∷ time_word ms ∷ mode_word alertable ∷ []
 wait_words (WaitCall.Swap signal handle ms alertable) = codes "swap" ∷ decimal signal ∷ decimal handle ∷ time_word ms ∷ mode_word alertable ∷ []
 
@@ -123,7 +123,7 @@ CanAct Act.NextApc = Unit {0}
 CanAct _ = ⊥
 
 abbrev pub CanWait : WaitCall → Type 0
-CanWait (WaitCall.Objects handles all ms alertable) = All IsHandle handles × IsTime ms
+CanWait (WaitCall.Objects all alertable ms handles) = All IsHandle handles × IsTime ms
 CanWait (WaitCall.Sleep ms alertable) = IsTime ms
 CanWait (WaitCall.Swap signal handle ms alertable) = IsHandle signal × IsHandle handle × IsTime ms
 

@@ -32,7 +32,7 @@ fn put_apc(out: &mut Vec<u8>, apc: &Apc)
     put_number(out, apc.routine);
     put(out, b" ");
     put_number(out, apc.arg);
-    if let Some(moment) = apc.at {
+    if let Some(moment) = apc.at.get() {
         put(out, b" at ");
         put_number(out, moment.get());
     }

@@ -1,3 +1,4 @@
 pub mod Flags
+pub mod Moment
 pub mod Refusal
 pub mod Status

@@ -2,7 +2,7 @@
 
 use crate::refused::{Host, tell_refused};
 use nt_apc::{Apc, ApcQueues};
-use nt_status::{Handle, Moment, ThreadId};
+use nt_status::{Handle, Moment, OptionalMoment, ThreadId};
 use std::alloc::AllocError;
 use std::test::Fail;
 
@@ -41,7 +41,7 @@ fn apc(routine: u64) -> Apc {
     Apc {
         routine,
         arg: 3,
-        at: None,
+        at: OptionalMoment::new(None),
     }
 }
 
@@ -50,7 +50,7 @@ fn timer_apc(routine: u64, arg: u64, moment: u64) -> Apc {
     Apc {
         routine,
         arg,
-        at: Moment::new(moment),
+        at: OptionalMoment::new(Moment::new(moment)),
     }
 }
 

@@ -7,11 +7,11 @@ use Rattle.nt_threads.specs.declared.plan.Objects.{Objects}
 
 -- a wait for this object, without a deadline
 abbrev pub wait_for : ℕ → Call
-wait_for object = Call.Wait (WaitCall.Objects (object ∷ []) false 4294967295 false)
+wait_for object = Call.Wait (WaitCall.Objects false false 4294967295 (object ∷ []))
 
 -- a wait for all of these objects, without a deadline
 abbrev pub wait_for_all : List ℕ → Call
-wait_for_all objects = Call.Wait (WaitCall.Objects objects true 4294967295 false)
+wait_for_all objects = Call.Wait (WaitCall.Objects true false 4294967295 objects)
 
 -- a round: the mutex is acquired, the semaphore is released by one, the mutex is released
 abbrev pub round_of : Objects → List Call

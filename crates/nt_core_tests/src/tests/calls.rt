@@ -97,7 +97,7 @@ pub fn call_of(alloc: Global, ask: Ask, objects: &[u32]) -> Result<Call, AllocEr
 }
 
 fn apc_of(apc: &Apc) -> Answer {
-    match &apc.at {
+    match apc.at.get() {
         None => Answer::ThreadApc(apc.routine, apc.arg),
         Some(at) => Answer::TimerApc(apc.routine, apc.arg, at.get()),
     }

@@ -51,7 +51,7 @@ returns-in-Objects-clause-ok c =
     (λ reply. Accepts old new c.args.thread (Call.Wait c.args.call.now) reply)
     (λ reply begins.
     subst (λ (w : WaitCall). Accepts old new c.args.thread (Call.Wait w) reply) (sym c.in-Objects.is)
-    (wait_accepted old new c.args.thread (WaitCall.Objects c.in-Objects.handles c.in-Objects.all c.in-Objects.ms c.in-Objects.alertable) reply c.requires.fresh began.grants began.looked began.steady refl
+    (wait_accepted old new c.args.thread (WaitCall.Objects c.in-Objects.all c.in-Objects.alertable c.in-Objects.ms c.in-Objects.handles) reply c.requires.fresh began.grants began.looked began.steady refl
     (begins ∙ ap (λ (hs : List ℕ). begun (state old) c.args.thread (record { handles = hs; all = c.in-Objects.all; alertable = c.in-Objects.alertable; deadline = deadline_after old.now c.in-Objects.ms }) c.in-Objects.ms) c.as_slice.ensures)))
     c.begin_wait.result began.begun
 
