@@ -59,12 +59,17 @@ impl Machine {
         self.grants.push_reserved(Grant { thread, status });
     }
 
-    /// Queues an APC. Where memory is refused nothing changes.
-    fn post(&mut self, target: ThreadId, apc: Apc) -> Result<(), AllocError>
+    /// Queues an APC that no timer queues. Where memory is refused nothing changes.
+    fn post(&mut self, target: ThreadId, routine: u64, arg: u64) -> Result<(), AllocError>
         requires { target < length self.old.apcs.queues }
-        ensures ok { OnOk result (self.new ≡ record self.old { apcs = record self.old.apcs { queues = pushed self.old.apcs.queues target (record { apc = apc; timer = None }) } }) }
+        ensures ok { OnOk result (self.new ≡ record self.old { apcs = record self.old.apcs { queues = pushed self.old.apcs.queues target (record { apc = record { routine = routine; arg = arg; at = None }; timer = None }) } }) }
         ensures err { OnErr result (self.new ≡ self.old) }
     {
+        let apc = Apc {
+            routine,
+            arg,
+            at: OptionalMoment::new(None),
+        };
         self.apcs.push(target, apc)?;
         Ok(())
     }
@@ -84,12 +89,7 @@ impl Machine {
     {
         let _ = thread;
         let target = ThreadId::new(target.get() as u16);
-        let apc = Apc {
-            routine,
-            arg,
-            at: OptionalMoment::new(None),
-        };
-        self.post(target, apc)?;
+        self.post(target, routine, arg)?;
         self.alert(target);
         Ok(())
     }
