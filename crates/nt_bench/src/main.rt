@@ -64,12 +64,7 @@ fn measure(rt: &HostRuntime, shape: &Shape, rounds: u64) -> Result<Measured, Fau
 }
 
 /// Runs one shape, and prints its line.
-fn run_shape(
-    rt: &HostRuntime,
-    number: u32,
-    plan: Plan,
-    out: &mut impl Write,
-) -> Result<(), Fault> {
+fn run_shape(rt: &HostRuntime, number: u32, plan: Plan, out: &mut impl Write) -> Result<(), Fault> {
     let shape = shape_of(rt.alloc(), number)?;
     let Measured { counts, took } = measure(rt, &shape, plan.rounds)?;
     let Counts { calls, grants } = counts;
