@@ -37,7 +37,7 @@ thread_object scope (Some t) = if nat_lt t scope.threads then Some t else None
 
 -- a thread's object, or what a name stands for
 abbrev pub named_object : Scope → List ℕ → Option ℕ
-named_object scope word = if is_some (caller_of word) then thread_object scope (caller_of word) else (if is_name word then bound_in scope.names word else None)
+named_object scope word = if is_some (caller_of word) then thread_object scope (caller_of word) else bound_in scope.names word
 
 -- the handle that a word means: digits alone are a handle's number
 abbrev pub object_in : Scope → List ℕ → Option ℕ

@@ -1,12 +1,13 @@
 //! From the words of a line to what it says: a function for each line of the grammar.
 
-ghost use Rattle.std.specs.Prelude.{◌≡◌, ◌≤◌, ◌<◌, IfOk, IfSome, string_bytes};
+ghost use Rattle.std.specs.Prelude.{◌≡◌, ◌≤◌, ◌<◌, IfOk, IfSome};
 ghost use Rattle.nt_script.specs.Naming.{NamesFree};
 ghost use Rattle.nt_script.specs.Scope.{Scope};
 ghost use Rattle.nt_script.specs.Reading.{Gives, objects_at, tick_at, event_at, semaphore_at, mutex_at, timer_at, only_object_at, release_at, arm_at, apc_at, objects_wait_at, sleep_at, swap_at, bare_at, call_at, caller_at, statement_at, opening_at, threads_at};
 
 use crate::fault::{LineFault, ScriptFault};
 use crate::keyword::Keyword;
+use crate::places::object_of;
 use crate::scope::Bindings;
 use crate::words::Words;
 use nt_core::{Act, Call, WaitCall};
@@ -18,15 +19,15 @@ use std::marker::Model;
 /// A name that a creation is to bind.
 #[derive(Debug, Drop)]
 pub(crate) struct Name {
-    text: String,
+    text: Vec<u8>,
 }
 
 impl Model for Name {
-    ghost use Rattle.std.specs.Prelude.{ℕ, List, string_bytes};
+    ghost use Rattle.std.specs.Prelude.{ℕ, List};
 
     ghost Value = { List ℕ };
 
-    ghost view = { λ name. string_bytes name.text };
+    ghost view = { λ name. name.text.items };
 }
 
 impl Name {
@@ -34,12 +35,12 @@ impl Name {
         ensures { IfOk result (λ name. name ≡ text.now) }
     {
         Ok(Name {
-            text: String::from_str(alloc, text)?,
+            text: Vec::from_slice(alloc, text.as_bytes())?,
         })
     }
 
-    pub(crate) fn into_string(self) -> String
-        ensures { string_bytes result ≡ self }
+    pub(crate) fn into_bytes(self) -> Vec<u8>
+        ensures { result.items ≡ self }
     {
         self.text
     }
@@ -257,13 +258,13 @@ fn objects_wait(
     Ok(Statement::Perform { who, call })
 }
 
-#[tactic(auto, using(crate::proofs::Parsing::objects_next, crate::proofs::Parsing::objects_fail, crate::proofs::Parsing::objects_end))]
+#[tactic(auto, using(crate::proofs::Parsing::objects_end))]
 fn objects(alloc: Global, bindings: &Bindings, mut words: Words) -> Result<Handles, LineFault>
     ensures { Gives (λ handles. handles) result (objects_at bindings.now.scope words.entry) }
 {
     let mut handles = Handles::new(alloc);
-    while !words.is_empty() {
-        let object = words.object(bindings)?;
+    while let Ok(word) = words.next() {
+        let object = object_of(bindings, word)?;
         handles.push(object)?;
     }
     Ok(handles)

@@ -2,8 +2,8 @@
 
 ghost use Rattle.std.specs.Prelude.{◌≡◌, ◌≤◌, ◌<◌, ◌^◌, ◌-◌, ◌≤ℤ◌, ◌<ℤ◌, pos, neg_ℤ, drop, IfOk, IfSome, None};
 ghost use Rattle.nt_script.specs.Scope.{bound_in};
-ghost use Rattle.nt_script.specs.Grammar.{number_in, is_negative, signed_in, named_object, object_in, time_in, begins_with_digit};
-ghost use Rattle.nt_script.specs.Reading.{Takes, number_at, signed_at, routine_at, free_name_at, object_at, time_at, mode_at};
+ghost use Rattle.nt_script.specs.Grammar.{number_in, is_negative, signed_in, named_object, object_in, time_in, begins_with_digit, blame, ObjectPlace};
+ghost use Rattle.nt_script.specs.Reading.{Takes, or_fault, number_at, signed_at, routine_at, free_name_at, object_at, time_at, mode_at};
 
 use crate::fault::ScriptFault;
 use crate::scope::Bindings;
@@ -64,7 +64,7 @@ impl<'a> Words<'a> {
         let Some(name) = name_of(word) else {
             return Err(ScriptFault::BadName);
         };
-        if bindings.get(name).is_some() {
+        if bindings.get(word).is_some() {
             return Err(ScriptFault::NameTaken);
         }
         Ok(name)
@@ -75,11 +75,7 @@ impl<'a> Words<'a> {
         ensures { Takes (λ handle. handle) result self.new (object_at bindings.now.scope self.old) }
     {
         let word = self.next()?;
-        match object_in(bindings, word) {
-            Some(handle) => Ok(handle),
-            None if are_digits(word) => Err(ScriptFault::BadNumber),
-            None => Err(ScriptFault::UnknownName),
-        }
+        object_of(bindings, word)
     }
 
     /// A timeout in milliseconds, or `inf`.
@@ -169,6 +165,17 @@ fn signed64_in(word: &[u8]) -> Option<i64>
     }
 }
 
+/// The handle that a word means, or the word's fault.
+pub(crate) fn object_of(bindings: &Bindings, word: &[u8]) -> Result<Handle, ScriptFault>
+    ensures { result ≡ or_fault (object_in bindings.now.scope word.now) (blame ObjectPlace word.now) }
+{
+    match object_in(bindings, word) {
+        Some(handle) => Ok(handle),
+        None if are_digits(word) => Err(ScriptFault::BadNumber),
+        None => Err(ScriptFault::UnknownName),
+    }
+}
+
 /// The handle that a word means: digits alone are a handle's number.
 fn object_in(bindings: &Bindings, word: &[u8]) -> Option<Handle>
     ensures { result ≡ object_in bindings.now.scope word.now }
@@ -187,7 +194,7 @@ fn named_object(bindings: &Bindings, word: &[u8]) -> Option<Handle>
     if let Some(thread) = caller_of(word) {
         return (thread < bindings.threads()).then_some(Handle::new(thread));
     }
-    bindings.get(name_of(word)?)
+    bindings.get(word)
 }
 
 fn time_in(word: &[u8]) -> Option<u32>

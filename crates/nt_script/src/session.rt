@@ -195,7 +195,7 @@ impl Session {
     {
         let answer = self.perform(number, who, &Call::Act(act), out);
         if let Some(handle) = handle_of(&answer) {
-            self.bindings.bind(name.into_string(), handle);
+            self.bindings.bind(name.into_bytes(), handle);
         }
         answer
     }
