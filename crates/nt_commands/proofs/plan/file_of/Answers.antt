@@ -2,7 +2,7 @@ use Rattle.std.proofs.Common.{rules, ◌≡◌, ◌∙◌, None, Some, ap, codes
 use Rattle.std.specs.Prelude.{option_map, string_bytes}
 use Rattle.clap.specs.Matches.{first_value, found_of}
 use Rattle.nt_commands.proofs.Matches.{script_file}
-use Rattle.nt_commands.proofs.plan.plan_in.Goals as goal
+use Rattle.nt_commands.proofs.plan.file_of.Goals as goal
 
 pub returns-in_default-get_str : goal.returns-in_default-get_str
 returns-in_default-get_str c =
