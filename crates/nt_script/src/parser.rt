@@ -1,9 +1,9 @@
 //! From the words of a line to what it says: a function for each line of the grammar.
 
 ghost use Rattle.std.specs.Prelude.{◌≡◌, ◌≤◌, ◌<◌, IfOk, IfSome};
-ghost use Rattle.nt_script.specs.Naming.{NamesFree};
+ghost use Rattle.nt_script.specs.Places.{ObjectPlace};
 ghost use Rattle.nt_script.specs.Scope.{Scope};
-ghost use Rattle.nt_script.specs.Reading.{Gives, objects_at, tick_at, event_at, semaphore_at, mutex_at, timer_at, only_object_at, release_at, arm_at, apc_at, objects_wait_at, sleep_at, swap_at, bare_at, call_at, caller_at, statement_at, opening_at, threads_at};
+ghost use Rattle.nt_script.specs.Reading.{Gives, each_at, tick_at, call_at, caller_at, statement_at, opening_at, threads_at};
 
 use crate::fault::{LineFault, ScriptFault};
 use crate::keyword::Keyword;
@@ -83,8 +83,7 @@ const MAX_MOMENT: u64 = 1 << 62;
 /// `tick M`
 #[tactic(auto, unfolding(crate::specs::Reading::tick_at))]
 fn tick(mut words: Words) -> Result<Statement, ScriptFault>
-    ensures exact { result ≡ tick_at words.entry }
-    ensures free { (scope : Scope) → IfOk result (NamesFree scope) }
+    ensures { result ≡ tick_at words.entry }
 {
     let number = words.number(0, MAX_MOMENT)?;
     words.end()?;
@@ -95,15 +94,14 @@ fn tick(mut words: Words) -> Result<Statement, ScriptFault>
 }
 
 /// `tN event NAME [manual] [set]`
-#[tactic(auto, unfolding(crate::specs::Reading::event_at))]
+#[tactic(auto, unfolding(crate::specs::Reading::call_at))]
 fn event(
     alloc: Global,
     bindings: &Bindings,
     who: u32,
     mut words: Words,
 ) -> Result<Statement, LineFault>
-    ensures exact { Gives (λ statement. statement) result (event_at bindings.now.scope who words.entry) }
-    ensures free { IfOk result (NamesFree bindings.now.scope) }
+    ensures { Gives (λ statement. statement) result (call_at bindings.now.scope who Keyword.Event words.entry) }
 {
     let name = words.free_name(bindings)?;
     let manual = words.option(b"manual");
@@ -116,15 +114,14 @@ fn event(
 }
 
 /// `tN semaphore NAME INIT MAX`
-#[tactic(auto, unfolding(crate::specs::Reading::semaphore_at))]
+#[tactic(auto, unfolding(crate::specs::Reading::call_at))]
 fn semaphore(
     alloc: Global,
     bindings: &Bindings,
     who: u32,
     mut words: Words,
 ) -> Result<Statement, LineFault>
-    ensures exact { Gives (λ statement. statement) result (semaphore_at bindings.now.scope who words.entry) }
-    ensures free { IfOk result (NamesFree bindings.now.scope) }
+    ensures { Gives (λ statement. statement) result (call_at bindings.now.scope who Keyword.Semaphore words.entry) }
 {
     let name = words.free_name(bindings)?;
     let initial = words.signed32()?;
@@ -136,15 +133,14 @@ fn semaphore(
 }
 
 /// `tN mutex NAME [owned]`
-#[tactic(auto, unfolding(crate::specs::Reading::mutex_at))]
+#[tactic(auto, unfolding(crate::specs::Reading::call_at))]
 fn mutex(
     alloc: Global,
     bindings: &Bindings,
     who: u32,
     mut words: Words,
 ) -> Result<Statement, LineFault>
-    ensures exact { Gives (λ statement. statement) result (mutex_at bindings.now.scope who words.entry) }
-    ensures free { IfOk result (NamesFree bindings.now.scope) }
+    ensures { Gives (λ statement. statement) result (call_at bindings.now.scope who Keyword.Mutex words.entry) }
 {
     let name = words.free_name(bindings)?;
     let owned = words.option(b"owned");
@@ -155,15 +151,14 @@ fn mutex(
 }
 
 /// `tN timer NAME [manual]`
-#[tactic(auto, unfolding(crate::specs::Reading::timer_at))]
+#[tactic(auto, unfolding(crate::specs::Reading::call_at))]
 fn timer(
     alloc: Global,
     bindings: &Bindings,
     who: u32,
     mut words: Words,
 ) -> Result<Statement, LineFault>
-    ensures exact { Gives (λ statement. statement) result (timer_at bindings.now.scope who words.entry) }
-    ensures free { IfOk result (NamesFree bindings.now.scope) }
+    ensures { Gives (λ statement. statement) result (call_at bindings.now.scope who Keyword.Timer words.entry) }
 {
     let name = words.free_name(bindings)?;
     let manual = words.option(b"manual");
@@ -173,94 +168,166 @@ fn timer(
     Ok(Statement::Create { who, name, act })
 }
 
-/// One object, and nothing after it.
-#[tactic(auto, unfolding(crate::specs::Reading::only_object_at))]
-fn only_object(bindings: &Bindings, mut words: Words) -> Result<Handle, ScriptFault>
-    ensures { result ≡ only_object_at bindings.now.scope words.entry }
+/// An act of a thread.
+fn act_of(who: u32, act: Act) -> Statement
+    ensures { result ≡ Statement.Perform who (Call.Act act) }
 {
-    let object = words.object(bindings)?;
+    let call = Call::Act(act);
+    Statement::Perform { who, call }
+}
+
+/// A waiting call of a thread.
+fn wait_of(who: u32, wait: WaitCall) -> Statement
+    ensures { result ≡ Statement.Perform who (Call.Wait wait) }
+{
+    let call = Call::Wait(wait);
+    Statement::Perform { who, call }
+}
+
+/// `tN set OBJ`
+#[tactic(auto, unfolding(crate::specs::Reading::call_at))]
+fn set(bindings: &Bindings, who: u32, mut words: Words) -> Result<Statement, LineFault>
+    ensures { Gives (λ statement. statement) result (call_at bindings.now.scope who Keyword.Set words.entry) }
+{
+    let event = words.object(bindings)?;
     words.end()?;
-    Ok(object)
+    Ok(act_of(who, Act::SetEvent(event)))
+}
+
+/// `tN reset OBJ`
+#[tactic(auto, unfolding(crate::specs::Reading::call_at))]
+fn reset(bindings: &Bindings, who: u32, mut words: Words) -> Result<Statement, LineFault>
+    ensures { Gives (λ statement. statement) result (call_at bindings.now.scope who Keyword.Reset words.entry) }
+{
+    let event = words.object(bindings)?;
+    words.end()?;
+    Ok(act_of(who, Act::ResetEvent(event)))
+}
+
+/// `tN pulse OBJ`
+#[tactic(auto, unfolding(crate::specs::Reading::call_at))]
+fn pulse(bindings: &Bindings, who: u32, mut words: Words) -> Result<Statement, LineFault>
+    ensures { Gives (λ statement. statement) result (call_at bindings.now.scope who Keyword.Pulse words.entry) }
+{
+    let event = words.object(bindings)?;
+    words.end()?;
+    Ok(act_of(who, Act::PulseEvent(event)))
 }
 
 /// `tN release OBJ COUNT`
-#[tactic(auto, unfolding(crate::specs::Reading::release_at))]
-fn release(bindings: &Bindings, who: u32, mut words: Words) -> Result<Statement, ScriptFault>
-    ensures exact { result ≡ release_at bindings.now.scope who words.entry }
-    ensures free { IfOk result (NamesFree bindings.now.scope) }
+#[tactic(auto, unfolding(crate::specs::Reading::call_at))]
+fn release(bindings: &Bindings, who: u32, mut words: Words) -> Result<Statement, LineFault>
+    ensures { Gives (λ statement. statement) result (call_at bindings.now.scope who Keyword.Release words.entry) }
 {
     let semaphore = words.object(bindings)?;
     let count = words.signed32()?;
     words.end()?;
-    let call = Call::Act(Act::ReleaseSemaphore { semaphore, count });
-    Ok(Statement::Perform { who, call })
+    Ok(act_of(who, Act::ReleaseSemaphore { semaphore, count }))
+}
+
+/// `tN unlock OBJ`
+#[tactic(auto, unfolding(crate::specs::Reading::call_at))]
+fn unlock(bindings: &Bindings, who: u32, mut words: Words) -> Result<Statement, LineFault>
+    ensures { Gives (λ statement. statement) result (call_at bindings.now.scope who Keyword.Unlock words.entry) }
+{
+    let mutex = words.object(bindings)?;
+    words.end()?;
+    Ok(act_of(who, Act::ReleaseMutex(mutex)))
 }
 
 /// `tN arm OBJ DUE PERIOD [ROUTINE ARG]`
-#[tactic(auto, unfolding(crate::specs::Reading::arm_at))]
-fn arm(bindings: &Bindings, who: u32, mut words: Words) -> Result<Statement, ScriptFault>
-    ensures exact { result ≡ arm_at bindings.now.scope who words.entry }
-    ensures free { IfOk result (NamesFree bindings.now.scope) }
+#[tactic(auto, unfolding(crate::specs::Reading::call_at, crate::specs::Reading::routine_at))]
+fn arm(bindings: &Bindings, who: u32, mut words: Words) -> Result<Statement, LineFault>
+    ensures { Gives (λ statement. statement) result (call_at bindings.now.scope who Keyword.Arm words.entry) }
 {
     let timer = words.object(bindings)?;
     let due = words.signed64()?;
     let period = words.signed32()?;
     let routine = words.routine()?;
-    words.end()?;
-    let call = Call::Act(Act::SetTimer {
+    let act = Act::SetTimer {
         timer,
         due,
         period,
         routine,
-    });
-    Ok(Statement::Perform { who, call })
+    };
+    Ok(act_of(who, act))
+}
+
+/// `tN cancel OBJ`
+#[tactic(auto, unfolding(crate::specs::Reading::call_at))]
+fn cancel(bindings: &Bindings, who: u32, mut words: Words) -> Result<Statement, LineFault>
+    ensures { Gives (λ statement. statement) result (call_at bindings.now.scope who Keyword.Cancel words.entry) }
+{
+    let timer = words.object(bindings)?;
+    words.end()?;
+    Ok(act_of(who, Act::CancelTimer(timer)))
 }
 
 /// `tN apc OBJ ROUTINE ARG`
-#[tactic(auto, unfolding(crate::specs::Reading::apc_at))]
-fn apc(bindings: &Bindings, who: u32, mut words: Words) -> Result<Statement, ScriptFault>
-    ensures exact { result ≡ apc_at bindings.now.scope who words.entry }
-    ensures free { IfOk result (NamesFree bindings.now.scope) }
+#[tactic(auto, unfolding(crate::specs::Reading::call_at))]
+fn apc(bindings: &Bindings, who: u32, mut words: Words) -> Result<Statement, LineFault>
+    ensures { Gives (λ statement. statement) result (call_at bindings.now.scope who Keyword.Apc words.entry) }
 {
     let thread = words.object(bindings)?;
     let routine = words.number(0, u64::MAX)?;
     let arg = words.number(0, u64::MAX)?;
     words.end()?;
-    let call = Call::Act(Act::QueueApc {
+    let act = Act::QueueApc {
         thread,
         routine,
         arg,
-    });
-    Ok(Statement::Perform { who, call })
+    };
+    Ok(act_of(who, act))
 }
 
-/// `tN any TIME MODE OBJ..`, `tN all TIME MODE OBJ..`
-#[tactic(auto, unfolding(crate::specs::Reading::objects_wait_at))]
-fn objects_wait(
+/// `tN any TIME MODE OBJ..`
+#[tactic(auto, unfolding(crate::specs::Reading::call_at))]
+fn any(
     alloc: Global,
     bindings: &Bindings,
     who: u32,
-    all: bool,
     mut words: Words,
 ) -> Result<Statement, LineFault>
-    ensures exact { Gives (λ statement. statement) result (objects_wait_at bindings.now.scope who all words.entry) }
-    ensures free { IfOk result (NamesFree bindings.now.scope) }
+    ensures { Gives (λ statement. statement) result (call_at bindings.now.scope who Keyword.Any words.entry) }
 {
     let ms = words.time()?;
     let alertable = words.mode()?;
     let handles = objects(alloc, bindings, words)?;
-    let call = Call::Wait(WaitCall::Objects {
+    let wait = WaitCall::Objects {
         handles,
-        all,
+        all: false,
         ms,
         alertable,
-    });
-    Ok(Statement::Perform { who, call })
+    };
+    Ok(wait_of(who, wait))
 }
 
+/// `tN all TIME MODE OBJ..`
+#[tactic(auto, unfolding(crate::specs::Reading::call_at))]
+fn all(
+    alloc: Global,
+    bindings: &Bindings,
+    who: u32,
+    mut words: Words,
+) -> Result<Statement, LineFault>
+    ensures { Gives (λ statement. statement) result (call_at bindings.now.scope who Keyword.All words.entry) }
+{
+    let ms = words.time()?;
+    let alertable = words.mode()?;
+    let handles = objects(alloc, bindings, words)?;
+    let wait = WaitCall::Objects {
+        handles,
+        all: true,
+        ms,
+        alertable,
+    };
+    Ok(wait_of(who, wait))
+}
+
+/// The objects of the words that are left.
 #[tactic(auto, using(crate::proofs::Parsing::objects_end))]
 fn objects(alloc: Global, bindings: &Bindings, mut words: Words) -> Result<Handles, LineFault>
-    ensures { Gives (λ handles. handles) result (objects_at bindings.now.scope words.entry) }
+    ensures { Gives (λ handles. handles) result (each_at bindings.now.scope ObjectPlace words.entry) }
 {
     let mut handles = Handles::new(alloc);
     while let Ok(word) = words.next() {
@@ -271,57 +338,55 @@ fn objects(alloc: Global, bindings: &Bindings, mut words: Words) -> Result<Handl
 }
 
 /// `tN sleep TIME MODE`
-#[tactic(auto, unfolding(crate::specs::Reading::sleep_at))]
-fn sleep(who: u32, mut words: Words) -> Result<Statement, ScriptFault>
-    ensures exact { result ≡ sleep_at who words.entry }
-    ensures free { (scope : Scope) → IfOk result (NamesFree scope) }
+#[tactic(auto, unfolding(crate::specs::Reading::call_at))]
+fn sleep(who: u32, mut words: Words) -> Result<Statement, LineFault>
+    ensures { (scope : Scope) → Gives (λ statement. statement) result (call_at scope who Keyword.Sleep words.entry) }
 {
     let ms = words.time()?;
     let alertable = words.mode()?;
     words.end()?;
-    let call = Call::Wait(WaitCall::Sleep { ms, alertable });
-    Ok(Statement::Perform { who, call })
+    Ok(wait_of(who, WaitCall::Sleep { ms, alertable }))
 }
 
 /// `tN swap OBJ OBJ TIME MODE`
-#[tactic(auto, unfolding(crate::specs::Reading::swap_at))]
-fn swap(bindings: &Bindings, who: u32, mut words: Words) -> Result<Statement, ScriptFault>
-    ensures exact { result ≡ swap_at bindings.now.scope who words.entry }
-    ensures free { IfOk result (NamesFree bindings.now.scope) }
+#[tactic(auto, unfolding(crate::specs::Reading::call_at))]
+fn swap(bindings: &Bindings, who: u32, mut words: Words) -> Result<Statement, LineFault>
+    ensures { Gives (λ statement. statement) result (call_at bindings.now.scope who Keyword.Swap words.entry) }
 {
     let signal = words.object(bindings)?;
     let object = words.object(bindings)?;
     let ms = words.time()?;
     let alertable = words.mode()?;
     words.end()?;
-    let call = Call::Wait(WaitCall::Swap {
+    let wait = WaitCall::Swap {
         signal,
         object,
         ms,
         alertable,
-    });
-    Ok(Statement::Perform { who, call })
+    };
+    Ok(wait_of(who, wait))
 }
 
-/// A call that needs no more words.
-fn bare(who: u32, call: Call, words: Words) -> Result<Statement, ScriptFault>
-    ensures exact { result ≡ bare_at who call words.entry }
-    ensures free { (scope : Scope) → IfOk result (NamesFree scope) }
+/// `tN next`
+#[tactic(auto, unfolding(crate::specs::Reading::call_at))]
+fn next(who: u32, words: Words) -> Result<Statement, LineFault>
+    ensures { (scope : Scope) → Gives (λ statement. statement) result (call_at scope who Keyword.Next words.entry) }
 {
     words.end()?;
-    Ok(Statement::Perform { who, call })
+    Ok(act_of(who, Act::NextApc))
 }
 
-/// An act on one object.
-fn act_on(who: u32, act: Act) -> Statement
-    ensures { result ≡ Statement.Perform who (Call.Act act) }
+/// `tN exit`
+#[tactic(auto, unfolding(crate::specs::Reading::call_at))]
+fn exit(who: u32, words: Words) -> Result<Statement, LineFault>
+    ensures { (scope : Scope) → Gives (λ statement. statement) result (call_at scope who Keyword.Exit words.entry) }
 {
-    let call = Call::Act(act);
-    Statement::Perform { who, call }
+    words.end()?;
+    let call = Call::Exit;
+    Ok(Statement::Perform { who, call })
 }
 
 /// The line of a keyword.
-#[tactic(auto, unfolding(crate::specs::Reading::call_at))]
 fn parse_call(
     alloc: Global,
     bindings: &Bindings,
@@ -329,28 +394,27 @@ fn parse_call(
     keyword: Keyword,
     words: Words,
 ) -> Result<Statement, LineFault>
-    ensures exact { Gives (λ statement. statement) result (call_at bindings.now.scope who keyword words.entry) }
-    ensures free { IfOk result (NamesFree bindings.now.scope) }
+    ensures { Gives (λ statement. statement) result (call_at bindings.now.scope who keyword words.entry) }
 {
     match keyword {
         Keyword::Event => event(alloc, bindings, who, words),
         Keyword::Semaphore => semaphore(alloc, bindings, who, words),
         Keyword::Mutex => mutex(alloc, bindings, who, words),
         Keyword::Timer => timer(alloc, bindings, who, words),
-        Keyword::Set => Ok(act_on(who, Act::SetEvent(only_object(bindings, words)?))),
-        Keyword::Reset => Ok(act_on(who, Act::ResetEvent(only_object(bindings, words)?))),
-        Keyword::Pulse => Ok(act_on(who, Act::PulseEvent(only_object(bindings, words)?))),
-        Keyword::Release => Ok(release(bindings, who, words)?),
-        Keyword::Unlock => Ok(act_on(who, Act::ReleaseMutex(only_object(bindings, words)?))),
-        Keyword::Arm => Ok(arm(bindings, who, words)?),
-        Keyword::Cancel => Ok(act_on(who, Act::CancelTimer(only_object(bindings, words)?))),
-        Keyword::Apc => Ok(apc(bindings, who, words)?),
-        Keyword::Any => objects_wait(alloc, bindings, who, false, words),
-        Keyword::All => objects_wait(alloc, bindings, who, true, words),
-        Keyword::Sleep => Ok(sleep(who, words)?),
-        Keyword::Swap => Ok(swap(bindings, who, words)?),
-        Keyword::Next => Ok(bare(who, Call::Act(Act::NextApc), words)?),
-        Keyword::Exit => Ok(bare(who, Call::Exit, words)?),
+        Keyword::Set => set(bindings, who, words),
+        Keyword::Reset => reset(bindings, who, words),
+        Keyword::Pulse => pulse(bindings, who, words),
+        Keyword::Release => release(bindings, who, words),
+        Keyword::Unlock => unlock(bindings, who, words),
+        Keyword::Arm => arm(bindings, who, words),
+        Keyword::Cancel => cancel(bindings, who, words),
+        Keyword::Apc => apc(bindings, who, words),
+        Keyword::Any => any(alloc, bindings, who, words),
+        Keyword::All => all(alloc, bindings, who, words),
+        Keyword::Sleep => sleep(who, words),
+        Keyword::Swap => swap(bindings, who, words),
+        Keyword::Next => next(who, words),
+        Keyword::Exit => exit(who, words),
     }
 }
 
@@ -362,8 +426,7 @@ fn parse_caller_line(
     who: u32,
     mut words: Words,
 ) -> Result<Statement, LineFault>
-    ensures exact { Gives (λ statement. statement) result (caller_at bindings.now.scope who words.entry) }
-    ensures free { IfOk result (NamesFree bindings.now.scope) }
+    ensures { Gives (λ statement. statement) result (caller_at bindings.now.scope who words.entry) }
 {
     let word = words.next()?;
     let keyword = Keyword::of(word).ok_or(ScriptFault::UnknownWord)?;
@@ -377,8 +440,7 @@ pub(crate) fn parse_statement(
     bindings: &Bindings,
     mut words: Words,
 ) -> Result<Statement, LineFault>
-    ensures exact { Gives (λ statement. statement) result (statement_at bindings.now.scope words.entry) }
-    ensures free { IfOk result (NamesFree bindings.now.scope) }
+    ensures { Gives (λ statement. statement) result (statement_at bindings.now.scope words.entry) }
 {
     let Ok(first) = words.next() else {
         return Ok(Statement::Blank);
