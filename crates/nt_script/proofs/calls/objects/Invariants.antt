@@ -2,7 +2,7 @@ use Rattle.std.proofs.Common.{◌≡◌, length}
 use Rattle.nt_script.specs.Places.{ObjectPlace}
 use Rattle.nt_script.specs.Reading.{each_at}
 use Rattle.nt_script.proofs.Parsing.{with_front}
-use Rattle.nt_script.proofs.parser.objects.Given as goal
+use Rattle.nt_script.proofs.calls.objects.Given as goal
 
 abbrev pub invariant-loop-word : goal.invariant-loop-word
 invariant-loop-word l = with_front l.handles (each_at l.bindings.scope ObjectPlace l.words) ≡ each_at l.bindings.scope ObjectPlace l.fn.words
