@@ -13,7 +13,7 @@ is_operand [] = true
 is_operand (first ∷ []) = true
 is_operand (first ∷ second ∷ others) = not (first == 45)
 
--- whether a word is `--`, behind which nothing is an option
+-- whether a word is `--`, after which nothing is an option
 abbrev pub ends_options : List ℕ → Bool
 ends_options word = bytes_eq word (codes "--")
 
@@ -21,14 +21,14 @@ ends_options word = bytes_eq word (codes "--")
 abbrev pub file_of_two : List ℕ → List ℕ → Option (List ℕ)
 file_of_two first second = if ends_options first then Some second else (if is_operand first && ends_options second then Some first else None)
 
--- the file that the words behind `script` name: `FILE`, which is no option, `FILE --`, or `-- FILE`
+-- the file that the words after `script` name: `FILE`, which is no option, `FILE --`, or `-- FILE`
 abbrev pub file_named : List (List ℕ) → Option (List ℕ)
 file_named [] = None
 file_named (file ∷ []) = if is_operand file then Some file else None
 file_named (first ∷ second ∷ []) = file_of_two first second
 file_named (first ∷ second ∷ third ∷ others) = None
 
--- the file that the words behind the program's name ask to run: those words are `script` and what names a file
+-- the file that the words after the program's name ask to run: those words are `script` and what names a file
 abbrev pub file_behind : List (List ℕ) → Option (List ℕ)
 file_behind [] = None
 file_behind (word ∷ words) = if bytes_eq (codes "script") word then file_named words else None
@@ -53,7 +53,7 @@ counts_of_three first second third =
     if ends_options first then two_counts second third
     else (if ends_options second then two_counts first third else (if ends_options third then two_counts first second else None))
 
--- the workers and rounds that the words behind `threads` tell: `N ROUNDS`, with one `--` among them or none
+-- the workers and rounds that the words after `threads` tell: `N ROUNDS`, with one `--` among them or none
 abbrev pub counts_named : List (List ℕ) → Option (ℕ × ℕ)
 counts_named [] = None
 counts_named (first ∷ []) = None
@@ -61,7 +61,7 @@ counts_named (first ∷ second ∷ []) = two_counts first second
 counts_named (first ∷ second ∷ third ∷ []) = counts_of_three first second third
 counts_named (first ∷ second ∷ third ∷ fourth ∷ others) = None
 
--- the workers and rounds that the words behind the program's name tell: those words are `threads` and what names two counts
+-- the workers and rounds that the words after the program's name tell: those words are `threads` and what names two counts
 abbrev pub counts_behind : List (List ℕ) → Option (ℕ × ℕ)
 counts_behind [] = None
 counts_behind (word ∷ words) = if bytes_eq word (codes "threads") then counts_named words else None
@@ -76,13 +76,13 @@ are_lawful workers rounds = nat_le 1 workers && nat_le workers 64 && nat_le 1 ro
 
 -- ---- the plan
 
--- The file is the one that is asked for; the usage is told only where none is; and want of memory is no other answer.
+-- The file is the one that is asked for; the usage is told only where none is; and out of memory is no other answer.
 abbrev pub FindsFile : {Z : Type 0} → Option (List ℕ) → Result (String Z) PlanFault → Type 0
 FindsFile asked (Ok file) = asked ≡ Some (string_bytes file)
 FindsFile asked (Err Usage) = asked ≡ None
 FindsFile asked (Err Memory) = Unit {0}
 
--- The plan is to run the file or the threads that are asked for; the usage is told only where neither is; and want of memory is no other answer.
+-- The plan is to run the file or the threads that are asked for; the usage is told only where neither is; and out of memory is no other answer.
 abbrev pub PlansBy : List (List ℕ) → Result Plan PlanFault → Type 0
 PlansBy words (Ok (Script file)) = file_asked words ≡ Some (string_bytes file)
 PlansBy words (Ok (Threads workers rounds)) = threads_asked words ≡ Some (workers, rounds)

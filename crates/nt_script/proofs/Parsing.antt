@@ -1,7 +1,7 @@
 -- Objects, one after another.
 use Rattle.std.proofs.Common.{◌≡◌, ℕ, List, [], ◌∷◌, ◌++◌, Result, Ok, Err, refl, sym, subst, ◌∙◌, ap, append_assoc, append-nil}
-use Rattle.nt_script.specs.Grammar.{ObjectPlace, blame, object_in}
-use Rattle.nt_script.specs.Reading.{◌>>=◌, or_fault, word_at, objects_at}
+use Rattle.nt_script.specs.Places.{ObjectPlace, blame, object_in}
+use Rattle.nt_script.specs.Reading.{◌>>=◌, or_fault, word_at, each_at}
 use Rattle.nt_script.specs.Scope.{Scope}
 use Rattle.nt_script.specs.declared.fault.ScriptFault.{ScriptFault}
 
@@ -39,22 +39,22 @@ taken (first ∷ words) left word e =
 
 -- one object more
 pub objects_next : (scope : Scope) (front : List ℕ) (words left : List (List ℕ)) (word : List ℕ) (handle : ℕ) (total : Result (List ℕ) ScriptFault)
-    → word_at words ≡ Ok (word, left) → taken_as handle ≡ or_fault (object_in scope word) (blame ObjectPlace word) → with_front front (objects_at scope words) ≡ total
-    → with_front (front ++ handle ∷ []) (objects_at scope left) ≡ total
-unfolding objects_at
+    → word_at words ≡ Ok (word, left) → taken_as handle ≡ or_fault (object_in scope word) (blame ObjectPlace word) → with_front front (each_at scope ObjectPlace words) ≡ total
+    → with_front (front ++ handle ∷ []) (each_at scope ObjectPlace left) ≡ total
+unfolding each_at
 objects_next scope front words left word handle total next object so_far =
-    let one : with_front front (objects_at scope (word ∷ left)) ≡ with_front (front ++ handle ∷ []) (objects_at scope left) = rw (← object) (with_front-push front handle (objects_at scope left)) in
-    sym one ∙ subst (λ (words : List (List ℕ)). with_front front (objects_at scope words) ≡ total) (taken words left word next).same so_far
+    let one : with_front front (each_at scope ObjectPlace (word ∷ left)) ≡ with_front (front ++ handle ∷ []) (each_at scope ObjectPlace left) = rw (← object) (with_front-push front handle (each_at scope ObjectPlace left)) in
+    sym one ∙ subst (λ (words : List (List ℕ)). with_front front (each_at scope ObjectPlace words) ≡ total) (taken words left word next).same so_far
 
 -- an object that is none is the fault of all
 pub objects_fail : (scope : Scope) (front : List ℕ) (words left : List (List ℕ)) (word : List ℕ) (fault : ScriptFault) (total : Result (List ℕ) ScriptFault)
-    → word_at words ≡ Ok (word, left) → (let read : Result ℕ ScriptFault = Err fault in read ≡ or_fault (object_in scope word) (blame ObjectPlace word)) → with_front front (objects_at scope words) ≡ total
+    → word_at words ≡ Ok (word, left) → (let read : Result ℕ ScriptFault = Err fault in read ≡ or_fault (object_in scope word) (blame ObjectPlace word)) → with_front front (each_at scope ObjectPlace words) ≡ total
     → total ≡ Err fault
-unfolding objects_at
+unfolding each_at
 objects_fail scope front words left word fault total next object so_far =
-    let one : with_front front (objects_at scope (word ∷ left)) ≡ Err fault = rw (← object) refl in
-    sym (subst (λ (words : List (List ℕ)). with_front front (objects_at scope words) ≡ total) (taken words left word next).same so_far) ∙ one
+    let one : with_front front (each_at scope ObjectPlace (word ∷ left)) ≡ Err fault = rw (← object) refl in
+    sym (subst (λ (words : List (List ℕ)). with_front front (each_at scope ObjectPlace words) ≡ total) (taken words left word next).same so_far) ∙ one
 
-pub objects_end : (scope : Scope) (front : List ℕ) (total : Result (List ℕ) ScriptFault) → with_front front (objects_at scope []) ≡ total → total ≡ Ok front
-unfolding objects_at
+pub objects_end : (scope : Scope) (front : List ℕ) (total : Result (List ℕ) ScriptFault) → with_front front (each_at scope ObjectPlace []) ≡ total → total ≡ Ok front
+unfolding each_at
 objects_end scope front total so_far = sym so_far ∙ ap Ok (append-nil front)

@@ -1,6 +1,6 @@
 use Rattle.std.proofs.lemmas.Result.{err_from_is_err_and}
 use Rattle.nt_script.proofs.Parsing.{objects_next, objects_fail}
-use Rattle.nt_script.proofs.parser.objects.Goals as goal
+use Rattle.nt_script.proofs.calls.objects.Goals as goal
 
 pub loop-word-preserved : goal.loop-word-preserved
 loop-word-preserved c =
