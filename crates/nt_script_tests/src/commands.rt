@@ -1,6 +1,7 @@
 //! What a script's run says, and how it ends.
 
 mod plans;
+mod threads;
 mod words;
 
 use crate::devices::{Given, Room, Taken};
