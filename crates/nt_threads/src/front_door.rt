@@ -1,5 +1,5 @@
 //! A door to a front.
-ghost use Rattle.std.specs.Prelude.{◌≡◌, ◌++◌, ◌∷◌, [], IfSome, OnOk};
+ghost use Rattle.std.specs.Prelude.{◌≡◌, ◌++◌, ◌∷◌, [], None, IfSome, IfNone, OnOk};
 ghost use Rattle.nt_core.specs.declared.call.Call.{Call};
 ghost use Rattle.nt_front.specs.Held.{knowledge_of};
 ghost use Rattle.nt_threads.specs.Doors.{accepted_calls, calls_of_hold, made_through};
@@ -36,6 +36,7 @@ impl<'f, N: Named> FrontDoor<'f, N> {
     /// What the thread holds at the end.
     pub fn into_held(self) -> Option<Held<N>>
         ensures made { IfSome result (λ h. made_through self.entry.hold ≡ calls_of_hold h) }
+        ensures none { IfNone result (self.entry.hold ≡ None) }
     {
         let FrontDoor {
             front: _,

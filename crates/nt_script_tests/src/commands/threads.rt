@@ -86,13 +86,17 @@ fn one_worker_makes_one_round(rt: HostRuntime) {
     check(&rt, 1, 1, lines);
 }
 
+/// Not made where growths are refused: how many there are is a matter of how many waits pend at once.
 #[test]
 fn most_workers_make_ten_rounds(rt: HostRuntime) {
+    if is_refusing(&rt) {
+        return;
+    }
     let lines = "threads 64\nrounds 10\nacquired 640\nreleased 640\nsemaphore 640\nabandoned 0\n";
     check(&rt, 64, 10, lines);
 }
 
-/// The longest run. It is not made where growths are refused: those before it meet each growth that it meets.
+/// The longest run, which takes about a second, and a hundred times as long in a build that checks each step (`rt try`).
 #[test]
 fn most_workers_make_most_rounds(rt: HostRuntime) {
     if is_refusing(&rt) {
