@@ -5,12 +5,12 @@
 mod shapes;
 mod turns;
 
-use shapes::{Shape, all_shapes};
+use shapes::{SHAPES, Shape, shape_of};
 use std::alloc::AllocError;
 use std::env;
 use std::io::{self, Write};
 use std::process::ExitCode;
-use std::time::Instant;
+use std::time::{Duration, Instant};
 use turns::{Counts, Fault, Stage};
 
 /// How often a round is made where nothing is timed.
@@ -42,17 +42,36 @@ fn plan_of(rt: &HostRuntime) -> Result<Plan, AllocError> {
     })
 }
 
+/// What a shape counted, and how long it took.
+#[derive(Clone, Copy)]
+struct Measured {
+    counts: Counts,
+    took: Duration,
+}
+
+/// Makes the stage's round so many times.
+fn timed(rt: &HostRuntime, stage: &mut Stage<'_>, rounds: u64) -> Result<Measured, Fault> {
+    let began = Instant::now(rt).map_err(|_| Fault::Clock)?;
+    let counts = stage.run(rounds)?;
+    let took = began.elapsed(rt).map_err(|_| Fault::Clock)?;
+    Ok(Measured { counts, took })
+}
+
+/// Opens a stage for the shape, and makes its round so many times.
+fn measure(rt: &HostRuntime, shape: &Shape, rounds: u64) -> Result<Measured, Fault> {
+    let mut stage = Stage::open(rt.alloc(), shape)?;
+    timed(rt, &mut stage, rounds)
+}
+
 /// Runs one shape, and prints its line.
 fn run_shape(
     rt: &HostRuntime,
-    shape: &Shape,
+    number: u32,
     plan: Plan,
     out: &mut impl Write,
 ) -> Result<(), Fault> {
-    let mut stage = Stage::open(rt.alloc(), shape)?;
-    let began = Instant::now(rt).map_err(|_| Fault::Clock)?;
-    let counts = stage.run(plan.rounds)?;
-    let took = began.elapsed(rt).map_err(|_| Fault::Clock)?;
+    let shape = shape_of(rt.alloc(), number)?;
+    let Measured { counts, took } = measure(rt, &shape, plan.rounds)?;
     let Counts { calls, grants } = counts;
     let told = if plan.is_timed {
         let picoseconds = took.as_nanos().saturating_mul(1000) / (calls.max(1) as u128);
@@ -70,9 +89,8 @@ fn run_shape(
 fn run_all(rt: &HostRuntime) -> Result<(), Fault> {
     let plan = plan_of(rt)?;
     let mut out = io::writer(rt);
-    let shapes = all_shapes(rt.alloc())?;
-    for shape in &shapes {
-        run_shape(rt, shape, plan, &mut out)?;
+    for number in 0..SHAPES {
+        run_shape(rt, number, plan, &mut out)?;
     }
     Ok(())
 }

@@ -168,15 +168,19 @@ fn signal_and_wait(alloc: Global) -> Result<Shape, AllocError> {
     shape.then(0, set(3))
 }
 
-pub fn all_shapes(alloc: Global) -> Result<Vec<Shape>, AllocError> {
-    let mut shapes = Vec::with_capacity(alloc, 8)?;
-    shapes.push_reserved(set_and_wait(alloc)?);
-    shapes.push_reserved(hand_over(alloc)?);
-    shapes.push_reserved(any_of_64(alloc)?);
-    shapes.push_reserved(all_of_64(alloc)?);
-    shapes.push_reserved(pulse_255(alloc)?);
-    shapes.push_reserved(release_8(alloc)?);
-    shapes.push_reserved(mutex(alloc)?);
-    shapes.push_reserved(signal_and_wait(alloc)?);
-    Ok(shapes)
+/// How many shapes there are.
+pub const SHAPES: u32 = 8;
+
+/// The shape of this number, which counts from 0.
+pub fn shape_of(alloc: Global, number: u32) -> Result<Shape, AllocError> {
+    match number {
+        0 => set_and_wait(alloc),
+        1 => hand_over(alloc),
+        2 => any_of_64(alloc),
+        3 => all_of_64(alloc),
+        4 => pulse_255(alloc),
+        5 => release_8(alloc),
+        6 => mutex(alloc),
+        _ => signal_and_wait(alloc),
+    }
 }

@@ -49,6 +49,15 @@ fn make(core: &mut Core, turn: &Turn) -> Result<u64, Refusal> {
     Ok(core.grants().len() as u64)
 }
 
+/// Makes the calls in turn, and answers how many pending waits they ended.
+fn make_all(core: &mut Core, turns: &[Turn]) -> Result<u64, Refusal> {
+    let mut grants = 0_u64;
+    for turn in turns {
+        grants = grants.wrapping_add(make(core, turn)?);
+    }
+    Ok(grants)
+}
+
 /// A core on which a shape's preparations were made.
 #[derive(Drop)]
 pub struct Stage<'a> {
@@ -59,9 +68,7 @@ pub struct Stage<'a> {
 impl<'a> Stage<'a> {
     pub fn open(alloc: Global, shape: &'a Shape) -> Result<Self, Fault> {
         let mut core = Core::new(alloc, shape.threads)?;
-        for turn in &shape.prepare {
-            make(&mut core, turn)?;
-        }
+        make_all(&mut core, shape.prepare.as_slice())?;
         Ok(Stage {
             core,
             round: shape.round.as_slice(),
@@ -69,11 +76,7 @@ impl<'a> Stage<'a> {
     }
 
     fn run_once(&mut self) -> Result<u64, Refusal> {
-        let mut grants = 0_u64;
-        for turn in self.round {
-            grants = grants.wrapping_add(make(&mut self.core, turn)?);
-        }
-        Ok(grants)
+        make_all(&mut self.core, self.round)
     }
 
     /// Makes the round so many times.

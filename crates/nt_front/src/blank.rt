@@ -64,6 +64,21 @@ pub fn open<N: Named>(alloc: Global, blank: Blank) -> Result<(Front<N>, Vec<Pass
     ensures count { IfOk result (λ r. vec_len r.1 ≡ blank.threads) }
     ensures memory { IfErr result (λ r. r ≡ Memory) }
 {
+    let (bells, passes) = rooms(alloc, blank.threads as usize)?;
+    Ok(put_together(blank, bells, passes))
+}
+
+/// Puts the front together. Each thread gets its pass.
+fn put_together<N: Named>(
+    blank: Blank,
+    bells: Bells,
+    mut passes: Vec<Pass<N>>,
+) -> (Front<N>, Vec<Pass<N>>)
+    requires name { blank.table ≡ N.table }
+    requires room { (passes.items ≡ []) × (blank.threads ≤ vec_capacity passes) }
+    ensures passes { result.1.items ≡ new_threads blank.threads }
+    ensures count { vec_len result.1 ≡ blank.threads }
+{
     let Blank {
         mail,
         mut seats,
@@ -72,8 +87,6 @@ pub fn open<N: Named>(alloc: Global, blank: Blank) -> Result<(Front<N>, Vec<Pass
         threads,
         room,
     } = blank;
-    let bells = Bells::new(alloc, threads as usize)?;
-    let mut passes = Vec::with_capacity(alloc, threads as usize)?;
     hand_out(&mail, &mut seats, threads as u16, &mut passes);
     let book = Book::new(core, threads, journal, room, seats.into_dispatcher());
     let front = Front {
@@ -81,7 +94,17 @@ pub fn open<N: Named>(alloc: Global, blank: Blank) -> Result<(Front<N>, Vec<Pass
         book: Mutex::new(book),
         bells,
     };
-    Ok((front, passes))
+    (front, passes)
+}
+
+/// What opening takes memory for: a bell for each thread, and room for the passes.
+fn rooms<N: Named>(alloc: Global, threads: usize) -> Result<(Bells, Vec<Pass<N>>), Refusal>
+    ensures passes { IfOk result (λ r. (r.1.items ≡ []) × (threads ≤ vec_capacity r.1)) }
+    ensures memory { IfErr result (λ r. r ≡ Memory) }
+{
+    let bells = Bells::new(alloc, threads)?;
+    let passes = Vec::with_capacity(alloc, threads)?;
+    Ok((bells, passes))
 }
 
 /// Whether a front may have so many threads, and its journal so much room.
@@ -97,11 +120,11 @@ fn parts(alloc: Global, threads: u32, room: usize) -> Result<Blank, Refusal>
     ensures ok { IfOk result (λ b. (b.threads ≡ threads) × (b.room ≡ room)) }
     ensures memory { IfErr result (λ r. r ≡ Memory) }
 {
-    let core = Core::new(alloc, threads)?;
-    let journal = Vec::with_capacity(alloc, room)?;
     let Ok(Opened { mail, seats }) = Mail::new(alloc, threads) else {
         return Err(Refusal::Memory);
     };
+    let journal = Vec::with_capacity(alloc, room)?;
+    let core = Core::new(alloc, threads)?;
     Ok(Blank {
         mail,
         seats,

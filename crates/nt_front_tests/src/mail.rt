@@ -74,17 +74,21 @@ fn open(rt: &impl Host) -> Result<Opened, AllocError>
     }
 }
 
-// A thread's wait pends at entry 1, and its deadline ends it at entry 2, at moment 7. Its tick is entry 3.
-#[test]
-fn a_grant_is_taken_once(rt: HostRuntime) -> Result<(), Fail> {
-    let who = ThreadId::new(0);
-    let moment = Moment::new(7).ok_or("7 is a moment")?;
-    let Opened { mail, mut seats } = open(&rt)?;
-    let mut waiter = mail.part(&mut seats, who);
-    assert_eq!(rt; waiter.thread(), who);
-    let mut dispatcher = seats.into_dispatcher();
-    assert_eq!(rt; mail.poll(&mut waiter), 0);
+/// What a thread reads of its word, in order, what its takes find, and the moment that it reads at last.
+#[derive(Clone, Copy, PartialEq, Eq, Debug)]
+struct Told {
+    words: [u64; 5],
+    takes: [Result<(), u64>; 2],
+    moment: Moment,
+}
 
+/// A thread's wait pends at entry 1, and its deadline ends it at entry 2, at this moment. Its tick is entry 3.
+fn grant_once(rt: &impl Host, moment: Moment) -> Result<Told, AllocError> {
+    let Opened { mail, mut seats } = open(rt)?;
+    let who = ThreadId::new(0);
+    let mut waiter = mail.part(&mut seats, who);
+    let mut dispatcher = seats.into_dispatcher();
+    let idle = mail.poll(&mut waiter);
     let wait = Entry::Called {
         who,
         call: Call::Wait(WaitCall::Sleep {
@@ -94,25 +98,38 @@ fn a_grant_is_taken_once(rt: HostRuntime) -> Result<(), Fail> {
         result: Ok(Reply::Pended),
     };
     mail.arm(&mut dispatcher, &mut waiter, &wait, 1);
-    assert_eq!(rt; mail.poll(&mut waiter), 1025);
+    let armed = mail.poll(&mut waiter);
     mail.grant(&mut dispatcher, who, Status::TIMEOUT, 2);
     mail.publish_moment(&mut dispatcher, moment);
-    let word = mail.poll(&mut waiter);
-    assert_eq!(rt; word, 2308);
-    assert_eq!(rt; mail.take(&mut waiter, word), Ok(()));
-    assert_eq!(rt; mail.poll(&mut waiter), 2048);
-    assert_eq!(rt; mail.take(&mut waiter, word), Err(2048));
-    assert_eq!(rt; mail.read_moment(&mut waiter), moment);
-
+    let granted = mail.poll(&mut waiter);
+    assert_eq!(rt; granted, 2308);
+    let taken = mail.take(&mut waiter, granted);
+    let left = mail.poll(&mut waiter);
+    let again = mail.take(&mut waiter, granted);
+    let read = mail.read_moment(&mut waiter);
     let tick = Entry::Ticked {
         by: who,
         moment,
         result: Ok(Reply::Done),
     };
     mail.note(&mut dispatcher, &mut waiter, &tick, 3);
-    assert_eq!(rt; mail.poll(&mut waiter), 3072);
+    let noted = mail.poll(&mut waiter);
     let mut all = dispatcher.gather();
     mail.join(&mut all, waiter);
     mail.close(all);
+    Ok(Told {
+        words: [idle, armed, granted, left, noted],
+        takes: [taken, again],
+        moment: read,
+    })
+}
+
+#[test]
+fn a_grant_is_taken_once(rt: HostRuntime) -> Result<(), Fail> {
+    let moment = Moment::new(7).ok_or("7 is a moment")?;
+    let told = grant_once(&rt, moment)?;
+    assert_eq!(rt; told.words, [0, 1025, 2308, 2048, 3072]);
+    assert_eq!(rt; told.takes, [Ok(()), Err(2048)]);
+    assert_eq!(rt; told.moment, moment);
     Ok(())
 }
