@@ -1,4 +1,4 @@
-use Rattle.std.proofs.Common.{None, true, ◌≡◌, ◌∷◌, [], ◌++◌, length, refl, ap, ◌∙◌, subst}
+use Rattle.std.proofs.Common.{true, ◌≡◌, length, refl, ap, ◌∙◌, subst}
 use Rattle.nt_objects.specs.declared.object.Object.{Object}
 use Rattle.nt_objects.specs.Object.{mutex_of, owned_by, IsLawfulObject}
 use Rattle.nt_core.specs.declared.call.Act.{Act}

@@ -1,4 +1,4 @@
-use Rattle.std.proofs.Common.{None, ◌≡◌, ◌∷◌, [], ◌++◌, length, refl, ap, ◌∙◌, subst}
+use Rattle.std.proofs.Common.{◌≡◌, length, refl, ap, ◌∙◌, subst}
 use Rattle.std.specs.Prelude.{ℤ}
 use Rattle.std.proofs.Common.{w32}
 use mir.Val.{to_z, of_z}
