@@ -21,7 +21,10 @@ use Rattle.nt_core.specs.Dispatcher.{Dispatcher, state}
 use Rattle.nt_core.specs.Serving.{satisfied, granted, take_at, take_each, objects_taken, least, IsChanged, Grants, Serve, IsAlerted, Alert}
 use Rattle.nt_core.specs.Change.{change}
 use Rattle.nt_core.specs.Steps.{IsAwaited, NothingDue, after_serving, answered}
-use Rattle.nt_core.specs.Lawful.{IsSettled, IsSteady}
+use Rattle.nt_objects.specs.declared.handles.Opened.{Opened}
+use Rattle.nt_objects.specs.Handles.{own_handles, full_access}
+use Rattle.nt_core.specs.Lawful.{IsSettled, IsSteady, HandlesAgree}
+use Rattle.nt_core.proofs.Handling.{handles_along, own_agree}
 use Rattle.nt_core.specs.Accepts.{is_by_objects, IsFresh, IsServedAfter, Accepts}
 use Rattle.std.proofs.Common.{◌||◌, is_some, ◌==◌, nat_lt}
 use Rattle.std.specs.Prelude.{nat_le, nat_eq, Result, Ok, Err, IfOk, OnOk}
@@ -155,8 +158,8 @@ quiet_alarms zero h = refl
 quiet_alarms (suc n) zero = refl
 quiet_alarms (suc n) (suc h) = quiet_alarms n h
 
-pub opening_steady : (d : Dispatcher) → d.threads ≤ 256 → d.objects ≡ replicate d.threads (Thread false) → d.table.pending ≡ fin.empty → Agrees d.table.pending d.table.queues → length d.handing ≡ d.threads → length d.apcs.queues ≡ d.threads → d.grants ≡ [] → d.alarms ≡ replicate d.threads None → IsSteady d
-opening_steady d few objects waits agrees hands inboxes grants alarms = record {
+pub opening_steady : (d : Dispatcher) → d.threads ≤ 256 → d.handles ≡ own_handles d.threads (full_access (Thread false)) → d.objects ≡ replicate d.threads (Thread false) → d.table.pending ≡ fin.empty → Agrees d.table.pending d.table.queues → length d.handing ≡ d.threads → length d.apcs.queues ≡ d.threads → d.grants ≡ [] → d.alarms ≡ replicate d.threads None → IsSteady d
+opening_steady d few handles objects waits agrees hands inboxes grants alarms = record {
   sound = record {
     few = few;
     waits = λ t w pends. nobody t w pends;
@@ -172,7 +175,7 @@ opening_steady d few objects waits agrees hands inboxes grants alarms = record {
       placed = λ h t is. nobody_set t (sym (ap setter_of (running h)) ∙ is);
       runs = λ h t is. nobody_set t (sym (ap setter_of (running h)) ∙ is);
     };
-    handles = let len : length d.objects ≡ d.threads = ap (λ os. length os) objects ∙ length-replicate d.threads (Thread false) in omega (arith, len, few);
+    handles = subst (λ (hs : List (Option Opened)). HandlesAgree (length d.objects) hs) (sym handles) (handles_along (own_handles d.threads (full_access (Thread false))) (ap (λ os. length os) objects ∙ length-replicate d.threads (Thread false)) (own_agree d.threads (full_access (Thread false)) few));
     room = let none : length d.grants ≡ 0 = ap (λ gs. length gs) grants in let empty : fin.len d.table.pending ≡ 0 = ap (λ m. fin.len m) waits ∙ fin.len-empty nat_cmp Wait in omega (arith, none, empty);
   };
   settled = record {

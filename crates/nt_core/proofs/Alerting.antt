@@ -56,7 +56,7 @@ ended_sound old table t code may w grants sound has waits agrees pushed =
 
 pub ended_over : (old : Dispatcher) (table : Waits) (t : ℕ) (may : Bool) (grants : List Grant) → table.pending ≡ fin.remove old.table.pending t → ((h : ℕ) → queue_of table h ≡ others t (queue_of old.table h)) → state (record old { table = table; handing = set old.handing t may; grants = grants }) ≡ wait_over (state old) t may
 ended_over old table t may grants waits queues =
-    state_same (state (record old { table = table; handing = set old.handing t may; grants = grants })) (wait_over (state old) t may) refl refl waits queues refl refl refl
+    state_same (state (record old { table = table; handing = set old.handing t may; grants = grants })) (wait_over (state old) t may) refl refl refl waits queues refl refl refl
 
 -- some wait pends of whoever pends
 pub pending_wait : (s : State) (t : ℕ) → pends s t ≡ true → (w : Wait) × (Some w ≡ fin.get s.waits t)

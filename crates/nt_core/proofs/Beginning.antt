@@ -25,6 +25,7 @@ use Rattle.nt_core.specs.State.{object_at, deadline_after}
 use Rattle.nt_core.specs.Serving.{fits, is_ready, satisfied, is_due, IsTried}
 use Rattle.nt_core.specs.Steps.{begun, IsAwaited}
 use Rattle.nt_core.specs.Lawful.{IsSettled, IsSteady}
+use Rattle.nt_core.proofs.Handling.{handles_along}
 use Rattle.nt_core.proofs.Taking.{unready_after}
 use Rattle.nt_core.proofs.Keeping.{TakesWell, objects_taken_well, taken_timers}
 use Rattle.nt_core.proofs.Changing.{served_fewer, due_kept}
@@ -74,7 +75,7 @@ names_no (x ∷ hs) h e (suc j) below is = names_no hs h (second (x == h) (list_
 
 pub pends_too : (old : Dispatcher) (table : Waits) (t : ℕ) (w : Wait) → table.pending ≡ fin.insert old.table.pending t w → ((h : ℕ) → Names w h → queue_of table h ≡ queue_of old.table h ++ t ∷ []) → ((h : ℕ) → (Names w h → ⊥) → queue_of table h ≡ queue_of old.table h) → state (record old { table = table }) ≡ pending_too (state old) t w
 pends_too old table t w pending joined kept =
-    state_same (state (record old { table = table })) (pending_too (state old) t w) refl refl pending (λ h. queue h (names w h) refl) refl refl refl
+    state_same (state (record old { table = table })) (pending_too (state old) t w) refl refl refl pending (λ h. queue h (names w h) refl) refl refl refl
   where
     queue : (h : ℕ) (b : Bool) → names w h ≡ b → queue_of table h ≡ (if names w h then queue_of old.table h ++ t ∷ [] else queue_of old.table h)
     queue h true is = rw is (joined h (names_yes w.handles h is))
@@ -227,7 +228,7 @@ began_taken old objects owned t code w steady able idle tried =
         own = λ u below. (subst (λ (n : ℕ). u < n) (sym well.length) (sound.own u below).0, well.threads u ∙ (sound.own u below).1);
         none_else = λ h beyond known. well.threads h ∙ sound.none_else h beyond (subst (λ (n : ℕ). h < n) well.length known);
         timers = taken_timers old.threads old.objects objects old.alarms old.apcs.places t sound.timers well;
-        handles = let most = sound.handles in let len = well.length in omega (arith, most, len);
+        handles = handles_along old.handles well.length sound.handles;
         room = sound.room;
       };
       settled = record {

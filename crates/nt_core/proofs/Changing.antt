@@ -11,13 +11,15 @@ use Rattle.nt_objects.specs.declared.object.Object.TheVariants.{Event, Semaphore
 use Rattle.nt_objects.specs.Object.{signaled, is_event, is_thread, has_ended, has_room, owned_by, due_of, setter_of, IsLawfulObject}
 use Rattle.nt_core.specs.Rising.{AreRising}
 use Rattle.nt_core.specs.State.{State, object_at}
-use Rattle.nt_core.specs.Dispatcher.{Dispatcher, state}
+use Rattle.nt_core.specs.Dispatcher.{Dispatcher, state, with_created}
 use Rattle.nt_core.specs.Refusals.{is_at_limit, is_full}
 use Rattle.nt_core.specs.Serving.{is_ready, fits, satisfied, is_due, IsChanged, sequence, IsServed}
 use Rattle.nt_core.specs.Visits.{FitOnlyIn}
 use Rattle.nt_core.specs.Steps.{NothingDue}
 use Rattle.nt_core.specs.Lawful.{IsSound, MayReplace}
 use Rattle.nt_core.proofs.Taking.{fits_kept}
+use Rattle.nt_core.proofs.Handling.{handles_along, handles_created}
+use Rattle.nt_objects.specs.Handles.{full_access}
 use Rattle.nt_core.proofs.Keeping.{timers_kept}
 use Rattle.nt_alarms.specs.Alarms.{alarm_at}
 use Rattle.std.proofs.lemmas.Bool.Decides.{nat_tests}
@@ -207,7 +209,7 @@ sound_replaced d h o owned sound may = record {
   own = λ t below. (subst (λ (n : ℕ). t < n) (sym (length-set d.objects h o)) (sound.own t below).0, reading_set is_thread d.objects h o may.thread t ∙ (sound.own t below).1);
   none_else = λ k beyond known. reading_set is_thread d.objects h o may.thread k ∙ sound.none_else k beyond (subst (λ (n : ℕ). k < n) (length-set d.objects h o) known);
   timers = timers_kept d.threads d.objects (set d.objects h o) d.alarms d.apcs.places sound.timers (length-set d.objects h o) (reading_set due_of d.objects h o may.due) (reading_set setter_of d.objects h o may.setter) (reading_set has_ended d.objects h o may.ended);
-  handles = let most = sound.handles in let len = length-set d.objects h o in omega (arith, most, len);
+  handles = handles_along d.handles (length-set d.objects h o) sound.handles;
   room = sound.room;
 }
 
@@ -234,7 +236,7 @@ unset_undue (Thread ended) due = refl
 unset_undue Gone due = refl
 
 -- one object more leaves all readings of objects that were there
-pub sound_created : (d : Dispatcher) (o : Object) (owned : List (List ℕ)) → IsSound d → is_full d.objects ≡ false → IsLawfulObject o → is_thread o ≡ false → due_of o ≡ None → IsSound (record d { objects = d.objects ++ o ∷ []; owned = owned; alarms = d.alarms ++ None ∷ [] })
+pub sound_created : (d : Dispatcher) (o : Object) (owned : List (List ℕ)) → IsSound d → is_full d.objects ≡ false → IsLawfulObject o → is_thread o ≡ false → due_of o ≡ None → IsSound (with_created d o owned)
 sound_created d o owned sound room lawful no_thread due = record {
   few = sound.few;
   waits = λ t w pends.
@@ -264,7 +266,7 @@ sound_created d o owned sound room lawful no_thread due = record {
         let own = sound.timers.runs h t (sym (reading_created setter_of d.objects o (unset_undue o due) h) ∙ is) in
         (own.0, ap has_ended (object_at-append d.objects (o ∷ []) t (sound.own t own.0).0) ∙ own.1);
   };
-  handles = let len = length-append d.objects (o ∷ []) in grind (arith, nat_tests, room, len);
+  handles = handles_created (length (d.objects ++ o ∷ [])) d.handles (length d.objects) (full_access o) (grind (arith, nat_tests, room)) sound.handles (length-append d.objects (o ∷ []));
   own = λ t below.
       let before = sound.own t below in (
         let longer = length-append d.objects (o ∷ []) in omega (arith, longer, before.0),

@@ -64,7 +64,7 @@ pub tick_countable : (old now : Dispatcher) (m : ℕ) → IsSound old → TickSo
 tick_countable old now m sound far =
     let bound = due_weight_bound (blocks_in (state old)) m 0 256 old.objects (λ h. queue_few old h sound) in
     let most = far.most in
-    let handles = sound.handles in
+    let handles = sound.handles.few in
     omega (arith, bound, most, handles)
 
 -- ---- what a moment keeps

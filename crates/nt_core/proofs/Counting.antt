@@ -19,7 +19,7 @@ use Rattle.nt_core.specs.Rising.{IsRising}
 use Rattle.nt_core.specs.State.{State, Pending, wait_over, waits_over}
 use Rattle.nt_core.specs.Serving.{fits, granted, Grants, Alert, TimeOut}
 use Rattle.nt_core.specs.Change.{change, may_take, expired, expired_as, all_expired}
-use Rattle.nt_core.specs.Steps.{Called, Step, Ticked, MomentPasses, MomentsPass, after_serving, answered, begun, wait_of}
+use Rattle.nt_core.specs.Steps.{Made, Step, Ticked, MomentPasses, MomentsPass, after_serving, answered, begun, wait_of}
 
 len_removed : (m : Pending) (t : ℕ) (w : Wait) → map.get m t ≡ Some w → map.len (map.remove m t) + 1 ≡ map.len m
 len_removed m t w e =
@@ -125,11 +125,11 @@ woken_len old who call reply grants new step =
     let both : length grants ≡ length step.served + length step.alerted = ap length step.in_order ∙ length-append step.served step.alerted in
     omega (arith, served, alerted, both, change-len old who call, after-len call step.calm)
 
-pub called_most : (old : State) (who : ℕ) (call : Call) (result : Result Reply Refusal) (grants : List Grant) (new : State) → Called old who call result grants new → length grants ≤ map.len old.waits
+pub called_most : (old : State) (who : ℕ) (call : Call) (result : Result Reply Refusal) (grants : List Grant) (new : State) → Made old who call result grants new → length grants ≤ map.len old.waits
 called_most old who call (Err r) grants new h = let none = ap length h.1 in omega arith
 called_most old who call (Ok reply) grants new h = omega (arith, woken_len old who call reply grants new h.1)
 
-pub called_few : (old : State) (who : ℕ) (call : Call) (result : Result Reply Refusal) (grants : List Grant) (new : State) → Called old who call result grants new → length grants + map.len new.waits ≤ map.len old.waits + 1
+pub called_few : (old : State) (who : ℕ) (call : Call) (result : Result Reply Refusal) (grants : List Grant) (new : State) → Made old who call result grants new → length grants + map.len new.waits ≤ map.len old.waits + 1
 called_few old who call (Err r) grants new h =
     let none = ap length h.1 in
     let same = ap (λ (s : State). map.len s.waits) h.2 in

@@ -24,6 +24,7 @@ use Rattle.nt_core.specs.Lawful.{IsSound, IsSteady}
 use Rattle.nt_core.specs.Accepts.{IsFresh, IsStoppedAfter, IsExitedAfter, Accepts}
 use Rattle.nt_core.specs.declared.call.Call.{Call}
 use Rattle.nt_core.specs.declared.call.Reply.{Reply}
+use Rattle.nt_core.proofs.Handling.{handles_along}
 use Rattle.nt_core.proofs.Changing.{ChangedOnlyAt, object_at-set_other, reading_set, property_set, limit_set, fit_only_in}
 use Rattle.nt_core.proofs.Accepting.{accepted, settled_after}
 use Rattle.nt_core.proofs.Replacing.{once_few, queue_few, known_mutex}
@@ -80,7 +81,7 @@ ended_sound d t apcs sound idle known unset len places = record {
         let own = sound.timers.runs h u before in
         (own.0, runs_on u (λ same. unset h (before ∙ ap Some same)) own.1);
   };
-  handles = let most = sound.handles in omega (arith, most, count);
+  handles = handles_along d.handles count sound.handles;
   room = sound.room;
 }
   where
@@ -272,7 +273,7 @@ pub exited_few : (old : Dispatcher) (t : ℕ) (handles : List ℕ) → IsSound o
 exited_few old t handles sound changed =
     let few = once_few (length old.objects) handles (rising_once handles changed.rising) (λ h m. ((changed.exactly h).0 m).0) in
     let most = sequence_few (exited (state old) t) handles (λ h. queue_few old h sound) in
-    let limit = sound.handles in
+    let limit = sound.handles.few in
     omega (arith, few, most, limit)
 
 pub exited_accepted : (old mid new : Dispatcher) (t : ℕ) (handles : List ℕ) → IsFresh old → IsExitedAfter old t mid handles → Serve (sequence (state mid) handles) (state mid) new.grants (state new) → IsSound new → new.table.looked ≤ length (sequence (state mid) handles) → length new.grants ≤ new.table.looked → Accepts old new t Call.Exit Reply.Done

@@ -17,6 +17,7 @@ use Rattle.nt_core.specs.Change.{exited}
 use Rattle.nt_core.specs.Steps.{NothingDue}
 use Rattle.nt_core.specs.Lawful.{IsSound, MayReplace}
 use Rattle.nt_core.specs.Accepts.{IsStoppedAfter}
+use Rattle.nt_core.proofs.Handling.{handles_along}
 use Rattle.nt_core.proofs.Changing.{object_at-set_same, object_at-set_other, due_kept}
 use Rattle.nt_core.proofs.Accepting.{IsCalm}
 use Rattle.nt_core.proofs.Keeping.{timers_kept}
@@ -68,7 +69,7 @@ sound_mapped d f owned still may sound = record {
   own = λ t below. (subst (λ (n : ℕ). t < n) (sym len) (sound.own t below).0, reading is_thread (λ o r. r.thread) t ∙ (sound.own t below).1);
   none_else = λ k beyond known. reading is_thread (λ o r. r.thread) k ∙ sound.none_else k beyond (subst (λ (n : ℕ). k < n) len known);
   timers = timers_kept d.threads d.objects (map f d.objects) d.alarms d.apcs.places sound.timers len (reading due_of (λ o r. r.due)) (reading setter_of (λ o r. r.setter)) (reading has_ended (λ o r. r.ended));
-  handles = let most = sound.handles in omega (arith, most, len);
+  handles = handles_along d.handles len sound.handles;
   room = sound.room;
 }
   where

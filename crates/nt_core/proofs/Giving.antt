@@ -14,6 +14,7 @@ use Rattle.nt_core.specs.declared.call.Call.{Call}
 use Rattle.nt_core.specs.declared.call.Act.{Act}
 use Rattle.nt_core.specs.declared.call.WaitCall.{WaitCall}
 use Rattle.nt_core.specs.declared.call.Reply.{Reply}
+use Rattle.nt_core.specs.Naming.{call_named}
 use Rattle.nt_core.specs.State.{State, opening, object_at}
 use Rattle.nt_core.specs.Change.{change, signal, act_reply}
 use Rattle.nt_core.specs.Refusals.{refusal, may_signal, is_full, is_no}
@@ -228,14 +229,14 @@ settled_gains _ h o is = same_gains o is
 
 -- ---- turns
 
-turn_gains : (h : ℕ) (old : State) (turn : Turn) (new : State) → AreFair old.waits → IsTurn old turn new → counts (object_at new.objects h) ≡ true → Gains (object_at old.objects h) (object_at new.objects h) (turn_gives h turn) (length (takers h (turn_took old turn)))
+turn_gains : (h : ℕ) (old : State) (turn : Turn) (new : State) → AreFair old.waits → IsTurn old turn new → counts (object_at new.objects h) ≡ true → Gains (object_at old.objects h) (object_at new.objects h) (turn_gives h old turn) (length (takers h (turn_took old turn)))
 turn_gains h old (Calls who call (Ok reply) grants) new fair is ends =
-    let c = in_call h old who call reply grants new fair is.0 is.1 in
-    let last = all_taken (settled_at call h c.calm) (object_at new.objects h) c.last c.begins ends in
-    let settled = settled_gains call h c.calm last.counts in
-    let first = all_taken (object_at (change old who call).objects h) c.calm c.first c.serves settled.counts in
-    let same = c.becomes (plain (object_at (change old who call).objects h) first.counts) in
-    let changed = subst (λ o. Gains (object_at old.objects h) o (call_gives h call reply) 0) (sym same) (call_gains old is.1.woken new who call h reply is.0 is.1.answers (sym (ap counts same) ∙ first.counts)) in
+    let c = in_call h old who (call_named old.handles call) reply grants new fair is.0 is.1 in
+    let last = all_taken (settled_at (call_named old.handles call) h c.calm) (object_at new.objects h) c.last c.begins ends in
+    let settled = settled_gains (call_named old.handles call) h c.calm last.counts in
+    let first = all_taken (object_at (change old who (call_named old.handles call)).objects h) c.calm c.first c.serves settled.counts in
+    let same = c.becomes (plain (object_at (change old who (call_named old.handles call)).objects h) first.counts) in
+    let changed = subst (λ o. Gains (object_at old.objects h) o (call_gives h (call_named old.handles call) reply) 0) (sym same) (call_gains old is.1.woken new who (call_named old.handles call) h reply is.0 is.1.answers (sym (ap counts same) ∙ first.counts)) in
     let all = then_gains _ _ _ _ _ _ _ changed (then_gains _ _ _ _ _ _ _ first (then_gains _ _ _ _ _ _ _ settled last)) in
     let times : length (takers h (turn_took old (Calls who call (Ok reply) grants))) ≡ length c.first + length c.last = ap (λ ts. length ts) c.told ∙ length-append c.first c.last in
     record {
@@ -249,19 +250,19 @@ turn_gains h old (Calls who call (Err r) grants) new fair is ends =
 turn_gains h old (Ticks by m r grants) new fair is ends =
     all_taken (object_at old.objects h) (object_at new.objects h) (takers h (turn_took old (Ticks by m r grants))) (in_tick h old by m r grants new fair is (plain (object_at new.objects h) ends)) ends
 
-turns_gain : (h : ℕ) (old : State) (turns : List Turn) (new : State) (run : Turns old turns new) → AreFair old.waits → counts (object_at new.objects h) ≡ true → Gains (object_at old.objects h) (object_at new.objects h) (given h turns) (length (takers h (takes old turns new run)))
+turns_gain : (h : ℕ) (old : State) (turns : List Turn) (new : State) (run : Turns old turns new) → AreFair old.waits → counts (object_at new.objects h) ≡ true → Gains (object_at old.objects h) (object_at new.objects h) (given h old turns new run) (length (takers h (takes old turns new run)))
 turns_gain h old [] new run fair ends =
     let same : object_at new.objects h ≡ object_at old.objects h = ap (λ (s : State). object_at s.objects h) run in
     subst (λ o. Gains (object_at old.objects h) o (pos 0) 0) (sym same) (same_gains (object_at old.objects h) (sym (ap counts same) ∙ ends))
 turns_gain h old (turn ∷ turns) new run fair ends =
     let later = turns_gain h run.0 turns new run.2 (turn_fair old turn run.0 fair run.1) ends in
     let here = turn_gains h old turn run.0 fair run.1 later.counts in
-    let both = then_gains (object_at old.objects h) (object_at run.0.objects h) (object_at new.objects h) (turn_gives h turn) (given h turns) (length (takers h (turn_took old turn))) (length (takers h (takes run.0 turns new run.2))) here later in
+    let both = then_gains (object_at old.objects h) (object_at run.0.objects h) (object_at new.objects h) (turn_gives h old turn) (given h run.0 turns new run.2) (length (takers h (turn_took old turn))) (length (takers h (takes run.0 turns new run.2))) here later in
     let times : length (takers h (turn_took old turn ++ takes run.0 turns new run.2)) ≡ length (takers h (turn_took old turn)) + length (takers h (takes run.0 turns new run.2)) =
     ap (λ ts. length ts) (takers-append h (turn_took old turn) (takes run.0 turns new run.2)) ∙ length-append (takers h (turn_took old turn)) (takers h (takes run.0 turns new run.2)) in
-    subst (λ k. Gains (object_at old.objects h) (object_at new.objects h) (turn_gives h turn +ℤ given h turns) k) (sym times) both
+    subst (λ k. Gains (object_at old.objects h) (object_at new.objects h) (turn_gives h old turn +ℤ given h run.0 turns new run.2) k) (sym times) both
 
-pub semaphore_account : (n : ℕ) (turns : List Turn) (s : State) (run : Run n turns s) (h : ℕ) → is_semaphore (object_at s.objects h) ≡ true → (count_of (object_at s.objects h) +ℤ pos (length (takers h (takes (opening n) turns s run))) ≡ given h turns) × IsLawfulObject (object_at s.objects h)
+pub semaphore_account : (n : ℕ) (turns : List Turn) (s : State) (run : Run n turns s) (h : ℕ) → is_semaphore (object_at s.objects h) ≡ true → (count_of (object_at s.objects h) +ℤ pos (length (takers h (takes (opening n) turns s run))) ≡ given h (opening n) turns s run) × IsLawfulObject (object_at s.objects h)
 semaphore_account n turns s run h is =
     let gains = turns_gain h (opening n) turns s run (opening_fair n) (semaphore_counts (object_at s.objects h) is) in
     let first : object_at (opening n).objects h ≡ Thread false = object_at-replicate n h in

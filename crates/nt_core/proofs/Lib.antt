@@ -14,6 +14,7 @@ mod OneWay
 mod Takes
 mod Turns
 mod Giving
+mod Handling
 mod Owing
 mod Setting
 mod Alerting

@@ -1,7 +1,7 @@
 -- What a call or a tick does to each thread's pending wait, and to the present moment.
-use Rattle.std.proofs.Common.{◌≡◌, ◌≢◌, ◌+◌, ◌<◌, ◌≤◌, ℕ, Bool, true, false, cond, ◌&&◌, ◌==◌, eqb, eq-eqb, ne_eqb, List, [], ◌∷◌, ◌++◌, map, refl, sym, ap, ◌∙◌, subst, arith, Option, Some, None, is_some, inl, inr, Result, Ok, Err}
+use Rattle.std.proofs.Common.{◌≡◌, ◌+◌, ◌<◌, ◌≤◌, ℕ, Bool, true, false, cond, ◌&&◌, ◌==◌, eqb, eq-eqb, ne_eqb, List, [], ◌∷◌, ◌++◌, map, refl, sym, ap, ◌∙◌, subst, arith, Option, Some, None, is_some, inl, inr, Result, Ok, Err}
 use Rattle.std.specs.Prelude.{nat_le}
-use Rattle.std.specs.FinMap.{get, insert, remove, get-insert, get-remove}
+use Rattle.std.specs.FinMap.{get, insert, remove, get-insert}
 use Rattle.std.specs.Ordering.{nat_cmp, eq_by_cmp}
 use Rattle.std.specs.Cmp.{nat_cmp_total, unsigned_tied}
 use Rattle.std.proofs.lemmas.Bool.{false≢true}
@@ -12,7 +12,7 @@ use Rattle.nt_waits.specs.declared.wait.Wait.{Wait}
 use Rattle.nt_waits.specs.Waits.{IsMember}
 use Rattle.nt_objects.specs.declared.object.Armed.{Armed}
 use Rattle.nt_objects.specs.Object.{setting_of}
-use Rattle.nt_apc.specs.Queues.{has_apc, taken as apcs_taken}
+use Rattle.nt_apc.specs.Queues.{has_apc}
 use Rattle.nt_core.specs.declared.call.Act.{Act}
 use Rattle.nt_core.specs.declared.call.Call.{Call}
 use Rattle.nt_core.specs.declared.call.WaitCall.{WaitCall}
@@ -23,10 +23,12 @@ use Rattle.nt_core.specs.Rising.{IsRising}
 use Rattle.nt_core.specs.Refusals.{Cause, first_of_causes, refusal, call_causes}
 use Rattle.nt_status.specs.declared.refusal.Refusal.TheVariants.{UnknownThread, ThreadEnded, ThreadWaiting}
 use Rattle.nt_objects.specs.Object.{has_ended}
+use Rattle.nt_core.specs.Naming.{call_named}
+use Rattle.nt_objects.specs.declared.handles.Opened.{Opened}
 use Rattle.nt_core.specs.State.{State, Pending, pends, pending_too, with_handing, wait_over, waits_over, object_at}
 use Rattle.nt_core.specs.Serving.{fits, status, granted, Grants, Alert, TimeOut, ending, taken_by, is_sleep, late_status, sleeps}
-use Rattle.nt_core.specs.Change.{change, act_change, act_reply, may_take, armed_anew, timer_set, expired, expired_as, all_expired}
-use Rattle.nt_core.specs.Steps.{Called, Step, Ticked, MomentPasses, MomentsPass, after_serving, answered, begun, wait_of}
+use Rattle.nt_core.specs.Change.{change, act_reply, may_take, armed_anew, timer_set, expired, expired_as, all_expired}
+use Rattle.nt_core.specs.Steps.{Called, Made, Step, Ticked, MomentPasses, MomentsPass, after_serving, answered, begun, wait_of}
 use Rattle.nt_core.specs.Moves.{one_if, pended, is_wait, granted_to, Moves, IsMomentAfter}
 use Rattle.nt_core.proofs.Walks.{get_same, get_other}
 
@@ -294,20 +296,28 @@ refused_moved old new who grants none same = record {
   each = λ t. (let a = ap (granted_to t) none in let b = ap (λ (s : State). one_if (pends s t)) same in let c = none_begun (eqb who t) in omega arith);
 }
 
-pub call_moves : (old : State) (who : ℕ) (call : Call) (result : Result Reply Refusal) (grants : List Grant) (new : State) → Called old who call result grants new → Moves old who (pended result) grants new
+pub call_moves : (old : State) (who : ℕ) (call : Call) (result : Result Reply Refusal) (grants : List Grant) (new : State) → Made old who call result grants new → Moves old who (pended result) grants new
 call_moves old who call (Ok reply) grants new h = step_moved old who call reply grants new h.0 h.1
 call_moves old who call (Err r) grants new h = refused_moved old new who grants h.1 h.2
 
+is_wait_named : (handles : List (Option Opened)) (call : Call) → is_wait (call_named handles call) ≡ true → is_wait call ≡ true
+is_wait_named handles (Call.Act act) is = is
+is_wait_named handles (Call.Wait wait) is = refl
+is_wait_named handles Call.Exit is = is
+
 -- only a wait pends
-pub only_waits_pend : (old : State) (who : ℕ) (call : Call) (result : Result Reply Refusal) (grants : List Grant) (new : State) → Called old who call result grants new → pended result ≡ true → is_wait call ≡ true
-only_waits_pend old who (Call.Act act) (Ok reply) grants new h pends =
+made_pends : (old : State) (who : ℕ) (call : Call) (result : Result Reply Refusal) (grants : List Grant) (new : State) → Made old who call result grants new → pended result ≡ true → is_wait call ≡ true
+made_pends old who (Call.Act act) (Ok reply) grants new h pends =
     let answer : pended (Ok reply) ≡ false = ap (λ (p : Reply × State). pended (Ok p.0)) h.1.answers ∙ act_stays old who act in
     absurd (false≢true (sym answer ∙ pends))
-only_waits_pend old who (Call.Wait wait) (Ok reply) grants new h pends = refl
-only_waits_pend old who Call.Exit (Ok reply) grants new h pends =
+made_pends old who (Call.Wait wait) (Ok reply) grants new h pends = refl
+made_pends old who Call.Exit (Ok reply) grants new h pends =
     let answer : pended (Ok reply) ≡ false = ap (λ (p : Reply × State). pended (Ok p.0)) h.1.answers in
     absurd (false≢true (sym answer ∙ pends))
-only_waits_pend old who call (Err cause) grants new h pends = absurd (false≢true pends)
+made_pends old who call (Err cause) grants new h pends = absurd (false≢true pends)
+
+pub only_waits_pend : (old : State) (who : ℕ) (call : Call) (result : Result Reply Refusal) (grants : List Grant) (new : State) → Called old who call result grants new → pended result ≡ true → is_wait call ≡ true
+only_waits_pend old who call result grants new h pends = is_wait_named old.handles call (made_pends old who (call_named old.handles call) result grants new h pends)
 
 -- ---- a tick
 
@@ -364,7 +374,7 @@ tick_moves old by m (Err r) grants new h = refused_moved old new by grants h.2 h
 -- ---- the present moment
 
 -- a call moves no moment
-pub call_waits : (old : State) (who : ℕ) (call : Call) (result : Result Reply Refusal) (grants : List Grant) (new : State) → Called old who call result grants new → new.now ≡ old.now
+pub call_waits : (old : State) (who : ℕ) (call : Call) (result : Result Reply Refusal) (grants : List Grant) (new : State) → Made old who call result grants new → new.now ≡ old.now
 call_waits old who call (Ok reply) grants new h = ap (λ (k : ℕ × ℕ). k.1) (step_keeps old who call reply grants new h.0 h.1)
 call_waits old who call (Err r) grants new h = ap (λ (s : State). s.now) h.2
 

@@ -12,11 +12,12 @@ use Rattle.nt_core.specs.declared.call.Call.{Call}
 use Rattle.nt_core.specs.declared.call.Reply.{Reply}
 use Rattle.nt_core.specs.declared.call.Grant.{Grant}
 use Rattle.nt_core.specs.Rising.{IsRising, AreRising}
+use Rattle.nt_core.specs.Naming.{call_named}
 use Rattle.nt_core.specs.State.{State, waits_over}
 use Rattle.nt_core.specs.Serving.{Serve, Alert, TimeOut, sequence, IsLate, ending, late_status, sleeps}
 use Rattle.nt_core.specs.Change.{change, all_expired}
 use Rattle.nt_core.specs.Refusals.{refusal, grows, IsRefusal}
-use Rattle.nt_core.specs.Steps.{Step, Called, after_serving, answered, MomentPasses, MomentsPass, IsNextMoment, NothingDue, Ticked}
+use Rattle.nt_core.specs.Steps.{Step, Called, Made, after_serving, answered, MomentPasses, MomentsPass, IsNextMoment, NothingDue, Ticked}
 use Rattle.nt_core.specs.Runs.{Turn, Calls, Ticks, IsTurn, Turns}
 use Rattle.nt_core.specs.Laws.{AsksCall, AsksTick, wants_memory, question}
 use Rattle.nt_core.proofs.Unique.{serve_unique}
@@ -96,7 +97,7 @@ not_both : (old : State) (who : ℕ) (call : Call) (reply : Reply) (r : Refusal)
 not_both old who call reply r none is alike =
     let h : false ≡ true = alike ∙ ap (λ f. wants_memory (Err f)) (only_memory old who call r none is) in (cc)
 
-called_same : (old a b : State) (who : ℕ) (call : Call) (r q : Result Reply Refusal) (gs hs : List Grant) → wants_memory r ≡ wants_memory q → Called old who call r gs a → Called old who call q hs b → (r ≡ q) × (gs ≡ hs) × (a ≡ b)
+called_same : (old a b : State) (who : ℕ) (call : Call) (r q : Result Reply Refusal) (gs hs : List Grant) → wants_memory r ≡ wants_memory q → Made old who call r gs a → Made old who call q hs b → (r ≡ q) × (gs ≡ hs) × (a ≡ b)
 called_same old a b who call (Ok r) (Ok q) gs hs alike x y = let same = step_same old a b who call r q gs hs x.1 y.1 in (ap Ok same.0, same.1, same.2)
 called_same old a b who call (Ok r) (Err q) gs hs alike x y = not_both old who call r q x.0 y.0 alike
 called_same old a b who call (Err r) (Ok q) gs hs alike x y = not_both old who call q r y.0 x.0 (sym alike)
@@ -146,7 +147,7 @@ turn_same old a b (Calls who call r gs) (Calls who' call' r' hs) alike x y =
     let c : call ≡ call' = (cc) in
     let k : wants_memory r ≡ wants_memory r' = (cc) in
     let x' : Called old who' call' r gs a = subst (λ z. Called old z call' r gs a) w (subst (λ z. Called old who z r gs a) c x) in
-    let same = called_same old a b who' call' r r' gs hs k x' y in
+    let same = called_same old a b who' (call_named old.handles call') r r' gs hs k x' y in
     (ap (λ z. Calls z call r gs) w ∙ (ap (λ z. Calls who' z r gs) c ∙ (ap (λ z. Calls who' call' z gs) same.0 ∙ ap (λ z. Calls who' call' r' z) same.1)), same.2)
 turn_same old a b (Calls who call r gs) (Ticks by m r' hs) alike x y =
     let h : AsksCall who call (wants_memory r) ≡ AsksTick by m = alike in (cc)

@@ -14,6 +14,7 @@ use Rattle.nt_core.specs.declared.call.Call.{Call}
 use Rattle.nt_core.specs.declared.call.Act.{Act}
 use Rattle.nt_core.specs.declared.call.WaitCall.{WaitCall}
 use Rattle.nt_core.specs.declared.call.Reply.{Reply}
+use Rattle.nt_core.specs.Naming.{call_named}
 use Rattle.nt_core.specs.State.{State, opening, object_at}
 use Rattle.nt_core.specs.Change.{change, signal, act_reply}
 use Rattle.nt_core.specs.Refusals.{refusal, may_signal, is_no, is_foreign}
@@ -278,14 +279,14 @@ settled_owes t _ h o is = same_owes t o is
 count_append : (t : ℕ) (xs ys : List ℕ) → count_by (λ u. u == t) (xs ++ ys) ≡ count_by (λ u. u == t) xs + count_by (λ u. u == t) ys
 count_append t xs ys = sum_by-append (λ u. cond (u == t) 1 0) xs ys
 
-turn_owing : (t h : ℕ) (old : State) (turn : Turn) (new : State) → AreFair old.waits → IsTurn old turn new → owns (object_at new.objects h) ≡ true → Owes t (object_at old.objects h) (object_at new.objects h) (λ k. turn_owes h t turn k + count_by (λ u. u == t) (takers h (turn_took old turn)))
+turn_owing : (t h : ℕ) (old : State) (turn : Turn) (new : State) → AreFair old.waits → IsTurn old turn new → owns (object_at new.objects h) ≡ true → Owes t (object_at old.objects h) (object_at new.objects h) (λ k. turn_owes h t old turn k + count_by (λ u. u == t) (takers h (turn_took old turn)))
 turn_owing t h old (Calls who call (Ok reply) grants) new fair is ends =
-    let c = in_call h old who call reply grants new fair is.0 is.1 in
-    let last = all_taken t (settled_at call h c.calm) (object_at new.objects h) c.last c.begins ends in
-    let settled = settled_owes t call h c.calm last.owns in
-    let first = all_taken t (object_at (change old who call).objects h) c.calm c.first c.serves settled.owns in
-    let same = c.becomes (plain (object_at (change old who call).objects h) first.owns) in
-    let changed = subst (λ o. Owes t (object_at old.objects h) o (λ k. call_owes h t who call reply k)) (sym same) (call_owing t old is.1.woken new who call h reply is.0 is.1.answers (sym (ap owns same) ∙ first.owns)) in
+    let c = in_call h old who (call_named old.handles call) reply grants new fair is.0 is.1 in
+    let last = all_taken t (settled_at (call_named old.handles call) h c.calm) (object_at new.objects h) c.last c.begins ends in
+    let settled = settled_owes t (call_named old.handles call) h c.calm last.owns in
+    let first = all_taken t (object_at (change old who (call_named old.handles call)).objects h) c.calm c.first c.serves settled.owns in
+    let same = c.becomes (plain (object_at (change old who (call_named old.handles call)).objects h) first.owns) in
+    let changed = subst (λ o. Owes t (object_at old.objects h) o (λ k. call_owes h t who (call_named old.handles call) reply k)) (sym same) (call_owing t old is.1.woken new who (call_named old.handles call) h reply is.0 is.1.answers (sym (ap owns same) ∙ first.owns)) in
     let all = then_owes t _ _ _ _ _ changed (then_owes t _ _ _ _ _ first (then_owes t _ _ _ _ _ settled last)) in
     let times : count_by (λ u. u == t) (takers h (turn_took old (Calls who call (Ok reply) grants))) ≡ count_by (λ u. u == t) c.first + count_by (λ u. u == t) c.last = ap (λ ts. count_by (λ u. u == t) ts) c.told ∙ count_append t c.first c.last in
     record {
@@ -306,7 +307,7 @@ turns_owe t h old [] new run fair ends =
 turns_owe t h old (turn ∷ turns) new run fair ends =
     let later = turns_owe t h run.0 turns new run.2 (turn_fair old turn run.0 fair run.1) ends in
     let here = turn_owing t h old turn run.0 fair run.1 later.owns in
-    then_owes t (object_at old.objects h) (object_at run.0.objects h) (object_at new.objects h) (λ k. turn_owes h t turn k + count_by (λ u. u == t) (takers h (turn_took old turn))) (λ k. owed_after h t k run.0 turns new run.2) here later
+    then_owes t (object_at old.objects h) (object_at run.0.objects h) (object_at new.objects h) (λ k. turn_owes h t old turn k + count_by (λ u. u == t) (takers h (turn_took old turn))) (λ k. owed_after h t k run.0 turns new run.2) here later
 
 -- ---- one owner
 

@@ -17,7 +17,7 @@ use Rattle.nt_core.specs.declared.call.Act.{Act}
 use Rattle.nt_core.specs.declared.call.Reply.{Reply}
 use Rattle.nt_core.specs.Rising.{AreRising}
 use Rattle.nt_core.specs.State.{State, object_at, with_object}
-use Rattle.nt_core.specs.Dispatcher.{Dispatcher, state}
+use Rattle.nt_core.specs.Dispatcher.{Dispatcher, state, with_created}
 use Rattle.nt_core.specs.declared.call.Grant.{Grant}
 use Rattle.nt_core.specs.Serving.{is_ready, IsChanged, sequence, Serve, Grants, granted}
 use Rattle.nt_core.specs.Change.{change, at, created}
@@ -261,7 +261,7 @@ mutex_no_thread flags t = go (has_flag flags mutex_initial_owner)
     go true = refl
     go false = refl
 
-pub created_accepted : (old new : Dispatcher) (t : ℕ) (o : Object) (owned : List (List ℕ)) (call : Call) (handle : ℕ) → IsFresh old → is_full old.objects ≡ false → IsLawfulObject o → is_thread o ≡ false → due_of o ≡ None → change (state old) t call ≡ created (state old) o → ((s : State) → after_serving call s ≡ s) → ((s : State) → answered (state old) s t call ≡ (Reply.Handle (length old.objects), s)) → handle ≡ length old.objects → new ≡ record old { objects = old.objects ++ o ∷ []; owned = owned; alarms = old.alarms ++ None ∷ [] } → Accepts old new t call (Reply.Handle handle)
+pub created_accepted : (old new : Dispatcher) (t : ℕ) (o : Object) (owned : List (List ℕ)) (call : Call) (handle : ℕ) → IsFresh old → is_full old.objects ≡ false → IsLawfulObject o → is_thread o ≡ false → due_of o ≡ None → change (state old) t call ≡ created (state old) o → ((s : State) → after_serving call s ≡ s) → ((s : State) → answered (state old) s t call ≡ (Reply.Handle (length old.objects), s)) → handle ≡ length old.objects → new ≡ with_created old o owned → Accepts old new t call (Reply.Handle handle)
 created_accepted old new t o owned call handle fresh room lawful no_thread due changes after answers is becomes =
     subst (λ (x : Dispatcher). Accepts old x t call (Reply.Handle handle)) (sym becomes)
     (subst (λ (h : ℕ). Accepts old d t call (Reply.Handle h)) (sym is)
@@ -270,7 +270,7 @@ created_accepted old new t o owned call handle fresh room lawful no_thread due c
     (sym (after (state d))) refl refl all (sym (answers (state d)))))
   where
     d : Dispatcher
-    d = record old { objects = old.objects ++ o ∷ []; owned = owned; alarms = old.alarms ++ None ∷ [] }
+    d = with_created old o owned
 
     all : IsSteady d
     all = record {

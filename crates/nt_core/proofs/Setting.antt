@@ -1,9 +1,8 @@
 -- How often auto-reset events were set, and how often they were taken.
 use Rattle.std.proofs.Common.{◌≡◌, ℕ, ◌+◌, ◌-◌, ◌≤◌, Bool, true, false, cond, not, ◌&&◌, ◌==◌, List, [], ◌∷◌, ◌++◌, length, length-append, refl, sym, ap, ◌∙◌, subst, arith, Some, None}
-use Rattle.std.specs.Prelude.{ℤ, nat_le, count_by}
+use Rattle.std.specs.Prelude.{ℤ, nat_le}
 use Rattle.std.specs.declared.result.Result.TheVariants.{Ok, Err}
 use Rattle.std.proofs.lemmas.Bool.{false≢true, eqb-true}
-use Rattle.std.proofs.lemmas.List.Sums.{sum_by-cons}
 use Rattle.nt_status.specs.Flags.{has_flag, event_initial_set, mutex_initial_owner}
 use Rattle.nt_objects.specs.declared.object.Object.{Object}
 use Rattle.nt_objects.specs.declared.object.Object.TheVariants.{Event, Semaphore, Mutex, Timer, Thread, Gone}
@@ -12,13 +11,14 @@ use Rattle.nt_core.specs.declared.call.Call.{Call}
 use Rattle.nt_core.specs.declared.call.Act.{Act}
 use Rattle.nt_core.specs.declared.call.WaitCall.{WaitCall}
 use Rattle.nt_core.specs.declared.call.Reply.{Reply}
+use Rattle.nt_core.specs.Naming.{call_named}
 use Rattle.nt_core.specs.State.{State, opening, object_at}
 use Rattle.nt_core.specs.Change.{change, signal, act_reply}
 use Rattle.nt_core.specs.Refusals.{refusal, may_signal}
 use Rattle.nt_core.specs.Steps.{answered}
 use Rattle.nt_core.specs.Runs.{Turn, Calls, Ticks, IsTurn, Turns, Run}
 use Rattle.nt_core.specs.Takes.{turn_took, takes, takers}
-use Rattle.nt_core.specs.Laws.{act_sets, call_sets, turn_sets, is_auto_reset, set_now}
+use Rattle.nt_core.specs.Laws.{times_set, act_sets, call_sets, turn_sets, is_auto_reset, set_now}
 use Rattle.nt_core.proofs.Takes.{TakenBy, takers-append, AreFair}
 use Rattle.nt_core.proofs.Turns.{swap_judged, is_plain, past_last, acted, changed_at, settled_at, in_call, in_tick, turn_fair, turns_fair, opening_fair, left}
 
@@ -200,14 +200,14 @@ settled_sets _ h o is = same_sets o 0 is
 
 -- ---- turns
 
-turn_setting : (h : ℕ) (old : State) (turn : Turn) (new : State) → AreFair old.waits → IsTurn old turn new → resets (object_at new.objects h) ≡ true → Sets (object_at old.objects h) (object_at new.objects h) (one_if (turn_sets h turn)) (length (takers h (turn_took old turn)))
+turn_setting : (h : ℕ) (old : State) (turn : Turn) (new : State) → AreFair old.waits → IsTurn old turn new → resets (object_at new.objects h) ≡ true → Sets (object_at old.objects h) (object_at new.objects h) (one_if (turn_sets h old turn)) (length (takers h (turn_took old turn)))
 turn_setting h old (Calls who call (Ok reply) grants) new fair is ends =
-    let c = in_call h old who call reply grants new fair is.0 is.1 in
-    let last = all_taken (settled_at call h c.calm) (object_at new.objects h) c.last c.begins ends in
-    let settled = settled_sets call h c.calm last.resets in
-    let first = all_taken (object_at (change old who call).objects h) c.calm c.first c.serves settled.resets in
-    let same = c.becomes (plain (object_at (change old who call).objects h) first.resets) in
-    let changed = subst (λ o. Sets (object_at old.objects h) o (one_if (call_sets h call reply)) 0) (sym same) (call_setting old is.1.woken new who call h reply is.0 is.1.answers (sym (ap resets same) ∙ first.resets)) in
+    let c = in_call h old who (call_named old.handles call) reply grants new fair is.0 is.1 in
+    let last = all_taken (settled_at (call_named old.handles call) h c.calm) (object_at new.objects h) c.last c.begins ends in
+    let settled = settled_sets (call_named old.handles call) h c.calm last.resets in
+    let first = all_taken (object_at (change old who (call_named old.handles call)).objects h) c.calm c.first c.serves settled.resets in
+    let same = c.becomes (plain (object_at (change old who (call_named old.handles call)).objects h) first.resets) in
+    let changed = subst (λ o. Sets (object_at old.objects h) o (one_if (call_sets h (call_named old.handles call) reply)) 0) (sym same) (call_setting old is.1.woken new who (call_named old.handles call) h reply is.0 is.1.answers (sym (ap resets same) ∙ first.resets)) in
     let all = then_sets _ _ _ _ _ _ _ changed (then_sets _ _ _ _ _ _ _ first (then_sets _ _ _ _ _ _ _ settled last)) in
     let times : length (takers h (turn_took old (Calls who call (Ok reply) grants))) ≡ length c.first + length c.last = ap (λ ts. length ts) c.told ∙ length-append c.first c.last in
     record { resets = all.resets; few = let e = all.few in omega (arith, e, times) }
@@ -217,19 +217,19 @@ turn_setting h old (Calls who call (Err r) grants) new fair is ends =
 turn_setting h old (Ticks by m r grants) new fair is ends =
     all_taken (object_at old.objects h) (object_at new.objects h) (takers h (turn_took old (Ticks by m r grants))) (in_tick h old by m r grants new fair is (plain (object_at new.objects h) ends)) ends
 
-turns_set : (h : ℕ) (old : State) (turns : List Turn) (new : State) (run : Turns old turns new) → AreFair old.waits → resets (object_at new.objects h) ≡ true → Sets (object_at old.objects h) (object_at new.objects h) (count_by (turn_sets h) turns) (length (takers h (takes old turns new run)))
+turns_set : (h : ℕ) (old : State) (turns : List Turn) (new : State) (run : Turns old turns new) → AreFair old.waits → resets (object_at new.objects h) ≡ true → Sets (object_at old.objects h) (object_at new.objects h) (times_set h old turns new run) (length (takers h (takes old turns new run)))
 turns_set h old [] new run fair ends =
     let same : object_at new.objects h ≡ object_at old.objects h = ap (λ (s : State). object_at s.objects h) run in
     subst (λ o. Sets (object_at old.objects h) o 0 0) (sym same) (same_sets (object_at old.objects h) 0 (sym (ap resets same) ∙ ends))
 turns_set h old (turn ∷ turns) new run fair ends =
     let later = turns_set h run.0 turns new run.2 (turn_fair old turn run.0 fair run.1) ends in
     let here = turn_setting h old turn run.0 fair run.1 later.resets in
-    let both = then_sets (object_at old.objects h) (object_at run.0.objects h) (object_at new.objects h) (one_if (turn_sets h turn)) (count_by (turn_sets h) turns) (length (takers h (turn_took old turn))) (length (takers h (takes run.0 turns new run.2))) here later in
+    let both = then_sets (object_at old.objects h) (object_at run.0.objects h) (object_at new.objects h) (one_if (turn_sets h old turn)) (times_set h run.0 turns new run.2) (length (takers h (turn_took old turn))) (length (takers h (takes run.0 turns new run.2))) here later in
     let times : length (takers h (turn_took old turn ++ takes run.0 turns new run.2)) ≡ length (takers h (turn_took old turn)) + length (takers h (takes run.0 turns new run.2)) =
     ap (λ ts. length ts) (takers-append h (turn_took old turn) (takes run.0 turns new run.2)) ∙ length-append (takers h (turn_took old turn)) (takers h (takes run.0 turns new run.2)) in
-    let more : count_by (turn_sets h) (turn ∷ turns) ≡ one_if (turn_sets h turn) + count_by (turn_sets h) turns = sum_by-cons (λ x. cond (turn_sets h x) 1 0) turn turns in
+    let more : times_set h old (turn ∷ turns) new run ≡ one_if (turn_sets h old turn) + times_set h run.0 turns new run.2 = refl in
     record { resets = both.resets; few = let e = both.few in omega (arith, e, times, more) }
 
-pub event_account : (n : ℕ) (before turns : List Turn) (mid s : State) → Run n before mid → (part : Turns mid turns s) (h : ℕ) → is_auto_reset (object_at s.objects h) ≡ true → length (takers h (takes mid turns s part)) + set_now (object_at s.objects h) ≤ count_by (turn_sets h) turns + set_now (object_at mid.objects h)
+pub event_account : (n : ℕ) (before turns : List Turn) (mid s : State) → Run n before mid → (part : Turns mid turns s) (h : ℕ) → is_auto_reset (object_at s.objects h) ≡ true → length (takers h (takes mid turns s part)) + set_now (object_at s.objects h) ≤ times_set h mid turns s part + set_now (object_at mid.objects h)
 event_account n before turns mid s run part h is =
     (turns_set h mid turns s part (turns_fair before (opening n) mid (opening_fair n) run) (auto_resets (object_at s.objects h) is)).few

@@ -20,6 +20,7 @@ use Rattle.nt_core.specs.Serving.{IsChanged}
 use Rattle.nt_core.specs.Change.{timer_cancelled}
 use Rattle.nt_core.specs.Lawful.{IsSound, IsSteady}
 use Rattle.nt_core.specs.Accepts.{IsFresh, Accepts}
+use Rattle.nt_core.proofs.Handling.{handles_along}
 use Rattle.nt_core.proofs.Changing.{reading_set, limit_set, property_set, object_at-set_same, object_at-set_other, set_as_before, known_object, one_changed, same_changed, served_fewer, due_kept}
 use Rattle.nt_core.proofs.Accepting.{accepted}
 use Rattle.nt_core.proofs.Replacing.{idle_served}
@@ -161,7 +162,7 @@ retimed_sound d h o apcs sound was is len placed others = record {
     placed = λ k t sets. (own k t sets).0;
     runs = λ k t sets. let here = own k t sets in (here.1, ended t ∙ here.2);
   };
-  handles = let most = sound.handles in let same = length-set d.objects h o in omega (arith, most, same);
+  handles = handles_along d.handles (length-set d.objects h o) sound.handles;
   room = sound.room;
 }
   where

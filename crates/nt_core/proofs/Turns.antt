@@ -22,6 +22,7 @@ use Rattle.nt_core.specs.declared.call.WaitCall.{WaitCall}
 use Rattle.nt_core.specs.declared.call.Reply.{Reply}
 use Rattle.nt_core.specs.declared.call.Grant.{Grant}
 use Rattle.nt_core.specs.Calls.{timeout_of}
+use Rattle.nt_core.specs.Naming.{call_named}
 use Rattle.nt_core.specs.State.{State, Pending, opening, object_at, with_object, with_handing, pending_too, waits_over}
 use Rattle.nt_core.specs.Serving.{fits, status, is_sleep, late_status, taken_by, sequence, Alert, TimeOut}
 use Rattle.nt_core.specs.Change.{created, signal, change, act_change, may_take, expired, expired_as, all_expired, armed_anew, timer_set, timer_cancelled, due_moment, routine_for, exited}
@@ -352,7 +353,7 @@ pub record InCall (h : ℕ) (old : State) (who : ℕ) (call : Call) (reply : Rep
   pub becomes : is_plain (object_at (change old who call).objects h) ≡ true → object_at (change old who call).objects h ≡ changed_at (length old.objects) who call h (object_at old.objects h)
   pub serves : TakenBy (object_at (change old who call).objects h) first calm
   pub begins : TakenBy (settled_at call h calm) last (object_at new.objects h)
-  pub told : takers h (turn_took old (Calls who call (Ok reply) grants)) ≡ first ++ last
+  pub told : takers h (grants_took old.waits grants ++ call_took old.now who call reply) ≡ first ++ last
 
 ends_at : (h : ℕ) (old woken new : State) (who : ℕ) (call : Call) (reply : Reply) → refusal old who call ≡ None → (reply, new) ≡ answered old woken who call → TakenBy (object_at woken.objects h) (takers h (call_took old.now who call reply)) (object_at new.objects h)
 ends_at h old woken new who (Call.Wait wait) reply none is =
@@ -476,7 +477,7 @@ tick_fair old m (Err r) grants new fair ticked = subst (λ (s : State). AreFair 
 -- ---- pending waits of a run are fair
 
 pub turn_fair : (old : State) (turn : Turn) (new : State) → AreFair old.waits → IsTurn old turn new → AreFair new.waits
-turn_fair old (Calls who call (Ok reply) grants) new fair is = call_fair old who call reply grants new fair is.0 is.1
+turn_fair old (Calls who call (Ok reply) grants) new fair is = call_fair old who (call_named old.handles call) reply grants new fair is.0 is.1
 turn_fair old (Calls who call (Err r) grants) new fair is = subst (λ (s : State). AreFair s.waits) (sym is.2) fair
 turn_fair old (Ticks by m r grants) new fair is = tick_fair old m r grants new fair is
 

@@ -19,6 +19,7 @@ use Rattle.nt_objects.specs.declared.object.Object.TheVariants.{Event, Semaphore
 use Rattle.std.proofs.lemmas.Bool.Decides.{nat_tests}
 use Rattle.std.specs.Prelude.{slice_index}
 use Rattle.std.proofs.Common.{not, ◌&&◌, inl, inr}
+use Rattle.nt_core.proofs.Handling.{handles_along}
 use Rattle.nt_core.proofs.Keeping.{TakesWell, objects_taken_well, taken_timers}
 use Rattle.nt_core.proofs.Walks.{get_removed}
 
@@ -92,9 +93,9 @@ visit_passed old t w objects owned table sound small has unfit same lists looked
 
 -- ---- the visited wait ends
 
-pub state_same : (s r : State) → s.threads ≡ r.threads → s.objects ≡ r.objects → s.waits ≡ r.waits → ((h : ℕ) → s.queues h ≡ r.queues h) → s.apcs ≡ r.apcs → s.handing ≡ r.handing → s.now ≡ r.now → s ≡ r
-state_same s r threads objects waits queues apcs handing now =
-    λ i. record { threads = threads i; objects = objects i; waits = waits i; queues = λ h. queues h i; apcs = apcs i; handing = handing i; now = now i }
+pub state_same : (s r : State) → s.threads ≡ r.threads → s.handles ≡ r.handles → s.objects ≡ r.objects → s.waits ≡ r.waits → ((h : ℕ) → s.queues h ≡ r.queues h) → s.apcs ≡ r.apcs → s.handing ≡ r.handing → s.now ≡ r.now → s ≡ r
+state_same s r threads handles objects waits queues apcs handing now =
+    λ i. record { threads = threads i; handles = handles i; objects = objects i; waits = waits i; queues = λ h. queues h i; apcs = apcs i; handing = handing i; now = now i }
 
 pub visit_granted : (old : Dispatcher) (t code : ℕ) (w : Wait) (objects : List Object) (owned : List (List ℕ)) (table : Waits) (grants : List Grant) → IsSound old → Some w ≡ map.get old.table.pending t → IsTried old.objects objects t w (Some code) → table.pending ≡ map.remove old.table.pending t → ((h : ℕ) → queue_of table h ≡ others t (queue_of old.table h)) → table.looked ≡ old.table.looked + 1 → Agrees table.pending table.queues → grants ≡ old.grants ++ record { thread = t; status = code } ∷ [] → IsVisited old (record old { objects = objects; owned = owned; table = table; handing = set old.handing t false; grants = grants }) t × IsSound (record old { objects = objects; owned = owned; table = table; handing = set old.handing t false; grants = grants })
 visit_granted old t code w objects owned table grants sound has tried waits queues looked agrees pushed =
@@ -107,7 +108,7 @@ visit_granted old t code w objects owned table grants sound has tried waits queu
       inl (record {
         wait = w;
         due = record { pends = sym has; fits = tried.0; status = refl };
-        becomes = state_same (state new) (granted (state old) t w) refl tried.2 waits queues refl refl refl;
+        becomes = state_same (state new) (granted (state old) t w) refl refl tried.2 waits queues refl refl refl;
         grants = pushed ∙ ap (λ (s : ℕ). old.grants ++ record { thread = t; status = s } ∷ []) tried.1;
         looked = looked;
       }),
@@ -130,7 +131,7 @@ visit_granted old t code w objects owned table grants sound has tried waits queu
         own = λ u below. (subst (λ (n : ℕ). u < n) (sym well.length) (sound.own u below).0, well.threads u ∙ (sound.own u below).1);
         none_else = λ h beyond known. well.threads h ∙ sound.none_else h beyond (subst (λ (n : ℕ). h < n) well.length known);
         timers = taken_timers old.threads old.objects objects old.alarms old.apcs.places t sound.timers well;
-        handles = let most = sound.handles in let len = well.length in omega (arith, most, len);
+        handles = handles_along old.handles well.length sound.handles;
         room = omega (arith, sound.room, longer, fewer, same);
       },
     )

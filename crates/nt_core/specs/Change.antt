@@ -7,6 +7,7 @@ use Rattle.nt_objects.specs.declared.object.Object.TheVariants.{Event, Semaphore
 use Rattle.nt_objects.specs.declared.object.Armed.{Armed}
 use Rattle.nt_objects.specs.declared.object.Routine.{Routine}
 use Rattle.nt_objects.specs.Object.{event_of, mutex_of, timer_of, with_set, released, unlocked, abandoned_by, unset_by, armed_with, setting_of, due_of, rearmed, count_of}
+use Rattle.nt_objects.specs.Handles.{full_access}
 use Rattle.nt_apc.specs.declared.apc.Queued.{Queued}
 use Rattle.nt_apc.specs.Queues.{queue_of, has_apc, is_queued, pushed, withdrawn, cleared, oldest, taken, apc_of}
 use Rattle.nt_core.specs.declared.call.Call.{Call}
@@ -19,9 +20,13 @@ use Rattle.nt_core.specs.State.{State, object_at, with_object, with_handing}
 abbrev pub at : State → ℕ → (Object → Object) → State
 at s h f = record s { objects = with_object s.objects h f }
 
--- one object more, last
+-- one object more, last, and a handle for it with all rights of its kind
 abbrev pub created : State → Object → State
-created s o = record s { objects = s.objects ++ o ∷ [] }
+created s o =
+    record s {
+      handles = s.handles ++ Some (record { object = length s.objects; access = full_access o }) ∷ [];
+      objects = s.objects ++ o ∷ [];
+    }
 
 -- ---- timers (Win32 reference: SetWaitableTimer, CancelWaitableTimer)
 

@@ -1,14 +1,18 @@
 -- The dispatcher as its callers see it.
-use Rattle.std.specs.Prelude.{ℕ, Bool, List, Option}
+use Rattle.std.specs.Prelude.{ℕ, Bool, List, [], ◌∷◌, ◌++◌, length, Option, Some, None}
 use Rattle.nt_waits.specs.declared.wait.Wait.{Wait}
 use Rattle.nt_waits.specs.Waits.{Waits, queue_of}
 use Rattle.nt_apc.specs.Queues.{Apcs}
 use Rattle.nt_objects.specs.declared.object.Object.{Object}
+use Rattle.nt_objects.specs.declared.handles.Opened.{Opened}
+use Rattle.nt_objects.specs.Handles.{full_access}
 use Rattle.nt_core.specs.declared.call.Grant.{Grant}
 use Rattle.nt_core.specs.State.{State}
 
 pub record Dispatcher : Type 0 where
   pub threads : ℕ
+  -- what each handle names, with its rights
+  pub handles : List (Option Opened)
   pub objects : List Object
   -- for each thread the mutexes that it owns
   pub owned : List (List ℕ)
@@ -27,6 +31,7 @@ pub record Dispatcher : Type 0 where
 abbrev pub state : Dispatcher → State
 state d = record {
   threads = d.threads;
+  handles = d.handles;
   objects = d.objects;
   waits = d.table.pending;
   queues = λ h. queue_of d.table h;
@@ -39,9 +44,20 @@ state d = record {
 abbrev pub with_prepared : Dispatcher → Option (ℕ × Wait) → Dispatcher
 with_prepared d prepared = record d { table = record d.table { prepared = prepared } }
 
-abbrev pub dispatcher_of : ℕ → List Object → List (List ℕ) → Waits → Apcs → List Bool → ℕ → List Grant → List (Option ℕ) → Dispatcher
-dispatcher_of threads objects owned table apcs handing now grants alarms = record {
+-- one object more, last, with a handle of its own and no alarm; it may stand in its owner's list
+abbrev pub with_created : Dispatcher → Object → List (List ℕ) → Dispatcher
+with_created d o owned =
+    record d {
+      handles = d.handles ++ Some (record { object = length d.objects; access = full_access o }) ∷ [];
+      objects = d.objects ++ o ∷ [];
+      owned = owned;
+      alarms = d.alarms ++ None ∷ [];
+    }
+
+abbrev pub dispatcher_of : ℕ → List (Option Opened) → List Object → List (List ℕ) → Waits → Apcs → List Bool → ℕ → List Grant → List (Option ℕ) → Dispatcher
+dispatcher_of threads handles objects owned table apcs handing now grants alarms = record {
   threads = threads;
+  handles = handles;
   objects = objects;
   owned = owned;
   table = table;

@@ -4,6 +4,8 @@ use Rattle.std.specs.Prelude.{◌≡◌, ℕ, ◌<◌, ◌≤◌, ◌+◌, true,
 use Rattle.std.specs.FinMap as map
 use Rattle.std.specs.FinMap.{get}
 use Rattle.nt_objects.specs.declared.object.Object.{Object}
+use Rattle.nt_objects.specs.declared.handles.Opened.{Opened}
+use Rattle.nt_objects.specs.Handles.{opened_at, names}
 use Rattle.nt_owners.specs.Objects.{OwnersAgree}
 use Rattle.nt_objects.specs.Object.{IsLawfulObject, owned_by, has_room, has_ended, is_thread, due_of, setter_of}
 use Rattle.nt_waits.specs.declared.wait.Wait.{Wait}
@@ -39,6 +41,12 @@ pub record TimersAgree (threads : ℕ) (objects : List Object) (alarms places : 
   -- who armed it runs
   pub runs : (h t : ℕ) → setter_of (object_at objects h) ≡ Some t → (t < threads) × (has_ended (object_at objects t) ≡ false)
 
+-- for each of so many objects there is a handle, with the object's own number, and no other handle
+pub record HandlesAgree (count : ℕ) (handles : List (Option Opened)) : Type 0 where
+  pub few : count ≤ handle_limit
+  pub same : length handles ≡ count
+  pub own : (h : ℕ) → h < count → names h (opened_at handles h) ≡ true
+
 -- what holds also between a change and the serving after it
 pub record IsSound (d : Dispatcher) : Type 0 where
   pub few : d.threads ≤ 256
@@ -52,7 +60,7 @@ pub record IsSound (d : Dispatcher) : Type 0 where
   pub own : (t : ℕ) → t < d.threads → (t < length d.objects) × (is_thread (object_at d.objects t) ≡ true)
   pub none_else : (h : ℕ) → d.threads ≤ h → h < length d.objects → is_thread (object_at d.objects h) ≡ false
   pub timers : TimersAgree d.threads d.objects d.alarms d.apcs.places
-  pub handles : length d.objects ≤ handle_limit
+  pub handles : HandlesAgree (length d.objects) d.handles
   -- each pending wait can be granted
   pub room : length d.grants + map.len (state d).waits ≤ d.threads
 

@@ -13,6 +13,7 @@ use Rattle.nt_core.specs.declared.call.Act.{Act}
 use Rattle.nt_core.specs.declared.call.WaitCall.{WaitCall}
 use Rattle.nt_core.specs.declared.call.Reply.{Reply}
 use Rattle.nt_core.specs.declared.call.Grant.{Grant}
+use Rattle.nt_core.specs.Naming.{call_named}
 use Rattle.nt_core.specs.State.{State, opening, object_at}
 use Rattle.nt_core.specs.Serving.{Serve}
 use Rattle.nt_core.specs.Runs.{Turn, Calls, Ticks, Turns, Run}
@@ -61,14 +62,15 @@ call_gives h (Call.Act act) reply = act_gives h act reply
 call_gives h (Call.Wait (WaitCall.Swap g object ms alertable)) reply = if g == h then pos 1 else pos 0
 call_gives h _ reply = pos 0
 
-abbrev pub turn_gives : ℕ → Turn → ℤ
-turn_gives h (Calls who call (Ok reply) grants) = call_gives h call reply
-turn_gives h _ = pos 0
+-- by whichever handle
+abbrev pub turn_gives : ℕ → State → Turn → ℤ
+turn_gives h old (Calls who call (Ok reply) grants) = call_gives h (call_named old.handles call) reply
+turn_gives h old _ = pos 0
 
 -- what these turns gave to the semaphore at h
-abbrev pub given : ℕ → List Turn → ℤ
-given h [] = pos 0
-given h (turn ∷ turns) = turn_gives h turn +ℤ given h turns
+abbrev pub given : (h : ℕ) (old : State) (turns : List Turn) (new : State) → Turns old turns new → ℤ
+given h old [] new run = pos 0
+given h old (turn ∷ turns) new run = turn_gives h old turn +ℤ given h run.0 turns new run.2
 
 -- a semaphore hands out what it was given and no more: over every run its count and the number of times that it was taken
 -- make up what it was given, and its count stays between zero and its maximum
@@ -76,7 +78,7 @@ abbrev pub SemaphoresGiveWhatTheyHave : Type 0
 SemaphoresGiveWhatTheyHave =
     (n : ℕ) (turns : List Turn) (s : State) (run : Run n turns s) (h : ℕ)
     → is_semaphore (object_at s.objects h) ≡ true
-    → (count_of (object_at s.objects h) +ℤ pos (length (takers h (takes (opening n) turns s run))) ≡ given h turns)
+    → (count_of (object_at s.objects h) +ℤ pos (length (takers h (takes (opening n) turns s run))) ≡ given h (opening n) turns s run)
     × IsLawfulObject (object_at s.objects h)
 
 -- ---- mutexes
@@ -95,15 +97,15 @@ call_owes h t who (Call.Wait (WaitCall.Swap g object ms alertable)) reply owed =
 call_owes h t who Call.Exit reply owed = if who == t then 0 else owed
 call_owes h t who _ reply owed = owed
 
-abbrev pub turn_owes : ℕ → ℕ → Turn → ℕ → ℕ
-turn_owes h t (Calls who call (Ok reply) grants) owed = call_owes h t who call reply owed
-turn_owes h t _ owed = owed
+abbrev pub turn_owes : ℕ → ℕ → State → Turn → ℕ → ℕ
+turn_owes h t old (Calls who call (Ok reply) grants) owed = call_owes h t who (call_named old.handles call) reply owed
+turn_owes h t old _ owed = owed
 
 -- how many releases of the mutex at h thread t owes after these turns, if it owed so many before: one more for each taking
 abbrev pub owed_after : (h t owed : ℕ) (old : State) (turns : List Turn) (new : State) → Turns old turns new → ℕ
 owed_after h t owed old [] new run = owed
 owed_after h t owed old (turn ∷ turns) new run =
-    owed_after h t (turn_owes h t turn owed + count_by (λ u. u == t) (takers h (turn_took old turn))) run.0 turns new run.2
+    owed_after h t (turn_owes h t old turn owed + count_by (λ u. u == t) (takers h (turn_took old turn))) run.0 turns new run.2
 
 -- how deep thread t holds the mutex
 abbrev pub held_by : ℕ → Object → ℕ
@@ -132,9 +134,14 @@ call_sets h (Call.Act act) reply = act_sets h act reply
 call_sets h (Call.Wait (WaitCall.Swap g object ms alertable)) reply = g == h
 call_sets h _ reply = false
 
-abbrev pub turn_sets : ℕ → Turn → Bool
-turn_sets h (Calls who call (Ok reply) grants) = call_sets h call reply
-turn_sets h _ = false
+abbrev pub turn_sets : ℕ → State → Turn → Bool
+turn_sets h old (Calls who call (Ok reply) grants) = call_sets h (call_named old.handles call) reply
+turn_sets h old _ = false
+
+-- how many of these turns set the event at h
+abbrev pub times_set : (h : ℕ) (old : State) (turns : List Turn) (new : State) → Turns old turns new → ℕ
+times_set h old [] new run = 0
+times_set h old (turn ∷ turns) new run = (if turn_sets h old turn then 1 else 0) + times_set h run.0 turns new run.2
 
 abbrev pub is_auto_reset : Object → Bool
 is_auto_reset (Event manual set) = not manual
@@ -153,4 +160,4 @@ OneSetOneWait =
     → Run n before mid
     → (part : Turns mid turns s) (h : ℕ)
     → is_auto_reset (object_at s.objects h) ≡ true
-    → length (takers h (takes mid turns s part)) + set_now (object_at s.objects h) ≤ count_by (turn_sets h) turns + set_now (object_at mid.objects h)
+    → length (takers h (takes mid turns s part)) + set_now (object_at s.objects h) ≤ times_set h mid turns s part + set_now (object_at mid.objects h)

@@ -9,6 +9,8 @@ use Rattle.nt_status.specs.Status.{infinite}
 use Rattle.nt_objects.specs.Object.{units}
 use Rattle.nt_objects.specs.declared.object.Object.{Object}
 use Rattle.nt_objects.specs.declared.object.Object.TheVariants.{Thread}
+use Rattle.nt_objects.specs.declared.handles.Opened.{Opened}
+use Rattle.nt_objects.specs.Handles.{own_handles, full_access}
 pub use Rattle.nt_owners.specs.Objects.{object_at}
 use Rattle.nt_waits.specs.declared.wait.Wait.{Wait}
 use Rattle.nt_waits.specs.Waits.{others}
@@ -19,9 +21,11 @@ abbrev pub Pending : Type 0
 Pending = FinMap nat_cmp Wait
 
 pub record State : Type 0 where
-  -- how many threads there are; thread t's own object is the one at handle t
+  -- how many threads there are; thread t's own object is the one with number t
   pub threads : ℕ
-  -- the object at each handle
+  -- by handle number, what the handle names, with its rights; none once it is closed
+  pub handles : List (Option Opened)
+  -- the object with each number
   pub objects : List Object
   -- the waits that pend
   pub waits : Pending
@@ -34,10 +38,11 @@ pub record State : Type 0 where
   -- the present moment
   pub now : ℕ
 
--- n running threads and nothing else, at moment 0
+-- n running threads, each with a handle of its own number, and nothing else, at moment 0
 abbrev pub opening : ℕ → State
 opening n = record {
   threads = n;
+  handles = own_handles n (full_access (Thread false));
   objects = replicate n (Thread false);
   waits = empty;
   queues = λ _. [];

@@ -15,6 +15,7 @@ use Rattle.nt_core.specs.declared.call.Act.{Act}
 use Rattle.nt_core.specs.declared.call.Reply.{Reply}
 use Rattle.nt_core.specs.declared.call.Grant.{Grant}
 pub use Rattle.nt_core.specs.Calls.{wait_of, timeout_of}
+use Rattle.nt_core.specs.Naming.{call_named}
 use Rattle.nt_core.specs.Rising.{AreRising}
 use Rattle.nt_core.specs.State.{State, with_handing, pending_too}
 use Rattle.nt_core.specs.Serving.{fits, status, taken_by, IsChanged, sequence, Serve, Alert, TimeOut, late_status, is_sleep}
@@ -44,7 +45,7 @@ answered old s t (Call.Act act) = (act_reply old t act, s)
 answered old s t (Call.Wait wait) = begun s t (wait_of s.now wait) (timeout_of wait)
 answered old s t Call.Exit = (Reply.Done, s)
 
--- one accepted call: its change, serving of the waits on changed objects, alerts, and the caller's own wait
+-- one accepted call, whose handles are the numbers of their objects here: its change, serving of the waits on changed objects, alerts, and the caller's own wait
 pub record Step (old : State) (t : ℕ) (call : Call) (reply : Reply) (grants : List Grant) (new : State) : Type 0 where
   pub handles : List ℕ
   pub served : List Grant
@@ -57,10 +58,14 @@ pub record Step (old : State) (t : ℕ) (call : Call) (reply : Reply) (grants : 
   pub in_order : grants ≡ served ++ alerted
   pub answers : (reply, new) ≡ answered old woken t call
 
--- a call with its result: a step of the machine, or a refusal that leaves everything as it was
+-- a call on numbers of objects with its result: a step of the machine, or a refusal that leaves everything as it was
+abbrev pub Made : State → ℕ → Call → Result Reply Refusal → List Grant → State → Type 0
+Made old who call (Ok reply) grants new = (refusal old who call ≡ None) × Step old who call reply grants new
+Made old who call (Err r) grants new = IsRefusal old who call r × (grants ≡ []) × (new ≡ old)
+
+-- a call with its result: it is made on the objects that its handles name
 abbrev pub Called : State → ℕ → Call → Result Reply Refusal → List Grant → State → Type 0
-Called old who call (Ok reply) grants new = (refusal old who call ≡ None) × Step old who call reply grants new
-Called old who call (Err r) grants new = IsRefusal old who call r × (grants ≡ []) × (new ≡ old)
+Called old who call result grants new = Made old who (call_named old.handles call) result grants new
 
 -- ---- a tick
 

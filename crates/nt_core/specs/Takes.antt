@@ -10,15 +10,16 @@ use Rattle.nt_core.specs.declared.call.Call.{Call}
 use Rattle.nt_core.specs.declared.call.Reply.{Reply}
 use Rattle.nt_core.specs.declared.call.Grant.{Grant}
 use Rattle.nt_core.specs.State.{State, Pending}
+use Rattle.nt_core.specs.Naming.{call_named}
 use Rattle.nt_core.specs.Steps.{wait_of}
 use Rattle.nt_core.specs.Runs.{Turn, Calls, Ticks, Turns}
 
--- a thread took the object at this handle
+-- a thread took the object with this number
 pub record Take : Type 0 where
   pub thread : ℕ
   pub handle : ℕ
 
--- the handle at this index alone, and none where the list has no such index
+-- the number at this index alone, and none where the list has no such index
 abbrev pub only_at : List ℕ → ℕ → List ℕ
 only_at [] i = []
 only_at (h ∷ hs) zero = h ∷ []
@@ -28,7 +29,7 @@ only_at (h ∷ hs) (suc i) = only_at hs i
 abbrev pub index_told : ℕ → ℕ
 index_told code = if nat_le (abandoned_code 0) code then code - abandoned_code 0 else code
 
--- the handles that a wait took which ended with this status: none where an APC or the deadline ended it, each for a wait-all,
+-- the objects that a wait took which ended with this status: none where an APC or the deadline ended it, each for a wait-all,
 -- and for a wait-any the one at the index that the status tells
 abbrev pub handles_told : Wait → ℕ → List ℕ
 handles_told w code =
@@ -61,7 +62,7 @@ call_took now t _ reply = []
 
 -- every taking of a turn from this state, in order: by the waits that pended, then by the caller's own wait
 abbrev pub turn_took : State → Turn → List Take
-turn_took old (Calls who call (Ok reply) grants) = grants_took old.waits grants ++ call_took old.now who call reply
+turn_took old (Calls who call (Ok reply) grants) = grants_took old.waits grants ++ call_took old.now who (call_named old.handles call) reply
 turn_took old (Calls who call (Err r) grants) = []
 turn_took old (Ticks by moment result grants) = grants_took old.waits grants
 

@@ -4,12 +4,14 @@ ghost use Rattle.nt_status.specs.declared.refusal.Refusal.TheVariants.{Memory};
 ghost use Rattle.nt_core.specs.Calls.{act_creates, act_signals, act_grows};
 ghost use Rattle.nt_core.specs.Dispatcher.{state};
 ghost use Rattle.nt_core.specs.Refusals.{refusal, grows};
+ghost use Rattle.nt_core.specs.Naming.{call_named, AreNamedIn};
 ghost use Rattle.nt_core.specs.Steps.{Called};
 ghost use Rattle.nt_core.specs.Lawful.{IsSteady};
 ghost use Rattle.nt_core.specs.Accepts.{IsFresh, IsLocal, Accepts};
 ghost use Rattle.nt_core.specs.declared.call.Call.{Call};
 
 use crate::call::{Act, Call, Reply};
+use crate::handles::name_act;
 use crate::machine::Machine;
 use nt_status::{EventFlags, Handle, MutexFlags, Refusal, ThreadId, TimerFlags};
 
@@ -138,25 +140,30 @@ impl Machine {
         }
     }
 
-    /// A call that no cause refuses.
+    /// A call that no cause refuses. Where it is a wait for objects, `numbers` are the numbers of these.
     fn accept(
         &mut self,
         thread: ThreadId,
         call: &Call,
+        numbers: &[Handle],
         changed: &mut Vec<Handle>,
     ) -> Result<Reply, Refusal>
         requires fresh { IsFresh self.old }
         requires room { length self.old.objects ≤ vec_capacity changed.old }
-        requires free { refusal (state self.old) thread call.now ≡ None }
-        ensures ok { IfOk result (λ reply. Accepts self.old self.new thread call.now reply) }
+        requires free { refusal (state self.old) thread (call_named self.old.handles call.now) ≡ None }
+        requires named { AreNamedIn self.old.handles call.now numbers.now }
+        ensures ok { IfOk result (λ reply. Accepts self.old self.new thread (call_named self.old.handles call.now) reply) }
         ensures memory { IfErr result (λ refusal. refusal ≡ Memory) }
-        ensures grows { OnErr result (IsTrue (grows (state self.old) thread call.now)) }
+        ensures grows { OnErr result (IsTrue (grows (state self.old) thread (call_named self.old.handles call.now))) }
         ensures err { OnErr result (self.new ≡ self.old) }
         ensures room { length self.new.objects ≤ vec_capacity changed.new }
     {
         match call {
-            Call::Act(act) => self.act(thread, act, changed),
-            Call::Wait(wait) => self.wait(thread, wait),
+            Call::Act(act) => {
+                let act = name_act(&self.handles, act);
+                self.act(thread, &act, changed)
+            }
+            Call::Wait(wait) => self.wait(thread, wait, numbers),
             Call::Exit => {
                 self.exit(thread, changed);
                 Ok(Reply::Done)
@@ -164,25 +171,29 @@ impl Machine {
         }
     }
 
-    /// Makes the call of this thread, or refuses it. `changed` is for lists of handles, and has room for each object.
+    /// Makes the call of this thread, or refuses it. `numbers` is for the objects that a wait names; `changed` is for lists of
+    /// objects, and has room for each.
     pub fn call(
         &mut self,
         who: u32,
         call: &Call,
+        numbers: &mut Vec<Handle>,
         changed: &mut Vec<Handle>,
     ) -> Result<Reply, Refusal>
+        requires few { 64 ≤ vec_capacity numbers.old }
         requires steady { IsSteady self.old }
         requires room { length self.old.objects ≤ vec_capacity changed.old }
         ensures called { Called (state self.old) who call.now result self.new.grants (state self.new) }
         ensures steady { IsSteady self.new }
-        ensures local { OnOk result (IsLocal (state self.old) who call.now self.new.table.looked self.new.grants) }
+        ensures local { OnOk result (IsLocal (state self.old) who (call_named self.old.handles call.now) self.new.table.looked self.new.grants) }
         ensures untested { OnErr result (self.new.table.looked ≡ 0) }
+        ensures few { 64 ≤ vec_capacity numbers.new }
         ensures room { length self.new.objects ≤ vec_capacity changed.new }
     {
         self.tell_anew();
-        match self.refusal(who, call) {
+        match self.refusal(who, call, numbers) {
             Some(refusal) => Err(refusal),
-            None => self.accept(ThreadId::new(who as u16), call, changed),
+            None => self.accept(ThreadId::new(who as u16), call, numbers.as_slice(), changed),
         }
     }
 }

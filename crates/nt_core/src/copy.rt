@@ -24,15 +24,18 @@ impl Machine {
         ensures memory { IfErr result (λ refusal. refusal ≡ Memory) }
     {
         let alloc = *self.grants.allocator();
+        let apcs = self.apcs.copy()?;
+        let handles = self.handles.copy()?;
         let handing = Vec::from_slice(alloc, &self.handing)?;
         let alarms = self.alarms.copy()?;
         let grants = copy_grants(alloc, self.threads as usize, &self.grants)?;
         let objects = self.objects.copy()?;
         Ok(Machine {
             threads: self.threads,
+            handles,
             objects,
             waits: self.waits.copy()?,
-            apcs: self.apcs.copy()?,
+            apcs,
             handing,
             moment: self.moment,
             grants,

@@ -2,6 +2,7 @@ ghost use Rattle.std.specs.Prelude.{◌≡◌, ◌≤◌, ◌+◌, ℕ, true, fa
 ghost use Rattle.std.specs.FinMap as map;
 ghost use Rattle.nt_status.specs.declared.refusal.Refusal.TheVariants.{InvalidParameter, Memory};
 ghost use Rattle.nt_core.specs.State.{opening, pends};
+ghost use Rattle.nt_core.specs.Naming.{call_named};
 ghost use Rattle.nt_core.specs.Steps.{Called, Ticked};
 ghost use Rattle.nt_core.specs.Dispatcher.{state};
 ghost use Rattle.nt_core.specs.Lawful.{IsLawful};
@@ -20,6 +21,8 @@ use std::marker::Model;
 #[derive(Drop)]
 pub struct Core {
     machine: Machine,
+    /// Room for the numbers of the objects that a wait names.
+    numbers: Vec<Handle>,
     /// Room to list every object, so that a call that changes many needs no memory for it.
     changed: Vec<Handle>,
     /// A place for each thread that there can be, to mark those that a moment of a tick alerts.
@@ -40,7 +43,7 @@ impl Model for Core {
 
     ghost use Rattle.std.specs.Prelude.{length, ◌≡◌, ◌≤◌, vec_capacity};
 
-    ghost invariant = { λ c. IsLawful c.machine × (length c.machine.objects ≤ vec_capacity c.changed) × (length c.alerted ≡ 256) };
+    ghost invariant = { λ c. IsLawful c.machine × (length c.machine.objects ≤ vec_capacity c.changed) × (length c.alerted ≡ 256) × (64 ≤ vec_capacity c.numbers) };
 }
 
 impl Core {
@@ -55,12 +58,14 @@ impl Core {
         if threads == 0 || threads > 256 {
             return Err(Refusal::InvalidParameter);
         }
+        let numbers = Vec::with_capacity(alloc, 64)?;
         let changed = Vec::with_capacity(alloc, threads as usize)?;
         let alerted = quiet_alarms(alloc, 256)?;
         let machine = Machine::new(alloc, threads)?;
         machine.agree();
         Ok(Core {
             machine,
+            numbers,
             changed,
             alerted,
         })
@@ -71,7 +76,7 @@ impl Core {
     pub fn call(&mut self, who: u32, call: &Call) -> Result<Reply, Refusal>
         ensures called { Called (state self.old) who call.now result self.new.grants (state self.new) }
         ensures lawful { IsLawful self.new }
-        ensures local { OnOk result (IsLocal (state self.old) who call.now self.new.table.looked self.new.grants) }
+        ensures local { OnOk result (IsLocal (state self.old) who (call_named self.old.handles call.now) self.new.table.looked self.new.grants) }
         ensures most { length self.new.grants ≤ map.len (state self.old).waits }
         ensures few { length self.new.grants + map.len (state self.new).waits ≤ map.len (state self.old).waits + 1 }
         ensures moves { Moves (state self.old) who (pended result) self.new.grants (state self.new) }
@@ -79,7 +84,9 @@ impl Core {
         ensures moment { (state self.new).now ≡ (state self.old).now }
         ensures untested { OnErr result (self.new.table.looked ≡ 0) }
     {
-        let result = self.machine.call(who, call, &mut self.changed);
+        let result = self
+            .machine
+            .call(who, call, &mut self.numbers, &mut self.changed);
         self.machine.agree();
         result
     }
@@ -146,11 +153,13 @@ impl Core {
         ensures memory { IfErr result (λ refusal. refusal ≡ Memory) }
     {
         let alloc = *self.changed.allocator();
+        let numbers = Vec::with_capacity(alloc, 64)?;
         let changed = Vec::with_capacity(alloc, self.machine.objects.as_slice().len())?;
         let alerted = quiet_alarms(alloc, 256)?;
         let machine = self.machine.copy()?;
         Ok(Core {
             machine,
+            numbers,
             changed,
             alerted,
         })

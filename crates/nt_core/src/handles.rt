@@ -1,16 +1,78 @@
-//! What the handle of a call names.
-ghost use Rattle.std.specs.Prelude.{◌≡◌, false, length, nat_lt, is_some, slice_get, IfNone};
+//! What the handles of a call name.
+ghost use Rattle.std.specs.Prelude.{◌≡◌, ◌≤◌, false, length, nat_lt, is_some, map, slice_get, vec_capacity, IfNone};
 ghost use Rattle.std.specs.Option.{option_copied};
 ghost use Rattle.nt_objects.specs.declared.object.Object.TheVariants.{Thread};
 ghost use Rattle.nt_core.specs.State.{object_at};
+ghost use Rattle.nt_core.specs.Naming.{object_named, act_named};
 
-use nt_objects::Object;
+use crate::call::Act;
+use nt_objects::{HandleTable, Object};
 use nt_status::Handle;
 
-/// The object that a handle names, or none.
-///
-/// Handles and objects have the same numbers, and this function alone knows of it for the calls: whatever stands behind it, waits,
-/// queues, owners' lists and serving, speaks of objects by their own numbers.
+/// A number that no object has: the numbers of objects are below it.
+const NO_OBJECT: u32 = 65536;
+
+/// The number of the object that the handle names, and one that no object has where it names none.
+pub fn object_named(handles: &HandleTable, handle: Handle) -> Handle
+    ensures { result ≡ object_named handles.now.opened handle }
+{
+    match handles.get(handle) {
+        Some(opened) => opened.object,
+        None => Handle::new(NO_OBJECT),
+    }
+}
+
+/// The numbers of the objects that the handles name, in this order.
+pub fn name_all(handles: &HandleTable, these: &[Handle], named: &mut Vec<Handle>)
+    requires { length these.now ≤ vec_capacity named.old }
+    ensures items { named.new.items ≡ map (object_named handles.now.opened) these.now }
+    ensures capacity { vec_capacity named.new ≡ vec_capacity named.old }
+{
+    named.clear();
+    for handle in these {
+        named.push_reserved(object_named(handles, *handle));
+    }
+}
+
+/// The act, with the numbers of the objects in the place of their handles.
+pub fn name_act(handles: &HandleTable, act: &Act) -> Act
+    ensures { result ≡ act_named handles.now.opened act.now }
+{
+    match *act {
+        Act::SetEvent(event) => Act::SetEvent(object_named(handles, event)),
+        Act::ResetEvent(event) => Act::ResetEvent(object_named(handles, event)),
+        Act::PulseEvent(event) => Act::PulseEvent(object_named(handles, event)),
+        Act::ReleaseSemaphore { semaphore, count } => Act::ReleaseSemaphore {
+            semaphore: object_named(handles, semaphore),
+            count,
+        },
+        Act::ReleaseMutex(mutex) => Act::ReleaseMutex(object_named(handles, mutex)),
+        Act::SetTimer {
+            timer,
+            due,
+            period,
+            routine,
+        } => Act::SetTimer {
+            timer: object_named(handles, timer),
+            due,
+            period,
+            routine,
+        },
+        Act::CancelTimer(timer) => Act::CancelTimer(object_named(handles, timer)),
+        Act::QueueApc {
+            thread,
+            routine,
+            arg,
+        } => Act::QueueApc {
+            thread: object_named(handles, thread),
+            routine,
+            arg,
+        },
+        unnamed => unnamed,
+    }
+}
+
+/// The object with this number, or none.
 pub fn named(objects: &[Object], handle: Handle) -> Option<&Object>
     ensures object { option_copied result ≡ slice_get objects.now handle }
     ensures known { is_some result ≡ nat_lt handle (length objects.now) }

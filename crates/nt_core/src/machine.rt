@@ -15,6 +15,7 @@ use crate::objects::quiet_alarms;
 use crate::serving::try_wait;
 use nt_alarms::Alarms;
 use nt_apc::ApcQueues;
+use nt_objects::{HandleTable, Object};
 use nt_owners::ObjectTable;
 use nt_status::{Handle, Moment, Refusal, ThreadId};
 use nt_waits::WaitTable;
@@ -32,6 +33,7 @@ fn none_handing(alloc: Global, count: usize) -> Result<Vec<bool>, AllocError>
 #[derive(Drop)]
 pub struct Machine {
     pub(crate) threads: u32,
+    pub(crate) handles: HandleTable,
     pub(crate) objects: ObjectTable,
     pub(crate) waits: WaitTable,
     pub(crate) apcs: ApcQueues,
@@ -51,7 +53,7 @@ impl Model for Machine {
 
     ghost coded = { Prim.hlevel (codes, waits_code) };
 
-    ghost view = { λ m. dispatcher_of m.threads m.objects.items m.objects.owned m.waits m.apcs m.handing.items m.moment m.grants.items m.alarms };
+    ghost view = { λ m. dispatcher_of m.threads m.handles.opened m.objects.items m.objects.owned m.waits m.apcs m.handing.items m.moment m.grants.items m.alarms };
 
     ghost invariant = { λ m. (m.threads ≤ 256) × (m.threads ≤ vec_capacity m.grants) × (length m.objects.owned ≡ m.threads) };
 }
@@ -70,10 +72,12 @@ impl Machine {
         let grants = Vec::with_capacity(alloc, count)?;
         let apcs = ApcQueues::new(alloc, count)?;
         let alarms = quiet_alarms(alloc, count)?;
+        let handles = HandleTable::new(alloc, count, Object::new_thread().full_access())?;
         let objects = ObjectTable::new(alloc, count)?;
         let waits = WaitTable::new(alloc);
         Ok(Machine {
             threads,
+            handles,
             objects,
             waits,
             apcs,

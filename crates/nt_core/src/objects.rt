@@ -4,13 +4,13 @@ ghost use Rattle.nt_objects.specs.Object.{owner_of, owned_by};
 ghost use Rattle.nt_core.specs.State.{object_at};
 ghost use Rattle.nt_core.specs.Refusals.{is_full};
 ghost use Rattle.nt_core.specs.Change.{at};
-ghost use Rattle.nt_core.specs.Dispatcher.{state};
-ghost use Rattle.nt_core.specs.Lawful.{MayReplace};
+ghost use Rattle.nt_core.specs.Dispatcher.{state, with_created};
+ghost use Rattle.nt_core.specs.Lawful.{MayReplace, HandlesAgree};
 ghost use Rattle.nt_core.specs.Accepts.{IsFresh, IsServedAfter};
 
 use crate::machine::Machine;
 use nt_alarms::Alarms;
-use nt_objects::Object;
+use nt_objects::{Object, Opened};
 use nt_status::Handle;
 use std::alloc::{AllocError, Global};
 
@@ -26,28 +26,32 @@ pub fn quiet_alarms(alloc: Global, count: usize) -> Result<Alarms, AllocError>
 }
 
 impl Machine {
-    /// Adds an object, and answers its handle. Where memory is refused nothing changes. `changed` gets room for one handle
+    /// Adds an object with a handle that has all rights of its kind, and answers the handle. Where memory is refused nothing changes. `changed` gets room for one handle
     /// more, so that later calls can list every object without memory.
     pub(crate) fn create(
         &mut self,
         object: Object,
         changed: &mut Vec<Handle>,
     ) -> Result<Handle, AllocError>
+        requires agree { HandlesAgree (length self.old.objects) self.old.handles }
         requires few { is_full self.old.objects ≡ false }
         requires room { length self.old.objects ≤ vec_capacity changed.old }
         requires owner { (t : ℕ) → owned_by object t ≡ true → t < self.old.threads }
         ensures handle { IfOk result (λ handle. handle ≡ length self.old.objects) }
-        ensures ok { OnOk result (self.new ≡ record self.old { objects = self.old.objects ++ object ∷ []; owned = self.new.owned; alarms = self.old.alarms ++ None ∷ [] }) }
+        ensures ok { OnOk result (self.new ≡ with_created self.old object self.new.owned) }
         ensures err { OnErr result (self.new ≡ self.old) }
         ensures room { length self.new.objects ≤ vec_capacity changed.new }
     {
         let count = self.objects.as_slice().len();
+        let access = object.full_access();
         changed.clear();
         changed.reserve(count + 1)?;
         self.objects.make_room()?;
+        self.handles.make_room()?;
         self.alarms.add()?;
         self.objects.add(object);
-        Ok(Handle::new(count as u32))
+        let object = Handle::new(count as u32);
+        Ok(self.handles.add(Opened { object, access }))
     }
 
     /// The object at this handle.

@@ -5,6 +5,7 @@ ghost use Rattle.std.specs.FinMap as map;
 ghost use Rattle.nt_status.specs.declared.refusal.Refusal.TheVariants.{Memory};
 ghost use Rattle.nt_apc.specs.Queues.{has_apc};
 ghost use Rattle.nt_core.specs.State.{deadline_after, pending_too};
+ghost use Rattle.nt_core.specs.Naming.{wait_named, AreNamed};
 ghost use Rattle.nt_core.specs.Dispatcher.{state};
 ghost use Rattle.nt_core.specs.Serving.{late_status, wait_for, fits, status, taken_by};
 ghost use Rattle.nt_core.specs.Steps.{begun, wait_of};
@@ -14,6 +15,7 @@ ghost use Rattle.nt_core.specs.Lawful.{IsSoundWait, IsSound, IsSteady};
 ghost use Rattle.nt_core.specs.Accepts.{IsFresh, Accepts};
 
 use crate::call::{Reply, WaitCall};
+use crate::handles::object_named;
 use crate::machine::Machine;
 use crate::serving::try_wait;
 use nt_status::{Handle, Handles, Moment, Refusal, Status, ThreadId};
@@ -168,22 +170,28 @@ impl Machine {
         Ok(Reply::Pended)
     }
 
-    /// A waiting call that no cause refuses.
-    pub(crate) fn wait(&mut self, thread: ThreadId, call: &WaitCall) -> Result<Reply, Refusal>
+    /// A waiting call that no cause refuses. Where it is for objects, `numbers` are the numbers of these.
+    pub(crate) fn wait(
+        &mut self,
+        thread: ThreadId,
+        call: &WaitCall,
+        numbers: &[Handle],
+    ) -> Result<Reply, Refusal>
         requires fresh { IsFresh self.old }
-        requires free { refusal (state self.old) thread (Call.Wait call.now) ≡ None }
-        ensures ok { IfOk result (λ reply. Accepts self.old self.new thread (Call.Wait call.now) reply) }
-        ensures grows { OnErr result (IsTrue (grows (state self.old) thread (Call.Wait call.now))) }
+        requires free { refusal (state self.old) thread (Call.Wait (wait_named self.old.handles call.now)) ≡ None }
+        requires named { AreNamed self.old.handles call.now numbers.now }
+        ensures ok { IfOk result (λ reply. Accepts self.old self.new thread (Call.Wait (wait_named self.old.handles call.now)) reply) }
+        ensures grows { OnErr result (IsTrue (grows (state self.old) thread (Call.Wait (wait_named self.old.handles call.now)))) }
         ensures memory { IfErr result (λ refusal. refusal ≡ Memory) }
         ensures err { OnErr result (self.new ≡ self.old) }
     {
         match call {
             WaitCall::Objects {
-                handles,
+                handles: _,
                 all,
                 ms,
                 alertable,
-            } => self.begin_wait(thread, handles.as_slice(), *all, *ms, *alertable),
+            } => self.begin_wait(thread, numbers, *all, *ms, *alertable),
             WaitCall::Sleep { ms, alertable } => self.begin_wait(
                 thread,
                 &[],
@@ -196,7 +204,11 @@ impl Machine {
                 object,
                 ms,
                 alertable,
-            } => self.swap(thread, *signal, *object, *ms, *alertable),
+            } => {
+                let signal = object_named(&self.handles, *signal);
+                let object = object_named(&self.handles, *object);
+                self.swap(thread, signal, object, *ms, *alertable)
+            }
         }
     }
 }

@@ -1,4 +1,4 @@
-use Rattle.std.proofs.Common.{None, ◌≡◌, ◌∷◌, [], ◌++◌, length, refl, ap, ◌∙◌, subst}
+use Rattle.std.proofs.Common.{◌≡◌, length, refl, ap, ◌∙◌, subst}
 use Rattle.std.specs.Prelude.{ℤ}
 use Rattle.std.proofs.Common.{w32}
 use mir.Val.{to_z, of_z}
@@ -9,6 +9,7 @@ use Rattle.nt_objects.specs.Object.{IsLawfulObject}
 use Rattle.nt_core.specs.declared.call.Act.{Act}
 use Rattle.nt_core.specs.declared.call.Call.{Call}
 use Rattle.nt_core.specs.declared.call.Reply.{Reply}
+use Rattle.nt_core.specs.Dispatcher.{with_created}
 use Rattle.nt_core.specs.Accepts.{Accepts}
 use Rattle.nt_core.proofs.Accepting.{ok_both}
 use Rattle.nt_core.proofs.Replacing.{created_accepted}
@@ -24,9 +25,9 @@ returns-clause-ok c =
     let is_o : c.in-Ok.semaphore ≡ o = made.semaphore ∙ (ap (λ (z : ℤ). Semaphore z (to_z w32 (of_z w32 c.args.maximum))) initial ∙ ap (λ (z : ℤ). Semaphore c.args.initial z) maximum) in
     ok_both
     (λ handle. handle ≡ length old.objects)
-    (c.create.new.self ≡ record old { objects = old.objects ++ c.in-Ok.semaphore ∷ []; owned = c.create.new.self.owned; alarms = old.alarms ++ None ∷ [] })
+    (c.create.new.self ≡ with_created old c.in-Ok.semaphore c.create.new.self.owned)
     (λ handle. Accepts old c.create.new.self c.args.thread (Call.Act (Act.CreateSemaphore c.args.initial c.args.maximum)) (Reply.Handle handle))
     (λ handle is becomes. created_accepted old c.create.new.self c.args.thread o c.create.new.self.owned (Call.Act (Act.CreateSemaphore c.args.initial c.args.maximum)) handle c.requires.fresh c.requires.few
     (subst IsLawfulObject is_o made.lawful) refl refl refl (λ s. refl) (λ s. refl) is
-    (becomes ∙ ap (λ (x : Object). record old { objects = old.objects ++ x ∷ []; owned = c.create.new.self.owned; alarms = old.alarms ++ None ∷ [] }) is_o))
+    (becomes ∙ ap (λ (x : Object). with_created old x c.create.new.self.owned) is_o))
     c.create.result c.create.ensures.handle c.create.ensures.ok

@@ -1,9 +1,10 @@
-use Rattle.std.proofs.Common.{None, ◌≡◌, ◌∷◌, [], ◌++◌, length, refl, ap, ◌∙◌}
+use Rattle.std.proofs.Common.{◌≡◌, length, refl, ap, ◌∙◌}
 use Rattle.nt_objects.specs.declared.object.Object.{Object}
 use Rattle.nt_objects.specs.Object.{timer_of}
 use Rattle.nt_core.specs.declared.call.Act.{Act}
 use Rattle.nt_core.specs.declared.call.Call.{Call}
 use Rattle.nt_core.specs.declared.call.Reply.{Reply}
+use Rattle.nt_core.specs.Dispatcher.{with_created}
 use Rattle.nt_core.specs.Accepts.{Accepts}
 use Rattle.nt_core.proofs.Accepting.{ok_both}
 use Rattle.nt_core.proofs.Replacing.{created_accepted}
@@ -15,8 +16,8 @@ returns-clause-ok c =
     let made = c.new_timer.ensures in
     ok_both
     (λ handle. handle ≡ length old.objects)
-    (c.create.new.self ≡ record old { objects = old.objects ++ c.new_timer.result ∷ []; owned = c.create.new.self.owned; alarms = old.alarms ++ None ∷ [] })
+    (c.create.new.self ≡ with_created old c.new_timer.result c.create.new.self.owned)
     (λ handle. Accepts old c.create.new.self c.args.thread (Call.Act (Act.CreateTimer c.args.flags)) (Reply.Handle handle))
     (λ handle is becomes. created_accepted old c.create.new.self c.args.thread (timer_of c.args.flags) c.create.new.self.owned (Call.Act (Act.CreateTimer c.args.flags)) handle c.requires.fresh c.requires.few tt refl refl refl (λ s. refl) (λ s. refl) is
-    (becomes ∙ ap (λ (o : Object). record old { objects = old.objects ++ o ∷ []; owned = c.create.new.self.owned; alarms = old.alarms ++ None ∷ [] }) made.timer))
+    (becomes ∙ ap (λ (o : Object). with_created old o c.create.new.self.owned) made.timer))
     c.create.result c.create.ensures.handle c.create.ensures.ok

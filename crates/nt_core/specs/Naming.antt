@@ -1,0 +1,53 @@
+-- What the handles of a call name. From there on all speaks of objects by their own numbers.
+use Rattle.std.specs.Prelude.{◌≡◌, ℕ, ⊤, List, map, Option, Some, None}
+use Rattle.nt_objects.specs.declared.handles.Opened.{Opened}
+use Rattle.nt_objects.specs.Handles.{opened_at}
+use Rattle.nt_core.specs.declared.call.Call.{Call}
+use Rattle.nt_core.specs.declared.call.Act.{Act}
+use Rattle.nt_core.specs.declared.call.WaitCall.{WaitCall}
+
+-- a number that no object has, since the numbers of objects are below it
+abbrev pub no_object : ℕ
+no_object = 65536
+
+abbrev pub object_in : Option Opened → ℕ
+object_in None = no_object
+object_in (Some opened) = opened.object
+
+-- the number of the object that a handle names, and one that no object has where it names none
+abbrev pub object_named : List (Option Opened) → ℕ → ℕ
+object_named handles h = object_in (opened_at handles h)
+
+-- these are the numbers of the objects that the handles of a wait for objects name
+abbrev pub AreNamed : List (Option Opened) → WaitCall → List ℕ → Type 0
+AreNamed handles (WaitCall.Objects all alertable ms hs) named = named ≡ map (object_named handles) hs
+AreNamed handles _ named = ⊤
+
+-- and those of a call that is such a wait
+abbrev pub AreNamedIn : List (Option Opened) → Call → List ℕ → Type 0
+AreNamedIn handles (Call.Wait wait) named = AreNamed handles wait named
+AreNamedIn handles _ named = ⊤
+
+-- ---- a call with the numbers of the objects in the place of their handles
+
+abbrev pub act_named : List (Option Opened) → Act → Act
+act_named handles (Act.SetEvent h) = Act.SetEvent (object_named handles h)
+act_named handles (Act.ResetEvent h) = Act.ResetEvent (object_named handles h)
+act_named handles (Act.PulseEvent h) = Act.PulseEvent (object_named handles h)
+act_named handles (Act.ReleaseSemaphore h n) = Act.ReleaseSemaphore (object_named handles h) n
+act_named handles (Act.ReleaseMutex h) = Act.ReleaseMutex (object_named handles h)
+act_named handles (Act.SetTimer h due period routine) = Act.SetTimer (object_named handles h) due period routine
+act_named handles (Act.CancelTimer h) = Act.CancelTimer (object_named handles h)
+act_named handles (Act.QueueApc h routine arg) = Act.QueueApc (object_named handles h) routine arg
+-- creations name nothing
+act_named handles act = act
+
+abbrev pub wait_named : List (Option Opened) → WaitCall → WaitCall
+wait_named handles (WaitCall.Objects all alertable ms hs) = WaitCall.Objects all alertable ms (map (object_named handles) hs)
+wait_named handles (WaitCall.Sleep ms alertable) = WaitCall.Sleep ms alertable
+wait_named handles (WaitCall.Swap h object ms alertable) = WaitCall.Swap (object_named handles h) (object_named handles object) ms alertable
+
+abbrev pub call_named : List (Option Opened) → Call → Call
+call_named handles (Call.Act act) = Call.Act (act_named handles act)
+call_named handles (Call.Wait wait) = Call.Wait (wait_named handles wait)
+call_named handles Call.Exit = Call.Exit
