@@ -1,7 +1,8 @@
 /* The calls that crates/nt_front_bench times on the front, made on the dispatcher of bench/dispatcher.c, and what lies below both:
    a bare pthread mutex, and a round trip over two futexes.
 
-   usage: front [SHAPE ROUNDS]      without words, each shape once, small, without times */
+   usage: front [SHAPE ROUNDS]      without words, a few rounds of each shape, without times; with them, one shape twice: first on
+   a journal whose memory was never touched, and then on one that was */
 #define _GNU_SOURCE
 #include "dispatcher.h"
 #include <linux/futex.h>
@@ -52,8 +53,8 @@ static void events_on(struct run *r, bool crowd, bool journal, bool locked) {
 }
 
 static void event(struct run *r) { events_on(r, r->size > 1, true, true); }
-static void event_no_journal(struct run *r) { events_on(r, false, false, true); }
-static void event_no_lock(struct run *r) { events_on(r, false, false, false); }
+static void core_alone(struct run *r) { events_on(r, false, false, false); }
+static void core_and_journal(struct run *r) { events_on(r, false, true, false); }
 
 static void mutex(struct run *r) {
     struct dispatcher *d = stage(1, r->size > 1, 2 * r->rounds, true, true);
@@ -241,18 +242,21 @@ static const struct { const char *name; void (*run)(struct run *); uint32_t size
     {"one_of_64", one_of_64, 1}, {"one_of_64_crowd", one_of_64, 2}, {"tick_100", ticks, 100}, {"tick_10000", ticks, 10000},
     {"round_trip", round_trip, 1}, {"round_trip_crowd", round_trip, 2},
     {"threads_2", workers, 2}, {"threads_8", workers, 8}, {"threads_64", workers, 64},
-    {"event_no_journal", event_no_journal, 1}, {"event_no_lock", event_no_lock, 1},
+    {"core_alone", core_alone, 1}, {"core_and_journal", core_and_journal, 1},
     {"bare_lock", bare_mutex, 1}, {"futex_round_trip", futex_round_trip, 1},
 };
+
+static uint64_t picoseconds(const struct run *r) { return r->nanos * 1000 / (r->calls ? r->calls : 1); }
 
 int main(int count, char **words) {
     bool asked = count > 2;
     for (size_t i = 0; i < sizeof shapes / sizeof *shapes; i++) {
         if (asked && strcmp(words[1], shapes[i].name)) continue;
-        struct run r = {.size = shapes[i].size, .rounds = asked ? strtoull(words[2], NULL, 10) : 3};
-        shapes[i].run(&r);
-        printf("%s: %llu calls, %llu grants", shapes[i].name, (unsigned long long)r.calls, (unsigned long long)r.grants);
-        if (asked) printf(", %llu ps a call", (unsigned long long)(r.nanos * 1000 / (r.calls ? r.calls : 1)));
+        struct run cold = {.size = shapes[i].size, .rounds = asked ? strtoull(words[2], NULL, 10) : 3}, warm = cold;
+        shapes[i].run(&cold);
+        if (asked) shapes[i].run(&warm);
+        printf("%s: %llu calls, %llu grants", shapes[i].name, (unsigned long long)cold.calls, (unsigned long long)cold.grants);
+        if (asked) printf(", %llu ps a call at first, %llu ps a call then", (unsigned long long)picoseconds(&cold), (unsigned long long)picoseconds(&warm));
         puts("");
     }
     return 0;

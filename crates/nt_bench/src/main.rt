@@ -5,7 +5,7 @@
 mod shapes;
 mod turns;
 
-use shapes::{SHAPES, Shape, shape};
+use shapes::{SHAPES, Shape, shape_of};
 use std::alloc::AllocError;
 use std::env;
 use std::io::{self, Write};
@@ -58,20 +58,15 @@ fn timed(rt: &HostRuntime, stage: &mut Stage<'_>, rounds: u64) -> Result<Measure
 }
 
 /// Opens a stage for the shape, and makes its round so many times.
-fn measured(rt: &HostRuntime, shape: &Shape, rounds: u64) -> Result<Measured, Fault> {
+fn measure(rt: &HostRuntime, shape: &Shape, rounds: u64) -> Result<Measured, Fault> {
     let mut stage = Stage::open(rt.alloc(), shape)?;
     timed(rt, &mut stage, rounds)
 }
 
 /// Runs one shape, and prints its line.
-fn run_shape(
-    rt: &HostRuntime,
-    number: u32,
-    plan: Plan,
-    out: &mut impl Write,
-) -> Result<(), Fault> {
-    let shape = shape(rt.alloc(), number)?;
-    let Measured { counts, took } = measured(rt, &shape, plan.rounds)?;
+fn run_shape(rt: &HostRuntime, number: u32, plan: Plan, out: &mut impl Write) -> Result<(), Fault> {
+    let shape = shape_of(rt.alloc(), number)?;
+    let Measured { counts, took } = measure(rt, &shape, plan.rounds)?;
     let Counts { calls, grants } = counts;
     let told = if plan.is_timed {
         let picoseconds = took.as_nanos().saturating_mul(1000) / (calls.max(1) as u128);

@@ -172,7 +172,7 @@ fn signal_and_wait(alloc: Global) -> Result<Shape, AllocError> {
 pub const SHAPES: u32 = 8;
 
 /// The shape of this number, which counts from 0.
-pub fn shape(alloc: Global, number: u32) -> Result<Shape, AllocError> {
+pub fn shape_of(alloc: Global, number: u32) -> Result<Shape, AllocError> {
     match number {
         0 => set_and_wait(alloc),
         1 => hand_over(alloc),

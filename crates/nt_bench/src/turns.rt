@@ -3,7 +3,7 @@
 use crate::shapes::Shape;
 use nt_apc::Apc;
 use nt_core::{Call, Core};
-use nt_status::{Moment, Refusal};
+use nt_status::Refusal;
 use std::alloc::{AllocError, Global};
 
 /// Why a bench can't go on.
@@ -44,7 +44,7 @@ pub struct Counts {
 /// Makes the call, and answers how many pending waits it ended.
 fn make(core: &mut Core, turn: &Turn) -> Result<u64, Refusal> {
     // The prover wants the types inside of a reply named here.
-    let _inside: Option<(Apc, Moment)> = None;
+    let _inside: Option<Apc> = None;
     let _reply = core.call(turn.who, &turn.call)?;
     Ok(core.grants().len() as u64)
 }

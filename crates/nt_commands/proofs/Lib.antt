@@ -5,3 +5,4 @@ pub mod Scripts
 pub mod CommandLines
 pub mod Matches
 pub mod Saying
+pub mod Counts

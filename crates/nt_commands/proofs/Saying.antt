@@ -1,12 +1,12 @@
 -- Pieces that are written one after another.
-use Rattle.std.proofs.Common.{◌≡◌, ℕ, ◌+◌, ◌<◌, ◌∙◌, ap, sym, subst, refl, arith, inl, inr, List, [], ◌∷◌, ◌++◌, length, take, length-append, zero-add, suc, Option, Result, Ok, Err, append_assoc, codes}
+use Rattle.std.proofs.Common.{◌≡◌, ℕ, ◌+◌, ◌<◌, ◌∙◌, ap, sym, subst, arith, inl, inr, List, [], ◌∷◌, ◌++◌, length, take, length-append, zero-add, suc, Option, Result, Ok, Err, append_assoc, codes}
 use Rattle.std.specs.Fmt.{decimal}
 use Rattle.std.specs.Io.KnownBytes.{Appends}
 use Rattle.std.proofs.KnownBytes.{Appends-trans}
 use Rattle.std.proofs.lemmas.List.{take-append-le}
 use Rattle.nt_devices.specs.Device.{AppendsPart, Writes, one_more}
 use Rattle.nt_commands.specs.Ending.{Says, message_of}
-use Rattle.nt_script.specs.Message.{fault_text, line_number, reason_of}
+use Rattle.nt_script.specs.Message.{line_number, reason_of}
 use Rattle.nt_script.specs.declared.fault.RunFault.{RunFault}
 
 -- a part of what follows other text

@@ -6,9 +6,6 @@ use Rattle.nt_script.specs.Message.{fault_text}
 use Rattle.nt_script.specs.Running.{Answers}
 use Rattle.nt_script.specs.declared.summary.Summary.{Summary}
 use Rattle.nt_script.specs.declared.fault.RunFault.{RunFault}
-use Rattle.nt_commands.specs.declared.plan.Plan.{Plan}
-use Rattle.nt_commands.specs.declared.plan.PlanFault.{PlanFault}
-use Rattle.nt_commands.specs.declared.plan.PlanFault.TheVariants as fault
 use Rattle.nt_script.specs.declared.fault.RunFault.TheVariants.{Script, Read, Write, Memory}
 
 -- the exit status of a run: 2 where the script has a fault, 1 where the run was cut short, 0 where it was done
@@ -77,8 +74,6 @@ PrintEnds shown shown' failed failed' status =
     (Says shown shown' failed failed' (with_feed (codes "ntrun: out of memory")) × (status ≡ 1))
     ⊎ ((held held' : Option (List ℕ)) × (written written' : ℕ) × (handed : Bool) × FileEnds held held' written written' handed shown shown' failed failed' status)
 
--- A file was run; or the usage was told, or that memory ran out.
-abbrev pub PlanEnds : Result Plan PlanFault → (shown shown' : Option (List ℕ)) → (failed failed' status : ℕ) → Type 0
-PlanEnds (Ok plan) shown shown' failed failed' status = PrintEnds shown shown' failed failed' status
-PlanEnds (Err fault.Usage) shown shown' failed failed' status = Says shown shown' failed failed' (with_feed (codes "ntrun: usage: ntrun script FILE or ntrun threads N ROUNDS")) × (status ≡ 2)
-PlanEnds (Err fault.Memory) shown shown' failed failed' status = Says shown shown' failed failed' (with_feed (codes "ntrun: out of memory")) × (status ≡ 1)
+-- the line that tells how the program is called
+abbrev pub usage : List ℕ
+usage = codes "ntrun: usage: ntrun script FILE or ntrun threads N ROUNDS"

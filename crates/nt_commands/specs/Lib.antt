@@ -1,3 +1,4 @@
 pub mod Ending
 pub mod CommandLine
 pub mod Command
+pub mod Telling

@@ -8,6 +8,10 @@ ghost use Rattle.nt_commands.specs.Ending.{Says, message_of, with_feed};
 use nt_devices::{Sink, WriteFailed, write_whole};
 use nt_script::RunFault;
 
+pub(crate) const USAGE: &str = "ntrun: usage: ntrun script FILE or ntrun threads N ROUNDS";
+
+pub(crate) const OUT_OF_MEMORY: &str = "ntrun: out of memory";
+
 /// Says a line, and answers the exit status that goes with it. A failure to say it is ignored.
 pub fn say<E: Sink>(errors: &mut E, line: &str, status: u8) -> u8
     ensures status { result ≡ status }

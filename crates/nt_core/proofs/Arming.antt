@@ -6,7 +6,7 @@ use Rattle.std.proofs.lemmas.Bool.{cases_eq, false≢true}
 use Rattle.std.proofs.lemmas.Bool.Decides.{nat_tests}
 use Rattle.std.proofs.lemmas.List.{length-set}
 use Rattle.nt_objects.specs.declared.object.Object.{Object}
-use Rattle.nt_objects.specs.declared.object.Object.TheVariants.{Event, Semaphore, Mutex, Timer, Thread}
+use Rattle.nt_objects.specs.declared.object.Object.TheVariants.{Event, Semaphore, Mutex, Timer, Thread, Gone}
 use Rattle.nt_objects.specs.declared.object.Armed.{Armed}
 use Rattle.nt_objects.specs.declared.object.Routine.{Routine}
 use Rattle.nt_objects.specs.Object.{signaled, is_timer, has_ended, due_of, setter_of, setting_of, armed_with, with_set, rearmed, next_above, units}
@@ -75,6 +75,7 @@ setting_parts (Semaphore count maximum) armed is = let h : None ≡ Some armed =
 setting_parts (Mutex owner depth abandoned) armed is = let h : None ≡ Some armed = is in (cc)
 setting_parts (Timer manual was setting) armed is = (manual, was, ap (λ (a : Option Armed). Timer manual was a) is)
 setting_parts (Thread ended) armed is = let h : None ≡ Some armed = is in (cc)
+setting_parts Gone armed is = let h : None ≡ Some armed = is in (cc)
 
 pub due_setting : (o : Object) (u : ℕ) → due_of o ≡ Some u → (armed : Armed) × (setting_of o ≡ Some armed) × (armed.due ≡ u)
 due_setting (Event manual was) u is = let h : None ≡ Some u = is in (cc)
@@ -83,6 +84,7 @@ due_setting (Mutex owner depth abandoned) u is = let h : None ≡ Some u = is in
 due_setting (Timer manual was None) u is = let h : None ≡ Some u = is in (cc)
 due_setting (Timer manual was (Some armed)) u is = let h : Some armed.due ≡ Some u = is in (armed, refl, (cc))
 due_setting (Thread ended) u is = let h : None ≡ Some u = is in (cc)
+due_setting Gone u is = let h : None ≡ Some u = is in (cc)
 
 -- ---- a timer is set
 

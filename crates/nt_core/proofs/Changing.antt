@@ -7,7 +7,7 @@ use Rattle.std.proofs.lemmas.List.{get_or-set_other, length-set}
 use Rattle.nt_waits.specs.declared.wait.Wait.{Wait}
 use Rattle.nt_waits.specs.Waits.{IsMember}
 use Rattle.nt_objects.specs.declared.object.Object.{Object}
-use Rattle.nt_objects.specs.declared.object.Object.TheVariants.{Event, Semaphore, Mutex, Timer, Thread}
+use Rattle.nt_objects.specs.declared.object.Object.TheVariants.{Event, Semaphore, Mutex, Timer, Thread, Gone}
 use Rattle.nt_objects.specs.Object.{signaled, is_event, is_thread, has_ended, has_room, owned_by, due_of, setter_of, IsLawfulObject}
 use Rattle.nt_core.specs.Rising.{AreRising}
 use Rattle.nt_core.specs.State.{State, object_at}
@@ -231,6 +231,7 @@ unset_undue (Mutex owner depth abandoned) due = refl
 unset_undue (Timer manual was None) due = refl
 unset_undue (Timer manual was (Some armed)) due = let h : Some armed.due ≡ None = due in (cc)
 unset_undue (Thread ended) due = refl
+unset_undue Gone due = refl
 
 -- one object more leaves all readings of objects that were there
 pub sound_created : (d : Dispatcher) (o : Object) (owned : List (List ℕ)) → IsSound d → is_full d.objects ≡ false → IsLawfulObject o → is_thread o ≡ false → due_of o ≡ None → IsSound (record d { objects = d.objects ++ o ∷ []; owned = owned; alarms = d.alarms ++ None ∷ [] })

@@ -10,7 +10,7 @@ use Rattle.std.proofs.lemmas.List.{length-set, length-map}
 use Rattle.nt_waits.specs.declared.wait.Wait.{Wait}
 use Rattle.nt_waits.specs.Waits.{IsMember, AreOnce}
 use Rattle.nt_objects.specs.declared.object.Object.{Object}
-use Rattle.nt_objects.specs.declared.object.Object.TheVariants.{Event, Semaphore, Mutex, Timer, Thread}
+use Rattle.nt_objects.specs.declared.object.Object.TheVariants.{Event, Semaphore, Mutex, Timer, Thread, Gone}
 use Rattle.nt_objects.specs.Object.{is_timer, is_thread, has_ended, owned_by, due_of, setter_of, abandoned_by, unset_by, IsLawfulObject}
 use Rattle.nt_apc.specs.Queues.{Apcs, place_of, given_up, cleared}
 use Rattle.nt_apc.specs.declared.apc.Queued.{Queued}
@@ -41,6 +41,7 @@ thread_undue (Semaphore count maximum) is = refl
 thread_undue (Mutex owner depth abandoned) is = refl
 thread_undue (Timer manual was armed) is = absurd (false≢true is)
 thread_undue (Thread ended) is = refl
+thread_undue Gone is = refl
 
 thread_unset : (o : Object) → is_thread o ≡ true → setter_of o ≡ None
 thread_unset (Event manual was) is = refl
@@ -48,6 +49,7 @@ thread_unset (Semaphore count maximum) is = refl
 thread_unset (Mutex owner depth abandoned) is = refl
 thread_unset (Timer manual was armed) is = absurd (false≢true is)
 thread_unset (Thread ended) is = refl
+thread_unset Gone is = refl
 
 pub ended_sound : (d : Dispatcher) (t : ℕ) (apcs : Apcs) → IsSound d → fin.get d.table.pending t ≡ None → t < d.threads → ((h : ℕ) → setter_of (object_at d.objects h) ≢ Some t) → length apcs.queues ≡ length d.apcs.queues → ((m : ℕ) → place_of apcs.places m ≡ given_up t (place_of d.apcs.places m)) → IsSound (record d { objects = set d.objects t (Thread true); apcs = apcs })
 ended_sound d t apcs sound idle known unset len places = record {

@@ -5,7 +5,7 @@ use Rattle.std.proofs.lemmas.Bool.{cases_eq, false≢true}
 use Rattle.std.proofs.lemmas.List.{length-set, length-map}
 use Rattle.nt_waits.specs.Waits.{IsMember}
 use Rattle.nt_objects.specs.declared.object.Object.{Object}
-use Rattle.nt_objects.specs.declared.object.Object.TheVariants.{Event, Semaphore, Mutex, Timer, Thread}
+use Rattle.nt_objects.specs.declared.object.Object.TheVariants.{Event, Semaphore, Mutex, Timer, Thread, Gone}
 use Rattle.nt_objects.specs.declared.object.Routine.{Routine}
 use Rattle.nt_objects.specs.Object.{is_thread, has_ended, has_room, owned_by, due_of, setter_of, armed_with, abandoned_by, unset_by, set_by, IsLawfulObject}
 use Rattle.nt_apc.specs.Queues.{has_apc, cleared}
@@ -101,6 +101,7 @@ due_stopped (Semaphore count maximum) = refl
 due_stopped (Mutex owner depth abandoned) = refl
 due_stopped (Timer manual was armed) = refl
 due_stopped (Thread ended) = refl
+due_stopped Gone = refl
 
 -- ---- mutexes
 
@@ -118,6 +119,7 @@ abandoned_may_replace t (Mutex (Some owner) depth abandoned) lawful = go (owner 
     go false = same_replace (Mutex (Some owner) depth abandoned) lawful
 abandoned_may_replace t (Timer manual was armed) lawful = same_replace (Timer manual was armed) lawful
 abandoned_may_replace t (Thread ended) lawful = same_replace (Thread ended) lawful
+abandoned_may_replace t Gone lawful = same_replace Gone lawful
 
 pub abandoned_sound : (d : Dispatcher) (t : ℕ) (owned : List (List ℕ)) → IsSound d → IsSound (record d { objects = map (abandoned_by t) d.objects; owned = owned })
 abandoned_sound d t owned sound = sound_mapped d (abandoned_by t) owned refl (abandoned_may_replace t) sound
@@ -143,6 +145,7 @@ unset_one t (Timer manual was (Some armed)) sets = go armed.routine sets
     go None e = let h : None ≡ Some t = e in (cc)
     go (Some r) e = ap (λ b. cond b (Timer manual was None) (Timer manual was (Some armed))) (yes r.thread e)
 unset_one t (Thread ended) sets = refl
+unset_one t Gone sets = refl
 
 unset_other : (t : ℕ) (o : Object) → (setter_of o ≡ Some t → ⊥) → unset_by t o ≡ o
 unset_other t (Event manual was) none = refl
@@ -155,6 +158,7 @@ unset_other t (Timer manual was (Some armed)) none = go armed.routine none
     go None none = refl
     go (Some r) none = ap (λ b. cond b (Timer manual was None) (Timer manual was (Some armed))) (same_no r.thread t (λ e. none (ap Some e)))
 unset_other t (Thread ended) none = refl
+unset_other t Gone none = refl
 
 -- after that it is not set by the thread
 pub unset_all : (t : ℕ) (o : Object) → setter_of (unset_by t o) ≡ Some t → ⊥
@@ -200,6 +204,7 @@ unowned_left t (Mutex None depth abandoned) none = refl
 unowned_left t (Mutex (Some owner) depth abandoned) none = ap (λ b. cond b (Mutex None 0 true) (Mutex (Some owner) depth abandoned)) none
 unowned_left t (Timer manual was armed) none = refl
 unowned_left t (Thread ended) none = refl
+unowned_left t Gone none = refl
 
 same_left : (t : ℕ) (o : Object) → owned_by o t ≡ false → (setter_of o ≡ Some t → ⊥) → left t o ≡ o
 same_left t o unowned unset = ap (unset_by t) (unowned_left t o unowned) ∙ unset_other t o unset
@@ -212,6 +217,7 @@ freed_mutex t (Mutex None depth abandoned) owns = absurd (false≢true owns)
 freed_mutex t (Mutex (Some owner) depth abandoned) owns = ap (λ b. cond b (Mutex None 0 true) (Mutex (Some owner) depth abandoned)) owns
 freed_mutex t (Timer manual was armed) owns = absurd (false≢true owns)
 freed_mutex t (Thread ended) owns = absurd (false≢true owns)
+freed_mutex t Gone owns = absurd (false≢true owns)
 
 freed_left : (t : ℕ) (o : Object) → owned_by o t ≡ true → left t o ≡ Mutex None 0 true
 freed_left t o owns = ap (unset_by t) (freed_mutex t o owns)
@@ -226,6 +232,7 @@ runs_before d t sound known runs = go (object_at d.objects t) (sound.own t known
     go (Mutex owner depth abandoned) is runs = absurd (false≢true is)
     go (Timer manual was armed) is runs = absurd (false≢true is)
     go (Thread ended) is runs = ap Thread runs
+    go Gone is runs = absurd (false≢true is)
 
 pub altered_or_same : (os : List Object) (t h : ℕ) → IsAltered os t h ⊎ (object_at (objects_left os t) h ≡ object_at os h)
 altered_or_same os t h = go (cases_eq h t) (owned_by (object_at os h) t) refl (setter_or_not (object_at os h) t)

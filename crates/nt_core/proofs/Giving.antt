@@ -7,7 +7,7 @@ use Rattle.std.proofs.lemmas.Bool.{false≢true, eqb-true}
 use Rattle.nt_status.specs.Flags.{has_flag, mutex_initial_owner}
 use Rattle.nt_status.specs.declared.refusal.Refusal.TheVariants.{InvalidHandle, InvalidParameter, TooManyPosts, HandleLimit}
 use Rattle.nt_objects.specs.declared.object.Object.{Object}
-use Rattle.nt_objects.specs.declared.object.Object.TheVariants.{Event, Semaphore, Mutex, Timer, Thread}
+use Rattle.nt_objects.specs.declared.object.Object.TheVariants.{Event, Semaphore, Mutex, Timer, Thread, Gone}
 use Rattle.nt_objects.specs.Object.{signaled, taken, is_semaphore, count_of, IsLawfulObject, event_of, mutex_of, may_count, with_set, released, unlocked, overflows, unset_by, set_by}
 use Rattle.nt_objects.proofs.Lawful.{lawful_taken, lawful_released}
 use Rattle.nt_core.specs.declared.call.Call.{Call}
@@ -37,6 +37,7 @@ semaphore_counts (Event manual set) is = is
 semaphore_counts (Mutex owner depth abandoned) is = is
 semaphore_counts (Timer manual set armed) is = is
 semaphore_counts (Thread ended) is = let h : false ≡ true = is in (cc)
+semaphore_counts Gone is = let h : false ≡ true = is in (cc)
 
 plain : (o : Object) → counts o ≡ true → is_plain o ≡ true
 plain (Timer manual set armed) is = is
@@ -44,6 +45,7 @@ plain (Event manual set) is = refl
 plain (Semaphore count maximum) is = refl
 plain (Mutex owner depth abandoned) is = refl
 plain (Thread ended) is = is
+plain Gone is = is
 
 -- the new object came of the old one: it was given so much
 record Gains (old new : Object) (gain : ℤ) (times : ℕ) : Type 0 where
@@ -74,6 +76,7 @@ one_taken (Mutex None depth abandoned) t now is = absurd (false≢true is)
 one_taken (Mutex (Some owner) depth abandoned) t now is = absurd (false≢true is)
 one_taken (Timer manual set armed) t now is = absurd (false≢true is)
 one_taken (Thread true) t now is = absurd (false≢true is)
+one_taken Gone t now is = absurd (false≢true is)
 one_taken (Thread false) t now is = absurd (false≢true now)
 
 all_taken : (o new : Object) (ts : List ℕ) → TakenBy o ts new → counts new ≡ true → Gains o new (pos 0) (length ts)
@@ -91,6 +94,7 @@ set_gains set (Event manual old) is = absurd (false≢true is)
 set_gains set (Mutex owner depth abandoned) is = absurd (false≢true is)
 set_gains set (Timer manual old armed) is = absurd (false≢true is)
 set_gains set (Thread ended) is = same_gains (Thread ended) is
+set_gains set Gone is = same_gains Gone is
 
 unlocked_gains : (o : Object) → counts (unlocked o) ≡ true → Gains o (unlocked o) (pos 0) 0
 unlocked_gains (Semaphore count maximum) is = same_gains (Semaphore count maximum) refl
@@ -102,6 +106,7 @@ unlocked_gains (Mutex owner depth abandoned) is = absurd (go (nat_le depth 1) is
     go false other = false≢true other
 unlocked_gains (Timer manual old armed) is = absurd (false≢true is)
 unlocked_gains (Thread ended) is = same_gains (Thread ended) is
+unlocked_gains Gone is = same_gains Gone is
 
 released_gains : (count : ℤ) (o : Object) → is_semaphore o ≡ true → pos 0 ≤ℤ count → overflows count o ≡ false → Gains o (released count o) count 0
 released_gains count (Semaphore own maximum) is up fits = record {
@@ -113,6 +118,7 @@ released_gains count (Event manual set) is up fits = absurd (false≢true is)
 released_gains count (Mutex owner depth abandoned) is up fits = absurd (false≢true is)
 released_gains count (Timer manual set armed) is up fits = absurd (false≢true is)
 released_gains count (Thread ended) is up fits = absurd (false≢true is)
+released_gains count Gone is up fits = absurd (false≢true is)
 
 mutex_counts_not : (flags t : ℕ) → counts (mutex_of flags t) ≡ true → ⊥
 mutex_counts_not flags t = go (has_flag flags mutex_initial_owner)
@@ -125,6 +131,7 @@ mutex_counts_not flags t = go (has_flag flags mutex_initial_owner)
 left_gains : (t : ℕ) (o : Object) → counts (left t o) ≡ true → Gains o (left t o) (pos 0) 0
 left_gains t (Semaphore count maximum) is = same_gains (Semaphore count maximum) refl
 left_gains t (Thread ended) is = same_gains (Thread ended) is
+left_gains t Gone is = same_gains Gone is
 left_gains t (Event manual set) is = absurd (false≢true is)
 left_gains t (Mutex None depth abandoned) is = absurd (false≢true is)
 left_gains t (Mutex (Some owner) depth abandoned) is = absurd (go (owner == t) is)
@@ -146,6 +153,7 @@ signal_gains (Event manual set) may fits is = absurd (false≢true is)
 signal_gains (Mutex owner depth abandoned) may fits is = let own = unlocked_gains (Mutex owner depth abandoned) is in absurd (false≢true own.counts)
 signal_gains (Timer manual set armed) may fits is = absurd (false≢true may)
 signal_gains (Thread ended) may fits is = absurd (false≢true may)
+signal_gains Gone may fits is = absurd (false≢true may)
 
 -- a semaphore where none was
 new_gains : (o : Object) (initial maximum : ℤ) → o ≡ Thread false → may_count initial maximum ≡ true → Gains o (Semaphore initial maximum) initial 0

@@ -6,7 +6,7 @@ use Rattle.std.proofs.lemmas.Bool.{eqb-true, false≢true}
 use Rattle.std.proofs.lemmas.Bool.Decides.{nat_tests}
 use Rattle.nt_waits.specs.declared.wait.Wait.{Wait}
 use Rattle.nt_objects.specs.declared.object.Object.{Object}
-use Rattle.nt_objects.specs.declared.object.Object.TheVariants.{Event, Semaphore, Mutex, Timer, Thread}
+use Rattle.nt_objects.specs.declared.object.Object.TheVariants.{Event, Semaphore, Mutex, Timer, Thread, Gone}
 use Rattle.nt_objects.specs.Object.{signaled, taken, has_room, owned_by, has_ended, is_thread, due_of, setter_of, IsLawfulObject}
 use Rattle.nt_core.specs.State.{object_at}
 use Rattle.nt_core.specs.Refusals.{is_at_limit}
@@ -94,6 +94,7 @@ lawful_taken (Mutex None depth abandoned) t ready room lawful = (omega arith, gr
 lawful_taken (Mutex (Some owner) depth abandoned) t ready room lawful = (omega arith, grind (arith, nat_tests, room), refl)
 lawful_taken (Timer manual set armed) t ready room lawful = tt
 lawful_taken (Thread ended) t ready room lawful = tt
+lawful_taken Gone t ready room lawful = tt
 
 -- who did not take it does not own it
 unowned_taken : (o : Object) (t u : ℕ) → signaled o t ≡ true → u ≢ t → owned_by (taken o t) u ≡ false
@@ -111,6 +112,7 @@ unowned_taken (Mutex (Some owner) depth abandoned) t u ready other =
     eqb_other a b e = grind (arith, nat_tests, e)
 unowned_taken (Timer manual set armed) t u ready other = refl
 unowned_taken (Thread ended) t u ready other = refl
+unowned_taken Gone t u ready other = refl
 
 ended_taken : (o : Object) (t : ℕ) → has_ended (taken o t) ≡ has_ended o
 ended_taken (Event manual set) t = refl
@@ -119,6 +121,7 @@ ended_taken (Mutex None depth abandoned) t = refl
 ended_taken (Mutex (Some owner) depth abandoned) t = refl
 ended_taken (Timer manual set armed) t = refl
 ended_taken (Thread ended) t = refl
+ended_taken Gone t = refl
 
 thread_taken : (o : Object) (t : ℕ) → is_thread (taken o t) ≡ is_thread o
 thread_taken (Event manual set) t = refl
@@ -127,6 +130,7 @@ thread_taken (Mutex None depth abandoned) t = refl
 thread_taken (Mutex (Some owner) depth abandoned) t = refl
 thread_taken (Timer manual set armed) t = refl
 thread_taken (Thread ended) t = refl
+thread_taken Gone t = refl
 
 pub due_taken : (o : Object) (t : ℕ) → due_of (taken o t) ≡ due_of o
 due_taken (Event manual set) t = refl
@@ -136,6 +140,7 @@ due_taken (Mutex (Some owner) depth abandoned) t = refl
 due_taken (Timer manual set (Some armed)) t = refl
 due_taken (Timer manual set None) t = refl
 due_taken (Thread ended) t = refl
+due_taken Gone t = refl
 
 pub setter_taken : (o : Object) (t : ℕ) → setter_of (taken o t) ≡ setter_of o
 setter_taken (Event manual set) t = refl
@@ -145,6 +150,7 @@ setter_taken (Mutex (Some owner) depth abandoned) t = refl
 setter_taken (Timer manual set (Some armed)) t = refl
 setter_taken (Timer manual set None) t = refl
 setter_taken (Thread ended) t = refl
+setter_taken Gone t = refl
 
 -- ---- the objects after a wait took them
 

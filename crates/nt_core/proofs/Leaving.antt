@@ -5,7 +5,7 @@ use Rattle.std.proofs.lemmas.Bool.{cases_eq, false≢true}
 use Rattle.std.proofs.lemmas.List.{append-nil, length-set}
 use Rattle.nt_waits.specs.Waits.{IsMember, AreOnce}
 use Rattle.nt_objects.specs.declared.object.Object.{Object}
-use Rattle.nt_objects.specs.declared.object.Object.TheVariants.{Event, Semaphore, Mutex, Timer, Thread}
+use Rattle.nt_objects.specs.declared.object.Object.TheVariants.{Event, Semaphore, Mutex, Timer, Thread, Gone}
 use Rattle.nt_objects.specs.Object.{is_timer, setter_of, due_of, armed_with}
 use Rattle.nt_apc.specs.Queues.{place_of}
 use Rattle.nt_core.specs.State.{object_at}
@@ -30,6 +30,7 @@ setter_timer (Semaphore count maximum) t sets = let h : None ≡ Some t = sets i
 setter_timer (Mutex owner depth abandoned) t sets = let h : None ≡ Some t = sets in (cc)
 setter_timer (Timer manual was armed) t sets = refl
 setter_timer (Thread ended) t sets = let h : None ≡ Some t = sets in (cc)
+setter_timer Gone t sets = let h : None ≡ Some t = sets in (cc)
 
 pub set_timer_known : (os : List Object) (t h : ℕ) → IsSetBy os t h → h < length os
 set_timer_known os t h sets = known_timer os h (setter_timer (object_at os h) t sets)
@@ -128,6 +129,7 @@ stopped_stays (Semaphore count maximum) = refl
 stopped_stays (Mutex owner depth abandoned) = refl
 stopped_stays (Timer manual was armed) = refl
 stopped_stays (Thread ended) = refl
+stopped_stays Gone = refl
 
 stopped_once : (o : Object) → armed_with None (armed_with None o) ≡ armed_with None o
 stopped_once (Event manual was) = refl
@@ -135,6 +137,7 @@ stopped_once (Semaphore count maximum) = refl
 stopped_once (Mutex owner depth abandoned) = refl
 stopped_once (Timer manual was armed) = refl
 stopped_once (Thread ended) = refl
+stopped_once Gone = refl
 
 pub stopped_unset : (o : Object) (t : ℕ) {P : Type 0} → setter_of (armed_with None o) ≡ Some t → P
 stopped_unset (Event manual was) t sets = let h : None ≡ Some t = sets in (cc)
@@ -142,6 +145,7 @@ stopped_unset (Semaphore count maximum) t sets = let h : None ≡ Some t = sets 
 stopped_unset (Mutex owner depth abandoned) t sets = let h : None ≡ Some t = sets in (cc)
 stopped_unset (Timer manual was armed) t sets = let h : None ≡ Some t = sets in (cc)
 stopped_unset (Thread ended) t sets = let h : None ≡ Some t = sets in (cc)
+stopped_unset Gone t sets = let h : None ≡ Some t = sets in (cc)
 
 pub stopped_none : (d : Dispatcher) → IsStoppedAfter d [] d
 stopped_none d = record { rest = refl; count = refl; stopped = λ h m. absurd m; others = λ h none. refl }

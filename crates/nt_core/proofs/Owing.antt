@@ -8,7 +8,7 @@ use Rattle.std.proofs.lemmas.List.Sums.{sum_by-cons, sum_by-append}
 use Rattle.nt_status.specs.Flags.{has_flag, mutex_initial_owner}
 use Rattle.nt_status.specs.declared.refusal.Refusal.TheVariants.{InvalidHandle, NotOwner}
 use Rattle.nt_objects.specs.declared.object.Object.{Object}
-use Rattle.nt_objects.specs.declared.object.Object.TheVariants.{Event, Semaphore, Mutex, Timer, Thread}
+use Rattle.nt_objects.specs.declared.object.Object.TheVariants.{Event, Semaphore, Mutex, Timer, Thread, Gone}
 use Rattle.nt_objects.specs.Object.{signaled, taken, is_mutex, owned_by, depth_of, event_of, mutex_of, with_set, released, unlocked, unset_by, set_by}
 use Rattle.nt_core.specs.declared.call.Call.{Call}
 use Rattle.nt_core.specs.declared.call.Act.{Act}
@@ -43,6 +43,7 @@ mutex_owns (Event manual set) is = is
 mutex_owns (Semaphore count maximum) is = is
 mutex_owns (Timer manual set armed) is = is
 mutex_owns (Thread ended) is = absurd (false≢true is)
+mutex_owns Gone is = absurd (false≢true is)
 
 plain : (o : Object) → owns o ≡ true → is_plain o ≡ true
 plain (Timer manual set armed) is = is
@@ -50,6 +51,7 @@ plain (Event manual set) is = refl
 plain (Semaphore count maximum) is = refl
 plain (Mutex owner depth abandoned) is = refl
 plain (Thread ended) is = is
+plain Gone is = is
 
 -- the new object came of the old one, and what thread t owes went along
 record Owes (t : ℕ) (old new : Object) (owe : ℕ → ℕ) : Type 0 where
@@ -95,6 +97,7 @@ one_taken t (Event manual set) u now is = absurd (false≢true is)
 one_taken t (Semaphore count maximum) u now is = absurd (false≢true is)
 one_taken t (Timer manual set armed) u now is = absurd (false≢true is)
 one_taken t (Thread true) u now is = absurd (false≢true is)
+one_taken t Gone u now is = absurd (false≢true is)
 one_taken t (Thread false) u now is = absurd (false≢true now)
 
 all_taken : (t : ℕ) (o new : Object) (ts : List ℕ) → TakenBy o ts new → owns new ≡ true → Owes t o new (λ k. k + count_by (λ u. u == t) ts)
@@ -112,6 +115,7 @@ set_owes t set (Event manual old) is = absurd (false≢true is)
 set_owes t set (Semaphore count maximum) is = absurd (false≢true is)
 set_owes t set (Timer manual old armed) is = absurd (false≢true is)
 set_owes t set (Thread ended) is = same_owes t (Thread ended) is
+set_owes t set Gone is = same_owes t Gone is
 
 released_owes : (t : ℕ) (count : ℤ) (o : Object) → owns (released count o) ≡ true → Owes t o (released count o) (λ k. k)
 released_owes t count (Mutex owner depth abandoned) is = same_owes t (Mutex owner depth abandoned) refl
@@ -119,6 +123,7 @@ released_owes t count (Event manual old) is = absurd (false≢true is)
 released_owes t count (Semaphore own maximum) is = absurd (false≢true is)
 released_owes t count (Timer manual old armed) is = absurd (false≢true is)
 released_owes t count (Thread ended) is = same_owes t (Thread ended) is
+released_owes t count Gone is = same_owes t Gone is
 
 -- its owner releases the mutex
 unlocked_owes : (t : ℕ) (o : Object) (who : ℕ) → owned_by o who ≡ true → Owes t o (unlocked o) (λ k. cond (who == t) (k - 1) k)
@@ -146,6 +151,7 @@ unlocked_owes t (Event manual set) who own = absurd (false≢true own)
 unlocked_owes t (Semaphore count maximum) who own = absurd (false≢true own)
 unlocked_owes t (Timer manual set armed) who own = absurd (false≢true own)
 unlocked_owes t (Thread ended) who own = absurd (false≢true own)
+unlocked_owes t Gone who own = absurd (false≢true own)
 
 unnot : (b : Bool) → not b ≡ false → b ≡ true
 unnot true e = refl
@@ -180,6 +186,7 @@ left_owes t (Mutex (Some owner) depth abandoned) who is = go (owner == who) refl
       held = λ l. l;
       owed = λ l. still (who == t) (owner == t) (λ own. ap (λ x. owner == x) (sym (eqb-true who t own)) ∙ e);
     }
+left_owes t Gone who is = absurd (false≢true is)
 left_owes t (Thread ended) who is = record { owns = is; held = λ l. l; owed = λ l. none (who == t) }
   where
     none : (b : Bool) → ◌≡◌ {A = ℕ} (cond b 0 0) 0
@@ -201,6 +208,7 @@ signal_owes t (Event manual set) who may foreign is = absurd (false≢true is)
 signal_owes t (Semaphore count maximum) who may foreign is = absurd (false≢true is)
 signal_owes t (Timer manual set armed) who may foreign is = absurd (false≢true may)
 signal_owes t (Thread ended) who may foreign is = absurd (false≢true may)
+signal_owes t Gone who may foreign is = absurd (false≢true may)
 
 -- a mutex where none was
 new_owes : (t : ℕ) (o : Object) (flags who : ℕ) → o ≡ Thread false → Owes t o (mutex_of flags who) (λ k. cond (has_flag flags mutex_initial_owner && who == t) (k + 1) k)
@@ -322,3 +330,4 @@ holder o t u a b = same o (owns_of o t (owned_by o t) refl a) (owns_of o u (owne
     same (Semaphore count maximum) p q = absurd (false≢true p)
     same (Timer manual set armed) p q = absurd (false≢true p)
     same (Thread ended) p q = absurd (false≢true p)
+    same Gone p q = absurd (false≢true p)

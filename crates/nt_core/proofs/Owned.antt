@@ -6,7 +6,7 @@ use Rattle.std.proofs.lemmas.Option.{none-some}
 use Rattle.std.proofs.lemmas.Bool.Decides.{nat_tests}
 use Rattle.nt_status.specs.Flags.{has_flag, mutex_initial_owner}
 use Rattle.nt_objects.specs.declared.object.Object.{Object}
-use Rattle.nt_objects.specs.declared.object.Object.TheVariants.{Event, Semaphore, Mutex, Timer, Thread}
+use Rattle.nt_objects.specs.declared.object.Object.TheVariants.{Event, Semaphore, Mutex, Timer, Thread, Gone}
 use Rattle.nt_objects.specs.declared.object.Armed.{Armed}
 use Rattle.nt_objects.specs.Object.{owner_of, owned_by, with_set, armed_with, due_of, setting_of, rearmed, mutex_of}
 
@@ -16,6 +16,7 @@ owner_set b (Semaphore count maximum) = refl
 owner_set b (Mutex owner depth abandoned) = refl
 owner_set b (Timer manual set armed) = refl
 owner_set b (Thread ended) = refl
+owner_set b Gone = refl
 
 pub owner_armed : (armed : Option Armed) (o : Object) → owner_of (armed_with armed o) ≡ owner_of o
 owner_armed armed (Event manual set) = refl
@@ -23,6 +24,7 @@ owner_armed armed (Semaphore count maximum) = refl
 owner_armed armed (Mutex owner depth abandoned) = refl
 owner_armed armed (Timer manual set was) = refl
 owner_armed armed (Thread ended) = refl
+owner_armed armed Gone = refl
 
 -- a timer that expired is nobody's still
 pub owner_rung : (o o' : Object) (now due : ℕ) → due_of o ≡ Some due → IfSome (setting_of o) (λ armed. o' ≡ armed_with (rearmed now armed) (with_set true o)) → owner_of o' ≡ owner_of o
@@ -32,6 +34,7 @@ owner_rung (Event manual set) o' now due is change = absurd (none-some due is)
 owner_rung (Semaphore count maximum) o' now due is change = absurd (none-some due is)
 owner_rung (Mutex owner depth abandoned) o' now due is change = absurd (none-some due is)
 owner_rung (Thread ended) o' now due is change = absurd (none-some due is)
+owner_rung Gone o' now due is change = absurd (none-some due is)
 
 -- whether a thread is the owner
 abbrev pub is_owner : Option ℕ → ℕ → Bool
@@ -45,6 +48,7 @@ owned_as (Mutex None depth abandoned) t = refl
 owned_as (Mutex (Some owner) depth abandoned) t = refl
 owned_as (Timer manual set armed) t = refl
 owned_as (Thread ended) t = refl
+owned_as Gone t = refl
 
 -- who owns the new object owned the old one, where both have the same owner
 pub owned_still : (old new : Object) (t : ℕ) → owner_of new ≡ owner_of old → owned_by new t ≡ true → owned_by old t ≡ true

@@ -6,7 +6,7 @@ use Rattle.std.proofs.lemmas.Bool.Decides.{nat_tests}
 use Rattle.std.proofs.Common.{◌==◌}
 use Rattle.nt_waits.specs.Waits.{IsMember, AreOnce, others}
 use Rattle.nt_objects.specs.declared.object.Object.{Object}
-use Rattle.nt_objects.specs.declared.object.Object.TheVariants.{Event, Semaphore, Mutex, Timer, Thread}
+use Rattle.nt_objects.specs.declared.object.Object.TheVariants.{Event, Semaphore, Mutex, Timer, Thread, Gone}
 use Rattle.nt_objects.specs.Object.{signaled, taken, is_thread, is_event, is_semaphore, is_mutex, owned_by, count_of, depth_of, depth_limit, mutex_of, with_set, released, unlocked, due_of, IsLawfulObject}
 use Rattle.std.specs.Prelude.{ℤ, pos, ◌+ℤ◌, ◌<ℤ◌, nat_le, nat_lt, if◌then◌else◌}
 use Rattle.nt_status.specs.Flags.{has_flag, mutex_initial_owner}
@@ -116,6 +116,7 @@ set_may_replace set (Semaphore count maximum) is = absurd (false≢true is)
 set_may_replace set (Mutex owner depth abandoned) is = absurd (false≢true is)
 set_may_replace set (Timer manual was armed) is = absurd (false≢true is)
 set_may_replace set (Thread ended) is = absurd (false≢true is)
+set_may_replace set Gone is = absurd (false≢true is)
 
 due_with_set : (set : Bool) (o : Object) → is_event o ≡ true → due_of (with_set set o) ≡ due_of o
 due_with_set set (Event manual was) is = refl
@@ -123,6 +124,7 @@ due_with_set set (Semaphore count maximum) is = refl
 due_with_set set (Mutex owner depth abandoned) is = refl
 due_with_set set (Timer manual was armed) is = absurd (false≢true is)
 due_with_set set (Thread ended) is = refl
+due_with_set set Gone is = refl
 
 event_with_set : (set : Bool) (o : Object) → is_event o ≡ true → is_event (with_set set o) ≡ true
 event_with_set set (Event manual was) is = refl
@@ -130,6 +132,7 @@ event_with_set set (Semaphore count maximum) is = is
 event_with_set set (Mutex owner depth abandoned) is = is
 event_with_set set (Timer manual was armed) is = absurd (false≢true is)
 event_with_set set (Thread ended) is = is
+event_with_set set Gone is = is
 
 signaled_with_set : (set : Bool) (o : Object) (t : ℕ) → is_event o ≡ true → signaled (with_set set o) t ≡ set
 signaled_with_set set (Event manual was) t is = refl
@@ -137,6 +140,7 @@ signaled_with_set set (Semaphore count maximum) t is = absurd (false≢true is)
 signaled_with_set set (Mutex owner depth abandoned) t is = absurd (false≢true is)
 signaled_with_set set (Timer manual was armed) t is = absurd (false≢true is)
 signaled_with_set set (Thread ended) t is = absurd (false≢true is)
+signaled_with_set set Gone t is = absurd (false≢true is)
 
 with_set_same : (o : Object) (t : ℕ) → is_event o ≡ true → with_set (signaled o t) o ≡ o
 with_set_same (Event manual was) t is = refl
@@ -144,6 +148,7 @@ with_set_same (Semaphore count maximum) t is = absurd (false≢true is)
 with_set_same (Mutex owner depth abandoned) t is = absurd (false≢true is)
 with_set_same (Timer manual was armed) t is = absurd (false≢true is)
 with_set_same (Thread ended) t is = absurd (false≢true is)
+with_set_same Gone t is = absurd (false≢true is)
 
 pub set_differs : (o : Object) (t : ℕ) → is_event o ≡ true → signaled o t ≡ false → with_set true o ≢ o
 set_differs o t is unset e = false≢true (sym unset ∙ (sym (ap (λ x. signaled x t) e) ∙ signaled_with_set true o t is))
@@ -210,6 +215,7 @@ event_taken (Mutex None depth abandoned) t = refl
 event_taken (Mutex (Some owner) depth abandoned) t = refl
 event_taken (Timer manual set armed) t = refl
 event_taken (Thread ended) t = refl
+event_taken Gone t = refl
 
 -- grants leave an event an event
 pub event_served : (threads : List ℕ) (s new : State) (gs : List Grant) (h : ℕ) → Grants threads s gs new → is_event (object_at new.objects h) ≡ is_event (object_at s.objects h)
@@ -290,6 +296,7 @@ released_may_replace n (Semaphore count maximum) is lawful = record { lawful = l
 released_may_replace n (Mutex owner depth abandoned) is lawful = absurd (false≢true is)
 released_may_replace n (Timer manual was armed) is lawful = absurd (false≢true is)
 released_may_replace n (Thread ended) is lawful = absurd (false≢true is)
+released_may_replace n Gone is lawful = absurd (false≢true is)
 
 pub released_differs : (n : ℤ) (o : Object) → is_semaphore o ≡ true → pos 0 <ℤ n → released n o ≢ o
 released_differs n (Event manual was) is positive e = absurd (false≢true is)
@@ -299,6 +306,7 @@ released_differs n (Semaphore count maximum) is positive e =
 released_differs n (Mutex owner depth abandoned) is positive e = absurd (false≢true is)
 released_differs n (Timer manual was armed) is positive e = absurd (false≢true is)
 released_differs n (Thread ended) is positive e = absurd (false≢true is)
+released_differs n Gone is positive e = absurd (false≢true is)
 
 -- ---- mutexes
 
@@ -314,6 +322,7 @@ owned_is_mutex (Semaphore count maximum) t owns = owns
 owned_is_mutex (Mutex owner depth abandoned) t owns = refl
 owned_is_mutex (Timer manual was armed) t owns = owns
 owned_is_mutex (Thread ended) t owns = owns
+owned_is_mutex Gone t owns = owns
 
 pub unlocked_may_replace : (o : Object) (t : ℕ) → owned_by o t ≡ true → IsLawfulObject o → IsLawfulObject (unlocked o) → MayReplace o (unlocked o)
 unlocked_may_replace (Event manual was) t owns lawful after = absurd (false≢true owns)
@@ -341,6 +350,7 @@ unlocked_may_replace (Mutex (Some owner) depth abandoned) t owns lawful after = 
     })
 unlocked_may_replace (Timer manual was armed) t owns lawful after = absurd (false≢true owns)
 unlocked_may_replace (Thread ended) t owns lawful after = absurd (false≢true owns)
+unlocked_may_replace Gone t owns lawful after = absurd (false≢true owns)
 
 pub unlocked_differs : (o : Object) (t : ℕ) → owned_by o t ≡ true → IsLawfulObject o → unlocked o ≢ o
 unlocked_differs (Event manual was) t owns lawful e = absurd (false≢true owns)
@@ -359,3 +369,4 @@ unlocked_differs (Mutex (Some owner) depth abandoned) t owns lawful e = go (nat_
     go false is = let less : Mutex (Some owner) (depth - 1) abandoned ≡ Mutex (Some owner) depth abandoned = rw is at e in smaller (ap depth_of less)
 unlocked_differs (Timer manual was armed) t owns lawful e = absurd (false≢true owns)
 unlocked_differs (Thread ended) t owns lawful e = absurd (false≢true owns)
+unlocked_differs Gone t owns lawful e = absurd (false≢true owns)

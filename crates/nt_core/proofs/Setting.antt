@@ -6,7 +6,7 @@ use Rattle.std.proofs.lemmas.Bool.{false≢true, eqb-true}
 use Rattle.std.proofs.lemmas.List.Sums.{sum_by-cons}
 use Rattle.nt_status.specs.Flags.{has_flag, event_initial_set, mutex_initial_owner}
 use Rattle.nt_objects.specs.declared.object.Object.{Object}
-use Rattle.nt_objects.specs.declared.object.Object.TheVariants.{Event, Semaphore, Mutex, Timer, Thread}
+use Rattle.nt_objects.specs.declared.object.Object.TheVariants.{Event, Semaphore, Mutex, Timer, Thread, Gone}
 use Rattle.nt_objects.specs.Object.{signaled, taken, event_of, mutex_of, with_set, released, unlocked, unset_by, set_by}
 use Rattle.nt_core.specs.declared.call.Call.{Call}
 use Rattle.nt_core.specs.declared.call.Act.{Act}
@@ -34,6 +34,7 @@ auto_resets (Mutex owner depth abandoned) is = is
 auto_resets (Semaphore count maximum) is = is
 auto_resets (Timer manual set armed) is = is
 auto_resets (Thread ended) is = absurd (false≢true is)
+auto_resets Gone is = absurd (false≢true is)
 
 plain : (o : Object) → resets o ≡ true → is_plain o ≡ true
 plain (Timer manual set armed) is = is
@@ -41,6 +42,7 @@ plain (Event manual set) is = refl
 plain (Semaphore count maximum) is = refl
 plain (Mutex owner depth abandoned) is = refl
 plain (Thread ended) is = is
+plain Gone is = is
 
 -- 1 where it holds
 abbrev one_if : Bool → ℕ
@@ -68,6 +70,7 @@ one_taken (Mutex None depth abandoned) t now is = absurd (false≢true is)
 one_taken (Mutex (Some owner) depth abandoned) t now is = absurd (false≢true is)
 one_taken (Timer manual set armed) t now is = absurd (false≢true is)
 one_taken (Thread true) t now is = absurd (false≢true is)
+one_taken Gone t now is = absurd (false≢true is)
 one_taken (Thread false) t now is = absurd (false≢true now)
 
 all_taken : (o new : Object) (ts : List ℕ) → TakenBy o ts new → resets new ≡ true → Sets o new 0 (length ts)
@@ -89,6 +92,7 @@ set_up (Mutex owner depth abandoned) is = absurd (false≢true is)
 set_up (Semaphore count maximum) is = absurd (false≢true is)
 set_up (Timer manual old armed) is = absurd (false≢true is)
 set_up (Thread ended) is = same_sets (Thread ended) 1 is
+set_up Gone is = same_sets Gone 1 is
 
 set_down : (o : Object) → resets (with_set false o) ≡ true → Sets o (with_set false o) 0 0
 set_down (Event manual old) is = record { resets = is; few = omega arith }
@@ -96,6 +100,7 @@ set_down (Mutex owner depth abandoned) is = absurd (false≢true is)
 set_down (Semaphore count maximum) is = absurd (false≢true is)
 set_down (Timer manual old armed) is = absurd (false≢true is)
 set_down (Thread ended) is = same_sets (Thread ended) 0 is
+set_down Gone is = same_sets Gone 0 is
 
 released_sets : (count : ℤ) (o : Object) → resets (released count o) ≡ true → Sets o (released count o) 0 0
 released_sets count (Event manual set) is = same_sets (Event manual set) 0 is
@@ -103,6 +108,7 @@ released_sets count (Mutex owner depth abandoned) is = absurd (false≢true is)
 released_sets count (Semaphore own maximum) is = absurd (false≢true is)
 released_sets count (Timer manual old armed) is = absurd (false≢true is)
 released_sets count (Thread ended) is = same_sets (Thread ended) 0 is
+released_sets count Gone is = same_sets Gone 0 is
 
 unlocked_sets : (o : Object) → resets (unlocked o) ≡ true → Sets o (unlocked o) 0 0
 unlocked_sets (Event manual set) is = same_sets (Event manual set) 0 is
@@ -114,11 +120,13 @@ unlocked_sets (Mutex owner depth abandoned) is = absurd (go (nat_le depth 1) is)
 unlocked_sets (Semaphore own maximum) is = absurd (false≢true is)
 unlocked_sets (Timer manual old armed) is = absurd (false≢true is)
 unlocked_sets (Thread ended) is = same_sets (Thread ended) 0 is
+unlocked_sets Gone is = same_sets Gone 0 is
 
 -- a thread ends
 left_sets : (t : ℕ) (o : Object) → resets (left t o) ≡ true → Sets o (left t o) 0 0
 left_sets t (Event manual set) is = same_sets (Event manual set) 0 is
 left_sets t (Thread ended) is = same_sets (Thread ended) 0 is
+left_sets t Gone is = same_sets Gone 0 is
 left_sets t (Semaphore count maximum) is = absurd (false≢true is)
 left_sets t (Mutex None depth abandoned) is = absurd (false≢true is)
 left_sets t (Mutex (Some owner) depth abandoned) is = absurd (go (owner == t) is)
@@ -140,6 +148,7 @@ signal_sets (Semaphore count maximum) may is = absurd (false≢true is)
 signal_sets (Mutex owner depth abandoned) may is = let own = unlocked_sets (Mutex owner depth abandoned) is in absurd (false≢true own.resets)
 signal_sets (Timer manual set armed) may is = absurd (false≢true may)
 signal_sets (Thread ended) may is = absurd (false≢true may)
+signal_sets Gone may is = absurd (false≢true may)
 
 mutex_resets_not : (flags t : ℕ) → resets (mutex_of flags t) ≡ true → ⊥
 mutex_resets_not flags t = go (has_flag flags mutex_initial_owner)

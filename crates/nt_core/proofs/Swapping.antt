@@ -9,7 +9,7 @@ use Rattle.std.proofs.lemmas.Int.{ints}
 use Rattle.std.proofs.lemmas.List.{append-nil}
 use Rattle.nt_status.specs.declared.refusal.Refusal.TheVariants.{InvalidHandle, NotOwner, TooManyPosts, RecursionLimit}
 use Rattle.nt_objects.specs.declared.object.Object.{Object}
-use Rattle.nt_objects.specs.declared.object.Object.TheVariants.{Event, Semaphore, Mutex, Timer, Thread}
+use Rattle.nt_objects.specs.declared.object.Object.TheVariants.{Event, Semaphore, Mutex, Timer, Thread, Gone}
 use Rattle.nt_objects.specs.Object.{is_mutex, owned_by, overflows, has_ended, IsLawfulObject}
 use Rattle.nt_waits.specs.declared.wait.Wait.{Wait}
 use Rattle.nt_core.specs.declared.call.Call.{Call}
@@ -70,6 +70,7 @@ signal_may_replace (Mutex held depth abandoned) t may owner lawful after = unloc
     owned false e = absurd (false≢true (sym e))
 signal_may_replace (Timer manual set armed) t may owner lawful after = absurd (false≢true may)
 signal_may_replace (Thread ended) t may owner lawful after = absurd (false≢true may)
+signal_may_replace Gone t may owner lawful after = absurd (false≢true may)
 
 -- the causes of a swap, where none holds
 pub record MaySwap (objects : List Object) (t h object : ℕ) : Type 0 where
@@ -173,6 +174,7 @@ lawful_signal (Semaphore count maximum) within lawful = lawful_released (pos 1) 
 lawful_signal (Mutex owner depth abandoned) within lawful = lawful_unlocked (Mutex owner depth abandoned) lawful
 lawful_signal (Timer manual set armed) within lawful = lawful
 lawful_signal (Thread ended) within lawful = lawful
+lawful_signal Gone within lawful = lawful
 
 module _ (old calm : Dispatcher) (t h object ms : ℕ) (alertable : Bool)
     (fresh : IsFresh old)

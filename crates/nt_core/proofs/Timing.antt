@@ -3,7 +3,7 @@ use Rattle.std.proofs.Common.{◌≡◌, ◌≢◌, ◌<◌, ℕ, zero, suc, Boo
 use Rattle.std.proofs.lemmas.Bool.{cases_eq, false≢true}
 use Rattle.std.proofs.lemmas.List.{length-set}
 use Rattle.nt_objects.specs.declared.object.Object.{Object}
-use Rattle.nt_objects.specs.declared.object.Object.TheVariants.{Event, Semaphore, Mutex, Timer, Thread}
+use Rattle.nt_objects.specs.declared.object.Object.TheVariants.{Event, Semaphore, Mutex, Timer, Thread, Gone}
 use Rattle.nt_objects.specs.declared.object.Armed.{Armed}
 use Rattle.nt_objects.specs.declared.object.Routine.{Routine}
 use Rattle.nt_objects.specs.Object.{signaled, is_timer, is_thread, has_ended, owned_by, due_of, setter_of, setting_of, armed_with, IsLawfulObject}
@@ -94,6 +94,7 @@ timer_runs_on (Semaphore count maximum) is = refl
 timer_runs_on (Mutex owner depth abandoned) is = refl
 timer_runs_on (Timer manual was armed) is = refl
 timer_runs_on (Thread ended) is = absurd (false≢true is)
+timer_runs_on Gone is = absurd (false≢true is)
 
 timer_no_thread : (o : Object) → is_timer o ≡ true → is_thread o ≡ false
 timer_no_thread (Event manual was) is = refl
@@ -101,6 +102,7 @@ timer_no_thread (Semaphore count maximum) is = refl
 timer_no_thread (Mutex owner depth abandoned) is = refl
 timer_no_thread (Timer manual was armed) is = refl
 timer_no_thread (Thread ended) is = absurd (false≢true is)
+timer_no_thread Gone is = absurd (false≢true is)
 
 timer_unowned : (o : Object) (u : ℕ) → is_timer o ≡ true → owned_by o u ≡ false
 timer_unowned (Event manual was) u is = refl
@@ -108,6 +110,7 @@ timer_unowned (Semaphore count maximum) u is = refl
 timer_unowned (Mutex owner depth abandoned) u is = absurd (false≢true is)
 timer_unowned (Timer manual was armed) u is = refl
 timer_unowned (Thread ended) u is = refl
+timer_unowned Gone u is = refl
 
 timer_lawful : (o : Object) → is_timer o ≡ true → IsLawfulObject o
 timer_lawful (Event manual was) is = tt
@@ -115,6 +118,7 @@ timer_lawful (Semaphore count maximum) is = absurd (false≢true is)
 timer_lawful (Mutex owner depth abandoned) is = absurd (false≢true is)
 timer_lawful (Timer manual was armed) is = tt
 timer_lawful (Thread ended) is = tt
+timer_lawful Gone is = tt
 
 alarm_set : (alarms : List (Option ℕ)) (os : List Object) (h : ℕ) (o : Object) → length alarms ≡ length os → ((k : ℕ) → alarm_at alarms k ≡ due_of (object_at os k)) → (k : ℕ) → alarm_at (set alarms h (due_of o)) k ≡ due_of (object_at (set os h o) k)
 alarm_set [] [] h o len all k = all k
@@ -232,6 +236,7 @@ timer_parts (Semaphore count maximum) is = absurd (false≢true is)
 timer_parts (Mutex owner depth abandoned) is = absurd (false≢true is)
 timer_parts (Timer manual was armed) is = (manual, was, armed, refl)
 timer_parts (Thread ended) is = absurd (false≢true is)
+timer_parts Gone is = absurd (false≢true is)
 
 -- which objects change where one timer does
 pub timer_changed : (os : List Object) (h : ℕ) (manual was now : Bool) (a armed : Option Armed) → object_at os h ≡ Timer manual was a → (handles : List ℕ) × AreRising (IsChanged os (set os h (Timer manual now armed))) handles
@@ -252,6 +257,7 @@ unset_cancelled (Semaphore count maximum) is = refl
 unset_cancelled (Mutex owner depth abandoned) is = refl
 unset_cancelled (Timer manual was armed) is = refl
 unset_cancelled (Thread ended) is = refl
+unset_cancelled Gone is = refl
 
 undue_cancelled : (o : Object) → is_timer o ≡ true → due_of (armed_with None o) ≡ None
 undue_cancelled (Event manual was) is = refl
@@ -259,6 +265,7 @@ undue_cancelled (Semaphore count maximum) is = refl
 undue_cancelled (Mutex owner depth abandoned) is = refl
 undue_cancelled (Timer manual was armed) is = refl
 undue_cancelled (Thread ended) is = refl
+undue_cancelled Gone is = refl
 
 timer_cancelled_too : (o : Object) → is_timer (armed_with None o) ≡ is_timer o
 timer_cancelled_too (Event manual was) = refl
@@ -266,6 +273,7 @@ timer_cancelled_too (Semaphore count maximum) = refl
 timer_cancelled_too (Mutex owner depth abandoned) = refl
 timer_cancelled_too (Timer manual was armed) = refl
 timer_cancelled_too (Thread ended) = refl
+timer_cancelled_too Gone = refl
 
 signaled_cancelled : (o : Object) (u : ℕ) → signaled (armed_with None o) u ≡ signaled o u
 signaled_cancelled (Event manual was) u = refl
@@ -273,6 +281,7 @@ signaled_cancelled (Semaphore count maximum) u = refl
 signaled_cancelled (Mutex owner depth abandoned) u = refl
 signaled_cancelled (Timer manual was armed) u = refl
 signaled_cancelled (Thread ended) u = refl
+signaled_cancelled Gone u = refl
 
 cancel_steady : (d : Dispatcher) (h : ℕ) → IsSteady d → is_timer (object_at d.objects h) ≡ true → IsSteady (retimed d h (armed_with None (object_at d.objects h)) (record d.apcs { queues = withdrawn d.apcs.queues h }))
 cancel_steady d h steady is =

@@ -12,7 +12,7 @@ use Rattle.nt_status.specs.declared.refusal.Refusal.{Refusal}
 use Rattle.nt_status.specs.declared.refusal.Refusal.TheVariants.{InvalidHandle, InvalidParameter, NotOwner, TooManyPosts, RecursionLimit}
 use Rattle.nt_waits.specs.declared.wait.Wait.{Wait}
 use Rattle.nt_objects.specs.declared.object.Object.{Object}
-use Rattle.nt_objects.specs.declared.object.Object.TheVariants.{Event, Semaphore, Mutex, Timer, Thread}
+use Rattle.nt_objects.specs.declared.object.Object.TheVariants.{Event, Semaphore, Mutex, Timer, Thread, Gone}
 use Rattle.nt_objects.specs.declared.object.Armed.{Armed}
 use Rattle.nt_objects.specs.Object.{is_timer, taken, event_of, mutex_of, timer_of, with_set, released, overflows, unlocked, armed_with, setting_of, rearmed, unset_by, abandoned_by}
 use Rattle.nt_apc.specs.Queues.{has_apc}
@@ -64,10 +64,11 @@ past_last [] h e = refl
 past_last (o ∷ os) zero e = absurd (omega (arith, e))
 past_last (o ∷ os) (suc h) e = past_last os h (omega (arith, e))
 
--- neither a timer nor a thread that has ended: the laws are on others
+-- neither a timer, nor a thread that has ended, nor gone: the laws are on others
 abbrev pub is_plain : Object → Bool
 is_plain (Timer manual set armed) = false
 is_plain (Thread ended) = not ended
+is_plain Gone = false
 is_plain _ = true
 
 -- what an act of thread t does to the object at h, where there are n objects and it is no timer; an act on timers alone
@@ -110,6 +111,7 @@ timer_armed armed (Event manual set) is = absurd (false≢true is)
 timer_armed armed (Semaphore count maximum) is = absurd (false≢true is)
 timer_armed armed (Mutex owner depth abandoned) is = absurd (false≢true is)
 timer_armed armed (Thread ended) is = absurd (false≢true is)
+timer_armed armed Gone is = absurd (false≢true is)
 
 timer_armed_anew : (armed : Option Armed) (b : Bool) → KeepsTimers (λ o. armed_with armed (with_set b o))
 timer_armed_anew armed b (Timer manual set own) is = refl
@@ -117,6 +119,7 @@ timer_armed_anew armed b (Event manual set) is = absurd (false≢true is)
 timer_armed_anew armed b (Semaphore count maximum) is = absurd (false≢true is)
 timer_armed_anew armed b (Mutex owner depth abandoned) is = absurd (false≢true is)
 timer_armed_anew armed b (Thread ended) is = absurd (false≢true is)
+timer_armed_anew armed b Gone is = absurd (false≢true is)
 
 is_armed : (o : Object) (armed : Armed) → setting_of o ≡ Some armed → is_timer o ≡ true
 is_armed (Timer manual set own) armed e = refl
@@ -124,6 +127,7 @@ is_armed (Event manual set) armed e = let h : None ≡ Some armed = e in (cc)
 is_armed (Semaphore count maximum) armed e = let h : None ≡ Some armed = e in (cc)
 is_armed (Mutex owner depth abandoned) armed e = let h : None ≡ Some armed = e in (cc)
 is_armed (Thread ended) armed e = let h : None ≡ Some armed = e in (cc)
+is_armed Gone armed e = let h : None ≡ Some armed = e in (cc)
 
 expired_object : (v : ℕ) (s : State) (timer h : ℕ) → is_plain (object_at (expired v s timer).objects h) ≡ true → object_at (expired v s timer).objects h ≡ object_at s.objects h
 expired_object v s timer h = go (setting_of (object_at s.objects timer)) refl
@@ -409,6 +413,7 @@ plain_taken o new (t ∷ ts) is = plain_taken (taken o t) new ts is.1 ∙ once o
     once (Mutex (Some owner) depth abandoned) t = refl
     once (Timer manual set armed) t = refl
     once (Thread ended) t = refl
+    once Gone t = refl
 
 all_expired_object : (v : ℕ) (s : State) (timers : List ℕ) (h : ℕ) → is_plain (object_at (all_expired v s timers).objects h) ≡ true → object_at (all_expired v s timers).objects h ≡ object_at s.objects h
 all_expired_object v s [] h plain = refl

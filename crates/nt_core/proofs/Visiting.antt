@@ -15,7 +15,7 @@ use Rattle.nt_core.specs.Serving.{fits, satisfied, granted, IsTried, CanTake}
 use Rattle.nt_core.specs.Visits.{IsVisited}
 use Rattle.nt_core.specs.Lawful.{IsSoundWait, IsSound}
 use Rattle.nt_objects.specs.Object.{has_room, signaled, owned_by, IsLawfulObject}
-use Rattle.nt_objects.specs.declared.object.Object.TheVariants.{Event, Semaphore, Mutex, Timer, Thread}
+use Rattle.nt_objects.specs.declared.object.Object.TheVariants.{Event, Semaphore, Mutex, Timer, Thread, Gone}
 use Rattle.std.proofs.lemmas.Bool.Decides.{nat_tests}
 use Rattle.std.specs.Prelude.{slice_index}
 use Rattle.std.proofs.Common.{not, ◌&&◌, inl, inr}
@@ -52,6 +52,7 @@ room_of (Mutex (Some owner) depth abandoned) t lawful below ready = go (has_room
     go false is = let h : true ≡ false = sym (rw (ready, is) refl) ∙ below in absurd (false≢true (sym h))
 room_of (Timer manual set armed) t lawful below ready = refl
 room_of (Thread ended) t lawful below ready = refl
+room_of Gone t lawful below ready = refl
 
 pub can_take : (objects : List Object) (t threads : ℕ) (w : Wait) → ((h : ℕ) → IsLawfulObject (object_at objects h)) → IsSoundWait threads objects t w → CanTake objects t w.handles
 can_take objects t threads w lawful sound j below ready =

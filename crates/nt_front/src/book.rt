@@ -147,9 +147,14 @@ impl<N: Named> Book<N> {
         Ok(Receipt { entry, result })
     }
 
-    /// A mark for each thread whose wait the last call or tick ended.
-    pub(crate) fn ended(&self) -> Marks {
-        Marks::of(self.core.grants())
+    /// A mark for each thread whose wait the last call or tick ended; none where it ended no wait.
+    pub(crate) fn ended(&self) -> Option<Marks> {
+        let grants = self.core.grants();
+        if grants.is_empty() {
+            None
+        } else {
+            Some(Marks::of(grants))
+        }
     }
 
     /// A book with an empty journal.

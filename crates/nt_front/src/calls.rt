@@ -63,7 +63,9 @@ impl<N: Named> Front<N> {
         let receipt = book.tick(&self.mail, &mut pass.hold, moment)?;
         let ended = book.ended();
         drop(book);
-        self.bells.ring(ended);
+        if let Some(marks) = ended {
+            self.bells.ring(marks);
+        }
         Ok(receipt)
     }
 
@@ -106,7 +108,9 @@ impl<N: Named> Front<N> {
         let receipt = book.call(&self.mail, caller, call)?;
         let ended = book.ended();
         drop(book);
-        self.bells.ring(ended);
+        if let Some(marks) = ended {
+            self.bells.ring(marks);
+        }
         Ok(receipt)
     }
 }

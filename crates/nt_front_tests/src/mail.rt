@@ -12,12 +12,15 @@ use std::test::Fail;
 // The low 10 bits are 0 for idle, 1 for armed, and 2 and the status's code for granted; the entry's number stands above them.
 #[test]
 fn words_have_their_bits(rt: HostRuntime) {
-    assert_eq!(rt; Word::Idle(0).bits(), 0);
-    assert_eq!(rt; Word::Idle(4).bits(), 4096);
-    assert_eq!(rt; Word::Armed(2).bits(), 2049);
-    assert_eq!(rt; Word::Granted(4, Status::object(0)).bits(), 4098);
-    assert_eq!(rt; Word::Granted(4, Status::TIMEOUT).bits(), 4356);
-    assert_eq!(rt; Word::Idle(18014398509481983).bits(), 18446744073709550592);
+    let bits = [
+        Word::Idle(0).bits(),
+        Word::Idle(4).bits(),
+        Word::Armed(2).bits(),
+        Word::Granted(4, Status::object(0)).bits(),
+        Word::Granted(4, Status::TIMEOUT).bits(),
+        Word::Idle(18014398509481983).bits(),
+    ];
+    assert_eq!(rt; bits, [0, 4096, 2049, 4098, 4356, 18446744073709550592]);
 }
 
 #[test]
@@ -42,8 +45,11 @@ fn bits_are_those_of_one_word(rt: HostRuntime) {
 #[test]
 fn other_bits_are_no_words(rt: HostRuntime) {
     for bits in [1, 2, 260, 4162, 4225, 4291, 4355, 4357, 5119] {
-        assert_eq!(rt; Word::from_bits(bits), None, "bits {bits}");
-        assert_eq!(rt; told_by(bits), None, "bits {bits}");
+        assert_eq!(rt;
+            (Word::from_bits(bits), told_by(bits)),
+            (None, None),
+            "bits {bits}"
+        );
     }
 }
 
@@ -128,8 +134,11 @@ fn grant_once(rt: &impl Host, moment: Moment) -> Result<Told, AllocError> {
 fn a_grant_is_taken_once(rt: HostRuntime) -> Result<(), Fail> {
     let moment = Moment::new(7).ok_or("7 is a moment")?;
     let told = grant_once(&rt, moment)?;
-    assert_eq!(rt; told.words, [0, 1025, 2308, 2048, 3072]);
-    assert_eq!(rt; told.takes, [Ok(()), Err(2048)]);
-    assert_eq!(rt; told.moment, moment);
+    let is = Told {
+        words: [0, 1025, 2308, 2048, 3072],
+        takes: [Ok(()), Err(2048)],
+        moment,
+    };
+    assert_eq!(rt; told, is);
     Ok(())
 }

@@ -5,7 +5,7 @@ use Rattle.std.proofs.lemmas.Bool.{cases_eq}
 use Rattle.std.proofs.lemmas.Option.{none-some}
 use Rattle.std.proofs.lemmas.List.{append-nil, append_assoc, length-append, get_or-set_same, get_or-set_other}
 use Rattle.nt_objects.specs.declared.object.Object.{Object}
-use Rattle.nt_objects.specs.declared.object.Object.TheVariants.{Event, Semaphore, Mutex, Timer, Thread}
+use Rattle.nt_objects.specs.declared.object.Object.TheVariants.{Event, Semaphore, Mutex, Timer, Thread, Gone}
 use Rattle.nt_objects.specs.Object.{owner_of, owned_by, abandoned_by}
 use Rattle.nt_owners.specs.Owned.{IsMember, AreOnce, list_of}
 use Rattle.nt_owners.specs.Objects.{object_at, OwnersAgree, AreListed}
@@ -157,6 +157,7 @@ abandoned_twice t (Event manual set) = refl
 abandoned_twice t (Semaphore count maximum) = refl
 abandoned_twice t (Timer manual set armed) = refl
 abandoned_twice t (Thread ended) = refl
+abandoned_twice t Gone = refl
 
 -- the object at one handle abandoned ahead of all
 pub all_the_same : (objects : List Object) (t m : ℕ) → map (abandoned_by t) (abandoned_at objects t m) ≡ map (abandoned_by t) objects
@@ -174,6 +175,7 @@ unowned_same t (Event manual set) free = refl
 unowned_same t (Semaphore count maximum) free = refl
 unowned_same t (Timer manual set armed) free = refl
 unowned_same t (Thread ended) free = refl
+unowned_same t Gone free = refl
 
 -- where the thread owns nothing there is nothing to abandon
 pub none_abandoned : (objects : List Object) (t : ℕ) → ((m : ℕ) → Owns objects t m → ⊥) → map (abandoned_by t) objects ≡ objects

@@ -5,7 +5,7 @@ use Rattle.std.proofs.lemmas.Bool.{cases_eq, cases_lt, false≢true}
 use Rattle.std.proofs.lemmas.Option.{same_Some, none-some}
 use Rattle.std.proofs.lemmas.List.{get_or-set_same, get_or-set_other, get_or_past}
 use Rattle.nt_objects.specs.declared.object.Object.{Object}
-use Rattle.nt_objects.specs.declared.object.Object.TheVariants.{Event, Semaphore, Mutex, Timer, Thread}
+use Rattle.nt_objects.specs.declared.object.Object.TheVariants.{Event, Semaphore, Mutex, Timer, Thread, Gone}
 use Rattle.nt_objects.specs.Object.{owner_of, owned_by, abandoned_by}
 use Rattle.nt_owners.specs.Owned.{IsMember, AreOnce, IsUnowned, list_of, behind, added, removed}
 use Rattle.nt_owners.specs.Objects.{object_at, OwnersAgree, IsPassed}
@@ -71,6 +71,7 @@ owned_owner (Mutex (Some owner) depth abandoned) t = elim (cases_eq owner t) [
 ]
 owned_owner (Timer manual set armed) t = ((λ is. absurd (false≢true is)), λ e. absurd (none-some t e))
 owned_owner (Thread ended) t = ((λ is. absurd (false≢true is)), λ e. absurd (none-some t e))
+owned_owner Gone t = ((λ is. absurd (false≢true is)), λ e. absurd (none-some t e))
 
 -- the mutex at a handle stands in the list of its owner alone
 pub agree_owner : (objects : List Object) (lists : List (List ℕ)) (m : ℕ) → OwnersAgree objects lists → (t : ℕ) → IsMember (list_of lists t) m ↔ (owner_of (object_at objects m) ≡ Some t)
@@ -107,6 +108,7 @@ owner_known (Semaphore count maximum) n below t e = absurd (none-some t e)
 owner_known (Mutex None depth abandoned) n below t e = absurd (none-some t e)
 owner_known (Timer manual set armed) n below t e = absurd (none-some t e)
 owner_known (Thread ended) n below t e = absurd (none-some t e)
+owner_known Gone n below t e = absurd (none-some t e)
 
 object_added : (objects : List Object) (o : Object) → object_at (objects ++ o ∷ []) (length objects) ≡ o
 object_added [] o = refl
@@ -147,6 +149,7 @@ abandoned_free (Semaphore count maximum) t e = absurd (none-some t e)
 abandoned_free (Mutex None depth abandoned) t e = absurd (none-some t e)
 abandoned_free (Timer manual set armed) t e = absurd (none-some t e)
 abandoned_free (Thread ended) t e = absurd (none-some t e)
+abandoned_free Gone t e = absurd (none-some t e)
 
 -- what abandoning told, of the object that was read
 pub abandoned_is : (o read new : Object) (t : ℕ) → read ≡ o → owner_of o ≡ Some t → IfSome (owner_of read) (λ owner. new ≡ abandoned_by owner read) → new ≡ abandoned_by t o

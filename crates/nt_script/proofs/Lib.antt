@@ -1,6 +1,7 @@
 pub mod Texts
 pub mod Lines
 pub mod Names
+pub mod Values
 pub mod Parsing
 pub mod Faults
 pub mod Forms
@@ -15,3 +16,4 @@ pub mod Recognizing
 pub mod Spelling
 pub mod Saying
 pub mod OneWay
+pub mod Naming

@@ -1,5 +1,5 @@
--- One line behind `threads`, with its witness.
-use Rattle.std.proofs.Common.{◌≡◌, ℕ, List, [], ◌∷◌, Option, None, Some, Result, refl, ap, subst, ◌∙◌}
+-- One line after `threads`, with its witness.
+use Rattle.std.proofs.Common.{◌≡◌, ℕ, ◌+◌, List, [], ◌∷◌, Option, None, Some, Result, refl, ap, subst, ◌∙◌, arith}
 use Rattle.nt_status.specs.declared.refusal.Refusal.{Refusal}
 use Rattle.nt_core.specs.declared.call.Act.{Act}
 use Rattle.nt_core.specs.declared.call.Call.{Call}
@@ -7,10 +7,11 @@ use Rattle.nt_core.specs.declared.call.Reply.{Reply}
 use Rattle.nt_core.specs.declared.call.Grant.{Grant}
 use Rattle.nt_core.specs.Steps.{Called, Ticked}
 use Rattle.nt_core.specs.Runs.{Calls, Ticks}
-use Rattle.nt_script.specs.declared.parser.Statement.TheVariants.{Create, Perform, Tick}
+use Rattle.nt_script.specs.declared.parser.Statement.TheVariants.{Blank, Create, Perform, Tick}
 use Rattle.nt_script.specs.Scope.{Scope}
+use Rattle.nt_script.specs.declared.tally.Tally.{Tally}
 use Rattle.nt_script.specs.Transcript.{turn_text, binds, handle_of, IsLine}
-use Rattle.nt_script.specs.Progress.{Progress, Advances, add_tally, tally_of}
+use Rattle.nt_script.specs.Progress.{Progress, Advances, IsCounted, add_tally, tally_of}
 
 binds-threads : (name : List ℕ) (handle : Option ℕ) (scope : Scope) → (binds name handle scope).threads ≡ scope.threads
 binds-threads name None scope = refl
@@ -51,3 +52,20 @@ module _ (number who : ℕ) (bytes : List ℕ) (act : Act) (result : Result Repl
         gives = (Create who name act, h, (result, grants, record { turn = refl; output = writes }, scope));
         goes = record { run = (new.state, called, refl); tally = tally; threads = ap (λ (s : Scope). s.threads) scope ∙ binds-threads name (handle_of result) mid.scope };
       }) read
+
+-- nothing was counted
+add-none : (tally : Tally) → tally ≡ add_tally tally (tally_of [])
+add-none tally =
+    let calls : tally.calls ≡ tally.calls + 0 = omega arith in
+    let refused : tally.refused ≡ tally.refused + 0 = omega arith in
+    let granted : tally.granted ≡ tally.granted + 0 = omega arith in
+    λ i. record { calls = calls i; refused = refused i; granted = granted i }
+
+pub blank_line : (number : ℕ) (bytes text : List ℕ) (old mid : Progress) → mid ≡ old → text ≡ [] → IsLine old.scope Blank bytes → Advances number bytes (Some old) [] text (Some mid)
+blank_line number bytes text old mid same writes read =
+    subst (λ (p : Progress). IsLine p.scope Blank bytes → Advances number bytes (Some p) [] text (Some mid)) same
+    (λ h. record { gives = (Blank, h, (refl, writes, refl)); goes = record { run = refl; tally = add-none mid.tally; threads = refl } }) read
+
+pub counted_on : (number : ℕ) (old mid : Progress) → mid ≡ old → IsCounted number old → IsCounted (number + 1) mid
+counted_on number old mid same h =
+    subst (λ (p : Progress). IsCounted number p → IsCounted (number + 1) mid) same (λ h. record { calls = omega (arith, h.calls); refused = h.refused; granted = h.granted }) h

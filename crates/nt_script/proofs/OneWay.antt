@@ -1,4 +1,4 @@
--- Two whole runs of one input, where no call wants memory, are the same.
+-- Two whole runs of one input, where no call runs out of memory, are the same.
 use Rattle.std.proofs.Common.{◌≡◌, ℕ, ◌+◌, Bool, false, List, [], ◌∷◌, ◌++◌, map, Option, Some, None, Result, refl, sym, ap, subst, ◌∙◌}
 use Rattle.std.proofs.lemmas.List.{append_cancel_left, map-append}
 use Rattle.std.proofs.lemmas.List.Elements.{All-nil, All-cons, All-head, All-tail}
@@ -80,7 +80,7 @@ writes_same line (Tick moment) scope first other text text' after after' x y e =
     let same = tick_is moment x.0 y.0 x.1 y.1 first other x.2.turn y.2.turn e in
     (text_same line x.0 y.0 x.1 y.1 text text' x.2.output y.2.output same, x.3 ∙ sym y.3)
 
--- ---- the lines behind `threads`
+-- ---- the lines after `threads`
 
 -- the threads stay
 binds_keep : (name : List ℕ) (handle : Option ℕ) (scope : Scope) → (binds name handle scope).threads ≡ scope.threads
@@ -130,7 +130,7 @@ module _ (one_way : RunsOneWay) (n : ℕ) where
       → Run n before s → Turns s turns a → Turns s others b → Transcript line (Some scope) lines turns text (Some after) → Transcript line (Some scope) lines others text' (Some after')
       → HadMemory turns → HadMemory others → Same turns others text text' after after' a b
 
-  -- one line, and those behind it
+  -- one line, and those after it
   one_more : (lines : Texts) (line : ℕ) (bytes : List ℕ) → Alike lines (line + 1) → Alike (bytes ∷ lines) line
   one_more lines line bytes rest scope after after' before turns others text text' s a b run x y p q h k = by p.4 q.4 p.7 q.7 p.8 q.8
     where

@@ -1,7 +1,7 @@
 -- Objects, one after another.
-use Rattle.std.proofs.Common.{◌≡◌, ℕ, ◌<◌, List, [], ◌∷◌, ◌++◌, length, Option, Some, None, Result, Ok, Err, refl, sym, ◌∙◌, ap, append_assoc, append-nil, arith}
-use Rattle.nt_script.specs.Grammar.{ObjectPlace, blame, object_in}
-use Rattle.nt_script.specs.Reading.{◌>>=◌, object_at, objects_at}
+use Rattle.std.proofs.Common.{◌≡◌, ℕ, List, [], ◌∷◌, ◌++◌, Result, Ok, Err, refl, sym, subst, ◌∙◌, ap, append_assoc, append-nil}
+use Rattle.nt_script.specs.Places.{ObjectPlace, blame, object_in}
+use Rattle.nt_script.specs.Reading.{◌>>=◌, or_fault, word_at, each_at}
 use Rattle.nt_script.specs.Scope.{Scope}
 use Rattle.nt_script.specs.declared.fault.ScriptFault.{ScriptFault}
 
@@ -18,9 +18,6 @@ ok_is x y e = cc
 err_is : {A : Type 0} (x : A) (fault : ScriptFault) → Err fault ≡ taken_as x → ⊥
 err_is x fault e = absurd (cc)
 
-fault_is : {A : Type 0} (x y : ScriptFault) → (let left : Result A ScriptFault = Err x in left ≡ Err y) → x ≡ y
-fault_is x y e = cc
-
 -- what is read of what was read
 pub bind_assoc : {A B C : Type 0} (m : Result A ScriptFault) (f : A → Result B ScriptFault) (g : B → Result C ScriptFault) → ((m >>= f) >>= g) ≡ (m >>= λ x. (f x >>= g))
 bind_assoc (Ok x) f g = refl
@@ -30,50 +27,34 @@ with_front-push : (front : List ℕ) (handle : ℕ) (read : Result (List ℕ) Sc
 with_front-push front handle (Ok handles) = ap Ok (sym (append_assoc front (handle ∷ []) handles))
 with_front-push front handle (Err fault) = refl
 
-Taken : Type 0
-Taken = ℕ × List (List ℕ)
+-- the first word was taken
+record Taken (words left : List (List ℕ)) (word : List ℕ) : Type 0 where
+  same : words ≡ word ∷ left
+
+taken : (words left : List (List ℕ)) (word : List ℕ) → word_at words ≡ Ok (word, left) → Taken words left word
+taken [] left word e = absurd (err_is (word, left) _ e)
+taken (first ∷ words) left word e =
+    let same = ok_is (first, words) (word, left) e in
+    record { same = ap (λ (t : List ℕ × List (List ℕ)). t.0 ∷ t.1) same }
 
 -- one object more
-pub objects_next : (scope : Scope) (front : List ℕ) (words left : List (List ℕ)) (handle : ℕ) (total : Result (List ℕ) ScriptFault)
-    → object_at scope words ≡ Ok (handle, left) → with_front front (objects_at scope words) ≡ total → with_front (front ++ handle ∷ []) (objects_at scope left) ≡ total
-unfolding object_at objects_at Taken
-objects_next scope front [] left handle total taken so_far = absurd (err_is _ _ taken)
-objects_next scope front (word ∷ words) left handle total taken so_far = by (object_in scope word) refl
-  where
-    by : (o : Option ℕ) → object_in scope word ≡ o → with_front (front ++ handle ∷ []) (objects_at scope left) ≡ total
-    by None e = absurd (err_is (handle, left) (blame ObjectPlace word) (rw e at taken))
-    by (Some h) e =
-        let same = ok_is (h, words) (handle, left) (rw e at taken) in
-        let one : with_front front (objects_at scope (word ∷ words)) ≡ with_front (front ++ h ∷ []) (objects_at scope words) = rw e (with_front-push front h (objects_at scope words)) in
-        ap (λ (t : ℕ × List (List ℕ)). with_front (front ++ t.0 ∷ []) (objects_at scope t.1)) (sym same) ∙ sym one ∙ so_far
+pub objects_next : (scope : Scope) (front : List ℕ) (words left : List (List ℕ)) (word : List ℕ) (handle : ℕ) (total : Result (List ℕ) ScriptFault)
+    → word_at words ≡ Ok (word, left) → taken_as handle ≡ or_fault (object_in scope word) (blame ObjectPlace word) → with_front front (each_at scope ObjectPlace words) ≡ total
+    → with_front (front ++ handle ∷ []) (each_at scope ObjectPlace left) ≡ total
+unfolding each_at
+objects_next scope front words left word handle total next object so_far =
+    let one : with_front front (each_at scope ObjectPlace (word ∷ left)) ≡ with_front (front ++ handle ∷ []) (each_at scope ObjectPlace left) = rw (← object) (with_front-push front handle (each_at scope ObjectPlace left)) in
+    sym one ∙ subst (λ (words : List (List ℕ)). with_front front (each_at scope ObjectPlace words) ≡ total) (taken words left word next).same so_far
 
 -- an object that is none is the fault of all
-pub objects_fail : (scope : Scope) (front : List ℕ) (words : List (List ℕ)) (fault : ScriptFault) (total : Result (List ℕ) ScriptFault)
-    → 0 < length words → object_at scope words ≡ Err fault → with_front front (objects_at scope words) ≡ total → total ≡ Err fault
-unfolding object_at objects_at
-objects_fail scope front [] fault total some taken so_far = absurd (omega arith)
-objects_fail scope front (word ∷ words) fault total some taken so_far = by (object_in scope word) refl
-  where
-    by : (o : Option ℕ) → object_in scope word ≡ o → total ≡ Err fault
-    by None e =
-        let same : blame ObjectPlace word ≡ fault = fault_is {A = ℕ × List (List ℕ)} (blame ObjectPlace word) fault (rw e at taken) in
-        let one : with_front front (objects_at scope (word ∷ words)) ≡ Err (blame ObjectPlace word) = rw e refl in
-        sym so_far ∙ one ∙ ap Err same
-    by (Some h) e = absurd (err_is (h, words) fault (sym (rw e at taken)))
+pub objects_fail : (scope : Scope) (front : List ℕ) (words left : List (List ℕ)) (word : List ℕ) (fault : ScriptFault) (total : Result (List ℕ) ScriptFault)
+    → word_at words ≡ Ok (word, left) → (let read : Result ℕ ScriptFault = Err fault in read ≡ or_fault (object_in scope word) (blame ObjectPlace word)) → with_front front (each_at scope ObjectPlace words) ≡ total
+    → total ≡ Err fault
+unfolding each_at
+objects_fail scope front words left word fault total next object so_far =
+    let one : with_front front (each_at scope ObjectPlace (word ∷ left)) ≡ Err fault = rw (← object) refl in
+    sym (subst (λ (words : List (List ℕ)). with_front front (each_at scope ObjectPlace words) ≡ total) (taken words left word next).same so_far) ∙ one
 
-pub objects_end : (scope : Scope) (front : List ℕ) (total : Result (List ℕ) ScriptFault) → with_front front (objects_at scope []) ≡ total → total ≡ Ok front
-unfolding objects_at
+pub objects_end : (scope : Scope) (front : List ℕ) (total : Result (List ℕ) ScriptFault) → with_front front (each_at scope ObjectPlace []) ≡ total → total ≡ Ok front
+unfolding each_at
 objects_end scope front total so_far = sym so_far ∙ ap Ok (append-nil front)
-
--- an object takes a word
-pub objects_shorter : (scope : Scope) (words left : List (List ℕ)) (handle : ℕ) → object_at scope words ≡ Ok (handle, left) → length left < length words
-unfolding object_at
-objects_shorter scope [] left handle taken = absurd (err_is _ _ taken)
-objects_shorter scope (word ∷ words) left handle taken = by (object_in scope word) refl
-  where
-    by : (o : Option ℕ) → object_in scope word ≡ o → length left < length (word ∷ words)
-    by None e = absurd (err_is (handle, left) (blame ObjectPlace word) (rw e at taken))
-    by (Some h) e =
-        let same = ok_is (h, words) (handle, left) (rw e at taken) in
-        let len = ap (λ (t : ℕ × List (List ℕ)). length t.1) same in
-        omega arith

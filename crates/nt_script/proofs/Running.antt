@@ -1,15 +1,15 @@
 -- From lines carried out to a whole run.
-use Rattle.std.proofs.Common.{◌≡◌, ℕ, ◌+◌, ◌-◌, ◌<◌, List, [], ◌∷◌, ◌++◌, length, Option, Some, None, Result, Ok, Err, refl, sym, ap, subst, ◌∙◌, append_assoc, append-nil, arith, inl, inr, true, false, Bool, length-append, take, nat_le, zero-add, suc}
+use Rattle.std.proofs.Common.{◌≡◌, ℕ, ◌+◌, ◌-◌, ◌<◌, List, [], ◌∷◌, ◌++◌, length, Option, Some, None, Result, Ok, Err, refl, sym, ap, subst, ◌∙◌, append_assoc, append-nil, arith, inl, inr, true, false, Bool, length-append, take, nat_le, suc}
 use Rattle.std.specs.List.{slice_split, onto_first, AllByRecursion}
 use Rattle.std.proofs.lemmas.List.Splits.{slice_split_at, slice_split_none, slice_split-cons_yes, slice_split-cons_no}
-use Rattle.std.specs.Io.KnownBytes.{Consumes, Appends, Keeps, IsAtEnd}
+use Rattle.std.specs.Io.KnownBytes.{Consumes, Keeps, IsAtEnd}
 use Rattle.std.proofs.lemmas.Bool.{lt-leb}
 use Rattle.std.proofs.KnownBytes.{Consumes-trans, Appends-trans, Appends-nil, Appends-kept, Consumes-kept, prepend_known-nil}
 use Rattle.nt_lines.specs.Lines.{is_feed, HasNoFeed, lines_of, without_empty_last, to_come}
 use Rattle.nt_core.specs.Runs.{Turn}
 use Rattle.nt_script.specs.Transcript.{FaultIn}
 use Rattle.nt_script.specs.Progress.{Progress, Advances, CarriedOut, scope_of, progress_of}
-use Rattle.nt_script.specs.Running.{Has, end_of, summary_at, Stops, FaultNext, AnyCause, ReadsPart, OutputNext, Breaks, Answers, with_feeds, TakesLine, FindsFault, FailsIn, TakesNext, NothingAhead, SoFar, Whole, Ends, WritesLine}
+use Rattle.nt_script.specs.Running.{Has, end_of, summary_at, Stops, FaultNext, AnyCause, ReadsPart, Breaks, Answers, with_feeds, TakesLine, FindsFault, FailsIn, TakesNext, NothingAhead, SoFar, Whole, Ends, WritesLine}
 use Rattle.nt_script.specs.declared.fault.ScriptFault.{ScriptFault}
 use Rattle.nt_script.specs.declared.fault.ScriptFault.TheVariants.{LineTooLong}
 use Rattle.nt_script.specs.declared.fault.RunFault.{RunFault}
@@ -39,7 +39,7 @@ first_piece (byte ∷ bytes) =
     by true e piece pieces h = ([], slice_split is_feed bytes, slice_split-cons_yes is_feed byte bytes e)
     by false e piece pieces h = (byte ∷ piece, pieces, slice_split-cons_no is_feed byte bytes e ∙ ap (onto_first byte) h)
 
--- one line with its LF, and what stands behind it
+-- one line with its LF, and what stands after it
 pub lines_of-feed : (line rest : List ℕ) → HasNoFeed line → lines_of (line ++ 10 ∷ rest) ≡ line ∷ lines_of rest
 lines_of-feed line rest h =
     let one = slice_split_at is_feed line 10 rest h refl in
@@ -47,7 +47,7 @@ lines_of-feed line rest h =
     ap without_empty_last (one ∙ ap (λ (pieces : List (List ℕ)). line ∷ pieces) more.2) ∙ without_empty_last-more line more.0 more.1
     ∙ ap (λ (pieces : List (List ℕ)). line ∷ without_empty_last pieces) (sym more.2)
 
--- whole lines, and what stands behind them
+-- whole lines, and what stands after them
 pub lines_of-feeds : (lines : List (List ℕ)) (rest : List ℕ) → AllByRecursion HasNoFeed lines → lines_of (with_feeds lines ++ rest) ≡ lines ++ lines_of rest
 lines_of-feeds [] rest h = refl
 lines_of-feeds (line ∷ lines) rest h =
@@ -171,7 +171,7 @@ module _ (number : ℕ) (old new : Option Progress) (left mid left' held between
         written = Appends-kept held between held' s.text s.written t.2;
       }
 
-  -- the lines before this one, and these behind them
+  -- the lines before this one, and these after them
   pub stops : (IsCause : List (List ℕ) → Option Progress → List (List ℕ) → Type 0) (rest : List ℕ) (after : List (List ℕ)) → Has left (with_feeds s.lines ++ rest) → lines_of rest ≡ after → IsCause s.lines old after
       → Keeps between held'
       → Stops left held held' number IsCause

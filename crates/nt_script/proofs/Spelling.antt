@@ -1,19 +1,21 @@
 -- The words of a statement's own text say its parts, and words that say them stand for these.
-use Rattle.std.proofs.Common.{◌≡◌, ℕ, ℤ, pos, negsuc, neg_ℤ, suc, ◌-◌, ◌^◌, ◌<◌, ◌≤◌, Bool, true, false, not, nat_le, nat_lt, ◌&&◌, ◌==◌, List, [], ◌∷◌, length, map, Option, Some, None, is_some, refl, sym, ap, subst, ◌∙◌, inl, inr, arith, codes}
-use Rattle.std.specs.List.{list_all, All}
+use Rattle.std.proofs.Common.{◌≡◌, ℕ, ℤ, pos, negsuc, neg_ℤ, suc, ◌-◌, ◌^◌, ◌<◌, ◌≤◌, Bool, true, false, not, nat_le, nat_lt, ◌&&◌, ◌==◌, List, [], ◌∷◌, ◌++◌, length, map, Option, Some, None, is_some, refl, sym, ap, subst, ◌∙◌, inl, inr, arith, codes}
+use Rattle.std.specs.List.{list_all}
 use Rattle.std.specs.Str.{bytes_eq}
 use Rattle.std.specs.Option.{option_map}
 use Rattle.std.specs.Fmt.{decimal, signed_decimal}
-use Rattle.std.proofs.lemmas.Bool.{le-leb, ltb-true}
+use Rattle.std.proofs.lemmas.Bool.{le-leb, leb-true, ltb-true}
 use Rattle.std.proofs.lemmas.Fmt.{length-decimal-le}
-use Rattle.std.proofs.lemmas.List.Elements.{All-head, All-tail}
 use Rattle.std.proofs.lemmas.Slice.Eq.{bytes_eq-Decides}
 use Rattle.nt_status.specs.Status.{infinite}
 use Rattle.nt_lines.specs.Words.{is_digit, are_digits, is_name, is_name_byte, number_of, up_to}
 use Rattle.nt_script.specs.Plain.{plain_word}
 use Rattle.nt_script.specs.Scope.{Scope, bound_in}
-use Rattle.nt_script.specs.Grammar.{at_least, number_in, free_name_in, object_in, is_word, is_negative, signed_in, time_in, mode_in, Part, Caller, Word, NewName, Object, Number, Signed, Time, Mode, Says, Spells, objects}
-use Rattle.nt_script.specs.Spelling.{caller_word, time_word, mode_word, IsHandle, IsTime, IsSigned, IsFreeName}
+use Rattle.nt_script.specs.Keywords as keyword
+use Rattle.nt_script.specs.Places.{at_least, number_in, free_name_in, object_in, is_word, is_negative, signed_in, time_in, mode_in, Place, NamePlace, ObjectPlace, NumberPlace, SignedPlace, TimePlace, ModePlace, ValueOf, value_in}
+use Rattle.nt_script.specs.Grammar.{After, Options, Each, Both, Values, Given, ValuesAfter, places_of, after_of, Called, Part, Caller, Word, Value, Says, Spells, value_parts, option_parts, each_parts, both_parts, after_parts, parts_of}
+use Rattle.nt_script.specs.Spelling.{time_word, mode_word, value_word, plain, IsSigned, IsFreeName, CanStand, CanSay, CanSayAll}
+use Rattle.nt_script.specs.declared.keyword.Keyword.{Keyword}
 use Rattle.nt_script.specs.Laws.{StandsFor, StandFor}
 use Rattle.nt_script.proofs.Plain.{and_true, Numeral, numeral, decimal_digits, number_of-decimal, plain_numeral, plain_behind_minus, plain_caller, caller_of-decimal, name_is, plain_name, up_to_is}
 use Rattle.nt_script.proofs.Joining.{IsBody, AreBodies, is_body, weaker, digit_body, name_body}
@@ -23,36 +25,28 @@ Words = List (List ℕ)
 
 -- ---- parts
 
--- the word of a part
-abbrev pub plain : Part → List ℕ
-plain (Caller who) = caller_word who
-plain (Word text) = text
-plain (NewName name) = name
-plain (Object handle) = decimal handle
-plain (Number least most n) = decimal n
-plain (Signed half n) = signed_decimal n
-plain (Time ms) = time_word ms
-plain (Mode alertable) = mode_word alertable
-
 -- a word of the grammar itself is plain, and can stand in a line
+abbrev pub is_sound_word : List ℕ → Bool
+is_sound_word text = bytes_eq (plain_word text) text && list_all is_body text && nat_lt 0 (length text)
+
+-- the numbers of a place fit 64 bits
+abbrev pub is_sound_place : Place → Bool
+is_sound_place (NumberPlace least most) = nat_lt most (2 ^ 64)
+is_sound_place (SignedPlace half) = nat_le half (2 ^ 63)
+is_sound_place place = true
+
 abbrev pub is_sound : Part → Bool
-is_sound (Word text) = bytes_eq (plain_word text) text && list_all is_body text && nat_lt 0 (length text)
-is_sound part = true
+is_sound (Caller who) = true
+is_sound (Word text) = is_sound_word text
+is_sound (Value place value) = is_sound_place place
 
--- a part that a word can say
-abbrev pub CanSay : Scope → Part → Type 0
-CanSay scope (Caller who) = who ≤ 999999999
-CanSay scope (Word text) = Unit {0}
-CanSay scope (NewName name) = IsFreeName scope name
-CanSay scope (Object handle) = IsHandle handle
-CanSay scope (Number least most n) = (least ≤ n) × (n ≤ most) × (n < 2 ^ 64)
-CanSay scope (Signed half n) = IsSigned half n × (half ≤ 2 ^ 63)
-CanSay scope (Time ms) = IsTime ms
-CanSay scope (Mode alertable) = Unit {0}
+abbrev pub are_sound : List Place → Bool
+are_sound places = list_all is_sound_place places
 
-abbrev pub CanSayAll : Scope → List Part → Type 0
-CanSayAll scope [] = Unit {0}
-CanSayAll scope (part ∷ parts) = CanSay scope part × CanSayAll scope parts
+abbrev pub is_sound_after : After → Bool
+is_sound_after (Options options) = list_all is_sound_word options
+is_sound_after (Each place) = is_sound_place place
+is_sound_after (Both first second) = is_sound_place first && is_sound_place second
 
 -- ---- numbers
 
@@ -93,7 +87,7 @@ signed_read half (pos n) fits small =
 signed_read half (negsuc n) fits small =
     ap (option_map (λ n. neg_ℤ (pos n))) (number_in-decimal 0 half (suc n) (omega arith) (omega (arith, fits)) (omega (arith, fits, small)))
 
--- the number behind a map
+-- the number that a map was made of
 map_some : (f : ℕ → ℤ) (o : Option ℕ) (n : ℤ) → option_map f o ≡ Some n → (m : ℕ) × (o ≡ Some m) × (f m ≡ n)
 map_some f None n e = let none : None ≡ Some n = e in absurd (cc)
 map_some f (Some m) n e = (m, refl, let same : Some (f m) ≡ Some n = e in cc)
@@ -192,35 +186,42 @@ mode_stands scope alertable word e = by (is_word word (codes "plain")) (is_word 
 
 -- ---- any part
 
-said : (scope : Scope) (part : Part) → CanSay scope part → Says scope part (plain part)
-said scope (Caller who) h = caller_of-decimal who h
-said scope (Word text) h = refl
-said scope (NewName name) h = name_read scope name h
-said scope (Object handle) h = object_read scope handle h
-said scope (Number least most n) h = number_in-decimal least most n h.0 h.1 h.2
-said scope (Signed half n) h = signed_read half n h.0 h.1
-said scope (Time ms) h = time_read ms h
-said scope (Mode true) h = refl
-said scope (Mode false) h = refl
+-- a value that can stand in a place is written so that it is read
+value_read : (scope : Scope) (place : Place) (value : ValueOf place) → is_sound_place place ≡ true → CanStand scope place value → value_in scope place (value_word place value) ≡ Some value
+value_read scope NamePlace name sound h = name_read scope name h
+value_read scope ObjectPlace handle sound h = object_read scope handle h
+value_read scope (NumberPlace least most) n sound h = let small : most < 2 ^ 64 = ltb-true _ _ sound in number_in-decimal least most n h.0 h.1 (omega (arith, h.1, small))
+value_read scope (SignedPlace half) n sound h = signed_read half n h (leb-true _ _ sound)
+value_read scope TimePlace ms sound h = time_read ms h
+value_read scope ModePlace true sound h = refl
+value_read scope ModePlace false sound h = refl
 
-sound_plain : (text : List ℕ) → is_sound (Word text) ≡ true → plain_word text ≡ text
+said : (scope : Scope) (part : Part) → is_sound part ≡ true → CanSay scope part → Says scope part (plain part)
+said scope (Caller who) sound h = caller_of-decimal who h
+said scope (Word text) sound h = refl
+said scope (Value place value) sound h = value_read scope place value sound h
+
+sound_plain : (text : List ℕ) → is_sound_word text ≡ true → plain_word text ≡ text
 sound_plain text h = (bytes_eq-Decides (plain_word text) text).0 (and_true {a = bytes_eq (plain_word text) text} (and_true {a = bytes_eq (plain_word text) text && list_all is_body text} h).0).0
+
+value_stands : (scope : Scope) (place : Place) (value : ValueOf place) (word : List ℕ) → value_in scope place word ≡ Some value → StandsFor scope word (value_word place value)
+value_stands scope NamePlace name word h = name_stands scope name word h
+value_stands scope ObjectPlace handle word h = object_stands scope handle word h
+value_stands scope (NumberPlace least most) n word h = inl (plain_number least most n word h)
+value_stands scope (SignedPlace half) n word h = inl (plain_signed half n word h)
+value_stands scope TimePlace ms word h = time_stands scope ms word h
+value_stands scope ModePlace alertable word h = mode_stands scope alertable word h
 
 stands : (scope : Scope) (part : Part) (word : List ℕ) → is_sound part ≡ true → Says scope part word → StandsFor scope word (plain part)
 stands scope (Caller who) word sound h = inl (plain_caller who word h)
 stands scope (Word text) word sound h = inl (ap plain_word h ∙ sound_plain text sound)
-stands scope (NewName name) word sound h = name_stands scope name word h
-stands scope (Object handle) word sound h = object_stands scope handle word h
-stands scope (Number least most n) word sound h = inl (plain_number least most n word h)
-stands scope (Signed half n) word sound h = inl (plain_signed half n word h)
-stands scope (Time ms) word sound h = time_stands scope ms word h
-stands scope (Mode alertable) word sound h = mode_stands scope alertable word h
+stands scope (Value place value) word sound h = value_stands scope place value word h
 
 decimal_body : (n : ℕ) → n < 2 ^ 64 → IsBody (decimal n)
 decimal_body n small = let d = decimal_digits n small in record { bytes = weaker is_digit is_body digit_body (decimal n) d.digits; some = d.some }
 
-behind_body : (first n : ℕ) → is_body first ≡ true → n < 2 ^ 64 → IsBody (first ∷ decimal n)
-behind_body first n ok small = record { bytes = rw (ok, (decimal_body n small).bytes) refl; some = omega arith }
+first_body : (first n : ℕ) → is_body first ≡ true → n < 2 ^ 64 → IsBody (first ∷ decimal n)
+first_body first n ok small = record { bytes = rw (ok, (decimal_body n small).bytes) refl; some = omega arith }
 
 name_is_body : (name : List ℕ) → is_name name ≡ true → IsBody name
 unfolding is_name
@@ -234,25 +235,31 @@ time_body ms small = by (ms == infinite) refl
     by true is = let inf : IsBody (codes "inf") = record { bytes = refl; some = omega arith } in rw is inf
     by false is = rw is (decimal_body ms (omega (arith, small)))
 
+signed_body : (half : ℕ) (n : ℤ) → half ≤ 2 ^ 63 → IsSigned half n → IsBody (signed_decimal n)
+signed_body half (pos n) small h = decimal_body n (omega (arith, h, small))
+signed_body half (negsuc n) small h = first_body 45 (suc n) refl (omega (arith, h, small))
+
+value_body : (scope : Scope) (place : Place) (value : ValueOf place) → is_sound_place place ≡ true → CanStand scope place value → IsBody (value_word place value)
+value_body scope NamePlace name sound h = name_is_body name h.0
+value_body scope ObjectPlace handle sound h = decimal_body handle (omega (arith, h))
+value_body scope (NumberPlace least most) n sound h = let small : most < 2 ^ 64 = ltb-true _ _ sound in decimal_body n (omega (arith, h.1, small))
+value_body scope (SignedPlace half) n sound h = signed_body half n (leb-true _ _ sound) h
+value_body scope TimePlace ms sound h = time_body ms h
+value_body scope ModePlace true sound h = record { bytes = refl; some = omega arith }
+value_body scope ModePlace false sound h = record { bytes = refl; some = omega arith }
+
 body : (scope : Scope) (part : Part) → is_sound part ≡ true → CanSay scope part → IsBody (plain part)
-body scope (Caller who) sound h = behind_body 116 who refl (omega (arith, h))
+body scope (Caller who) sound h = first_body 116 who refl (omega (arith, h))
 body scope (Word text) sound h =
     let both = and_true {a = bytes_eq (plain_word text) text && list_all is_body text} sound in
     record { bytes = (and_true {a = bytes_eq (plain_word text) text} both.0).1; some = ltb-true _ _ both.1 }
-body scope (NewName name) sound h = name_is_body name h.0
-body scope (Object handle) sound h = decimal_body handle (omega (arith, h))
-body scope (Number least most n) sound h = decimal_body n h.2
-body scope (Signed half (pos n)) sound h = decimal_body n (omega (arith, h.0, h.1))
-body scope (Signed half (negsuc n)) sound h = behind_body 45 (suc n) refl (omega (arith, h.0, h.1))
-body scope (Time ms) sound h = time_body ms h
-body scope (Mode true) sound h = record { bytes = refl; some = omega arith }
-body scope (Mode false) sound h = record { bytes = refl; some = omega arith }
+body scope (Value place value) sound h = value_body scope place value sound h
 
 -- ---- parts, one after another
 
-pub all_said : (scope : Scope) (parts : List Part) → CanSayAll scope parts → Spells scope parts (map plain parts)
-all_said scope [] h = tt
-all_said scope (part ∷ parts) h = (said scope part h.0, all_said scope parts h.1)
+pub all_said : (scope : Scope) (parts : List Part) → list_all is_sound parts ≡ true → CanSayAll scope parts → Spells scope parts (map plain parts)
+all_said scope [] sound h = tt
+all_said scope (part ∷ parts) sound h = let both = and_true {a = is_sound part} sound in (said scope part both.0 h.0, all_said scope parts both.1 h.1)
 
 pub all_stand : (scope : Scope) (parts : List Part) (words : Words) → list_all is_sound parts ≡ true → Spells scope parts words → StandFor scope words (map plain parts)
 all_stand scope [] [] sound h = tt
@@ -265,16 +272,35 @@ pub all_bodies : (scope : Scope) (parts : List Part) → list_all is_sound parts
 all_bodies scope [] sound h = tt
 all_bodies scope (part ∷ parts) sound h = let both = and_true {a = is_sound part} sound in (body scope part both.0 h.0, all_bodies scope parts both.1 h.1)
 
--- ---- objects
+-- ---- sound lines
 
-pub plain-objects : (handles : List ℕ) → map plain (objects handles) ≡ map decimal handles
-plain-objects [] = refl
-plain-objects (handle ∷ handles) = ap (λ (words : Words). decimal handle ∷ words) (plain-objects handles)
+sound_values : (places : List Place) (values : Values places) (parts : List Part) → are_sound places ≡ true → list_all is_sound parts ≡ true → list_all is_sound (value_parts places values ++ parts) ≡ true
+sound_values [] values parts sound h = h
+sound_values (place ∷ places) values parts sound h =
+    let both = and_true {a = is_sound_place place} sound in rw both.0 (sound_values places values.1 parts both.1 h)
 
-pub sound-objects : (handles : List ℕ) → list_all is_sound (objects handles) ≡ true
-sound-objects [] = refl
-sound-objects (handle ∷ handles) = sound-objects handles
+sound_options : (options : List (List ℕ)) (given : Given options) → list_all is_sound_word options ≡ true → list_all is_sound (option_parts options given) ≡ true
+sound_options [] given sound = refl
+sound_options (option ∷ options) (true, given) sound =
+    let both = and_true {a = is_sound_word option} sound in rw both.0 (sound_options options given both.1)
+sound_options (option ∷ options) (false, given) sound = sound_options options given (and_true {a = is_sound_word option} sound).1
 
-pub can_say-objects : (scope : Scope) (handles : List ℕ) → All IsHandle handles → CanSayAll scope (objects handles)
-can_say-objects scope [] h = tt
-can_say-objects scope (handle ∷ handles) h = (All-head IsHandle handle handles h, can_say-objects scope handles (All-tail IsHandle handle handles h))
+sound_each : (place : Place) (values : List (ValueOf place)) → is_sound_place place ≡ true → list_all is_sound (each_parts place values) ≡ true
+sound_each place [] sound = refl
+sound_each place (value ∷ values) sound = rw sound (sound_each place values sound)
+
+sound_both : (first second : Place) (both : Option (ValueOf first × ValueOf second)) → (is_sound_place first && is_sound_place second) ≡ true → list_all is_sound (both_parts first second both) ≡ true
+sound_both first second None sound = refl
+sound_both first second (Some both) sound = let each = and_true {a = is_sound_place first} sound in rw (each.0, each.1) refl
+
+sound_after : (after : After) (values : ValuesAfter after) → is_sound_after after ≡ true → list_all is_sound (after_parts after values) ≡ true
+sound_after (Options options) given sound = sound_options options given sound
+sound_after (Each place) values sound = sound_each place values sound
+sound_after (Both first second) both sound = sound_both first second both sound
+
+abbrev pub sound_word : Keyword → Bool
+sound_word k = is_sound_word (keyword.text_of k)
+
+pub sound_line : (who : ℕ) (k : Keyword) (values : Values (places_of k)) (after : ValuesAfter (after_of k)) → sound_word k ≡ true → are_sound (places_of k) ≡ true → is_sound_after (after_of k) ≡ true
+    → list_all is_sound (parts_of (Called who k values after)) ≡ true
+sound_line who k values after word places rest = rw word (sound_values (places_of k) values (after_parts (after_of k) after) places (sound_after (after_of k) after rest))

@@ -13,7 +13,7 @@ hex_more old (suc count) n h =
     let same : suc count - 1 ≡ count = omega arith in
     ap (λ (k : ℕ). (old ++ hex_digits k (n / 16)) ++ digit_glyph true (n % 16) ∷ []) same ∙ append_assoc old (hex_digits count (n / 16)) (digit_glyph true (n % 16) ∷ [])
 
--- ---- the line behind the last
+-- ---- the line after the last
 
 pub end_of_none : (start waiting said final : List ℕ) → length waiting ≡ 0 → said ≡ (start ++ waiting) ++ codes " none" → final ≡ said ++ 10 ∷ [] → final ≡ (start ++ or_none waiting) ++ 10 ∷ []
 end_of_none start [] said final none e f = f ∙ ap (λ (l : List ℕ). l ++ 10 ∷ []) e ∙ ap (λ (l : List ℕ). (l ++ codes " none") ++ 10 ∷ []) (append-nil start)

@@ -1,95 +1,173 @@
 -- The lines of a script: which words make which statement, and the first fault of words that make none.
-use Rattle.std.specs.Prelude.{◌≡◌, ℕ, ℤ, pos, neg_ℤ, ◌+◌, ◌*◌, ◌-◌, ◌^◌, ◌&&◌, ◌==◌, nat_lt, nat_le, is_some, not, option_map, drop, Bool, true, false, List, [], ◌∷◌, ◌++◌, length, Option, Some, None, if◌then◌else◌, codes}
+use Rattle.std.specs.Prelude.{◌≡◌, ℕ, ◌+◌, ◌^◌, nat_le, is_some, Bool, true, false, List, [], ◌∷◌, ◌++◌, length, Option, Some, None, if◌then◌else◌, codes}
 use Rattle.std.specs.List.{list_all}
-use Rattle.std.specs.Str.{bytes_eq}
-use Rattle.nt_status.specs.Status.{infinite}
 use Rattle.nt_core.specs.declared.call.Call.{Call}
 use Rattle.nt_core.specs.declared.call.Act.{Act}
 use Rattle.nt_core.specs.declared.call.WaitCall.{WaitCall}
-use Rattle.nt_lines.specs.Words.{words_of, text_of, is_plain, is_digit, are_digits, number_of, caller_of, is_name, up_to}
-use Rattle.nt_script.specs.Scope.{Scope, bound_in}
+use Rattle.nt_lines.specs.Words.{words_of, text_of, is_plain, caller_of}
+use Rattle.nt_script.specs.Scope.{Scope}
+use Rattle.nt_script.specs.Places.{is_word, Place, NamePlace, ObjectPlace, NumberPlace, SignedPlace, TimePlace, ModePlace, ValueOf, value_in, fits, blame, ValuePlace, MomentPlace}
 use Rattle.nt_script.specs.declared.fault.ScriptFault.{ScriptFault}
-use Rattle.nt_script.specs.declared.fault.ScriptFault.TheVariants.{LineTooLong, BadByte, ThreadsExpected, UnknownWord, MissingWord, BadNumber, BadName, NameTaken, UnknownName, ExtraWord}
+use Rattle.nt_script.specs.declared.fault.ScriptFault.TheVariants.{LineTooLong, BadByte, ThreadsExpected, UnknownWord, MissingWord, ExtraWord}
 use Rattle.nt_script.specs.declared.parser.Statement.{Statement}
 use Rattle.nt_script.specs.declared.parser.Statement.TheVariants.{Blank, Create, Perform, Tick}
 use Rattle.nt_script.specs.declared.keyword.Keyword.{Keyword}
 use Rattle.nt_script.specs.Keywords.{keyword_of}
 use Rattle.nt_script.specs.Keywords as keyword
 
--- ---- what one word may say
+-- ---- the shape of a line
 
--- a value from this one on
-abbrev pub at_least : ℕ → Option ℕ → Option ℕ
-at_least least None = None
-at_least least (Some n) = if nat_le least n then Some n else None
+-- what may stand after the places: these words in this order, each or not; or one word of a kind, any number of times; or both of two places or neither
+pub data After : Type 0 where
+  Options : List (List ℕ) → After
+  Each : Place → After
+  Both : Place → Place → After
 
--- a number in one to twenty digits, leading zeros allowed
-abbrev pub number_in : ℕ → ℕ → List ℕ → Option ℕ
-number_in least most word = at_least least (up_to most (number_of 20 word))
+-- the places of a line, and what may stand after them
+pub record Shape : Type 0 where
+  pub places : List Place
+  pub after : After
 
--- a lawful name that stands for nothing yet
-abbrev pub free_name_in : Scope → List ℕ → Option (List ℕ)
-free_name_in scope word = if is_name word && not (is_some (bound_in scope.names word)) then Some word else None
+-- a value for each place
+abbrev pub Values : List Place → Type 0
+Values [] = Unit {0}
+Values (place ∷ places) = ValueOf place × Values places
 
-abbrev pub thread_object : Scope → Option ℕ → Option ℕ
-thread_object scope None = None
-thread_object scope (Some t) = if nat_lt t scope.threads then Some t else None
+-- for each of these words, whether it is given
+abbrev pub Given : List (List ℕ) → Type 0
+Given [] = Unit {0}
+Given (option ∷ options) = Bool × Given options
 
--- a thread's object, or what a name stands for
-abbrev pub named_object : Scope → List ℕ → Option ℕ
-named_object scope word = if is_some (caller_of word) then thread_object scope (caller_of word) else (if is_name word then bound_in scope.names word else None)
+-- what the words after the places can say
+abbrev pub ValuesAfter : After → Type 0
+ValuesAfter (Options options) = Given options
+ValuesAfter (Each place) = List (ValueOf place)
+ValuesAfter (Both first second) = Option (ValueOf first × ValueOf second)
 
--- the handle that a word means: digits alone are a handle's number
-abbrev pub object_in : Scope → List ℕ → Option ℕ
-object_in scope word = if are_digits word then number_in 0 (2 ^ 32 - 1) word else named_object scope word
+-- what is made of a value for each place, one after another
+abbrev pub FromValues : List Place → Type 0 → Type 0
+FromValues [] made = made
+FromValues (place ∷ places) made = ValueOf place → FromValues places made
 
--- whether a word is that one
-abbrev pub is_word : List ℕ → List ℕ → Bool
-is_word word text = bytes_eq word text
+-- ---- the table
 
--- whether a word begins with `-`
-abbrev pub is_negative : List ℕ → Bool
-is_negative [] = false
-is_negative (first ∷ others) = first == 45
+-- a line after its caller and keyword: its shape, and the statement made of the caller and the values
+pub record Row : Type 0 where
+  pub shape : Shape
+  pub made : ℕ → FromValues shape.places (ValuesAfter shape.after → Statement)
 
--- a signed number: `-` may stand before its digits; `half` is how many negative ones there are
-abbrev pub signed_in : ℕ → List ℕ → Option ℤ
-signed_in half word =
-    if is_negative word
-    then option_map (λ n. neg_ℤ (pos n)) (number_in 0 half (drop 1 word))
-    else option_map (λ n. pos n) (number_in 0 (half - 1) word)
+-- a shape of these places, and of what may stand after them
+abbrev pub shape : List Place → After → Shape
+shape places after = record { places = places; after = after }
 
--- milliseconds, or `inf`
-abbrev pub time_in : List ℕ → Option ℕ
-time_in word = if is_word word (codes "inf") then Some infinite else number_in 0 (2 ^ 32 - 1) word
+-- these places and no more
+abbrev pub only : List Place → Shape
+only places = shape places (Options [])
 
--- whether the wait is alertable
-abbrev pub mode_in : List ℕ → Option Bool
-mode_in word = if is_word word (codes "plain") then Some false else (if is_word word (codes "alertable") then Some true else None)
+-- this bit, where it is given
+abbrev pub bit_if : Bool → ℕ → ℕ
+bit_if given bit = if given then bit else 0
 
--- ---- statements, as words
+-- a thread makes this act
+abbrev pub act_by : ℕ → Act → Statement
+act_by who act = Perform who (Call.Act act)
 
--- one word of a statement
+-- a thread makes this waiting call
+abbrev pub wait_by : ℕ → WaitCall → Statement
+wait_by who wait = Perform who (Call.Wait wait)
+
+-- the line of each keyword
+abbrev pub row : Keyword → Row
+-- tN event NAME [manual] [set]
+row Keyword.Event = record {
+  shape = shape (NamePlace ∷ []) (Options (codes "manual" ∷ codes "set" ∷ []));
+  made = λ who name given. Create who name (Act.CreateEvent (bit_if given.0 1 + bit_if given.1.0 2));
+}
+-- tN semaphore NAME INIT MAX
+row Keyword.Semaphore = record {
+  shape = only (NamePlace ∷ SignedPlace (2 ^ 31) ∷ SignedPlace (2 ^ 31) ∷ []);
+  made = λ who name initial maximum given. Create who name (Act.CreateSemaphore initial maximum);
+}
+-- tN mutex NAME [owned]
+row Keyword.Mutex = record { shape = shape (NamePlace ∷ []) (Options (codes "owned" ∷ [])); made = λ who name given. Create who name (Act.CreateMutex (bit_if given.0 1)) }
+-- tN timer NAME [manual]
+row Keyword.Timer = record { shape = shape (NamePlace ∷ []) (Options (codes "manual" ∷ [])); made = λ who name given. Create who name (Act.CreateTimer (bit_if given.0 1)) }
+-- tN set OBJ, tN reset OBJ, tN pulse OBJ
+row Keyword.Set = record { shape = only (ObjectPlace ∷ []); made = λ who event given. act_by who (Act.SetEvent event) }
+row Keyword.Reset = record { shape = only (ObjectPlace ∷ []); made = λ who event given. act_by who (Act.ResetEvent event) }
+row Keyword.Pulse = record { shape = only (ObjectPlace ∷ []); made = λ who event given. act_by who (Act.PulseEvent event) }
+-- tN release OBJ COUNT
+row Keyword.Release = record { shape = only (ObjectPlace ∷ SignedPlace (2 ^ 31) ∷ []); made = λ who semaphore count given. act_by who (Act.ReleaseSemaphore semaphore count) }
+-- tN unlock OBJ
+row Keyword.Unlock = record { shape = only (ObjectPlace ∷ []); made = λ who mutex given. act_by who (Act.ReleaseMutex mutex) }
+-- tN arm OBJ DUE PERIOD [ROUTINE ARG]
+row Keyword.Arm = record {
+  shape = shape (ObjectPlace ∷ SignedPlace (2 ^ 63) ∷ SignedPlace (2 ^ 31) ∷ []) (Both ValuePlace ValuePlace);
+  made = λ who timer due period routine. act_by who (Act.SetTimer timer due period routine);
+}
+-- tN cancel OBJ
+row Keyword.Cancel = record { shape = only (ObjectPlace ∷ []); made = λ who timer given. act_by who (Act.CancelTimer timer) }
+-- tN apc OBJ ROUTINE ARG
+row Keyword.Apc = record { shape = only (ObjectPlace ∷ ValuePlace ∷ ValuePlace ∷ []); made = λ who thread routine arg given. act_by who (Act.QueueApc thread routine arg) }
+-- tN any TIME MODE OBJ.., tN all TIME MODE OBJ..
+row Keyword.Any = record { shape = shape (TimePlace ∷ ModePlace ∷ []) (Each ObjectPlace); made = λ who ms alertable handles. wait_by who (WaitCall.Objects false alertable ms handles) }
+row Keyword.All = record { shape = shape (TimePlace ∷ ModePlace ∷ []) (Each ObjectPlace); made = λ who ms alertable handles. wait_by who (WaitCall.Objects true alertable ms handles) }
+-- tN sleep TIME MODE
+row Keyword.Sleep = record { shape = only (TimePlace ∷ ModePlace ∷ []); made = λ who ms alertable given. wait_by who (WaitCall.Sleep ms alertable) }
+-- tN swap OBJ OBJ TIME MODE
+row Keyword.Swap = record {
+  shape = only (ObjectPlace ∷ ObjectPlace ∷ TimePlace ∷ ModePlace ∷ []);
+  made = λ who signal object ms alertable given. wait_by who (WaitCall.Swap signal object ms alertable);
+}
+-- tN next
+row Keyword.Next = record { shape = only []; made = λ who given. act_by who Act.NextApc }
+-- tN exit
+row Keyword.Exit = record { shape = only []; made = λ who given. Perform who Call.Exit }
+
+-- the places of a keyword's line
+abbrev pub places_of : Keyword → List Place
+places_of k = (row k).shape.places
+
+-- what may stand after them
+abbrev pub after_of : Keyword → After
+after_of k = (row k).shape.after
+
+-- ---- what a line says
+
+-- nothing; or `tick M`; or a caller, a keyword and the values of its line
+pub data Line : Type 0 where
+  Nothing : Line
+  Moment : ℕ → Line
+  Called : ℕ → (k : Keyword) → Values (places_of k) → ValuesAfter (after_of k) → Line
+
+-- what is made of these values
+abbrev pub made_of : (made : Type 0) (places : List Place) → FromValues places made → Values places → made
+made_of made [] make values = make
+made_of made (place ∷ places) make values = made_of made places (make values.0) values.1
+
+-- the statement of a call's line
+abbrev pub called : ℕ → (k : Keyword) → Values (places_of k) → ValuesAfter (after_of k) → Statement
+called who k values after = made_of (ValuesAfter (after_of k) → Statement) (places_of k) ((row k).made who) values after
+
+-- the statement of a line
+abbrev pub said_by : Line → Statement
+said_by Nothing = Blank
+said_by (Moment moment) = Tick moment
+said_by (Called who k values after) = called who k values after
+
+-- ---- the words of a line
+
+-- what one word says
 pub data Part : Type 0 where
   Caller : ℕ → Part
   Word : List ℕ → Part
-  NewName : List ℕ → Part
-  Object : ℕ → Part
-  Number : ℕ → ℕ → ℕ → Part
-  Signed : ℕ → ℤ → Part
-  Time : ℕ → Part
-  Mode : Bool → Part
+  Value : (place : Place) → ValueOf place → Part
 
 -- the word says that
 abbrev pub Says : Scope → Part → List ℕ → Type 0
 Says scope (Caller who) word = caller_of word ≡ Some who
 Says scope (Word text) word = word ≡ text
-Says scope (NewName name) word = free_name_in scope word ≡ Some name
-Says scope (Object handle) word = object_in scope word ≡ Some handle
-Says scope (Number least most n) word = number_in least most word ≡ Some n
-Says scope (Signed half n) word = signed_in half word ≡ Some n
-Says scope (Time ms) word = time_in word ≡ Some ms
-Says scope (Mode alertable) word = mode_in word ≡ Some alertable
+Says scope (Value place value) word = value_in scope place word ≡ Some value
 
 -- the words say these parts, one each
 abbrev pub Spells : Scope → List Part → List (List ℕ) → Type 0
@@ -97,190 +175,89 @@ Spells scope [] [] = Unit {0}
 Spells scope (part ∷ parts) (word ∷ words) = Says scope part word × Spells scope parts words
 Spells scope parts words = ⊥
 
+-- each place with its value
+abbrev pub value_parts : (places : List Place) → Values places → List Part
+value_parts [] values = []
+value_parts (place ∷ places) values = Value place values.0 ∷ value_parts places values.1
+
+-- this word, where it is given
 abbrev pub word_if : Bool → List ℕ → List Part
 word_if given text = if given then Word text ∷ [] else []
 
-abbrev pub one_if : Bool → ℕ
-one_if given = if given then 1 else 0
+-- those of these words that are given
+abbrev pub option_parts : (options : List (List ℕ)) → Given options → List Part
+option_parts [] given = []
+option_parts (option ∷ options) given = word_if given.0 option ++ option_parts options given.1
 
-abbrev pub objects : List ℕ → List Part
-objects [] = []
-objects (handle ∷ handles) = Object handle ∷ objects handles
+-- the values of one place, any number of them
+abbrev pub each_parts : (place : Place) → List (ValueOf place) → List Part
+each_parts place [] = []
+each_parts place (value ∷ values) = Value place value ∷ each_parts place values
 
--- a caller, and a keyword
-abbrev pub begins : ℕ → Keyword → List Part → List Part
-begins who k parts = Caller who ∷ Word (keyword.text_of k) ∷ parts
+-- both of two values, or neither
+abbrev pub both_parts : (first second : Place) → Option (ValueOf first × ValueOf second) → List Part
+both_parts first second None = []
+both_parts first second (Some both) = Value first both.0 ∷ Value second both.1 ∷ []
 
--- 2 ^ 64 - 1 is the greatest routine and argument
-abbrev pub value : ℕ → Part
-value n = Number 0 (2 ^ 64 - 1) n
+-- what is said after the places
+abbrev pub after_parts : (after : After) → ValuesAfter after → List Part
+after_parts (Options options) given = option_parts options given
+after_parts (Each place) values = each_parts place values
+after_parts (Both first second) both = both_parts first second both
 
--- a routine and its argument, both or none
-abbrev pub routine_parts : Option (ℕ × ℕ) → List Part
-routine_parts None = []
-routine_parts (Some routine) = value routine.0 ∷ value routine.1 ∷ []
+-- what each word of a line says
+abbrev pub parts_of : Line → List Part
+parts_of Nothing = []
+parts_of (Moment moment) = Word (codes "tick") ∷ Value MomentPlace moment ∷ []
+parts_of (Called who k values after) = Caller who ∷ Word (keyword.text_of k) ∷ (value_parts (places_of k) values ++ after_parts (after_of k) after)
 
--- the words are this statement
+-- the words are a line of this statement
 abbrev pub IsStatement : Scope → Statement → List (List ℕ) → Type 0
--- (nothing)
-IsStatement scope Blank words = Spells scope [] words
--- tick M
-IsStatement scope (Tick moment) words = Spells scope (Word (codes "tick") ∷ Number 0 (2 ^ 62) moment ∷ []) words
--- tN event NAME [manual] [set]
-IsStatement scope (Create who name (Act.CreateEvent flags)) words =
-    (manual set : Bool) × (flags ≡ one_if manual + 2 * one_if set)
-    × Spells scope (begins who Keyword.Event (NewName name ∷ (word_if manual (codes "manual") ++ word_if set (codes "set")))) words
--- tN semaphore NAME INIT MAX
-IsStatement scope (Create who name (Act.CreateSemaphore initial maximum)) words = Spells scope (begins who Keyword.Semaphore (NewName name ∷ Signed (2 ^ 31) initial ∷ Signed (2 ^ 31) maximum ∷ [])) words
--- tN mutex NAME [owned]
-IsStatement scope (Create who name (Act.CreateMutex flags)) words = (owned : Bool) × (flags ≡ one_if owned) × Spells scope (begins who Keyword.Mutex (NewName name ∷ word_if owned (codes "owned"))) words
--- tN timer NAME [manual]
-IsStatement scope (Create who name (Act.CreateTimer flags)) words = (manual : Bool) × (flags ≡ one_if manual) × Spells scope (begins who Keyword.Timer (NewName name ∷ word_if manual (codes "manual"))) words
--- tN set OBJ, tN reset OBJ, tN pulse OBJ
-IsStatement scope (Perform who (Call.Act (Act.SetEvent handle))) words = Spells scope (begins who Keyword.Set (Object handle ∷ [])) words
-IsStatement scope (Perform who (Call.Act (Act.ResetEvent handle))) words = Spells scope (begins who Keyword.Reset (Object handle ∷ [])) words
-IsStatement scope (Perform who (Call.Act (Act.PulseEvent handle))) words = Spells scope (begins who Keyword.Pulse (Object handle ∷ [])) words
--- tN release OBJ COUNT
-IsStatement scope (Perform who (Call.Act (Act.ReleaseSemaphore handle count))) words = Spells scope (begins who Keyword.Release (Object handle ∷ Signed (2 ^ 31) count ∷ [])) words
--- tN unlock OBJ
-IsStatement scope (Perform who (Call.Act (Act.ReleaseMutex handle))) words = Spells scope (begins who Keyword.Unlock (Object handle ∷ [])) words
--- tN arm OBJ DUE PERIOD [ROUTINE ARG]
-IsStatement scope (Perform who (Call.Act (Act.SetTimer handle due period routine))) words =
-    Spells scope (begins who Keyword.Arm (Object handle ∷ Signed (2 ^ 63) due ∷ Signed (2 ^ 31) period ∷ routine_parts routine)) words
--- tN cancel OBJ
-IsStatement scope (Perform who (Call.Act (Act.CancelTimer handle))) words = Spells scope (begins who Keyword.Cancel (Object handle ∷ [])) words
--- tN apc OBJ ROUTINE ARG
-IsStatement scope (Perform who (Call.Act (Act.QueueApc handle apc arg))) words = Spells scope (begins who Keyword.Apc (Object handle ∷ value apc ∷ value arg ∷ [])) words
--- tN next
-IsStatement scope (Perform who (Call.Act Act.NextApc)) words = Spells scope (begins who Keyword.Next []) words
--- tN exit
-IsStatement scope (Perform who Call.Exit) words = Spells scope (begins who Keyword.Exit []) words
--- tN any TIME MODE OBJ.., tN all TIME MODE OBJ..
-IsStatement scope (Perform who (Call.Wait (WaitCall.Objects false alertable ms handles))) words = Spells scope (begins who Keyword.Any (Time ms ∷ Mode alertable ∷ objects handles)) words
-IsStatement scope (Perform who (Call.Wait (WaitCall.Objects true alertable ms handles))) words = Spells scope (begins who Keyword.All (Time ms ∷ Mode alertable ∷ objects handles)) words
--- tN sleep TIME MODE
-IsStatement scope (Perform who (Call.Wait (WaitCall.Sleep ms alertable))) words = Spells scope (begins who Keyword.Sleep (Time ms ∷ Mode alertable ∷ [])) words
--- tN swap OBJ OBJ TIME MODE
-IsStatement scope (Perform who (Call.Wait (WaitCall.Swap signal handle ms alertable))) words =
-    Spells scope (begins who Keyword.Swap (Object signal ∷ Object handle ∷ Time ms ∷ Mode alertable ∷ [])) words
--- no other act makes an object, and those that do are no lines without a name
-IsStatement scope statement words = ⊥
+IsStatement scope statement words = (line : Line) × (said_by line ≡ statement) × Spells scope (parts_of line) words
 
 -- the words tell how many threads there are: threads N
 abbrev pub IsOpening : ℕ → List (List ℕ) → Type 0
-IsOpening threads words = Spells (record { threads = 0; names = [] }) (Word (codes "threads") ∷ Number 1 256 threads ∷ []) words
+IsOpening threads words = Spells (record { threads = 0; names = [] }) (Word (codes "threads") ∷ Value (NumberPlace 1 256) threads ∷ []) words
 
 -- ---- the first fault
 
--- what must stand in a place
-pub data Place : Type 0 where
-  NamePlace : Place
-  ObjectPlace : Place
-  NumberPlace : ℕ → ℕ → Place
-  SignedPlace : ℕ → Place
-  TimePlace : Place
-  ModePlace : Place
-
-abbrev pub fits : Scope → Place → List ℕ → Bool
-fits scope NamePlace word = is_some (free_name_in scope word)
-fits scope ObjectPlace word = is_some (object_in scope word)
-fits scope (NumberPlace least most) word = is_some (number_in least most word)
-fits scope (SignedPlace half) word = is_some (signed_in half word)
-fits scope TimePlace word = is_some (time_in word)
-fits scope ModePlace word = is_some (mode_in word)
-
-abbrev pub begins_with_digit : List ℕ → Bool
-begins_with_digit [] = false
-begins_with_digit (first ∷ others) = is_digit first
-
--- the fault of a word that does not fit
-abbrev pub blame : Place → List ℕ → ScriptFault
-blame NamePlace word = if is_name word then NameTaken else BadName
-blame ObjectPlace word = if are_digits word then BadNumber else UnknownName
-blame (NumberPlace least most) word = BadNumber
-blame (SignedPlace half) word = BadNumber
-blame TimePlace word = if begins_with_digit word then BadNumber else UnknownWord
-blame ModePlace word = UnknownWord
-
-abbrev pub ValuePlace : Place
-ValuePlace = NumberPlace 0 (2 ^ 64 - 1)
-
--- 2 ^ 62 is the greatest moment
-abbrev pub MomentPlace : Place
-MomentPlace = NumberPlace 0 (2 ^ 62)
-
--- what may stand after the places: these words in this order, each or not; or one word of a kind, any number of times; or all of these places or none
-pub data Behind : Type 0 where
-  Options : List (List ℕ) → Behind
-  Each : Place → Behind
-  Together : List Place → Behind
-
--- the places of a line, and what may stand after them
-pub record Shape : Type 0 where
-  pub places : List Place
-  pub behind : Behind
-
+-- the first word that is none of these options, or not in their order
 abbrev pub options_fault : List (List ℕ) → List (List ℕ) → Option ScriptFault
 options_fault [] [] = None
 options_fault [] (word ∷ words) = Some ExtraWord
 options_fault (option ∷ options) [] = None
 options_fault (option ∷ options) (word ∷ words) = if is_word word option then options_fault options words else options_fault options (word ∷ words)
 
+-- the first word that does not fit the place
 abbrev pub each_fault : Scope → Place → List (List ℕ) → Option ScriptFault
 each_fault scope place [] = None
 each_fault scope place (word ∷ words) = if fits scope place word then each_fault scope place words else Some (blame place word)
 
 -- the first place that lacks its word, or the first word that may not stand where it does; then what is said of the words after them
 abbrev pub places_fault : Scope → List Place → (List (List ℕ) → Option ScriptFault) → List (List ℕ) → Option ScriptFault
-places_fault scope [] behind words = behind words
-places_fault scope (place ∷ places) behind [] = Some MissingWord
-places_fault scope (place ∷ places) behind (word ∷ words) = if fits scope place word then places_fault scope places behind words else Some (blame place word)
+places_fault scope [] after words = after words
+places_fault scope (place ∷ places) after [] = Some MissingWord
+places_fault scope (place ∷ places) after (word ∷ words) = if fits scope place word then places_fault scope places after words else Some (blame place word)
 
--- all the places, where a word stands in the first
-abbrev pub together_fault : Scope → List Place → List (List ℕ) → Option ScriptFault
-together_fault scope places [] = None
-together_fault scope places (word ∷ words) = places_fault scope places (options_fault []) (word ∷ words)
+-- both places, where a word stands in the first
+abbrev pub both_fault : Scope → Place → Place → List (List ℕ) → Option ScriptFault
+both_fault scope first second [] = None
+both_fault scope first second (word ∷ words) = places_fault scope (first ∷ second ∷ []) (options_fault []) (word ∷ words)
 
-abbrev pub behind_fault : Scope → Behind → List (List ℕ) → Option ScriptFault
-behind_fault scope (Options options) words = options_fault options words
-behind_fault scope (Each place) words = each_fault scope place words
-behind_fault scope (Together places) words = together_fault scope places words
+-- the first fault after the places
+abbrev pub after_fault : Scope → After → List (List ℕ) → Option ScriptFault
+after_fault scope (Options options) words = options_fault options words
+after_fault scope (Each place) words = each_fault scope place words
+after_fault scope (Both first second) words = both_fault scope first second words
 
+-- the first fault of words that should have this shape
 abbrev pub shape_fault : Scope → Shape → List (List ℕ) → Option ScriptFault
-shape_fault scope shape words = places_fault scope shape.places (behind_fault scope shape.behind) words
-
-abbrev pub shape : List Place → Behind → Shape
-shape places behind = record { places = places; behind = behind }
-
--- these places and no more
-abbrev pub only : List Place → Shape
-only places = shape places (Options [])
-
--- the line of each keyword
-abbrev pub shape_of : Keyword → Shape
-shape_of Keyword.Event = shape (NamePlace ∷ []) (Options (codes "manual" ∷ codes "set" ∷ []))
-shape_of Keyword.Semaphore = only (NamePlace ∷ SignedPlace (2 ^ 31) ∷ SignedPlace (2 ^ 31) ∷ [])
-shape_of Keyword.Mutex = shape (NamePlace ∷ []) (Options (codes "owned" ∷ []))
-shape_of Keyword.Timer = shape (NamePlace ∷ []) (Options (codes "manual" ∷ []))
-shape_of Keyword.Set = only (ObjectPlace ∷ [])
-shape_of Keyword.Reset = only (ObjectPlace ∷ [])
-shape_of Keyword.Pulse = only (ObjectPlace ∷ [])
-shape_of Keyword.Release = only (ObjectPlace ∷ SignedPlace (2 ^ 31) ∷ [])
-shape_of Keyword.Unlock = only (ObjectPlace ∷ [])
-shape_of Keyword.Arm = shape (ObjectPlace ∷ SignedPlace (2 ^ 63) ∷ SignedPlace (2 ^ 31) ∷ []) (Together (ValuePlace ∷ ValuePlace ∷ []))
-shape_of Keyword.Cancel = only (ObjectPlace ∷ [])
-shape_of Keyword.Apc = only (ObjectPlace ∷ ValuePlace ∷ ValuePlace ∷ [])
-shape_of Keyword.Any = shape (TimePlace ∷ ModePlace ∷ []) (Each ObjectPlace)
-shape_of Keyword.All = shape (TimePlace ∷ ModePlace ∷ []) (Each ObjectPlace)
-shape_of Keyword.Sleep = only (TimePlace ∷ ModePlace ∷ [])
-shape_of Keyword.Swap = only (ObjectPlace ∷ ObjectPlace ∷ TimePlace ∷ ModePlace ∷ [])
-shape_of Keyword.Next = only []
-shape_of Keyword.Exit = only []
+shape_fault scope shape words = places_fault scope shape.places (after_fault scope shape.after) words
 
 -- the words after a keyword, if it is one
 abbrev pub keyword_fault : Scope → Option Keyword → List (List ℕ) → Option ScriptFault
 keyword_fault scope None words = Some UnknownWord
-keyword_fault scope (Some keyword) words = shape_fault scope (shape_of keyword) words
+keyword_fault scope (Some k) words = shape_fault scope (row k).shape words
 
 -- the words after a caller
 abbrev pub caller_fault : Scope → List (List ℕ) → Option ScriptFault

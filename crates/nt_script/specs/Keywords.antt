@@ -3,6 +3,7 @@ use Rattle.std.specs.Prelude.{ℕ, List, [], ◌∷◌, Option, Some, None, if�
 use Rattle.std.specs.Str.{bytes_eq}
 use Rattle.nt_script.specs.declared.keyword.Keyword.{Keyword}
 
+-- the word of a keyword
 abbrev pub text_of : Keyword → List ℕ
 text_of Keyword.Event = codes "event"
 text_of Keyword.Semaphore = codes "semaphore"
@@ -23,14 +24,28 @@ text_of Keyword.Swap = codes "swap"
 text_of Keyword.Next = codes "next"
 text_of Keyword.Exit = codes "exit"
 
-abbrev pub keywords : List Keyword
-keywords =
-    Keyword.Event ∷ Keyword.Semaphore ∷ Keyword.Mutex ∷ Keyword.Timer ∷ Keyword.Set ∷ Keyword.Reset ∷ Keyword.Pulse ∷ Keyword.Release ∷ Keyword.Unlock ∷ Keyword.Arm ∷ Keyword.Cancel ∷ Keyword.Apc ∷ Keyword.Any ∷ Keyword.All ∷ Keyword.Sleep ∷ Keyword.Swap ∷ Keyword.Next ∷ Keyword.Exit ∷ []
+-- those that make an object
+abbrev pub creations : List Keyword
+creations = Keyword.Event ∷ Keyword.Semaphore ∷ Keyword.Mutex ∷ Keyword.Timer ∷ []
 
+-- those of an object that is there
+abbrev pub acts : List Keyword
+acts = Keyword.Set ∷ Keyword.Reset ∷ Keyword.Pulse ∷ Keyword.Release ∷ Keyword.Unlock ∷ Keyword.Arm ∷ Keyword.Cancel ∷ Keyword.Apc ∷ []
+
+-- those that wait, take an APC or exit
+abbrev pub other_calls : List Keyword
+other_calls = Keyword.Any ∷ Keyword.All ∷ Keyword.Sleep ∷ Keyword.Swap ∷ Keyword.Next ∷ Keyword.Exit ∷ []
+
+-- the one of these that a word is
 abbrev pub keyword_among : List Keyword → List ℕ → Option Keyword
 keyword_among [] word = None
 keyword_among (keyword ∷ others) word = if bytes_eq word (text_of keyword) then Some keyword else keyword_among others word
 
+-- the first that was found
+abbrev pub or_keyword : Option Keyword → Option Keyword → Option Keyword
+or_keyword None other = other
+or_keyword (Some keyword) other = Some keyword
+
 -- the keyword that a word is
 abbrev pub keyword_of : List ℕ → Option Keyword
-keyword_of word = keyword_among keywords word
+keyword_of word = or_keyword (keyword_among other_calls word) (or_keyword (keyword_among acts word) (keyword_among creations word))

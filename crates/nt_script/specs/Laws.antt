@@ -8,7 +8,7 @@ use Rattle.nt_core.specs.Laws.{wants_memory}
 use Rattle.nt_lines.specs.Words.{words_of, text_of}
 use Rattle.nt_script.specs.Plain.{plain_word}
 use Rattle.nt_script.specs.Scope.{Scope}
-use Rattle.nt_script.specs.Grammar.{named_object}
+use Rattle.nt_script.specs.Places.{named_object}
 use Rattle.nt_script.specs.Spelling.{spelling, statement_text, CanBeSaid}
 use Rattle.nt_script.specs.Transcript.{IsLine, FaultIn}
 use Rattle.nt_script.specs.Running.{Completes, end_of}

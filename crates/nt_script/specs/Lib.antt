@@ -2,6 +2,7 @@ pub mod Plain
 pub mod Scope
 pub mod Naming
 pub mod Keywords
+pub mod Places
 pub mod Grammar
 pub mod Spelling
 pub mod Reading

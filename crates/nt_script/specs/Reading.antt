@@ -1,19 +1,17 @@
 -- How the parser reads a line, word by word from the left, up to the first fault.
-use Rattle.std.specs.Prelude.{◌≡◌, ℕ, ℤ, ◌+◌, ◌-◌, ◌^◌, nat_le, Bool, true, false, List, [], ◌∷◌, length, Option, Some, None, Result, Ok, Err, if◌then◌else◌, codes}
+use Rattle.std.specs.Prelude.{◌≡◌, ℕ, ℤ, ◌^◌, ◌==◌, nat_le, Bool, true, false, List, [], ◌∷◌, length, Option, Some, None, Result, Ok, Err, if◌then◌else◌, codes}
 use Rattle.std.specs.List.{list_all}
 use Rattle.std.specs.Str.{bytes_eq}
 use Rattle.nt_lines.specs.Words.{text_of, words_of, is_plain, caller_of}
 use Rattle.nt_script.specs.Scope.{Scope}
-use Rattle.nt_script.specs.Grammar.{Place, NamePlace, ObjectPlace, NumberPlace, SignedPlace, TimePlace, ModePlace, blame, is_word, number_in, signed_in, free_name_in, object_in, time_in, mode_in}
+use Rattle.nt_script.specs.Places.{Place, NamePlace, ObjectPlace, NumberPlace, SignedPlace, TimePlace, ModePlace, ValuePlace, ValueOf, value_in, blame, is_word, number_in, signed_in, free_name_in, object_in, time_in, mode_in}
+use Rattle.nt_script.specs.Grammar.{After, Options, Each, Both, Values, Given, ValuesAfter, places_of, after_of, called}
 use Rattle.nt_script.specs.declared.keyword.Keyword.{Keyword}
 use Rattle.nt_script.specs.Keywords.{keyword_of}
 use Rattle.nt_script.specs.declared.fault.ScriptFault.{ScriptFault}
 use Rattle.nt_script.specs.declared.fault.ScriptFault.TheVariants.{LineTooLong, BadByte, ThreadsExpected, UnknownWord, MissingWord, ExtraWord}
 use Rattle.nt_script.specs.declared.parser.Statement.{Statement}
-use Rattle.nt_script.specs.declared.parser.Statement.TheVariants.{Blank, Create, Perform, Tick}
-use Rattle.nt_core.specs.declared.call.Call.{Call}
-use Rattle.nt_core.specs.declared.call.Act.{Act}
-use Rattle.nt_core.specs.declared.call.WaitCall.{WaitCall}
+use Rattle.nt_script.specs.declared.parser.Statement.TheVariants.{Blank, Tick}
 use Rattle.nt_script.specs.declared.fault.LineFault.{LineFault}
 use Rattle.nt_script.specs.declared.fault.LineFault.TheVariants as line
 use denote.Ref.{Bor}
@@ -50,6 +48,7 @@ GivesText (Err fault) read = read ≡ Err fault
 
 -- ---- places
 
+-- the next word
 abbrev pub word_at : List (List ℕ) → Result (List ℕ × List (List ℕ)) ScriptFault
 word_at [] = Err MissingWord
 word_at (word ∷ words) = Ok (word, words)
@@ -83,29 +82,58 @@ object_at scope words = value_at (object_in scope) ObjectPlace words
 unfoldable pub signed_at : ℕ → List (List ℕ) → Result (ℤ × List (List ℕ)) ScriptFault
 signed_at half words = value_at (signed_in half) (SignedPlace half) words
 
--- a routine and its argument, both or none
-unfoldable pub routine_at : List (List ℕ) → Result (Option (ℕ × ℕ) × List (List ℕ)) ScriptFault
-routine_at [] = Ok (None, [])
-routine_at (word ∷ words) = do
-  routine ← number_at 0 (2 ^ 64 - 1) (word ∷ words)
-  arg ← number_at 0 (2 ^ 64 - 1) routine.1
-  Ok (Some (routine.0, arg.0), arg.1)
-
 unfoldable pub time_at : List (List ℕ) → Result (ℕ × List (List ℕ)) ScriptFault
 time_at words = value_at time_in TimePlace words
 
 unfoldable pub mode_at : List (List ℕ) → Result (Bool × List (List ℕ)) ScriptFault
 mode_at words = value_at mode_in ModePlace words
 
--- all the words that are left, as objects
-unfoldable pub objects_at : Scope → List (List ℕ) → Result (List ℕ) ScriptFault
-objects_at scope [] = Ok []
-objects_at scope (word ∷ words) = do
-  handle ← or_fault (object_in scope word) (blame ObjectPlace word)
-  handles ← objects_at scope words
-  Ok (handle ∷ handles)
+-- the value of the next word in any place
+abbrev pub place_at : Scope → (place : Place) → List (List ℕ) → Result (ValueOf place × List (List ℕ)) ScriptFault
+place_at scope NamePlace words = free_name_at scope words
+place_at scope ObjectPlace words = object_at scope words
+place_at scope (NumberPlace least most) words = number_at least most words
+place_at scope (SignedPlace half) words = signed_at half words
+place_at scope TimePlace words = time_at words
+place_at scope ModePlace words = mode_at words
+
+-- a value for each place, and what is made of them and the words that are left
+abbrev pub places_at : {A : Type 0} → Scope → (places : List Place) → (Values places → List (List ℕ) → Result A ScriptFault) → List (List ℕ) → Result A ScriptFault
+places_at scope [] read words = read tt words
+places_at scope (place ∷ places) read words = place_at scope place words >>= λ value. places_at scope places (λ values rest. read (value.0, values) rest) value.1
+
+-- ---- after the places
+
+-- which of these words stand here
+abbrev pub options_at : (options : List (List ℕ)) → List (List ℕ) → Given options × List (List ℕ)
+options_at [] words = (tt, words)
+options_at (option ∷ options) words = (((option_at option words).0, (options_at options (option_at option words).1).0), (options_at options (option_at option words).1).1)
+
+-- a value of each word that is left
+unfoldable pub each_at : Scope → (place : Place) → List (List ℕ) → Result (List (ValueOf place)) ScriptFault
+each_at scope place [] = Ok []
+each_at scope place (word ∷ words) = do
+  value ← or_fault (value_in scope place word) (blame place word)
+  values ← each_at scope place words
+  Ok (value ∷ values)
+
+-- both values, where any word is left
+abbrev pub both_at : Scope → (first second : Place) → List (List ℕ) → Result (Option (ValueOf first × ValueOf second)) ScriptFault
+both_at scope first second words =
+    if length words == 0 then Ok None
+    else (place_at scope first words >>= λ one. (place_at scope second one.1 >>= λ two. (end_at two.1 >>= λ ended. Ok (Some (one.0, two.0)))))
+
+-- what the words after the places say
+abbrev pub after_at : Scope → (after : After) → List (List ℕ) → Result (ValuesAfter after) ScriptFault
+after_at scope (Options options) words = end_at (options_at options words).1 >>= λ ended. Ok (options_at options words).0
+after_at scope (Each place) words = each_at scope place words
+after_at scope (Both first second) words = both_at scope first second words
 
 -- ---- statements
+
+-- a routine and its argument, both or none
+unfoldable pub routine_at : List (List ℕ) → Result (Option (ℕ × ℕ)) ScriptFault
+routine_at words = both_at (record { threads = 0; names = [] }) ValuePlace ValuePlace words
 
 -- tick M
 unfoldable pub tick_at : List (List ℕ) → Result Statement ScriptFault
@@ -114,128 +142,9 @@ tick_at words = do
   ended ← end_at moment.1
   Ok (Tick moment.0)
 
--- tN event NAME [manual] [set]
-unfoldable pub event_at : Scope → ℕ → List (List ℕ) → Result Statement ScriptFault
-event_at scope who words = do
-  name ← free_name_at scope words
-  let manual = option_at (codes "manual") name.1
-  let set = option_at (codes "set") manual.1
-  ended ← end_at set.1
-  Ok (Create who name.0 (Act.CreateEvent ((if manual.0 then 1 else 0) + (if set.0 then 2 else 0))))
-
--- tN semaphore NAME INIT MAX
-unfoldable pub semaphore_at : Scope → ℕ → List (List ℕ) → Result Statement ScriptFault
-semaphore_at scope who words = do
-  name ← free_name_at scope words
-  initial ← signed_at (2 ^ 31) name.1
-  maximum ← signed_at (2 ^ 31) initial.1
-  ended ← end_at maximum.1
-  Ok (Create who name.0 (Act.CreateSemaphore initial.0 maximum.0))
-
--- tN mutex NAME [owned]
-unfoldable pub mutex_at : Scope → ℕ → List (List ℕ) → Result Statement ScriptFault
-mutex_at scope who words = do
-  name ← free_name_at scope words
-  let owned = option_at (codes "owned") name.1
-  ended ← end_at owned.1
-  Ok (Create who name.0 (Act.CreateMutex (if owned.0 then 1 else 0)))
-
--- tN timer NAME [manual]
-unfoldable pub timer_at : Scope → ℕ → List (List ℕ) → Result Statement ScriptFault
-timer_at scope who words = do
-  name ← free_name_at scope words
-  let manual = option_at (codes "manual") name.1
-  ended ← end_at manual.1
-  Ok (Create who name.0 (Act.CreateTimer (if manual.0 then 1 else 0)))
-
--- one object, and nothing after it
-unfoldable pub only_object_at : Scope → List (List ℕ) → Result ℕ ScriptFault
-only_object_at scope words = do
-  object ← object_at scope words
-  ended ← end_at object.1
-  Ok object.0
-
--- an act on one object
-abbrev pub act_on : Scope → ℕ → (ℕ → Act) → List (List ℕ) → Result Statement ScriptFault
-act_on scope who act words = only_object_at scope words >>= λ object. Ok (Perform who (Call.Act (act object)))
-
--- tN release OBJ COUNT
-unfoldable pub release_at : Scope → ℕ → List (List ℕ) → Result Statement ScriptFault
-release_at scope who words = do
-  semaphore ← object_at scope words
-  count ← signed_at (2 ^ 31) semaphore.1
-  ended ← end_at count.1
-  Ok (Perform who (Call.Act (Act.ReleaseSemaphore semaphore.0 count.0)))
-
--- tN arm OBJ DUE PERIOD [ROUTINE ARG]
-unfoldable pub arm_at : Scope → ℕ → List (List ℕ) → Result Statement ScriptFault
-arm_at scope who words = do
-  timer ← object_at scope words
-  due ← signed_at (2 ^ 63) timer.1
-  period ← signed_at (2 ^ 31) due.1
-  routine ← routine_at period.1
-  ended ← end_at routine.1
-  Ok (Perform who (Call.Act (Act.SetTimer timer.0 due.0 period.0 routine.0)))
-
--- tN apc OBJ ROUTINE ARG
-unfoldable pub apc_at : Scope → ℕ → List (List ℕ) → Result Statement ScriptFault
-apc_at scope who words = do
-  thread ← object_at scope words
-  routine ← number_at 0 (2 ^ 64 - 1) thread.1
-  arg ← number_at 0 (2 ^ 64 - 1) routine.1
-  ended ← end_at arg.1
-  Ok (Perform who (Call.Act (Act.QueueApc thread.0 routine.0 arg.0)))
-
--- tN any TIME MODE OBJ.., tN all TIME MODE OBJ..
-unfoldable pub objects_wait_at : Scope → ℕ → Bool → List (List ℕ) → Result Statement ScriptFault
-objects_wait_at scope who all words = do
-  time ← time_at words
-  mode ← mode_at time.1
-  handles ← objects_at scope mode.1
-  Ok (Perform who (Call.Wait (WaitCall.Objects all mode.0 time.0 handles)))
-
--- tN sleep TIME MODE
-unfoldable pub sleep_at : ℕ → List (List ℕ) → Result Statement ScriptFault
-sleep_at who words = do
-  time ← time_at words
-  mode ← mode_at time.1
-  ended ← end_at mode.1
-  Ok (Perform who (Call.Wait (WaitCall.Sleep time.0 mode.0)))
-
--- tN swap OBJ OBJ TIME MODE
-unfoldable pub swap_at : Scope → ℕ → List (List ℕ) → Result Statement ScriptFault
-swap_at scope who words = do
-  signal ← object_at scope words
-  object ← object_at scope signal.1
-  time ← time_at object.1
-  mode ← mode_at time.1
-  ended ← end_at mode.1
-  Ok (Perform who (Call.Wait (WaitCall.Swap signal.0 object.0 time.0 mode.0)))
-
--- a call that needs no more words
-abbrev pub bare_at : ℕ → Call → List (List ℕ) → Result Statement ScriptFault
-bare_at who call words = end_at words >>= λ ended. Ok (Perform who call)
-
--- the line of each keyword
+-- the line of a keyword
 unfoldable pub call_at : Scope → ℕ → Keyword → List (List ℕ) → Result Statement ScriptFault
-call_at scope who Keyword.Event words = event_at scope who words
-call_at scope who Keyword.Semaphore words = semaphore_at scope who words
-call_at scope who Keyword.Mutex words = mutex_at scope who words
-call_at scope who Keyword.Timer words = timer_at scope who words
-call_at scope who Keyword.Set words = act_on scope who (λ object. Act.SetEvent object) words
-call_at scope who Keyword.Reset words = act_on scope who (λ object. Act.ResetEvent object) words
-call_at scope who Keyword.Pulse words = act_on scope who (λ object. Act.PulseEvent object) words
-call_at scope who Keyword.Release words = release_at scope who words
-call_at scope who Keyword.Unlock words = act_on scope who (λ object. Act.ReleaseMutex object) words
-call_at scope who Keyword.Arm words = arm_at scope who words
-call_at scope who Keyword.Cancel words = act_on scope who (λ object. Act.CancelTimer object) words
-call_at scope who Keyword.Apc words = apc_at scope who words
-call_at scope who Keyword.Any words = objects_wait_at scope who false words
-call_at scope who Keyword.All words = objects_wait_at scope who true words
-call_at scope who Keyword.Sleep words = sleep_at who words
-call_at scope who Keyword.Swap words = swap_at scope who words
-call_at scope who Keyword.Next words = bare_at who (Call.Act Act.NextApc) words
-call_at scope who Keyword.Exit words = bare_at who Call.Exit words
+call_at scope who k words = places_at scope (places_of k) (λ values rest. after_at scope (after_of k) rest >>= λ after. Ok (called who k values after)) words
 
 -- after a caller
 unfoldable pub caller_at : Scope → ℕ → List (List ℕ) → Result Statement ScriptFault

@@ -1,14 +1,17 @@
 -- The text of a statement, written plainly: objects by their handles, and numbers without leading zeros.
-use Rattle.std.specs.Prelude.{◌≡◌, ℕ, ℤ, pos, negsuc, ◌<◌, ◌≤◌, ◌^◌, ◌==◌, Bool, true, List, [], ◌∷◌, ◌++◌, map, Option, Some, None, if◌then◌else◌, codes}
-use Rattle.std.specs.List.{All, join_with_byte}
+use Rattle.std.specs.Prelude.{◌≡◌, ℕ, ℤ, pos, negsuc, ◌<◌, ◌≤◌, ◌^◌, ◌==◌, Bool, true, false, List, [], ◌∷◌, ◌++◌, map, Option, Some, None, if◌then◌else◌, codes}
+use Rattle.std.specs.List.{join_with_byte}
 use Rattle.std.specs.Fmt.{decimal, signed_decimal}
 use Rattle.nt_status.specs.Status.{infinite}
-use Rattle.nt_status.specs.Flags.{has_flag, event_bits, event_manual_reset, event_initial_set, mutex_bits, mutex_initial_owner, timer_bits, timer_manual_reset}
+use Rattle.nt_status.specs.Flags.{has_flag, event_manual_reset, event_initial_set, mutex_initial_owner, timer_manual_reset}
 use Rattle.nt_core.specs.declared.call.Call.{Call}
 use Rattle.nt_core.specs.declared.call.Act.{Act}
 use Rattle.nt_core.specs.declared.call.WaitCall.{WaitCall}
 use Rattle.nt_lines.specs.Words.{is_name}
 use Rattle.nt_script.specs.Scope.{Scope, bound_in}
+use Rattle.nt_script.specs.Places.{Place, NamePlace, ObjectPlace, NumberPlace, SignedPlace, TimePlace, ModePlace, ValueOf}
+use Rattle.nt_script.specs.Grammar.{Line, Nothing, Moment, Called, said_by, Part, Caller, Word, Value, parts_of}
+use Rattle.nt_script.specs.declared.keyword.Keyword.{Keyword}
 use Rattle.nt_script.specs.declared.parser.Statement.{Statement}
 use Rattle.nt_script.specs.declared.parser.Statement.TheVariants.{Blank, Create, Perform, Tick}
 
@@ -22,58 +25,72 @@ caller_word who = codes "t" ++ decimal who
 abbrev pub time_word : ℕ → List ℕ
 time_word ms = if ms == infinite then codes "inf" else decimal ms
 
+-- whether the wait is alertable, as a word
 abbrev pub mode_word : Bool → List ℕ
 mode_word alertable = if alertable then codes "alertable" else codes "plain"
 
--- a word that stands only where it is given
-abbrev pub word_given : Bool → List ℕ → List (List ℕ)
-word_given given word = if given then word ∷ [] else []
+-- a value as it is written in its place
+abbrev pub value_word : (place : Place) → ValueOf place → List ℕ
+value_word NamePlace name = name
+value_word ObjectPlace handle = decimal handle
+value_word (NumberPlace least most) n = decimal n
+value_word (SignedPlace half) n = signed_decimal n
+value_word TimePlace ms = time_word ms
+value_word ModePlace alertable = mode_word alertable
 
--- a routine and its argument, where there is one
-abbrev pub routine_words : Option (ℕ × ℕ) → List (List ℕ)
-routine_words None = []
-routine_words (Some routine) = decimal routine.0 ∷ decimal routine.1 ∷ []
+-- the word of a part
+abbrev pub plain : Part → List ℕ
+plain (Caller who) = caller_word who
+plain (Word text) = text
+plain (Value place value) = value_word place value
 
--- ---- the words of a statement
+-- ---- the line that says a statement
 
--- a creation, after its caller
-abbrev pub creation_words : List ℕ → Act → List (List ℕ)
-creation_words name (Act.CreateEvent flags) = codes "event" ∷ name ∷ (word_given (has_flag flags event_manual_reset) (codes "manual") ++ word_given (has_flag flags event_initial_set) (codes "set"))
-creation_words name (Act.CreateSemaphore initial maximum) = codes "semaphore" ∷ name ∷ signed_decimal initial ∷ signed_decimal maximum ∷ []
-creation_words name (Act.CreateMutex flags) = codes "mutex" ∷ name ∷ word_given (has_flag flags mutex_initial_owner) (codes "owned")
-creation_words name (Act.CreateTimer flags) = codes "timer" ∷ name ∷ word_given (has_flag flags timer_manual_reset) (codes "manual")
-creation_words name _ = []
+-- the line that makes an object with this name
+abbrev pub creation_line : ℕ → List ℕ → Act → Option Line
+creation_line who name (Act.CreateEvent flags) = Some (Called who Keyword.Event (name, tt) (has_flag flags event_manual_reset, (has_flag flags event_initial_set, tt)))
+creation_line who name (Act.CreateSemaphore initial maximum) = Some (Called who Keyword.Semaphore (name, (initial, (maximum, tt))) tt)
+creation_line who name (Act.CreateMutex flags) = Some (Called who Keyword.Mutex (name, tt) (has_flag flags mutex_initial_owner, tt))
+creation_line who name (Act.CreateTimer flags) = Some (Called who Keyword.Timer (name, tt) (has_flag flags timer_manual_reset, tt))
+creation_line who name _ = None
 
--- another act, after its caller
-abbrev pub act_words : Act → List (List ℕ)
-act_words (Act.SetEvent handle) = codes "set" ∷ decimal handle ∷ []
-act_words (Act.ResetEvent handle) = codes "reset" ∷ decimal handle ∷ []
-act_words (Act.PulseEvent handle) = codes "pulse" ∷ decimal handle ∷ []
-act_words (Act.ReleaseSemaphore handle count) = codes "release" ∷ decimal handle ∷ signed_decimal count ∷ []
-act_words (Act.ReleaseMutex handle) = codes "unlock" ∷ decimal handle ∷ []
-act_words (Act.SetTimer handle due period routine) = codes "arm" ∷ decimal handle ∷ signed_decimal due ∷ signed_decimal period ∷ routine_words routine
-act_words (Act.CancelTimer handle) = codes "cancel" ∷ decimal handle ∷ []
-act_words (Act.QueueApc handle apc arg) = codes "apc" ∷ decimal handle ∷ decimal apc ∷ decimal arg ∷ []
-act_words Act.NextApc = codes "next" ∷ []
-act_words _ = []
+-- the line of another act
+abbrev pub act_line : ℕ → Act → Option Line
+act_line who (Act.SetEvent handle) = Some (Called who Keyword.Set (handle, tt) tt)
+act_line who (Act.ResetEvent handle) = Some (Called who Keyword.Reset (handle, tt) tt)
+act_line who (Act.PulseEvent handle) = Some (Called who Keyword.Pulse (handle, tt) tt)
+act_line who (Act.ReleaseSemaphore handle count) = Some (Called who Keyword.Release (handle, (count, tt)) tt)
+act_line who (Act.ReleaseMutex handle) = Some (Called who Keyword.Unlock (handle, tt) tt)
+act_line who (Act.SetTimer handle due period routine) = Some (Called who Keyword.Arm (handle, (due, (period, tt))) routine)
+act_line who (Act.CancelTimer handle) = Some (Called who Keyword.Cancel (handle, tt) tt)
+act_line who (Act.QueueApc handle routine arg) = Some (Called who Keyword.Apc (handle, (routine, (arg, tt))) tt)
+act_line who Act.NextApc = Some (Called who Keyword.Next tt tt)
+act_line who _ = None
 
--- a waiting call, after its caller
-abbrev pub wait_words : WaitCall → List (List ℕ)
-wait_words (WaitCall.Objects all alertable ms handles) = (if all then codes "all" else codes "any") ∷ time_word ms ∷ mode_word alertable ∷ map decimal handles
-wait_words (WaitCall.Sleep ms alertable) = codes "sleep" ∷ time_word ms ∷ mode_word alertable ∷ []
-wait_words (WaitCall.Swap signal handle ms alertable) = codes "swap" ∷ decimal signal ∷ decimal handle ∷ time_word ms ∷ mode_word alertable ∷ []
+-- the line of a waiting call
+abbrev pub wait_line : ℕ → WaitCall → Line
+wait_line who (WaitCall.Objects false alertable ms handles) = Called who Keyword.Any (ms, (alertable, tt)) handles
+wait_line who (WaitCall.Objects true alertable ms handles) = Called who Keyword.All (ms, (alertable, tt)) handles
+wait_line who (WaitCall.Sleep ms alertable) = Called who Keyword.Sleep (ms, (alertable, tt)) tt
+wait_line who (WaitCall.Swap signal handle ms alertable) = Called who Keyword.Swap (signal, (handle, (ms, (alertable, tt)))) tt
 
-abbrev pub call_words : Call → List (List ℕ)
-call_words (Call.Act act) = act_words act
-call_words (Call.Wait wait) = wait_words wait
-call_words Call.Exit = codes "exit" ∷ []
+-- the line of a statement, if it has one
+abbrev pub line_of : Statement → Option Line
+line_of Blank = Some Nothing
+line_of (Tick moment) = Some (Moment moment)
+line_of (Create who name act) = creation_line who name act
+line_of (Perform who (Call.Act act)) = act_line who act
+line_of (Perform who (Call.Wait wait)) = Some (wait_line who wait)
+line_of (Perform who Call.Exit) = Some (Called who Keyword.Exit tt tt)
+
+-- the words of a line
+abbrev pub line_words : Option Line → List (List ℕ)
+line_words None = []
+line_words (Some line) = map plain (parts_of line)
 
 -- the words of a statement
 abbrev pub spelling : Statement → List (List ℕ)
-spelling Blank = []
-spelling (Tick moment) = codes "tick" ∷ decimal moment ∷ []
-spelling (Create who name act) = caller_word who ∷ creation_words name act
-spelling (Perform who call) = caller_word who ∷ call_words call
+spelling statement = line_words (line_of statement)
 
 -- a statement's own text: its words with a space between any two
 abbrev pub statement_text : Statement → List ℕ
@@ -81,6 +98,7 @@ statement_text statement = join_with_byte 32 (spelling statement)
 
 -- ---- what a line can say
 
+-- a handle's number
 abbrev pub IsHandle : ℕ → Type 0
 IsHandle handle = handle < 2 ^ 32
 
@@ -88,57 +106,35 @@ IsHandle handle = handle < 2 ^ 32
 abbrev pub IsTime : ℕ → Type 0
 IsTime ms = ms < 2 ^ 32
 
--- a routine, or its argument
-abbrev pub IsValue : ℕ → Type 0
-IsValue n = n < 2 ^ 64
-
-abbrev pub IsRoutine : Option (ℕ × ℕ) → Type 0
-IsRoutine None = Unit {0}
-IsRoutine (Some routine) = IsValue routine.0 × IsValue routine.1
-
 -- a signed number, of which so many are negative and as many are not
 abbrev pub IsSigned : ℕ → ℤ → Type 0
 IsSigned half (pos n) = n < half
 IsSigned half (negsuc n) = n < half
 
--- the creations of the grammar: known flags, and numbers of 32 bits
-abbrev pub CanCreate : Act → Type 0
-CanCreate (Act.CreateEvent flags) = flags ≤ event_bits
-CanCreate (Act.CreateSemaphore initial maximum) = IsSigned (2 ^ 31) initial × IsSigned (2 ^ 31) maximum
-CanCreate (Act.CreateMutex flags) = flags ≤ mutex_bits
-CanCreate (Act.CreateTimer flags) = flags ≤ timer_bits
-CanCreate _ = ⊥
-
--- the other acts
-abbrev pub CanAct : Act → Type 0
-CanAct (Act.SetEvent handle) = IsHandle handle
-CanAct (Act.ResetEvent handle) = IsHandle handle
-CanAct (Act.PulseEvent handle) = IsHandle handle
-CanAct (Act.ReleaseSemaphore handle count) = IsHandle handle × IsSigned (2 ^ 31) count
-CanAct (Act.ReleaseMutex handle) = IsHandle handle
-CanAct (Act.SetTimer handle due period routine) = IsHandle handle × IsSigned (2 ^ 63) due × IsSigned (2 ^ 31) period × IsRoutine routine
-CanAct (Act.CancelTimer handle) = IsHandle handle
-CanAct (Act.QueueApc handle apc arg) = IsHandle handle × IsValue apc × IsValue arg
-CanAct Act.NextApc = Unit {0}
-CanAct _ = ⊥
-
-abbrev pub CanWait : WaitCall → Type 0
-CanWait (WaitCall.Objects all alertable ms handles) = All IsHandle handles × IsTime ms
-CanWait (WaitCall.Sleep ms alertable) = IsTime ms
-CanWait (WaitCall.Swap signal handle ms alertable) = IsHandle signal × IsHandle handle × IsTime ms
-
-abbrev pub CanCall : Call → Type 0
-CanCall (Call.Act act) = CanAct act
-CanCall (Call.Wait wait) = CanWait wait
-CanCall Call.Exit = Unit {0}
-
 -- a lawful name that stands for nothing yet
 abbrev pub IsFreeName : Scope → List ℕ → Type 0
 IsFreeName scope name = (is_name name ≡ true) × (bound_in scope.names name ≡ None)
 
--- The statement has lawful names and numbers.
+-- a value that a word can have in a place
+abbrev pub CanStand : Scope → (place : Place) → ValueOf place → Type 0
+CanStand scope NamePlace name = IsFreeName scope name
+CanStand scope ObjectPlace handle = IsHandle handle
+CanStand scope (NumberPlace least most) n = (least ≤ n) × (n ≤ most)
+CanStand scope (SignedPlace half) n = IsSigned half n
+CanStand scope TimePlace ms = IsTime ms
+CanStand scope ModePlace alertable = Unit {0}
+
+-- a part that a word can say
+abbrev pub CanSay : Scope → Part → Type 0
+CanSay scope (Caller who) = who ≤ 999999999
+CanSay scope (Word text) = Unit {0}
+CanSay scope (Value place value) = CanStand scope place value
+
+-- each of these parts can be said
+abbrev pub CanSayAll : Scope → List Part → Type 0
+CanSayAll scope [] = Unit {0}
+CanSayAll scope (part ∷ parts) = CanSay scope part × CanSayAll scope parts
+
+-- The statement is that of a line with lawful names and numbers.
 abbrev pub CanBeSaid : Scope → Statement → Type 0
-CanBeSaid scope Blank = Unit {0}
-CanBeSaid scope (Tick moment) = moment ≤ 2 ^ 62
-CanBeSaid scope (Create who name act) = (who ≤ 999999999) × IsFreeName scope name × CanCreate act
-CanBeSaid scope (Perform who call) = (who ≤ 999999999) × CanCall call
+CanBeSaid scope statement = (line : Line) × (said_by line ≡ statement) × CanSayAll scope (parts_of line)

@@ -1,6 +1,7 @@
 //! Scripts to transcripts.
 #![tactic(auto)]
 
+mod calls;
 mod fault;
 mod keyword;
 mod laws;

@@ -2,8 +2,8 @@
 
 ghost use Rattle.std.specs.Prelude.{◌≡◌, ◌≤◌, ◌<◌, ◌^◌, ◌-◌, ◌≤ℤ◌, ◌<ℤ◌, pos, neg_ℤ, drop, IfOk, IfSome, None};
 ghost use Rattle.nt_script.specs.Scope.{bound_in};
-ghost use Rattle.nt_script.specs.Grammar.{number_in, is_negative, signed_in, named_object, object_in, time_in, begins_with_digit};
-ghost use Rattle.nt_script.specs.Reading.{Takes, number_at, signed_at, routine_at, free_name_at, object_at, time_at, mode_at};
+ghost use Rattle.nt_script.specs.Places.{number_in, is_negative, signed_in, named_object, object_in, time_in, begins_with_digit, blame, ObjectPlace};
+ghost use Rattle.nt_script.specs.Reading.{Takes, or_fault, number_at, signed_at, routine_at, free_name_at, object_at, time_at, mode_at};
 
 use crate::fault::ScriptFault;
 use crate::scope::Bindings;
@@ -42,16 +42,17 @@ impl<'a> Words<'a> {
         signed64_in(word).ok_or(ScriptFault::BadNumber)
     }
 
-    /// A routine and its argument, both or none.
+    /// A routine and its argument, both or none, and nothing after them.
     #[tactic(auto, unfolding(crate::specs::Reading::routine_at))]
-    pub(crate) fn routine(&mut self) -> Result<Option<(u64, u64)>, ScriptFault>
-        ensures { Takes (λ routine. routine) result self.new (routine_at self.old) }
+    pub(crate) fn routine(mut self) -> Result<Option<(u64, u64)>, ScriptFault>
+        ensures { result ≡ routine_at self.entry }
     {
         if self.is_empty() {
             return Ok(None);
         }
         let routine = self.number(0, u64::MAX)?;
         let arg = self.number(0, u64::MAX)?;
+        self.end()?;
         Ok(Some((routine, arg)))
     }
 
@@ -64,7 +65,7 @@ impl<'a> Words<'a> {
         let Some(name) = name_of(word) else {
             return Err(ScriptFault::BadName);
         };
-        if bindings.get(name).is_some() {
+        if bindings.get(word).is_some() {
             return Err(ScriptFault::NameTaken);
         }
         Ok(name)
@@ -75,11 +76,7 @@ impl<'a> Words<'a> {
         ensures { Takes (λ handle. handle) result self.new (object_at bindings.now.scope self.old) }
     {
         let word = self.next()?;
-        match object_in(bindings, word) {
-            Some(handle) => Ok(handle),
-            None if are_digits(word) => Err(ScriptFault::BadNumber),
-            None => Err(ScriptFault::UnknownName),
-        }
+        object_of(bindings, word)
     }
 
     /// A timeout in milliseconds, or `inf`.
@@ -136,7 +133,7 @@ fn is_negative(word: &[u8]) -> bool
 }
 
 /// The word without its first byte.
-fn behind_sign(word: &[u8]) -> &[u8]
+fn after_sign(word: &[u8]) -> &[u8]
     ensures { result.now ≡ drop 1 word.now }
 {
     match word {
@@ -149,7 +146,7 @@ fn signed32_in(word: &[u8]) -> Option<i32>
     ensures { result ≡ signed_in (2 ^ 31) word.now }
 {
     if is_negative(word) {
-        let n = number_in(behind_sign(word), 0, 1 << 31)?;
+        let n = number_in(after_sign(word), 0, 1 << 31)?;
         Some(negative(n) as i32)
     } else {
         let n = number_in(word, 0, i32::MAX as u64)?;
@@ -161,11 +158,22 @@ fn signed64_in(word: &[u8]) -> Option<i64>
     ensures { result ≡ signed_in (2 ^ 63) word.now }
 {
     if is_negative(word) {
-        let n = number_in(behind_sign(word), 0, 1 << 63)?;
+        let n = number_in(after_sign(word), 0, 1 << 63)?;
         Some(negative(n))
     } else {
         let n = number_in(word, 0, i64::MAX as u64)?;
         Some(n as i64)
+    }
+}
+
+/// The handle that a word means, or the word's fault.
+pub(crate) fn object_of(bindings: &Bindings, word: &[u8]) -> Result<Handle, ScriptFault>
+    ensures { result ≡ or_fault (object_in bindings.now.scope word.now) (blame ObjectPlace word.now) }
+{
+    match object_in(bindings, word) {
+        Some(handle) => Ok(handle),
+        None if are_digits(word) => Err(ScriptFault::BadNumber),
+        None => Err(ScriptFault::UnknownName),
     }
 }
 
@@ -187,7 +195,7 @@ fn named_object(bindings: &Bindings, word: &[u8]) -> Option<Handle>
     if let Some(thread) = caller_of(word) {
         return (thread < bindings.threads()).then_some(Handle::new(thread));
     }
-    bindings.get(name_of(word)?)
+    bindings.get(word)
 }
 
 fn time_in(word: &[u8]) -> Option<u32>

@@ -1,6 +1,6 @@
 //! What a script has bound.
 
-ghost use Rattle.std.specs.Prelude.{◌≡◌, ◌++◌, ◌∷◌, ◌<◌, [], None, OnOk, string_bytes};
+ghost use Rattle.std.specs.Prelude.{◌≡◌, ◌++◌, ◌∷◌, ◌<◌, [], None, OnOk};
 ghost use Rattle.nt_script.specs.Scope.{bound_in};
 
 use indexmap::IndexMap;
@@ -12,17 +12,17 @@ use std::marker::Model;
 #[derive(Drop)]
 pub(crate) struct Bindings {
     threads: u32,
-    names: IndexMap<String, Handle>,
+    names: IndexMap<Vec<u8>, Handle>,
 }
 
 impl Model for Bindings {
-    ghost use Rattle.std.specs.Prelude.{map, string_bytes};
+    ghost use Rattle.std.specs.Prelude.{map};
     ghost use Rattle.indexmap.specs.IndexMap.{spare};
     ghost use Rattle.nt_script.specs.Scope.{Bound};
 
     ghost Value = { Bound };
 
-    ghost view = { λ b. record { scope = record { threads = b.threads; names = map (λ entry. (string_bytes entry.0, entry.1)) b.names.entries }; room = spare b.names } };
+    ghost view = { λ b. record { scope = record { threads = b.threads; names = map (λ entry. (entry.0.items, entry.1)) b.names.entries }; room = spare b.names } };
 }
 
 impl Bindings {
@@ -43,7 +43,7 @@ impl Bindings {
         self.threads
     }
 
-    pub(crate) fn get(&self, name: &str) -> Option<Handle>
+    pub(crate) fn get(&self, name: &[u8]) -> Option<Handle>
         ensures { result ≡ bound_in self.now.scope.names name.now }
     {
         self.names.get(name).copied()
@@ -58,10 +58,10 @@ impl Bindings {
     }
 
     /// Binds a name that is free, where there is room for it.
-    pub(crate) fn bind(&mut self, name: String, handle: Handle)
+    pub(crate) fn bind(&mut self, name: Vec<u8>, handle: Handle)
         requires room { 0 < self.old.room }
-        requires free { bound_in self.old.scope.names (string_bytes name) ≡ None }
-        ensures { self.new.scope ≡ record self.old.scope { names = self.old.scope.names ++ (string_bytes name, handle) ∷ [] } }
+        requires free { bound_in self.old.scope.names name.items ≡ None }
+        ensures { self.new.scope ≡ record self.old.scope { names = self.old.scope.names ++ (name.items, handle) ∷ [] } }
     {
         let _ = self.names.insert(name, handle);
     }

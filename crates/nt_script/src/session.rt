@@ -99,8 +99,7 @@ impl Session {
     /// Parses a line after `threads`.
     fn parse(&self, alloc: Global, line: &[u8]) -> Result<Statement, LineFault>
         requires { length line.now ≤ 4096 }
-        ensures exact { Gives (λ statement. statement) result (statement_of self.now.bindings.scope line.now) }
-        ensures free { IfOk result (NamesFree self.now.bindings.scope) }
+        ensures { Gives (λ statement. statement) result (statement_of self.now.bindings.scope line.now) }
     {
         let words = Words::new(plain_text(line)?);
         parse_statement(alloc, &self.bindings, words)
@@ -195,7 +194,7 @@ impl Session {
     {
         let answer = self.perform(number, who, &Call::Act(act), out);
         if let Some(handle) = handle_of(&answer) {
-            self.bindings.bind(name.into_string(), handle);
+            self.bindings.bind(name.into_bytes(), handle);
         }
         answer
     }

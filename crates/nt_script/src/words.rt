@@ -36,8 +36,8 @@ impl<'a> Words<'a> {
     {
         let left: &'a [u8] = self.left;
         match first_word(left) {
-            Some((word, behind)) => {
-                self.left = behind;
+            Some((word, left)) => {
+                self.left = left;
                 Ok(word)
             }
             None => Err(ScriptFault::MissingWord),

@@ -1,6 +1,7 @@
 //! What a script's run says, and how it ends.
 
 mod plans;
+mod threads;
 mod words;
 
 use crate::devices::{Given, Room, Taken};
@@ -60,13 +61,31 @@ pub fn run_over(rt: &impl Host, given: Given<'_>, room: Room) -> Ran {
 }
 
 /// One event with two threads that wait for it in turn.
-const HAND_OVER: &str =
-    "threads 3\nt0 event e\nt0 any inf plain e\nt1 any inf plain e\nt2 set e\nt2 set e\n";
+const HAND_OVER: &str = "\
+threads 3
+t0 event e
+t0 any inf plain e
+t1 any inf plain e
+t2 set e
+t2 set e
+";
 
-const HAND_OVER_TRANSCRIPT: &str =
-    "2: handle 3\n3: pending\n4: pending\n5: ok\n5: t0 status 0x00000000\n6: ok\n6: t1 status 0x00000000\nend: pending none\n";
+const HAND_OVER_TRANSCRIPT: &str = "\
+2: handle 3
+3: pending
+4: pending
+5: ok
+5: t0 status 0x00000000
+6: ok
+6: t1 status 0x00000000
+end: pending none
+";
 
-const FAULTY: &str = "threads 1\nt0 event e\nt0 sett e\n";
+const FAULTY: &str = "\
+threads 1
+t0 event e
+t0 sett e
+";
 
 /// What a run writes to standard output and to standard error, and its exit status.
 #[derive(Clone, Copy)]

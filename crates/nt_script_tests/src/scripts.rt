@@ -8,7 +8,11 @@ use crate::devices::{Given, Room, Taken};
 use crate::refused::{Host, before_refusal, is_refusing, tell_refused};
 use crate::scripts::forms::FORMS;
 use crate::scripts::readings::READINGS;
-use crate::scripts::worked::{FAULTS, TRANSCRIPTS, Worked};
+use crate::scripts::worked::Worked;
+use crate::scripts::worked::exits::EXITS;
+use crate::scripts::worked::faults::FAULTS;
+use crate::scripts::worked::objects::OBJECTS;
+use crate::scripts::worked::times::TIMES;
 use nt_script::{Counted, RunFault, ScriptFault, Summary, run};
 use std::alloc::{AllocError, Global};
 use std::test::Fail;
@@ -78,8 +82,22 @@ fn check(rt: &impl Host, worked: &Worked) {
 }
 
 #[test]
-fn worked_scripts_have_their_transcripts(rt: HostRuntime) {
-    for worked in TRANSCRIPTS {
+fn scripts_of_objects_have_their_transcripts(rt: HostRuntime) {
+    for worked in OBJECTS {
+        check(&rt, worked);
+    }
+}
+
+#[test]
+fn scripts_of_time_have_their_transcripts(rt: HostRuntime) {
+    for worked in TIMES {
+        check(&rt, worked);
+    }
+}
+
+#[test]
+fn scripts_of_threads_that_end_have_their_transcripts(rt: HostRuntime) {
+    for worked in EXITS {
         check(&rt, worked);
     }
 }
@@ -106,8 +124,14 @@ fn the_first_fault_ends_a_run_without_an_end_line(rt: HostRuntime) {
 }
 
 /// One event with two threads that wait for it in turn.
-const HAND_OVER: &[u8] =
-    b"threads 3\nt0 event e\nt0 any inf plain e\nt1 any inf plain e\nt2 set e\nt2 set e\n";
+const HAND_OVER: &[u8] = b"\
+threads 3
+t0 event e
+t0 any inf plain e
+t1 any inf plain e
+t2 set e
+t2 set e
+";
 
 #[test]
 fn a_summary_counts_the_run(rt: HostRuntime) {
@@ -146,8 +170,21 @@ fn line_at(script: &[u8], place: usize) -> u64 {
 }
 
 /// A thread whose sleep an APC ends, and which takes its APCs.
-const APCS: &[u8] =
-    b"threads 2\nt0 event e\nt0 any inf plain e\nt1 apc t0 7 1\nt1 apc t0 8 2\nt1 set e\nt0 any inf alertable e\nt0 next\nt0 next\nt0 next\nt0 sleep inf alertable\nt1 apc t0 9 3\nt0 next\n";
+const APCS: &[u8] = b"\
+threads 2
+t0 event e
+t0 any inf plain e
+t1 apc t0 7 1
+t1 apc t0 8 2
+t1 set e
+t0 any inf alertable e
+t0 next
+t0 next
+t0 next
+t0 sleep inf alertable
+t1 apc t0 9 3
+t0 next
+";
 
 /// Whether a place is looked at: each. Where growths are refused only each 50th, since each growth is then one more run, and
 /// from 49 on: in lines that ask for no memory, since a refusal shows nowhere where the writer takes no more.

@@ -1,3 +1,4 @@
+pub mod Access
 pub mod Flags
 pub mod Moment
 pub mod Refusal

@@ -1,6 +1,7 @@
-//! Statuses, refusals, creation flags, and the numbers of threads, handles and moments.
+//! Statuses, refusals, creation flags, access rights, and the numbers of threads, handles and moments.
 #![tactic(auto)]
 
+mod access;
 mod event_flags;
 mod handles;
 mod moment;
@@ -11,6 +12,7 @@ mod status;
 mod thread_id;
 mod timer_flags;
 
+pub use access::Access;
 pub use event_flags::EventFlags;
 pub use handles::{Handle, Handles};
 pub use moment::Moment;

@@ -8,6 +8,8 @@ mod apcs;
 #[cfg(test)]
 mod devices;
 #[cfg(test)]
+mod handles;
+#[cfg(test)]
 mod lines;
 #[cfg(test)]
 mod objects;

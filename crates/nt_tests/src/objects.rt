@@ -1,4 +1,4 @@
-//! The five kinds of object, each from its creation on.
+//! The five kinds of object, each from its creation on, and what is gone.
 
 use crate::refused::Host;
 use nt_objects::{Armed, Object, Released, Routine, Taken};
@@ -25,6 +25,7 @@ enum Step {
     /// The object is a thread, which ends.
     End,
     HasEnded(bool),
+    IsGone(bool),
     /// A due moment, a period in ms, and a routine.
     Arm(u64, u32, Option<Sent>),
     Cancel,
@@ -76,6 +77,7 @@ fn take_step(object: &mut Object, step: Step) -> bool {
             true
         }
         Step::HasEnded(wanted) => object.has_ended() == wanted,
+        Step::IsGone(wanted) => object.is_gone() == wanted,
         Step::Signaled(thread, wanted) => object.signaled_for(ThreadId::new(thread)) == wanted,
         Step::Take(thread, wanted) => takes(object, ThreadId::new(thread), wanted),
         of_mutex => take_mutex_step(object, of_mutex),
@@ -257,8 +259,26 @@ fn a_thread_is_signaled_once_it_has_ended(rt: HostRuntime) {
         Step::HasEnded(true),
         Step::Take(0, Taken::Plain),
         Step::Signaled(0, true),
+        Step::IsGone(false),
     ];
     play(&rt, Object::new_thread(), &steps);
+}
+
+#[test]
+fn what_is_gone_is_signaled_for_nobody(rt: HostRuntime) {
+    let steps = [
+        Step::IsGone(true),
+        Step::Signaled(0, false),
+        Step::Signaled(1, false),
+        Step::HasEnded(true),
+        Step::Owner(None),
+        Step::Due(None),
+        Step::Setter(None),
+        Step::IsDue(60000, false),
+        Step::StopIfSetBy(0),
+        Step::IsGone(true),
+    ];
+    play(&rt, Object::Gone, &steps);
 }
 
 #[test]

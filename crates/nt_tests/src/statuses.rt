@@ -2,7 +2,7 @@
 
 use crate::refused::{Host, tell_refused};
 use nt_status::{
-    EventFlags, Handle, Handles, Moment, MutexFlags, Refusal, Status, ThreadId, TimerFlags,
+    Access, EventFlags, Handle, Handles, Moment, MutexFlags, Refusal, Status, ThreadId, TimerFlags,
 };
 use std::alloc::AllocError;
 use std::test::Fail;
@@ -94,11 +94,23 @@ fn timer_flag_joins_itself() -> bool {
     (flag | flag).bits() == 1 && flag.contains(flag)
 }
 
+fn rights_join() -> bool {
+    let all = Access::SYNCHRONIZE | Access::MODIFY_STATE | Access::SET_CONTEXT;
+    let known = [0x00100002, 0x00100010, 0x00100012, 0].iter().all(
+        |bits| matches!(Access::from_bits(*bits), Some(some) if all.contains(some)),
+    );
+    let unknown = [1, 4, 0x00200000, 0xFFFFFFFF]
+        .iter()
+        .all(|bits| Access::from_bits(*bits).is_none());
+    all.bits() == 0x00100012 && known && unknown && !Access::NONE.contains(Access::SYNCHRONIZE)
+}
+
 #[test]
 fn flags_join(rt: HostRuntime) {
     assert!(rt; event_flags_join());
     assert!(rt; mutex_flag_joins_itself());
     assert!(rt; timer_flag_joins_itself());
+    assert!(rt; rights_join());
 }
 
 #[test]

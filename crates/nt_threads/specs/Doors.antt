@@ -5,6 +5,9 @@ use Rattle.nt_core.specs.declared.call.Reply.{Reply}
 use Rattle.nt_status.specs.declared.refusal.Refusal.{Refusal}
 use Rattle.nt_mail.specs.declared.knowledge.Asked.{Asked}
 use Rattle.nt_mail.specs.declared.knowledge.Made.{Made}
+use Rattle.nt_front.specs.declared.hold.Held.{Held}
+use Rattle.nt_front.specs.declared.carried.Carried.{Carried}
+use Rattle.nt_front.specs.Held.{knowledge_of}
 
 -- the call, where it was not refused
 abbrev pub accepted_call : Asked → Result Reply Refusal → List Call
@@ -17,7 +20,11 @@ abbrev pub accepted_calls : List Made → List Call
 accepted_calls [] = []
 accepted_calls (m ∷ ms) = accepted_call m.asked m.result ++ accepted_calls ms
 
--- the calls that a hold made, where there is one; `made` tells what it knows
-abbrev pub made_through : {X : Type 0} → (X → List Made) → Option X → List Call
-made_through made None = []
-made_through made (Some hold) = accepted_calls (made hold)
+-- the calls of a hold's thread that were not refused
+abbrev pub calls_of_hold : {X : Type 0} → Held X → List Call
+calls_of_hold hold = accepted_calls (knowledge_of hold).made
+
+-- the calls of the thread with this hold, where there is one
+abbrev pub made_through : {X : Type 0} → Option (Carried (Held X)) → List Call
+made_through None = []
+made_through (Some carried) = calls_of_hold carried.hold

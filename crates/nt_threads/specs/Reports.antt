@@ -1,6 +1,11 @@
 -- What the program prints.
-use Rattle.std.specs.Prelude.{ℕ, List, [], ◌∷◌, ◌++◌, codes}
+use Rattle.std.specs.Prelude.{◌≡◌, ℕ, ◌+◌, List, [], ◌∷◌, ◌++◌, codes}
 use Rattle.std.specs.Fmt.{decimal}
+use Rattle.nt_core.specs.Dispatcher.{Dispatcher, state}
+use Rattle.nt_core.specs.Lawful.{IsLawful}
+use Rattle.nt_mail.specs.declared.entry.Entry.{Entry}
+use Rattle.nt_front.specs.Runs.{IsRun}
+use Rattle.nt_threads.specs.Counts.{abandoned, acquired, posted, released}
 use Rattle.nt_threads.specs.declared.counts.Counts.{Counts}
 
 -- a name, which ends in a space, a number, and a line feed
@@ -14,3 +19,26 @@ lines_of workers rounds counts =
     ++ line_of (codes "released ") counts.released)
     ++ line_of (codes "semaphore ") counts.posted)
     ++ line_of (codes "abandoned ") counts.abandoned
+
+-- the entries are those of a run, from its opening on, that led to a lawful dispatcher
+pub record ComesOfRun (entries : List Entry) : Type 0 where
+  pub threads : ℕ
+  pub core : Dispatcher
+  pub lawful : IsLawful core
+  pub run : IsRun threads entries (state core)
+
+-- what was counted is what the entries tell, of so many workers; the first object that is created is the mutex, and its handle comes next after
+-- those of the threads
+pub record Tells (workers : ℕ) (entries : List Entry) (counts : Counts) : Type 0 where
+  pub acquired_is : counts.acquired ≡ acquired (workers + 1) (workers + 1) entries
+  pub released_is : counts.released ≡ released entries
+  pub posted_is : counts.posted ≡ posted entries
+  pub abandoned_is : counts.abandoned ≡ abandoned entries
+
+-- the lines tell of the workers and rounds, and of the entries of a run
+pub record IsReport (workers rounds : ℕ) (lines : List ℕ) : Type 0 where
+  pub entries : List Entry
+  pub counts : Counts
+  pub comes : ComesOfRun entries
+  pub tells : Tells workers entries counts
+  pub are : lines ≡ lines_of workers rounds counts

@@ -4,10 +4,14 @@
 mod counts;
 mod door;
 mod driving;
+mod front_door;
 mod plan;
 mod report;
+mod running;
 
 pub use counts::{Counts, counts_of};
 pub use door::Door;
 pub use driving::{Driven, drive};
+pub use front_door::FrontDoor;
 pub use plan::Objects;
+pub use running::report_of;

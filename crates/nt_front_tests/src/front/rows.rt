@@ -1,9 +1,12 @@
 //! Short histories, entry by entry.
+use crate::front::crew::Seen;
 use crate::front::jobs::Job;
 use crate::front::runs::{Roll, man_all};
 use crate::front::steps::Creation;
+use crate::front::told::Entries;
 use crate::refused::is_refusing;
 use nt_front::prepare;
+use std::alloc::Global;
 use std::test::Fail;
 
 /// The event of two threads.
@@ -21,19 +24,23 @@ const fn hand_over(room: usize, jobs: &'static [Job]) -> Roll {
     }
 }
 
-#[test]
-fn a_front_has_threads_and_room(rt: HostRuntime) -> Result<(), Fail> {
-    for (threads, room) in [(0, 4), (257, 4), (2, 0), (2, 1_048_577)] {
-        match prepare(rt.alloc(), threads, room) {
-            Err(refusal) => assert_eq!(rt;
-                refusal.number(),
-                87,
-                "{threads} threads, room for {room}"
-            ),
-            Ok(_) => return Err(Fail::from("prepared")),
-        }
+/// The number with which a front is refused, or none.
+fn refusal_of(alloc: Global, threads: u32, room: usize) -> Option<u32> {
+    match prepare(alloc, threads, room) {
+        Err(refusal) => Some(refusal.number()),
+        Ok(_) => None,
     }
-    Ok(())
+}
+
+#[test]
+fn a_front_has_threads_and_room(rt: HostRuntime) {
+    for (threads, room) in [(0, 4), (257, 4), (2, 0), (2, 1_048_577)] {
+        assert_eq!(rt;
+            refusal_of(rt.alloc(), threads, room),
+            Some(87),
+            "{threads} threads, room for {room}"
+        );
+    }
 }
 
 /// There is room for the creation and the wait, but not for a set with the grant that it may bring.
@@ -53,13 +60,18 @@ fn room_is_kept_for_each_pending_wait(rt: HostRuntime) -> Result<(), Fail> {
         return Ok(());
     }
     let seen = man_all(&rt, rt.alloc(), hand_over(3, JOBS), 0)?;
-    assert_eq!(rt; seen.entries, 2);
     // both sets found no room, and the wait still pends
-    assert_eq!(rt; (seen.lost, seen.sleeping), (2, 1));
-    assert_eq!(rt; (seen.calls.count, seen.calls.sum), (2, 3));
     assert_eq!(rt;
-        (seen.grants.count, seen.differ, seen.difference),
-        (0, 0, 0)
+        seen,
+        Seen {
+            entries: 2,
+            calls: Entries { count: 2, sum: 3 },
+            grants: Entries { count: 0, sum: 0 },
+            differ: 0,
+            sleeping: 1,
+            lost: 2,
+            difference: 0,
+        }
     );
     Ok(())
 }
@@ -81,10 +93,17 @@ fn a_poll_finds_the_grant(rt: HostRuntime) -> Result<(), Fail> {
         return Ok(());
     }
     let seen = man_all(&rt, rt.alloc(), hand_over(4, JOBS), 0)?;
-    assert_eq!(rt; seen.entries, 4);
-    assert_eq!(rt; (seen.lost, seen.sleeping), (1, 0));
-    assert_eq!(rt; (seen.calls.count, seen.calls.sum), (3, 6));
-    assert_eq!(rt; (seen.grants.count, seen.grants.sum), (1, 4));
-    assert_eq!(rt; (seen.differ, seen.difference), (0, 0));
+    assert_eq!(rt;
+        seen,
+        Seen {
+            entries: 4,
+            calls: Entries { count: 3, sum: 6 },
+            grants: Entries { count: 1, sum: 4 },
+            differ: 0,
+            sleeping: 0,
+            lost: 1,
+            difference: 0,
+        }
+    );
     Ok(())
 }

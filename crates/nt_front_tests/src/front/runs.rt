@@ -3,6 +3,7 @@
 use crate::front::crew::{Crew, Seen, man};
 use crate::front::jobs::{Job, Manner};
 use crate::front::steps::{CREATIONS, Creation, ROAMERS};
+use crate::front::told::Entries;
 use crate::refused::is_refusing;
 use nt_front::prepare;
 use nt_status::Refusal;
@@ -129,10 +130,8 @@ pub fn man_all<R: Threads + Wait + Clock + Sync>(
 
 /// Nothing was lost, nobody is left asleep, and history and threads say the same.
 pub fn assert_whole(rt: &impl Abort, seen: &Seen) {
-    assert_eq!(rt; seen.lost, 0, "{seen:?}");
-    assert_eq!(rt; seen.sleeping, 0, "{seen:?}");
-    assert_eq!(rt; seen.differ, 0, "{seen:?}");
-    assert_eq!(rt; seen.difference, 0, "{seen:?}");
+    let wrong = (seen.lost, seen.sleeping, seen.differ, seen.difference);
+    assert_eq!(rt; wrong, (0, 0, 0, 0), "{seen:?}");
 }
 
 #[test]
@@ -185,9 +184,18 @@ fn hold_until_answered(rt: HostRuntime) -> Result<(), Fail> {
         return Ok(());
     }
     let seen = man_all(&rt, rt.alloc(), HELD, 0)?;
-    assert_whole(&rt, &seen);
     // the creation, the wait, the set, and the grant under the number after it
-    assert_eq!(rt; (seen.calls.count, seen.calls.sum), (3, 6));
-    assert_eq!(rt; (seen.grants.count, seen.grants.sum), (1, 4));
+    assert_eq!(rt;
+        seen,
+        Seen {
+            entries: 4,
+            calls: Entries { count: 3, sum: 6 },
+            grants: Entries { count: 1, sum: 4 },
+            differ: 0,
+            sleeping: 0,
+            lost: 0,
+            difference: 0,
+        }
+    );
     Ok(())
 }

@@ -6,7 +6,9 @@ use nt_commands::{Plan, PlanFault, carry_out, plan_of, run_file};
 use nt_devices::Counted;
 use std::alloc::{AllocError, Global};
 use std::rt::Files;
+use std::sync::Wait;
 use std::test::Fail;
+use std::thread::Threads;
 
 /// The words of a command line, the program's own name first.
 fn words_of(alloc: Global, words: &[&str]) -> Result<Vec<String>, AllocError> {
@@ -55,7 +57,7 @@ const PLANS: &[(&[&str], &str)] = &[
 fn runs_file(plan: &Result<Plan, PlanFault>, wanted: &str) -> bool {
     match plan {
         Ok(Plan::Script(file)) => file.as_str() == wanted,
-        Err(_) => false,
+        _ => false,
     }
 }
 
@@ -64,6 +66,33 @@ fn script_and_a_file_ask_for_a_run_of_it(rt: HostRuntime) -> Result<(), Fail> {
     for (words, wanted) in PLANS {
         let plan = plan_at_last(&rt, words)?;
         assert!(rt; runs_file(&plan, wanted), "{words:?}");
+    }
+    Ok(())
+}
+
+/// The words after the program's name, and the workers and rounds that they ask for.
+const COUNTS: &[(&[&str], u32, u32)] = &[
+    (&["threads", "2", "3"], 2, 3),
+    (&["threads", "1", "1"], 1, 1),
+    (&["threads", "64", "1000"], 64, 1000),
+    (&["threads", "0064", "0001"], 64, 1),
+    (&["threads", "--", "2", "3"], 2, 3),
+    (&["threads", "2", "--", "3"], 2, 3),
+    (&["threads", "2", "3", "--"], 2, 3),
+];
+
+fn runs_threads(plan: &Result<Plan, PlanFault>, wanted: (u32, u32)) -> bool {
+    match plan {
+        Ok(Plan::Threads { workers, rounds }) => (*workers, *rounds) == wanted,
+        _ => false,
+    }
+}
+
+#[test]
+fn threads_and_two_counts_ask_for_a_run_of_them(rt: HostRuntime) -> Result<(), Fail> {
+    for (words, workers, rounds) in COUNTS {
+        let plan = plan_at_last(&rt, words)?;
+        assert!(rt; runs_threads(&plan, (*workers, *rounds)), "{words:?}");
     }
     Ok(())
 }
@@ -90,7 +119,26 @@ const NO_SUBCOMMAND: &[&[&str]] = &[
     &["help"],
     &["scripts", "one.nts"],
     &["one.nts"],
-    &["threads", "2", "100"],
+    &["threads"],
+    &["threads", "0", "1"],
+    &["threads", "1", "0"],
+    &["threads", "1"],
+    &["threads", "1", "x"],
+    &["threads", "x", "1"],
+    &["threads", "", "1"],
+    &["threads", "65", "1"],
+    &["threads", "1", "1001"],
+    &["threads", "00001", "1"],
+    &["threads", "1", "00001"],
+    &["threads", "4294967297", "1"],
+    &["threads", "+1", "1"],
+    &["threads", "-1", "1"],
+    &["threads", "1", "2", "3"],
+    &["threads", "--", "1", "--", "1"],
+    &["threads", "--", "--", "1"],
+    &["threads", "1", "1", "--help"],
+    &["thread", "1", "1"],
+    &["--", "threads", "1", "1"],
 ];
 
 fn check_usage(rt: &impl Host, words: &[&str]) -> Result<(), Fail> {
@@ -170,7 +218,11 @@ fn a_file_that_can_not_be_run_is_told(rt: HostRuntime) {
 }
 
 /// Does what was planned. A refusal shows in what is said, but where `says_memory` that is said anyway.
-fn carry_once<R: Host + Files>(rt: &R, plan: Result<Plan, PlanFault>, says_memory: bool) -> Ended {
+fn carry_once<R: Host + Files + Threads + Wait + Sync>(
+    rt: &R,
+    plan: Result<Plan, PlanFault>,
+    says_memory: bool,
+) -> Ended {
     let mut errors = Taken::new(rt.alloc(), Room::ENDLESS);
     let status = carry_out(rt, plan, &mut Counted::new(&mut errors));
     Ended {
@@ -182,7 +234,7 @@ fn carry_once<R: Host + Files>(rt: &R, plan: Result<Plan, PlanFault>, says_memor
 }
 
 /// Tells that there is no plan. Where memory is refused, a second try goes on.
-fn carry_fault<R: Host + Files>(rt: &R, fault: PlanFault) -> Ended {
+fn carry_fault<R: Host + Files + Threads + Wait + Sync>(rt: &R, fault: PlanFault) -> Ended {
     let ended = carry_once(rt, Err(fault), true);
     if !ended.is_refused {
         return ended;
@@ -221,7 +273,10 @@ fn plan_to_run(rt: &impl Host, path: &str) -> Result<Plan, AllocError> {
 }
 
 /// Runs the file as planned. Where memory is refused, a second try goes on.
-fn carry_script<R: Host + Files>(rt: &R, path: &str) -> Result<Ended, AllocError> {
+fn carry_script<R: Host + Files + Threads + Wait + Sync>(
+    rt: &R,
+    path: &str,
+) -> Result<Ended, AllocError> {
     let ended = carry_once(rt, Ok(plan_to_run(rt, path)?), false);
     if !ended.is_refused {
         return Ok(ended);
@@ -235,4 +290,19 @@ fn a_planned_file_is_opened(rt: HostRuntime) -> Result<(), Fail> {
     let ended = carry_script(&rt, "there is no such file")?;
     assert!(rt; only_says(&ended, "ntrun: cannot open\n", 1));
     Ok(())
+}
+
+#[test]
+fn planned_threads_are_counted_first(rt: HostRuntime) {
+    let plan = || Ok(Plan::Threads {
+        workers: 65,
+        rounds: 1,
+    });
+    let mut ended = carry_once(&rt, plan(), false);
+    if ended.is_refused {
+        tell_refused(&rt, "what is said");
+        ended = carry_once(&rt, plan(), false);
+    }
+    let said = "ntrun: usage: ntrun script FILE or ntrun threads N ROUNDS\n";
+    assert!(rt; only_says(&ended, said, 2));
 }

@@ -3,8 +3,16 @@ use Rattle.nt_core.specs.declared.call.Call.{Call}
 use Rattle.nt_core.specs.Runs.{Calls, Ticks}
 use Rattle.nt_script.specs.Progress.{progress}
 use Rattle.nt_script.specs.Scope.{Bound}
-use Rattle.nt_script.proofs.Lines.{perform_line, create_line, tick_line}
+use Rattle.nt_script.proofs.Lines.{perform_line, create_line, tick_line, blank_line, counted_on}
 use Rattle.nt_script.proofs.session.Session.carry_out.Goals as goal
+
+pub returns-in-Blank : goal.returns-in-Blank
+returns-in-Blank c =
+    let now = progress c.make_room.new.self in
+    let same = c.in_ok-make_room.ensures.same in (
+      ([], blank_line c.args.number c.args.line.now c.make_room.new.out.items (progress c.args.self.now) now same c.in_ok-make_room.ensures.empty (rw c.in-Blank.is at c.in_ok-statement.ensures.reads)),
+      counted_on c.args.number (progress c.args.self.now) now same c.requires.counted,
+    )
 
 pub returns-in-Perform : goal.returns-in-Perform
 returns-in-Perform c =

@@ -1,0 +1,16 @@
+use Rattle.std.proofs.Common.{rules, ◌≡◌, false, inl, inr, refl, sym, subst}
+use Rattle.std.proofs.KnownBytes.{Keeps-refl}
+use Rattle.nt_threads.specs.Reports.{IsReport}
+use Rattle.nt_commands.specs.CommandLine.{are_lawful}
+use Rattle.nt_commands.proofs.threads.threads_over.Goals as goal
+
+pub returns-then-not-are_lawful : goal.returns-then-not-are_lawful
+returns-then-not-are_lawful g c =
+    let unlawful : are_lawful c.args.workers c.args.rounds ≡ false = search rules in
+    record { either = inr (inr (Keeps-refl _, refl, inr (unlawful, c.say.ensures.said, c.say.ensures.status))) }
+
+pub returns-in-Ok : goal.returns-in-Ok
+returns-in-Ok g c =
+    let report = subst (IsReport c.args.workers c.args.rounds) (sym c.as_slice.ensures.value) c.in-Ok.ensures in
+    let said = c.say-in-Err-hand.ensures in
+    record { either = inr (inl ((c.as_slice.result.now, report, c.in-Err-hand.ensures.0), c.in-Err-hand.ensures.1, said.said, said.status)) }

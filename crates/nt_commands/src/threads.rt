@@ -1,0 +1,62 @@
+//! Running the plan of threads before two writers.
+
+ghost use Rattle.std.specs.Prelude.{◌≡◌, ◌≤◌, ◌&&◌, nat_le};
+ghost use Rattle.nt_commands.specs.Telling.{Hands, ThreadsEnd};
+ghost use Rattle.nt_commands.specs.CommandLine.{are_lawful};
+
+use crate::errors::{OUT_OF_MEMORY, USAGE, say};
+use crate::plan::{MOST_ROUNDS, MOST_WORKERS};
+use nt_devices::{Sink, WriteFailed, write_whole};
+use nt_threads::report_of;
+use std::alloc::Global;
+use std::sync::Wait;
+use std::thread::Threads;
+
+/// Runs so many threads beside the first one, each for so many rounds, and writes six lines that tell of it. Answers the exit
+/// status: 0 where all was done and handed on; 1 where memory was refused, and nothing is written then, or where a write failed;
+/// 2 unless there are 1 to 64 workers and 1 to 1000 rounds. Why it is not 0 is said on `errors`; a failure to write that is
+/// ignored.
+pub fn threads_over<R: Threads + Wait + Sync, W: Sink, E: Sink>(
+    rt: &R,
+    alloc: Global,
+    workers: u32,
+    rounds: u32,
+    writer: &mut W,
+    errors: &mut E,
+) -> u8
+    ensures { ThreadsEnd workers rounds (W.contents writer.old) (W.contents writer.new) (W.failed writer.old) (W.failed writer.new) (W.handed_on writer.new)
+        (E.contents errors.old) (E.contents errors.new) (E.failed errors.old) (E.failed errors.new) result }
+{
+    if !are_lawful(workers, rounds) {
+        return say(errors, USAGE, 2);
+    }
+    match report_of(rt, alloc, workers, rounds) {
+        Ok(lines) => match hand(writer, lines.as_slice()) {
+            Ok(()) => 0,
+            Err(_) => say(errors, WRITE_FAILED, 1),
+        },
+        Err(_) => say(errors, OUT_OF_MEMORY, 1),
+    }
+}
+
+const WRITE_FAILED: &str = "ntrun: write failed";
+
+/// Whether there may be so many workers and rounds.
+fn are_lawful(workers: u32, rounds: u32) -> bool
+    ensures { result ≡ are_lawful workers rounds }
+{
+    1 <= workers && workers <= MOST_WORKERS && 1 <= rounds && rounds <= MOST_ROUNDS
+}
+
+/// Writes the lines, and hands them on. After a failed write nothing more is written.
+fn hand<W: Sink>(writer: &mut W, lines: &[u8]) -> Result<(), WriteFailed>
+    ensures { Hands (W.contents writer.old) (W.contents writer.new) (W.failed writer.old) (W.failed writer.new) (W.handed_on writer.new) lines.now result }
+{
+    match write_whole(writer, lines) {
+        Ok(()) => match writer.flush_counted() {
+            Ok(()) => Ok(()),
+            Err(_) => Err(WriteFailed),
+        },
+        Err(failed) => Err(failed),
+    }
+}

@@ -1,0 +1,125 @@
+//! Calls of a thread, counted.
+use crate::told::Told;
+use nt_core::{Act, Reply, WaitCall};
+use nt_front::{Begun, Front, Named, Pass, Sleeper};
+use nt_status::{Handle, Handles, Status};
+use std::alloc::Global;
+use std::sync::Wait;
+use std::time::{Clock, Instant};
+
+/// INFINITE: a timeout that never passes.
+pub const INFINITE: u32 = 0xFFFF_FFFF;
+
+pub fn now(clock: &impl Clock) -> Option<Instant> {
+    Instant::now(clock).ok()
+}
+
+pub fn nanos_since(clock: &impl Clock, began: Option<Instant>) -> u128 {
+    match began {
+        Some(began) => match began.elapsed(clock) {
+            Ok(took) => took.as_nanos(),
+            Err(_) => 0,
+        },
+        None => 0,
+    }
+}
+
+/// Makes a call that never pends, and expects that it is accepted.
+pub fn call<N: Named, R: Wait>(
+    rt: &R,
+    front: &Front<N>,
+    pass: &mut Pass<N>,
+    act: Act,
+    told: &mut Told,
+) {
+    match front.call(rt, pass, act) {
+        Ok(receipt) => told.called(receipt.result.is_ok()),
+        Err(_) => told.wrong(),
+    }
+}
+
+/// A wait for all or any of these objects.
+pub fn objects(alloc: Global, handles: &[Handle], all: bool, ms: u32) -> Option<WaitCall> {
+    let handles = Handles::from_slice(alloc, handles).ok()?;
+    Some(WaitCall::Objects {
+        all,
+        alertable: false,
+        ms,
+        handles,
+    })
+}
+
+/// Waits for the object until it is granted.
+pub fn wait_for<N: Named, R: Wait>(
+    rt: &R,
+    alloc: Global,
+    front: &Front<N>,
+    pass: Pass<N>,
+    object: Handle,
+    told: &mut Told,
+) -> Pass<N> {
+    match objects(alloc, &[object], false, INFINITE) {
+        Some(asked) => wait(rt, front, pass, asked, told),
+        None => {
+            told.wrong();
+            pass
+        }
+    }
+}
+
+/// Begins the wait, and sleeps until it is granted.
+pub fn wait<N: Named, R: Wait>(
+    rt: &R,
+    front: &Front<N>,
+    pass: Pass<N>,
+    asked: WaitCall,
+    told: &mut Told,
+) -> Pass<N> {
+    match front.begin(rt, pass, asked) {
+        Begun::Done(pass, receipt) => {
+            told.called(receipt.result.is_ok());
+            pass
+        }
+        Begun::Pended(sleeper, _) => {
+            told.called(true);
+            let (pass, _) = front.sleep(rt, sleeper);
+            told.granted();
+            pass
+        }
+        Begun::NoRoom(pass) => {
+            told.wrong();
+            pass
+        }
+    }
+}
+
+/// Waits with timeout 0, and expects this status.
+pub fn try_wait<N: Named, R: Wait>(
+    rt: &R,
+    alloc: Global,
+    front: &Front<N>,
+    pass: Pass<N>,
+    handles: &[Handle],
+    expected: Status,
+    told: &mut Told,
+) -> Pass<N> {
+    let Some(asked) = objects(alloc, handles, false, 0) else {
+        told.wrong();
+        return pass;
+    };
+    match front.begin(rt, pass, asked) {
+        Begun::Done(pass, receipt) => {
+            told.called(receipt.result == Ok(Reply::Status(expected)));
+            pass
+        }
+        Begun::Pended(sleeper, _) => {
+            told.wrong();
+            let (pass, _) = front.sleep(rt, sleeper);
+            pass
+        }
+        Begun::NoRoom(pass) => {
+            told.wrong();
+            pass
+        }
+    }
+}

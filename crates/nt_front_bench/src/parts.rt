@@ -1,0 +1,143 @@
+//! What a call of the front is made of: the dispatcher's own work, the journal's entry, and the lock.
+use crate::moves::{nanos_since, now, objects};
+use crate::told::{Fault, Told};
+use nt_core::{Act, Call, Core, Reply};
+use nt_front::Entry;
+use nt_status::{Handle, Refusal, Status, ThreadId};
+use std::alloc::Global;
+use std::sync::{Mutex, Wait};
+use std::time::Clock;
+
+/// The event of these shapes: the one thread has the first handle.
+const EVENT: u32 = 1;
+
+fn set() -> Call {
+    Call::Act(Act::SetEvent(Handle::new(EVENT)))
+}
+
+fn try_wait(alloc: Global) -> Result<Call, Fault> {
+    match objects(alloc, &[Handle::new(EVENT)], false, 0) {
+        Some(asked) => Ok(Call::Wait(asked)),
+        None => Err(Fault::Memory),
+    }
+}
+
+/// Sets the event, and takes it by a wait.
+fn core_rounds(core: &mut Core, alloc: Global, rounds: u32, told: &mut Told) -> Result<(), Fault> {
+    for _ in 0..rounds {
+        told.called(core.call(0, &set()).is_ok());
+        let wait = try_wait(alloc)?;
+        let result = core.call(0, &wait);
+        told.called(result == Ok(Reply::Status(Status::object(0))));
+    }
+    Ok(())
+}
+
+/// Writes the call into the journal, and carries it out where it lies.
+fn write(
+    core: &mut Core,
+    journal: &mut Vec<Entry>,
+    call: Call,
+) -> Result<Result<Reply, Refusal>, Fault> {
+    let place = journal.len();
+    let entry = Entry::Called {
+        who: ThreadId::new(0),
+        call,
+        result: Err(Refusal::JournalFull),
+    };
+    if journal.push(entry).is_err() {
+        return Err(Fault::Memory);
+    }
+    let Entry::Called {
+        who: _,
+        call,
+        result,
+    } = &mut journal[place]
+    else {
+        return Err(Fault::Wrong);
+    };
+    *result = core.call(0, call);
+    Ok(*result)
+}
+
+fn written_rounds(
+    core: &mut Core,
+    journal: &mut Vec<Entry>,
+    alloc: Global,
+    rounds: u32,
+    told: &mut Told,
+) -> Result<(), Fault> {
+    for _ in 0..rounds {
+        told.called(write(core, journal, set())?.is_ok());
+        let result = write(core, journal, try_wait(alloc)?)?;
+        told.called(result == Ok(Reply::Status(Status::object(0))));
+    }
+    Ok(())
+}
+
+/// Creates the event.
+fn set_stage(core: &mut Core, told: &mut Told) {
+    let created = core.call(0, &Call::Act(Act::CreateEvent(0)));
+    told.called(created.is_ok());
+    told.begin();
+}
+
+fn time_core<R: Clock>(rt: &R, core: &mut Core, alloc: Global, rounds: u32) -> Result<Told, Fault> {
+    let mut told = Told::default();
+    set_stage(core, &mut told);
+    let began = now(rt);
+    core_rounds(core, alloc, rounds, &mut told)?;
+    told.nanos = nanos_since(rt, began);
+    Ok(told)
+}
+
+fn time_both<R: Clock>(
+    rt: &R,
+    core: &mut Core,
+    journal: &mut Vec<Entry>,
+    alloc: Global,
+    rounds: u32,
+) -> Result<Told, Fault> {
+    let mut told = Told::default();
+    set_stage(core, &mut told);
+    let began = now(rt);
+    written_rounds(core, journal, alloc, rounds, &mut told)?;
+    told.nanos = nanos_since(rt, began);
+    Ok(told)
+}
+
+/// The rounds on the dispatcher alone.
+pub fn core_alone<R: Clock>(rt: &R, alloc: Global, rounds: u32) -> Result<Told, Fault> {
+    let mut core = Core::new(alloc, 1)?;
+    time_core(rt, &mut core, alloc, rounds)
+}
+
+/// The rounds on the dispatcher, each call written into a journal.
+pub fn core_and_journal<R: Clock>(rt: &R, alloc: Global, rounds: u32) -> Result<Told, Fault> {
+    let mut journal = Vec::with_capacity(alloc, (rounds as usize).saturating_mul(2))?;
+    core_beside(rt, alloc, rounds, &mut journal)
+}
+
+fn core_beside<R: Clock>(
+    rt: &R,
+    alloc: Global,
+    rounds: u32,
+    journal: &mut Vec<Entry>,
+) -> Result<Told, Fault> {
+    let mut core = Core::new(alloc, 1)?;
+    time_both(rt, &mut core, journal, alloc, rounds)
+}
+
+/// A lock is taken and given back.
+pub fn bare_lock<R: Wait + Clock>(rt: &R, rounds: u32) -> Told {
+    let lock = Mutex::new(0_u64);
+    let mut told = Told::default();
+    let began = now(rt);
+    for _ in 0..rounds {
+        let mut held = lock.lock(rt);
+        *held = held.wrapping_add(1);
+    }
+    told.nanos = nanos_since(rt, began);
+    told.calls = lock.into_inner();
+    told
+}

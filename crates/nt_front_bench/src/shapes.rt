@@ -1,0 +1,197 @@
+//! What is timed. `bench/front.c` makes the same calls under the same names.
+
+/// How many threads and how many untouched events a crowd has.
+pub const CROWD_THREADS: u32 = 256;
+
+pub const CROWD_EVENTS: u32 = 10_000;
+
+/// What a round is.
+#[derive(Clone, Copy)]
+pub enum Kind {
+    /// An auto-reset event is set, and a wait with timeout 0 takes it.
+    Event,
+    /// A free mutex is waited for and released.
+    Mutex,
+    /// A semaphore is released, and waited for.
+    Semaphore,
+    /// A wait with timeout 0 for any of 64 events, none of which is set.
+    AnyOf64,
+    /// 64 threads wait for all of a common event and one of their own. One's own is set, and then the common one; it waits again.
+    OneOf64,
+    /// One of so many periodic timers comes due in a tick.
+    Ticks(u32),
+    /// Two threads set each other's event and wait for their own.
+    RoundTrip,
+    /// So many workers wait for a mutex, release a semaphore and release the mutex, as `ntrun threads` has them do.
+    Workers(u32),
+    /// The calls of `Event` on the dispatcher alone, with no lock and no journal.
+    Core,
+    /// The same, with an entry written for each.
+    CoreAndJournal,
+    /// A lock is taken and given back.
+    Lock,
+}
+
+/// A round under its name, with a crowd of threads and objects that no call touches or without.
+#[derive(Clone, Copy)]
+pub struct Shape {
+    pub name: &'static str,
+    pub kind: Kind,
+    pub has_crowd: bool,
+}
+
+pub const SHAPES: &[Shape] = &[
+    Shape {
+        name: "event",
+        kind: Kind::Event,
+        has_crowd: false,
+    },
+    Shape {
+        name: "event_crowd",
+        kind: Kind::Event,
+        has_crowd: true,
+    },
+    Shape {
+        name: "mutex",
+        kind: Kind::Mutex,
+        has_crowd: false,
+    },
+    Shape {
+        name: "mutex_crowd",
+        kind: Kind::Mutex,
+        has_crowd: true,
+    },
+    Shape {
+        name: "semaphore",
+        kind: Kind::Semaphore,
+        has_crowd: false,
+    },
+    Shape {
+        name: "semaphore_crowd",
+        kind: Kind::Semaphore,
+        has_crowd: true,
+    },
+    Shape {
+        name: "any_of_64",
+        kind: Kind::AnyOf64,
+        has_crowd: false,
+    },
+    Shape {
+        name: "any_of_64_crowd",
+        kind: Kind::AnyOf64,
+        has_crowd: true,
+    },
+    Shape {
+        name: "one_of_64",
+        kind: Kind::OneOf64,
+        has_crowd: false,
+    },
+    Shape {
+        name: "one_of_64_crowd",
+        kind: Kind::OneOf64,
+        has_crowd: true,
+    },
+    Shape {
+        name: "tick_100",
+        kind: Kind::Ticks(100),
+        has_crowd: false,
+    },
+    Shape {
+        name: "tick_10000",
+        kind: Kind::Ticks(10_000),
+        has_crowd: false,
+    },
+    Shape {
+        name: "round_trip",
+        kind: Kind::RoundTrip,
+        has_crowd: false,
+    },
+    Shape {
+        name: "round_trip_crowd",
+        kind: Kind::RoundTrip,
+        has_crowd: true,
+    },
+    Shape {
+        name: "threads_2",
+        kind: Kind::Workers(2),
+        has_crowd: false,
+    },
+    Shape {
+        name: "threads_8",
+        kind: Kind::Workers(8),
+        has_crowd: false,
+    },
+    Shape {
+        name: "threads_64",
+        kind: Kind::Workers(64),
+        has_crowd: false,
+    },
+    Shape {
+        name: "core_alone",
+        kind: Kind::Core,
+        has_crowd: false,
+    },
+    Shape {
+        name: "core_and_journal",
+        kind: Kind::CoreAndJournal,
+        has_crowd: false,
+    },
+    Shape {
+        name: "bare_lock",
+        kind: Kind::Lock,
+        has_crowd: false,
+    },
+];
+
+pub fn shape_named(name: &str) -> Option<Shape> {
+    for shape in SHAPES {
+        if shape.name == name {
+            return Some(*shape);
+        }
+    }
+    None
+}
+
+impl Shape {
+    /// How many threads the front has.
+    pub fn threads(&self) -> u32 {
+        if self.has_crowd {
+            return CROWD_THREADS;
+        }
+        match self.kind {
+            Kind::OneOf64 => 65,
+            Kind::RoundTrip => 2,
+            Kind::Workers(workers) => workers.wrapping_add(1),
+            _ => 1,
+        }
+    }
+
+    /// The handle of the first object that the rounds use: those of the threads and of the crowd come before it.
+    pub fn first_handle(&self) -> u32 {
+        self.threads().wrapping_add(self.crowd())
+    }
+
+    /// How many events the crowd has.
+    pub fn crowd(&self) -> u32 {
+        if self.has_crowd { CROWD_EVENTS } else { 0 }
+    }
+
+    /// How many entries the calls that set the stage and so many rounds write at the most.
+    pub fn entries(&self, rounds: u32) -> usize {
+        let (stage, each) = match self.kind {
+            Kind::AnyOf64 => (64, 1),
+            Kind::OneOf64 => (256, 4),
+            Kind::Ticks(timers) => (timers.saturating_mul(2), 1),
+            Kind::RoundTrip => (8, 6),
+            Kind::Workers(workers) => (
+                workers.saturating_mul(3).saturating_add(7),
+                workers.saturating_mul(4),
+            ),
+            _ => (8, 2),
+        };
+        let calls = (each as usize).saturating_mul(rounds as usize);
+        calls
+            .saturating_add(stage as usize)
+            .saturating_add(self.crowd() as usize)
+    }
+}

@@ -1,0 +1,44 @@
+-- What each handle names, as callers of `HandleTable` see it.
+use Rattle.std.specs.Prelude.{◌≡◌, ℕ, zero, suc, ◌+◌, Bool, false, ◌==◌, List, [], ◌∷◌, ◌++◌, length, slice_index_or, if◌then◌else◌, Option, Some, None}
+use Rattle.nt_objects.specs.declared.object.Object.{Object}
+use Rattle.nt_objects.specs.declared.object.Object.TheVariants.{Event, Semaphore, Mutex, Timer, Thread, Gone}
+use Rattle.nt_objects.specs.declared.handles.Opened.{Opened}
+use Rattle.nt_status.specs.Access.{synchronize, modify_state, set_context}
+
+-- by handle number, what the handle names, or none once it is closed; and how many handles there is room for
+pub record Handles : Type 0 where
+  pub opened : List (Option Opened)
+  pub room : ℕ
+
+-- what a handle names; none where it is closed, or was never handed out
+abbrev pub opened_at : List (Option Opened) → ℕ → Option Opened
+opened_at handles h = slice_index_or handles h None
+
+-- whether it names this object
+abbrev pub names : ℕ → Option Opened → Bool
+names object None = false
+names object (Some opened) = opened.object == object
+
+-- how many handles name the object
+abbrev pub count_named : List (Option Opened) → ℕ → ℕ
+count_named [] object = 0
+count_named (h ∷ handles) object = (if names object h then 1 else 0) + count_named handles object
+
+-- the rights with which an object is created, all that its kind has
+abbrev pub full_access : Object → ℕ
+full_access (Event manual set) = synchronize + modify_state
+full_access (Semaphore count maximum) = synchronize + modify_state
+full_access (Mutex owner depth abandoned) = synchronize
+full_access (Timer manual set armed) = synchronize + modify_state
+full_access (Thread ended) = synchronize + set_context
+full_access Gone = 0
+
+-- one handle for each of so many objects, with the number of its object
+abbrev pub own_handles : ℕ → ℕ → List (Option Opened)
+own_handles zero access = []
+own_handles (suc n) access = own_handles n access ++ Some (record { object = n; access = access }) ∷ []
+
+-- the handles that name each object are counted
+pub record IsCounted (handles : List (Option Opened)) (counts : List ℕ) : Type 0 where
+  pub same_length : length counts ≡ length handles
+  pub counted : (object : ℕ) → slice_index_or counts object 0 ≡ count_named handles object

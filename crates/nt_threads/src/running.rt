@@ -1,0 +1,213 @@
+//! The plan over a front, by threads that run.
+ghost use Rattle.std.specs.Prelude.{◌≡◌, ◌+◌, ◌*◌, ◌<◌, ◌≤◌, [], map, vec_len, vec_capacity, IfOk};
+ghost use Rattle.nt_core.specs.Dispatcher.{Dispatcher, state};
+ghost use Rattle.nt_core.specs.Lawful.{IsLawful};
+ghost use Rattle.nt_front.specs.Runs.{IsRun};
+ghost use Rattle.nt_threads.specs.Doors.{accepted_calls, made_through};
+ghost use Rattle.nt_threads.specs.Reports.{IsReport, ComesOfRun};
+
+use crate::counts::counts_of;
+use crate::driving::{Driven, drive};
+use crate::front_door::FrontDoor;
+use crate::report::lines_of;
+use nt_front::{Blank, Front, Held, History, Named, Pass, open, prepare};
+use nt_mail::Entry;
+use nt_status::{Handle, Refusal};
+use std::alloc::{AllocError, Global};
+use std::marker::Brand;
+use std::sync::Wait;
+use std::thread::Threads;
+
+/// What the threads of a plan left, and whether all of it was carried out.
+#[derive(Drop)]
+struct Ran {
+    history: History,
+    whole: bool,
+}
+
+/// Room for the doors, for those that come back, and for what the threads hold at the end.
+struct Room<'f, N: Named> {
+    doors: Vec<FrontDoor<'f, N>>,
+    back: Vec<FrontDoor<'f, N>>,
+    holds: Vec<Held<N>>,
+}
+
+impl<'f, N: Named> Room<'f, N> {
+    /// Room for so many threads.
+    fn new(alloc: Global, threads: usize) -> Result<Room<'f, N>, AllocError>
+        ensures doors { IfOk result (λ r. (r.doors.items ≡ []) × (threads ≤ vec_capacity r.doors)) }
+        ensures back { IfOk result (λ r. (r.back.items ≡ []) × (threads ≤ vec_capacity r.back)) }
+        ensures holds { IfOk result (λ r. (r.holds.items ≡ []) × (threads ≤ vec_capacity r.holds)) }
+    {
+        let doors = Vec::with_capacity(alloc, threads)?;
+        let back = Vec::with_capacity(alloc, threads)?;
+        let holds = Vec::with_capacity(alloc, threads)?;
+        Ok(Room { doors, back, holds })
+    }
+
+    /// Gives back what was never used.
+    fn let_go(self)
+        requires { self.holds.items ≡ [] }
+    {
+        let Room {
+            doors: _,
+            back: _,
+            holds,
+        } = self;
+        holds.destroy_empty();
+    }
+}
+
+/// Runs the plan by real threads over a front, and answers the lines that tell of its history.
+///
+/// The front has a thread more than there are workers. Memory alone can be wanting, at the opening or in a call; all threads
+/// have ended then too.
+pub fn report_of<R: Threads + Wait + Sync>(
+    rt: &R,
+    alloc: Global,
+    workers: u32,
+    rounds: u32,
+) -> Result<Vec<u8>, AllocError>
+    requires workers { workers ≤ 64 }
+    requires rounds { rounds ≤ 1000 }
+    ensures { IfOk result (λ lines. IsReport workers rounds lines.items) }
+{
+    let room = workers as usize * (4 * rounds as usize + 3) + 7;
+    let blank = prepare(alloc, workers + 1, room).map_err(|_| AllocError)?;
+    let ran = run::<Brand, R>(rt, alloc, blank, rounds)?;
+    report_in(alloc, workers, rounds, ran)
+}
+
+/// The lines that tell of what ran.
+fn report_in(alloc: Global, workers: u32, rounds: u32, ran: Ran) -> Result<Vec<u8>, AllocError>
+    requires workers { workers ≤ 64 }
+    requires comes { ComesOfRun ran.history.entries.items }
+    ensures { IfOk result (λ lines. IsReport workers rounds lines.items) }
+{
+    told_of(
+        alloc,
+        workers,
+        rounds,
+        ran.history.entries.as_slice(),
+        ran.whole,
+    )
+}
+
+/// The lines that tell of these entries, where all of the plan was carried out.
+fn told_of(
+    alloc: Global,
+    workers: u32,
+    rounds: u32,
+    entries: &[Entry],
+    whole: bool,
+) -> Result<Vec<u8>, AllocError>
+    requires workers { workers ≤ 64 }
+    requires comes { ComesOfRun entries.now }
+    ensures { IfOk result (λ lines. IsReport workers rounds lines.items) }
+{
+    if !whole {
+        return Err(AllocError);
+    }
+    let threads = workers + 1;
+    let counts = counts_of(alloc, threads, Handle::new(threads), entries)?;
+    lines_of(alloc, workers, rounds, &counts)
+}
+
+/// Opens the front, and has its threads carry out the plan. All memory for the way is taken before.
+fn run<N: Named + Send + Sync, R: Threads + Wait + Sync>(
+    rt: &R,
+    alloc: Global,
+    blank: Blank,
+    rounds: u32,
+) -> Result<Ran, AllocError>
+    requires table { blank.table ≡ N.table }
+    requires threads { blank.threads ≤ 65 }
+    requires rounds { rounds ≤ 1000 }
+    ensures { IfOk result (λ r. ComesOfRun r.history.entries.items) }
+{
+    let room = Room::new(alloc, 65)?;
+    match open::<N>(alloc, blank) {
+        Ok((front, passes)) => Ok(run_on(rt, alloc, front, passes, room, rounds)),
+        Err(_) => {
+            room.let_go();
+            Err(AllocError)
+        }
+    }
+}
+
+/// Has the threads of these passes carry out the plan, and ends the front.
+fn run_on<N: Named + Send + Sync, R: Threads + Wait + Sync>(
+    rt: &R,
+    alloc: Global,
+    front: Front<N>,
+    passes: Vec<Pass<N>>,
+    room: Room<'_, N>,
+    rounds: u32,
+) -> Ran
+    requires threads { vec_len passes ≤ 65 }
+    requires rounds { rounds ≤ 1000 }
+    requires doors { (room.doors.items ≡ []) × (vec_len passes ≤ vec_capacity room.doors) }
+    requires back { (room.back.items ≡ []) × (vec_len passes ≤ vec_capacity room.back) }
+    requires holds { (room.holds.items ≡ []) × (vec_len passes ≤ vec_capacity room.holds) }
+    ensures { ComesOfRun result.history.entries.items }
+{
+    let (holds, whole) = drive_on(rt, alloc, &front, passes, room, rounds);
+    Ran {
+        history: front.finish(holds),
+        whole,
+    }
+}
+
+/// Has the threads of these passes carry out the plan over the front, and answers what they hold then.
+fn drive_on<'f, N: Named + Send + Sync, R: Threads + Wait + Sync>(
+    rt: &R,
+    alloc: Global,
+    front: &'f Front<N>,
+    passes: Vec<Pass<N>>,
+    room: Room<'f, N>,
+    rounds: u32,
+) -> (Vec<Held<N>>, bool)
+    requires threads { vec_len passes ≤ 65 }
+    requires rounds { rounds ≤ 1000 }
+    requires doors { (room.doors.items ≡ []) × (vec_len passes ≤ vec_capacity room.doors) }
+    requires back { (room.back.items ≡ []) × (vec_len passes ≤ vec_capacity room.back) }
+    requires holds { (room.holds.items ≡ []) × (vec_len passes ≤ vec_capacity room.holds) }
+{
+    let Room { doors, back, holds } = room;
+    let doors = doors_of(front, passes, doors);
+    let Driven { doors, whole } = drive(rt, alloc, doors, back, rounds);
+    (holds_of(doors, holds), whole)
+}
+
+/// A door for each pass, in their order.
+fn doors_of<'f, N: Named>(
+    front: &'f Front<N>,
+    mut passes: Vec<Pass<N>>,
+    doors: Vec<FrontDoor<'f, N>>,
+) -> Vec<FrontDoor<'f, N>>
+    requires { (doors.items ≡ []) × (vec_len passes ≤ vec_capacity doors) }
+    ensures threads { map (λ d. d.thread) result.items ≡ map (λ p. p.thread) passes.items }
+    ensures made { map (λ d. made_through d.hold) result.items ≡ map (λ p. accepted_calls p.made) passes.items }
+    ensures count { vec_len result ≡ vec_len passes }
+    ensures capacity { vec_capacity result ≡ vec_capacity doors.entry }
+{
+    let Some(pass) = passes.pop() else {
+        passes.destroy_empty();
+        return doors;
+    };
+    let mut doors = doors_of(front, passes, doors);
+    doors.push_reserved(FrontDoor::new(front, pass));
+    doors
+}
+
+/// What the threads of these doors hold.
+fn holds_of<N: Named>(mut doors: Vec<FrontDoor<'_, N>>, mut holds: Vec<Held<N>>) -> Vec<Held<N>>
+    requires { (holds.items ≡ []) × (vec_len doors ≤ vec_capacity holds) }
+{
+    while let Some(door) = doors.pop() {
+        if let Some(held) = door.into_held() {
+            holds.push_reserved(held);
+        }
+    }
+    holds
+}
