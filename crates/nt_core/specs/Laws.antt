@@ -28,7 +28,7 @@ pub data Question : Type 0 where
   AsksCall : (who : ℕ) → (call : Call) → (wants_memory : Bool) → Question
   AsksTick : (by : ℕ) → (moment : ℕ) → Question
 
--- the call was refused for want of memory
+-- the call was refused since it found no memory
 abbrev pub wants_memory : Result Reply Refusal → Bool
 wants_memory (Err Memory) = true
 wants_memory _ = false
@@ -38,7 +38,7 @@ abbrev pub question : Turn → Question
 question (Calls who call result grants) = AsksCall who call (wants_memory result)
 question (Ticks by moment result grants) = AsksTick by moment
 
--- runs leave no choice: where the same calls and ticks came in the same order, and the same calls met want of memory, the
+-- runs leave no choice: where the same calls and ticks came in the same order, and memory was refused to the same calls, the
 -- results and the grants of each turn are the same, and so is the state
 abbrev pub RunsOneWay : Type 0
 RunsOneWay = (n : ℕ) (turns others : List Turn) (a b : State) → Run n turns a → Run n others b → map question turns ≡ map question others → (turns ≡ others) × (a ≡ b)

@@ -152,7 +152,7 @@ grows s t (Call.Wait (WaitCall.Swap h object ms alertable)) = not (ms == 0)
 grows s t (Call.Wait wait) = would_pend s t (wait_of s.now wait) (timeout_of wait)
 grows s t Call.Exit = false
 
--- want of memory is the last cause, of the calls that may want it
+-- out of memory is the last cause, of the calls that may take memory
 abbrev pub IsRefusal : State → ℕ → Call → Refusal → Type 0
 IsRefusal s who call r =
     MatchOption (refusal s who call) (IsTrue (grows s who call) × (r ≡ Memory)) (λ first. r ≡ first)

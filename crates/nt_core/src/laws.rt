@@ -8,7 +8,7 @@ pub fn serves_one_way()
 {}
 
 /// Runs leave no choice: every result, every grant and the state are a function of the calls and ticks in their order, and of
-/// which calls met want of memory.
+/// which calls found no memory.
 pub fn runs_one_way()
     ensures { RunsOneWay }
 {}

@@ -26,8 +26,8 @@ pub fn quiet_alarms(alloc: Global, count: usize) -> Result<Alarms, AllocError>
 }
 
 impl Machine {
-    /// Adds an object with a handle that has all rights of its kind, and answers the handle. Where memory is refused nothing changes. `changed` gets room for one handle
-    /// more, so that later calls can list every object without memory.
+    /// Adds an object with a handle that has all rights of its kind, and answers the handle. Where memory is refused nothing
+    /// changes. `changed` gets room for one handle more, so that later calls can list every object without memory.
     pub(crate) fn create(
         &mut self,
         object: Object,

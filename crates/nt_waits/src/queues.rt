@@ -122,7 +122,7 @@ impl Queues {
         thread_in(&self.blocks, ends.first)
     }
 
-    /// The thread behind this block.
+    /// The thread after this block, in the handle's queue.
     pub fn next(&self, handle: Handle, number: BlockNumber) -> Option<ThreadId>
         requires { HasNumber (list_at self.now handle) number }
         ensures { result ≡ thread_after (list_at self.now handle) number }

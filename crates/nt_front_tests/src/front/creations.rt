@@ -24,7 +24,7 @@ fn prepared(rt: &(impl Host + Wait)) -> Result<Blank, Refusal>
     }
 }
 
-/// The entries and results of a creation, and of the one after it where the first was refused for want of memory.
+/// The entries and results of a creation, and of the one after it where the first found no memory.
 #[derive(Clone, Copy, Default)]
 struct Created {
     refused: bool,

@@ -23,7 +23,7 @@ impl<R: Abort + AllocGlobal + Env + Print> Host for R {}
 pub fn tell_refused(rt: &impl Host, whose: &str) {
     assert!(rt;
         var(rt, "REFUSE").is_ok(),
-        "want of memory with ample memory: {whose}"
+        "out of memory with ample memory: {whose}"
     );
     assert!(rt; println!(rt; "refused: {whose}").is_ok());
 }
