@@ -1,5 +1,7 @@
 //! Handles, what each names, and when a number names nothing any more.
 
+ghost use Rattle.std.specs.Prelude.{◌≡◌, ◌<◌, length, OnOk};
+
 use crate::refused::{Host, tell_refused};
 use nt_objects::{HandleTable, Object, Opened};
 use nt_status::{Access, EventFlags, Handle, MutexFlags, ThreadId, TimerFlags};
@@ -22,7 +24,10 @@ enum Step {
 }
 
 /// Makes room, a second time where memory is refused.
-fn make_room(rt: &impl Host, table: &mut HandleTable) -> Result<(), AllocError> {
+fn make_room(rt: &impl Host, table: &mut HandleTable) -> Result<(), AllocError>
+    ensures room { OnOk result (length table.new.opened < table.new.room) }
+    ensures opened { table.new.opened ≡ table.old.opened }
+{
     match table.make_room() {
         Ok(()) => Ok(()),
         Err(_) => {
