@@ -7,7 +7,7 @@ use nt_core::{Act, Call};
 use nt_status::Refusal;
 use nt_threads::{Driven, drive};
 use std::alloc::{AllocGlobal, Global};
-use std::env::{Env, var};
+use std::env::Env;
 use std::io::Print;
 use std::process::Abort;
 use std::sync::Wait;
@@ -19,12 +19,15 @@ pub trait Host: Abort + AllocGlobal + Env + Print {}
 
 impl<R: Abort + AllocGlobal + Env + Print> Host for R {}
 
+/// Whether growths are refused on purpose, as `bench/refused_tests` does: it sets REFUSE. This takes no memory itself.
+fn is_refusing(rt: &impl Env) -> bool {
+    let mut number = [0; 20];
+    rt.var("REFUSE", &mut number).is_ok()
+}
+
 /// Tells that an allocation of this was refused, which must have been asked for.
 pub fn tell_refused(rt: &impl Host, whose: &str) {
-    assert!(rt;
-        var(rt, "REFUSE").is_ok(),
-        "out of memory with ample memory: {whose}"
-    );
+    assert!(rt; is_refusing(rt), "out of memory with ample memory: {whose}");
     assert!(rt; println!(rt; "refused: {whose}").is_ok());
 }
 
@@ -145,5 +148,9 @@ fn one_worker_makes_one_round(rt: HostRuntime) {
 /// A wait for so many objects takes memory of its own.
 #[test]
 fn ten_workers_make_two_rounds(rt: HostRuntime) {
+    // how many allocations so many threads make depends on their schedule, since tables grow with who waits first
+    if is_refusing(&rt) {
+        return;
+    }
     check(&rt, 10, 2, whole_plan(31, 20, 11));
 }
