@@ -10,6 +10,7 @@ use Rattle.nt_core.specs.declared.call.WaitCall.{WaitCall}
 abbrev pub no_object : ℕ
 no_object = 65536
 
+-- the number of the object that is opened, and one that no object has where none is
 abbrev pub object_in : Option Opened → ℕ
 object_in None = no_object
 object_in (Some opened) = opened.object
@@ -30,6 +31,7 @@ AreNamedIn handles _ named = ⊤
 
 -- ---- a call with the numbers of the objects in the place of their handles
 
+-- the act, with the numbers of the objects in the place of their handles
 abbrev pub act_named : List (Option Opened) → Act → Act
 act_named handles (Act.SetEvent h) = Act.SetEvent (object_named handles h)
 act_named handles (Act.ResetEvent h) = Act.ResetEvent (object_named handles h)
@@ -42,11 +44,13 @@ act_named handles (Act.QueueApc h routine arg) = Act.QueueApc (object_named hand
 -- creations name nothing
 act_named handles act = act
 
+-- the wait, with the numbers of the objects in the place of their handles
 abbrev pub wait_named : List (Option Opened) → WaitCall → WaitCall
 wait_named handles (WaitCall.Objects all alertable ms hs) = WaitCall.Objects all alertable ms (map (object_named handles) hs)
 wait_named handles (WaitCall.Sleep ms alertable) = WaitCall.Sleep ms alertable
 wait_named handles (WaitCall.Swap h object ms alertable) = WaitCall.Swap (object_named handles h) (object_named handles object) ms alertable
 
+-- the call, with the numbers of the objects in the place of their handles
 abbrev pub call_named : List (Option Opened) → Call → Call
 call_named handles (Call.Act act) = Call.Act (act_named handles act)
 call_named handles (Call.Wait wait) = Call.Wait (wait_named handles wait)
