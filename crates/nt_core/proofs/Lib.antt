@@ -31,6 +31,7 @@ mod Passing
 mod Rousing
 mod Moments
 mod Coming
+mod Judging
 mod Owned
 mod Counting
 mod Moves

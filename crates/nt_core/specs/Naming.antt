@@ -1,5 +1,5 @@
 -- What the handles of a call name. From there on all speaks of objects by their own numbers.
-use Rattle.std.specs.Prelude.{◌≡◌, ℕ, ⊤, List, map, Option, Some, None}
+use Rattle.std.specs.Prelude.{ℕ, List, map, Option, Some, None}
 use Rattle.nt_objects.specs.declared.handles.Opened.{Opened}
 use Rattle.nt_objects.specs.Handles.{opened_at}
 use Rattle.nt_core.specs.declared.call.Call.{Call}
@@ -18,16 +18,6 @@ object_in (Some opened) = opened.object
 -- the number of the object that a handle names, and one that no object has where it names none
 abbrev pub object_named : List (Option Opened) → ℕ → ℕ
 object_named handles h = object_in (opened_at handles h)
-
--- these are the numbers of the objects that the handles of a wait for objects name
-abbrev pub AreNamed : List (Option Opened) → WaitCall → List ℕ → Type 0
-AreNamed handles (WaitCall.Objects all alertable ms hs) named = named ≡ map (object_named handles) hs
-AreNamed handles _ named = ⊤
-
--- and those of a call that is such a wait
-abbrev pub AreNamedIn : List (Option Opened) → Call → List ℕ → Type 0
-AreNamedIn handles (Call.Wait wait) named = AreNamed handles wait named
-AreNamedIn handles _ named = ⊤
 
 -- ---- a call with the numbers of the objects in the place of their handles
 

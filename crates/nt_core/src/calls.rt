@@ -3,9 +3,9 @@ ghost use Rattle.std.specs.Prelude.{◌≡◌, ◌≤◌, ℕ, vec_capacity, len
 ghost use Rattle.nt_status.specs.declared.refusal.Refusal.TheVariants.{Memory};
 ghost use Rattle.nt_core.specs.Calls.{act_creates, act_signals, act_grows};
 ghost use Rattle.nt_core.specs.Dispatcher.{state};
-ghost use Rattle.nt_core.specs.Refusals.{refusal, grows};
-ghost use Rattle.nt_core.specs.Naming.{call_named, AreNamedIn};
-ghost use Rattle.nt_core.specs.Steps.{Called};
+ghost use Rattle.nt_core.specs.Refusals.{refusal, first_of_causes, call_causes};
+ghost use Rattle.nt_core.specs.Naming.{call_named};
+ghost use Rattle.nt_core.specs.Steps.{Made, Called};
 ghost use Rattle.nt_core.specs.Lawful.{IsSteady};
 ghost use Rattle.nt_core.specs.Accepts.{IsFresh, IsLocal, Accepts};
 ghost use Rattle.nt_core.specs.declared.call.Call.{Call};
@@ -140,34 +140,25 @@ impl Machine {
         }
     }
 
-    /// A call that no cause refuses. Where it is a wait for objects, `numbers` are the numbers of these.
-    fn accept(
+    /// An act on the numbers of objects, made or refused by its own causes.
+    fn judge_act(
         &mut self,
         thread: ThreadId,
-        call: &Call,
-        numbers: &[Handle],
+        act: &Act,
         changed: &mut Vec<Handle>,
     ) -> Result<Reply, Refusal>
         requires fresh { IsFresh self.old }
         requires room { length self.old.objects ≤ vec_capacity changed.old }
-        requires free { refusal (state self.old) thread (call_named self.old.handles call.now) ≡ None }
-        requires named { AreNamedIn self.old.handles call.now numbers.now }
-        ensures ok { IfOk result (λ reply. Accepts self.old self.new thread (call_named self.old.handles call.now) reply) }
-        ensures memory { IfErr result (λ refusal. refusal ≡ Memory) }
-        ensures grows { OnErr result (IsTrue (grows (state self.old) thread (call_named self.old.handles call.now))) }
-        ensures err { OnErr result (self.new ≡ self.old) }
+        requires caller { (call : Call) → refusal (state self.old) thread call ≡ first_of_causes (call_causes self.old.objects thread call) }
+        ensures made { Made (state self.old) thread (Call.Act act.now) result self.new.grants (state self.new) }
+        ensures steady { IsSteady self.new }
+        ensures local { OnOk result (IsLocal (state self.old) thread (Call.Act act.now) self.new.table.looked self.new.grants) }
+        ensures untested { OnErr result (self.new.table.looked ≡ 0) }
         ensures room { length self.new.objects ≤ vec_capacity changed.new }
     {
-        match call {
-            Call::Act(act) => {
-                let act = name_act(&self.handles, act);
-                self.act(thread, &act, changed)
-            }
-            Call::Wait(wait) => self.wait(thread, wait, numbers),
-            Call::Exit => {
-                self.exit(thread, changed);
-                Ok(Reply::Done)
-            }
+        match self.refusal_of_act(thread, act) {
+            Some(refusal) => Err(refusal),
+            None => self.act(thread, act, changed),
         }
     }
 
@@ -191,9 +182,20 @@ impl Machine {
         ensures room { length self.new.objects ≤ vec_capacity changed.new }
     {
         self.tell_anew();
-        match self.refusal(who, call, numbers) {
-            Some(refusal) => Err(refusal),
-            None => self.accept(ThreadId::new(who as u16), call, numbers.as_slice(), changed),
+        if let Some(refusal) = self.caller_refusal(who) {
+            return Err(refusal);
+        }
+        let thread = ThreadId::new(who as u16);
+        match call {
+            Call::Act(act) => {
+                let act = name_act(&self.handles, act);
+                self.judge_act(thread, &act, changed)
+            }
+            Call::Wait(wait) => self.wait(thread, wait, numbers),
+            Call::Exit => {
+                self.exit(thread, changed);
+                Ok(Reply::Done)
+            }
         }
     }
 }

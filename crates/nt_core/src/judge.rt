@@ -1,17 +1,18 @@
 //! Whether a call is refused, and by which cause.
-ghost use Rattle.std.specs.Prelude.{◌≡◌, ◌≤◌, map, vec_capacity, IfNone};
+ghost use Rattle.std.specs.Prelude.{◌≡◌, ◌≤◌, ◌<◌, map, vec_capacity, Some, IfSome, IfNone};
 ghost use Rattle.std.specs.List.{list_any};
 ghost use Rattle.nt_status.specs.Flags.{only_known, event_bits, mutex_bits, timer_bits};
 ghost use Rattle.nt_objects.specs.Object.{is_event, is_timer, has_ended};
 ghost use Rattle.nt_core.specs.State.{object_at};
-ghost use Rattle.nt_core.specs.Naming.{object_named, wait_named, call_named, AreNamed, AreNamedIn};
+ghost use Rattle.nt_core.specs.Naming.{object_named};
 ghost use Rattle.nt_core.specs.Dispatcher.{state};
-ghost use Rattle.nt_core.specs.Refusals.{first_of_causes, act_causes, wait_causes, objects_causes, creation_causes, release_causes, unlock_causes, arm_causes, kind_causes, apc_causes, swap_causes, refusal, is_no, is_unknown, has_twice, is_at_limit};
+ghost use Rattle.nt_core.specs.declared.call.Call.{Call};
+ghost use Rattle.nt_core.specs.Refusals.{first_of_causes, call_causes, act_causes, objects_causes, creation_causes, release_causes, unlock_causes, arm_causes, kind_causes, apc_causes, swap_causes, refusal, is_no, is_unknown, has_twice, is_at_limit};
 
-use crate::call::{Act, Call, WaitCall};
-use crate::handles::{name_act, name_all, named, object_named};
+use crate::call::Act;
+use crate::handles::{name_all, named};
 use crate::machine::Machine;
-use nt_objects::{HandleTable, Object};
+use nt_objects::Object;
 use nt_status::{EventFlags, Handle, MutexFlags, Refusal, ThreadId, TimerFlags};
 
 /// MAXIMUM_WAIT_OBJECTS: the most handles that a wait names.
@@ -283,92 +284,60 @@ fn swap_refusal(
     }
 }
 
-/// The refusal of a wait for these handles, and the numbers of the objects that they name where it has none.
-fn named_refusal(
-    handles: &HandleTable,
-    objects: &[Object],
-    thread: ThreadId,
-    these: &[Handle],
-    numbers: &mut Vec<Handle>,
-) -> Option<Refusal>
-    requires { 64 ≤ vec_capacity numbers.old }
-    ensures refusal { result ≡ first_of_causes (objects_causes objects.now thread (map (object_named handles.now.opened) these.now)) }
-    ensures named { IfNone result (numbers.new.items ≡ map (object_named handles.now.opened) these.now) }
-    ensures capacity { vec_capacity numbers.new ≡ vec_capacity numbers.old }
-{
-    if these.len() > WAIT_LIMIT {
-        return Some(Refusal::InvalidParameter);
-    }
-    name_all(handles, these, numbers);
-    objects_refusal(objects, thread, numbers.as_slice())
-}
-
-/// The refusal of a waiting call by its own causes. Of a wait for objects that has none, `numbers` has their numbers then.
-fn wait_refusal(
-    handles: &HandleTable,
-    objects: &[Object],
-    thread: ThreadId,
-    wait: &WaitCall,
-    numbers: &mut Vec<Handle>,
-) -> Option<Refusal>
-    requires { 64 ≤ vec_capacity numbers.old }
-    ensures refusal { result ≡ first_of_causes (wait_causes objects.now thread (wait_named handles.now.opened wait.now)) }
-    ensures named { IfNone result (AreNamed handles.now.opened wait.now numbers.new.items) }
-    ensures capacity { vec_capacity numbers.new ≡ vec_capacity numbers.old }
-{
-    match wait {
-        WaitCall::Objects {
-            handles: these,
-            all: _,
-            ms: _,
-            alertable: _,
-        } => named_refusal(handles, objects, thread, these.as_slice(), numbers),
-        WaitCall::Sleep {
-            ms: _,
-            alertable: _,
-        } => None,
-        WaitCall::Swap {
-            signal,
-            object,
-            ms: _,
-            alertable: _,
-        } => swap_refusal(
-            objects,
-            thread,
-            object_named(handles, *signal),
-            object_named(handles, *object),
-        ),
-    }
-}
-
 impl Machine {
-    /// The refusal that this call must meet, if any. Of a wait for objects that meets none, `numbers` has their numbers then.
-    pub(crate) fn refusal(
-        &self,
-        who: u32,
-        call: &Call,
-        numbers: &mut Vec<Handle>,
-    ) -> Option<Refusal>
-        requires { 64 ≤ vec_capacity numbers.old }
-        ensures refusal { result ≡ refusal (state self.now) who (call_named self.now.handles call.now) }
-        ensures named { IfNone result (AreNamedIn self.now.handles call.now numbers.new.items) }
-        ensures capacity { vec_capacity numbers.new ≡ vec_capacity numbers.old }
+    /// The refusal that every call of this thread must meet, if any.
+    pub(crate) fn caller_refusal(&self, who: u32) -> Option<Refusal>
+        ensures refused { IfSome result (λ cause. (call : Call) → refusal (state self.now) who call ≡ Some cause) }
+        ensures free { IfNone result ((call : Call) → refusal (state self.now) who call ≡ first_of_causes (call_causes self.now.objects who call)) }
+        ensures known { IfNone result (who < self.now.threads) }
     {
         if who >= self.threads {
             return Some(Refusal::UnknownThread);
         }
-        let objects = self.objects.as_slice();
-        if has_ended(objects, who) {
+        if has_ended(self.objects.as_slice(), who) {
             return Some(Refusal::ThreadEnded);
         }
-        let thread = ThreadId::new(who as u16);
-        if self.waits.about(thread).is_some() {
+        if self.waits.about(ThreadId::new(who as u16)).is_some() {
             return Some(Refusal::ThreadWaiting);
         }
-        match call {
-            Call::Act(act) => act_refusal(objects, thread, &name_act(&self.handles, act)),
-            Call::Wait(wait) => wait_refusal(&self.handles, objects, thread, wait, numbers),
-            Call::Exit => None,
+        None
+    }
+
+    /// The refusal of an act on the numbers of objects by its own causes.
+    pub(crate) fn refusal_of_act(&self, thread: ThreadId, act: &Act) -> Option<Refusal>
+        ensures { result ≡ first_of_causes (act_causes self.now.objects thread act.now) }
+    {
+        act_refusal(self.objects.as_slice(), thread, act)
+    }
+
+    /// The refusal of a swap of the objects with these numbers by its own causes.
+    pub(crate) fn refusal_of_swap(
+        &self,
+        thread: ThreadId,
+        signal: Handle,
+        object: Handle,
+    ) -> Option<Refusal>
+        ensures { result ≡ first_of_causes (swap_causes self.now.objects thread signal object) }
+    {
+        swap_refusal(self.objects.as_slice(), thread, signal, object)
+    }
+
+    /// The refusal of a wait for these handles by its own causes, and the numbers of the objects that they name where it has none.
+    pub(crate) fn refusal_of_wait(
+        &self,
+        thread: ThreadId,
+        these: &[Handle],
+        numbers: &mut Vec<Handle>,
+    ) -> Option<Refusal>
+        requires { 64 ≤ vec_capacity numbers.old }
+        ensures refusal { result ≡ first_of_causes (objects_causes self.now.objects thread (map (object_named self.now.handles) these.now)) }
+        ensures named { IfNone result (numbers.new.items ≡ map (object_named self.now.handles) these.now) }
+        ensures capacity { vec_capacity numbers.new ≡ vec_capacity numbers.old }
+    {
+        if these.len() > WAIT_LIMIT {
+            return Some(Refusal::InvalidParameter);
         }
+        name_all(&self.handles, these, numbers);
+        objects_refusal(self.objects.as_slice(), thread, numbers.as_slice())
     }
 }

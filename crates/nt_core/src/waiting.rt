@@ -1,16 +1,17 @@
 //! How a thread's own wait begins.
-ghost use Rattle.std.specs.Prelude.{◌≡◌, ◌≢◌, ◌&&◌, ◌+◌, ◌<◌, [], None, true, false, OnOk, OnErr, IfOk, IfErr, is_some, IfSome, IfNone, IsTrue, length, slice_set, Option, ℕ};
+ghost use Rattle.std.specs.Prelude.{◌≡◌, ◌≢◌, ◌&&◌, ◌+◌, ◌<◌, [], None, true, false, OnOk, OnErr, IfOk, IfErr, is_some, IfSome, IfNone, IsTrue, length, map, slice_set, vec_capacity, ◌≤◌, Option, ℕ};
 ghost use Rattle.std.specs.Option.{OnSome};
-ghost use Rattle.std.specs.FinMap as map;
+ghost use Rattle.std.specs.FinMap as fin;
 ghost use Rattle.nt_status.specs.declared.refusal.Refusal.TheVariants.{Memory};
 ghost use Rattle.nt_apc.specs.Queues.{has_apc};
 ghost use Rattle.nt_core.specs.State.{deadline_after, pending_too};
-ghost use Rattle.nt_core.specs.Naming.{wait_named, AreNamed};
+ghost use Rattle.nt_core.specs.Naming.{object_named, wait_named};
 ghost use Rattle.nt_core.specs.Dispatcher.{state};
 ghost use Rattle.nt_core.specs.Serving.{late_status, wait_for, fits, status, taken_by};
 ghost use Rattle.nt_core.specs.Steps.{begun, wait_of};
-ghost use Rattle.nt_core.specs.Refusals.{refusal, grows, would_pend};
+ghost use Rattle.nt_core.specs.Refusals.{refusal, first_of_causes, call_causes, IsRefusal, would_pend};
 ghost use Rattle.nt_core.specs.declared.call.Call.{Call};
+ghost use Rattle.nt_core.specs.declared.call.WaitCall.{WaitCall};
 ghost use Rattle.nt_core.specs.Lawful.{IsSoundWait, IsSound, IsSteady};
 ghost use Rattle.nt_core.specs.Accepts.{IsFresh, Accepts};
 
@@ -49,9 +50,9 @@ pub(crate) fn late_status(sleeps: bool) -> Status
 impl Machine {
     /// The wait pends from now on. Where memory is refused nothing changes.
     fn pend(&mut self, thread: ThreadId, wait: Wait) -> Result<(), Refusal>
-        requires idle { map.get self.old.table.pending thread ≡ None }
+        requires idle { fin.get self.old.table.pending thread ≡ None }
         requires able { IsSoundWait self.old.threads self.old.objects thread wait }
-        requires room { length self.old.grants + map.len self.old.table.pending < self.old.threads }
+        requires room { length self.old.grants + fin.len self.old.table.pending < self.old.threads }
         requires sound { IsSound self.old }
         ensures state { OnOk result (state self.new ≡ pending_too (state self.old) thread wait) }
         ensures sound { IsSound self.new }
@@ -85,7 +86,7 @@ impl Machine {
 
     /// Where the objects satisfy the caller's wait, takes them, and answers its status.
     fn take_now(&mut self, thread: ThreadId, handles: &[Handle], all: bool) -> Option<Status>
-        requires idle { map.get self.old.table.pending thread ≡ None }
+        requires idle { fin.get self.old.table.pending thread ≡ None }
         requires able { IsSoundWait self.old.threads self.old.objects thread (wait_for handles.now all) }
         requires steady { IsSteady self.old }
         ensures fits { is_some result ≡ fits self.old.objects thread (wait_for handles.now all) }
@@ -111,7 +112,7 @@ impl Machine {
         ms: u32,
         alertable: bool,
     ) -> Option<Status>
-        requires idle { map.get self.old.table.pending thread ≡ None }
+        requires idle { fin.get self.old.table.pending thread ≡ None }
         requires able { IsSoundWait self.old.threads self.old.objects thread (wait_for handles.now all) }
         requires steady { IsSteady self.old }
         ensures begun { IfSome result (λ code. (deadline : Option ℕ) → (Reply.Status code, state self.new) ≡ begun (state self.old) thread (record { handles = handles.now; all = all; alertable = alertable; deadline = deadline }) ms) }
@@ -145,9 +146,9 @@ impl Machine {
         ms: u32,
         alertable: bool,
     ) -> Result<Reply, Refusal>
-        requires idle { map.get self.old.table.pending thread ≡ None }
+        requires idle { fin.get self.old.table.pending thread ≡ None }
         requires able { IsSoundWait self.old.threads self.old.objects thread (wait_for handles.now all) }
-        requires room { length self.old.grants + map.len self.old.table.pending < self.old.threads }
+        requires room { length self.old.grants + fin.len self.old.table.pending < self.old.threads }
         requires steady { IsSteady self.old }
         ensures begun { IfOk result (λ reply. (reply, state self.new) ≡ begun (state self.old) thread (record { handles = handles.now; all = all; alertable = alertable; deadline = deadline_after self.old.now ms }) ms) }
         ensures steady { IsSteady self.new }
@@ -170,28 +171,76 @@ impl Machine {
         Ok(Reply::Pended)
     }
 
-    /// A waiting call that no cause refuses. Where it is for objects, `numbers` are the numbers of these.
+    /// The caller's wait for the objects that these handles name, begun or refused by its own causes.
+    fn wait_for(
+        &mut self,
+        thread: ThreadId,
+        these: &[Handle],
+        all: bool,
+        ms: u32,
+        alertable: bool,
+        numbers: &mut Vec<Handle>,
+    ) -> Result<Reply, Refusal>
+        requires few { 64 ≤ vec_capacity numbers.old }
+        requires fresh { IsFresh self.old }
+        requires caller { (call : Call) → refusal (state self.old) thread call ≡ first_of_causes (call_causes self.old.objects thread call) }
+        ensures free { OnOk result (refusal (state self.old) thread (Call.Wait (WaitCall.Objects all alertable ms (map (object_named self.old.handles) these.now))) ≡ None) }
+        ensures ok { IfOk result (λ reply. Accepts self.old self.new thread (Call.Wait (WaitCall.Objects all alertable ms (map (object_named self.old.handles) these.now))) reply) }
+        ensures refused { IfErr result (λ cause. IsRefusal (state self.old) thread (Call.Wait (WaitCall.Objects all alertable ms (map (object_named self.old.handles) these.now))) cause) }
+        ensures err { OnErr result (self.new ≡ self.old) }
+        ensures few { 64 ≤ vec_capacity numbers.new }
+    {
+        match self.refusal_of_wait(thread, these, numbers) {
+            Some(refusal) => Err(refusal),
+            None => self.begin_wait(thread, numbers.as_slice(), all, ms, alertable),
+        }
+    }
+
+    /// A swap of the objects with these numbers, made or refused by its own causes.
+    fn judge_swap(
+        &mut self,
+        thread: ThreadId,
+        signal: Handle,
+        object: Handle,
+        ms: u32,
+        alertable: bool,
+    ) -> Result<Reply, Refusal>
+        requires fresh { IsFresh self.old }
+        requires caller { (call : Call) → refusal (state self.old) thread call ≡ first_of_causes (call_causes self.old.objects thread call) }
+        ensures free { OnOk result (refusal (state self.old) thread (Call.Wait (WaitCall.Swap signal object ms alertable)) ≡ None) }
+        ensures ok { IfOk result (λ reply. Accepts self.old self.new thread (Call.Wait (WaitCall.Swap signal object ms alertable)) reply) }
+        ensures refused { IfErr result (λ cause. IsRefusal (state self.old) thread (Call.Wait (WaitCall.Swap signal object ms alertable)) cause) }
+        ensures err { OnErr result (self.new ≡ self.old) }
+    {
+        match self.refusal_of_swap(thread, signal, object) {
+            Some(refusal) => Err(refusal),
+            None => self.swap(thread, signal, object, ms, alertable),
+        }
+    }
+
+    /// A waiting call, begun or refused by its own causes.
     pub(crate) fn wait(
         &mut self,
         thread: ThreadId,
         call: &WaitCall,
-        numbers: &[Handle],
+        numbers: &mut Vec<Handle>,
     ) -> Result<Reply, Refusal>
+        requires few { 64 ≤ vec_capacity numbers.old }
         requires fresh { IsFresh self.old }
-        requires free { refusal (state self.old) thread (Call.Wait (wait_named self.old.handles call.now)) ≡ None }
-        requires named { AreNamed self.old.handles call.now numbers.now }
+        requires caller { (call : Call) → refusal (state self.old) thread call ≡ first_of_causes (call_causes self.old.objects thread call) }
+        ensures free { OnOk result (refusal (state self.old) thread (Call.Wait (wait_named self.old.handles call.now)) ≡ None) }
         ensures ok { IfOk result (λ reply. Accepts self.old self.new thread (Call.Wait (wait_named self.old.handles call.now)) reply) }
-        ensures grows { OnErr result (IsTrue (grows (state self.old) thread (Call.Wait (wait_named self.old.handles call.now)))) }
-        ensures memory { IfErr result (λ refusal. refusal ≡ Memory) }
+        ensures refused { IfErr result (λ cause. IsRefusal (state self.old) thread (Call.Wait (wait_named self.old.handles call.now)) cause) }
         ensures err { OnErr result (self.new ≡ self.old) }
+        ensures few { 64 ≤ vec_capacity numbers.new }
     {
         match call {
             WaitCall::Objects {
-                handles: _,
+                handles,
                 all,
                 ms,
                 alertable,
-            } => self.begin_wait(thread, numbers, *all, *ms, *alertable),
+            } => self.wait_for(thread, handles.as_slice(), *all, *ms, *alertable, numbers),
             WaitCall::Sleep { ms, alertable } => self.begin_wait(
                 thread,
                 &[],
@@ -207,7 +256,7 @@ impl Machine {
             } => {
                 let signal = object_named(&self.handles, *signal);
                 let object = object_named(&self.handles, *object);
-                self.swap(thread, signal, object, *ms, *alertable)
+                self.judge_swap(thread, signal, object, *ms, *alertable)
             }
         }
     }

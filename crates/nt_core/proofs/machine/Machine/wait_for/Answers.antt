@@ -1,0 +1,73 @@
+use Rattle.std.proofs.Common.{◌≡◌, ℕ, List, [], length, arith, sym, ap, ◌∙◌, subst, refl, false}
+use Rattle.std.specs.Prelude.{map}
+use Rattle.nt_core.specs.declared.call.Call.{Call}
+use Rattle.nt_core.specs.declared.call.WaitCall.{WaitCall}
+use Rattle.nt_core.specs.Naming.{object_named}
+use Rattle.nt_core.specs.State.{deadline_after}
+use Rattle.nt_core.specs.Dispatcher.{state}
+use Rattle.nt_core.specs.Serving.{wait_for}
+use Rattle.nt_core.specs.Steps.{begun}
+use Rattle.nt_core.specs.Lawful.{IsSoundWait}
+use Rattle.nt_core.specs.Accepts.{Accepts}
+use Rattle.nt_core.specs.Refusals.{grows}
+use Rattle.std.specs.Prelude.{IsTrue, OnErr}
+use Rattle.nt_core.proofs.Accepting.{ok_then, free_caller, sound_objects, wait_accepted}
+use Rattle.nt_core.proofs.Beginning.{room_to_begin}
+use Rattle.nt_core.proofs.Judging.{is_refusal, tried_refused, tried_free}
+use Rattle.nt_core.proofs.machine.Machine.wait_for.Goals as goal
+
+pub begin_wait-requires-clause-idle : goal.begin_wait-requires-clause-idle
+begin_wait-requires-clause-idle c =
+    let call = Call.Wait (WaitCall.Objects c.args.all c.args.alertable c.args.ms (map (object_named c.args.self.now.handles) c.args.these.now)) in
+    let caller = free_caller (state c.args.self.now) c.args.thread call (c.requires.caller call ∙ (sym c.refusal_of_wait.ensures.refusal ∙ c.in-None.is)) in
+    caller.2
+
+pub begin_wait-requires-clause-able : goal.begin_wait-requires-clause-able
+begin_wait-requires-clause-able c =
+    let s = state c.args.self.now in
+    let named = map (object_named s.handles) c.args.these.now in
+    let call = Call.Wait (WaitCall.Objects c.args.all c.args.alertable c.args.ms named) in
+    subst (λ (hs : List ℕ). IsSoundWait s.threads s.objects c.args.thread (wait_for hs c.args.all)) (sym (c.as_slice.ensures.value ∙ c.in-None.ensures.named))
+    (sound_objects s c.args.thread named c.args.all c.args.alertable c.args.ms (c.requires.caller call ∙ (sym c.refusal_of_wait.ensures.refusal ∙ c.in-None.is)))
+
+pub begin_wait-requires-clause-room : goal.begin_wait-requires-clause-room
+begin_wait-requires-clause-room c =
+    let d = c.args.self.now in
+    let call = Call.Wait (WaitCall.Objects c.args.all c.args.alertable c.args.ms (map (object_named d.handles) c.args.these.now)) in
+    let caller = free_caller (state d) c.args.thread call (c.requires.caller call ∙ (sym c.refusal_of_wait.ensures.refusal ∙ c.in-None.is)) in
+    let room = room_to_begin d c.args.thread (wait_for [] false) c.requires.fresh.steady.sound caller.0 caller.2 in
+    let first : length d.grants ≡ 0 = ap (λ gs. length gs) c.requires.fresh.no_grants in
+    omega (arith, room, first)
+
+pub returns-in-Some-clause-refused : goal.returns-in-Some-clause-refused
+returns-in-Some-clause-refused c =
+    let call = Call.Wait (WaitCall.Objects c.args.all c.args.alertable c.args.ms (map (object_named c.args.self.now.handles) c.args.these.now)) in
+    is_refusal (state c.args.self.now) c.args.thread call c.in-Some.refusal (c.requires.caller call ∙ (sym c.refusal_of_wait.ensures.refusal ∙ c.in-Some.is))
+
+pub returns-in-None-clause-free : goal.returns-in-None-clause-free
+returns-in-None-clause-free c =
+    let call = Call.Wait (WaitCall.Objects c.args.all c.args.alertable c.args.ms (map (object_named c.args.self.now.handles) c.args.these.now)) in
+    tried_free c.begin_wait.result (c.requires.caller call ∙ (sym c.refusal_of_wait.ensures.refusal ∙ c.in-None.is))
+
+pub returns-in-None-clause-ok : goal.returns-in-None-clause-ok
+returns-in-None-clause-ok c =
+    let old = c.args.self.now in
+    let new = c.begin_wait.new.self in
+    let began = c.begin_wait.ensures in
+    let named = map (object_named old.handles) c.args.these.now in
+    ok_then
+    (λ reply. (reply, state new) ≡ begun (state old) c.args.thread (record { handles = c.as_slice.result.now; all = c.args.all; alertable = c.args.alertable; deadline = deadline_after old.now c.args.ms }) c.args.ms)
+    (λ reply. Accepts old new c.args.thread (Call.Wait (WaitCall.Objects c.args.all c.args.alertable c.args.ms named)) reply)
+    (λ reply begins.
+    wait_accepted old new c.args.thread (WaitCall.Objects c.args.all c.args.alertable c.args.ms named) reply c.requires.fresh began.grants began.looked began.steady refl
+    (begins ∙ ap (λ (hs : List ℕ). begun (state old) c.args.thread (record { handles = hs; all = c.args.all; alertable = c.args.alertable; deadline = deadline_after old.now c.args.ms }) c.args.ms) (c.as_slice.ensures.value ∙ c.in-None.ensures.named)))
+    c.begin_wait.result began.begun
+
+pub returns-in-None-clause-refused : goal.returns-in-None-clause-refused
+returns-in-None-clause-refused c =
+    let s = state c.args.self.now in
+    let named = map (object_named s.handles) c.args.these.now in
+    let call = Call.Wait (WaitCall.Objects c.args.all c.args.alertable c.args.ms named) in
+    tried_refused s c.args.thread call c.begin_wait.result (c.requires.caller call ∙ (sym c.refusal_of_wait.ensures.refusal ∙ c.in-None.is))
+    (subst (λ (hs : List ℕ). OnErr c.begin_wait.result (IsTrue (grows s c.args.thread (Call.Wait (WaitCall.Objects c.args.all c.args.alertable c.args.ms hs))))) (c.as_slice.ensures.value ∙ c.in-None.ensures.named) c.begin_wait.ensures.grows)
+    c.begin_wait.ensures.memory
