@@ -4,6 +4,7 @@ mod Tries
 mod Orders
 mod Keeping
 mod Walks
+mod Stopping
 mod Visiting
 mod Changing
 mod Accepting

@@ -6,13 +6,13 @@ ghost use Rattle.nt_owners.specs.Objects.{OwnersAgree};
 ghost use Rattle.nt_core.specs.State.{pends, opening};
 ghost use Rattle.nt_core.specs.Dispatcher.{state};
 ghost use Rattle.nt_core.specs.Serving.{sequence, Serve};
-ghost use Rattle.nt_core.specs.Visits.{IsVisited, Visits, FitOnlyIn};
+ghost use Rattle.nt_core.specs.Visits.{IsVisited, Visits, FitOnlyBy, FitOnlyIn};
 ghost use Rattle.nt_core.specs.Lawful.{IsSound, IsSteady};
 ghost use Rattle.nt_core.specs.Accepts.{IsFresh};
 
 use crate::call::Grant;
 use crate::objects::quiet_alarms;
-use crate::serving::try_wait;
+use crate::serving::{is_ready, try_wait};
 use nt_alarms::Alarms;
 use nt_apc::ApcQueues;
 use nt_objects::{HandleTable, Object};
@@ -151,6 +151,44 @@ impl Machine {
         ensures least { length self.new.grants ≤ self.new.table.looked }
     {
         self.serve_all(changed);
+    }
+
+    /// Visits the waits on this handle, in the order in which they began, until its object is signaled for none that is left. The
+    /// caller knows that a wait that fits needs this object.
+    fn serve_first(&mut self, handle: Handle)
+        requires sound { IsSound self.old }
+        requires needed { FitOnlyBy handle (state self.old) }
+        requires countable { self.old.table.looked + length ((state self.old).queues handle) < 2 ^ 64 }
+        ensures visits { Visits ((state self.old).queues handle) self.old self.new }
+        ensures prepared { self.new.table.prepared ≡ self.old.table.prepared }
+        ensures sound { IsSound self.new }
+    {
+        let mut next = self.waits.first_on(handle);
+        while let Some(thread) = next {
+            if !is_ready(self.objects.as_slice(), thread, handle) {
+                return;
+            }
+            next = self.waits.next_on(handle, thread);
+            self.visit(thread);
+        }
+    }
+
+    /// Grants what fits after the object at this handle alone changed. The caller knows that a wait that fits names it, and needs
+    /// it.
+    pub(crate) fn serve_one(&mut self, handle: Handle)
+        requires sound { IsSound self.old }
+        requires local { FitOnlyIn (sequence (state self.old) (handle ∷ [])) (state self.old) }
+        requires needed { FitOnlyBy handle (state self.old) }
+        requires first { self.old.grants ≡ [] }
+        requires anew { self.old.table.looked ≡ 0 }
+        requires countable { length (sequence (state self.old) (handle ∷ [])) < 2 ^ 64 }
+        ensures served { Serve (sequence (state self.old) (handle ∷ [])) (state self.old) self.new.grants (state self.new) }
+        ensures prepared { self.new.table.prepared ≡ self.old.table.prepared }
+        ensures sound { IsSound self.new }
+        ensures most { self.new.table.looked ≤ length (sequence (state self.old) (handle ∷ [])) }
+        ensures least { length self.new.grants ≤ self.new.table.looked }
+    {
+        self.serve_first(handle);
     }
 }
 

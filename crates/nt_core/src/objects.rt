@@ -90,6 +90,6 @@ impl Machine {
         ensures prepared { self.new.table.prepared ≡ self.old.table.prepared }
     {
         self.exchange_owned(handle, object);
-        self.serve(&[handle]);
+        self.serve_one(handle);
     }
 }

@@ -11,7 +11,7 @@ use nt_owners::ObjectTable;
 use nt_status::{Handle, Status, ThreadId};
 
 /// Whether the object at this handle is signaled for the thread. A number that no object has is not.
-fn is_ready(objects: &[Object], thread: ThreadId, handle: Handle) -> bool
+pub fn is_ready(objects: &[Object], thread: ThreadId, handle: Handle) -> bool
     ensures { result ≡ is_ready objects.now thread handle }
 {
     match objects.get(handle.get() as usize) {

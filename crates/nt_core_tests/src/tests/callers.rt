@@ -1,7 +1,7 @@
 //! Callers, handles, and what the core tests: what holds of every call.
 use crate::tests::play::play_all;
 use crate::tests::script::Answer::{Done, Handle, Pended, Status};
-use crate::tests::script::Ask::{All, Any, Event, Set, Sleep};
+use crate::tests::script::Ask::{All, Any, Event, Mutex, Set, Sleep, Unlock};
 use crate::tests::script::Step::{Call, CreateEvents, Idle, Tested, Waiting};
 use crate::tests::script::{
     HANDLE_LIMIT, INFINITE, INVALID_PARAMETER, Scenario, THREAD_WAITING, UNKNOWN_THREAD,
@@ -52,6 +52,24 @@ const SCENARIOS: &[Scenario] = &[
             Tested(0),
             Waiting(&[0]),
             Idle(&[1, 2, 3, 65536]),
+        ],
+    },
+    Scenario {
+        shows: "no wait is tested after the one that took the object",
+        threads: 4,
+        steps: &[
+            Call(3, Event(0), &[], Handle(4), &[]),
+            Call(3, Mutex(1), &[], Handle(5), &[]),
+            Call(0, Any(INFINITE), &[4], Pended, &[]),
+            Call(1, Any(INFINITE), &[4], Pended, &[]),
+            Call(2, Any(INFINITE), &[5, 4], Pended, &[]),
+            Call(3, Set, &[4], Done, &[(0, 0)]),
+            Tested(1),
+            Call(0, Any(INFINITE), &[5], Pended, &[]),
+            Call(3, Unlock, &[5], Done, &[(2, 0)]),
+            Tested(1),
+            Call(3, Set, &[4], Done, &[(1, 0)]),
+            Tested(1),
         ],
     },
 ];
