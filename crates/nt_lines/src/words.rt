@@ -5,6 +5,8 @@ ghost use Rattle.std.specs.List.{list_all, position_or_len};
 ghost use Rattle.std.specs.Str.Lines.{strip_carriage_return};
 ghost use Rattle.nt_lines.specs.Words.{is_gap, is_no_gap, are_digits, is_digit, number_of, value_after, fitting, caller_of, is_letter, is_name_byte, is_identifier, is_thread_like, is_name, is_plain, is_semicolon, comment_start, text_of, IsFirstWord};
 
+use memchr::memchr;
+
 /// The first word, and what stands after it.
 pub fn first_word<'a>(text: &'a [u8]) -> Option<(&'a [u8], &'a [u8])>
     ensures { IsFirstWord text.now result }
@@ -157,10 +159,15 @@ pub fn text_of(line: &[u8]) -> Option<&[u8]>
     if are_plain(text) { Some(text) } else { None }
 }
 
+/// It looks at every byte, many at once: nearly all texts are plain.
 fn are_plain(text: &[u8]) -> bool
     ensures { result ≡ list_all is_plain text.now }
 {
-    text.iter().all(|byte| is_plain(*byte))
+    let mut plain = true;
+    for byte in text {
+        plain &= is_plain(*byte);
+    }
+    plain
 }
 
 fn is_plain(byte: u8) -> bool
@@ -198,11 +205,5 @@ fn first_semicolon(line: &[u8]) -> Option<usize>
     ensures place { result ≡ position is_semicolon line.now }
     ensures within { IfSome result (λ place. place < length line.now) }
 {
-    line.iter().position(|byte| is_semicolon(*byte))
-}
-
-fn is_semicolon(byte: u8) -> bool
-    ensures { result ≡ is_semicolon byte }
-{
-    byte == b';'
+    memchr(b';', line)
 }

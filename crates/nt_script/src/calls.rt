@@ -284,8 +284,9 @@ fn objects(alloc: Global, bindings: &Bindings, mut words: Words) -> Result<Handl
     ensures { Gives (λ handles. handles) result (each_at bindings.now.scope ObjectPlace words.entry) }
 {
     let mut handles = Handles::new(alloc);
+    let mut place = 0;
     while let Ok(word) = words.next() {
-        let object = object_of(bindings, word)?;
+        let object = object_of(bindings, &mut place, word)?;
         handles.push(object)?;
     }
     Ok(handles)

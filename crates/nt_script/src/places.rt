@@ -76,7 +76,8 @@ impl<'a> Words<'a> {
         ensures { Takes (λ handle. handle) result self.new (object_at bindings.now.scope self.old) }
     {
         let word = self.next()?;
-        object_of(bindings, word)
+        let mut first = 0;
+        object_of(bindings, &mut first, word)
     }
 
     /// A timeout in milliseconds, or `inf`.
@@ -166,11 +167,15 @@ fn signed64_in(word: &[u8]) -> Option<i64>
     }
 }
 
-/// The handle that a word means, or the word's fault.
-pub(crate) fn object_of(bindings: &Bindings, word: &[u8]) -> Result<Handle, ScriptFault>
+/// The handle that a word means, or the word's fault. A name is first looked for at the place `next`.
+pub(crate) fn object_of(
+    bindings: &Bindings,
+    next: &mut usize,
+    word: &[u8],
+) -> Result<Handle, ScriptFault>
     ensures { result ≡ or_fault (object_in bindings.now.scope word.now) (blame ObjectPlace word.now) }
 {
-    match object_in(bindings, word) {
+    match object_in(bindings, next, word) {
         Some(handle) => Ok(handle),
         None if are_digits(word) => Err(ScriptFault::BadNumber),
         None => Err(ScriptFault::UnknownName),
@@ -178,24 +183,24 @@ pub(crate) fn object_of(bindings: &Bindings, word: &[u8]) -> Result<Handle, Scri
 }
 
 /// The handle that a word means: digits alone are a handle's number.
-fn object_in(bindings: &Bindings, word: &[u8]) -> Option<Handle>
+fn object_in(bindings: &Bindings, next: &mut usize, word: &[u8]) -> Option<Handle>
     ensures { result ≡ object_in bindings.now.scope word.now }
 {
     if are_digits(word) {
         let number = number_in(word, 0, u64::from(u32::MAX))?;
         return Some(Handle::new(number as u32));
     }
-    named_object(bindings, word)
+    named_object(bindings, next, word)
 }
 
 /// A thread's object, or what a name stands for.
-fn named_object(bindings: &Bindings, word: &[u8]) -> Option<Handle>
+fn named_object(bindings: &Bindings, next: &mut usize, word: &[u8]) -> Option<Handle>
     ensures { result ≡ named_object bindings.now.scope word.now }
 {
     if let Some(thread) = caller_of(word) {
         return (thread < bindings.threads()).then_some(Handle::new(thread));
     }
-    bindings.get(word)
+    bindings.get_next(next, word)
 }
 
 fn time_in(word: &[u8]) -> Option<u32>

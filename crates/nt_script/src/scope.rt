@@ -1,6 +1,6 @@
 //! What a script has bound.
 
-ghost use Rattle.std.specs.Prelude.{◌≡◌, ◌++◌, ◌∷◌, ◌<◌, [], None, OnOk};
+ghost use Rattle.std.specs.Prelude.{◌≡◌, ◌++◌, ◌∷◌, ◌<◌, [], None, Some, IfSome, OnOk};
 ghost use Rattle.nt_script.specs.Scope.{bound_in};
 
 use indexmap::IndexMap;
@@ -47,6 +47,43 @@ impl Bindings {
         ensures { result ≡ bound_in self.now.scope.names name.now }
     {
         self.names.get(name).copied()
+    }
+
+    /// The handle of the name at this place in the order of first use, where it is this name.
+    fn at(&self, place: usize, name: &[u8]) -> Option<Handle>
+        ensures { IfSome result (λ handle. bound_in self.now.scope.names name.now ≡ Some handle) }
+    {
+        match self.names.get_index(place) {
+            Some((bound, handle)) if bound.as_slice() == name => Some(*handle),
+            _ => None,
+        }
+    }
+
+    /// The handle of a name, and in `next` the place after its own.
+    fn find(&self, next: &mut usize, name: &[u8]) -> Option<Handle>
+        ensures { result ≡ bound_in self.now.scope.names name.now }
+    {
+        match self.names.get_full(name) {
+            Some((place, _, handle)) => {
+                *next = place.saturating_add(1);
+                Some(*handle)
+            }
+            None => None,
+        }
+    }
+
+    /// The handle of a name, as `get` answers it. Most lists name objects in the order of their creation: so the place after the
+    /// last one is looked at before the table.
+    pub(crate) fn get_next(&self, next: &mut usize, name: &[u8]) -> Option<Handle>
+        ensures { result ≡ bound_in self.now.scope.names name.now }
+    {
+        match self.at(*next, name) {
+            Some(handle) => {
+                *next = next.saturating_add(1);
+                Some(handle)
+            }
+            None => self.find(next, name),
+        }
     }
 
     /// Makes room for one name more.
