@@ -199,7 +199,11 @@ fn run_lines<R: Source, W: Sink>(
     ensures lines { IfOk result (λ summary. summary.lines < 2 ^ 64 - 1) }
 {
     match Runner::new(alloc) {
-        Ok(mut runner) => runner.take_lines(alloc, reader, writer),
+        Ok(mut runner) => {
+            let answer = runner.take_lines(alloc, reader, writer);
+            drop(runner);
+            answer
+        }
         Err(_) => Err(RunFault::Memory { line: 1 }),
     }
 }

@@ -22,6 +22,7 @@ use nt_core::{Act, Call, Core, Reply};
 use nt_lines::put;
 use nt_status::{Handle, Moment, Refusal};
 use std::alloc::{AllocError, Global};
+use std::mem;
 
 /// How the line after the last begins.
 const END: &[u8] = b"end: pending";
@@ -233,6 +234,17 @@ impl Session {
     }
 }
 
+/// Carries out a line before `threads`, where there is no session yet.
+fn begin(session: &mut Option<Session>, alloc: Global, line: &[u8]) -> Result<(), LineFault>
+    requires short { length line.now ≤ 4096 }
+    ensures opens { OnOk result (Opens line.now (Ok session.new)) }
+    ensures fault { IfErr result (λ fault. Opens line.now (Err fault)) }
+{
+    let opened = open(alloc, line)?;
+    drop(mem::replace(session, opened));
+    Ok(())
+}
+
 /// Carries out one line, and puts what it says into `out`.
 pub(crate) fn carry_out(
     session: &mut Option<Session>,
@@ -248,10 +260,7 @@ pub(crate) fn carry_out(
     out.clear();
     match session {
         Some(session) => session.carry_out(alloc, number, line, out),
-        None => {
-            *session = open(alloc, line)?;
-            Ok(())
-        }
+        None => begin(session, alloc, line),
     }
 }
 
