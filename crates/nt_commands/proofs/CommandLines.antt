@@ -14,7 +14,7 @@ use Rattle.clap.specs.declared.error.kind.ErrorKind.TheVariants.{OutOfMemory}
 use Rattle.clap.specs.declared.parser.matches.ArgMatches.{ArgMatches}
 use Rattle.clap.proofs.FaultLemmas.{stopped_fault}
 use Rattle.clap.proofs.WalkLemmas.{walk_stopped}
-use Rattle.nt_commands.specs.CommandLine.{ends_options, file_asked, file_behind, file_named}
+use Rattle.nt_commands.specs.CommandLine.{ends_options, file_asked, file_after, file_named}
 use Rattle.nt_commands.specs.Command.{command_line, file_found, file_of}
 use Rattle.nt_commands.proofs.Looks.{Look, plain, ends, long, short, look}
 use Rattle.nt_commands.proofs.Faults.{Fails, fails_first, other_fails}
@@ -29,7 +29,7 @@ labels = names_of line
 abbrev start : Walk
 start = walk_from nothing_held
 
--- what clap finds wrong with the words behind the program's name, and the subcommand that it enters
+-- what clap finds wrong with the words after the program's name, and the subcommand that it enters
 abbrev words_fault : List Text → Kinds
 words_fault words = built_fault line nothing_held words
 
@@ -41,7 +41,7 @@ abbrev Asks : Option Text → List Text → Type 0
 Asks (Some file) words = (words_fault words ≡ []) × (option_and_then file_of (words_enter words) ≡ Some file)
 Asks None words = Fails (words_fault words)
 
--- ---- `script`, and the words behind it
+-- ---- `script`, and the words after it
 
 abbrev at_script : List Text → Walk
 at_script ws = record start { stopped = Some (codes "script", ws) }
@@ -99,7 +99,7 @@ other_asked w ws utf8 bars (plain none none' holds others) = unknown w ws utf8 b
 other_asked w ws utf8 bars (long p is not others) = unknown w ws utf8 bars (long p is not others) others
 other_asked w ws utf8 bars (short b bs is none some not others) = unknown w ws utf8 bars (short b bs is none some not others) others
 
-asks : (words : List Text) → AreTexts words → Asks (file_behind words) words
+asks : (words : List Text) → AreTexts words → Asks (file_after words) words
 asks [] texts = nothing_asked
 asks (w ∷ ws) texts = go (bytes_eq (codes "script") w) refl
   where
@@ -113,13 +113,13 @@ pub are_texts : {Z : Type 0} (words : List (String Z)) → AreTexts (map string_
 are_texts [] = tt
 are_texts (word ∷ words) = (IsUtf8-string_bytes word, are_texts words)
 
-texts_behind : (words : List Text) → AreTexts words → AreTexts (drop 1 words)
-texts_behind [] texts = tt
-texts_behind (w ∷ ws) texts = texts.1
+texts_after : (words : List Text) → AreTexts words → AreTexts (drop 1 words)
+texts_after [] texts = tt
+texts_after (w ∷ ws) texts = texts.1
 
 -- where clap takes the words, its matches hold the file that they ask for
 taken : (words : List Text) (m : ArgMatches) → AreTexts words → fault_of command_line words ≡ [] → subcommand_rows_of m ≡ subcommand_of command_line words → file_found m ≡ file_asked words
-taken words m texts fine rows = ap (option_and_then file_of) rows ∙ go (file_behind (drop 1 words)) (asks (drop 1 words) (texts_behind words texts))
+taken words m texts fine rows = ap (option_and_then file_of) rows ∙ go (file_after (drop 1 words)) (asks (drop 1 words) (texts_after words texts))
   where
     go : (file : Option Text) → Asks file (drop 1 words) → option_and_then file_of (words_enter (drop 1 words)) ≡ file
     go (Some file) is = is.1
@@ -127,7 +127,7 @@ taken words m texts fine rows = ap (option_and_then file_of) rows ∙ go (file_b
 
 -- where clap refuses the words, and memory was there, they ask for no file
 refused : (words : List Text) (e : Error) → AreTexts words → HasKind (fault_of command_line words) e → (kind_of e ≡ OutOfMemory → ⊥) → file_asked words ≡ None
-refused words e texts kind memory = go (file_behind (drop 1 words)) (asks (drop 1 words) (texts_behind words texts))
+refused words e texts kind memory = go (file_after (drop 1 words)) (asks (drop 1 words) (texts_after words texts))
   where
     no_kind : HasKind [] e → ⊥
     no_kind (inl is) = memory is

@@ -40,7 +40,7 @@ look (b ∷ rest) = go (b == 45) refl
         (ap (λ t. option_and_then short_of_rest (cond t (Some rest) None)) h) (operand b rest h) (ap (λ t. t && bytes_eq rest (45 ∷ [])) h)
     go true h = subst (λ x. Look (x ∷ rest)) (sym (eqb-true b 45 h)) (look_dash rest)
 
--- a text that goes on behind `-` has a character there
+-- a text that goes on after `-` has a character there
 pub has_first : (b : ℕ) (bs : List ℕ) → IsUtf8 (45 ∷ b ∷ bs) → (x : ℕ) × (slice_get (chars (b ∷ bs)) 0 ≡ Some x)
 unfolding chars encode_utf8
 has_first b bs utf8 = go (chars (b ∷ bs)) (encodes-chars (45 ∷ b ∷ bs) utf8)

@@ -1,4 +1,4 @@
--- What clap makes of the words behind `script`.
+-- What clap makes of the words after `script`.
 use Rattle.std.proofs.Common.{◌≡◌, ◌∙◌, Bool, cond, true, false, ◌&&◌, refl, sym, ap, ap₂, subst, List, [], ◌∷◌, Option, Some, None, codes}
 use Rattle.std.specs.Prelude.{slice_index_or}
 use Rattle.std.specs.Str.{IsUtf8}
@@ -32,15 +32,15 @@ start = walk_from nothing_held
 abbrev file_held : Text → Held
 file_held file = record { rows = []; pending = Some (codes "file", file ∷ []); skip = 0 }
 
--- behind the file
+-- after the file
 abbrev at_file : Text → Walk
 at_file file = record { held = file_held file; waiting = idle; position = 2; is_trailing = false; stopped = None }
 
--- behind `--`
+-- after `--`
 abbrev at_dashes : Walk
 at_dashes = record start { is_trailing = true }
 
--- behind both
+-- after both
 abbrev at_both : Text → Walk
 at_both file = record (at_file file) { is_trailing = true }
 
@@ -77,7 +77,7 @@ abbrev pub Judged : Option Text → List Text → Type 0
 Judged (Some file) ws = Named file ws
 Judged None ws = Fails (script_fault ws)
 
--- the faults behind the last word
+-- the faults after the last word
 abbrev end_fault : Walk → Kinds
 end_fault v = or_else (settle_fault leaf.rules leaf.args_override_self v.held) (or_else (defaults_fault (settled leaf.rules v.held).rows leaf.rules) (check_fault leaf (finished leaf.rules v.held) false))
 
@@ -151,15 +151,15 @@ file_dashes w none none' others =
 abbrev chosen : Bool → Bool → Bool → Text → Text → Option Text
 chosen first operand second v w = cond first (Some w) (cond (operand && second) (Some v) None)
 
-behind_file : (v w : Text) → IsUtf8 w → Look w → long_of v ≡ None → short_of v ≡ None → ends_options v ≡ false → Judged (chosen false true (ends_options w) v w) (v ∷ w ∷ [])
-behind_file v w utf8 (ends is) none none' others = subst (λ u. Judged (chosen false true (ends_options u) v u) (v ∷ u ∷ [])) (sym is) (file_dashes v none none' others)
-behind_file v w utf8 (plain n n' holds not) none none' others =
+after_file : (v w : Text) → IsUtf8 w → Look w → long_of v ≡ None → short_of v ≡ None → ends_options v ≡ false → Judged (chosen false true (ends_options w) v w) (v ∷ w ∷ [])
+after_file v w utf8 (ends is) none none' others = subst (λ u. Judged (chosen false true (ends_options u) v u) (v ∷ u ∷ [])) (sym is) (file_dashes v none none' others)
+after_file v w utf8 (plain n n' holds not) none none' others =
     subst (λ t. Judged (chosen false true t v w) (v ∷ w ∷ [])) (sym not)
     (fails_at (v ∷ w ∷ []) (later start (at_file v) v (w ∷ []) (to_file v none none' others) (other_at_file v w [] utf8 (plain n n' holds not) not)))
-behind_file v w utf8 (long p is bars not) none none' others =
+after_file v w utf8 (long p is bars not) none none' others =
     subst (λ t. Judged (chosen false true t v w) (v ∷ w ∷ [])) (sym not)
     (fails_at (v ∷ w ∷ []) (later start (at_file v) v (w ∷ []) (to_file v none none' others) (other_at_file v w [] utf8 (long p is bars not) not)))
-behind_file v w utf8 (short b bs is n some bars not) none none' others =
+after_file v w utf8 (short b bs is n some bars not) none none' others =
     subst (λ t. Judged (chosen false true t v w) (v ∷ w ∷ [])) (sym not)
     (fails_at (v ∷ w ∷ []) (later start (at_file v) v (w ∷ []) (to_file v none none' others) (other_at_file v w [] utf8 (short b bs is n some bars not) not)))
 
@@ -171,29 +171,29 @@ option_first v w utf8 looks bars others =
 two : (v w : Text) → IsUtf8 v → IsUtf8 w → Look v → Look w → Judged (file_named (v ∷ w ∷ [])) (v ∷ w ∷ [])
 two v w utf8 utf8' (plain none none' holds others) looks =
     subst (λ t. Judged (chosen t (is_operand v) (ends_options w) v w) (v ∷ w ∷ [])) (sym others)
-    (subst (λ t. Judged (chosen false t (ends_options w) v w) (v ∷ w ∷ [])) (sym holds) (behind_file v w utf8' looks none none' others))
+    (subst (λ t. Judged (chosen false t (ends_options w) v w) (v ∷ w ∷ [])) (sym holds) (after_file v w utf8' looks none none' others))
 two v w utf8 utf8' (ends is) looks = subst (λ u. Judged (file_named (u ∷ w ∷ [])) (u ∷ w ∷ [])) (sym is) (dashes_file w)
 two v w utf8 utf8' (long p is bars others) looks = option_first v w utf8 (long p is bars others) bars others
 two v w utf8 utf8' (short b bs is none some bars others) looks = option_first v w utf8 (short b bs is none some bars others) bars others
 
 -- ---- more words
 
-stray_behind_both : (file x : Text) (more : List Text) → Fails (walk_fault leaf [] (at_both file) (x ∷ more))
-stray_behind_both file x more = now (at_both file) x more tt
+stray_after_both : (file x : Text) (more : List Text) → Fails (walk_fault leaf [] (at_both file) (x ∷ more))
+stray_after_both file x more = now (at_both file) x more tt
 
-many_behind_file : (v w x : Text) (more : List Text) → IsUtf8 w → Look w → Fails (walk_fault leaf [] (at_file v) (w ∷ x ∷ more))
-many_behind_file v w x more utf8 (ends is) =
-    subst (λ u. Fails (walk_fault leaf [] (at_file v) (u ∷ x ∷ more))) (sym is) (later (at_file v) (at_both v) (codes "--") (x ∷ more) (file_to_both v) (stray_behind_both v x more))
-many_behind_file v w x more utf8 (plain n n' holds not) = other_at_file v w (x ∷ more) utf8 (plain n n' holds not) not
-many_behind_file v w x more utf8 (long p is bars not) = other_at_file v w (x ∷ more) utf8 (long p is bars not) not
-many_behind_file v w x more utf8 (short b bs is n some bars not) = other_at_file v w (x ∷ more) utf8 (short b bs is n some bars not) not
+many_after_file : (v w x : Text) (more : List Text) → IsUtf8 w → Look w → Fails (walk_fault leaf [] (at_file v) (w ∷ x ∷ more))
+many_after_file v w x more utf8 (ends is) =
+    subst (λ u. Fails (walk_fault leaf [] (at_file v) (u ∷ x ∷ more))) (sym is) (later (at_file v) (at_both v) (codes "--") (x ∷ more) (file_to_both v) (stray_after_both v x more))
+many_after_file v w x more utf8 (plain n n' holds not) = other_at_file v w (x ∷ more) utf8 (plain n n' holds not) not
+many_after_file v w x more utf8 (long p is bars not) = other_at_file v w (x ∷ more) utf8 (long p is bars not) not
+many_after_file v w x more utf8 (short b bs is n some bars not) = other_at_file v w (x ∷ more) utf8 (short b bs is n some bars not) not
 
 many : (v w x : Text) (more : List Text) → IsUtf8 v → IsUtf8 w → Look v → Look w → Fails (script_fault (v ∷ w ∷ x ∷ more))
 many v w x more utf8 utf8' (plain none none' holds others) looks =
-    fails_at (v ∷ w ∷ x ∷ more) (later start (at_file v) v (w ∷ x ∷ more) (to_file v none none' others) (many_behind_file v w x more utf8' looks))
+    fails_at (v ∷ w ∷ x ∷ more) (later start (at_file v) v (w ∷ x ∷ more) (to_file v none none' others) (many_after_file v w x more utf8' looks))
 many v w x more utf8 utf8' (ends is) looks =
     subst (λ u. Fails (script_fault (u ∷ w ∷ x ∷ more))) (sym is)
-    (fails_at (codes "--" ∷ w ∷ x ∷ more) (later start at_dashes (codes "--") (w ∷ x ∷ more) to_dashes (later at_dashes (at_both w) w (x ∷ more) (dashes_to_both w) (stray_behind_both w x more))))
+    (fails_at (codes "--" ∷ w ∷ x ∷ more) (later start at_dashes (codes "--") (w ∷ x ∷ more) to_dashes (later at_dashes (at_both w) w (x ∷ more) (dashes_to_both w) (stray_after_both w x more))))
 many v w x more utf8 utf8' (long p is bars others) looks = option_at_start v (w ∷ x ∷ more) utf8 (long p is bars others) bars others
 many v w x more utf8 utf8' (short b bs is none some bars others) looks = option_at_start v (w ∷ x ∷ more) utf8 (short b bs is none some bars others) bars others
 

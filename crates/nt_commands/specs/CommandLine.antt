@@ -29,13 +29,13 @@ file_named (first ∷ second ∷ []) = file_of_two first second
 file_named (first ∷ second ∷ third ∷ others) = None
 
 -- the file that the words after the program's name ask to run: those words are `script` and what names a file
-abbrev pub file_behind : List (List ℕ) → Option (List ℕ)
-file_behind [] = None
-file_behind (word ∷ words) = if bytes_eq (codes "script") word then file_named words else None
+abbrev pub file_after : List (List ℕ) → Option (List ℕ)
+file_after [] = None
+file_after (word ∷ words) = if bytes_eq (codes "script") word then file_named words else None
 
 -- the file that a command line asks to run, if it is a lawful one
 abbrev pub file_asked : List (List ℕ) → Option (List ℕ)
-file_asked words = file_behind (drop 1 words)
+file_asked words = file_after (drop 1 words)
 
 -- ---- threads
 
@@ -62,13 +62,13 @@ counts_named (first ∷ second ∷ third ∷ []) = counts_of_three first second 
 counts_named (first ∷ second ∷ third ∷ fourth ∷ others) = None
 
 -- the workers and rounds that the words after the program's name tell: those words are `threads` and what names two counts
-abbrev pub counts_behind : List (List ℕ) → Option (ℕ × ℕ)
-counts_behind [] = None
-counts_behind (word ∷ words) = if bytes_eq word (codes "threads") then counts_named words else None
+abbrev pub counts_after : List (List ℕ) → Option (ℕ × ℕ)
+counts_after [] = None
+counts_after (word ∷ words) = if bytes_eq word (codes "threads") then counts_named words else None
 
 -- the workers and rounds that a command line asks for, if it is a lawful one
 abbrev pub threads_asked : List (List ℕ) → Option (ℕ × ℕ)
-threads_asked words = counts_behind (drop 1 words)
+threads_asked words = counts_after (drop 1 words)
 
 -- there may be so many workers and rounds
 abbrev pub are_lawful : ℕ → ℕ → Bool

@@ -8,7 +8,7 @@ pub value_after-le : (n : ℕ) (digits : List ℕ) → n ≤ value_after n digit
 value_after-le n [] = omega arith
 value_after-le n (digit ∷ digits) = omega (arith, value_after-le (n * 10 + (digit - 48)) digits)
 
--- the next digit goes behind the number so far
+-- the next digit comes after those of the number so far
 pub value_after-next : (n i : ℕ) (digits : List ℕ) → i < length digits → value_after n (drop i digits) ≡ value_after (n * 10 + (get_or digits i 0 - 48)) (drop (i + 1) digits)
 value_after-next n i digits lt = rw (add-one, drop-cons digits i 0) refl
 

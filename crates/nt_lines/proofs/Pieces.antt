@@ -38,7 +38,7 @@ module _ (ahead line line' : List ℕ) (n : ℕ) (within : n ≤ length ahead) w
   -- the LF stands at this place
   pub ended : (place : ℕ) (new : List ℕ) → NoneBefore (Passes (is_byte 10) (take n ahead)) 0 (length (take n ahead)) place × Passes (is_byte 10) (take n ahead) place
       → new ≡ drop (place + 1) ahead → line' ≡ line ++ take place (take n ahead) → EndsLine ahead new line line'
-  ended place new (first, passes) rest behind =
+  ended place new (first, passes) rest added =
       let len : length (take n ahead) ≡ n = length-take-le n ahead within in
       let here : place < n = omega (arith, first.high, len) in
       let inside : place < length ahead = omega arith in
@@ -52,20 +52,20 @@ module _ (ahead line line' : List ℕ) (n : ℕ) (within : n ≤ length ahead) w
         front = sym (take-append-drop place ahead) ∙ ap (λ (l : List ℕ). take place ahead ++ l) (drop-cons ahead place 0 inside)
             ∙ ap (λ (b : ℕ). take place ahead ++ b ∷ drop (suc place) ahead) byte ∙ ap (λ (k : ℕ). take place ahead ++ 10 ∷ drop k ahead) next
             ∙ ap (λ (l : List ℕ). l ++ 10 ∷ drop (place + 1) ahead) (sym front) ∙ ap (λ (l : List ℕ). take place piece ++ 10 ∷ l) (sym rest);
-        behind = behind;
+        added = added;
       }
 
   -- there is no LF
   pub moved : (new : List ℕ) → 0 < n → Nowhere (Passes (is_byte 10) (take n ahead)) 0 (length (take n ahead)) → new ≡ drop (length (take n ahead)) ahead → line' ≡ line ++ take n ahead
       → MovesBytes ahead new line line'
-  moved new some nowhere rest behind =
+  moved new some nowhere rest added =
       let len : length (take n ahead) ≡ n = length-take-le n ahead within in
       record {
         bytes = take n ahead;
         feedless = feedless_all (take n ahead) nowhere;
         some = omega arith;
         front = sym (take-append-drop n ahead) ∙ ap (λ (k : ℕ). take n ahead ++ drop k ahead) (sym len) ∙ ap (λ (l : List ℕ). take n ahead ++ l) (sym rest);
-        behind = behind;
+        added = added;
       }
 
 pub some_bytes : (bytes : List ℕ) → (bytes ≡ [] → ⊥) → 0 < length bytes

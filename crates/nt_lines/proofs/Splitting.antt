@@ -31,7 +31,7 @@ skip_gaps (b ∷ bs) = by (skip_gaps bs) (is_gap b) refl
         let place : position_or_len is_no_gap (b ∷ bs) ≡ 0 = rw e refl in
         ap (λ (n : ℕ). words_of (drop n (b ∷ bs))) place
 
--- what stands before the first gap, and the parts behind it
+-- what stands before the first gap, and the parts after it
 record Parted (text : List ℕ) : Type 0 where
   parts : List (List ℕ)
   first : slice_split is_gap text ≡ take (position_or_len is_gap text) text ∷ parts
@@ -124,12 +124,12 @@ place_or_len text = by (nat_lt (position_or_len is_gap text) (length text)) refl
         let all : length text ≡ position_or_len is_gap text = omega (arith, far, most) in
         ap (λ (b : Bool). unwrap_or (cond b (Some (position_or_len is_gap text)) None) (length text)) is ∙ all
 
--- the slices that stand for the next word and for what is behind it
+-- the slices that stand for the next word and for what comes after it
 pub taken_word : (text : List ℕ) (start end : ℕ) → position is_no_gap text ≡ Some start → end ≡ position_or_len is_gap (take (length text - start) (drop start text))
     → words_of text ≡ take end (take (length text - start) (drop start text)) ∷ words_of (take (length (take (length text - start) (drop start text)) - end) (drop end (take (length text - start) (drop start text))))
 taken_word text start end e place =
     let rest = take_rest text start in
-    let behind = take_rest (drop start text) end in
+    let others = take_rest (drop start text) end in
     let here : end ≡ position_or_len is_gap (drop start text) = place ∙ ap (position_or_len is_gap) rest in
     let word : words_of text ≡ take end (drop start text) ∷ words_of (drop end (drop start text)) = rw here (next_word text start e) in
-    rw rest (rw behind word)
+    rw rest (rw others word)

@@ -52,14 +52,14 @@ pub record MovesBytes (old new line line' : List ℕ) : Type 0 where
   pub feedless : HasNoFeed bytes
   pub some : 0 < length bytes
   pub front : old ≡ bytes ++ new
-  pub behind : line' ≡ line ++ bytes
+  pub added : line' ≡ line ++ bytes
 
 -- the line's last bytes, and the LF after them
 pub record EndsLine (old new line line' : List ℕ) : Type 0 where
   pub bytes : List ℕ
   pub feedless : HasNoFeed bytes
   pub front : old ≡ bytes ++ 10 ∷ new
-  pub behind : line' ≡ line ++ bytes
+  pub added : line' ≡ line ++ bytes
 
 abbrev pub TakesPiece : List ℕ → List ℕ → List ℕ → List ℕ → Piece → Type 0
 TakesPiece old new line line' Ended = EndsLine old new line line' × (length line' ≤ 4096)

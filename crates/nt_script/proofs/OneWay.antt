@@ -144,14 +144,14 @@ module _ (one_way : RunsOneWay) (n : ℕ) where
           let had = subst HadMemory p.5 h in
           let had' = subst HadMemory q.5 k in
           let here = one_line line bytes scope before p.0 q.0 p.2 q.2 mid mid' s xs.0 ys.0 run xs.1 ys.1 gives gives' (had_first p.0 p.1 had) (had_first q.0 q.1 had') in
-          let behind = rest mid after after' (before ++ p.0) p.1 q.1 p.3 q.3 xs.0 a b (turns-append (opening n) s xs.0 before p.0 run xs.1) xs.2
+          let others = rest mid after after' (before ++ p.0) p.1 q.1 p.3 q.3 xs.0 a b (turns-append (opening n) s xs.0 before p.0 run xs.1) xs.2
           (subst (λ (s : State). Turns s q.1 b) (sym here.in_state) ys.2) more (subst (λ (mid : Scope). Transcript (line + 1) (Some mid) lines q.1 q.3 (Some after')) (sym here.in_scope) more')
           (had_more p.0 p.1 had) (had_more q.0 q.1 had') in
           record {
-            in_turns = p.5 ∙ ap (λ (first : List Turn). first ++ p.1) here.in_turns ∙ ap (λ (more : List Turn). q.0 ++ more) behind.in_turns ∙ sym q.5;
-            in_text = p.6 ∙ ap (λ (first : List ℕ). first ++ p.3) here.in_text ∙ ap (λ (more : List ℕ). q.2 ++ more) behind.in_text ∙ sym q.6;
-            in_scope = behind.in_scope;
-            in_state = behind.in_state;
+            in_turns = p.5 ∙ ap (λ (first : List Turn). first ++ p.1) here.in_turns ∙ ap (λ (more : List Turn). q.0 ++ more) others.in_turns ∙ sym q.5;
+            in_text = p.6 ∙ ap (λ (first : List ℕ). first ++ p.3) here.in_text ∙ ap (λ (more : List ℕ). q.2 ++ more) others.in_text ∙ sym q.6;
+            in_scope = others.in_scope;
+            in_state = others.in_state;
           }
 
   no_more : (line : ℕ) → Alike [] line

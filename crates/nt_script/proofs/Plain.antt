@@ -148,8 +148,8 @@ pub plain_numeral : (n : ℕ) (word : List ℕ) → Numeral n word → plain_wor
 plain_numeral n [] h = let some = h.some in absurd (omega arith)
 plain_numeral n (first ∷ others) h = rw h.digits (zeros_gone (first ∷ others) h.digits h.some (omega (arith, h.value, h.fits)) ∙ ap decimal h.value)
 
-plain_behind_t : (n : ℕ) (digits : List ℕ) → Numeral n digits → plain_word (116 ∷ digits) ≡ 116 ∷ decimal n
-plain_behind_t n digits h = rw h.digits (ap (λ (ds : List ℕ). 116 ∷ ds) (zeros_gone digits h.digits h.some (omega (arith, h.value, h.fits)) ∙ ap decimal h.value))
+plain_after_t : (n : ℕ) (digits : List ℕ) → Numeral n digits → plain_word (116 ∷ digits) ≡ 116 ∷ decimal n
+plain_after_t n digits h = rw h.digits (ap (λ (ds : List ℕ). 116 ∷ ds) (zeros_gone digits h.digits h.some (omega (arith, h.value, h.fits)) ∙ ap decimal h.value))
 
 zero_word : (n : ℕ) → 0 < n → n < 2 ^ 64 → bytes_eq (decimal n) (codes "0") ≡ false
 zero_word n some small = by (bytes_eq (decimal n) (codes "0")) refl
@@ -160,8 +160,8 @@ zero_word n some small = by (bytes_eq (decimal n) (codes "0")) refl
         absurd (omega (arith, decimal_injective n 0 small (omega arith) same))
     by false is = is
 
-pub plain_behind_minus : (n : ℕ) (digits : List ℕ) → Numeral n digits → plain_word (45 ∷ digits) ≡ signed_decimal (neg_ℤ (pos n))
-plain_behind_minus n digits h = by n (zeros_gone digits h.digits h.some (omega (arith, h.value, h.fits)) ∙ ap decimal h.value) h.fits
+pub plain_after_minus : (n : ℕ) (digits : List ℕ) → Numeral n digits → plain_word (45 ∷ digits) ≡ signed_decimal (neg_ℤ (pos n))
+plain_after_minus n digits h = by n (zeros_gone digits h.digits h.some (omega (arith, h.value, h.fits)) ∙ ap decimal h.value) h.fits
   where
     by : (n : ℕ) → without_zeros digits ≡ decimal n → n < 2 ^ 64 → plain_word (45 ∷ digits) ≡ signed_decimal (neg_ℤ (pos n))
     by zero e small = rw h.digits (ap negative_word (e ∙ decimal_digit 0 (omega arith)) ∙ sym (decimal_digit 0 (omega arith)))
@@ -191,7 +191,7 @@ plain_caller who (first ∷ digits) e = by (first == 116) refl
         let t : first ≡ 116 = search (arith, is) in
         let read : up_to 999999999 (number_of 9 digits) ≡ Some who = rw is at e in
         let h = numeral 9 who digits (up_to_is 999999999 who _ read).0 in
-        subst (λ (b : ℕ). plain_word (b ∷ digits) ≡ codes "t" ++ decimal who) (sym t) (plain_behind_t who digits h)
+        subst (λ (b : ℕ). plain_word (b ∷ digits) ≡ codes "t" ++ decimal who) (sym t) (plain_after_t who digits h)
     by false is = let none : None ≡ Some who = rw is at e in absurd (cc)
 
 pub caller_of-decimal : (who : ℕ) → who ≤ 999999999 → caller_of (codes "t" ++ decimal who) ≡ Some who

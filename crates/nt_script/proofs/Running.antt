@@ -63,14 +63,14 @@ lines_of-last (byte ∷ bytes) h some = ap without_empty_last (slice_split_none 
 pub lines_of-long : (line rest : List ℕ) → HasNoFeed line → 0 < length line
     → (more : List ℕ) × (others : List (List ℕ)) × (lines_of (line ++ rest) ≡ (line ++ more) ∷ others)
 lines_of-long line rest h some =
-    let split = split_behind line rest h in
+    let split = split_after line rest h in
     first_of line split.0 split.1 some (lines_of (line ++ rest)) (ap without_empty_last split.2)
   where
-    split_behind : (line rest : List ℕ) → HasNoFeed line → (more : List ℕ) × (pieces : List (List ℕ)) × (slice_split is_feed (line ++ rest) ≡ (line ++ more) ∷ pieces)
-    split_behind [] rest h = first_piece rest
-    split_behind (byte ∷ bytes) rest h =
-        let behind = split_behind bytes rest (λ k d lt. h (suc k) d (omega arith)) in
-        (behind.0, behind.1, slice_split-cons_no is_feed byte (bytes ++ rest) (h 0 0 (omega arith)) ∙ ap (onto_first byte) behind.2)
+    split_after : (line rest : List ℕ) → HasNoFeed line → (more : List ℕ) × (pieces : List (List ℕ)) × (slice_split is_feed (line ++ rest) ≡ (line ++ more) ∷ pieces)
+    split_after [] rest h = first_piece rest
+    split_after (byte ∷ bytes) rest h =
+        let others = split_after bytes rest (λ k d lt. h (suc k) d (omega arith)) in
+        (others.0, others.1, slice_split-cons_no is_feed byte (bytes ++ rest) (h 0 0 (omega arith)) ∙ ap (onto_first byte) others.2)
 
     first_of : (line more : List ℕ) (pieces : List (List ℕ)) → 0 < length line → (lines : List (List ℕ)) → lines ≡ without_empty_last ((line ++ more) ∷ pieces)
         → (more : List ℕ) × (others : List (List ℕ)) × (lines ≡ (line ++ more) ∷ others)

@@ -17,7 +17,7 @@ use Rattle.nt_script.specs.Grammar.{After, Options, Each, Both, Values, Given, V
 use Rattle.nt_script.specs.Spelling.{time_word, mode_word, value_word, plain, IsSigned, IsFreeName, CanStand, CanSay, CanSayAll}
 use Rattle.nt_script.specs.declared.keyword.Keyword.{Keyword}
 use Rattle.nt_script.specs.Laws.{StandsFor, StandFor}
-use Rattle.nt_script.proofs.Plain.{and_true, Numeral, numeral, decimal_digits, number_of-decimal, plain_numeral, plain_behind_minus, plain_caller, caller_of-decimal, name_is, plain_name, up_to_is}
+use Rattle.nt_script.proofs.Plain.{and_true, Numeral, numeral, decimal_digits, number_of-decimal, plain_numeral, plain_after_minus, plain_caller, caller_of-decimal, name_is, plain_name, up_to_is}
 use Rattle.nt_script.proofs.Joining.{IsBody, AreBodies, is_body, weaker, digit_body, name_body}
 
 abbrev Words : Type 0
@@ -102,7 +102,7 @@ plain_signed half n (first ∷ others) e = by (first == 45) refl
     by true is =
         let minus : first ≡ 45 = search (arith, is) in
         let m = map_some (λ n. neg_ℤ (pos n)) (number_in 0 half others) n (rw is at e) in
-        subst (λ (b : ℕ). plain_word (b ∷ others) ≡ signed_decimal n) (sym minus) (plain_behind_minus m.0 others (in_numeral 0 half m.0 others m.1) ∙ ap signed_decimal m.2)
+        subst (λ (b : ℕ). plain_word (b ∷ others) ≡ signed_decimal n) (sym minus) (plain_after_minus m.0 others (in_numeral 0 half m.0 others m.1) ∙ ap signed_decimal m.2)
     by false is =
         let m = map_some (λ n. pos n) (number_in 0 (half - 1) (first ∷ others)) n (rw is at e) in
         plain_number 0 (half - 1) m.0 (first ∷ others) m.1 ∙ ap signed_decimal m.2
