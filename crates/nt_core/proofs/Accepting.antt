@@ -257,11 +257,11 @@ wait_accepted old new t wait reply fresh grants looked steady same begins = reco
     changed = same_changed old.objects (wait_change (state old) wait).objects (ap (λ (s : State). s.objects) same)
 
 -- the caller of an accepted call runs and does not wait
-pub free_caller : (s : State) (who : ℕ) (call : Call) → refusal s who call ≡ None → (who < s.threads) × (has_ended (object_at s.objects who) ≡ false) × (fin.get s.waits who ≡ None)
+pub free_caller : (s : State) (who : ℕ) (call : Call) → refusal s who false call ≡ None → (who < s.threads) × (has_ended (object_at s.objects who) ≡ false) × (fin.get s.waits who ≡ None)
 free_caller s who call none =
-    let first = next_causes (nat_le s.threads who) UnknownThread ((has_ended (object_at s.objects who), ThreadEnded) ∷ (pends s who, ThreadWaiting) ∷ call_causes s.objects who call) none in
-    let second = next_causes (has_ended (object_at s.objects who)) ThreadEnded ((pends s who, ThreadWaiting) ∷ call_causes s.objects who call) first.1 in
-    let third = next_causes (pends s who) ThreadWaiting (call_causes s.objects who call) second.1 in
+    let first = next_causes (nat_le s.threads who) UnknownThread ((has_ended (object_at s.objects who), ThreadEnded) ∷ (pends s who, ThreadWaiting) ∷ call_causes s who false call) none in
+    let second = next_causes (has_ended (object_at s.objects who)) ThreadEnded ((pends s who, ThreadWaiting) ∷ call_causes s who false call) first.1 in
+    let third = next_causes (pends s who) ThreadWaiting (call_causes s who false call) second.1 in
     (grind (arith, nat_tests, first.0), second.0, idle (fin.get s.waits who) third.0)
   where
     idle : (o : Option Wait) → is_some o ≡ false → o ≡ None
@@ -269,11 +269,11 @@ free_caller s who call none =
     idle (Some w) e = absurd (false≢true (sym e))
 
 -- no cause of its own either
-pub own_causes : (s : State) (who : ℕ) (call : Call) → refusal s who call ≡ None → first_of_causes (call_causes s.objects who call) ≡ None
+pub own_causes : (s : State) (who : ℕ) (call : Call) → refusal s who false call ≡ None → first_of_causes (call_causes s who false call) ≡ None
 own_causes s who call none =
-    let first = next_causes (nat_le s.threads who) UnknownThread ((has_ended (object_at s.objects who), ThreadEnded) ∷ (pends s who, ThreadWaiting) ∷ call_causes s.objects who call) none in
-    let second = next_causes (has_ended (object_at s.objects who)) ThreadEnded ((pends s who, ThreadWaiting) ∷ call_causes s.objects who call) first.1 in
-    (next_causes (pends s who) ThreadWaiting (call_causes s.objects who call) second.1).1
+    let first = next_causes (nat_le s.threads who) UnknownThread ((has_ended (object_at s.objects who), ThreadEnded) ∷ (pends s who, ThreadWaiting) ∷ call_causes s who false call) none in
+    let second = next_causes (has_ended (object_at s.objects who)) ThreadEnded ((pends s who, ThreadWaiting) ∷ call_causes s who false call) first.1 in
+    (next_causes (pends s who) ThreadWaiting (call_causes s who false call) second.1).1
 
 -- ---- a wait that no cause refuses is sound
 
@@ -299,7 +299,7 @@ all_unless_any p [] e j below = absurd (omega (arith, below))
 all_unless_any p (x ∷ xs) e zero below = (or_false (p x) (list_any p xs) e).0
 all_unless_any p (x ∷ xs) e (suc j) below = all_unless_any p xs (or_false (p x) (list_any p xs) e).1 j (omega (arith, below))
 
-pub sound_objects : (s : State) (t : ℕ) (handles : List ℕ) (all alertable : Bool) (ms : ℕ) → refusal s t (Call.Wait (WaitCall.Objects all alertable ms handles)) ≡ None → IsSoundWait s.threads s.objects t (wait_for handles all)
+pub sound_objects : (s : State) (t : ℕ) (handles : List ℕ) (all alertable : Bool) (ms : ℕ) → refusal s t false (Call.Wait (WaitCall.Objects all alertable ms handles)) ≡ None → IsSoundWait s.threads s.objects t (wait_for handles all)
 sound_objects s t handles all alertable ms none =
     let caller = free_caller s t (Call.Wait (WaitCall.Objects all alertable ms handles)) none in
     let own = own_causes s t (Call.Wait (WaitCall.Objects all alertable ms handles)) none in

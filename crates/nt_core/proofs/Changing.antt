@@ -236,7 +236,7 @@ unset_undue (Thread ended) due = refl
 unset_undue Gone due = refl
 
 -- one object more leaves all readings of objects that were there
-pub sound_created : (d : Dispatcher) (o : Object) (owned : List (List ℕ)) → IsSound d → is_full d.objects ≡ false → IsLawfulObject o → is_thread o ≡ false → due_of o ≡ None → IsSound (with_created d o owned)
+pub sound_created : (d : Dispatcher) (o : Object) (owned : List (List ℕ)) → IsSound d → is_full d.handles ≡ false → IsLawfulObject o → is_thread o ≡ false → due_of o ≡ None → IsSound (with_created d o owned)
 sound_created d o owned sound room lawful no_thread due = record {
   few = sound.few;
   waits = λ t w pends.

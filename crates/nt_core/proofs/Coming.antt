@@ -65,7 +65,8 @@ tick_countable old now m sound far =
     let bound = due_weight_bound (blocks_in (state old)) m 0 256 old.objects (λ h. queue_few old h sound) in
     let most = far.most in
     let handles = sound.handles.few in
-    omega (arith, bound, most, handles)
+    let enough = sound.handles.enough in
+    omega (arith, bound, most, handles, enough)
 
 -- ---- what a moment keeps
 

@@ -125,16 +125,16 @@ woken_len old who call reply grants new step =
     let both : length grants ≡ length step.served + length step.alerted = ap length step.in_order ∙ length-append step.served step.alerted in
     omega (arith, served, alerted, both, change-len old who call, after-len call step.calm)
 
-pub called_most : (old : State) (who : ℕ) (call : Call) (result : Result Reply Refusal) (grants : List Grant) (new : State) → Made old who call result grants new → length grants ≤ map.len old.waits
-called_most old who call (Err r) grants new h = let none = ap length h.1 in omega arith
-called_most old who call (Ok reply) grants new h = omega (arith, woken_len old who call reply grants new h.1)
+pub called_most : (old : State) (who : ℕ) (denied : Bool) (call : Call) (result : Result Reply Refusal) (grants : List Grant) (new : State) → Made old who denied call result grants new → length grants ≤ map.len old.waits
+called_most old who denied call (Err r) grants new h = let none = ap length h.1 in omega arith
+called_most old who denied call (Ok reply) grants new h = omega (arith, woken_len old who call reply grants new h.1)
 
-pub called_few : (old : State) (who : ℕ) (call : Call) (result : Result Reply Refusal) (grants : List Grant) (new : State) → Made old who call result grants new → length grants + map.len new.waits ≤ map.len old.waits + 1
-called_few old who call (Err r) grants new h =
+pub called_few : (old : State) (who : ℕ) (denied : Bool) (call : Call) (result : Result Reply Refusal) (grants : List Grant) (new : State) → Made old who denied call result grants new → length grants + map.len new.waits ≤ map.len old.waits + 1
+called_few old who denied call (Err r) grants new h =
     let none = ap length h.1 in
     let same = ap (λ (s : State). map.len s.waits) h.2 in
     omega arith
-called_few old who call (Ok reply) grants new h =
+called_few old who denied call (Ok reply) grants new h =
     omega (arith, woken_len old who call reply grants new h.1, answered-len old (h.1).woken new who call reply (h.1).answers)
 
 -- ---- a tick

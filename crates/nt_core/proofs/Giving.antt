@@ -13,12 +13,12 @@ use Rattle.nt_objects.proofs.Lawful.{lawful_taken, lawful_released}
 use Rattle.nt_core.specs.declared.call.Call.{Call}
 use Rattle.nt_core.specs.declared.call.Act.{Act}
 use Rattle.nt_core.specs.declared.call.WaitCall.{WaitCall}
-use Rattle.nt_core.specs.declared.call.Reply.{Reply}
 use Rattle.nt_core.specs.Naming.{call_named}
 use Rattle.nt_core.specs.State.{State, opening, object_at}
-use Rattle.nt_core.specs.Change.{change, signal, act_reply}
+use Rattle.nt_core.specs.Change.{change, signal}
+use Rattle.nt_core.specs.Rights.{is_denied}
+use Rattle.nt_core.proofs.Judging.{undenied}
 use Rattle.nt_core.specs.Refusals.{refusal, may_signal, is_full, is_no}
-use Rattle.nt_core.specs.Steps.{answered}
 use Rattle.nt_core.specs.Runs.{Turn, Calls, Ticks, IsTurn, Turns, Run}
 use Rattle.nt_core.specs.Takes.{turn_took, takes, takers}
 use Rattle.nt_core.specs.Laws.{act_gives, call_gives, turn_gives, given}
@@ -174,23 +174,22 @@ only_here : (b : Bool) (o new : Object) → (counts new ≡ true → Gains o new
 only_here true o new here is = here is
 only_here false o new here is = same_gains o is
 
-act_gains : (s : State) (t : ℕ) (act : Act) (h : ℕ) (reply : Reply) → refusal s t (Call.Act act) ≡ None → reply ≡ act_reply s t act → counts (acted (length s.objects) t act h (object_at s.objects h)) ≡ true → Gains (object_at s.objects h) (acted (length s.objects) t act h (object_at s.objects h)) (act_gives h act reply) 0
-act_gains s t (Act.CreateEvent flags) h reply none answer is = only_here (length s.objects == h) (object_at s.objects h) (event_of flags) (λ other. absurd (false≢true other)) is
-act_gains s t (Act.CreateSemaphore initial maximum) h reply none answer is =
+act_gains : (s : State) (t : ℕ) (act : Act) (h : ℕ) → refusal s t false (Call.Act act) ≡ None → counts (acted (length s.objects) t act h (object_at s.objects h)) ≡ true → Gains (object_at s.objects h) (acted (length s.objects) t act h (object_at s.objects h)) (act_gives h (length s.objects) act) 0
+act_gains s t (Act.CreateEvent flags) h none is = only_here (length s.objects == h) (object_at s.objects h) (event_of flags) (λ other. absurd (false≢true other)) is
+act_gains s t (Act.CreateSemaphore initial maximum) h none is =
     let own = own_causes s t (Call.Act (Act.CreateSemaphore initial maximum)) none in
-    let may = next_causes (not (may_count initial maximum)) InvalidParameter ((is_full s.objects, HandleLimit) ∷ []) own in
-    subst (λ r. Gains (object_at s.objects h) (acted (length s.objects) t (Act.CreateSemaphore initial maximum) h (object_at s.objects h)) (act_gives h (Act.CreateSemaphore initial maximum) r) 0) (sym answer)
-    (here_or_not (length s.objects == h) (object_at s.objects h) (Semaphore initial maximum) initial
-    (λ here other. new_gains (object_at s.objects h) initial maximum (past_last s.objects h (eqb-true (length s.objects) h here)) (unnot (may_count initial maximum) may.0)) is)
+    let may = next_causes (not (may_count initial maximum)) InvalidParameter ((is_full s.handles, HandleLimit) ∷ []) own in
+    here_or_not (length s.objects == h) (object_at s.objects h) (Semaphore initial maximum) initial
+    (λ here other. new_gains (object_at s.objects h) initial maximum (past_last s.objects h (eqb-true (length s.objects) h here)) (unnot (may_count initial maximum) may.0)) is
   where
     unnot : (b : Bool) → not b ≡ false → b ≡ true
     unnot true e = refl
     unnot false e = sym e
-act_gains s t (Act.CreateMutex flags) h reply none answer is = only_here (length s.objects == h) (object_at s.objects h) (mutex_of flags t) (λ other. absurd (mutex_counts_not flags t other)) is
-act_gains s t (Act.SetEvent g) h reply none answer is = only_here (g == h) (object_at s.objects h) (with_set true (object_at s.objects h)) (set_gains true (object_at s.objects h)) is
-act_gains s t (Act.ResetEvent g) h reply none answer is = only_here (g == h) (object_at s.objects h) (with_set false (object_at s.objects h)) (set_gains false (object_at s.objects h)) is
-act_gains s t (Act.PulseEvent g) h reply none answer is = only_here (g == h) (object_at s.objects h) (with_set true (object_at s.objects h)) (set_gains true (object_at s.objects h)) is
-act_gains s t (Act.ReleaseSemaphore g count) h reply none answer is =
+act_gains s t (Act.CreateMutex flags) h none is = only_here (length s.objects == h) (object_at s.objects h) (mutex_of flags t) (λ other. absurd (mutex_counts_not flags t other)) is
+act_gains s t (Act.SetEvent g) h none is = only_here (g == h) (object_at s.objects h) (with_set true (object_at s.objects h)) (set_gains true (object_at s.objects h)) is
+act_gains s t (Act.ResetEvent g) h none is = only_here (g == h) (object_at s.objects h) (with_set false (object_at s.objects h)) (set_gains false (object_at s.objects h)) is
+act_gains s t (Act.PulseEvent g) h none is = only_here (g == h) (object_at s.objects h) (with_set true (object_at s.objects h)) (set_gains true (object_at s.objects h)) is
+act_gains s t (Act.ReleaseSemaphore g count) h none is =
     let own = own_causes s t (Call.Act (Act.ReleaseSemaphore g count)) none in
     let kind = next_causes (is_no is_semaphore s.objects g) InvalidHandle ((int_le count (pos 0), InvalidParameter) ∷ (overflows count (object_at s.objects g), TooManyPosts) ∷ []) own in
     let positive = next_causes (int_le count (pos 0)) InvalidParameter ((overflows count (object_at s.objects g), TooManyPosts) ∷ []) kind.1 in
@@ -209,19 +208,19 @@ act_gains s t (Act.ReleaseSemaphore g count) h reply none answer is =
 
     above : (c : ℤ) → int_le c (pos 0) ≡ false → pos 0 ≤ℤ c
     above c e = grind (arith, ints, e)
-act_gains s t (Act.ReleaseMutex g) h reply none answer is = only_here (g == h) (object_at s.objects h) (unlocked (object_at s.objects h)) (unlocked_gains (object_at s.objects h)) is
-act_gains s t _ h reply none answer is = same_gains (object_at s.objects h) is
+act_gains s t (Act.ReleaseMutex g) h none is = only_here (g == h) (object_at s.objects h) (unlocked (object_at s.objects h)) (unlocked_gains (object_at s.objects h)) is
+act_gains s t _ h none is = same_gains (object_at s.objects h) is
 
-call_gains : (s woken new : State) (t : ℕ) (call : Call) (h : ℕ) (reply : Reply) → refusal s t call ≡ None → (reply, new) ≡ answered s woken t call → counts (changed_at (length s.objects) t call h (object_at s.objects h)) ≡ true → Gains (object_at s.objects h) (changed_at (length s.objects) t call h (object_at s.objects h)) (call_gives h call reply) 0
-call_gains s woken new t (Call.Act act) h reply none answer is = act_gains s t act h reply none (ap (λ p. p.0) answer) is
-call_gains s woken new t (Call.Wait (WaitCall.Swap g object ms alertable)) h reply none answer is =
+call_gains : (s : State) (t : ℕ) (call : Call) (h : ℕ) → refusal s t false call ≡ None → counts (changed_at (length s.objects) t call h (object_at s.objects h)) ≡ true → Gains (object_at s.objects h) (changed_at (length s.objects) t call h (object_at s.objects h)) (call_gives h (length s.objects) call) 0
+call_gains s t (Call.Act act) h none is = act_gains s t act h none is
+call_gains s t (Call.Wait (WaitCall.Swap g object ms alertable)) h none is =
     let judged = swap_judged s t g object ms alertable none in
     here_or_not (g == h) (object_at s.objects h) (signal (object_at s.objects h)) (pos 1)
     (λ here other.
     let same = sym (eqb-true g h here) in
     signal_gains (object_at s.objects h) (ap (λ x. may_signal (object_at s.objects x)) same ∙ judged.may) (ap (λ x. overflows (pos 1) (object_at s.objects x)) same ∙ judged.fits) other) is
-call_gains s woken new t Call.Exit h reply none answer is = left_gains t (object_at s.objects h) is
-call_gains s woken new t _ h reply none answer is = same_gains (object_at s.objects h) is
+call_gains s t Call.Exit h none is = left_gains t (object_at s.objects h) is
+call_gains s t _ h none is = same_gains (object_at s.objects h) is
 
 settled_gains : (call : Call) (h : ℕ) (o : Object) → counts (settled_at call h o) ≡ true → Gains o (settled_at call h o) (pos 0) 0
 settled_gains (Call.Act (Act.PulseEvent g)) h o is = only_here (g == h) o (with_set false o) (set_gains false o) is
@@ -231,12 +230,13 @@ settled_gains _ h o is = same_gains o is
 
 turn_gains : (h : ℕ) (old : State) (turn : Turn) (new : State) → AreFair old.waits → IsTurn old turn new → counts (object_at new.objects h) ≡ true → Gains (object_at old.objects h) (object_at new.objects h) (turn_gives h old turn) (length (takers h (turn_took old turn)))
 turn_gains h old (Calls who call (Ok reply) grants) new fair is ends =
-    let c = in_call h old who (call_named old.handles call) reply grants new fair is.0 is.1 in
+    let none = undenied old who (is_denied old call) (call_named old.handles call) is.0 in
+    let c = in_call h old who (call_named old.handles call) reply grants new fair none is.1 in
     let last = all_taken (settled_at (call_named old.handles call) h c.calm) (object_at new.objects h) c.last c.begins ends in
     let settled = settled_gains (call_named old.handles call) h c.calm last.counts in
     let first = all_taken (object_at (change old who (call_named old.handles call)).objects h) c.calm c.first c.serves settled.counts in
     let same = c.becomes (plain (object_at (change old who (call_named old.handles call)).objects h) first.counts) in
-    let changed = subst (λ o. Gains (object_at old.objects h) o (call_gives h (call_named old.handles call) reply) 0) (sym same) (call_gains old is.1.woken new who (call_named old.handles call) h reply is.0 is.1.answers (sym (ap counts same) ∙ first.counts)) in
+    let changed = subst (λ o. Gains (object_at old.objects h) o (call_gives h (length old.objects) (call_named old.handles call)) 0) (sym same) (call_gains old who (call_named old.handles call) h none (sym (ap counts same) ∙ first.counts)) in
     let all = then_gains _ _ _ _ _ _ _ changed (then_gains _ _ _ _ _ _ _ first (then_gains _ _ _ _ _ _ _ settled last)) in
     let times : length (takers h (turn_took old (Calls who call (Ok reply) grants))) ≡ length c.first + length c.last = ap (λ ts. length ts) c.told ∙ length-append c.first c.last in
     record {

@@ -20,6 +20,8 @@ use Rattle.nt_core.specs.declared.call.Grant.{Grant}
 use Rattle.nt_core.specs.declared.call.Reply.{Reply}
 use Rattle.nt_core.specs.Calls.{timeout_of}
 use Rattle.nt_core.specs.Rising.{IsRising}
+use Rattle.nt_core.specs.Rights.{is_denied}
+use Rattle.nt_core.proofs.Judging.{undenied}
 use Rattle.nt_core.specs.Refusals.{Cause, first_of_causes, refusal, call_causes}
 use Rattle.nt_status.specs.declared.refusal.Refusal.TheVariants.{UnknownThread, ThreadEnded, ThreadWaiting}
 use Rattle.nt_objects.specs.Object.{has_ended}
@@ -49,11 +51,11 @@ next_causes : (b : Bool) (r : Refusal) (cs : List Cause) → first_of_causes ((b
 next_causes true r cs e = absurd (false≢true (sym (ap (λ (o : Option Refusal). is_some o) e)))
 next_causes false r cs e = (refl, e)
 
-free_caller : (s : State) (who : ℕ) (call : Call) → refusal s who call ≡ None → pends s who ≡ false
+free_caller : (s : State) (who : ℕ) (call : Call) → refusal s who false call ≡ None → pends s who ≡ false
 free_caller s who call none =
-    let first = next_causes (nat_le s.threads who) UnknownThread ((has_ended (object_at s.objects who), ThreadEnded) ∷ (pends s who, ThreadWaiting) ∷ call_causes s.objects who call) none in
-    let second = next_causes (has_ended (object_at s.objects who)) ThreadEnded ((pends s who, ThreadWaiting) ∷ call_causes s.objects who call) first.1 in
-    (next_causes (pends s who) ThreadWaiting (call_causes s.objects who call) second.1).0
+    let first = next_causes (nat_le s.threads who) UnknownThread ((has_ended (object_at s.objects who), ThreadEnded) ∷ (pends s who, ThreadWaiting) ∷ call_causes s who false call) none in
+    let second = next_causes (has_ended (object_at s.objects who)) ThreadEnded ((pends s who, ThreadWaiting) ∷ call_causes s who false call) first.1 in
+    (next_causes (pends s who) ThreadWaiting (call_causes s who false call) second.1).0
 
 -- ---- serving
 
@@ -222,6 +224,7 @@ act_stays s t (Act.CreateEvent flags) = refl
 act_stays s t (Act.CreateSemaphore initial maximum) = refl
 act_stays s t (Act.CreateMutex flags) = refl
 act_stays s t (Act.CreateTimer flags) = refl
+act_stays s t (Act.Duplicate object access) = refl
 act_stays s t (Act.ReleaseSemaphore h n) = refl
 act_stays s t Act.NextApc = refl
 act_stays s t (Act.SetEvent h) = refl
@@ -248,7 +251,7 @@ none_where : (o : Option Wait) → is_some o ≡ false → o ≡ None
 none_where None e = refl
 none_where (Some w) e = absurd (false≢true (sym e))
 
-free_then : (old : State) (who : ℕ) (call : Call) (reply : Reply) (grants : List Grant) (new : State) → refusal old who call ≡ None → (step : Step old who call reply grants new) → (t : ℕ) → one_if (pends step.woken t) + granted_to t grants ≡ one_if (pends old t)
+free_then : (old : State) (who : ℕ) (call : Call) (reply : Reply) (grants : List Grant) (new : State) → refusal old who false call ≡ None → (step : Step old who call reply grants new) → (t : ℕ) → one_if (pends step.woken t) + granted_to t grants ≡ one_if (pends old t)
 free_then old who call reply grants new none step t =
     let a = idle_pends t old (change old who call) (change_idle old who call) in
     let b = grants_counts t _ step.served (change old who call) step.calm step.serves.0 in
@@ -258,11 +261,11 @@ free_then old who call reply grants new none step t =
     omega (arith, a, b, c, d, e)
 
 -- the caller's own wait does not pend when it begins
-free_woken : (old : State) (who : ℕ) (call : Call) (reply : Reply) (grants : List Grant) (new : State) → refusal old who call ≡ None → (step : Step old who call reply grants new) → get step.woken.waits who ≡ None
+free_woken : (old : State) (who : ℕ) (call : Call) (reply : Reply) (grants : List Grant) (new : State) → refusal old who false call ≡ None → (step : Step old who call reply grants new) → get step.woken.waits who ≡ None
 free_woken old who call reply grants new none step =
     none_where (get step.woken.waits who) (no_more (pends step.woken who) (pends old who) (omega (arith, free_then old who call reply grants new none step who)) (free_caller old who call none))
 
-step_keeps : (old : State) (who : ℕ) (call : Call) (reply : Reply) (grants : List Grant) (new : State) → refusal old who call ≡ None → Step old who call reply grants new → kept new ≡ kept old
+step_keeps : (old : State) (who : ℕ) (call : Call) (reply : Reply) (grants : List Grant) (new : State) → refusal old who false call ≡ None → Step old who call reply grants new → kept new ≡ kept old
 step_keeps old who call reply grants new none step =
     ap (λ (p : Reply × State). kept p.1) step.answers
     ∙ ((answered_counts old step.woken who call (free_woken old who call reply grants new none step)).same
@@ -272,7 +275,7 @@ step_keeps old who call reply grants new none step =
     ∙ (grants_keep _ step.served (change old who call) step.calm step.serves.0
     ∙ (change_idle old who call).same)))))
 
-step_moved : (old : State) (who : ℕ) (call : Call) (reply : Reply) (grants : List Grant) (new : State) → refusal old who call ≡ None → Step old who call reply grants new → Moves old who (pended (Ok reply)) grants new
+step_moved : (old : State) (who : ℕ) (call : Call) (reply : Reply) (grants : List Grant) (new : State) → refusal old who false call ≡ None → Step old who call reply grants new → Moves old who (pended (Ok reply)) grants new
 step_moved old who call reply grants new none step =
     let woken = free_then old who call reply grants new none step in
     let free = free_woken old who call reply grants new none step in
@@ -296,9 +299,9 @@ refused_moved old new who grants none same = record {
   each = λ t. (let a = ap (granted_to t) none in let b = ap (λ (s : State). one_if (pends s t)) same in let c = none_begun (eqb who t) in omega arith);
 }
 
-pub call_moves : (old : State) (who : ℕ) (call : Call) (result : Result Reply Refusal) (grants : List Grant) (new : State) → Made old who call result grants new → Moves old who (pended result) grants new
-call_moves old who call (Ok reply) grants new h = step_moved old who call reply grants new h.0 h.1
-call_moves old who call (Err r) grants new h = refused_moved old new who grants h.1 h.2
+pub call_moves : (old : State) (who : ℕ) (denied : Bool) (call : Call) (result : Result Reply Refusal) (grants : List Grant) (new : State) → Made old who denied call result grants new → Moves old who (pended result) grants new
+call_moves old who denied call (Ok reply) grants new h = step_moved old who call reply grants new (undenied old who denied call h.0) h.1
+call_moves old who denied call (Err r) grants new h = refused_moved old new who grants h.1 h.2
 
 is_wait_named : (handles : List (Option Opened)) (call : Call) → is_wait (call_named handles call) ≡ true → is_wait call ≡ true
 is_wait_named handles (Call.Act act) is = is
@@ -306,18 +309,18 @@ is_wait_named handles (Call.Wait wait) is = refl
 is_wait_named handles Call.Exit is = is
 
 -- only a wait pends
-made_pends : (old : State) (who : ℕ) (call : Call) (result : Result Reply Refusal) (grants : List Grant) (new : State) → Made old who call result grants new → pended result ≡ true → is_wait call ≡ true
-made_pends old who (Call.Act act) (Ok reply) grants new h pends =
+made_pends : (old : State) (who : ℕ) (denied : Bool) (call : Call) (result : Result Reply Refusal) (grants : List Grant) (new : State) → Made old who denied call result grants new → pended result ≡ true → is_wait call ≡ true
+made_pends old who denied (Call.Act act) (Ok reply) grants new h pends =
     let answer : pended (Ok reply) ≡ false = ap (λ (p : Reply × State). pended (Ok p.0)) h.1.answers ∙ act_stays old who act in
     absurd (false≢true (sym answer ∙ pends))
-made_pends old who (Call.Wait wait) (Ok reply) grants new h pends = refl
-made_pends old who Call.Exit (Ok reply) grants new h pends =
+made_pends old who denied (Call.Wait wait) (Ok reply) grants new h pends = refl
+made_pends old who denied Call.Exit (Ok reply) grants new h pends =
     let answer : pended (Ok reply) ≡ false = ap (λ (p : Reply × State). pended (Ok p.0)) h.1.answers in
     absurd (false≢true (sym answer ∙ pends))
-made_pends old who call (Err cause) grants new h pends = absurd (false≢true pends)
+made_pends old who denied call (Err cause) grants new h pends = absurd (false≢true pends)
 
 pub only_waits_pend : (old : State) (who : ℕ) (call : Call) (result : Result Reply Refusal) (grants : List Grant) (new : State) → Called old who call result grants new → pended result ≡ true → is_wait call ≡ true
-only_waits_pend old who call result grants new h pends = is_wait_named old.handles call (made_pends old who (call_named old.handles call) result grants new h pends)
+only_waits_pend old who call result grants new h pends = is_wait_named old.handles call (made_pends old who (is_denied old call) (call_named old.handles call) result grants new h pends)
 
 -- ---- a tick
 
@@ -374,9 +377,9 @@ tick_moves old by m (Err r) grants new h = refused_moved old new by grants h.2 h
 -- ---- the present moment
 
 -- a call moves no moment
-pub call_waits : (old : State) (who : ℕ) (call : Call) (result : Result Reply Refusal) (grants : List Grant) (new : State) → Made old who call result grants new → new.now ≡ old.now
-call_waits old who call (Ok reply) grants new h = ap (λ (k : ℕ × ℕ). k.1) (step_keeps old who call reply grants new h.0 h.1)
-call_waits old who call (Err r) grants new h = ap (λ (s : State). s.now) h.2
+pub call_waits : (old : State) (who : ℕ) (denied : Bool) (call : Call) (result : Result Reply Refusal) (grants : List Grant) (new : State) → Made old who denied call result grants new → new.now ≡ old.now
+call_waits old who denied call (Ok reply) grants new h = ap (λ (k : ℕ × ℕ). k.1) (step_keeps old who call reply grants new (undenied old who denied call h.0) h.1)
+call_waits old who denied call (Err r) grants new h = ap (λ (s : State). s.now) h.2
 
 -- an accepted tick comes to its moment
 moments_come : (m : ℕ) (us : List ℕ) (old new : State) (grants : List Grant) → MomentsPass old m us grants new → new.now ≡ m

@@ -1,5 +1,5 @@
 -- Steps, ticks and runs leave no choice.
-use Rattle.std.proofs.Common.{◌≡◌, ℕ, true, false, List, [], ◌∷◌, ◌++◌, refl, sym, ap, ◌∙◌, subst, arith, Option, Some, None, inl, inr}
+use Rattle.std.proofs.Common.{Bool, ◌≡◌, ℕ, true, false, List, [], ◌∷◌, ◌++◌, refl, sym, ap, ◌∙◌, subst, arith, Option, Some, None, inl, inr}
 use Rattle.std.specs.Prelude.{map, IsTrue}
 use Rattle.std.specs.declared.result.Result.{Result}
 use Rattle.std.specs.declared.result.Result.TheVariants.{Ok, Err}
@@ -16,6 +16,7 @@ use Rattle.nt_core.specs.Naming.{call_named}
 use Rattle.nt_core.specs.State.{State, waits_over}
 use Rattle.nt_core.specs.Serving.{Serve, Alert, TimeOut, sequence, IsLate, ending, late_status, sleeps}
 use Rattle.nt_core.specs.Change.{change, all_expired}
+use Rattle.nt_core.specs.Rights.{is_denied}
 use Rattle.nt_core.specs.Refusals.{refusal, grows, IsRefusal}
 use Rattle.nt_core.specs.Steps.{Step, Called, Made, after_serving, answered, MomentPasses, MomentsPass, IsNextMoment, NothingDue, Ticked}
 use Rattle.nt_core.specs.Runs.{Turn, Calls, Ticks, IsTurn, Turns}
@@ -79,29 +80,29 @@ step_same old a b t call r q gs hs x y =
     (ap (λ p. p.0) answers, grants, ap (λ p. p.1) answers)
 
 -- where no first cause holds, only want of memory refuses
-only_memory : (old : State) (who : ℕ) (call : Call) (r : Refusal) → refusal old who call ≡ None → IsRefusal old who call r → r ≡ Memory
-only_memory old who call r none is = let h : IsTrue (grows old who call) × (r ≡ Memory) = rw none at is in h.1
+only_memory : (old : State) (who : ℕ) (denied : Bool) (call : Call) (r : Refusal) → refusal old who denied call ≡ None → IsRefusal old who denied call r → r ≡ Memory
+only_memory old who denied call r none is = let h : IsTrue (grows old who call) × (r ≡ Memory) = rw none at is in h.1
 
-first_cause : (old : State) (who : ℕ) (call : Call) (r f : Refusal) → refusal old who call ≡ Some f → IsRefusal old who call r → r ≡ f
-first_cause old who call r f some is = rw some at is
+first_cause : (old : State) (who : ℕ) (denied : Bool) (call : Call) (r f : Refusal) → refusal old who denied call ≡ Some f → IsRefusal old who denied call r → r ≡ f
+first_cause old who denied call r f some is = rw some at is
 
-refusal_same : (old : State) (who : ℕ) (call : Call) (r q : Refusal) → IsRefusal old who call r → IsRefusal old who call q → r ≡ q
-refusal_same old who call r q x y = go (refusal old who call) refl
+refusal_same : (old : State) (who : ℕ) (denied : Bool) (call : Call) (r q : Refusal) → IsRefusal old who denied call r → IsRefusal old who denied call q → r ≡ q
+refusal_same old who denied call r q x y = go (refusal old who denied call) refl
   where
-    go : (o : Option Refusal) → refusal old who call ≡ o → r ≡ q
-    go None e = only_memory old who call r e x ∙ sym (only_memory old who call q e y)
-    go (Some f) e = first_cause old who call r f e x ∙ sym (first_cause old who call q f e y)
+    go : (o : Option Refusal) → refusal old who denied call ≡ o → r ≡ q
+    go None e = only_memory old who denied call r e x ∙ sym (only_memory old who denied call q e y)
+    go (Some f) e = first_cause old who denied call r f e x ∙ sym (first_cause old who denied call q f e y)
 
 -- a call is not both carried out and refused, but for want of memory
-not_both : (old : State) (who : ℕ) (call : Call) (reply : Reply) (r : Refusal) {P : Type 0} → refusal old who call ≡ None → IsRefusal old who call r → wants_memory (Ok reply) ≡ wants_memory (Err r) → P
-not_both old who call reply r none is alike =
-    let h : false ≡ true = alike ∙ ap (λ f. wants_memory (Err f)) (only_memory old who call r none is) in (cc)
+not_both : (old : State) (who : ℕ) (denied : Bool) (call : Call) (reply : Reply) (r : Refusal) {P : Type 0} → refusal old who denied call ≡ None → IsRefusal old who denied call r → wants_memory (Ok reply) ≡ wants_memory (Err r) → P
+not_both old who denied call reply r none is alike =
+    let h : false ≡ true = alike ∙ ap (λ f. wants_memory (Err f)) (only_memory old who denied call r none is) in (cc)
 
-called_same : (old a b : State) (who : ℕ) (call : Call) (r q : Result Reply Refusal) (gs hs : List Grant) → wants_memory r ≡ wants_memory q → Made old who call r gs a → Made old who call q hs b → (r ≡ q) × (gs ≡ hs) × (a ≡ b)
-called_same old a b who call (Ok r) (Ok q) gs hs alike x y = let same = step_same old a b who call r q gs hs x.1 y.1 in (ap Ok same.0, same.1, same.2)
-called_same old a b who call (Ok r) (Err q) gs hs alike x y = not_both old who call r q x.0 y.0 alike
-called_same old a b who call (Err r) (Ok q) gs hs alike x y = not_both old who call q r y.0 x.0 (sym alike)
-called_same old a b who call (Err r) (Err q) gs hs alike x y = (ap Err (refusal_same old who call r q x.0 y.0), x.1 ∙ sym y.1, x.2 ∙ sym y.2)
+called_same : (old a b : State) (who : ℕ) (denied : Bool) (call : Call) (r q : Result Reply Refusal) (gs hs : List Grant) → wants_memory r ≡ wants_memory q → Made old who denied call r gs a → Made old who denied call q hs b → (r ≡ q) × (gs ≡ hs) × (a ≡ b)
+called_same old a b who denied call (Ok r) (Ok q) gs hs alike x y = let same = step_same old a b who call r q gs hs x.1 y.1 in (ap Ok same.0, same.1, same.2)
+called_same old a b who denied call (Ok r) (Err q) gs hs alike x y = not_both old who denied call r q x.0 y.0 alike
+called_same old a b who denied call (Err r) (Ok q) gs hs alike x y = not_both old who denied call q r y.0 x.0 (sym alike)
+called_same old a b who denied call (Err r) (Err q) gs hs alike x y = (ap Err (refusal_same old who denied call r q x.0 y.0), x.1 ∙ sym y.1, x.2 ∙ sym y.2)
 
 -- ---- a tick
 
@@ -147,7 +148,7 @@ turn_same old a b (Calls who call r gs) (Calls who' call' r' hs) alike x y =
     let c : call ≡ call' = (cc) in
     let k : wants_memory r ≡ wants_memory r' = (cc) in
     let x' : Called old who' call' r gs a = subst (λ z. Called old z call' r gs a) w (subst (λ z. Called old who z r gs a) c x) in
-    let same = called_same old a b who' (call_named old.handles call') r r' gs hs k x' y in
+    let same = called_same old a b who' (is_denied old call') (call_named old.handles call') r r' gs hs k x' y in
     (ap (λ z. Calls z call r gs) w ∙ (ap (λ z. Calls who' z r gs) c ∙ (ap (λ z. Calls who' call' z gs) same.0 ∙ ap (λ z. Calls who' call' r' z) same.1)), same.2)
 turn_same old a b (Calls who call r gs) (Ticks by m r' hs) alike x y =
     let h : AsksCall who call (wants_memory r) ≡ AsksTick by m = alike in (cc)

@@ -13,12 +13,12 @@ use Rattle.nt_objects.specs.Object.{signaled, taken, is_mutex, owned_by, depth_o
 use Rattle.nt_core.specs.declared.call.Call.{Call}
 use Rattle.nt_core.specs.declared.call.Act.{Act}
 use Rattle.nt_core.specs.declared.call.WaitCall.{WaitCall}
-use Rattle.nt_core.specs.declared.call.Reply.{Reply}
 use Rattle.nt_core.specs.Naming.{call_named}
 use Rattle.nt_core.specs.State.{State, opening, object_at}
-use Rattle.nt_core.specs.Change.{change, signal, act_reply}
+use Rattle.nt_core.specs.Change.{change, signal}
+use Rattle.nt_core.specs.Rights.{is_denied}
+use Rattle.nt_core.proofs.Judging.{undenied}
 use Rattle.nt_core.specs.Refusals.{refusal, may_signal, is_no, is_foreign}
-use Rattle.nt_core.specs.Steps.{answered}
 use Rattle.nt_core.specs.Runs.{Turn, Calls, Ticks, IsTurn, Turns, Run}
 use Rattle.nt_core.specs.Takes.{turn_took, takers}
 use Rattle.nt_core.specs.Laws.{act_owes, call_owes, turn_owes, owed_after, held_by}
@@ -236,39 +236,38 @@ owner_of_known : (kind own : Bool) → kind ≡ true → (kind && not own) ≡ f
 owner_of_known true own k e = unnot own e
 owner_of_known false own k e = absurd (false≢true k)
 
-act_owing : (t : ℕ) (s : State) (who : ℕ) (act : Act) (h : ℕ) (reply : Reply) → refusal s who (Call.Act act) ≡ None → reply ≡ act_reply s who act → owns (acted (length s.objects) who act h (object_at s.objects h)) ≡ true → Owes t (object_at s.objects h) (acted (length s.objects) who act h (object_at s.objects h)) (λ k. act_owes h t who act reply k)
-act_owing t s who (Act.CreateEvent flags) h reply none answer is = only_here t (length s.objects == h) (object_at s.objects h) (event_of flags) (λ other. absurd (false≢true other)) is
-act_owing t s who (Act.CreateSemaphore initial maximum) h reply none answer is = only_here t (length s.objects == h) (object_at s.objects h) (Semaphore initial maximum) (λ other. absurd (false≢true other)) is
-act_owing t s who (Act.CreateMutex flags) h reply none answer is =
-    subst (λ r. Owes t (object_at s.objects h) (acted (length s.objects) who (Act.CreateMutex flags) h (object_at s.objects h)) (λ k. act_owes h t who (Act.CreateMutex flags) r k)) (sym answer)
-    (new_or_not (length s.objects == h) refl is)
+act_owing : (t : ℕ) (s : State) (who : ℕ) (act : Act) (h : ℕ) → refusal s who false (Call.Act act) ≡ None → owns (acted (length s.objects) who act h (object_at s.objects h)) ≡ true → Owes t (object_at s.objects h) (acted (length s.objects) who act h (object_at s.objects h)) (λ k. act_owes h (length s.objects) t who act k)
+act_owing t s who (Act.CreateEvent flags) h none is = only_here t (length s.objects == h) (object_at s.objects h) (event_of flags) (λ other. absurd (false≢true other)) is
+act_owing t s who (Act.CreateSemaphore initial maximum) h none is = only_here t (length s.objects == h) (object_at s.objects h) (Semaphore initial maximum) (λ other. absurd (false≢true other)) is
+act_owing t s who (Act.CreateMutex flags) h none is =
+    new_or_not (length s.objects == h) refl is
   where
     new_or_not : (b : Bool) → (length s.objects == h) ≡ b → owns (cond b (mutex_of flags who) (object_at s.objects h)) ≡ true → Owes t (object_at s.objects h) (cond b (mutex_of flags who) (object_at s.objects h)) (λ k. cond (b && has_flag flags mutex_initial_owner && who == t) (k + 1) k)
     new_or_not true e is = new_owes t (object_at s.objects h) flags who (past_last s.objects h (eqb-true (length s.objects) h e))
     new_or_not false e is = same_owes t (object_at s.objects h) is
-act_owing t s who (Act.SetEvent g) h reply none answer is = only_here t (g == h) (object_at s.objects h) (with_set true (object_at s.objects h)) (set_owes t true (object_at s.objects h)) is
-act_owing t s who (Act.ResetEvent g) h reply none answer is = only_here t (g == h) (object_at s.objects h) (with_set false (object_at s.objects h)) (set_owes t false (object_at s.objects h)) is
-act_owing t s who (Act.PulseEvent g) h reply none answer is = only_here t (g == h) (object_at s.objects h) (with_set true (object_at s.objects h)) (set_owes t true (object_at s.objects h)) is
-act_owing t s who (Act.ReleaseSemaphore g count) h reply none answer is = only_here t (g == h) (object_at s.objects h) (released count (object_at s.objects h)) (released_owes t count (object_at s.objects h)) is
-act_owing t s who (Act.ReleaseMutex g) h reply none answer is =
+act_owing t s who (Act.SetEvent g) h none is = only_here t (g == h) (object_at s.objects h) (with_set true (object_at s.objects h)) (set_owes t true (object_at s.objects h)) is
+act_owing t s who (Act.ResetEvent g) h none is = only_here t (g == h) (object_at s.objects h) (with_set false (object_at s.objects h)) (set_owes t false (object_at s.objects h)) is
+act_owing t s who (Act.PulseEvent g) h none is = only_here t (g == h) (object_at s.objects h) (with_set true (object_at s.objects h)) (set_owes t true (object_at s.objects h)) is
+act_owing t s who (Act.ReleaseSemaphore g count) h none is = only_here t (g == h) (object_at s.objects h) (released count (object_at s.objects h)) (released_owes t count (object_at s.objects h)) is
+act_owing t s who (Act.ReleaseMutex g) h none is =
     let own = own_causes s who (Call.Act (Act.ReleaseMutex g)) none in
     let kind = next_causes (is_no is_mutex s.objects g) InvalidHandle ((is_foreign s.objects who g, NotOwner) ∷ []) own in
     let foreign = next_causes (is_foreign s.objects who g) NotOwner [] kind.1 in
     let owner : owned_by (object_at s.objects g) who ≡ true = owner_of_known (is_mutex (object_at s.objects g)) (owned_by (object_at s.objects g) who) (unnot (is_mutex (object_at s.objects g)) kind.0) foreign.0 in
     here_or_not t (g == h) (who == t) (object_at s.objects h) (unlocked (object_at s.objects h)) (λ k. k - 1)
     (λ here other. unlocked_owes t (object_at s.objects h) who (ap (λ x. owned_by (object_at s.objects x) who) (sym (eqb-true g h here)) ∙ owner)) is
-act_owing t s who _ h reply none answer is = same_owes t (object_at s.objects h) is
+act_owing t s who _ h none is = same_owes t (object_at s.objects h) is
 
-call_owing : (t : ℕ) (s woken new : State) (who : ℕ) (call : Call) (h : ℕ) (reply : Reply) → refusal s who call ≡ None → ◌≡◌ {A = Reply × State} (reply, new) (answered s woken who call) → owns (changed_at (length s.objects) who call h (object_at s.objects h)) ≡ true → Owes t (object_at s.objects h) (changed_at (length s.objects) who call h (object_at s.objects h)) (λ k. call_owes h t who call reply k)
-call_owing t s woken new who (Call.Act act) h reply none answer is = act_owing t s who act h reply none (ap (λ p. p.0) answer) is
-call_owing t s woken new who (Call.Wait (WaitCall.Swap g object ms alertable)) h reply none answer is =
+call_owing : (t : ℕ) (s : State) (who : ℕ) (call : Call) (h : ℕ) → refusal s who false call ≡ None → owns (changed_at (length s.objects) who call h (object_at s.objects h)) ≡ true → Owes t (object_at s.objects h) (changed_at (length s.objects) who call h (object_at s.objects h)) (λ k. call_owes h (length s.objects) t who call k)
+call_owing t s who (Call.Act act) h none is = act_owing t s who act h none is
+call_owing t s who (Call.Wait (WaitCall.Swap g object ms alertable)) h none is =
     let judged = swap_judged s who g object ms alertable none in
     here_or_not t (g == h) (who == t) (object_at s.objects h) (signal (object_at s.objects h)) (λ k. k - 1)
     (λ here other.
     let same = sym (eqb-true g h here) in
     signal_owes t (object_at s.objects h) who (ap (λ x. may_signal (object_at s.objects x)) same ∙ judged.may) (ap (λ x. is_foreign s.objects who x) same ∙ judged.foreign) other) is
-call_owing t s woken new who Call.Exit h reply none answer is = left_owes t (object_at s.objects h) who is
-call_owing t s woken new who _ h reply none answer is = same_owes t (object_at s.objects h) is
+call_owing t s who Call.Exit h none is = left_owes t (object_at s.objects h) who is
+call_owing t s who _ h none is = same_owes t (object_at s.objects h) is
 
 settled_owes : (t : ℕ) (call : Call) (h : ℕ) (o : Object) → owns (settled_at call h o) ≡ true → Owes t o (settled_at call h o) (λ k. k)
 settled_owes t (Call.Act (Act.PulseEvent g)) h o is = only_here t (g == h) o (with_set false o) (set_owes t false o) is
@@ -281,12 +280,13 @@ count_append t xs ys = sum_by-append (λ u. cond (u == t) 1 0) xs ys
 
 turn_owing : (t h : ℕ) (old : State) (turn : Turn) (new : State) → AreFair old.waits → IsTurn old turn new → owns (object_at new.objects h) ≡ true → Owes t (object_at old.objects h) (object_at new.objects h) (λ k. turn_owes h t old turn k + count_by (λ u. u == t) (takers h (turn_took old turn)))
 turn_owing t h old (Calls who call (Ok reply) grants) new fair is ends =
-    let c = in_call h old who (call_named old.handles call) reply grants new fair is.0 is.1 in
+    let none = undenied old who (is_denied old call) (call_named old.handles call) is.0 in
+    let c = in_call h old who (call_named old.handles call) reply grants new fair none is.1 in
     let last = all_taken t (settled_at (call_named old.handles call) h c.calm) (object_at new.objects h) c.last c.begins ends in
     let settled = settled_owes t (call_named old.handles call) h c.calm last.owns in
     let first = all_taken t (object_at (change old who (call_named old.handles call)).objects h) c.calm c.first c.serves settled.owns in
     let same = c.becomes (plain (object_at (change old who (call_named old.handles call)).objects h) first.owns) in
-    let changed = subst (λ o. Owes t (object_at old.objects h) o (λ k. call_owes h t who (call_named old.handles call) reply k)) (sym same) (call_owing t old is.1.woken new who (call_named old.handles call) h reply is.0 is.1.answers (sym (ap owns same) ∙ first.owns)) in
+    let changed = subst (λ o. Owes t (object_at old.objects h) o (λ k. call_owes h (length old.objects) t who (call_named old.handles call) k)) (sym same) (call_owing t old who (call_named old.handles call) h none (sym (ap owns same) ∙ first.owns)) in
     let all = then_owes t _ _ _ _ _ changed (then_owes t _ _ _ _ _ first (then_owes t _ _ _ _ _ settled last)) in
     let times : count_by (λ u. u == t) (takers h (turn_took old (Calls who call (Ok reply) grants))) ≡ count_by (λ u. u == t) c.first + count_by (λ u. u == t) c.last = ap (λ ts. count_by (λ u. u == t) ts) c.told ∙ count_append t c.first c.last in
     record {

@@ -20,14 +20,19 @@ use Rattle.nt_core.specs.State.{State, object_at, with_object}
 use Rattle.nt_core.specs.Dispatcher.{Dispatcher, state, with_created}
 use Rattle.nt_core.specs.declared.call.Grant.{Grant}
 use Rattle.nt_core.specs.Serving.{is_ready, IsChanged, sequence, Serve, Grants, granted}
-use Rattle.nt_core.specs.Change.{change, at, created}
+use Rattle.nt_core.specs.Change.{change, at, created, opened_too}
 use Rattle.nt_core.specs.Steps.{after_serving, answered}
-use Rattle.nt_core.specs.Refusals.{is_full}
+use Rattle.std.specs.Prelude.{not}
+use Rattle.nt_status.specs.Access.{access_bits}
+use Rattle.nt_status.specs.Flags.{only_known}
+use Rattle.nt_status.specs.declared.refusal.Refusal.TheVariants.{AccessDenied, HandleLimit, InvalidHandle}
+use Rattle.nt_core.proofs.Handling.{handles_opened}
+use Rattle.nt_core.specs.Refusals.{is_full, is_unknown, refusal}
 use Rattle.nt_core.specs.Visits.{FitOnlyIn}
 use Rattle.nt_core.specs.Lawful.{IsSound, IsSteady, MayReplace}
 use Rattle.nt_core.specs.Accepts.{IsFresh, IsServedAfter, Accepts}
 use Rattle.nt_core.proofs.Changing.{ChangedOnlyAt, one_changed, same_changed, fit_only_in, changed_at_one, sound_replaced, served_fewer, due_replaced, none_created, sound_created, served_unchanged, object_at-append, due_kept, known_event, known_object, set_as_before, object_at-set_same}
-use Rattle.nt_core.proofs.Accepting.{accepted, settled_after, reading_taken_by}
+use Rattle.nt_core.proofs.Accepting.{accepted, settled_after, reading_taken_by, next_causes, own_causes}
 use Rattle.nt_core.proofs.Walks.{others-IsMember, AreOnce-others}
 
 -- ---- a queue holds each thread once at most
@@ -261,11 +266,11 @@ mutex_no_thread flags t = go (has_flag flags mutex_initial_owner)
     go true = refl
     go false = refl
 
-pub created_accepted : (old new : Dispatcher) (t : ℕ) (o : Object) (owned : List (List ℕ)) (call : Call) (handle : ℕ) → IsFresh old → is_full old.objects ≡ false → IsLawfulObject o → is_thread o ≡ false → due_of o ≡ None → change (state old) t call ≡ created (state old) o → ((s : State) → after_serving call s ≡ s) → ((s : State) → answered (state old) s t call ≡ (Reply.Handle (length old.objects), s)) → handle ≡ length old.objects → new ≡ with_created old o owned → Accepts old new t call (Reply.Handle handle)
+pub created_accepted : (old new : Dispatcher) (t : ℕ) (o : Object) (owned : List (List ℕ)) (call : Call) (handle : ℕ) → IsFresh old → is_full old.handles ≡ false → IsLawfulObject o → is_thread o ≡ false → due_of o ≡ None → change (state old) t call ≡ created (state old) o → ((s : State) → after_serving call s ≡ s) → ((s : State) → answered (state old) s t call ≡ (Reply.Handle (length old.handles), s)) → handle ≡ length old.handles → new ≡ with_created old o owned → Accepts old new t call (Reply.Handle handle)
 created_accepted old new t o owned call handle fresh room lawful no_thread due changes after answers is becomes =
     subst (λ (x : Dispatcher). Accepts old x t call (Reply.Handle handle)) (sym becomes)
     (subst (λ (h : ℕ). Accepts old d t call (Reply.Handle h)) (sym is)
-    (accepted old d d t call (Reply.Handle (length old.objects))
+    (accepted old d d t call (Reply.Handle (length old.handles))
     (subst (λ (s : State). IsServedAfter old s d) (sym changes) (idle_served old (created (state old) o) d [] fresh (none_created old.objects o) refl refl refl all))
     (sym (after (state d))) refl refl all (sym (answers (state d)))))
   where
@@ -281,6 +286,58 @@ created_accepted old new t o owned call handle fresh room lawful no_thread due c
         passed = due_kept (state old) (state d) old.now (λ k. due_created old.objects o k due) refl fresh.steady.settled.passed;
       };
     }
+
+-- ---- a duplicate
+
+-- one handle more leaves all else as it is
+pub duplicated_accepted : (old new : Dispatcher) (t object access handle : ℕ) → IsFresh old → is_full old.handles ≡ false → object < length old.objects → handle ≡ length old.handles → new ≡ record old { handles = old.handles ++ Some (record { object = object; access = access }) ∷ [] } → Accepts old new t (Call.Act (Act.Duplicate object access)) (Reply.Handle handle)
+duplicated_accepted old new t object access handle fresh room known is becomes =
+    subst (λ (x : Dispatcher). Accepts old x t (Call.Act (Act.Duplicate object access)) (Reply.Handle handle)) (sym becomes)
+    (subst (λ (h : ℕ). Accepts old d t (Call.Act (Act.Duplicate object access)) (Reply.Handle h)) (sym is)
+    (accepted old d d t (Call.Act (Act.Duplicate object access)) (Reply.Handle (length old.handles))
+    (idle_served old (opened_too (state old) object access) d [] fresh (same_changed old.objects old.objects refl) refl refl refl all)
+    refl refl refl all refl))
+  where
+    d : Dispatcher
+    d = record old { handles = old.handles ++ Some (record { object = object; access = access }) ∷ [] }
+
+    before : IsSound old
+    before = fresh.steady.sound
+
+    all : IsSteady d
+    all = record {
+      sound = record {
+        few = before.few;
+        waits = before.waits;
+        blocks = before.blocks;
+        hands = before.hands;
+        inboxes = before.inboxes;
+        objects = before.objects;
+        own = before.own;
+        none_else = before.none_else;
+        timers = before.timers;
+        handles = handles_opened (length old.objects) old.handles object access (grind (arith, nat_tests, room)) known before.handles;
+        room = before.room;
+      };
+      settled = record {
+        served = fresh.steady.settled.served;
+        alerted = fresh.steady.settled.alerted;
+        passed = fresh.steady.settled.passed;
+      };
+    }
+
+-- what a duplicate that no cause refuses names, with rights that there are
+pub duplicate_free : (s : State) (t object access : ℕ) → refusal s t false (Call.Act (Act.Duplicate object access)) ≡ None → (object < length s.objects) × (only_known access_bits access ≡ true) × (is_full s.handles ≡ false)
+duplicate_free s t object access none =
+    let own = own_causes s t (Call.Act (Act.Duplicate object access)) none in
+    let known = next_causes (is_unknown s.objects object) InvalidHandle ((not (only_known access_bits access), AccessDenied) ∷ (is_full s.handles, HandleLimit) ∷ []) own in
+    let rights = next_causes (not (only_known access_bits access)) AccessDenied ((is_full s.handles, HandleLimit) ∷ []) known.1 in
+    let room = next_causes (is_full s.handles) HandleLimit [] rights.1 in
+    (grind (arith, nat_tests, known.0), unnot (only_known access_bits access) rights.0, room.0)
+  where
+    unnot : (b : Bool) → not b ≡ false → b ≡ true
+    unnot true e = refl
+    unnot false e = sym e
 
 -- ---- semaphores
 

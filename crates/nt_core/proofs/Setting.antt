@@ -10,12 +10,12 @@ use Rattle.nt_objects.specs.Object.{signaled, taken, event_of, mutex_of, with_se
 use Rattle.nt_core.specs.declared.call.Call.{Call}
 use Rattle.nt_core.specs.declared.call.Act.{Act}
 use Rattle.nt_core.specs.declared.call.WaitCall.{WaitCall}
-use Rattle.nt_core.specs.declared.call.Reply.{Reply}
 use Rattle.nt_core.specs.Naming.{call_named}
 use Rattle.nt_core.specs.State.{State, opening, object_at}
-use Rattle.nt_core.specs.Change.{change, signal, act_reply}
+use Rattle.nt_core.specs.Change.{change, signal}
+use Rattle.nt_core.specs.Rights.{is_denied}
+use Rattle.nt_core.proofs.Judging.{undenied}
 use Rattle.nt_core.specs.Refusals.{refusal, may_signal}
-use Rattle.nt_core.specs.Steps.{answered}
 use Rattle.nt_core.specs.Runs.{Turn, Calls, Ticks, IsTurn, Turns, Run}
 use Rattle.nt_core.specs.Takes.{turn_took, takes, takers}
 use Rattle.nt_core.specs.Laws.{times_set, act_sets, call_sets, turn_sets, is_auto_reset, set_now}
@@ -173,26 +173,25 @@ only_here : (b : Bool) (o new : Object) → (resets new ≡ true → Sets o new 
 only_here true o new here is = here is
 only_here false o new here is = same_sets o 0 is
 
-act_setting : (s : State) (t : ℕ) (act : Act) (h : ℕ) (reply : Reply) → reply ≡ act_reply s t act → resets (acted (length s.objects) t act h (object_at s.objects h)) ≡ true → Sets (object_at s.objects h) (acted (length s.objects) t act h (object_at s.objects h)) (one_if (act_sets h act reply)) 0
-act_setting s t (Act.CreateEvent flags) h reply answer is =
-    subst (λ r. Sets (object_at s.objects h) (acted (length s.objects) t (Act.CreateEvent flags) h (object_at s.objects h)) (one_if (act_sets h (Act.CreateEvent flags) r)) 0) (sym answer)
-    (was_none (length s.objects == h) (object_at s.objects h) flags (λ here. past_last s.objects h (eqb-true (length s.objects) h here)) is)
-act_setting s t (Act.CreateSemaphore initial maximum) h reply answer is = only_here (length s.objects == h) (object_at s.objects h) (Semaphore initial maximum) (λ other. absurd (false≢true other)) is
-act_setting s t (Act.CreateMutex flags) h reply answer is = only_here (length s.objects == h) (object_at s.objects h) (mutex_of flags t) (λ other. absurd (mutex_resets_not flags t other)) is
-act_setting s t (Act.SetEvent g) h reply answer is = here_or_not (g == h) (object_at s.objects h) (with_set true (object_at s.objects h)) (λ here other. set_up (object_at s.objects h) other) is
-act_setting s t (Act.ResetEvent g) h reply answer is = only_here (g == h) (object_at s.objects h) (with_set false (object_at s.objects h)) (set_down (object_at s.objects h)) is
-act_setting s t (Act.PulseEvent g) h reply answer is = here_or_not (g == h) (object_at s.objects h) (with_set true (object_at s.objects h)) (λ here other. set_up (object_at s.objects h) other) is
-act_setting s t (Act.ReleaseSemaphore g count) h reply answer is = only_here (g == h) (object_at s.objects h) (released count (object_at s.objects h)) (released_sets count (object_at s.objects h)) is
-act_setting s t (Act.ReleaseMutex g) h reply answer is = only_here (g == h) (object_at s.objects h) (unlocked (object_at s.objects h)) (unlocked_sets (object_at s.objects h)) is
-act_setting s t _ h reply answer is = same_sets (object_at s.objects h) 0 is
+act_setting : (s : State) (t : ℕ) (act : Act) (h : ℕ) → resets (acted (length s.objects) t act h (object_at s.objects h)) ≡ true → Sets (object_at s.objects h) (acted (length s.objects) t act h (object_at s.objects h)) (one_if (act_sets h (length s.objects) act)) 0
+act_setting s t (Act.CreateEvent flags) h is =
+    was_none (length s.objects == h) (object_at s.objects h) flags (λ here. past_last s.objects h (eqb-true (length s.objects) h here)) is
+act_setting s t (Act.CreateSemaphore initial maximum) h is = only_here (length s.objects == h) (object_at s.objects h) (Semaphore initial maximum) (λ other. absurd (false≢true other)) is
+act_setting s t (Act.CreateMutex flags) h is = only_here (length s.objects == h) (object_at s.objects h) (mutex_of flags t) (λ other. absurd (mutex_resets_not flags t other)) is
+act_setting s t (Act.SetEvent g) h is = here_or_not (g == h) (object_at s.objects h) (with_set true (object_at s.objects h)) (λ here other. set_up (object_at s.objects h) other) is
+act_setting s t (Act.ResetEvent g) h is = only_here (g == h) (object_at s.objects h) (with_set false (object_at s.objects h)) (set_down (object_at s.objects h)) is
+act_setting s t (Act.PulseEvent g) h is = here_or_not (g == h) (object_at s.objects h) (with_set true (object_at s.objects h)) (λ here other. set_up (object_at s.objects h) other) is
+act_setting s t (Act.ReleaseSemaphore g count) h is = only_here (g == h) (object_at s.objects h) (released count (object_at s.objects h)) (released_sets count (object_at s.objects h)) is
+act_setting s t (Act.ReleaseMutex g) h is = only_here (g == h) (object_at s.objects h) (unlocked (object_at s.objects h)) (unlocked_sets (object_at s.objects h)) is
+act_setting s t _ h is = same_sets (object_at s.objects h) 0 is
 
-call_setting : (s woken new : State) (t : ℕ) (call : Call) (h : ℕ) (reply : Reply) → refusal s t call ≡ None → ◌≡◌ {A = Reply × State} (reply, new) (answered s woken t call) → resets (changed_at (length s.objects) t call h (object_at s.objects h)) ≡ true → Sets (object_at s.objects h) (changed_at (length s.objects) t call h (object_at s.objects h)) (one_if (call_sets h call reply)) 0
-call_setting s woken new t (Call.Act act) h reply none answer is = act_setting s t act h reply (ap (λ p. p.0) answer) is
-call_setting s woken new t (Call.Wait (WaitCall.Swap g object ms alertable)) h reply none answer is =
+call_setting : (s : State) (t : ℕ) (call : Call) (h : ℕ) → refusal s t false call ≡ None → resets (changed_at (length s.objects) t call h (object_at s.objects h)) ≡ true → Sets (object_at s.objects h) (changed_at (length s.objects) t call h (object_at s.objects h)) (one_if (call_sets h (length s.objects) call)) 0
+call_setting s t (Call.Act act) h none is = act_setting s t act h is
+call_setting s t (Call.Wait (WaitCall.Swap g object ms alertable)) h none is =
     let judged = swap_judged s t g object ms alertable none in
     here_or_not (g == h) (object_at s.objects h) (signal (object_at s.objects h)) (λ here other. signal_sets (object_at s.objects h) (ap (λ x. may_signal (object_at s.objects x)) (sym (eqb-true g h here)) ∙ judged.may) other) is
-call_setting s woken new t Call.Exit h reply none answer is = left_sets t (object_at s.objects h) is
-call_setting s woken new t _ h reply none answer is = same_sets (object_at s.objects h) 0 is
+call_setting s t Call.Exit h none is = left_sets t (object_at s.objects h) is
+call_setting s t _ h none is = same_sets (object_at s.objects h) 0 is
 
 settled_sets : (call : Call) (h : ℕ) (o : Object) → resets (settled_at call h o) ≡ true → Sets o (settled_at call h o) 0 0
 settled_sets (Call.Act (Act.PulseEvent g)) h o is = only_here (g == h) o (with_set false o) (set_down o) is
@@ -202,12 +201,13 @@ settled_sets _ h o is = same_sets o 0 is
 
 turn_setting : (h : ℕ) (old : State) (turn : Turn) (new : State) → AreFair old.waits → IsTurn old turn new → resets (object_at new.objects h) ≡ true → Sets (object_at old.objects h) (object_at new.objects h) (one_if (turn_sets h old turn)) (length (takers h (turn_took old turn)))
 turn_setting h old (Calls who call (Ok reply) grants) new fair is ends =
-    let c = in_call h old who (call_named old.handles call) reply grants new fair is.0 is.1 in
+    let none = undenied old who (is_denied old call) (call_named old.handles call) is.0 in
+    let c = in_call h old who (call_named old.handles call) reply grants new fair none is.1 in
     let last = all_taken (settled_at (call_named old.handles call) h c.calm) (object_at new.objects h) c.last c.begins ends in
     let settled = settled_sets (call_named old.handles call) h c.calm last.resets in
     let first = all_taken (object_at (change old who (call_named old.handles call)).objects h) c.calm c.first c.serves settled.resets in
     let same = c.becomes (plain (object_at (change old who (call_named old.handles call)).objects h) first.resets) in
-    let changed = subst (λ o. Sets (object_at old.objects h) o (one_if (call_sets h (call_named old.handles call) reply)) 0) (sym same) (call_setting old is.1.woken new who (call_named old.handles call) h reply is.0 is.1.answers (sym (ap resets same) ∙ first.resets)) in
+    let changed = subst (λ o. Sets (object_at old.objects h) o (one_if (call_sets h (length old.objects) (call_named old.handles call))) 0) (sym same) (call_setting old who (call_named old.handles call) h none (sym (ap resets same) ∙ first.resets)) in
     let all = then_sets _ _ _ _ _ _ _ changed (then_sets _ _ _ _ _ _ _ first (then_sets _ _ _ _ _ _ _ settled last)) in
     let times : length (takers h (turn_took old (Calls who call (Ok reply) grants))) ≡ length c.first + length c.last = ap (λ ts. length ts) c.told ∙ length-append c.first c.last in
     record { resets = all.resets; few = let e = all.few in omega (arith, e, times) }

@@ -80,7 +80,7 @@ pub record MaySwap (objects : List Object) (t h object : ℕ) : Type 0 where
   pub within : overflows (pos 1) (object_at objects h) ≡ false
   pub below : is_at_limit objects t object ≡ false
 
-pub may_swap : (s : State) (t h object ms : ℕ) (alertable : Bool) → refusal s t (Call.Wait (WaitCall.Swap h object ms alertable)) ≡ None → MaySwap s.objects t h object
+pub may_swap : (s : State) (t h object ms : ℕ) (alertable : Bool) → refusal s t false (Call.Wait (WaitCall.Swap h object ms alertable)) ≡ None → MaySwap s.objects t h object
 may_swap s t h object ms alertable none =
     let own = own_causes s t (Call.Wait (WaitCall.Swap h object ms alertable)) none in
     let first = next_causes (is_no may_signal s.objects h) InvalidHandle ((is_unknown s.objects object, InvalidHandle) ∷ (is_foreign s.objects t h, NotOwner) ∷ (overflows (pos 1) (object_at s.objects h), TooManyPosts) ∷ (is_at_limit s.objects t object, RecursionLimit) ∷ []) own in
@@ -178,7 +178,7 @@ lawful_signal Gone within lawful = lawful
 
 module _ (old calm : Dispatcher) (t h object ms : ℕ) (alertable : Bool)
     (fresh : IsFresh old)
-    (free : refusal (state old) t (Call.Wait (WaitCall.Swap h object ms alertable)) ≡ None)
+    (free : refusal (state old) t false (Call.Wait (WaitCall.Swap h object ms alertable)) ≡ None)
     (served : IsServedAfter old (at (state old) h signal) calm) where
   caller : (t < old.threads) × (has_ended (object_at old.objects t) ≡ false) × (fin.get old.table.pending t ≡ None)
   caller = free_caller (state old) t (Call.Wait (WaitCall.Swap h object ms alertable)) free

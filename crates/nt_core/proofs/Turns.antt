@@ -26,6 +26,8 @@ use Rattle.nt_core.specs.Naming.{call_named}
 use Rattle.nt_core.specs.State.{State, Pending, opening, object_at, with_object, with_handing, pending_too, waits_over}
 use Rattle.nt_core.specs.Serving.{fits, status, is_sleep, late_status, taken_by, sequence, Alert, TimeOut}
 use Rattle.nt_core.specs.Change.{created, signal, change, act_change, may_take, expired, expired_as, all_expired, armed_anew, timer_set, timer_cancelled, due_moment, routine_for, exited}
+use Rattle.nt_core.specs.Rights.{is_denied}
+use Rattle.nt_core.proofs.Judging.{undenied}
 use Rattle.nt_core.specs.Refusals.{Cause, first_of_causes, refusal, is_no, is_unknown, is_foreign, is_at_limit, may_signal}
 use Rattle.nt_core.specs.Steps.{Step, wait_of, begun, answered, after_serving, MomentPasses, MomentsPass, Ticked}
 use Rattle.nt_core.specs.Runs.{Turn, Calls, Ticks, IsTurn, Turns}
@@ -166,7 +168,7 @@ pub record IsJudged (s : State) (t g : ℕ) : Type 0 where
   pub fits : overflows (pos 1) (object_at s.objects g) ≡ false
   pub foreign : is_foreign s.objects t g ≡ false
 
-pub swap_judged : (s : State) (t g object ms : ℕ) (alertable : Bool) → refusal s t (Call.Wait (WaitCall.Swap g object ms alertable)) ≡ None → IsJudged s t g
+pub swap_judged : (s : State) (t g object ms : ℕ) (alertable : Bool) → refusal s t false (Call.Wait (WaitCall.Swap g object ms alertable)) ≡ None → IsJudged s t g
 swap_judged s t g object ms alertable none =
     let own = own_causes s t (Call.Wait (WaitCall.Swap g object ms alertable)) none in
     let last : List Cause = (is_at_limit s.objects t object, RecursionLimit) ∷ [] in
@@ -183,7 +185,7 @@ swap_judged s t g object ms alertable none =
     }
 
 -- what an act does, object by object; of an act on timers the lemmas above say it
-act_object : (s : State) (t : ℕ) (act : Act) (h : ℕ) → refusal s t (Call.Act act) ≡ None → is_plain (object_at (act_change s t act).objects h) ≡ true → object_at (act_change s t act).objects h ≡ acted (length s.objects) t act h (object_at s.objects h)
+act_object : (s : State) (t : ℕ) (act : Act) (h : ℕ) → refusal s t false (Call.Act act) ≡ None → is_plain (object_at (act_change s t act).objects h) ≡ true → object_at (act_change s t act).objects h ≡ acted (length s.objects) t act h (object_at s.objects h)
 act_object s t (Act.CreateEvent flags) h none plain = created_at s.objects (event_of flags) h
 act_object s t (Act.CreateSemaphore initial maximum) h none plain = created_at s.objects (Semaphore initial maximum) h
 act_object s t (Act.CreateMutex flags) h none plain = created_at s.objects (mutex_of flags t) h
@@ -198,6 +200,7 @@ act_object s t (Act.SetTimer g due period routine) h none plain =
     timer_set_object s g h (record { due = due_moment s.now due; period = unsigned_abs period; routine = routine_for t routine })
     (known_kind is_timer s.objects g ((int_lt period (pos 0), InvalidParameter) ∷ []) (own_causes s t (Call.Act (Act.SetTimer g due period routine)) none)) plain
 act_object s t (Act.QueueApc thread routine arg) h none plain = refl
+act_object s t (Act.Duplicate object access) h none plain = refl
 act_object s t Act.NextApc h none plain = go (may_take s t)
   where
     go : (b : Bool) → object_at (cond b (record s { apcs = Rattle.nt_apc.specs.Queues.taken s.apcs t }) (with_handing s t false)).objects h ≡ object_at s.objects h
@@ -264,7 +267,7 @@ changed_at n t (Call.Wait (WaitCall.Swap g object ms alertable)) h o = cond (g =
 changed_at n t Call.Exit h o = left t o
 changed_at n t _ h o = o
 
-change_object : (s : State) (t : ℕ) (call : Call) (h : ℕ) → refusal s t call ≡ None → is_plain (object_at (change s t call).objects h) ≡ true → object_at (change s t call).objects h ≡ changed_at (length s.objects) t call h (object_at s.objects h)
+change_object : (s : State) (t : ℕ) (call : Call) (h : ℕ) → refusal s t false call ≡ None → is_plain (object_at (change s t call).objects h) ≡ true → object_at (change s t call).objects h ≡ changed_at (length s.objects) t call h (object_at s.objects h)
 change_object s t (Call.Act act) h none plain = act_object s t act h none plain
 change_object s t (Call.Wait (WaitCall.Objects all alertable ms handles)) h none plain = refl
 change_object s t (Call.Wait (WaitCall.Sleep ms alertable)) h none plain = refl
@@ -325,7 +328,7 @@ begun_fair s t w ms reply new fair all is = go (fits s.objects t w) (w.alertable
     go false false false e = subst (λ (x : State). AreFair x.waits) (sym (ap (λ p. p.1) e)) (λ u v got. found u v (get_inserted s.waits t u w v got))
 
 -- a wait that no cause refuses is fair
-fair_call : (s : State) (t : ℕ) (wait : WaitCall) (now : ℕ) → refusal s t (Call.Wait wait) ≡ None → IsFair (wait_of now wait)
+fair_call : (s : State) (t : ℕ) (wait : WaitCall) (now : ℕ) → refusal s t false (Call.Wait wait) ≡ None → IsFair (wait_of now wait)
 fair_call s t (WaitCall.Objects all alertable ms handles) now none = let sound = sound_objects s t handles all alertable ms none in (sound.few, sound.apart)
 fair_call s t (WaitCall.Sleep ms alertable) now none =
     let caller = free_caller s t (Call.Wait (WaitCall.Sleep ms alertable)) none in
@@ -355,13 +358,13 @@ pub record InCall (h : ℕ) (old : State) (who : ℕ) (call : Call) (reply : Rep
   pub begins : TakenBy (settled_at call h calm) last (object_at new.objects h)
   pub told : takers h (grants_took old.waits grants ++ call_took old.now who call reply) ≡ first ++ last
 
-ends_at : (h : ℕ) (old woken new : State) (who : ℕ) (call : Call) (reply : Reply) → refusal old who call ≡ None → (reply, new) ≡ answered old woken who call → TakenBy (object_at woken.objects h) (takers h (call_took old.now who call reply)) (object_at new.objects h)
+ends_at : (h : ℕ) (old woken new : State) (who : ℕ) (call : Call) (reply : Reply) → refusal old who false call ≡ None → (reply, new) ≡ answered old woken who call → TakenBy (object_at woken.objects h) (takers h (call_took old.now who call reply)) (object_at new.objects h)
 ends_at h old woken new who (Call.Wait wait) reply none is =
     subst (λ ks. TakenBy (object_at woken.objects h) (takers h ks) (object_at new.objects h)) (same_handles who woken.now old.now wait reply)
     (begun_taken woken who (wait_of woken.now wait) (timeout_of wait) h reply new (fair_call old who wait woken.now none) is)
 ends_at h old woken new who _ reply none is = ap (λ p. object_at p.1.objects h) is
 
-pub in_call : (h : ℕ) (old : State) (who : ℕ) (call : Call) (reply : Reply) (grants : List Grant) (new : State) → AreFair old.waits → refusal old who call ≡ None → Step old who call reply grants new → InCall h old who call reply grants new
+pub in_call : (h : ℕ) (old : State) (who : ℕ) (call : Call) (reply : Reply) (grants : List Grant) (new : State) → AreFair old.waits → refusal old who false call ≡ None → Step old who call reply grants new → InCall h old who call reply grants new
 in_call h old who call reply grants new fair none step =
     let within : IsWithin (change old who call).waits old.waits = λ t w e. subst (λ m. get m t ≡ Some w) (change_waits old who call) e in
     let served = grants_taken (sequence old step.handles) (change old who call) step.calm step.served old.waits h step.serves.0 within fair in
@@ -389,7 +392,7 @@ time_out_within old new u grants waits out within = subst (λ (s : State). IsWit
 fair_within : (few many : Pending) → IsWithin few many → AreFair many → AreFair few
 fair_within few many within fair t w e = fair t w (within t w e)
 
-call_fair : (old : State) (who : ℕ) (call : Call) (reply : Reply) (grants : List Grant) (new : State) → AreFair old.waits → refusal old who call ≡ None → Step old who call reply grants new → AreFair new.waits
+call_fair : (old : State) (who : ℕ) (call : Call) (reply : Reply) (grants : List Grant) (new : State) → AreFair old.waits → refusal old who false call ≡ None → Step old who call reply grants new → AreFair new.waits
 call_fair old who call reply grants new fair none step =
     let within : IsWithin (change old who call).waits old.waits = λ t w e. subst (λ m. get m t ≡ Some w) (change_waits old who call) e in
     let calm = grants_within (sequence old step.handles) (change old who call) step.calm step.served old.waits step.serves.0 within in
@@ -397,7 +400,7 @@ call_fair old who call reply grants new fair none step =
     let woken = alert_within (after_serving call step.calm) step.woken step.alerted old.waits step.alerts after in
     own call step.woken none (fair_within step.woken.waits old.waits woken fair) step.answers
   where
-    own : (call : Call) (woken : State) → refusal old who call ≡ None → AreFair woken.waits → (reply, new) ≡ answered old woken who call → AreFair new.waits
+    own : (call : Call) (woken : State) → refusal old who false call ≡ None → AreFair woken.waits → (reply, new) ≡ answered old woken who call → AreFair new.waits
     own (Call.Wait wait) woken none all is = begun_fair woken who (wait_of woken.now wait) (timeout_of wait) reply new (fair_call old who wait woken.now none) all is
     own _ woken none all is = subst (λ (s : State). AreFair s.waits) (sym (ap (λ p. p.1) is)) all
 
@@ -477,7 +480,7 @@ tick_fair old m (Err r) grants new fair ticked = subst (λ (s : State). AreFair 
 -- ---- pending waits of a run are fair
 
 pub turn_fair : (old : State) (turn : Turn) (new : State) → AreFair old.waits → IsTurn old turn new → AreFair new.waits
-turn_fair old (Calls who call (Ok reply) grants) new fair is = call_fair old who (call_named old.handles call) reply grants new fair is.0 is.1
+turn_fair old (Calls who call (Ok reply) grants) new fair is = call_fair old who (call_named old.handles call) reply grants new fair (undenied old who (is_denied old call) (call_named old.handles call) is.0) is.1
 turn_fair old (Calls who call (Err r) grants) new fair is = subst (λ (s : State). AreFair s.waits) (sym is.2) fair
 turn_fair old (Ticks by m r grants) new fair is = tick_fair old m r grants new fair is
 

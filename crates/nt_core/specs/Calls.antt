@@ -22,12 +22,13 @@ act_signals (Act.ReleaseSemaphore h n) = true
 act_signals (Act.ReleaseMutex h) = true
 act_signals _ = false
 
--- the acts that may want memory: creations, queued APCs, and timers set with a routine, whose APC gets a place
+-- the acts that may want memory: creations, duplicates, queued APCs, and timers set with a routine, whose APC gets a place
 abbrev pub act_grows : Act → Bool
 act_grows (Act.CreateEvent flags) = true
 act_grows (Act.CreateSemaphore initial maximum) = true
 act_grows (Act.CreateMutex flags) = true
 act_grows (Act.CreateTimer flags) = true
+act_grows (Act.Duplicate h access) = true
 act_grows (Act.SetTimer timer due period routine) = is_some routine
 act_grows (Act.QueueApc thread routine arg) = true
 act_grows _ = false

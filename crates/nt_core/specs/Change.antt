@@ -20,13 +20,13 @@ use Rattle.nt_core.specs.State.{State, object_at, with_object, with_handing}
 abbrev pub at : State → ℕ → (Object → Object) → State
 at s h f = record s { objects = with_object s.objects h f }
 
--- one object more, last, and a handle for it with all rights of its kind
+-- one handle more, with the next number (Win32 reference: DuplicateHandle)
+abbrev pub opened_too : State → ℕ → ℕ → State
+opened_too s object access = record s { handles = s.handles ++ Some (record { object = object; access = access }) ∷ [] }
+
+-- one object more, with the next number, and a handle of it with all rights that its kind has
 abbrev pub created : State → Object → State
-created s o =
-    record s {
-      handles = s.handles ++ Some (record { object = length s.objects; access = full_access o }) ∷ [];
-      objects = s.objects ++ o ∷ [];
-    }
+created s o = opened_too (record s { objects = s.objects ++ o ∷ [] }) (length s.objects) (full_access o)
 
 -- ---- timers (Win32 reference: SetWaitableTimer, CancelWaitableTimer)
 
@@ -141,6 +141,7 @@ act_change s t (Act.SetTimer h due period routine) = timer_set s h (record { due
 act_change s t (Act.CancelTimer h) = timer_cancelled s h
 act_change s t (Act.QueueApc h routine arg) = apc_queued s h routine arg
 act_change s t Act.NextApc = apc_taken s t
+act_change s t (Act.Duplicate object access) = opened_too s object access
 
 abbrev pub wait_change : State → WaitCall → State
 wait_change s (WaitCall.Swap h object ms alertable) = at s h signal
@@ -154,10 +155,11 @@ change s t Call.Exit = exited s t
 
 -- what a call that can't pend answers, by the state before it
 abbrev pub act_reply : State → ℕ → Act → Reply
-act_reply s t (Act.CreateEvent flags) = Reply.Handle (length s.objects)
-act_reply s t (Act.CreateSemaphore initial maximum) = Reply.Handle (length s.objects)
-act_reply s t (Act.CreateMutex flags) = Reply.Handle (length s.objects)
-act_reply s t (Act.CreateTimer flags) = Reply.Handle (length s.objects)
+act_reply s t (Act.CreateEvent flags) = Reply.Handle (length s.handles)
+act_reply s t (Act.CreateSemaphore initial maximum) = Reply.Handle (length s.handles)
+act_reply s t (Act.CreateMutex flags) = Reply.Handle (length s.handles)
+act_reply s t (Act.CreateTimer flags) = Reply.Handle (length s.handles)
+act_reply s t (Act.Duplicate object access) = Reply.Handle (length s.handles)
 act_reply s t (Act.ReleaseSemaphore h n) = Reply.Previous (count_of (object_at s.objects h))
 act_reply s t Act.NextApc = apc_answered s t
 act_reply s t _ = Reply.Done

@@ -44,7 +44,7 @@ state d = record {
 abbrev pub with_prepared : Dispatcher → Option (ℕ × Wait) → Dispatcher
 with_prepared d prepared = record d { table = record d.table { prepared = prepared } }
 
--- one object more, last, with a handle of its own and no alarm; it may stand in its owner's list
+-- one object more, last, with a handle and no alarm; it may stand in its owner's list
 abbrev pub with_created : Dispatcher → Object → List (List ℕ) → Dispatcher
 with_created d o owned =
     record d {

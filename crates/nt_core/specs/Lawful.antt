@@ -5,7 +5,7 @@ use Rattle.std.specs.FinMap as map
 use Rattle.std.specs.FinMap.{get}
 use Rattle.nt_objects.specs.declared.object.Object.{Object}
 use Rattle.nt_objects.specs.declared.handles.Opened.{Opened}
-use Rattle.nt_objects.specs.Handles.{opened_at, names}
+use Rattle.nt_objects.specs.Handles.{opened_at}
 use Rattle.nt_owners.specs.Objects.{OwnersAgree}
 use Rattle.nt_objects.specs.Object.{IsLawfulObject, owned_by, has_room, has_ended, is_thread, due_of, setter_of}
 use Rattle.nt_waits.specs.declared.wait.Wait.{Wait}
@@ -41,11 +41,11 @@ pub record TimersAgree (threads : ℕ) (objects : List Object) (alarms places : 
   -- who armed it runs
   pub runs : (h t : ℕ) → setter_of (object_at objects h) ≡ Some t → (t < threads) × (has_ended (object_at objects t) ≡ false)
 
--- for each of so many objects there is a handle, with the object's own number, and no other handle
+-- handles name objects that there are, of which there are so many: each was created with a handle
 pub record HandlesAgree (count : ℕ) (handles : List (Option Opened)) : Type 0 where
-  pub few : count ≤ handle_limit
-  pub same : length handles ≡ count
-  pub own : (h : ℕ) → h < count → names h (opened_at handles h) ≡ true
+  pub few : length handles ≤ handle_limit
+  pub enough : count ≤ length handles
+  pub named : (h : ℕ) (opened : Opened) → opened_at handles h ≡ Some opened → opened.object < count
 
 -- what holds also between a change and the serving after it
 pub record IsSound (d : Dispatcher) : Type 0 where

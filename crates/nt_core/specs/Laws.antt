@@ -45,35 +45,31 @@ RunsOneWay = (n : ℕ) (turns others : List Turn) (a b : State) → Run n turns 
 
 -- ---- semaphores
 
--- the reply is this handle
-abbrev pub is_handle : ℕ → Reply → Bool
-is_handle h (Reply.Handle new) = new == h
-is_handle h _ = false
-
--- what an act gives to the semaphore at h: the count that it begins with, and what it is released by
-abbrev pub act_gives : ℕ → Act → Reply → ℤ
-act_gives h (Act.CreateSemaphore initial maximum) reply = if is_handle h reply then initial else pos 0
-act_gives h (Act.ReleaseSemaphore g count) reply = if g == h then count else pos 0
-act_gives h _ reply = pos 0
+-- what an act gives to the semaphore with number h, where the next object has number n: the count that it begins with, and what
+-- it is released by
+abbrev pub act_gives : ℕ → ℕ → Act → ℤ
+act_gives h n (Act.CreateSemaphore initial maximum) = if n == h then initial else pos 0
+act_gives h n (Act.ReleaseSemaphore g count) = if g == h then count else pos 0
+act_gives h n _ = pos 0
 
 -- and a swap that signals it gives one
-abbrev pub call_gives : ℕ → Call → Reply → ℤ
-call_gives h (Call.Act act) reply = act_gives h act reply
-call_gives h (Call.Wait (WaitCall.Swap g object ms alertable)) reply = if g == h then pos 1 else pos 0
-call_gives h _ reply = pos 0
+abbrev pub call_gives : ℕ → ℕ → Call → ℤ
+call_gives h n (Call.Act act) = act_gives h n act
+call_gives h n (Call.Wait (WaitCall.Swap g object ms alertable)) = if g == h then pos 1 else pos 0
+call_gives h n _ = pos 0
 
 -- by whichever handle
 abbrev pub turn_gives : ℕ → State → Turn → ℤ
-turn_gives h old (Calls who call (Ok reply) grants) = call_gives h (call_named old.handles call) reply
+turn_gives h old (Calls who call (Ok reply) grants) = call_gives h (length old.objects) (call_named old.handles call)
 turn_gives h old _ = pos 0
 
--- what these turns gave to the semaphore at h
+-- what these turns gave to the semaphore with number h
 abbrev pub given : (h : ℕ) (old : State) (turns : List Turn) (new : State) → Turns old turns new → ℤ
 given h old [] new run = pos 0
 given h old (turn ∷ turns) new run = turn_gives h old turn +ℤ given h run.0 turns new run.2
 
 -- a semaphore hands out what it was given and no more: over every run its count and the number of times that it was taken
--- make up what it was given, and its count stays between zero and its maximum
+-- make up what it was given, by whichever handles, and its count stays between zero and its maximum
 abbrev pub SemaphoresGiveWhatTheyHave : Type 0
 SemaphoresGiveWhatTheyHave =
     (n : ℕ) (turns : List Turn) (s : State) (run : Run n turns s) (h : ℕ)
@@ -83,25 +79,25 @@ SemaphoresGiveWhatTheyHave =
 
 -- ---- mutexes
 
--- how many releases of the mutex at h thread t owes after an act of thread `who`, if it owed so many before: one more where it
--- creates the mutex for itself, one less where it releases it
-abbrev pub act_owes : ℕ → ℕ → ℕ → Act → Reply → ℕ → ℕ
-act_owes h t who (Act.CreateMutex flags) reply owed = if is_handle h reply && has_flag flags mutex_initial_owner && who == t then owed + 1 else owed
-act_owes h t who (Act.ReleaseMutex g) reply owed = if g == h && who == t then owed - 1 else owed
-act_owes h t who _ reply owed = owed
+-- how many releases of the mutex with number h thread t owes after an act of thread `who`, if it owed so many before, where the next
+-- object has number n: one more where it creates the mutex for itself, one less where it releases it
+abbrev pub act_owes : ℕ → ℕ → ℕ → ℕ → Act → ℕ → ℕ
+act_owes h n t who (Act.CreateMutex flags) owed = if (n == h) && has_flag flags mutex_initial_owner && who == t then owed + 1 else owed
+act_owes h n t who (Act.ReleaseMutex g) owed = if g == h && who == t then owed - 1 else owed
+act_owes h n t who _ owed = owed
 
 -- and a swap that signals it releases it, and a thread that ends owes none
-abbrev pub call_owes : ℕ → ℕ → ℕ → Call → Reply → ℕ → ℕ
-call_owes h t who (Call.Act act) reply owed = act_owes h t who act reply owed
-call_owes h t who (Call.Wait (WaitCall.Swap g object ms alertable)) reply owed = if g == h && who == t then owed - 1 else owed
-call_owes h t who Call.Exit reply owed = if who == t then 0 else owed
-call_owes h t who _ reply owed = owed
+abbrev pub call_owes : ℕ → ℕ → ℕ → ℕ → Call → ℕ → ℕ
+call_owes h n t who (Call.Act act) owed = act_owes h n t who act owed
+call_owes h n t who (Call.Wait (WaitCall.Swap g object ms alertable)) owed = if g == h && who == t then owed - 1 else owed
+call_owes h n t who Call.Exit owed = if who == t then 0 else owed
+call_owes h n t who _ owed = owed
 
 abbrev pub turn_owes : ℕ → ℕ → State → Turn → ℕ → ℕ
-turn_owes h t old (Calls who call (Ok reply) grants) owed = call_owes h t who (call_named old.handles call) reply owed
+turn_owes h t old (Calls who call (Ok reply) grants) owed = call_owes h (length old.objects) t who (call_named old.handles call) owed
 turn_owes h t old _ owed = owed
 
--- how many releases of the mutex at h thread t owes after these turns, if it owed so many before: one more for each taking
+-- how many releases of the mutex with number h thread t owes after these turns, if it owed so many before: one more for each taking
 abbrev pub owed_after : (h t owed : ℕ) (old : State) (turns : List Turn) (new : State) → Turns old turns new → ℕ
 owed_after h t owed old [] new run = owed
 owed_after h t owed old (turn ∷ turns) new run =
@@ -121,24 +117,25 @@ OneOwner =
 
 -- ---- events
 
--- an act sets the event at h: SetEvent, PulseEvent, or its creation with the flag for that
-abbrev pub act_sets : ℕ → Act → Reply → Bool
-act_sets h (Act.CreateEvent flags) reply = is_handle h reply && has_flag flags event_initial_set
-act_sets h (Act.SetEvent g) reply = g == h
-act_sets h (Act.PulseEvent g) reply = g == h
-act_sets h _ reply = false
+-- an act sets the event with number h, where the next object has number n: SetEvent, PulseEvent, or its creation with the flag for
+-- that
+abbrev pub act_sets : ℕ → ℕ → Act → Bool
+act_sets h n (Act.CreateEvent flags) = (n == h) && has_flag flags event_initial_set
+act_sets h n (Act.SetEvent g) = g == h
+act_sets h n (Act.PulseEvent g) = g == h
+act_sets h n _ = false
 
 -- and so does a swap that signals it
-abbrev pub call_sets : ℕ → Call → Reply → Bool
-call_sets h (Call.Act act) reply = act_sets h act reply
-call_sets h (Call.Wait (WaitCall.Swap g object ms alertable)) reply = g == h
-call_sets h _ reply = false
+abbrev pub call_sets : ℕ → ℕ → Call → Bool
+call_sets h n (Call.Act act) = act_sets h n act
+call_sets h n (Call.Wait (WaitCall.Swap g object ms alertable)) = g == h
+call_sets h n _ = false
 
 abbrev pub turn_sets : ℕ → State → Turn → Bool
-turn_sets h old (Calls who call (Ok reply) grants) = call_sets h (call_named old.handles call) reply
+turn_sets h old (Calls who call (Ok reply) grants) = call_sets h (length old.objects) (call_named old.handles call)
 turn_sets h old _ = false
 
--- how many of these turns set the event at h
+-- how many of these turns set the event with number h
 abbrev pub times_set : (h : ℕ) (old : State) (turns : List Turn) (new : State) → Turns old turns new → ℕ
 times_set h old [] new run = 0
 times_set h old (turn ∷ turns) new run = (if turn_sets h old turn then 1 else 0) + times_set h run.0 turns new run.2

@@ -1,5 +1,6 @@
 -- What the handles of a call name. From there on all speaks of objects by their own numbers.
-use Rattle.std.specs.Prelude.{ℕ, List, map, Option, Some, None}
+use Rattle.std.specs.Prelude.{ℕ, Bool, not, List, map, Option, Some, None}
+use Rattle.nt_status.specs.Flags.{has_flag}
 use Rattle.nt_objects.specs.declared.handles.Opened.{Opened}
 use Rattle.nt_objects.specs.Handles.{opened_at}
 use Rattle.nt_core.specs.declared.call.Call.{Call}
@@ -19,6 +20,15 @@ object_in (Some opened) = opened.object
 abbrev pub object_named : List (Option Opened) → ℕ → ℕ
 object_named handles h = object_in (opened_at handles h)
 
+-- the rights of a handle, and none where it names nothing
+abbrev pub access_in : Option Opened → ℕ
+access_in None = 0
+access_in (Some opened) = opened.access
+
+-- the handle has not each of these rights
+abbrev pub lacks : ℕ → List (Option Opened) → ℕ → Bool
+lacks access handles h = not (has_flag (access_in (opened_at handles h)) access)
+
 -- ---- a call with the numbers of the objects in the place of their handles
 
 -- the act, with the numbers of the objects in the place of their handles
@@ -31,6 +41,7 @@ act_named handles (Act.ReleaseMutex h) = Act.ReleaseMutex (object_named handles 
 act_named handles (Act.SetTimer h due period routine) = Act.SetTimer (object_named handles h) due period routine
 act_named handles (Act.CancelTimer h) = Act.CancelTimer (object_named handles h)
 act_named handles (Act.QueueApc h routine arg) = Act.QueueApc (object_named handles h) routine arg
+act_named handles (Act.Duplicate h access) = Act.Duplicate (object_named handles h) access
 -- creations name nothing
 act_named handles act = act
 

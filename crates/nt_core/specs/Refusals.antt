@@ -4,8 +4,10 @@ use Rattle.std.specs.List.{list_any}
 use Rattle.std.specs.declared.option.Option.{Option}
 use Rattle.std.specs.declared.option.Option.TheVariants.{None, Some}
 use Rattle.nt_status.specs.Flags.{only_known, event_bits, mutex_bits, timer_bits}
+use Rattle.nt_status.specs.Access.{access_bits}
 use Rattle.nt_status.specs.declared.refusal.Refusal.{Refusal}
-use Rattle.nt_status.specs.declared.refusal.Refusal.TheVariants.{InvalidHandle, Memory, ThreadGone, InvalidParameter, NotOwner, TooManyPosts, ThreadWaiting, ThreadEnded, UnknownThread, RecursionLimit, HandleLimit}
+use Rattle.nt_status.specs.declared.refusal.Refusal.TheVariants.{AccessDenied, InvalidHandle, Memory, ThreadGone, InvalidParameter, NotOwner, TooManyPosts, ThreadWaiting, ThreadEnded, UnknownThread, RecursionLimit, HandleLimit}
+use Rattle.nt_objects.specs.declared.handles.Opened.{Opened}
 use Rattle.nt_objects.specs.declared.object.Object.{Object}
 use Rattle.nt_objects.specs.Object.{is_event, is_semaphore, is_mutex, is_timer, is_thread, has_ended, owned_by, has_room, overflows, may_count}
 use Rattle.nt_waits.specs.declared.wait.Wait.{Wait}
@@ -34,14 +36,14 @@ abbrev pub wait_limit : ℕ
 wait_limit = 64
 
 -- no handle number is left
-abbrev pub is_full : List Object → Bool
-is_full objects = nat_le handle_limit (length objects)
+abbrev pub is_full : List (Option Opened) → Bool
+is_full handles = nat_le handle_limit (length handles)
 
--- no object has this handle
+-- no object has this number
 abbrev pub is_unknown : List Object → ℕ → Bool
 is_unknown objects h = nat_le (length objects) h
 
--- no object has this handle, or none of this kind
+-- no object has this number, or none of this kind
 abbrev pub is_no : (Object → Bool) → List Object → ℕ → Bool
 is_no kind objects h = not (kind (object_at objects h))
 
@@ -61,41 +63,60 @@ is_foreign objects t h = is_mutex (object_at objects h) && not (owned_by (object
 abbrev pub may_signal : Object → Bool
 may_signal o = is_event o || is_semaphore o || is_mutex o
 
--- ---- the causes of each kind of call, in order
+-- ---- the causes of each kind of call on numbers of objects, in order; `denied` tells that a handle of the call lacks a right that
+-- the call needs, which comes right after the handles that name nothing fit
 
 -- a creation whose arguments are lawful or not
-abbrev pub creation_causes : List Object → Bool → List Cause
-creation_causes objects lawful = (not lawful, InvalidParameter) ∷ (is_full objects, HandleLimit) ∷ []
+abbrev pub creation_causes : List (Option Opened) → Bool → List Cause
+creation_causes handles lawful = (not lawful, InvalidParameter) ∷ (is_full handles, HandleLimit) ∷ []
 
-abbrev pub kind_causes : (Object → Bool) → List Object → ℕ → List Cause
-kind_causes kind objects h = (is_no kind objects h, InvalidHandle) ∷ []
+abbrev pub kind_causes : (Object → Bool) → List Object → Bool → ℕ → List Cause
+kind_causes kind objects denied h = (is_no kind objects h, InvalidHandle) ∷ (denied, AccessDenied) ∷ []
 
-abbrev pub release_causes : List Object → ℕ → ℤ → List Cause
-release_causes objects h n =
-    (is_no is_semaphore objects h, InvalidHandle) ∷ (int_le n (pos 0), InvalidParameter) ∷ (overflows n (object_at objects h), TooManyPosts) ∷ []
+abbrev pub release_causes : List Object → Bool → ℕ → ℤ → List Cause
+release_causes objects denied h n =
+    (is_no is_semaphore objects h, InvalidHandle)
+    ∷ (denied, AccessDenied)
+    ∷ (int_le n (pos 0), InvalidParameter)
+    ∷ (overflows n (object_at objects h), TooManyPosts)
+    ∷ []
 
+-- ReleaseMutex needs no right
 abbrev pub unlock_causes : List Object → ℕ → ℕ → List Cause
 unlock_causes objects t h = (is_no is_mutex objects h, InvalidHandle) ∷ (is_foreign objects t h, NotOwner) ∷ []
 
-abbrev pub arm_causes : List Object → ℕ → ℤ → List Cause
-arm_causes objects h period = (is_no is_timer objects h, InvalidHandle) ∷ (int_lt period (pos 0), InvalidParameter) ∷ []
+abbrev pub arm_causes : List Object → Bool → ℕ → ℤ → List Cause
+arm_causes objects denied h period =
+    (is_no is_timer objects h, InvalidHandle) ∷ (denied, AccessDenied) ∷ (int_lt period (pos 0), InvalidParameter) ∷ []
 
-abbrev pub apc_causes : List Object → ℕ → List Cause
-apc_causes objects h = (is_unknown objects h || is_no is_thread objects h, InvalidHandle) ∷ (has_ended (object_at objects h), ThreadGone) ∷ []
+abbrev pub apc_causes : List Object → Bool → ℕ → List Cause
+apc_causes objects denied h =
+    (is_unknown objects h || is_no is_thread objects h, InvalidHandle) ∷ (denied, AccessDenied) ∷ (has_ended (object_at objects h), ThreadGone) ∷ []
 
-abbrev pub objects_causes : List Object → ℕ → List ℕ → List Cause
-objects_causes objects t handles =
-    (length handles == 0 || nat_lt wait_limit (length handles), InvalidParameter)
-    ∷ (list_any (is_unknown objects) handles, InvalidHandle)
-    ∷ (has_twice handles, InvalidParameter)
-    ∷ (list_any (is_at_limit objects t) handles, RecursionLimit)
+-- a duplicate has no right that its handle lacks, and a bit that names no right is one that each lacks
+abbrev pub duplicate_causes : List (Option Opened) → List Object → Bool → ℕ → ℕ → List Cause
+duplicate_causes handles objects denied object access =
+    (is_unknown objects object, InvalidHandle)
+    ∷ (denied || not (only_known access_bits access), AccessDenied)
+    ∷ (is_full handles, HandleLimit)
+    ∷ []
+
+-- two handles of one object name it twice
+abbrev pub objects_causes : List Object → ℕ → Bool → List ℕ → List Cause
+objects_causes objects t denied named =
+    (length named == 0 || nat_lt wait_limit (length named), InvalidParameter)
+    ∷ (list_any (is_unknown objects) named, InvalidHandle)
+    ∷ (denied, AccessDenied)
+    ∷ (has_twice named, InvalidParameter)
+    ∷ (list_any (is_at_limit objects t) named, RecursionLimit)
     ∷ []
 
 -- both objects are judged as they are before the signal
-abbrev pub swap_causes : List Object → ℕ → ℕ → ℕ → List Cause
-swap_causes objects t h object =
+abbrev pub swap_causes : List Object → ℕ → Bool → ℕ → ℕ → List Cause
+swap_causes objects t denied h object =
     (is_no may_signal objects h, InvalidHandle)
     ∷ (is_unknown objects object, InvalidHandle)
+    ∷ (denied, AccessDenied)
     ∷ (is_foreign objects t h, NotOwner)
     ∷ (overflows (pos 1) (object_at objects h), TooManyPosts)
     ∷ (is_at_limit objects t object, RecursionLimit)
@@ -103,42 +124,43 @@ swap_causes objects t h object =
 
 -- ---- the table of calls
 
-abbrev pub act_causes : List Object → ℕ → Act → List Cause
-act_causes objects t (Act.CreateEvent flags) = creation_causes objects (only_known event_bits flags)
-act_causes objects t (Act.CreateSemaphore initial maximum) = creation_causes objects (may_count initial maximum)
-act_causes objects t (Act.CreateMutex flags) = creation_causes objects (only_known mutex_bits flags)
-act_causes objects t (Act.SetEvent h) = kind_causes is_event objects h
-act_causes objects t (Act.ResetEvent h) = kind_causes is_event objects h
-act_causes objects t (Act.PulseEvent h) = kind_causes is_event objects h
-act_causes objects t (Act.ReleaseSemaphore h n) = release_causes objects h n
-act_causes objects t (Act.ReleaseMutex h) = unlock_causes objects t h
-act_causes objects t (Act.CreateTimer flags) = creation_causes objects (only_known timer_bits flags)
-act_causes objects t (Act.SetTimer h due period routine) = arm_causes objects h period
-act_causes objects t (Act.CancelTimer h) = kind_causes is_timer objects h
-act_causes objects t (Act.QueueApc h routine arg) = apc_causes objects h
-act_causes objects t Act.NextApc = []
+abbrev pub act_causes : List (Option Opened) → List Object → ℕ → Bool → Act → List Cause
+act_causes handles objects t denied (Act.CreateEvent flags) = creation_causes handles (only_known event_bits flags)
+act_causes handles objects t denied (Act.CreateSemaphore initial maximum) = creation_causes handles (may_count initial maximum)
+act_causes handles objects t denied (Act.CreateMutex flags) = creation_causes handles (only_known mutex_bits flags)
+act_causes handles objects t denied (Act.SetEvent h) = kind_causes is_event objects denied h
+act_causes handles objects t denied (Act.ResetEvent h) = kind_causes is_event objects denied h
+act_causes handles objects t denied (Act.PulseEvent h) = kind_causes is_event objects denied h
+act_causes handles objects t denied (Act.ReleaseSemaphore h n) = release_causes objects denied h n
+act_causes handles objects t denied (Act.ReleaseMutex h) = unlock_causes objects t h
+act_causes handles objects t denied (Act.CreateTimer flags) = creation_causes handles (only_known timer_bits flags)
+act_causes handles objects t denied (Act.SetTimer h due period routine) = arm_causes objects denied h period
+act_causes handles objects t denied (Act.CancelTimer h) = kind_causes is_timer objects denied h
+act_causes handles objects t denied (Act.QueueApc h routine arg) = apc_causes objects denied h
+act_causes handles objects t denied Act.NextApc = []
+act_causes handles objects t denied (Act.Duplicate object access) = duplicate_causes handles objects denied object access
 
-abbrev pub wait_causes : List Object → ℕ → WaitCall → List Cause
-wait_causes objects t (WaitCall.Objects all alertable ms handles) = objects_causes objects t handles
-wait_causes objects t (WaitCall.Sleep ms alertable) = []
-wait_causes objects t (WaitCall.Swap h object ms alertable) = swap_causes objects t h object
+abbrev pub wait_causes : List Object → ℕ → Bool → WaitCall → List Cause
+wait_causes objects t denied (WaitCall.Objects all alertable ms named) = objects_causes objects t denied named
+wait_causes objects t denied (WaitCall.Sleep ms alertable) = []
+wait_causes objects t denied (WaitCall.Swap h object ms alertable) = swap_causes objects t denied h object
 
-abbrev pub call_causes : List Object → ℕ → Call → List Cause
-call_causes objects t (Call.Act act) = act_causes objects t act
-call_causes objects t (Call.Wait wait) = wait_causes objects t wait
-call_causes objects t Call.Exit = []
+abbrev pub call_causes : State → ℕ → Bool → Call → List Cause
+call_causes s t denied (Call.Act act) = act_causes s.handles s.objects t denied act
+call_causes s t denied (Call.Wait wait) = wait_causes s.objects t denied wait
+call_causes s t denied Call.Exit = []
 
 -- the causes of every call come first
-abbrev pub causes : State → ℕ → Call → List Cause
-causes s who call =
+abbrev pub causes : State → ℕ → Bool → Call → List Cause
+causes s who denied call =
     (nat_le s.threads who, UnknownThread)
     ∷ (has_ended (object_at s.objects who), ThreadEnded)
     ∷ (pends s who, ThreadWaiting)
-    ∷ call_causes s.objects who call
+    ∷ call_causes s who denied call
 
 -- the refusal that a call must meet, if any
-abbrev pub refusal : State → ℕ → Call → Option Refusal
-refusal s who call = first_of_causes (causes s who call)
+abbrev pub refusal : State → ℕ → Bool → Call → Option Refusal
+refusal s who denied call = first_of_causes (causes s who denied call)
 
 -- nothing ends t's wait at once: it does not fit, no APC is queued for it, and its timeout is not 0
 abbrev pub would_pend : State → ℕ → Wait → ℕ → Bool
@@ -153,6 +175,6 @@ grows s t (Call.Wait wait) = would_pend s t (wait_of s.now wait) (timeout_of wai
 grows s t Call.Exit = false
 
 -- out of memory is the last cause, of the calls that may take memory
-abbrev pub IsRefusal : State → ℕ → Call → Refusal → Type 0
-IsRefusal s who call r =
-    MatchOption (refusal s who call) (IsTrue (grows s who call) × (r ≡ Memory)) (λ first. r ≡ first)
+abbrev pub IsRefusal : State → ℕ → Bool → Call → Refusal → Type 0
+IsRefusal s who denied call r =
+    MatchOption (refusal s who denied call) (IsTrue (grows s who call) × (r ≡ Memory)) (λ first. r ≡ first)

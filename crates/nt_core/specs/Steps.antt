@@ -1,5 +1,5 @@
 -- The steps of the machine.
-use Rattle.std.specs.Prelude.{◌≡◌, ◌⊎◌, ℕ, ◌≤◌, ◌<◌, true, false, ◌&&◌, List, [], ◌∷◌, ◌++◌, if◌then◌else◌, ◌==◌}
+use Rattle.std.specs.Prelude.{◌≡◌, ◌⊎◌, ℕ, ◌≤◌, ◌<◌, Bool, true, false, ◌&&◌, List, [], ◌∷◌, ◌++◌, if◌then◌else◌, ◌==◌}
 use Rattle.std.specs.FinMap.{get}
 use Rattle.std.specs.declared.option.Option.TheVariants.{None, Some}
 use Rattle.std.specs.declared.result.Result.{Result}
@@ -16,6 +16,7 @@ use Rattle.nt_core.specs.declared.call.Reply.{Reply}
 use Rattle.nt_core.specs.declared.call.Grant.{Grant}
 pub use Rattle.nt_core.specs.Calls.{wait_of, timeout_of}
 use Rattle.nt_core.specs.Naming.{call_named}
+use Rattle.nt_core.specs.Rights.{is_denied}
 use Rattle.nt_core.specs.Rising.{AreRising}
 use Rattle.nt_core.specs.State.{State, with_handing, pending_too}
 use Rattle.nt_core.specs.Serving.{fits, status, taken_by, IsChanged, sequence, Serve, Alert, TimeOut, late_status, is_sleep}
@@ -58,14 +59,15 @@ pub record Step (old : State) (t : ℕ) (call : Call) (reply : Reply) (grants : 
   pub in_order : grants ≡ served ++ alerted
   pub answers : (reply, new) ≡ answered old woken t call
 
--- a call on numbers of objects with its result: a step of the machine, or a refusal that leaves everything as it was
-abbrev pub Made : State → ℕ → Call → Result Reply Refusal → List Grant → State → Type 0
-Made old who call (Ok reply) grants new = (refusal old who call ≡ None) × Step old who call reply grants new
-Made old who call (Err r) grants new = IsRefusal old who call r × (grants ≡ []) × (new ≡ old)
+-- a call on numbers of objects with its result: a step of the machine, or a refusal that leaves everything as it was; `denied` tells
+-- that one of its handles lacked a right that it needs
+abbrev pub Made : State → ℕ → Bool → Call → Result Reply Refusal → List Grant → State → Type 0
+Made old who denied call (Ok reply) grants new = (refusal old who denied call ≡ None) × Step old who call reply grants new
+Made old who denied call (Err r) grants new = IsRefusal old who denied call r × (grants ≡ []) × (new ≡ old)
 
 -- a call with its result: it is made on the objects that its handles name
 abbrev pub Called : State → ℕ → Call → Result Reply Refusal → List Grant → State → Type 0
-Called old who call result grants new = Made old who (call_named old.handles call) result grants new
+Called old who call result grants new = Made old who (is_denied old call) (call_named old.handles call) result grants new
 
 -- ---- a tick
 

@@ -40,6 +40,11 @@ pub enum Act {
         routine: u64,
         arg: u64,
     },
+    /// DuplicateHandle: one handle more for what this one names, with these rights, none of which the first may lack.
+    Duplicate {
+        handle: Handle,
+        access: u32,
+    },
     /// Takes the caller's oldest APC, where its last ended wait ended for its APCs and it has not found none since.
     NextApc,
 }
@@ -82,7 +87,7 @@ pub enum Call {
 pub enum Reply {
     /// The call is carried out and has nothing to tell.
     Done,
-    /// The handle of the object that was created.
+    /// The handle of the object that was created, or the one more.
     Handle(Handle),
     /// The semaphore's count before it was released.
     Previous(i32),

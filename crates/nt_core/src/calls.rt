@@ -1,5 +1,5 @@
 //! The table of calls: each is judged, and then made by the function for it.
-ghost use Rattle.std.specs.Prelude.{◌≡◌, ◌≤◌, ℕ, vec_capacity, length, None, IfOk, IfErr, OnOk, OnErr, IsTrue};
+ghost use Rattle.std.specs.Prelude.{◌≡◌, ◌≤◌, ℕ, Bool, false, vec_capacity, length, None, IfOk, IfErr, OnOk, OnErr, IsTrue};
 ghost use Rattle.nt_status.specs.declared.refusal.Refusal.TheVariants.{Memory};
 ghost use Rattle.nt_core.specs.Calls.{act_creates, act_signals, act_grows};
 ghost use Rattle.nt_core.specs.Dispatcher.{state};
@@ -11,7 +11,7 @@ ghost use Rattle.nt_core.specs.Accepts.{IsFresh, IsLocal, Accepts};
 ghost use Rattle.nt_core.specs.declared.call.Call.{Call};
 
 use crate::call::{Act, Call, Reply};
-use crate::handles::name_act;
+use crate::handles::{act_denied, name_act};
 use crate::machine::Machine;
 use nt_status::{EventFlags, Handle, MutexFlags, Refusal, ThreadId, TimerFlags};
 
@@ -25,7 +25,7 @@ impl Machine {
     ) -> Result<Handle, Refusal>
         requires fresh { IsFresh self.old }
         requires room { length self.old.objects ≤ vec_capacity changed.old }
-        requires free { refusal (state self.old) thread (Call.Act act.now) ≡ None }
+        requires free { refusal (state self.old) thread false (Call.Act act.now) ≡ None }
         requires kind { IsTrue (act_creates act.now) }
         ensures ok { IfOk result (λ handle. Accepts self.old self.new thread (Call.Act act.now) (Reply.Handle handle)) }
         ensures memory { IfErr result (λ refusal. refusal ≡ Memory) }
@@ -61,7 +61,7 @@ impl Machine {
     /// An act that signals an object or takes its signal back, and that no cause refuses.
     fn signal_object(&mut self, thread: ThreadId, act: &Act) -> Reply
         requires fresh { IsFresh self.old }
-        requires free { refusal (state self.old) thread (Call.Act act.now) ≡ None }
+        requires free { refusal (state self.old) thread false (Call.Act act.now) ≡ None }
         requires kind { IsTrue (act_signals act.now) }
         ensures accepts { Accepts self.old self.new thread (Call.Act act.now) result }
         ensures room { (room : ℕ) → length self.old.objects ≤ room → length self.new.objects ≤ room }
@@ -99,7 +99,7 @@ impl Machine {
     ) -> Result<Reply, Refusal>
         requires fresh { IsFresh self.old }
         requires room { length self.old.objects ≤ vec_capacity changed.old }
-        requires free { refusal (state self.old) thread (Call.Act act.now) ≡ None }
+        requires free { refusal (state self.old) thread false (Call.Act act.now) ≡ None }
         ensures ok { IfOk result (λ reply. Accepts self.old self.new thread (Call.Act act.now) reply) }
         ensures memory { IfErr result (λ refusal. refusal ≡ Memory) }
         ensures grows { OnErr result (IsTrue (act_grows act.now)) }
@@ -135,28 +135,32 @@ impl Machine {
                 self.queue_apc(thread, *target, *routine, *arg)?;
                 Ok(Reply::Done)
             }
+            Act::Duplicate { handle, access } => {
+                Ok(Reply::Handle(self.duplicate(thread, *handle, *access)?))
+            }
             Act::NextApc => Ok(Reply::Apc(self.next_apc(thread))),
             _ => Ok(self.signal_object(thread, act)),
         }
     }
 
-    /// An act on the numbers of objects, made or refused by its own causes.
+    /// An act on the number of an object, made or refused by its own causes.
     fn judge_act(
         &mut self,
         thread: ThreadId,
+        denied: bool,
         act: &Act,
         changed: &mut Vec<Handle>,
     ) -> Result<Reply, Refusal>
         requires fresh { IsFresh self.old }
         requires room { length self.old.objects ≤ vec_capacity changed.old }
-        requires caller { (call : Call) → refusal (state self.old) thread call ≡ first_of_causes (call_causes self.old.objects thread call) }
-        ensures made { Made (state self.old) thread (Call.Act act.now) result self.new.grants (state self.new) }
+        requires caller { (denied : Bool) (call : Call) → refusal (state self.old) thread denied call ≡ first_of_causes (call_causes (state self.old) thread denied call) }
+        ensures made { Made (state self.old) thread denied (Call.Act act.now) result self.new.grants (state self.new) }
         ensures steady { IsSteady self.new }
         ensures local { OnOk result (IsLocal (state self.old) thread (Call.Act act.now) self.new.table.looked self.new.grants) }
         ensures untested { OnErr result (self.new.table.looked ≡ 0) }
         ensures room { length self.new.objects ≤ vec_capacity changed.new }
     {
-        match self.refusal_of_act(thread, act) {
+        match self.refusal_of_act(thread, denied, act) {
             Some(refusal) => Err(refusal),
             None => self.act(thread, act, changed),
         }
@@ -188,8 +192,9 @@ impl Machine {
         let thread = ThreadId::new(who as u16);
         match call {
             Call::Act(act) => {
+                let denied = act_denied(&self.handles, act);
                 let act = name_act(&self.handles, act);
-                self.judge_act(thread, &act, changed)
+                self.judge_act(thread, denied, &act, changed)
             }
             Call::Wait(wait) => self.wait(thread, wait, numbers),
             Call::Exit => {

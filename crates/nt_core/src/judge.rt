@@ -1,19 +1,20 @@
 //! Whether a call is refused, and by which cause.
-ghost use Rattle.std.specs.Prelude.{◌≡◌, ◌≤◌, ◌<◌, map, vec_capacity, Some, IfSome, IfNone};
+ghost use Rattle.std.specs.Prelude.{◌≡◌, ◌≤◌, ◌<◌, ◌||◌, Bool, map, vec_capacity, Some, IfSome, IfNone};
 ghost use Rattle.std.specs.List.{list_any};
 ghost use Rattle.nt_status.specs.Flags.{only_known, event_bits, mutex_bits, timer_bits};
 ghost use Rattle.nt_objects.specs.Object.{is_event, is_timer, has_ended};
 ghost use Rattle.nt_core.specs.State.{object_at};
-ghost use Rattle.nt_core.specs.Naming.{object_named};
+ghost use Rattle.nt_core.specs.Naming.{object_named, lacks};
+ghost use Rattle.nt_core.specs.Rights.{signal_denied};
 ghost use Rattle.nt_core.specs.Dispatcher.{state};
 ghost use Rattle.nt_core.specs.declared.call.Call.{Call};
-ghost use Rattle.nt_core.specs.Refusals.{first_of_causes, call_causes, act_causes, objects_causes, creation_causes, release_causes, unlock_causes, arm_causes, kind_causes, apc_causes, swap_causes, refusal, is_no, is_unknown, has_twice, is_at_limit};
+ghost use Rattle.nt_core.specs.Refusals.{first_of_causes, call_causes, act_causes, objects_causes, creation_causes, release_causes, unlock_causes, arm_causes, kind_causes, apc_causes, duplicate_causes, swap_causes, refusal, is_no, is_unknown, has_twice, is_at_limit};
 
 use crate::call::Act;
-use crate::handles::{name_all, named};
+use crate::handles::{MODIFY_STATE, SYNCHRONIZE, lacks, name_all, named, object_named};
 use crate::machine::Machine;
-use nt_objects::Object;
-use nt_status::{EventFlags, Handle, MutexFlags, Refusal, ThreadId, TimerFlags};
+use nt_objects::{HandleTable, Object};
+use nt_status::{Access, EventFlags, Handle, MutexFlags, Refusal, ThreadId, TimerFlags};
 
 /// MAXIMUM_WAIT_OBJECTS: the most handles that a wait names.
 const WAIT_LIMIT: usize = 64;
@@ -21,13 +22,26 @@ const WAIT_LIMIT: usize = 64;
 /// Handle numbers are below this.
 const HANDLE_LIMIT: usize = 65536;
 
-/// Whether the handle names no event.
-fn is_no_event(objects: &[Object], handle: Handle) -> bool
-    ensures { result ≡ is_no is_event objects.now handle }
+/// Whether no event has this number.
+fn is_no_event(objects: &[Object], event: Handle) -> bool
+    ensures { result ≡ is_no is_event objects.now event }
 {
-    match named(objects, handle) {
+    match named(objects, event) {
         Some(object) => !object.is_event(),
         None => true,
+    }
+}
+
+/// The refusal of a call that changes the event with this number.
+fn event_refusal(objects: &[Object], denied: bool, event: Handle) -> Option<Refusal>
+    ensures { result ≡ first_of_causes (kind_causes is_event objects.now denied event) }
+{
+    if is_no_event(objects, event) {
+        Some(Refusal::InvalidHandle)
+    } else if denied {
+        Some(Refusal::AccessDenied)
+    } else {
+        None
     }
 }
 
@@ -99,12 +113,19 @@ fn are_mutex_flags(bits: u32) -> bool
 }
 
 /// The refusal of a release of the semaphore at this handle.
-fn release_refusal(objects: &[Object], semaphore: Handle, count: i32) -> Option<Refusal>
-    ensures { result ≡ first_of_causes (release_causes objects.now semaphore count) }
+fn release_refusal(
+    objects: &[Object],
+    denied: bool,
+    semaphore: Handle,
+    count: i32,
+) -> Option<Refusal>
+    ensures { result ≡ first_of_causes (release_causes objects.now denied semaphore count) }
 {
     match named(objects, semaphore) {
         Some(object) if object.is_semaphore() => {
-            if count <= 0 {
+            if denied {
+                Some(Refusal::AccessDenied)
+            } else if count <= 0 {
                 Some(Refusal::InvalidParameter)
             } else if object.overflows(count) {
                 Some(Refusal::TooManyPosts)
@@ -150,11 +171,13 @@ fn is_no_timer(objects: &[Object], handle: Handle) -> bool
 }
 
 /// The refusal of setting the timer at this handle.
-fn arm_refusal(objects: &[Object], timer: Handle, period: i32) -> Option<Refusal>
-    ensures { result ≡ first_of_causes (arm_causes objects.now timer period) }
+fn arm_refusal(objects: &[Object], denied: bool, timer: Handle, period: i32) -> Option<Refusal>
+    ensures { result ≡ first_of_causes (arm_causes objects.now denied timer period) }
 {
     if is_no_timer(objects, timer) {
         Some(Refusal::InvalidHandle)
+    } else if denied {
+        Some(Refusal::AccessDenied)
     } else if period < 0 {
         Some(Refusal::InvalidParameter)
     } else {
@@ -163,23 +186,27 @@ fn arm_refusal(objects: &[Object], timer: Handle, period: i32) -> Option<Refusal
 }
 
 /// The refusal of cancelling the timer at this handle.
-fn cancel_refusal(objects: &[Object], timer: Handle) -> Option<Refusal>
-    ensures { result ≡ first_of_causes (kind_causes is_timer objects.now timer) }
+fn cancel_refusal(objects: &[Object], denied: bool, timer: Handle) -> Option<Refusal>
+    ensures { result ≡ first_of_causes (kind_causes is_timer objects.now denied timer) }
 {
     if is_no_timer(objects, timer) {
         Some(Refusal::InvalidHandle)
+    } else if denied {
+        Some(Refusal::AccessDenied)
     } else {
         None
     }
 }
 
 /// The refusal of an APC for the thread whose object has this handle.
-fn apc_refusal(objects: &[Object], thread: Handle) -> Option<Refusal>
-    ensures { result ≡ first_of_causes (apc_causes objects.now thread) }
+fn apc_refusal(objects: &[Object], denied: bool, thread: Handle) -> Option<Refusal>
+    ensures { result ≡ first_of_causes (apc_causes objects.now denied thread) }
 {
     match named(objects, thread) {
         Some(object) if object.is_thread() => {
-            if object.has_ended() {
+            if denied {
+                Some(Refusal::AccessDenied)
+            } else if object.has_ended() {
                 Some(Refusal::ThreadGone)
             } else {
                 None
@@ -190,12 +217,33 @@ fn apc_refusal(objects: &[Object], thread: Handle) -> Option<Refusal>
 }
 
 /// The refusal of a creation, whose flags are lawful or not.
-fn creation_refusal(objects: &[Object], lawful: bool) -> Option<Refusal>
-    ensures { result ≡ first_of_causes (creation_causes objects.now lawful) }
+fn creation_refusal(handles: &HandleTable, lawful: bool) -> Option<Refusal>
+    ensures { result ≡ first_of_causes (creation_causes handles.now.opened lawful) }
 {
     if !lawful {
         Some(Refusal::InvalidParameter)
-    } else if objects.len() >= HANDLE_LIMIT {
+    } else if handles.len() >= HANDLE_LIMIT {
+        Some(Refusal::HandleLimit)
+    } else {
+        None
+    }
+}
+
+/// The refusal of one handle more for this object, with these rights.
+fn duplicate_refusal(
+    handles: &HandleTable,
+    objects: &[Object],
+    denied: bool,
+    object: Handle,
+    access: u32,
+) -> Option<Refusal>
+    ensures { result ≡ first_of_causes (duplicate_causes handles.now.opened objects.now denied object access) }
+{
+    if is_unknown(objects, object) {
+        Some(Refusal::InvalidHandle)
+    } else if denied || Access::from_bits(access).is_none() {
+        Some(Refusal::AccessDenied)
+    } else if handles.len() >= HANDLE_LIMIT {
         Some(Refusal::HandleLimit)
     } else {
         None
@@ -203,52 +251,66 @@ fn creation_refusal(objects: &[Object], lawful: bool) -> Option<Refusal>
 }
 
 /// The refusal of an act by its own causes.
-fn act_refusal(objects: &[Object], thread: ThreadId, act: &Act) -> Option<Refusal>
-    ensures { result ≡ first_of_causes (act_causes objects.now thread act.now) }
+fn act_refusal(
+    handles: &HandleTable,
+    objects: &[Object],
+    thread: ThreadId,
+    denied: bool,
+    act: &Act,
+) -> Option<Refusal>
+    ensures { result ≡ first_of_causes (act_causes handles.now.opened objects.now thread denied act.now) }
 {
     match act {
-        Act::CreateEvent(flags) => creation_refusal(objects, are_event_flags(*flags)),
+        Act::CreateEvent(flags) => creation_refusal(handles, are_event_flags(*flags)),
         Act::CreateSemaphore { initial, maximum } => {
-            creation_refusal(objects, Object::new_semaphore(*initial, *maximum).is_ok())
+            creation_refusal(handles, Object::new_semaphore(*initial, *maximum).is_ok())
         }
-        Act::CreateMutex(flags) => creation_refusal(objects, are_mutex_flags(*flags)),
-        Act::ReleaseSemaphore { semaphore, count } => release_refusal(objects, *semaphore, *count),
+        Act::CreateMutex(flags) => creation_refusal(handles, are_mutex_flags(*flags)),
+        Act::ReleaseSemaphore { semaphore, count } => {
+            release_refusal(objects, denied, *semaphore, *count)
+        }
         Act::NextApc => None,
         Act::QueueApc {
             thread,
             routine: _,
             arg: _,
-        } => apc_refusal(objects, *thread),
-        Act::CreateTimer(flags) => creation_refusal(objects, are_timer_flags(*flags)),
+        } => apc_refusal(objects, denied, *thread),
+        Act::CreateTimer(flags) => creation_refusal(handles, are_timer_flags(*flags)),
         Act::SetTimer {
             timer,
             due: _,
             period,
             routine: _,
-        } => arm_refusal(objects, *timer, *period),
-        Act::CancelTimer(timer) => cancel_refusal(objects, *timer),
+        } => arm_refusal(objects, denied, *timer, *period),
+        Act::CancelTimer(timer) => cancel_refusal(objects, denied, *timer),
         Act::ReleaseMutex(mutex) => unlock_refusal(objects, thread, *mutex),
         Act::SetEvent(event) | Act::ResetEvent(event) | Act::PulseEvent(event) => {
-            if is_no_event(objects, *event) {
-                Some(Refusal::InvalidHandle)
-            } else {
-                None
-            }
+            event_refusal(objects, denied, *event)
+        }
+        Act::Duplicate { handle, access } => {
+            duplicate_refusal(handles, objects, denied, *handle, *access)
         }
     }
 }
 
-/// The refusal of a wait for these handles.
-fn objects_refusal(objects: &[Object], thread: ThreadId, handles: &[Handle]) -> Option<Refusal>
-    ensures { result ≡ first_of_causes (objects_causes objects.now thread handles.now) }
+/// The refusal of a wait for the objects with these numbers.
+fn objects_refusal(
+    objects: &[Object],
+    thread: ThreadId,
+    denied: bool,
+    numbers: &[Handle],
+) -> Option<Refusal>
+    ensures { result ≡ first_of_causes (objects_causes objects.now thread denied numbers.now) }
 {
-    if handles.is_empty() || handles.len() > WAIT_LIMIT {
+    if numbers.is_empty() || numbers.len() > WAIT_LIMIT {
         Some(Refusal::InvalidParameter)
-    } else if has_unknown(objects, handles) {
+    } else if has_unknown(objects, numbers) {
         Some(Refusal::InvalidHandle)
-    } else if has_twice(handles) {
+    } else if denied {
+        Some(Refusal::AccessDenied)
+    } else if has_twice(numbers) {
         Some(Refusal::InvalidParameter)
-    } else if has_limit(objects, thread, handles) {
+    } else if has_limit(objects, thread, numbers) {
         Some(Refusal::RecursionLimit)
     } else {
         None
@@ -259,10 +321,11 @@ fn objects_refusal(objects: &[Object], thread: ThreadId, handles: &[Handle]) -> 
 fn swap_refusal(
     objects: &[Object],
     thread: ThreadId,
+    denied: bool,
     signal: Handle,
     object: Handle,
 ) -> Option<Refusal>
-    ensures { result ≡ first_of_causes (swap_causes objects.now thread signal object) }
+    ensures { result ≡ first_of_causes (swap_causes objects.now thread denied signal object) }
 {
     let signaled = match named(objects, signal) {
         Some(signaled) => *signaled,
@@ -273,6 +336,8 @@ fn swap_refusal(
         Some(Refusal::InvalidHandle)
     } else if is_unknown(objects, object) {
         Some(Refusal::InvalidHandle)
+    } else if denied {
+        Some(Refusal::AccessDenied)
     } else if is_mutex && !signaled.is_owned_by(thread) {
         Some(Refusal::NotOwner)
     } else if signaled.overflows(1) {
@@ -284,11 +349,22 @@ fn swap_refusal(
     }
 }
 
+/// Whether the handle that a swap signals lacks the right for that: to release a mutex none is needed.
+fn signal_denied(handles: &HandleTable, objects: &[Object], signal: Handle) -> bool
+    ensures { result ≡ signal_denied handles.now.opened objects.now signal }
+{
+    let is_mutex = match named(objects, object_named(handles, signal)) {
+        Some(object) => object.is_mutex(),
+        None => false,
+    };
+    !is_mutex && lacks(handles, signal, MODIFY_STATE)
+}
+
 impl Machine {
     /// The refusal that every call of this thread must meet, if any.
     pub(crate) fn caller_refusal(&self, who: u32) -> Option<Refusal>
-        ensures refused { IfSome result (λ cause. (call : Call) → refusal (state self.now) who call ≡ Some cause) }
-        ensures free { IfNone result ((call : Call) → refusal (state self.now) who call ≡ first_of_causes (call_causes self.now.objects who call)) }
+        ensures refused { IfSome result (λ cause. (denied : Bool) (call : Call) → refusal (state self.now) who denied call ≡ Some cause) }
+        ensures free { IfNone result ((denied : Bool) (call : Call) → refusal (state self.now) who denied call ≡ first_of_causes (call_causes (state self.now) who denied call)) }
         ensures known { IfNone result (who < self.now.threads) }
     {
         if who >= self.threads {
@@ -303,23 +379,37 @@ impl Machine {
         None
     }
 
-    /// The refusal of an act on the numbers of objects by its own causes.
-    pub(crate) fn refusal_of_act(&self, thread: ThreadId, act: &Act) -> Option<Refusal>
-        ensures { result ≡ first_of_causes (act_causes self.now.objects thread act.now) }
+    /// The refusal of an act on the number of an object by its own causes.
+    pub(crate) fn refusal_of_act(
+        &self,
+        thread: ThreadId,
+        denied: bool,
+        act: &Act,
+    ) -> Option<Refusal>
+        ensures { result ≡ first_of_causes (act_causes self.now.handles self.now.objects thread denied act.now) }
     {
-        act_refusal(self.objects.as_slice(), thread, act)
+        act_refusal(&self.handles, self.objects.as_slice(), thread, denied, act)
+    }
+
+    /// Whether a handle of a swap lacks a right that the swap needs.
+    pub(crate) fn is_swap_denied(&self, signal: Handle, object: Handle) -> bool
+        ensures { result ≡ (signal_denied self.now.handles self.now.objects signal || lacks 0x00100000 self.now.handles object) }
+    {
+        signal_denied(&self.handles, self.objects.as_slice(), signal)
+            || lacks(&self.handles, object, SYNCHRONIZE)
     }
 
     /// The refusal of a swap of the objects with these numbers by its own causes.
     pub(crate) fn refusal_of_swap(
         &self,
         thread: ThreadId,
+        denied: bool,
         signal: Handle,
         object: Handle,
     ) -> Option<Refusal>
-        ensures { result ≡ first_of_causes (swap_causes self.now.objects thread signal object) }
+        ensures { result ≡ first_of_causes (swap_causes self.now.objects thread denied signal object) }
     {
-        swap_refusal(self.objects.as_slice(), thread, signal, object)
+        swap_refusal(self.objects.as_slice(), thread, denied, signal, object)
     }
 
     /// The refusal of a wait for these handles by its own causes, and the numbers of the objects that they name where it has none.
@@ -330,14 +420,14 @@ impl Machine {
         numbers: &mut Vec<Handle>,
     ) -> Option<Refusal>
         requires { 64 ≤ vec_capacity numbers.old }
-        ensures refusal { result ≡ first_of_causes (objects_causes self.now.objects thread (map (object_named self.now.handles) these.now)) }
+        ensures refusal { result ≡ first_of_causes (objects_causes self.now.objects thread (list_any (lacks 0x00100000 self.now.handles) these.now) (map (object_named self.now.handles) these.now)) }
         ensures named { IfNone result (numbers.new.items ≡ map (object_named self.now.handles) these.now) }
         ensures capacity { vec_capacity numbers.new ≡ vec_capacity numbers.old }
     {
         if these.len() > WAIT_LIMIT {
             return Some(Refusal::InvalidParameter);
         }
-        name_all(&self.handles, these, numbers);
-        objects_refusal(self.objects.as_slice(), thread, numbers.as_slice())
+        let denied = name_all(&self.handles, these, numbers);
+        objects_refusal(self.objects.as_slice(), thread, denied, numbers.as_slice())
     }
 }

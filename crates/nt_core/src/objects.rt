@@ -1,17 +1,20 @@
 //! The list of objects, and the creation of more.
-ghost use Rattle.std.specs.Prelude.{◌≡◌, ◌≢◌, ◌<◌, ◌≤◌, ℕ, vec_capacity, None, ◌∷◌, ◌++◌, [], true, false, replicate, IfOk, OnOk, OnErr, length, slice_set};
+ghost use Rattle.std.specs.Prelude.{◌≡◌, ◌≢◌, ◌<◌, ◌≤◌, ℕ, vec_capacity, None, ◌∷◌, ◌++◌, [], true, false, Some, replicate, IfOk, OnOk, OnErr, length, slice_set};
 ghost use Rattle.nt_objects.specs.Object.{owner_of, owned_by};
 ghost use Rattle.nt_core.specs.State.{object_at};
-ghost use Rattle.nt_core.specs.Refusals.{is_full};
+ghost use Rattle.nt_core.specs.Refusals.{is_full, refusal};
 ghost use Rattle.nt_core.specs.Change.{at};
 ghost use Rattle.nt_core.specs.Dispatcher.{state, with_created};
 ghost use Rattle.nt_core.specs.Lawful.{MayReplace, HandlesAgree};
-ghost use Rattle.nt_core.specs.Accepts.{IsFresh, IsServedAfter};
+ghost use Rattle.nt_core.specs.Accepts.{IsFresh, IsServedAfter, Accepts};
+ghost use Rattle.nt_core.specs.declared.call.Act.{Act};
+ghost use Rattle.nt_core.specs.declared.call.Call.{Call};
+ghost use Rattle.nt_core.specs.declared.call.Reply.{Reply};
 
 use crate::machine::Machine;
 use nt_alarms::Alarms;
 use nt_objects::{Object, Opened};
-use nt_status::Handle;
+use nt_status::{Access, Handle, ThreadId};
 use std::alloc::{AllocError, Global};
 
 /// A place for each object's alarm, with no alarm.
@@ -34,10 +37,10 @@ impl Machine {
         changed: &mut Vec<Handle>,
     ) -> Result<Handle, AllocError>
         requires agree { HandlesAgree (length self.old.objects) self.old.handles }
-        requires few { is_full self.old.objects ≡ false }
+        requires few { is_full self.old.handles ≡ false }
         requires room { length self.old.objects ≤ vec_capacity changed.old }
         requires owner { (t : ℕ) → owned_by object t ≡ true → t < self.old.threads }
-        ensures handle { IfOk result (λ handle. handle ≡ length self.old.objects) }
+        ensures handle { IfOk result (λ handle. handle ≡ length self.old.handles) }
         ensures ok { OnOk result (self.new ≡ with_created self.old object self.new.owned) }
         ensures err { OnErr result (self.new ≡ self.old) }
         ensures room { length self.new.objects ≤ vec_capacity changed.new }
@@ -51,6 +54,39 @@ impl Machine {
         self.alarms.add()?;
         self.objects.add(object);
         let object = Handle::new(count as u32);
+        Ok(self.handles.add(Opened { object, access }))
+    }
+
+    /// DuplicateHandle: one handle more for this object, with these rights. Where memory is refused nothing changes.
+    pub(crate) fn duplicate(
+        &mut self,
+        thread: ThreadId,
+        object: Handle,
+        access: u32,
+    ) -> Result<Handle, AllocError>
+        requires fresh { IsFresh self.old }
+        requires free { refusal (state self.old) thread false (Call.Act (Act.Duplicate object access)) ≡ None }
+        ensures ok { IfOk result (λ handle. Accepts self.old self.new thread (Call.Act (Act.Duplicate object access)) (Reply.Handle handle)) }
+        ensures err { OnErr result (self.new ≡ self.old) }
+        ensures room { self.new.objects ≡ self.old.objects }
+    {
+        let _ = thread;
+        let Some(access) = Access::from_bits(access) else {
+            unreachable!()
+        };
+        self.open(object, access)
+    }
+
+    /// One handle more for this object.
+    fn open(&mut self, object: Handle, access: Access) -> Result<Handle, AllocError>
+        requires agree { HandlesAgree (length self.old.objects) self.old.handles }
+        requires few { is_full self.old.handles ≡ false }
+        requires known { object < length self.old.objects }
+        ensures handle { IfOk result (λ handle. handle ≡ length self.old.handles) }
+        ensures ok { OnOk result (self.new ≡ record self.old { handles = self.old.handles ++ Some (record { object = object; access = access }) ∷ [] }) }
+        ensures err { OnErr result (self.new ≡ self.old) }
+    {
+        self.handles.make_room()?;
         Ok(self.handles.add(Opened { object, access }))
     }
 

@@ -25,7 +25,7 @@ impl Machine {
     ) -> Result<Handle, AllocError>
         requires fresh { IsFresh self.old }
         requires counts { IsTrue (may_count initial maximum) }
-        requires few { is_full self.old.objects ≡ false }
+        requires few { is_full self.old.handles ≡ false }
         requires room { length self.old.objects ≤ vec_capacity changed.old }
         ensures ok { IfOk result (λ handle. Accepts self.old self.new thread (Call.Act (Act.CreateSemaphore initial maximum)) (Reply.Handle handle)) }
         ensures err { OnErr result (self.new ≡ self.old) }

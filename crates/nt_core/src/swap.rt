@@ -108,7 +108,7 @@ impl Machine {
         alertable: bool,
     ) -> Result<Reply, Refusal>
         requires fresh { IsFresh self.old }
-        requires free { refusal (state self.old) thread (Call.Wait (WaitCall.Swap signal object ms alertable)) ≡ None }
+        requires free { refusal (state self.old) thread false (Call.Wait (WaitCall.Swap signal object ms alertable)) ≡ None }
         ensures ok { IfOk result (λ reply. Accepts self.old self.new thread (Call.Wait (WaitCall.Swap signal object ms alertable)) reply) }
         ensures prepared { OnOk result (self.new.table.prepared ≡ None) }
         ensures grows { OnErr result (IsTrue (not (ms == 0))) }

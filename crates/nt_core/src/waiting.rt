@@ -1,11 +1,13 @@
 //! How a thread's own wait begins.
-ghost use Rattle.std.specs.Prelude.{◌≡◌, ◌≢◌, ◌&&◌, ◌+◌, ◌<◌, [], None, true, false, OnOk, OnErr, IfOk, IfErr, is_some, IfSome, IfNone, IsTrue, length, map, slice_set, vec_capacity, ◌≤◌, Option, ℕ};
+ghost use Rattle.std.specs.Prelude.{◌≡◌, ◌≢◌, ◌&&◌, ◌+◌, ◌<◌, [], None, true, false, OnOk, OnErr, IfOk, IfErr, is_some, IfSome, IfNone, IsTrue, length, map, slice_set, vec_capacity, ◌≤◌, Bool, Option, ℕ};
 ghost use Rattle.std.specs.Option.{OnSome};
+ghost use Rattle.std.specs.List.{list_any};
 ghost use Rattle.std.specs.FinMap as fin;
 ghost use Rattle.nt_status.specs.declared.refusal.Refusal.TheVariants.{Memory};
 ghost use Rattle.nt_apc.specs.Queues.{has_apc};
 ghost use Rattle.nt_core.specs.State.{deadline_after, pending_too};
-ghost use Rattle.nt_core.specs.Naming.{object_named, wait_named};
+ghost use Rattle.nt_core.specs.Naming.{object_named, lacks, wait_named};
+ghost use Rattle.nt_core.specs.Rights.{wait_denied};
 ghost use Rattle.nt_core.specs.Dispatcher.{state};
 ghost use Rattle.nt_core.specs.Serving.{late_status, wait_for, fits, status, taken_by};
 ghost use Rattle.nt_core.specs.Steps.{begun, wait_of};
@@ -183,10 +185,10 @@ impl Machine {
     ) -> Result<Reply, Refusal>
         requires few { 64 ≤ vec_capacity numbers.old }
         requires fresh { IsFresh self.old }
-        requires caller { (call : Call) → refusal (state self.old) thread call ≡ first_of_causes (call_causes self.old.objects thread call) }
-        ensures free { OnOk result (refusal (state self.old) thread (Call.Wait (WaitCall.Objects all alertable ms (map (object_named self.old.handles) these.now))) ≡ None) }
+        requires caller { (denied : Bool) (call : Call) → refusal (state self.old) thread denied call ≡ first_of_causes (call_causes (state self.old) thread denied call) }
+        ensures free { OnOk result (refusal (state self.old) thread (list_any (lacks 0x00100000 self.old.handles) these.now) (Call.Wait (WaitCall.Objects all alertable ms (map (object_named self.old.handles) these.now))) ≡ None) }
         ensures ok { IfOk result (λ reply. Accepts self.old self.new thread (Call.Wait (WaitCall.Objects all alertable ms (map (object_named self.old.handles) these.now))) reply) }
-        ensures refused { IfErr result (λ cause. IsRefusal (state self.old) thread (Call.Wait (WaitCall.Objects all alertable ms (map (object_named self.old.handles) these.now))) cause) }
+        ensures refused { IfErr result (λ cause. IsRefusal (state self.old) thread (list_any (lacks 0x00100000 self.old.handles) these.now) (Call.Wait (WaitCall.Objects all alertable ms (map (object_named self.old.handles) these.now))) cause) }
         ensures err { OnErr result (self.new ≡ self.old) }
         ensures few { 64 ≤ vec_capacity numbers.new }
     {
@@ -200,19 +202,20 @@ impl Machine {
     fn judge_swap(
         &mut self,
         thread: ThreadId,
+        denied: bool,
         signal: Handle,
         object: Handle,
         ms: u32,
         alertable: bool,
     ) -> Result<Reply, Refusal>
         requires fresh { IsFresh self.old }
-        requires caller { (call : Call) → refusal (state self.old) thread call ≡ first_of_causes (call_causes self.old.objects thread call) }
-        ensures free { OnOk result (refusal (state self.old) thread (Call.Wait (WaitCall.Swap signal object ms alertable)) ≡ None) }
+        requires caller { (denied : Bool) (call : Call) → refusal (state self.old) thread denied call ≡ first_of_causes (call_causes (state self.old) thread denied call) }
+        ensures free { OnOk result (refusal (state self.old) thread denied (Call.Wait (WaitCall.Swap signal object ms alertable)) ≡ None) }
         ensures ok { IfOk result (λ reply. Accepts self.old self.new thread (Call.Wait (WaitCall.Swap signal object ms alertable)) reply) }
-        ensures refused { IfErr result (λ cause. IsRefusal (state self.old) thread (Call.Wait (WaitCall.Swap signal object ms alertable)) cause) }
+        ensures refused { IfErr result (λ cause. IsRefusal (state self.old) thread denied (Call.Wait (WaitCall.Swap signal object ms alertable)) cause) }
         ensures err { OnErr result (self.new ≡ self.old) }
     {
-        match self.refusal_of_swap(thread, signal, object) {
+        match self.refusal_of_swap(thread, denied, signal, object) {
             Some(refusal) => Err(refusal),
             None => self.swap(thread, signal, object, ms, alertable),
         }
@@ -227,10 +230,10 @@ impl Machine {
     ) -> Result<Reply, Refusal>
         requires few { 64 ≤ vec_capacity numbers.old }
         requires fresh { IsFresh self.old }
-        requires caller { (call : Call) → refusal (state self.old) thread call ≡ first_of_causes (call_causes self.old.objects thread call) }
-        ensures free { OnOk result (refusal (state self.old) thread (Call.Wait (wait_named self.old.handles call.now)) ≡ None) }
+        requires caller { (denied : Bool) (call : Call) → refusal (state self.old) thread denied call ≡ first_of_causes (call_causes (state self.old) thread denied call) }
+        ensures free { OnOk result (refusal (state self.old) thread (wait_denied self.old.handles self.old.objects call.now) (Call.Wait (wait_named self.old.handles call.now)) ≡ None) }
         ensures ok { IfOk result (λ reply. Accepts self.old self.new thread (Call.Wait (wait_named self.old.handles call.now)) reply) }
-        ensures refused { IfErr result (λ cause. IsRefusal (state self.old) thread (Call.Wait (wait_named self.old.handles call.now)) cause) }
+        ensures refused { IfErr result (λ cause. IsRefusal (state self.old) thread (wait_denied self.old.handles self.old.objects call.now) (Call.Wait (wait_named self.old.handles call.now)) cause) }
         ensures err { OnErr result (self.new ≡ self.old) }
         ensures few { 64 ≤ vec_capacity numbers.new }
     {
@@ -254,9 +257,10 @@ impl Machine {
                 ms,
                 alertable,
             } => {
+                let denied = self.is_swap_denied(*signal, *object);
                 let signal = object_named(&self.handles, *signal);
                 let object = object_named(&self.handles, *object);
-                self.judge_swap(thread, signal, object, *ms, *alertable)
+                self.judge_swap(thread, denied, signal, object, *ms, *alertable)
             }
         }
     }

@@ -8,6 +8,7 @@ mod corners;
 mod events;
 mod exits;
 mod free;
+mod handles;
 mod memory;
 mod mutexes;
 mod openings;

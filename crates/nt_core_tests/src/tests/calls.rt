@@ -91,6 +91,10 @@ pub fn call_of(alloc: Global, ask: Ask, objects: &[u32]) -> Result<Call, AllocEr
             routine: Some((routine, arg)),
         },
         Ask::Cancel => Act::CancelTimer(first(objects)),
+        Ask::Duplicate(access) => Act::Duplicate {
+            handle: first(objects),
+            access,
+        },
         Ask::Next => Act::NextApc,
     };
     Ok(Call::Act(act))

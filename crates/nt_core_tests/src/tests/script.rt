@@ -12,6 +12,9 @@ pub const IO_COMPLETION: u32 = 0xC0;
 /// WAIT_ABANDONED_0, a status.
 pub const ABANDONED: u32 = 0x80;
 
+/// ERROR_ACCESS_DENIED.
+pub const ACCESS_DENIED: Answer = Answer::Error(5);
+
 /// ERROR_INVALID_HANDLE.
 pub const INVALID_HANDLE: Answer = Answer::Error(6);
 
@@ -65,6 +68,8 @@ pub enum Ask {
     /// The same, and a routine with its argument.
     ArmRoutine(i64, i32, u64, u64),
     Cancel,
+    /// One handle more, with these rights.
+    Duplicate(u32),
     /// The caller's oldest APC.
     Next,
     Any(u32),

@@ -16,7 +16,7 @@ returns-clause-ok c =
     let old = c.args.self.now in
     let made = c.new_mutex.ensures in
     ok_both
-    (λ handle. handle ≡ length old.objects)
+    (λ handle. handle ≡ length old.handles)
     (c.create.new.self ≡ with_created old c.new_mutex.result c.create.new.self.owned)
     (λ handle. Accepts old c.create.new.self c.args.thread (Call.Act (Act.CreateMutex c.args.flags)) (Reply.Handle handle))
     (λ handle is becomes. created_accepted old c.create.new.self c.args.thread (mutex_of c.args.flags c.args.thread) c.create.new.self.owned (Call.Act (Act.CreateMutex c.args.flags)) handle c.requires.fresh c.requires.few

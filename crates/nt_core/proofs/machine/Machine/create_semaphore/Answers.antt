@@ -24,7 +24,7 @@ returns-clause-ok c =
     let maximum : to_z w32 (of_z w32 c.args.maximum) ≡ c.args.maximum = to_z-of_z w32 c.args.maximum c.ranges.maximum in
     let is_o : c.in-Ok.semaphore ≡ o = made.semaphore ∙ (ap (λ (z : ℤ). Semaphore z (to_z w32 (of_z w32 c.args.maximum))) initial ∙ ap (λ (z : ℤ). Semaphore c.args.initial z) maximum) in
     ok_both
-    (λ handle. handle ≡ length old.objects)
+    (λ handle. handle ≡ length old.handles)
     (c.create.new.self ≡ with_created old c.in-Ok.semaphore c.create.new.self.owned)
     (λ handle. Accepts old c.create.new.self c.args.thread (Call.Act (Act.CreateSemaphore c.args.initial c.args.maximum)) (Reply.Handle handle))
     (λ handle is becomes. created_accepted old c.create.new.self c.args.thread o c.create.new.self.owned (Call.Act (Act.CreateSemaphore c.args.initial c.args.maximum)) handle c.requires.fresh c.requires.few

@@ -15,7 +15,7 @@ returns-clause-ok c =
     let old = c.args.self.now in
     let made = c.new_timer.ensures in
     ok_both
-    (λ handle. handle ≡ length old.objects)
+    (λ handle. handle ≡ length old.handles)
     (c.create.new.self ≡ with_created old c.new_timer.result c.create.new.self.owned)
     (λ handle. Accepts old c.create.new.self c.args.thread (Call.Act (Act.CreateTimer c.args.flags)) (Reply.Handle handle))
     (λ handle is becomes. created_accepted old c.create.new.self c.args.thread (timer_of c.args.flags) c.create.new.self.owned (Call.Act (Act.CreateTimer c.args.flags)) handle c.requires.fresh c.requires.few tt refl refl refl (λ s. refl) (λ s. refl) is

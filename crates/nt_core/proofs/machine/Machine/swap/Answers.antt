@@ -21,8 +21,8 @@ use Rattle.nt_core.proofs.machine.Machine.swap.Goals.{In_ok-prepare, In_default}
 fresh : (c : In_ok-prepare) → IsFresh c.prepare.new.self
 fresh c = subst IsFresh (sym c.prepare.ensures.kept) (fresh_prepared c.args.self.now c.prepare.new.self.table.prepared c.requires.fresh)
 
-free : (c : In_ok-prepare) → refusal (state c.prepare.new.self) c.args.thread (Call.Wait (WaitCall.Swap c.args.signal c.args.object c.args.ms c.args.alertable)) ≡ None
-free c = ap (λ (d : Dispatcher). refusal (state d) c.args.thread (Call.Wait (WaitCall.Swap c.args.signal c.args.object c.args.ms c.args.alertable))) c.prepare.ensures.kept ∙ c.requires.free
+free : (c : In_ok-prepare) → refusal (state c.prepare.new.self) c.args.thread false (Call.Wait (WaitCall.Swap c.args.signal c.args.object c.args.ms c.args.alertable)) ≡ None
+free c = ap (λ (d : Dispatcher). refusal (state d) c.args.thread false (Call.Wait (WaitCall.Swap c.args.signal c.args.object c.args.ms c.args.alertable))) c.prepare.ensures.kept ∙ c.requires.free
 
 pub signal-requires-clause-fresh : goal.signal-requires-clause-fresh
 signal-requires-clause-fresh c = fresh (goal.at.signal-requires-clause-fresh c).In_ok-prepare

@@ -2,6 +2,7 @@ use Rattle.std.proofs.Common.{◌≡◌, [], length, arith, sym, ap, subst, refl
 use Rattle.nt_core.specs.declared.call.Call.{Call}
 use Rattle.nt_core.specs.declared.call.WaitCall.{WaitCall}
 use Rattle.nt_core.specs.Naming.{wait_named}
+use Rattle.nt_core.specs.Rights.{wait_denied}
 use Rattle.nt_core.specs.State.{deadline_after}
 use Rattle.nt_core.specs.Dispatcher.{state}
 use Rattle.nt_core.specs.Serving.{wait_for}
@@ -17,21 +18,21 @@ use Rattle.nt_core.proofs.machine.Machine.wait.Goals as goal
 pub begin_wait-requires-clause-idle : goal.begin_wait-requires-clause-idle
 begin_wait-requires-clause-idle c =
     let call = Call.Wait (WaitCall.Sleep c.in-Sleep.ms c.in-Sleep.alertable) in
-    let caller = free_caller (state c.args.self.now) c.args.thread call (c.requires.caller call) in
+    let caller = free_caller (state c.args.self.now) c.args.thread call (c.requires.caller false call) in
     caller.2
 
 pub begin_wait-requires-clause-able : goal.begin_wait-requires-clause-able
 begin_wait-requires-clause-able c =
     let s = state c.args.self.now in
     let call = Call.Wait (WaitCall.Sleep c.in-Sleep.ms c.in-Sleep.alertable) in
-    let caller = free_caller s c.args.thread call (c.requires.caller call) in
+    let caller = free_caller s c.args.thread call (c.requires.caller false call) in
     sound_sleep s c.args.thread caller.0 caller.1
 
 pub begin_wait-requires-clause-room : goal.begin_wait-requires-clause-room
 begin_wait-requires-clause-room c =
     let d = c.args.self.now in
     let call = Call.Wait (WaitCall.Sleep c.in-Sleep.ms c.in-Sleep.alertable) in
-    let caller = free_caller (state d) c.args.thread call (c.requires.caller call) in
+    let caller = free_caller (state d) c.args.thread call (c.requires.caller false call) in
     let room = room_to_begin d c.args.thread (wait_for [] false) c.requires.fresh.steady.sound caller.0 caller.2 in
     let first : length d.grants ≡ 0 = ap (λ gs. length gs) c.requires.fresh.no_grants in
     omega (arith, room, first)
@@ -39,8 +40,8 @@ begin_wait-requires-clause-room c =
 pub returns-in-Sleep-clause-free : goal.returns-in-Sleep-clause-free
 returns-in-Sleep-clause-free c =
     let s = state c.args.self.now in
-    subst (λ (w : WaitCall). OnOk c.begin_wait.result (refusal s c.args.thread (Call.Wait (wait_named s.handles w)) ≡ None)) (sym c.in-Sleep.is)
-    (tried_free c.begin_wait.result (c.requires.caller (Call.Wait (WaitCall.Sleep c.in-Sleep.ms c.in-Sleep.alertable))))
+    subst (λ (w : WaitCall). OnOk c.begin_wait.result (refusal s c.args.thread (wait_denied s.handles s.objects w) (Call.Wait (wait_named s.handles w)) ≡ None)) (sym c.in-Sleep.is)
+    (tried_free c.begin_wait.result (c.requires.caller false (Call.Wait (WaitCall.Sleep c.in-Sleep.ms c.in-Sleep.alertable))))
 
 pub returns-in-Sleep-clause-ok : goal.returns-in-Sleep-clause-ok
 returns-in-Sleep-clause-ok c =
@@ -59,5 +60,5 @@ pub returns-in-Sleep-clause-refused : goal.returns-in-Sleep-clause-refused
 returns-in-Sleep-clause-refused c =
     let s = state c.args.self.now in
     let call = Call.Wait (WaitCall.Sleep c.in-Sleep.ms c.in-Sleep.alertable) in
-    subst (λ (w : WaitCall). IfErr c.begin_wait.result (λ cause. IsRefusal s c.args.thread (Call.Wait (wait_named s.handles w)) cause)) (sym c.in-Sleep.is)
-    (tried_refused s c.args.thread call c.begin_wait.result (c.requires.caller call) c.begin_wait.ensures.grows c.begin_wait.ensures.memory)
+    subst (λ (w : WaitCall). IfErr c.begin_wait.result (λ cause. IsRefusal s c.args.thread (wait_denied s.handles s.objects w) (Call.Wait (wait_named s.handles w)) cause)) (sym c.in-Sleep.is)
+    (tried_refused s c.args.thread false call c.begin_wait.result (c.requires.caller false call) c.begin_wait.ensures.grows c.begin_wait.ensures.memory)

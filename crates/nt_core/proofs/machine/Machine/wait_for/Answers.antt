@@ -2,7 +2,8 @@ use Rattle.std.proofs.Common.{◌≡◌, ℕ, List, [], length, arith, sym, ap, 
 use Rattle.std.specs.Prelude.{map}
 use Rattle.nt_core.specs.declared.call.Call.{Call}
 use Rattle.nt_core.specs.declared.call.WaitCall.{WaitCall}
-use Rattle.nt_core.specs.Naming.{object_named}
+use Rattle.nt_core.specs.Naming.{object_named, lacks}
+use Rattle.std.specs.List.{list_any}
 use Rattle.nt_core.specs.State.{deadline_after}
 use Rattle.nt_core.specs.Dispatcher.{state}
 use Rattle.nt_core.specs.Serving.{wait_for}
@@ -13,13 +14,13 @@ use Rattle.nt_core.specs.Refusals.{grows}
 use Rattle.std.specs.Prelude.{IsTrue, OnErr}
 use Rattle.nt_core.proofs.Accepting.{ok_then, free_caller, sound_objects, wait_accepted}
 use Rattle.nt_core.proofs.Beginning.{room_to_begin}
-use Rattle.nt_core.proofs.Judging.{is_refusal, tried_refused, tried_free}
+use Rattle.nt_core.proofs.Judging.{is_refusal, tried_refused, tried_free, undenied}
 use Rattle.nt_core.proofs.machine.Machine.wait_for.Goals as goal
 
 pub begin_wait-requires-clause-idle : goal.begin_wait-requires-clause-idle
 begin_wait-requires-clause-idle c =
     let call = Call.Wait (WaitCall.Objects c.args.all c.args.alertable c.args.ms (map (object_named c.args.self.now.handles) c.args.these.now)) in
-    let caller = free_caller (state c.args.self.now) c.args.thread call (c.requires.caller call ∙ (sym c.refusal_of_wait.ensures.refusal ∙ c.in-None.is)) in
+    let caller = free_caller (state c.args.self.now) c.args.thread call (undenied (state c.args.self.now) c.args.thread (list_any (lacks 0x00100000 c.args.self.now.handles) c.args.these.now) call (c.requires.caller (list_any (lacks 0x00100000 c.args.self.now.handles) c.args.these.now) call ∙ (sym c.refusal_of_wait.ensures.refusal ∙ c.in-None.is))) in
     caller.2
 
 pub begin_wait-requires-clause-able : goal.begin_wait-requires-clause-able
@@ -28,13 +29,13 @@ begin_wait-requires-clause-able c =
     let named = map (object_named s.handles) c.args.these.now in
     let call = Call.Wait (WaitCall.Objects c.args.all c.args.alertable c.args.ms named) in
     subst (λ (hs : List ℕ). IsSoundWait s.threads s.objects c.args.thread (wait_for hs c.args.all)) (sym (c.as_slice.ensures.value ∙ c.in-None.ensures.named))
-    (sound_objects s c.args.thread named c.args.all c.args.alertable c.args.ms (c.requires.caller call ∙ (sym c.refusal_of_wait.ensures.refusal ∙ c.in-None.is)))
+    (sound_objects s c.args.thread named c.args.all c.args.alertable c.args.ms (undenied (state c.args.self.now) c.args.thread (list_any (lacks 0x00100000 c.args.self.now.handles) c.args.these.now) call (c.requires.caller (list_any (lacks 0x00100000 c.args.self.now.handles) c.args.these.now) call ∙ (sym c.refusal_of_wait.ensures.refusal ∙ c.in-None.is))))
 
 pub begin_wait-requires-clause-room : goal.begin_wait-requires-clause-room
 begin_wait-requires-clause-room c =
     let d = c.args.self.now in
     let call = Call.Wait (WaitCall.Objects c.args.all c.args.alertable c.args.ms (map (object_named d.handles) c.args.these.now)) in
-    let caller = free_caller (state d) c.args.thread call (c.requires.caller call ∙ (sym c.refusal_of_wait.ensures.refusal ∙ c.in-None.is)) in
+    let caller = free_caller (state d) c.args.thread call (undenied (state c.args.self.now) c.args.thread (list_any (lacks 0x00100000 c.args.self.now.handles) c.args.these.now) call (c.requires.caller (list_any (lacks 0x00100000 c.args.self.now.handles) c.args.these.now) call ∙ (sym c.refusal_of_wait.ensures.refusal ∙ c.in-None.is))) in
     let room = room_to_begin d c.args.thread (wait_for [] false) c.requires.fresh.steady.sound caller.0 caller.2 in
     let first : length d.grants ≡ 0 = ap (λ gs. length gs) c.requires.fresh.no_grants in
     omega (arith, room, first)
@@ -42,12 +43,12 @@ begin_wait-requires-clause-room c =
 pub returns-in-Some-clause-refused : goal.returns-in-Some-clause-refused
 returns-in-Some-clause-refused c =
     let call = Call.Wait (WaitCall.Objects c.args.all c.args.alertable c.args.ms (map (object_named c.args.self.now.handles) c.args.these.now)) in
-    is_refusal (state c.args.self.now) c.args.thread call c.in-Some.refusal (c.requires.caller call ∙ (sym c.refusal_of_wait.ensures.refusal ∙ c.in-Some.is))
+    is_refusal (state c.args.self.now) c.args.thread (list_any (lacks 0x00100000 c.args.self.now.handles) c.args.these.now) call c.in-Some.refusal (c.requires.caller (list_any (lacks 0x00100000 c.args.self.now.handles) c.args.these.now) call ∙ (sym c.refusal_of_wait.ensures.refusal ∙ c.in-Some.is))
 
 pub returns-in-None-clause-free : goal.returns-in-None-clause-free
 returns-in-None-clause-free c =
     let call = Call.Wait (WaitCall.Objects c.args.all c.args.alertable c.args.ms (map (object_named c.args.self.now.handles) c.args.these.now)) in
-    tried_free c.begin_wait.result (c.requires.caller call ∙ (sym c.refusal_of_wait.ensures.refusal ∙ c.in-None.is))
+    tried_free c.begin_wait.result (c.requires.caller (list_any (lacks 0x00100000 c.args.self.now.handles) c.args.these.now) call ∙ (sym c.refusal_of_wait.ensures.refusal ∙ c.in-None.is))
 
 pub returns-in-None-clause-ok : goal.returns-in-None-clause-ok
 returns-in-None-clause-ok c =
@@ -68,6 +69,6 @@ returns-in-None-clause-refused c =
     let s = state c.args.self.now in
     let named = map (object_named s.handles) c.args.these.now in
     let call = Call.Wait (WaitCall.Objects c.args.all c.args.alertable c.args.ms named) in
-    tried_refused s c.args.thread call c.begin_wait.result (c.requires.caller call ∙ (sym c.refusal_of_wait.ensures.refusal ∙ c.in-None.is))
+    tried_refused s c.args.thread (list_any (lacks 0x00100000 c.args.self.now.handles) c.args.these.now) call c.begin_wait.result (c.requires.caller (list_any (lacks 0x00100000 c.args.self.now.handles) c.args.these.now) call ∙ (sym c.refusal_of_wait.ensures.refusal ∙ c.in-None.is))
     (subst (λ (hs : List ℕ). OnErr c.begin_wait.result (IsTrue (grows s c.args.thread (Call.Wait (WaitCall.Objects c.args.all c.args.alertable c.args.ms hs))))) (c.as_slice.ensures.value ∙ c.in-None.ensures.named) c.begin_wait.ensures.grows)
     c.begin_wait.ensures.memory
