@@ -3,3 +3,4 @@ pub mod Floors
 pub mod Polling
 pub mod Passed
 pub mod Closing
+pub mod Marking

@@ -1,7 +1,6 @@
 -- What contracts see of a book.
 use Rattle.std.specs.Prelude.{◌≡◌, ℕ, Bool, ◌+◌, ◌<◌, ◌≤◌, ◌^◌, ◌&&◌, nat_le, List, [], ◌++◌, length, true, Result}
 use Rattle.std.specs.FinMap.{len}
-use Rattle.atomic_table.specs.Seated.{TableId}
 use Rattle.nt_status.specs.declared.refusal.Refusal.{Refusal}
 use Rattle.nt_core.specs.declared.call.Call.{Call}
 use Rattle.nt_core.specs.declared.call.Reply.{Reply}
@@ -12,9 +11,12 @@ use Rattle.nt_core.specs.Moves.{Moves, pended, is_wait}
 use Rattle.nt_core.specs.Runs.{Turn, Calls, Ticks, IsTurn}
 use Rattle.nt_core.specs.State.{opening}
 use Rattle.nt_mail.specs.declared.entry.Entry.{Entry}
+use Rattle.nt_mail.specs.declared.knowledge.Knowledge.{Knowledge}
 use Rattle.nt_mail.specs.Entries.{accepted}
 use Rattle.nt_mail.specs.Knowledge.{newcomers}
+use Rattle.nt_mail.specs.Rule.{IsTold}
 use Rattle.nt_mail.specs.Seats.{Dispatcher as Seat, Gathered}
+use Rattle.nt_front.specs.Names.{Prepared}
 use Rattle.nt_front.specs.Runs.{entries_of, IsRun, Agree}
 
 -- the dispatcher, the entries written, and the number of places in the journal
@@ -56,14 +58,14 @@ pub record IsCarriedOut (old : Dispatcher) (who : ℕ) (call : Call) (result : R
 abbrev pub IsFull : Ledger → Type 0
 IsFull b = b.room < length b.journal + 1 + len (state b.core).waits
 
--- a front that no name stands for yet: its mail, how many threads it has, and the places in its journal
-pub record Prepared : Type 0 where
-  pub table : TableId
-  pub threads : ℕ
-  pub room : ℕ
-
-abbrev pub prepared : TableId → ℕ → ℕ → Prepared
-prepared table threads room = record { table = table; threads = threads; room = room }
+-- a book of this front had no room for the thread's next call: it stood, it was full, and its journal tells just what the thread knows
+pub record WasFull (front : Prepared) (k : Knowledge) : Type 0 where
+  pub book : Ledger
+  pub stands : Stands book
+  pub threads : book.core.threads ≡ front.threads
+  pub room : book.room ≡ front.room
+  pub full : IsFull book
+  pub told : IsTold book.journal (accepted book.journal) k
 
 -- so many threads and so much room are lawful
 abbrev pub is_lawful_front : ℕ → ℕ → Bool
@@ -80,11 +82,14 @@ pub record IsBlank (b : Prepared) (all : Gathered) (core : Dispatcher) (journal 
   pub numbers : b.room < 2 ^ 54
   pub few : b.threads ≤ 256
 
--- what a book keeps: the headline, entries that agree with the state, places for its room, and a seat that knows the journal
-pub record IsBook (b : Ledger) (threads capacity : ℕ) (dispatcher : Seat) (table : TableId) : Type 0 where
+-- what a book keeps: the headline, entries that agree with the state, the threads and the room of its front, places for that room, and
+-- a seat that knows the journal
+pub record IsBook (b : Ledger) (count capacity : ℕ) (dispatcher : Seat) (front : Prepared) : Type 0 where
   pub stands : Stands b
-  pub agree : Agree threads b.journal (state b.core)
+  pub agree : Agree count b.journal (state b.core)
+  pub threads : count ≡ front.threads
+  pub room : b.room ≡ front.room
   pub places : b.room ≤ capacity
   pub numbers : b.room < 2 ^ 54
-  pub seat : dispatcher ≡ record { table = table; written = b.journal; published = accepted b.journal }
-  pub words : table.words ≡ threads + 1
+  pub seat : dispatcher ≡ record { table = front.table; written = b.journal; published = accepted b.journal }
+  pub words : front.table.words ≡ count + 1

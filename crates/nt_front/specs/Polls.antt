@@ -12,6 +12,8 @@ use Rattle.nt_front.specs.declared.calls.Exited.{Exited}
 use Rattle.nt_mail.specs.declared.word.Word.{Word}
 use Rattle.nt_mail.specs.Words.{IsLawfulWord, granted_word}
 use Rattle.nt_mail.specs.Knowledge.{with_polled, IsEarlier}
+use Rattle.nt_front.specs.Names.{Prepared}
+use Rattle.nt_front.specs.Books.{WasFull}
 use Rattle.nt_front.specs.Holds.{IsGiven, with_call}
 
 -- the word tells no grant
@@ -32,11 +34,11 @@ IsPolled old (Polled.Still new) = IsStill old new
 abbrev pub IsMade : Knowledge → Call → ℕ → Result Reply Refusal → Knowledge → Type 0
 IsMade old call number result new = (new ≡ with_call old number call result) × IsEarlier number old
 
-abbrev pub IsBegun : {X : Type 0} → Knowledge → WaitCall → Begun X → Type 0
-IsBegun old wait (Begun.Done new receipt) = IsMade old (Call.Wait wait) receipt.entry receipt.result new
-IsBegun old wait (Begun.Pended new receipt) = IsMade old (Call.Wait wait) receipt.entry receipt.result new × (pended receipt.result ≡ true)
-IsBegun old wait (Begun.NoRoom new) = new ≡ old
+abbrev pub IsBegun : {X : Type 0} → Prepared → Knowledge → WaitCall → Begun X → Type 0
+IsBegun front old wait (Begun.Done new receipt) = IsMade old (Call.Wait wait) receipt.entry receipt.result new
+IsBegun front old wait (Begun.Pended new receipt) = IsMade old (Call.Wait wait) receipt.entry receipt.result new × (pended receipt.result ≡ true)
+IsBegun front old wait (Begun.NoRoom new) = (new ≡ old) × WasFull front old
 
-abbrev pub IsExited : {X : Type 0} → Knowledge → Exited X → Type 0
-IsExited old (Exited.Ended new receipt) = IsMade old Call.Exit receipt.entry receipt.result new
-IsExited old (Exited.NoRoom new) = new ≡ old
+abbrev pub IsExited : {X : Type 0} → Prepared → Knowledge → Exited X → Type 0
+IsExited front old (Exited.Ended new receipt) = IsMade old Call.Exit receipt.entry receipt.result new
+IsExited front old (Exited.NoRoom new) = (new ≡ old) × WasFull front old

@@ -33,7 +33,8 @@ pub struct Blank {
 
 impl Model for Blank {
     ghost use Rattle.std.specs.Prelude.{vec_capacity};
-    ghost use Rattle.nt_front.specs.Books.{Prepared, IsBlank, prepared};
+    ghost use Rattle.nt_front.specs.Names.{Prepared, prepared};
+    ghost use Rattle.nt_front.specs.Books.{IsBlank};
 
     ghost Value = { Prepared };
 
@@ -59,14 +60,22 @@ pub fn prepare(alloc: Global, threads: u32, journal_room: usize) -> Result<Blank
 ///
 /// Refused with 8 where memory is refused.
 pub fn open<N: Named>(alloc: Global, blank: Blank) -> Result<(Front<N>, Vec<Pass<N>>), Refusal>
-    requires { blank.table ≡ N.table }
+    requires { blank ≡ N.front }
     ensures passes { IfOk result (λ r. r.1.items ≡ new_threads blank.threads) }
     ensures count { IfOk result (λ r. vec_len r.1 ≡ blank.threads) }
     ensures memory { IfErr result (λ r. r ≡ Memory) }
 {
-    let (bells, passes) = rooms(alloc, blank.threads as usize)?;
-    Ok(put_together(blank, bells, passes))
+    match rooms(alloc, blank.threads as usize) {
+        Ok((bells, passes)) => Ok(put_together(blank, bells, passes)),
+        Err(refused) => {
+            let_go(blank);
+            Err(refused)
+        }
+    }
 }
+
+/// Drops a front that was never opened.
+fn let_go(_blank: Blank) {}
 
 /// Puts the front together. Each thread gets its pass.
 fn put_together<N: Named>(
@@ -74,7 +83,7 @@ fn put_together<N: Named>(
     bells: Bells,
     mut passes: Vec<Pass<N>>,
 ) -> (Front<N>, Vec<Pass<N>>)
-    requires name { blank.table ≡ N.table }
+    requires name { blank ≡ N.front }
     requires room { (passes.items ≡ []) × (blank.threads ≤ vec_capacity passes) }
     ensures passes { result.1.items ≡ new_threads blank.threads }
     ensures count { vec_len result.1 ≡ blank.threads }
@@ -137,7 +146,7 @@ fn parts(alloc: Global, threads: u32, room: usize) -> Result<Blank, Refusal>
 
 /// Gives each thread its pass.
 fn hand_out<N: Named>(mail: &Mail, seats: &mut JoinedSeats, threads: u16, passes: &mut Vec<Pass<N>>)
-    requires mail { (mail.now ≡ N.table) × (mail.now.words ≡ threads + 1) }
+    requires mail { (mail.now ≡ N.front.table) × (mail.now.words ≡ threads + 1) }
     requires seats { seats.old ≡ record { table = mail.now; written = []; published = []; parts = newcomers 0 threads } }
     requires room { (passes.old.items ≡ []) × (threads ≤ vec_capacity passes.old) }
     ensures seats { seats.new ≡ record { table = mail.now; written = []; published = []; parts = [] } }

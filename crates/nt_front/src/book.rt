@@ -1,5 +1,5 @@
 //! What lies behind the lock.
-ghost use Rattle.std.specs.Prelude.{◌≡◌, ◌+◌, ◌^◌, ◌<◌, ◌≤◌, ◌↔◌, [], length, vec_capacity, true, false, IfOk, IfErr, OnErr, Err};
+ghost use Rattle.std.specs.Prelude.{◌≡◌, ◌+◌, ◌^◌, ◌<◌, ◌≤◌, ◌↔◌, [], length, vec_capacity, true, false, IfOk, IfErr, IfNone, IfSome, OnErr, Err};
 ghost use Rattle.nt_status.specs.declared.refusal.Refusal.TheVariants.{JournalFull};
 ghost use Rattle.nt_core.specs.State.{opening};
 ghost use Rattle.nt_core.specs.Dispatcher.{state};
@@ -8,8 +8,9 @@ ghost use Rattle.nt_core.specs.Moves.{pended, is_wait};
 ghost use Rattle.nt_mail.specs.Entries.{accepted};
 ghost use Rattle.nt_mail.specs.Knowledge.{IsEarlier};
 ghost use Rattle.nt_front.specs.Runs.{IsRun};
-ghost use Rattle.nt_front.specs.Books.{Stands, WritesCall, WritesTick, IsFull};
+ghost use Rattle.nt_front.specs.Books.{Stands, WritesCall, WritesTick, IsFull, WasFull};
 ghost use Rattle.nt_front.specs.Holds.{with_call, with_tick};
+ghost use Rattle.nt_front.specs.Marks.{AreMarks};
 
 use crate::hold::Hold;
 use crate::moments::floor_after;
@@ -47,7 +48,7 @@ impl<N: Named> Model for Book<N> {
 
     ghost view = { λ b. ledger b.core b.journal.items b.room };
 
-    ghost invariant = { λ b. IsBook (ledger b.core b.journal.items b.room) b.threads (vec_capacity b.journal) b.dispatcher N.table };
+    ghost invariant = { λ b. IsBook (ledger b.core b.journal.items b.room) b.threads (vec_capacity b.journal) b.dispatcher N.front };
 }
 
 impl<N: Named> Book<N> {
@@ -61,7 +62,7 @@ impl<N: Named> Book<N> {
         caller: &mut Hold<N>,
         call: Call,
     ) -> Result<Receipt, Refusal>
-        requires mail { mail.now ≡ N.table }
+        requires mail { mail.now ≡ N.front.table }
         ensures book { IfOk result (λ r. WritesCall self.old caller.old.thread call r.result self.new) }
         ensures entry { IfOk result (λ r. r.entry ≡ length self.old.journal + 1) }
         ensures made { IfOk result (λ r. caller.new ≡ with_call caller.old r.entry call r.result) }
@@ -69,10 +70,11 @@ impl<N: Named> Book<N> {
         ensures waits { IfOk result (λ r. pended r.result ≡ true → is_wait call ≡ true) }
         ensures full { (result ≡ Err JournalFull) ↔ IsFull self.old }
         ensures only { IfErr result (λ r. r ≡ JournalFull) }
+        ensures told { OnErr result (WasFull N.front caller.old) }
         ensures err { OnErr result ((self.new ≡ self.old) × (caller.new ≡ caller.old)) }
     {
         if is_full(self.journal.len(), self.room, self.core.pending()) {
-            return Err(Refusal::JournalFull);
+            return Err(self.refusal(mail, caller));
         }
         let who = caller.thread();
         let waited = self.core.is_waiting(u32::from(who.get()));
@@ -107,7 +109,7 @@ impl<N: Named> Book<N> {
         caller: &mut Hold<N>,
         moment: Moment,
     ) -> Result<Receipt, Refusal>
-        requires mail { mail.now ≡ N.table }
+        requires mail { mail.now ≡ N.front.table }
         ensures book { IfOk result (λ r. WritesTick self.old caller.old.thread moment r.result self.new) }
         ensures entry { IfOk result (λ r. r.entry ≡ length self.old.journal + 1) }
         ensures made { IfOk result (λ r. caller.new ≡ with_tick caller.old r.entry moment r.result) }
@@ -115,10 +117,11 @@ impl<N: Named> Book<N> {
         ensures waits { IfOk result (λ r. pended r.result ≡ false) }
         ensures full { (result ≡ Err JournalFull) ↔ IsFull self.old }
         ensures only { IfErr result (λ r. r ≡ JournalFull) }
+        ensures told { OnErr result (WasFull N.front caller.old) }
         ensures err { OnErr result ((self.new ≡ self.old) × (caller.new ≡ caller.old)) }
     {
         if is_full(self.journal.len(), self.room, self.core.pending()) {
-            return Err(Refusal::JournalFull);
+            return Err(self.refusal(mail, caller));
         }
         let by = caller.thread();
         let armed = self.core.is_waiting(u32::from(by.get()));
@@ -147,8 +150,23 @@ impl<N: Named> Book<N> {
         Ok(Receipt { entry, result })
     }
 
+    /// The refusal of a call where the journal is full. Nothing changes; what the thread knows is what the journal tells of it.
+    fn refusal(&mut self, mail: &Mail, caller: &mut Hold<N>) -> Refusal
+        requires mail { mail.now ≡ N.front.table }
+        requires full { IsFull self.old }
+        ensures refusal { result ≡ JournalFull }
+        ensures told { WasFull N.front caller.old }
+        ensures same { (self.new ≡ self.old) × (caller.new ≡ caller.old) }
+    {
+        mail.look(&mut self.dispatcher, &mut caller.seat);
+        Refusal::JournalFull
+    }
+
     /// A mark for each thread whose wait the last call or tick ended; none where it ended no wait.
-    pub(crate) fn ended(&self) -> Option<Marks> {
+    pub(crate) fn ended(&self) -> Option<Marks>
+        ensures none { IfNone result (self.now.core.grants ≡ []) }
+        ensures marks { IfSome result (λ marks. AreMarks marks.0 self.now.core.grants) }
+    {
         let grants = self.core.grants();
         if grants.is_empty() {
             None
@@ -167,8 +185,8 @@ impl<N: Named> Book<N> {
     ) -> Book<N>
         requires core { (state core ≡ opening threads) × IsLawful core }
         requires journal { (journal.items ≡ []) × (room ≤ vec_capacity journal) × (room < 2 ^ 54) }
-        requires dispatcher { dispatcher ≡ record { table = N.table; written = []; published = [] } }
-        requires words { N.table.words ≡ threads + 1 }
+        requires dispatcher { dispatcher ≡ record { table = N.front.table; written = []; published = [] } }
+        requires front { (N.front.table.words ≡ threads + 1) × (threads ≡ N.front.threads) × (room ≡ N.front.room) }
         ensures { result ≡ record { core = core; journal = []; room = room } }
     {
         Book {
@@ -191,18 +209,20 @@ impl<N: Named> Book<N> {
     /// The journal, and the seat that knows it.
     pub(crate) fn into_history(self) -> (History, DispatcherSeat)
         ensures entries { result.0.entries.items ≡ self.journal }
+        ensures threads { result.0.threads ≡ N.front.threads }
         ensures lawful { IsLawful self.core }
         ensures run { IsRun result.0.threads result.0.entries.items (state self.core) }
-        ensures seat { result.1 ≡ record { table = N.table; written = result.0.entries.items; published = accepted result.0.entries.items } }
+        ensures seat { result.1 ≡ record { table = N.front.table; written = result.0.entries.items; published = accepted result.0.entries.items } }
     {
         let Book {
-            core: _,
+            core,
             journal,
             room: _,
             threads,
             dispatcher,
             of: _,
         } = self;
+        let_go(core);
         let history = History {
             threads,
             entries: journal,
@@ -210,6 +230,9 @@ impl<N: Named> Book<N> {
         (history, dispatcher)
     }
 }
+
+/// Drops the dispatcher.
+fn let_go(_core: Core) {}
 
 /// There is no place for one entry and one more for each pending wait.
 fn is_full(entries: usize, room: usize, pending: usize) -> bool

@@ -4,6 +4,7 @@ ghost use Rattle.nt_status.specs.declared.refusal.Refusal.TheVariants.{JournalFu
 ghost use Rattle.nt_core.specs.declared.call.Call.{Call};
 ghost use Rattle.nt_core.specs.Moves.{pended, is_wait};
 ghost use Rattle.nt_mail.specs.Knowledge.{IsEarlier};
+ghost use Rattle.nt_front.specs.Books.{WasFull};
 ghost use Rattle.nt_front.specs.Holds.{with_tick};
 ghost use Rattle.nt_front.specs.Polls.{IsMade, IsBegun, IsExited};
 
@@ -41,6 +42,7 @@ impl<N: Named> Front<N> {
     pub fn call(&self, rt: &impl Wait, pass: &mut Pass<N>, act: Act) -> Result<Receipt, Refusal>
         ensures made { IfOk result (λ r. IsMade pass.old (Call.Act act) r.entry r.result pass.new) }
         ensures err { IfErr result (λ r. (r ≡ JournalFull) × (pass.new ≡ pass.old)) }
+        ensures full { OnErr result (WasFull N.front pass.old) }
     {
         self.make(rt, &mut pass.hold, Call::Act(act))
     }
@@ -58,6 +60,7 @@ impl<N: Named> Front<N> {
         ensures made { IfOk result (λ r. pass.new ≡ with_tick pass.old r.entry moment r.result) }
         ensures earlier { IfOk result (λ r. IsEarlier r.entry pass.old) }
         ensures err { IfErr result (λ r. (r ≡ JournalFull) × (pass.new ≡ pass.old)) }
+        ensures full { OnErr result (WasFull N.front pass.old) }
     {
         let mut book = self.book.lock(rt);
         let receipt = book.tick(&self.mail, &mut pass.hold, moment)?;
@@ -71,7 +74,7 @@ impl<N: Named> Front<N> {
 
     /// Begins a wait. The journal takes it in; nothing of it is copied. Where the journal is full it is dropped.
     pub fn begin(&self, rt: &impl Wait, pass: Pass<N>, wait: WaitCall) -> Begun<N>
-        ensures { IsBegun pass wait result }
+        ensures { IsBegun N.front pass wait result }
     {
         let Pass { mut hold } = pass;
         match self.make(rt, &mut hold, Call::Wait(wait)) {
@@ -88,7 +91,7 @@ impl<N: Named> Front<N> {
 
     /// Ends the thread.
     pub fn exit(&self, rt: &impl Wait, pass: Pass<N>) -> Exited<N>
-        ensures { IsExited pass result }
+        ensures { IsExited N.front pass result }
     {
         let Pass { mut hold } = pass;
         match self.make(rt, &mut hold, Call::Exit) {
@@ -102,6 +105,7 @@ impl<N: Named> Front<N> {
         ensures made { IfOk result (λ r. IsMade caller.old call r.entry r.result caller.new) }
         ensures waits { IfOk result (λ r. pended r.result ≡ true → is_wait call ≡ true) }
         ensures only { IfErr result (λ r. r ≡ JournalFull) }
+        ensures full { OnErr result (WasFull N.front caller.old) }
         ensures err { OnErr result (caller.new ≡ caller.old) }
     {
         let mut book = self.book.lock(rt);

@@ -20,13 +20,14 @@ pub struct Front<N: Named> {
     pub(crate) mail: Mail,
     pub(crate) book: Mutex<Book<N>>,
     pub(crate) bells: Bells,
-    ghost named: { mail ≡ N.table },
+    ghost named: { mail ≡ N.front.table },
 }
 
 impl<N: Named> Front<N> {
     /// Ends the front. What each hold knows is what stands in the history.
     pub fn finish(self, mut holds: Vec<Held<N>>) -> History
         ensures run { (core : Dispatcher) × IsLawful core × IsRun result.threads result.entries.items (state core) }
+        ensures threads { result.threads ≡ N.front.threads }
         ensures told { Each (IsAccounted result.entries.items) holds.items }
     {
         let Front {

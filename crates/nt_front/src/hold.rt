@@ -26,7 +26,7 @@ impl<N: Named> Model for Hold<N> {
 
     ghost view = { λ h. h.seat.known };
 
-    ghost invariant = { λ h. IsHold N.table h.seat h.floor h.calls };
+    ghost invariant = { λ h. IsHold N.front.table h.seat h.floor h.calls };
 }
 
 impl<N: Named> Hold<N> {
@@ -46,7 +46,7 @@ impl<N: Named> Hold<N> {
 
     /// The thread's seat alone.
     pub(crate) fn into_seat(self) -> ThreadSeat
-        ensures { result ≡ seated N.table self }
+        ensures { result ≡ seated N.front.table self }
     {
         let Hold {
             seat,
@@ -150,7 +150,7 @@ pub enum Held<N: Named> {
 impl<N: Named> Held<N> {
     /// The thread's seat, to be joined.
     pub(crate) fn into_seat(self) -> ThreadSeat
-        ensures seat { result ≡ seated N.table (knowledge_of self) }
+        ensures seat { result ≡ seated N.front.table (knowledge_of self) }
         ensures kind { IsOfKind self }
     {
         match self {

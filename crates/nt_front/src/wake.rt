@@ -1,6 +1,7 @@
 //! Who is woken.
-ghost use Rattle.std.specs.Prelude.{◌≡◌, IfErr};
+ghost use Rattle.std.specs.Prelude.{◌≡◌, IfOk, IfErr, is_some, nat_lt, vec_len};
 ghost use Rattle.nt_status.specs.declared.refusal.Refusal.TheVariants.{Memory};
+ghost use Rattle.nt_front.specs.Marks.{IsMarkedToo, AreMarks};
 
 use nt_core::Grant;
 use nt_status::{Refusal, ThreadId};
@@ -13,15 +14,26 @@ pub(crate) struct Marks([u64; 4]);
 
 impl Marks {
     /// A mark for each thread that has one of these grants.
-    pub(crate) fn of(grants: &[Grant]) -> Marks {
-        let mut marks = [0; 4];
+    #[tactic(auto, using(crate::proofs::Marking::marks_at_first, crate::proofs::Marking::marks_next, crate::proofs::Marking::marks_all))]
+    pub(crate) fn of(grants: &[Grant]) -> Marks
+        ensures { AreMarks result.0 grants.now }
+    {
+        let mut marks = Marks([0; 4]);
         for grant in grants {
-            let thread = usize::from(grant.thread.get());
-            if let Some(mark) = marks.get_mut(thread / 64) {
-                *mark |= 1 << (thread % 64);
-            }
+            marks.add(grant.thread);
         }
-        Marks(marks)
+        marks
+    }
+
+    /// A mark for this thread too.
+    #[tactic(auto, using(crate::proofs::Marking::marks_thread, crate::proofs::Marking::marks_far))]
+    fn add(&mut self, thread: ThreadId)
+        ensures { IsMarkedToo self.old.0 thread self.new.0 }
+    {
+        let number = usize::from(thread.get());
+        if number < 256 {
+            self.0[number / 64] |= 1 << (number % 64);
+        }
     }
 }
 
@@ -34,7 +46,8 @@ impl Bells {
     ///
     /// Refused with 8 where memory is refused.
     pub(crate) fn new(alloc: Global, threads: usize) -> Result<Bells, Refusal>
-        ensures { IfErr result (λ r. r ≡ Memory) }
+        ensures count { IfOk result (λ bells. vec_len bells.0 ≡ threads) }
+        ensures memory { IfErr result (λ r. r ≡ Memory) }
     {
         let mut all = Vec::with_capacity(alloc, threads)?;
         for _ in 0..threads {
@@ -45,8 +58,10 @@ impl Bells {
         Ok(Bells(all))
     }
 
-    /// The condition variable of this thread.
-    pub(crate) fn of(&self, thread: ThreadId) -> Option<&Condvar> {
+    /// The condition variable of this thread, where it is one of those that there are bells for.
+    pub(crate) fn of(&self, thread: ThreadId) -> Option<&Condvar>
+        ensures { is_some result ≡ nat_lt thread (vec_len self.now.0) }
+    {
         self.0.get(usize::from(thread.get()))
     }
 

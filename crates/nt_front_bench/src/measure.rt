@@ -75,7 +75,7 @@ fn on_passes<N: Named + Send + Sync, R: Threads + Wait + Clock + Sync>(
     shape: Shape,
     rounds: u32,
 ) -> Result<Told, Fault>
-    requires { (blank.table ≡ N.table) × (blank.threads ≡ threads) }
+    requires { (blank ≡ N.front) × (blank.threads ≡ threads) }
 {
     let carriers = Vec::with_capacity(alloc, threads as usize)?;
     let (front, passes) = open::<N>(alloc, blank)?;
@@ -181,7 +181,7 @@ fn planned<N: Named + Send + Sync, R: Threads + Wait + Clock + Sync>(
     workers: u32,
     rounds: u32,
 ) -> Result<(History, Told), Fault>
-    requires { (blank.table ≡ N.table) × (blank.threads ≡ threads) }
+    requires { (blank ≡ N.front) × (blank.threads ≡ threads) }
 {
     let count = threads as usize;
     let carriers = Vec::with_capacity(alloc, count)?;

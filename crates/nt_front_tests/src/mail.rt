@@ -1,11 +1,18 @@
 //! The mail: the bits of reply words, and each step once.
-ghost use Rattle.std.specs.Prelude.{◌≡◌, [], IfOk};
-ghost use Rattle.nt_mail.specs.Knowledge.{newcomers};
+ghost use Rattle.std.specs.Prelude.{◌≡◌, ◌+◌, ◌<◌, ◌≤◌, ◌^◌, ◌++◌, ◌∷◌, [], length, true, false, IfOk, Ok};
+ghost use Rattle.nt_core.specs.declared.call.Call.{Call};
+ghost use Rattle.nt_core.specs.declared.call.Reply.{Reply};
+ghost use Rattle.nt_core.specs.declared.call.WaitCall.{WaitCall};
+ghost use Rattle.nt_core.specs.Moves.{pended};
+ghost use Rattle.nt_mail.specs.declared.entry.Entry.TheVariants.{Called};
+ghost use Rattle.nt_mail.specs.Entries.{is_armed};
+ghost use Rattle.nt_mail.specs.Knowledge.{knows, newcomers};
+ghost use Rattle.nt_mail.specs.Seats.{seated};
 
 use crate::refused::{Host, tell_refused};
-use nt_core::{Call, Reply, WaitCall};
-use nt_mail::{Entry, Mail, Opened, Word, told_by};
-use nt_status::{Moment, Status, ThreadId};
+use nt_core::{Act, Call, Reply, WaitCall};
+use nt_mail::{DispatcherSeat, Entry, Mail, Opened, ThreadSeat, Word, told_by};
+use nt_status::{Handle, Handles, Moment, Status, ThreadId};
 use std::alloc::AllocError;
 use std::test::Fail;
 
@@ -66,21 +73,27 @@ fn granted_words_alone_tell(rt: HostRuntime) {
     }
 }
 
-/// A mail of one thread, with a second try where memory is refused.
+/// A mail of two threads, with a second try where memory is refused.
 fn open(rt: &impl Host) -> Result<Opened, AllocError>
-    ensures words { IfOk result (λ o. o.mail.words ≡ 2) }
-    ensures seats { IfOk result (λ o. o.seats ≡ record { table = o.mail; written = []; published = []; parts = newcomers 0 1 }) }
+    ensures words { IfOk result (λ o. o.mail.words ≡ 3) }
+    ensures seats { IfOk result (λ o. o.seats ≡ record { table = o.mail; written = []; published = []; parts = newcomers 0 2 }) }
 {
-    match Mail::new(rt.alloc(), 1) {
+    match Mail::new(rt.alloc(), 2) {
         Ok(opened) => Ok(opened),
         Err(_) => {
             tell_refused(rt, "the mail's");
-            Mail::new(rt.alloc(), 1)
+            Mail::new(rt.alloc(), 2)
         }
     }
 }
 
-/// What a thread reads of its word, in order, what its takes find, and the moment that it reads at last.
+/// The handle of the event. Those of two threads are 0 and 1.
+const EVENT: u32 = 2;
+
+/// INFINITE: a timeout that never passes.
+const INFINITE: u32 = 0xFFFF_FFFF;
+
+/// What the waiter reads of its word, in order, what its takes find, and the moment that it reads.
 #[derive(Clone, Copy, PartialEq, Eq, Debug)]
 struct Told {
     words: [u64; 5],
@@ -88,55 +101,179 @@ struct Told {
     moment: Moment,
 }
 
-/// A thread's wait pends at entry 1, and its deadline ends it at entry 2, at this moment. Its tick is entry 3.
-fn grant_once(rt: &impl Host, moment: Moment) -> Result<Told, AllocError> {
-    let Opened { mail, mut seats } = open(rt)?;
-    let who = ThreadId::new(0);
-    let mut waiter = mail.part(&mut seats, who);
-    let mut dispatcher = seats.into_dispatcher();
-    let idle = mail.poll(&mut waiter);
-    let wait = Entry::Called {
-        who,
-        call: Call::Wait(WaitCall::Sleep {
-            ms: 100,
-            alertable: false,
-        }),
+/// Writes a call of the thread that does not wait.
+fn note(
+    mail: &Mail,
+    dispatcher: &mut DispatcherSeat,
+    caller: &mut ThreadSeat,
+    act: Act,
+    reply: Reply,
+    number: u64,
+)
+    requires table { (dispatcher.old.table ≡ mail.now) × (caller.old.table ≡ mail.now) }
+    requires reply { pended (Ok reply) ≡ false }
+    requires idle { is_armed caller.old.known.thread dispatcher.old.written ≡ false }
+    requires number { (number ≡ length dispatcher.old.written + 1) × (number < 2 ^ 54) }
+    ensures written { dispatcher.new ≡ record dispatcher.old { written = dispatcher.old.written ++ Called caller.old.known.thread (Call.Act act) (Ok reply) ∷ [] } }
+    ensures caller { (caller.new.table ≡ mail.now) × (caller.new.known.thread ≡ caller.old.known.thread) }
+{
+    let entry = Entry::Called {
+        who: caller.thread(),
+        call: Call::Act(act),
+        result: Ok(reply),
+    };
+    mail.note(dispatcher, caller, &entry, number);
+}
+
+/// Writes a wait of the thread, which pends.
+fn arm(
+    mail: &Mail,
+    dispatcher: &mut DispatcherSeat,
+    caller: &mut ThreadSeat,
+    wait: WaitCall,
+    number: u64,
+)
+    requires table { (dispatcher.old.table ≡ mail.now) × (caller.old.table ≡ mail.now) }
+    requires idle { is_armed caller.old.known.thread dispatcher.old.written ≡ false }
+    requires number { (number ≡ length dispatcher.old.written + 1) × (number < 2 ^ 54) }
+    ensures written { dispatcher.new ≡ record dispatcher.old { written = dispatcher.old.written ++ Called caller.old.known.thread (Call.Wait wait) (Ok Reply.Pended) ∷ [] } }
+    ensures caller { (caller.new.table ≡ mail.now) × (caller.new.known.thread ≡ caller.old.known.thread) }
+{
+    let entry = Entry::Called {
+        who: caller.thread(),
+        call: Call::Wait(wait),
         result: Ok(Reply::Pended),
     };
-    mail.arm(&mut dispatcher, &mut waiter, &wait, 1);
-    let armed = mail.poll(&mut waiter);
-    mail.grant(&mut dispatcher, who, Status::TIMEOUT, 2);
-    mail.publish_moment(&mut dispatcher, moment);
-    let granted = mail.poll(&mut waiter);
-    assert_eq!(rt; granted, 2308);
-    let taken = mail.take(&mut waiter, granted);
-    let left = mail.poll(&mut waiter);
-    let again = mail.take(&mut waiter, granted);
-    let read = mail.read_moment(&mut waiter);
-    let tick = Entry::Ticked {
-        by: who,
+    mail.arm(dispatcher, caller, &entry, number);
+}
+
+/// The waiter reads its word, takes the grant that is there, reads again, and tries to take the grant once more.
+fn take_twice(mail: &Mail, waiter: &mut ThreadSeat, told: &mut Told)
+    requires { waiter.old.table ≡ mail.now }
+    ensures { (waiter.new.table ≡ mail.now) × (waiter.new.known.thread ≡ waiter.old.known.thread) }
+{
+    let granted = mail.poll(waiter);
+    told.words[2] = granted;
+    if granted % 1024 < 2 {
+        return;
+    }
+    told.takes[0] = mail.take(waiter, granted);
+    told.words[3] = mail.poll(waiter);
+    told.takes[1] = mail.take(waiter, granted);
+}
+
+/// The setter creates an event under entry 1, and the waiter's wait for it pends at entry 2. The setter sets the event under entry
+/// 3, which grants the wait at entry 4.
+fn hand_over(
+    mail: &Mail,
+    dispatcher: &mut DispatcherSeat,
+    setter: &mut ThreadSeat,
+    waiter: &mut ThreadSeat,
+    wait: WaitCall,
+    told: &mut Told,
+)
+    requires words { mail.now.words ≡ 3 }
+    requires dispatcher { dispatcher.old ≡ record { table = mail.now; written = []; published = [] } }
+    requires setter { setter.old ≡ seated mail.now (knows 0 [] [] [] []) }
+    requires waiter { waiter.old ≡ seated mail.now (knows 1 [] [] [] []) }
+    ensures dispatcher { (dispatcher.new.table ≡ mail.now) × (dispatcher.new.published ≡ []) }
+    ensures entries { (length dispatcher.new.written ≡ 4) × (is_armed 1 dispatcher.new.written ≡ false) }
+    ensures setter { setter.new.table ≡ mail.now }
+    ensures waiter { (waiter.new.table ≡ mail.now) × (waiter.new.known.thread ≡ 1) }
+{
+    let event = Handle::new(EVENT);
+    told.words[0] = mail.poll(waiter);
+    note(
+        mail,
+        dispatcher,
+        setter,
+        Act::CreateEvent(0),
+        Reply::Handle(event),
+        1,
+    );
+    arm(mail, dispatcher, waiter, wait, 2);
+    told.words[1] = mail.poll(waiter);
+    note(
+        mail,
+        dispatcher,
+        setter,
+        Act::SetEvent(event),
+        Reply::Done,
+        3,
+    );
+    mail.grant(dispatcher, ThreadId::new(1), Status::object(0), 4);
+    take_twice(mail, waiter, told);
+}
+
+/// The waiter ticks under entry 5, and reads the moment.
+fn tick(
+    mail: &Mail,
+    dispatcher: &mut DispatcherSeat,
+    waiter: &mut ThreadSeat,
+    moment: Moment,
+    told: &mut Told,
+)
+    requires table { (dispatcher.old.table ≡ mail.now) × (waiter.old.table ≡ mail.now) }
+    requires dispatcher { (dispatcher.old.published ≡ []) × (length dispatcher.old.written ≡ 4) }
+    requires waiter { (waiter.old.known.thread ≡ 1) × (is_armed 1 dispatcher.old.written ≡ false) }
+    ensures { (dispatcher.new.table ≡ mail.now) × (waiter.new.table ≡ mail.now) }
+{
+    let entry = Entry::Ticked {
+        by: waiter.thread(),
         moment,
         result: Ok(Reply::Done),
     };
-    mail.note(&mut dispatcher, &mut waiter, &tick, 3);
-    let noted = mail.poll(&mut waiter);
-    let mut all = dispatcher.gather();
-    mail.join(&mut all, waiter);
-    mail.close(all);
-    Ok(Told {
-        words: [idle, armed, granted, left, noted],
-        takes: [taken, again],
-        moment: read,
-    })
+    mail.note(dispatcher, waiter, &entry, 5);
+    told.words[4] = mail.poll(waiter);
+    mail.publish_moment(dispatcher, moment);
+    told.moment = mail.read_moment(waiter);
 }
 
+/// Both threads do their parts on this mail, and it is closed.
+fn told_on(opened: Opened, wait: WaitCall, moment: Moment) -> Told
+    requires words { opened.mail.words ≡ 3 }
+    requires seats { opened.seats ≡ record { table = opened.mail; written = []; published = []; parts = newcomers 0 2 } }
+{
+    let Opened { mail, mut seats } = opened;
+    let mut setter = mail.part(&mut seats, ThreadId::new(0));
+    let mut waiter = mail.part(&mut seats, ThreadId::new(1));
+    let mut dispatcher = seats.into_dispatcher();
+    let mut told = Told {
+        words: [u64::MAX; 5],
+        takes: [Err(0); 2],
+        moment: Moment::ZERO,
+    };
+    hand_over(
+        &mail,
+        &mut dispatcher,
+        &mut setter,
+        &mut waiter,
+        wait,
+        &mut told,
+    );
+    tick(&mail, &mut dispatcher, &mut waiter, moment, &mut told);
+    let mut all = dispatcher.gather();
+    mail.join(&mut all, setter);
+    mail.join(&mut all, waiter);
+    mail.close(all);
+    told
+}
+
+// The waiter's word: idle without an entry, armed by entry 2, granted by entry 4 with the status 0, idle with that entry once the
+// grant is taken, and idle with entry 5.
 #[test]
 fn a_grant_is_taken_once(rt: HostRuntime) -> Result<(), Fail> {
     let moment = Moment::new(7).ok_or("7 is a moment")?;
-    let told = grant_once(&rt, moment)?;
+    let wait = WaitCall::Objects {
+        handles: Handles::from_slice(rt.alloc(), &[Handle::new(EVENT)])?,
+        all: false,
+        ms: INFINITE,
+        alertable: false,
+    };
+    let told = told_on(open(&rt)?, wait, moment);
     let is = Told {
-        words: [0, 1025, 2308, 2048, 3072],
-        takes: [Ok(()), Err(2048)],
+        words: [0, 2049, 4098, 4096, 5120],
+        takes: [Ok(()), Err(4096)],
         moment,
     };
     assert_eq!(rt; told, is);

@@ -7,3 +7,4 @@ pub mod Writing
 pub mod Seating
 pub mod Reading
 pub mod Closing
+pub mod Looking

@@ -43,6 +43,7 @@
 //! | `arm` | dispatcher | the caller's | armed: a call or tick was written, and a wait of the caller is pending |
 //! | `grant` | dispatcher | the thread's | granted: a grant to the thread was written |
 //! | `publish_moment` | dispatcher | the moment's | this moment, never below the last |
+//! | `look` | dispatcher | the moment's | as before: what the caller knows was found to be what is written |
 //! | `poll` | thread | its own | as before: it was read |
 //! | `take` | thread | its own | idle, where the word was still the one that the poll read |
 //! | `read_moment` | thread | the moment's | as before: it was read |

@@ -95,6 +95,17 @@ impl Play<(), View> for Reads {
     ghost then = { λ step before found after. (after ≡ (with_parts (with_moment found) before.0, before.1)) × Each (λ k. latest 0 k.moments ≤ found) before.0.parts × (found ≤ 2 ^ 62) };
 }
 
+/// The dispatcher reads the moment, and nothing changes. What the threads that are joined to it know is what was written.
+pub(crate) struct Looks;
+
+impl Play<(), View> for Looks {
+    ghost use Rattle.std.specs.Prelude.{◌≡◌};
+    ghost use Rattle.nt_mail.specs.Entries.{Each};
+    ghost use Rattle.nt_mail.specs.Rule.{IsTold};
+
+    ghost then = { λ step before found after. (after ≡ before) × Each (IsTold before.0.written before.0.published) before.0.parts };
+}
+
 /// Parts a seat that knows nothing.
 pub(crate) struct Spare;
 

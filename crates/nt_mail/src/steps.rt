@@ -1,18 +1,18 @@
-//! The seven steps. Each is one atomic operation on one word: a store, a load or an exchange.
+//! The eight steps. Each is one atomic operation on one word: a store, a load or an exchange.
 ghost use Rattle.std.specs.Prelude.{◌≡◌, ◌≢◌, ◌<◌, ◌≤◌, ◌+◌, ◌^◌, ◌%◌, ◌++◌, ◌∷◌, [], length, true, false, IfErr, OnOk};
 ghost use Rattle.nt_core.specs.Moves.{one_if};
 ghost use Rattle.nt_mail.specs.declared.entry.Entry.TheVariants.{Granted};
 ghost use Rattle.nt_mail.specs.Entries.{IsOwn, arms, is_armed};
 ghost use Rattle.nt_mail.specs.Words.{called_word, grant_in};
 ghost use Rattle.nt_mail.specs.Knowledge.{with_call, with_polled, with_got, with_moment, latest, IsEarlier};
-ghost use Rattle.nt_mail.specs.Rule.{IsWordFor};
+ghost use Rattle.nt_mail.specs.Rule.{IsTold, IsWordFor};
 ghost use Rattle.nt_mail.specs.Views.{keeper, with_entry};
 ghost use Rattle.nt_mail.specs.Seats.{seated, known_in};
 
 use crate::entry::Entry;
 use crate::mail::Mail;
 use crate::rule::{
-    Apart, Letters, Place, Polls, Publishes, Reads, Spare, Takes, Together, Writes, Writing,
+    Apart, Letters, Looks, Place, Polls, Publishes, Reads, Spare, Takes, Together, Writes, Writing,
 };
 use crate::seat::{DispatcherSeat, ThreadSeat};
 use crate::word::{Word, idle_of};
@@ -119,6 +119,20 @@ impl Mail {
             .store::<Publishes>(&mut dispatcher.seat, 0, moment.get());
     }
 
+    /// Reads the moment, and changes nothing: what the thread knows is what was written, as it is where the mail is closed.
+    pub fn look(&self, dispatcher: &mut DispatcherSeat, caller: &mut ThreadSeat)
+        requires { (dispatcher.old.table ≡ self.now) × (caller.old.table ≡ self.now) }
+        ensures same { (dispatcher.new ≡ dispatcher.old) × (caller.new ≡ caller.old) }
+        ensures told { IsTold dispatcher.old.written dispatcher.old.published caller.old.known }
+    {
+        let shared = &self.table.shared;
+        let spare = shared.split_seat::<Spare>(&mut dispatcher.seat);
+        let seat = mem::replace(&mut caller.seat, spare);
+        shared.join_seat::<Together>(&mut dispatcher.seat, seat);
+        load_all(&self.table, &mut dispatcher.seat);
+        caller.seat = shared.split_seat::<Apart>(&mut dispatcher.seat);
+    }
+
     /// Reads the thread's word, once. `told_by` says whether it tells a grant.
     pub fn poll(&self, seat: &mut ThreadSeat) -> u64
         requires { seat.old.table ≡ self.now }
@@ -202,6 +216,17 @@ fn store_grant<W: Writing>(
 {
     let word = Word::Granted(number, status).bits();
     table.shared.store::<Writes<W>>(seat, word_of(thread), word);
+}
+
+// One load, by the dispatcher and the thread that is joined to it.
+fn load_all(table: &Letters, seat: &mut Place)
+    requires table { (seat.old.table_id ≡ table.now.shared.table_id) × (0 < seat.old.table_id.words) }
+    requires view { seat.old.me ≡ (keeper seat.old.me.0.written seat.old.me.0.published (known_in seat.old.me.0 ∷ []), []) }
+    ensures table { (seat.new.table_id ≡ seat.old.table_id) × (seat.new.id ≡ seat.old.id) }
+    ensures view { seat.new.me ≡ seat.old.me }
+    ensures told { IsTold seat.old.me.0.written seat.old.me.0.published (known_in seat.old.me.0) }
+{
+    let _ = table.shared.load::<Looks>(seat, 0);
 }
 
 // The place of the thread's word. The moment's is the first.

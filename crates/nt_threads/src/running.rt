@@ -120,7 +120,7 @@ fn run<N: Named + Send + Sync, R: Threads + Wait + Sync>(
     blank: Blank,
     rounds: u32,
 ) -> Result<Ran, AllocError>
-    requires table { blank.table ≡ N.table }
+    requires front { blank ≡ N.front }
     requires threads { blank.threads ≤ 65 }
     requires rounds { rounds ≤ 1000 }
     ensures { IfOk result (λ r. ComesOfRun r.history.entries.items) }

@@ -2,6 +2,7 @@
 //! same creation, made again, succeeds. `bench/refused_tests` refuses each allocation in turn.
 ghost use Rattle.std.specs.Prelude.{◌≡◌, ◌+◌, ◌≤◌, vec_len, vec_capacity, IfOk};
 
+use crate::front::told::{count_of, let_go};
 use crate::refused::{Host, tell_refused};
 use nt_core::{Act, Reply};
 use nt_front::{Blank, Front, Held, Named, Pass, Receipt, open, prepare};
@@ -71,21 +72,50 @@ fn create_by<N: Named>(
 
 /// Opens the front, creates an event, and counts what the history has.
 fn create_on<N: Named>(rt: &impl Wait, alloc: Global, blank: Blank) -> Result<Created, Refusal>
-    requires { (blank.table ≡ N.table) × (blank.threads ≡ 2) }
+    requires { (blank ≡ N.front) × (blank.threads ≡ 2) }
 {
-    let mut holds = Vec::with_capacity(alloc, 2)?;
-    let (front, mut passes) = match open::<N>(alloc, blank) {
-        Ok(opened) => opened,
+    match Vec::<Held<N>>::with_capacity(alloc, 2) {
+        Ok(holds) => create_with(rt, alloc, blank, holds),
+        Err(_) => {
+            let_go(blank);
+            Err(Refusal::Memory)
+        }
+    }
+}
+
+/// The same with room for the holds.
+fn create_with<N: Named>(
+    rt: &impl Wait,
+    alloc: Global,
+    blank: Blank,
+    holds: Vec<Held<N>>,
+) -> Result<Created, Refusal>
+    requires front { (blank ≡ N.front) × (blank.threads ≡ 2) }
+    requires holds { (vec_len holds ≡ 0) × (2 ≤ vec_capacity holds) }
+{
+    match open::<N>(alloc, blank) {
+        Ok((front, passes)) => Ok(create_and_finish(rt, front, passes, holds)),
         Err(refused) => {
             holds.destroy_empty();
-            return Err(refused);
+            Err(refused)
         }
-    };
+    }
+}
+
+/// Has the first thread create an event, and ends the front.
+fn create_and_finish<N: Named>(
+    rt: &impl Wait,
+    front: Front<N>,
+    mut passes: Vec<Pass<N>>,
+    mut holds: Vec<Held<N>>,
+) -> Created
+    requires { vec_len holds + vec_len passes ≤ vec_capacity holds }
+{
     let mut created = Created::default();
     create_by(rt, &front, &mut passes, &mut holds, &mut created);
     passes.destroy_empty();
-    created.entries = front.finish(holds).entries.len();
-    Ok(created)
+    created.entries = count_of(front.finish(holds));
+    created
 }
 
 /// Opens a front of these parts, and creates an event on it.

@@ -4,7 +4,7 @@ ghost use Rattle.std.specs.Prelude.{◌≡◌, ◌+◌, ◌<◌, ◌≤◌, [], 
 use crate::front::jobs::{Job, work};
 use crate::front::replay::first_difference;
 use crate::front::steps::Creation;
-use crate::front::told::{Entries, Told};
+use crate::front::told::{Entries, Told, let_go};
 use nt_core::Reply;
 use nt_front::{Blank, Carried, Front, Held, History, Named, Pass, open};
 use nt_status::{Handle, Refusal, ThreadId};
@@ -346,11 +346,30 @@ pub fn man<N: Named + Send + Sync, R: Threads + Wait + Clock + Sync>(
     blank: Blank,
     crew: &Crew,
 ) -> Result<Seen, Refusal>
-    requires { (blank.table ≡ N.table) × (blank.threads ≡ crew.now.threads) }
+    requires { (blank ≡ N.front) × (blank.threads ≡ crew.now.threads) }
 {
-    let Ok(room) = Room::new(crew.alloc, crew.threads as usize) else {
-        return Err(Refusal::Memory);
-    };
+    match Room::<N>::new(crew.alloc, crew.threads as usize) {
+        Ok(room) => man_in(rt, blank, room, crew),
+        Err(_) => {
+            let_go(blank);
+            Err(Refusal::Memory)
+        }
+    }
+}
+
+/// The same with room for what the crew takes along.
+fn man_in<N: Named + Send + Sync, R: Threads + Wait + Clock + Sync>(
+    rt: &R,
+    blank: Blank,
+    room: Room<N>,
+    crew: &Crew,
+) -> Result<Seen, Refusal>
+    requires front { blank ≡ N.front }
+    requires carriers { (room.carriers.items ≡ []) × (blank.threads ≤ vec_capacity room.carriers) }
+    requires back { (vec_len room.back ≡ 0) × (blank.threads ≤ vec_capacity room.back) }
+    requires holds { (room.holds.items ≡ []) × (blank.threads ≤ vec_capacity room.holds) }
+    requires told { (vec_len room.told ≡ 0) × (blank.threads ≤ vec_capacity room.told) }
+{
     match open::<N>(crew.alloc, blank) {
         Ok((front, passes)) => seen_of(rt, front, passes, room, crew),
         Err(refused) => {

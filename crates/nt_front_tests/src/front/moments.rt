@@ -1,6 +1,7 @@
 //! What two passes read of the moment, while the first of them is the clock.
 ghost use Rattle.std.specs.Prelude.{◌≡◌, ◌+◌, ◌≤◌, vec_len, vec_capacity};
 
+use crate::front::told::{count_of, let_go};
 use crate::refused::is_refusing;
 use nt_core::Reply;
 use nt_front::{Blank, Front, Held, Named, Pass, Receipt, open, prepare};
@@ -80,20 +81,55 @@ fn read_by_both<N: Named>(
 
 /// The moments that the two passes of this front read, and how many entries its history has.
 fn read_of<N: Named>(rt: &impl Wait, alloc: Global, blank: Blank) -> Result<(Read, usize), Refusal>
-    requires { (blank.table ≡ N.table) × (blank.threads ≡ 2) }
+    requires { (blank ≡ N.front) × (blank.threads ≡ 2) }
 {
-    let mut holds = Vec::with_capacity(alloc, 2)?;
-    let (front, mut passes) = match open::<N>(alloc, blank) {
-        Ok(opened) => opened,
+    match Vec::<Held<N>>::with_capacity(alloc, 2) {
+        Ok(holds) => read_with(rt, alloc, blank, holds),
+        Err(_) => {
+            let_go(blank);
+            Err(Refusal::Memory)
+        }
+    }
+}
+
+/// The same with room for the holds.
+fn read_with<N: Named>(
+    rt: &impl Wait,
+    alloc: Global,
+    blank: Blank,
+    holds: Vec<Held<N>>,
+) -> Result<(Read, usize), Refusal>
+    requires front { (blank ≡ N.front) × (blank.threads ≡ 2) }
+    requires holds { (vec_len holds ≡ 0) × (2 ≤ vec_capacity holds) }
+{
+    match open::<N>(alloc, blank) {
+        Ok((front, passes)) => Ok(read_and_finish(rt, front, passes, holds)),
         Err(refused) => {
             holds.destroy_empty();
-            return Err(refused);
+            Err(refused)
         }
-    };
+    }
+}
+
+/// Has both passes read, and ends the front.
+fn read_and_finish<N: Named>(
+    rt: &impl Wait,
+    front: Front<N>,
+    mut passes: Vec<Pass<N>>,
+    mut holds: Vec<Held<N>>,
+) -> (Read, usize)
+    requires { (vec_len passes ≡ 2) × (vec_len holds + 2 ≤ vec_capacity holds) }
+{
     let mut read = Read::default();
     read_by_both(rt, &front, &mut passes, &mut holds, &mut read);
     passes.destroy_empty();
-    Ok((read, front.finish(holds).entries.len()))
+    (read, count_of(front.finish(holds)))
+}
+
+/// The same on a front of two threads with room for nine entries.
+fn read_in(rt: &impl Wait, alloc: Global) -> Result<(Read, usize), Refusal> {
+    let blank = prepare(alloc, 2, 9)?;
+    read_of::<Brand>(rt, alloc, blank)
 }
 
 #[test]
@@ -101,8 +137,7 @@ fn the_moment_never_goes_back(rt: HostRuntime) -> Result<(), Fail> {
     if is_refusing(&rt) {
         return Ok(());
     }
-    let blank = prepare(rt.alloc(), 2, 9)?;
-    let (read, entries) = read_of::<Brand>(&rt, rt.alloc(), blank)?;
+    let (read, entries) = read_in(&rt, rt.alloc())?;
     assert!(rt; read.ticked && read.refused);
     assert_eq!(rt;
         (read.before, read.after, read.by_the_other, read.at_the_end),

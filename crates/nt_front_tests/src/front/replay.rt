@@ -6,8 +6,15 @@ use std::alloc::Global;
 
 /// The number of the first entry whose result or grant is another on a fresh dispatcher; 0 where all are the same.
 pub fn first_difference(alloc: Global, history: &History) -> Result<usize, Refusal> {
-    let mut core = Core::new(alloc, history.threads)?;
-    Ok(difference_on(&mut core, history.entries.as_slice()))
+    match Core::new(alloc, history.threads) {
+        Ok(core) => Ok(difference_of(core, history.entries.as_slice())),
+        Err(refused) => Err(refused),
+    }
+}
+
+/// The same on a dispatcher that nothing else is done with.
+fn difference_of(mut core: Core, entries: &[Entry]) -> usize {
+    difference_on(&mut core, entries)
 }
 
 /// The same on this dispatcher. After each call or tick come its grants, in their order, and no others.

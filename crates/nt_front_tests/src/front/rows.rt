@@ -3,7 +3,7 @@ use crate::front::crew::Seen;
 use crate::front::jobs::Job;
 use crate::front::runs::{Roll, man_all};
 use crate::front::steps::Creation;
-use crate::front::told::Entries;
+use crate::front::told::{Entries, let_go};
 use crate::refused::is_refusing;
 use nt_front::prepare;
 use std::alloc::Global;
@@ -28,7 +28,10 @@ const fn hand_over(room: usize, jobs: &'static [Job]) -> Roll {
 fn refusal_of(alloc: Global, threads: u32, room: usize) -> Option<u32> {
     match prepare(alloc, threads, room) {
         Err(refusal) => Some(refusal.number()),
-        Ok(_) => None,
+        Ok(blank) => {
+            let_go(blank);
+            None
+        }
     }
 }
 

@@ -1,7 +1,15 @@
 //! What a thread was told, and the same read off the history.
 use nt_core::Reply;
-use nt_front::{Entry, Receipt};
+use nt_front::{Blank, Entry, History, Receipt};
 use nt_status::{Status, ThreadId};
+
+/// Drops a front that was never opened.
+pub fn let_go(_blank: Blank) {}
+
+/// How many entries the history has.
+pub fn count_of(history: History) -> usize {
+    history.entries.len()
+}
 
 /// How many entries of one thread, and the sum of their numbers: two threads that were told of different entries differ in one.
 #[derive(Clone, Copy, Default, PartialEq, Eq, Debug)]

@@ -70,9 +70,11 @@ invariant_of-self g c =
     let now = ap accepted grown ∙ (accepted-step es e grants ∙ append-nil (accepted es)) in record {
       stands = stands_after c.self.inside.core after es next c.self.inside.room turn c.self.invariant.stands done.lawful done.moves.threads done.called grown;
       agree = subst (λ l. Agree n l new) (sym grown) (agree_after_call n es old c.thread-who.result c.args.call result grants new c.is_waiting-waited.result c.self.invariant.agree known done.moves waited done.moment);
+      threads = c.self.invariant.threads;
+      room = c.self.invariant.room;
       places = omega (arith, c.self.invariant.places, c.write_call-result.ensures.room.1, c.send.ensures.capacity);
       numbers = c.self.invariant.numbers;
-      seat = kept ∙ (λ i. record { table = g.N.Named.table; written = next; published = sym now i });
+      seat = kept ∙ (λ i. record { table = g.N.Named.front.table; written = next; published = sym now i });
       words = c.self.invariant.words;
     }
 

@@ -12,6 +12,8 @@ invariant_of-result g c = record {
   agree = agree_at_first c.args.threads c.args.journal.items (state c.args.core) c.requires.core.0 c.requires.journal.0;
   places = c.requires.journal.1;
   numbers = c.requires.journal.2;
-  seat = c.requires.dispatcher ∙ ap (λ (es : List Entry). record { table = g.N.Named.table; written = es; published = accepted es }) (sym c.requires.journal.0);
-  words = c.requires.words;
+  seat = c.requires.dispatcher ∙ ap (λ (es : List Entry). record { table = g.N.Named.front.table; written = es; published = accepted es }) (sym c.requires.journal.0);
+  words = c.requires.front.0;
+  threads = c.requires.front.1;
+  room = c.requires.front.2;
 }

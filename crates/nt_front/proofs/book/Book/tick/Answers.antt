@@ -61,9 +61,11 @@ invariant_of-self g c =
     let now = ap accepted grown ∙ accepted-step es e grants in record {
       stands = stands_after c.self.inside.core after es next c.self.inside.room turn c.self.invariant.stands done.lawful moved.threads done.ticked grown;
       agree = subst (λ l. Agree n l new) (sym grown) (agree_after_tick n es old by c.args.moment result grants new c.is_waiting-armed.result c.self.invariant.agree known done.waits moved done.moment waited);
+      threads = c.self.invariant.threads;
+      room = c.self.invariant.room;
       places = omega (arith, c.self.invariant.places, c.push_reserved.ensures.capacity, c.send.ensures.capacity);
       numbers = c.self.invariant.numbers;
-      seat = kept ∙ (λ i. record { table = g.N.Named.table; written = next; published = sym now i });
+      seat = kept ∙ (λ i. record { table = g.N.Named.front.table; written = next; published = sym now i });
       words = c.self.invariant.words;
     }
 

@@ -1,0 +1,17 @@
+-- Which threads are marked.
+use Rattle.std.specs.Prelude.{◌≡◌, ◌<◌, ◌/◌, ◌%◌, ◌==◌, ℕ, List, slice_index, min, max}
+use Rattle.std.specs.Int.{bit_at}
+use Rattle.nt_core.specs.declared.call.Grant.{Grant}
+use Rattle.nt_core.specs.Moves.{one_if, granted_to}
+
+-- 1 where thread t has a mark: its bit of the block of 64 threads that it is in
+abbrev pub mark_of : ℕ → List ℕ → ℕ
+mark_of t blocks = bit_at (slice_index blocks (t / 64)) (t % 64)
+
+-- the thread has a mark too, and the others have theirs as before
+pub record IsMarkedToo (old : List ℕ) (thread : ℕ) (new : List ℕ) : Type 0 where
+  pub each : (t : ℕ) → t < 256 → mark_of t new ≡ max (mark_of t old) (one_if (thread == t))
+
+-- each of 256 threads has a mark exactly where one of these grants is to it
+pub record AreMarks (blocks : List ℕ) (grants : List Grant) : Type 0 where
+  pub each : (t : ℕ) → t < 256 → mark_of t blocks ≡ min 1 (granted_to t grants)
