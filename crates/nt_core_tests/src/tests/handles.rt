@@ -2,7 +2,7 @@
 use crate::tests::play::play_all;
 use crate::tests::script::Answer::{Done, Handle, Pended, Previous, Status};
 use crate::tests::script::Ask::{
-    All, AlertableAny, Any, Apc, Arm, ArmRoutine, Cancel, Duplicate, Event, Exit, Mutex, Pulse,
+    AlertableAny, All, Any, Apc, Arm, ArmRoutine, Cancel, Duplicate, Event, Exit, Mutex, Pulse,
     Release, Reset, Semaphore, Set, Swap, Timer, Unlock,
 };
 use crate::tests::script::Step::{Call, CreateEvents, Tick, Waiting};
