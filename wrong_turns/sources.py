@@ -48,12 +48,15 @@ def named(head):
 
 
 def implemented(words):
-    """Returns the type and the trait, if there is one, that an impl names, from the words after `impl`."""
-    depth, names = 0, [""]
+    """Returns the type and the trait, if there is one, that an impl names, from the words after `impl`. What a trait is at, as of `From<AllocError>`, is
+    in its name."""
+    depth, names, is_at = 0, [""], "for" in words
     for word in words:
         depth += (word == "<") - (word == ">")
         if word in ("for", "where") and not depth:
             names.append("")
+        elif re.match(r"\w", word) and depth and is_at and len(names) == 1 and names[0]:
+            names[0] += word
         elif re.match(r"\w", word) and not depth:
             names[-1] = word
     return names[1::-1] if "for" in words else names[:1]
