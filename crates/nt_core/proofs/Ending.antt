@@ -153,7 +153,7 @@ mutexes_others os t mutexes listed h m =
       ap is_timer (mapped_at (abandoned_by t) refl os h ∙ freed_mutex t (object_at os h) owned),
     )
 
--- what stands on the list behind the first ones
+-- what stands on the list after the first ones
 pub timers_alone : (mutexes all : List ℕ) (property : ℕ → Type 0) (listed : Lists property mutexes all) (n : ℕ) → n ≡ length mutexes → take (length all - n) (drop n all) ≡ listed.more
 timers_alone mutexes all property listed n is =
     let alone : drop (length mutexes) all ≡ listed.more = ap (λ xs. drop (length mutexes) xs) listed.longer ∙ drop-append_seam mutexes listed.more in

@@ -79,7 +79,7 @@ step_same old a b t call r q gs hs x y =
     let answers = x.answers ∙ (ap (λ (s : State). answered old s t call) alerted.1 ∙ sym y.answers) in
     (ap (λ p. p.0) answers, grants, ap (λ p. p.1) answers)
 
--- where no first cause holds, only want of memory refuses
+-- where no first cause holds, only a refused growth does
 only_memory : (old : State) (who : ℕ) (denied : Bool) (call : Call) (r : Refusal) → refusal old who denied call ≡ None → IsRefusal old who denied call r → r ≡ Memory
 only_memory old who denied call r none is = let h : IsTrue (grows old who call) × (r ≡ Memory) = rw none at is in h.1
 
@@ -93,7 +93,7 @@ refusal_same old who denied call r q x y = go (refusal old who denied call) refl
     go None e = only_memory old who denied call r e x ∙ sym (only_memory old who denied call q e y)
     go (Some f) e = first_cause old who denied call r f e x ∙ sym (first_cause old who denied call q f e y)
 
--- a call is not both carried out and refused, but for want of memory
+-- a call is not both carried out and refused, unless memory was refused
 not_both : (old : State) (who : ℕ) (denied : Bool) (call : Call) (reply : Reply) (r : Refusal) {P : Type 0} → refusal old who denied call ≡ None → IsRefusal old who denied call r → wants_memory (Ok reply) ≡ wants_memory (Err r) → P
 not_both old who denied call reply r none is alike =
     let h : false ≡ true = alike ∙ ap (λ f. wants_memory (Err f)) (only_memory old who denied call r none is) in (cc)

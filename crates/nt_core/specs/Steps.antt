@@ -111,7 +111,7 @@ MomentsPass old m (u ∷ us) grants new =
 abbrev pub Tick : State → ℕ → List Grant → State → Type 0
 Tick old m grants new = (moments : List ℕ) × MomentsPass old m moments grants new
 
--- a tick with its result: what is due up to m happens, or the moment lies back and everything stays
+-- a tick with its result: what is due up to m happens, or the moment is past and everything stays
 abbrev pub Ticked : State → ℕ → Result Reply Refusal → List Grant → State → Type 0
 Ticked old m (Ok reply) grants new = (old.now ≤ m) × (reply ≡ Reply.Done) × Tick old m grants new
 Ticked old m (Err r) grants new = (m < old.now) × (r ≡ MomentBack) × (grants ≡ []) × (new ≡ old)
