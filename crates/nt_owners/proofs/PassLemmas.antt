@@ -7,7 +7,7 @@ use Rattle.std.proofs.lemmas.List.{get_or-set_same, get_or-set_other, get_or_pas
 use Rattle.nt_objects.specs.declared.object.Object.{Object}
 use Rattle.nt_objects.specs.declared.object.Object.TheVariants.{Event, Semaphore, Mutex, Timer, Thread, Gone}
 use Rattle.nt_objects.specs.Object.{owner_of, owned_by, abandoned_by}
-use Rattle.nt_owners.specs.Owned.{IsMember, AreOnce, IsUnowned, list_of, behind, added, removed}
+use Rattle.nt_owners.specs.Owned.{IsMember, AreOnce, IsUnowned, list_of, after_first, added, removed}
 use Rattle.nt_owners.specs.Objects.{object_at, OwnersAgree, IsPassed}
 use Rattle.nt_owners.proofs.SoundLemmas.{head_in, without_head}
 use Rattle.nt_owners.proofs.ListLemmas.{same_test, other_test, listed_known, added_member, member_added, added_once, removed_member, member_removed, removed_once}
@@ -135,7 +135,7 @@ owned_below objects t m owned = elim (cases_lt m (length objects)) [
   | inr past ↦ absurd (none-some t (ap owner_of (sym (get_or_past objects m (Thread false) past)) ∙ owned))
 ]
 
-pub popped_passed : (objects : List Object) (lists : List (List ℕ)) (t m : ℕ) → OwnersAgree objects lists → slice_get (list_of lists t) 0 ≡ Some m → IsPassed lists (set lists t (behind (list_of lists t))) m None
+pub popped_passed : (objects : List Object) (lists : List (List ℕ)) (t m : ℕ) → OwnersAgree objects lists → slice_get (list_of lists t) 0 ≡ Some m → IsPassed lists (set lists t (after_first (list_of lists t))) m None
 popped_passed objects lists t m agree is =
     let owner : owner_of (object_at objects m) ≡ Some t = first_owner objects lists t m agree is in
     subst (λ (list : List ℕ). IsPassed lists (set lists t list) m None) (without_head (list_of lists t) m is)
@@ -156,18 +156,18 @@ pub abandoned_is : (o read new : Object) (t : ℕ) → read ≡ o → owner_of o
 abandoned_is o read new t same owner is =
     subst (λ (x : Option ℕ). IfSome x (λ u. new ≡ abandoned_by u o)) owner (subst (λ (r : Object). IfSome (owner_of r) (λ u. new ≡ abandoned_by u r)) same is)
 
-pub agree_abandoned : (objects : List Object) (lists : List (List ℕ)) (t m : ℕ) → OwnersAgree objects lists → slice_get (list_of lists t) 0 ≡ Some m → OwnersAgree (set objects m (abandoned_by t (object_at objects m))) (set lists t (behind (list_of lists t)))
+pub agree_abandoned : (objects : List Object) (lists : List (List ℕ)) (t m : ℕ) → OwnersAgree objects lists → slice_get (list_of lists t) 0 ≡ Some m → OwnersAgree (set objects m (abandoned_by t (object_at objects m))) (set lists t (after_first (list_of lists t)))
 agree_abandoned objects lists t m agree is =
     let owner : owner_of (object_at objects m) ≡ Some t = first_owner objects lists t m agree is in
-    let after = set lists t (behind (list_of lists t)) in
+    let after = set lists t (after_first (list_of lists t)) in
     agree_put objects lists after m (abandoned_by t (object_at objects m)) (owned_below objects t m owner) agree
     (subst (λ (to : Option ℕ). IsPassed lists after m to) (sym (abandoned_free (object_at objects m) t owner)) (popped_passed objects lists t m agree is))
 
-pub fewer_popped : (lists : List (List ℕ)) (t m : ℕ) → slice_get (list_of lists t) 0 ≡ Some m → length (list_of (set lists t (behind (list_of lists t))) t) < length (list_of lists t)
+pub fewer_popped : (lists : List (List ℕ)) (t m : ℕ) → slice_get (list_of lists t) 0 ≡ Some m → length (list_of (set lists t (after_first (list_of lists t))) t) < length (list_of lists t)
 fewer_popped lists t m is =
-    subst (λ (list : List ℕ). length list < length (list_of lists t)) (sym (get_or-set_same lists t (behind (list_of lists t)) [] (listed_known lists t m (head_in (list_of lists t) m is)))) (go (list_of lists t) is)
+    subst (λ (list : List ℕ). length list < length (list_of lists t)) (sym (get_or-set_same lists t (after_first (list_of lists t)) [] (listed_known lists t m (head_in (list_of lists t) m is)))) (go (list_of lists t) is)
   where
-    go : (list : List ℕ) → slice_get list 0 ≡ Some m → length (behind list) < length list
+    go : (list : List ℕ) → slice_get list 0 ≡ Some m → length (after_first list) < length list
     go [] e = absurd (none-some m e)
     go (x ∷ list) e = omega arith
 

@@ -5,7 +5,7 @@ use Rattle.std.proofs.lemmas.List.{get_or-set_same, get_or-set_other, length-set
 use Rattle.std.proofs.lemmas.Option.{same_Some, none-some}
 use Rattle.std.specs.Prelude.{slice_get}
 use Rattle.nt_owners.specs.declared.links.Link.{Link}
-use Rattle.nt_owners.specs.Owned.{Owned, IsMember, AreOnce, IsUnowned, list_of, without, behind}
+use Rattle.nt_owners.specs.Owned.{Owned, IsMember, AreOnce, IsUnowned, list_of, without, after_first}
 use Rattle.nt_owners.specs.Links.{alone, link_at, first_at, next_at, previous_at, with_first, with_next, with_previous, walk, list_in, lists_in, IsChain, IsListed, IsSound}
 use Rattle.nt_owners.proofs.ListLemmas.{member_same, same_test, without_member, without_once, once_few}
 use Rattle.nt_owners.proofs.ChainLemmas.{walk-chain, next_in, previous_in, chain_kept, chain_entered, chain_left}
@@ -360,14 +360,14 @@ pub head_in : (list : List ℕ) (m : ℕ) → slice_get list 0 ≡ Some m → Is
 head_in [] m e = absurd (none-some m e)
 head_in (x ∷ list) m e = inl (same_Some x m e)
 
--- without the first of them, what stands behind it is left
-pub without_head : (list : List ℕ) (m : ℕ) → slice_get list 0 ≡ Some m → without m list ≡ behind list
+-- without the first of them, what stands after it is left
+pub without_head : (list : List ℕ) (m : ℕ) → slice_get list 0 ≡ Some m → without m list ≡ after_first list
 without_head [] m e = refl
 without_head (x ∷ list) m e = rw (same_test x m (same_Some x m e)) refl
 
-pub none_behind : (list : List ℕ) → slice_get list 0 ≡ None → behind list ≡ list
-none_behind [] e = refl
-none_behind (x ∷ list) e = absurd (none-some x (sym e))
+pub none_after : (list : List ℕ) → slice_get list 0 ≡ None → after_first list ≡ list
+none_after [] e = refl
+none_after (x ∷ list) e = absurd (none-some x (sym e))
 
 -- ---- nobody owns anything
 

@@ -30,9 +30,9 @@ without mutex [] = []
 without mutex (first ∷ list) = if first == mutex then list else first ∷ without mutex list
 
 -- the list without its first mutex
-abbrev pub behind : List ℕ → List ℕ
-behind [] = []
-behind (first ∷ list) = list
+abbrev pub after_first : List ℕ → List ℕ
+after_first [] = []
+after_first (first ∷ list) = list
 
 -- the thread owns this mutex too, and it comes first
 abbrev pub added : List (List ℕ) → ℕ → ℕ → List (List ℕ)

@@ -1,5 +1,5 @@
 ghost use Rattle.std.specs.Prelude.{◌≡◌, ◌<◌, ◌≤◌, [], length, replicate, slice_get, slice_set, IfOk, OnOk, OnErr};
-ghost use Rattle.nt_owners.specs.Owned.{Owned, list_of, IsMember, IsUnowned, behind, added, removed};
+ghost use Rattle.nt_owners.specs.Owned.{Owned, list_of, IsMember, IsUnowned, after_first, added, removed};
 
 use crate::links::{Link, add_links, enter, first_of, leave, no_firsts};
 use nt_status::{Handle, ThreadId};
@@ -83,7 +83,7 @@ impl Owners {
     /// Takes away the mutex that came last of those that the thread owns.
     pub fn pop(&mut self, thread: ThreadId) -> Option<Handle>
         ensures first { result ≡ slice_get (list_of self.old.lists thread) 0 }
-        ensures rest { self.new ≡ record self.old { lists = slice_set self.old.lists thread (behind (list_of self.old.lists thread)) } }
+        ensures rest { self.new ≡ record self.old { lists = slice_set self.old.lists thread (after_first (list_of self.old.lists thread)) } }
     {
         let first = self.first(thread)?;
         self.remove(thread, first);

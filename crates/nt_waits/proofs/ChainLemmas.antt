@@ -80,9 +80,9 @@ module _ (next previous : Option ℕ → Option ℕ) (owner : ℕ → Option (�
       (skipped_back : previous' (next (Some number)) ≡ previous (Some number))
       (previous_kept : (x : Option ℕ) → x ≢ next (Some number) → x ≢ Some number → previous' x ≡ previous x)
       (owner_kept : (k : ℕ) → k ≢ number → owner' k ≡ owner k) where
-    -- the blocks behind the one that is taken out keep their neighbours, but for the first of them
-    behind_kept : (at : Option ℕ) (links : List Link) (k : ℕ) → previous (Some number) ≡ at → (at ≡ Some k → ⊥) → (k ≡ number → ⊥) → (next' (Some k) ≡ next (Some k)) × (owner' k ≡ owner k)
-    behind_kept at links k back apart differs = (next_kept (Some k) (λ e. apart (sym (e ∙ back))) (λ e. differs (same_Some k number e)), owner_kept k differs)
+    -- the blocks after the one that is taken out keep their neighbours, but for the first of them
+    later_kept : (at : Option ℕ) (links : List Link) (k : ℕ) → previous (Some number) ≡ at → (at ≡ Some k → ⊥) → (k ≡ number → ⊥) → (next' (Some k) ≡ next (Some k)) × (owner' k ≡ owner k)
+    later_kept at links k back apart differs = (next_kept (Some k) (λ e. apart (sym (e ∙ back))) (λ e. differs (same_Some k number e)), owner_kept k differs)
 
     unlinked_first : (at : Option ℕ) (link : Link) (links : List Link) → link.number ≡ number → ((k : ℕ) → HasNumber links k → at ≡ Some k → ⊥) → AreNumbersOnce (link ∷ links) → IsChain next previous owner handle at (link ∷ links) → IsChain next' previous' owner' handle at links
     unlinked_first at link [] same apart distinct chain = (cc, cc)
@@ -90,9 +90,9 @@ module _ (next previous : Option ℕ → Option ℕ) (owner : ℕ → Option (�
         let back : previous (Some number) ≡ at = cc in
         let ahead : next (Some number) ≡ Some second.number = cc in
         let differs : (k : ℕ) → HasNumber (second ∷ links) k → k ≡ number → ⊥ = λ k has e. distinct.0 (HasNumber-same (second ∷ links) k link.number (e ∙ sym same) has) in
-        let first_kept = behind_kept at links second.number back (apart second.number (inl refl)) (differs second.number (inl refl)) in
+        let first_kept = later_kept at links second.number back (apart second.number (inl refl)) (differs second.number (inl refl)) in
         let kept : (k : ℕ) → HasNumber links k → (next' (Some k) ≡ next (Some k)) × (previous' (Some k) ≡ previous (Some k)) × (owner' k ≡ owner k) = λ k has.
-        let both = behind_kept at links k back (apart k (inr has)) (differs k (inr has)) in
+        let both = later_kept at links k back (apart k (inr has)) (differs k (inr has)) in
         (both.0, previous_kept (Some k) (λ e. distinct.1.0 (HasNumber-same links k second.number (same_Some k second.number (e ∙ ahead)) has)) (λ e. differs k (inr has) (same_Some k number e)), both.1) in
         let last : previous' None ≡ previous None = previous_kept None (λ e. none-some second.number (e ∙ ahead)) (λ e. none-some number e) in
         (cc, cc, first_kept.1 ∙ chain.3.2, chain_kept (Some second.number) links first_kept.0 last kept chain.3.3)

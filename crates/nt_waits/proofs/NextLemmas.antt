@@ -1,4 +1,4 @@
--- The link behind the one of a thread.
+-- The link after the one of a thread.
 use Rattle.std.proofs.Common.{◌≡◌, ◌≢◌, ◌<◌, ℕ, zero, suc, ltb, List, [], ◌∷◌, length, get_or, Option, Some, None, Bool, true, false, eqb, refl, sym, ap, ◌∙◌, inl, inr, subst, arith}
 use Rattle.std.specs.List.{position, position_or_len}
 use Rattle.std.proofs.lemmas.List.Quantifiers.{position-Some}
