@@ -54,8 +54,12 @@ pub fn name_all(handles: &HandleTable, these: &[Handle], named: &mut Vec<Handle>
     named.clear();
     let mut denied = false;
     for handle in these {
-        named.push_reserved(object_named(handles, *handle));
-        denied = denied || lacks(handles, *handle, SYNCHRONIZE);
+        let (object, held) = match handles.get(*handle) {
+            Some(opened) => (opened.object, opened.access.bits()),
+            None => (Handle::new(NO_OBJECT), 0),
+        };
+        named.push_reserved(object);
+        denied = denied || held & SYNCHRONIZE != SYNCHRONIZE;
     }
     denied
 }
