@@ -1,5 +1,5 @@
--- What a poll, a wait that begins and the end of a thread answer.
-use Rattle.std.specs.Prelude.{◌≡◌, ◌≢◌, ◌⊎◌, ℕ, true, Result}
+-- What a poll, a wait that begins, a wait to its end and the end of a thread answer.
+use Rattle.std.specs.Prelude.{◌≡◌, ◌≢◌, ◌⊎◌, ℕ, true, false, Result}
 use Rattle.nt_core.specs.declared.call.Call.{Call}
 use Rattle.nt_core.specs.declared.call.Reply.{Reply}
 use Rattle.nt_core.specs.declared.call.WaitCall.{WaitCall}
@@ -8,6 +8,7 @@ use Rattle.nt_core.specs.Moves.{pended}
 use Rattle.nt_mail.specs.declared.knowledge.Knowledge.{Knowledge}
 use Rattle.nt_front.specs.declared.polls.Polled.{Polled}
 use Rattle.nt_front.specs.declared.calls.Begun.{Begun}
+use Rattle.nt_front.specs.declared.waits.Waited.{Waited}
 use Rattle.nt_front.specs.declared.calls.Exited.{Exited}
 use Rattle.nt_mail.specs.declared.word.Word.{Word}
 use Rattle.nt_mail.specs.Words.{IsLawfulWord, granted_word}
@@ -35,9 +36,16 @@ abbrev pub IsMade : Knowledge → Call → ℕ → Result Reply Refusal → Know
 IsMade old call number result new = (new ≡ with_call old number call result) × IsEarlier number old
 
 abbrev pub IsBegun : {X : Type 0} → Prepared → Knowledge → WaitCall → Begun X → Type 0
-IsBegun front old wait (Begun.Done new receipt) = IsMade old (Call.Wait wait) receipt.entry receipt.result new
+IsBegun front old wait (Begun.Done new receipt) = IsMade old (Call.Wait wait) receipt.entry receipt.result new × (pended receipt.result ≡ false)
 IsBegun front old wait (Begun.Pended new receipt) = IsMade old (Call.Wait wait) receipt.entry receipt.result new × (pended receipt.result ≡ true)
 IsBegun front old wait (Begun.NoRoom new) = (new ≡ old) × WasFull front old
+
+-- the wait ended at once; or it pended, and then the thread, asleep, was given its grant
+abbrev pub IsWaited : {X : Type 0} → Prepared → Knowledge → WaitCall → Waited X → Type 0
+IsWaited front old wait (Waited.Done new receipt) = IsMade old (Call.Wait wait) receipt.entry receipt.result new × (pended receipt.result ≡ false)
+IsWaited front old wait (Waited.Granted new begun granted) =
+    (asleep : Knowledge) × IsMade old (Call.Wait wait) begun.entry begun.result asleep × (pended begun.result ≡ true) × IsGiven asleep granted.entry granted.result new
+IsWaited front old wait (Waited.NoRoom new) = (new ≡ old) × WasFull front old
 
 abbrev pub IsExited : {X : Type 0} → Prepared → Knowledge → Exited X → Type 0
 IsExited front old (Exited.Ended new receipt) = IsMade old Call.Exit receipt.entry receipt.result new

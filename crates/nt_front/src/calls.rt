@@ -8,14 +8,14 @@ ghost use Rattle.nt_front.specs.Books.{WasFull};
 ghost use Rattle.nt_front.specs.Holds.{with_tick};
 ghost use Rattle.nt_front.specs.Polls.{IsMade, IsBegun, IsExited};
 
-use crate::book::has_pended;
+use crate::book::{Book, has_pended};
 use crate::front::Front;
 use crate::hold::{Ended, Hold, Pass, Sleeper};
 use crate::named::Named;
 use crate::receipt::Receipt;
 use nt_core::{Act, Call, WaitCall};
 use nt_status::{Moment, Refusal};
-use std::sync::Wait;
+use std::sync::{MutexGuard, Wait};
 
 /// What a wait that begins answers.
 pub enum Begun<N: Named> {
@@ -64,11 +64,7 @@ impl<N: Named> Front<N> {
     {
         let mut book = self.book.lock(rt);
         let receipt = book.tick(&self.mail, &mut pass.hold, moment)?;
-        let ended = book.ended();
-        drop(book);
-        if let Some(marks) = ended {
-            self.bells.ring(marks);
-        }
+        self.leave(book);
         Ok(receipt)
     }
 
@@ -110,11 +106,16 @@ impl<N: Named> Front<N> {
     {
         let mut book = self.book.lock(rt);
         let receipt = book.call(&self.mail, caller, call)?;
+        self.leave(book);
+        Ok(receipt)
+    }
+
+    /// Gives the lock back, and then wakes the threads whose waits the last call ended.
+    pub(crate) fn leave(&self, book: MutexGuard<'_, Book<N>>) {
         let ended = book.ended();
         drop(book);
         if let Some(marks) = ended {
             self.bells.ring(marks);
         }
-        Ok(receipt)
     }
 }

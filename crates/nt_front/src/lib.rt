@@ -7,8 +7,8 @@
 //! ```text
 //!    thread 0: a pass      thread 1: a sleeper      thread 2: a pass
 //!        |                       |                        |
-//!        | call, tick,           | poll: its own word,    | now: the moment's word,
-//!        | begin, exit           |       once             |      once
+//!        | call, tick, begin,    | poll: its own word,    | now: the moment's word,
+//!        | wait, exit            |       once             |      once
 //!        v                       v                        v
 //!    [ the lock ]        [ moment | thread 0 | thread 1 | thread 2 ]   the mail: atomic words, which no lock guards
 //!        |                       ^
@@ -20,7 +20,8 @@
 //!   the grants that it was given, and the greatest moment that it was told. There is one for each thread, and it can't be copied
 //!   or lost: it is spent by what turns it into another hold.
 //! - A wait that pends turns the pass into a **sleeper**, which can only `poll`, `sleep`, or be there at the end. A poll reads one
-//!   word and never waits for the lock; once the wait is granted, it gives the pass back with the entry of the grant.
+//!   word and never waits for the lock; once the wait is granted, it gives the pass back with the entry of the grant. A thread that
+//!   has nothing else to do meanwhile calls `wait`, which begins a wait and sleeps in one hold of the lock.
 //! - A thread that ends its work with `exit` keeps an **ended** mark.
 //! - `finish` takes the holds of all threads, and gives out the whole journal. What each hold knows is what stands there: no call
 //!   is missing, none is there twice, and no grant was given that the journal does not have.
@@ -28,7 +29,7 @@
 //! Every entry has its place before the call is made: a call is refused with JournalFull, and changes nothing, where there would be
 //! no room for its entry and one for each pending wait. So nothing that the dispatcher did can fail to be written.
 //!
-//! A sleeper that does not want to poll waits with `sleep` on a condition variable of its own: a grant wakes the thread that was
+//! Who does not want to poll waits with `wait` or `sleep`, on a condition variable of its own: a grant wakes the thread that was
 //! granted, and no other, once the lock is given back.
 #![tactic(auto)]
 
@@ -42,6 +43,7 @@ mod moments;
 mod named;
 mod polls;
 mod receipt;
+mod waits;
 mod wake;
 mod write;
 
@@ -55,3 +57,4 @@ pub use named::Named;
 pub use nt_mail::Entry;
 pub use polls::Polled;
 pub use receipt::{History, Receipt};
+pub use waits::Waited;

@@ -1,7 +1,7 @@
 //! How a thread learns of its grants and of the moment.
 ghost use Rattle.std.specs.Prelude.{◌≡◌, ◌≤◌, ℕ, max};
 ghost use Rattle.nt_mail.specs.Knowledge.{with_moment};
-ghost use Rattle.nt_front.specs.Holds.{floor_of, IsGiven};
+ghost use Rattle.nt_front.specs.Holds.{floor_of};
 ghost use Rattle.nt_front.specs.Polls.{IsPolled};
 
 use crate::front::Front;
@@ -11,7 +11,6 @@ use crate::named::Named;
 use crate::receipt::Receipt;
 use nt_mail::told_by;
 use nt_status::Moment;
-use std::sync::Wait;
 
 /// What a poll answers.
 pub enum Polled<N: Named> {
@@ -36,27 +35,6 @@ impl<N: Named> Front<N> {
         }
         let result = Ok(reply);
         Polled::Ready(Pass { hold }, Receipt { entry, result })
-    }
-
-    /// Waits until the thread's wait is granted, and takes the grant.
-    #[tactic(auto, using(crate::proofs::Polling::same_still))]
-    pub fn sleep(&self, rt: &impl Wait, sleeper: Sleeper<N>) -> (Pass<N>, Receipt)
-        ensures { IsGiven sleeper result.1.entry result.1.result result.0 }
-    {
-        let thread = sleeper.thread();
-        let mut sleeper = sleeper;
-        let mut book = self.book.lock(rt);
-        for _ in rt.forever() {
-            match self.poll(sleeper) {
-                Polled::Ready(pass, receipt) => return (pass, receipt),
-                Polled::Still(still) => sleeper = still,
-            }
-            // Grants are sent under the lock, so none comes between the poll and the wait.
-            if let Some(bell) = self.bells.of(thread) {
-                book = bell.wait(rt, book);
-            }
-        }
-        unreachable!()
     }
 
     /// The present moment, as the pass reads it. It never goes back, and is never before a moment that the pass ticked to.

@@ -1,0 +1,15 @@
+use Rattle.std.proofs.Common.{subst, sym, ◌∙◌}
+use Rattle.nt_mail.specs.Knowledge.{IsFree, IsWaiting}
+use Rattle.nt_core.specs.declared.call.Call.{Call}
+use Rattle.nt_front.proofs.Floors.{waits_after, free_after}
+use Rattle.nt_front.proofs.front.Front.wait.Goals as goal
+
+pub invariant_of-sleep_in : goal.invariant_of-sleep_in
+invariant_of-sleep_in g c =
+    subst IsWaiting (sym c.in-Ok.ensures.made)
+    (waits_after c.pass.inside.hold c.in-Ok.begun.entry (Call.Wait c.args.wait) c.in-Ok.begun.result (sym c.has_pended.ensures ∙ c.if-has_pended.true) c.pass.invariant c.in-Ok.ensures.earlier)
+
+pub invariant_of-result-2 : goal.invariant_of-result-2
+invariant_of-result-2 g c =
+    subst IsFree (sym c.in-Ok.ensures.made)
+    (free_after c.pass.inside.hold c.in-Ok.begun.entry (Call.Wait c.args.wait) c.in-Ok.begun.result (sym c.has_pended.ensures ∙ c.if-has_pended.false) c.pass.invariant)
