@@ -12,6 +12,7 @@ event NAME [manual] [set]
 semaphore NAME INIT MAX
 mutex NAME [owned]
 timer NAME [manual]
+dup NAME OBJ ACCESS
 set OBJ
 reset OBJ
 pulse OBJ
@@ -39,6 +40,7 @@ RANGES = {
     "DUE": (-(2**63), 2**63 - 1),
     "ROUTINE": (0, 2**64 - 1),
     "ARG": (0, 2**64 - 1),
+    "ACCESS": (0, 2**32 - 1),
     "TIME": (0, 2**32 - 1),
     "OBJ": (0, 2**32 - 1),
 }

@@ -4,7 +4,7 @@ use Rattle.nt_lines.specs.Words.{is_name, words_of, text_of}
 use Rattle.nt_script.specs.Scope.{Scope, bound_in}
 use Rattle.nt_script.specs.Keywords as keyword
 use Rattle.nt_script.specs.Naming.{NamesFree}
-use Rattle.nt_script.specs.Places.{NamePlace, SignedPlace, free_name_in}
+use Rattle.nt_script.specs.Places.{NamePlace, ObjectPlace, SignedPlace, AccessPlace, free_name_in}
 use Rattle.nt_script.specs.Grammar.{Line, Nothing, Moment, Called, said_by, after_of, Part, Caller, Word, Value, Spells, value_parts, after_parts, parts_of, IsStatement}
 use Rattle.nt_script.specs.Transcript.{ReadsStatement}
 use Rattle.nt_script.specs.declared.fault.LineFault.{LineFault}
@@ -43,6 +43,7 @@ line_free scope (Called who Keyword.Event values after) words s = name_free scop
 line_free scope (Called who Keyword.Semaphore values after) words s = name_free scope who (keyword.text_of Keyword.Semaphore) values.0 (value_parts (SignedPlace (2 ^ 31) ∷ SignedPlace (2 ^ 31) ∷ []) values.1 ++ after_parts (after_of Keyword.Semaphore) after) words s
 line_free scope (Called who Keyword.Mutex values after) words s = name_free scope who (keyword.text_of Keyword.Mutex) values.0 (after_parts (after_of Keyword.Mutex) after) words s
 line_free scope (Called who Keyword.Timer values after) words s = name_free scope who (keyword.text_of Keyword.Timer) values.0 (after_parts (after_of Keyword.Timer) after) words s
+line_free scope (Called who Keyword.Duplicate values after) words s = name_free scope who (keyword.text_of Keyword.Duplicate) values.0 (value_parts (ObjectPlace ∷ AccessPlace ∷ []) values.1 ++ after_parts (after_of Keyword.Duplicate) after) words s
 line_free scope (Called who Keyword.Set values after) words s = tt
 line_free scope (Called who Keyword.Reset values after) words s = tt
 line_free scope (Called who Keyword.Pulse values after) words s = tt

@@ -6,7 +6,7 @@ use Rattle.nt_core.specs.declared.call.Act.{Act}
 use Rattle.nt_core.specs.declared.call.WaitCall.{WaitCall}
 use Rattle.nt_lines.specs.Words.{words_of, text_of, is_plain, caller_of}
 use Rattle.nt_script.specs.Scope.{Scope}
-use Rattle.nt_script.specs.Places.{is_word, Place, NamePlace, ObjectPlace, NumberPlace, SignedPlace, TimePlace, ModePlace, ValueOf, value_in, fits, blame, ValuePlace, MomentPlace}
+use Rattle.nt_script.specs.Places.{is_word, Place, NamePlace, ObjectPlace, NumberPlace, SignedPlace, TimePlace, ModePlace, ValueOf, value_in, fits, blame, ValuePlace, AccessPlace, MomentPlace}
 use Rattle.nt_script.specs.declared.fault.ScriptFault.{ScriptFault}
 use Rattle.nt_script.specs.declared.fault.ScriptFault.TheVariants.{LineTooLong, BadByte, ThreadsExpected, UnknownWord, MissingWord, ExtraWord}
 use Rattle.nt_script.specs.declared.parser.Statement.{Statement}
@@ -92,6 +92,8 @@ row Keyword.Semaphore = record {
 row Keyword.Mutex = record { shape = shape (NamePlace ∷ []) (Options (codes "owned" ∷ [])); made = λ who name given. Create who name (Act.CreateMutex (bit_if given.0 1)) }
 -- tN timer NAME [manual]
 row Keyword.Timer = record { shape = shape (NamePlace ∷ []) (Options (codes "manual" ∷ [])); made = λ who name given. Create who name (Act.CreateTimer (bit_if given.0 1)) }
+-- tN dup NAME OBJ ACCESS
+row Keyword.Duplicate = record { shape = only (NamePlace ∷ ObjectPlace ∷ AccessPlace ∷ []); made = λ who name handle access given. Create who name (Act.Duplicate handle access) }
 -- tN set OBJ, tN reset OBJ, tN pulse OBJ
 row Keyword.Set = record { shape = only (ObjectPlace ∷ []); made = λ who event given. act_by who (Act.SetEvent event) }
 row Keyword.Reset = record { shape = only (ObjectPlace ∷ []); made = λ who event given. act_by who (Act.ResetEvent event) }

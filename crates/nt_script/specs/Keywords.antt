@@ -9,6 +9,7 @@ text_of Keyword.Event = codes "event"
 text_of Keyword.Semaphore = codes "semaphore"
 text_of Keyword.Mutex = codes "mutex"
 text_of Keyword.Timer = codes "timer"
+text_of Keyword.Duplicate = codes "dup"
 text_of Keyword.Set = codes "set"
 text_of Keyword.Reset = codes "reset"
 text_of Keyword.Pulse = codes "pulse"
@@ -24,9 +25,9 @@ text_of Keyword.Swap = codes "swap"
 text_of Keyword.Next = codes "next"
 text_of Keyword.Exit = codes "exit"
 
--- those that make an object
+-- those that make a handle
 abbrev pub creations : List Keyword
-creations = Keyword.Event ∷ Keyword.Semaphore ∷ Keyword.Mutex ∷ Keyword.Timer ∷ []
+creations = Keyword.Event ∷ Keyword.Semaphore ∷ Keyword.Mutex ∷ Keyword.Timer ∷ Keyword.Duplicate ∷ []
 
 -- those of an object that is there
 abbrev pub acts : List Keyword

@@ -110,6 +110,10 @@ blame ModePlace word = UnknownWord
 abbrev pub ValuePlace : Place
 ValuePlace = NumberPlace 0 (2 ^ 64 - 1)
 
+-- rights have 32 bits
+abbrev pub AccessPlace : Place
+AccessPlace = NumberPlace 0 (2 ^ 32 - 1)
+
 -- 2 ^ 62 is the greatest moment
 abbrev pub MomentPlace : Place
 MomentPlace = NumberPlace 0 (2 ^ 62)

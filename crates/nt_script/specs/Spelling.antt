@@ -46,12 +46,13 @@ plain (Value place value) = value_word place value
 
 -- ---- the line that says a statement
 
--- the line that makes an object with this name
+-- the line that makes a handle with this name
 abbrev pub creation_line : ℕ → List ℕ → Act → Option Line
 creation_line who name (Act.CreateEvent flags) = Some (Called who Keyword.Event (name, tt) (has_flag flags event_manual_reset, (has_flag flags event_initial_set, tt)))
 creation_line who name (Act.CreateSemaphore initial maximum) = Some (Called who Keyword.Semaphore (name, (initial, (maximum, tt))) tt)
 creation_line who name (Act.CreateMutex flags) = Some (Called who Keyword.Mutex (name, tt) (has_flag flags mutex_initial_owner, tt))
 creation_line who name (Act.CreateTimer flags) = Some (Called who Keyword.Timer (name, tt) (has_flag flags timer_manual_reset, tt))
+creation_line who name (Act.Duplicate handle access) = Some (Called who Keyword.Duplicate (name, (handle, (access, tt))) tt)
 creation_line who name _ = None
 
 -- the line of another act

@@ -30,6 +30,7 @@ pub(crate) fn parse_call(
         Keyword::Semaphore => semaphore(alloc, bindings, who, words),
         Keyword::Mutex => mutex(alloc, bindings, who, words),
         Keyword::Timer => timer(alloc, bindings, who, words),
+        Keyword::Duplicate => duplicate(alloc, bindings, who, words),
         Keyword::Set => set(bindings, who, words),
         Keyword::Reset => reset(bindings, who, words),
         Keyword::Pulse => pulse(bindings, who, words),
@@ -119,6 +120,26 @@ fn timer(
     words.end()?;
     let name = Name::new(alloc, name)?;
     let act = Act::CreateTimer(if manual { 1 } else { 0 });
+    Ok(Statement::Create { who, name, act })
+}
+
+/// `tN dup NAME OBJ ACCESS`
+#[tactic(auto, unfolding(crate::specs::Reading::call_at))]
+fn duplicate(
+    alloc: Global,
+    bindings: &Bindings,
+    who: u32,
+    mut words: Words,
+) -> Result<Statement, LineFault>
+    ensures { Gives (λ statement. statement) result (call_at bindings.now.scope who Keyword.Duplicate words.entry) }
+{
+    let name = words.free_name(bindings)?;
+    let handle = words.object(bindings)?;
+    let access = words.number(0, u64::from(u32::MAX))?;
+    words.end()?;
+    let name = Name::new(alloc, name)?;
+    let access = access as u32;
+    let act = Act::Duplicate { handle, access };
     Ok(Statement::Create { who, name, act })
 }
 

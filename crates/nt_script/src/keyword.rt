@@ -10,6 +10,7 @@ pub(crate) enum Keyword {
     Semaphore,
     Mutex,
     Timer,
+    Duplicate,
     Set,
     Reset,
     Pulse,
@@ -86,7 +87,7 @@ fn act(word: &[u8]) -> Option<Keyword>
     }
 }
 
-/// An act that makes an object.
+/// An act that makes a handle.
 fn creation(word: &[u8]) -> Option<Keyword>
     ensures { result ≡ keyword_among creations word.now }
 {
@@ -98,6 +99,8 @@ fn creation(word: &[u8]) -> Option<Keyword>
         Some(Keyword::Mutex)
     } else if word == b"timer".as_slice() {
         Some(Keyword::Timer)
+    } else if word == b"dup".as_slice() {
+        Some(Keyword::Duplicate)
     } else {
         None
     }
