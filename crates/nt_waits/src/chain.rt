@@ -6,7 +6,7 @@ ghost use Rattle.slab.specs.Slab.{get, ContainsKey, Updates, slab_len, HasRoomFo
 ghost use Rattle.nt_waits.specs.Queue.{changed, removed_by, next_at, previous_at, owner_at, thread_of, links, IsQueue};
 ghost use Rattle.nt_waits.specs.Link.{HasNumber, without};
 
-use crate::block::{Block, BlockNumber, Change, Ends};
+use crate::block::{Block, BlockNumber, Change, Ends, OptionalBlock};
 use nt_status::{Handle, ThreadId};
 use slab::Slab;
 
@@ -38,8 +38,8 @@ fn set_next(
     blocks: &mut Slab<Block>,
     ends: &mut Ends,
     touched: &mut u64,
-    at: Option<BlockNumber>,
-    to: Option<BlockNumber>,
+    at: OptionalBlock,
+    to: OptionalBlock,
 )
     requires there { ForSome at (ContainsKey blocks.old) }
     requires countable { touched.old + 1 < 2 ^ 64 }
@@ -54,7 +54,7 @@ fn set_next(
     ensures counted { touched.new ≤ touched.old + 1 }
     ensures counts_up { touched.old ≤ touched.new }
 {
-    match at {
+    match at.get() {
         None => ends.first = to,
         Some(number) => {
             reach(blocks, touched, number, Change::SetNext(to));
@@ -67,8 +67,8 @@ fn set_previous(
     blocks: &mut Slab<Block>,
     ends: &mut Ends,
     touched: &mut u64,
-    at: Option<BlockNumber>,
-    to: Option<BlockNumber>,
+    at: OptionalBlock,
+    to: OptionalBlock,
 )
     requires there { ForSome at (ContainsKey blocks.old) }
     requires countable { touched.old + 1 < 2 ^ 64 }
@@ -83,7 +83,7 @@ fn set_previous(
     ensures counted { touched.new ≤ touched.old + 1 }
     ensures counts_up { touched.old ≤ touched.new }
 {
-    match at {
+    match at.get() {
         None => ends.last = to,
         Some(number) => {
             reach(blocks, touched, number, Change::SetPrevious(to));
@@ -135,24 +135,27 @@ pub fn attach(
         thread,
         handle,
         previous: ends.last,
-        next: None,
+        next: OptionalBlock::NONE,
     });
+    // The room is a number above each key.
+    let _room = blocks.capacity();
     let number = BlockNumber::new(key);
+    let this = OptionalBlock::some(number);
     // What a beginning wait reaches is not counted: only `end` tells how many blocks it reached.
     let mut touched = 0;
     let last = ends.last;
-    set_next(blocks, ends, &mut touched, last, Some(number));
-    ends.last = Some(number);
+    set_next(blocks, ends, &mut touched, last, this);
+    ends.last = this;
     ends.count += 1;
     number
 }
 
 /// The thread of a block, if there is one.
-pub fn thread_in(blocks: &Slab<Block>, number: Option<BlockNumber>) -> Option<ThreadId>
+pub fn thread_in(blocks: &Slab<Block>, number: OptionalBlock) -> Option<ThreadId>
     requires { ForSome number (ContainsKey blocks.now) }
     ensures { result ≡ option_map (λ k. thread_of (get blocks.now k)) number }
 {
-    match number {
+    match number.get() {
         Some(number) => Some(blocks[number.get()].thread),
         None => None,
     }
@@ -167,8 +170,8 @@ pub fn add_ends(ends: &mut Vec<Ends>, count: usize)
 {
     while ends.len() < count {
         ends.push_reserved(Ends {
-            first: None,
-            last: None,
+            first: OptionalBlock::NONE,
+            last: OptionalBlock::NONE,
             count: 0,
         });
     }
