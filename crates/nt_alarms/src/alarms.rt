@@ -63,6 +63,21 @@ impl Alarms {
         Ok(())
     }
 
+    /// Adds a place to these alarms and to others, last, with no alarm; where memory is refused, to neither.
+    pub fn add_with(&mut self, others: &mut Alarms) -> Result<(), AllocError>
+        ensures ok { OnOk result (self.new ≡ self.old ++ None ∷ []) }
+        ensures others { OnOk result (others.new ≡ others.old ++ None ∷ []) }
+        ensures err { OnErr result (self.new ≡ self.old) }
+        ensures kept { OnErr result (others.new ≡ others.old) }
+    {
+        self.alarms.reserve(1)?;
+        self.firsts.reserve(1)?;
+        others.add()?;
+        self.alarms.push_reserved(None);
+        self.firsts.push_reserved(None);
+        Ok(())
+    }
+
     /// Sets the alarm of this place to this moment, instead of the one that it had.
     pub fn set(&mut self, place: usize, moment: u64)
         requires { place < length self.old }

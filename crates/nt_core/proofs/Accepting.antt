@@ -7,7 +7,7 @@ use Rattle.std.specs.Ordering.{nat_cmp}
 use Rattle.std.proofs.lemmas.Bool.{false≢true}
 use Rattle.std.proofs.lemmas.List.{append-nil, length-replicate}
 use Rattle.nt_waits.specs.declared.wait.Wait.{Wait}
-use Rattle.nt_waits.specs.Waits.{Waits, Agrees}
+use Rattle.nt_waits.specs.Waits.{Waits, Agrees, IsMember, Names}
 use Rattle.nt_objects.specs.declared.object.Object.{Object}
 use Rattle.nt_objects.specs.declared.object.Object.TheVariants.{Thread}
 use Rattle.nt_objects.specs.Object.{due_of, setter_of, is_thread, taken, IsLawfulObject}
@@ -25,6 +25,7 @@ use Rattle.nt_objects.specs.declared.handles.Opened.{Opened}
 use Rattle.nt_objects.specs.Handles.{own_handles, full_access}
 use Rattle.nt_core.specs.Lawful.{IsSettled, IsSteady, HandlesAgree}
 use Rattle.nt_core.proofs.Handling.{handles_along, own_agree}
+use Rattle.nt_core.proofs.Marking.{marks_along, marks_opening, named_member}
 use Rattle.nt_core.specs.Accepts.{is_by_objects, IsFresh, IsServedAfter, Accepts}
 use Rattle.std.proofs.Common.{◌||◌, is_some, ◌==◌, nat_lt}
 use Rattle.std.specs.Prelude.{nat_le, nat_eq, Result, Ok, Err, IfOk, OnOk}
@@ -32,7 +33,7 @@ use Rattle.std.specs.List.{list_any, IsDistinct, AllByRecursion}
 use Rattle.std.proofs.lemmas.Bool.Decides.{nat_tests}
 use Rattle.nt_status.specs.declared.refusal.Refusal.{Refusal}
 use Rattle.nt_status.specs.declared.refusal.Refusal.TheVariants.{InvalidHandle, InvalidParameter, ThreadWaiting, ThreadEnded, UnknownThread, RecursionLimit}
-use Rattle.nt_objects.specs.Object.{has_ended}
+use Rattle.nt_objects.specs.Object.{has_ended, is_gone}
 use Rattle.nt_core.specs.declared.call.WaitCall.{WaitCall}
 use Rattle.nt_core.specs.Calls.{timeout_of}
 use Rattle.nt_core.specs.State.{pends}
@@ -158,8 +159,8 @@ quiet_alarms zero h = refl
 quiet_alarms (suc n) zero = refl
 quiet_alarms (suc n) (suc h) = quiet_alarms n h
 
-pub opening_steady : (d : Dispatcher) → d.threads ≤ 256 → d.handles ≡ own_handles d.threads (full_access (Thread false)) → d.objects ≡ replicate d.threads (Thread false) → d.table.pending ≡ fin.empty → Agrees d.table.pending d.table.queues → length d.handing ≡ d.threads → length d.apcs.queues ≡ d.threads → d.grants ≡ [] → d.alarms ≡ replicate d.threads None → IsSteady d
-opening_steady d few handles objects waits agrees hands inboxes grants alarms = record {
+pub opening_steady : (d : Dispatcher) → d.threads ≤ 256 → d.handles ≡ own_handles d.threads (full_access (Thread false)) → d.objects ≡ replicate d.threads (Thread false) → d.table.pending ≡ fin.empty → Agrees d.table.pending d.table.queues → length d.handing ≡ d.threads → length d.apcs.queues ≡ d.threads → d.grants ≡ [] → d.alarms ≡ replicate d.threads None → d.leaving ≡ replicate d.threads None → IsSteady d
+opening_steady d few handles objects waits agrees hands inboxes grants alarms leaving = record {
   sound = record {
     few = few;
     waits = λ t w pends. nobody t w pends;
@@ -167,7 +168,7 @@ opening_steady d few handles objects waits agrees hands inboxes grants alarms = 
     hands = hands;
     inboxes = inboxes;
     objects = λ h. subst IsLawfulObject (sym (running h)) tt;
-    own = λ t below. (let len : length d.objects ≡ d.threads = ap (λ os. length os) objects ∙ length-replicate d.threads (Thread false) in omega (arith, len, below), ap is_thread (running t));
+    own = λ t below. (let len : length d.objects ≡ d.threads = ap (λ os. length os) objects ∙ length-replicate d.threads (Thread false) in omega (arith, len, below), inl (ap is_thread (running t)));
     none_else = λ h beyond known. let len : length d.objects ≡ d.threads = ap (λ os. length os) objects ∙ length-replicate d.threads (Thread false) in absurd (omega (arith, len, beyond, known));
     timers = record {
       count = ap (λ clocks. length clocks) alarms ∙ (length-replicate d.threads None ∙ sym (ap (λ os. length os) objects ∙ length-replicate d.threads (Thread false)));
@@ -176,6 +177,7 @@ opening_steady d few handles objects waits agrees hands inboxes grants alarms = 
       runs = λ h t is. nobody_set t (sym (ap setter_of (running h)) ∙ is);
     };
     handles = subst (λ (hs : List (Option Opened)). HandlesAgree (length d.objects) hs) (sym handles) (handles_along (own_handles d.threads (full_access (Thread false))) (ap (λ os. length os) objects ∙ length-replicate d.threads (Thread false)) (own_agree d.threads (full_access (Thread false)) few));
+    marks = marks_opening d objects leaving running;
     room = let none : length d.grants ≡ 0 = ap (λ gs. length gs) grants in let empty : fin.len d.table.pending ≡ 0 = ap (λ m. fin.len m) waits ∙ fin.len-empty nat_cmp Wait in omega (arith, none, empty);
   };
   settled = record {
@@ -221,6 +223,7 @@ told_anew d table steady is = subst (λ (v : Waits). IsFresh (record d { table =
       none_else = steady.sound.none_else;
       timers = steady.sound.timers;
       handles = steady.sound.handles;
+      marks = marks_along refl refl refl (λ o. refl) refl steady.sound.marks;
       room = let room = steady.sound.room in omega (arith, room);
     };
     settled = steady.settled;
@@ -299,8 +302,8 @@ all_unless_any p [] e j below = absurd (omega (arith, below))
 all_unless_any p (x ∷ xs) e zero below = (or_false (p x) (list_any p xs) e).0
 all_unless_any p (x ∷ xs) e (suc j) below = all_unless_any p xs (or_false (p x) (list_any p xs) e).1 j (omega (arith, below))
 
-pub sound_objects : (s : State) (t : ℕ) (handles : List ℕ) (all alertable : Bool) (ms : ℕ) → refusal s t false (Call.Wait (WaitCall.Objects all alertable ms handles)) ≡ None → IsSoundWait s.threads s.objects t (wait_for handles all)
-sound_objects s t handles all alertable ms none =
+pub sound_objects : (s : State) (t : ℕ) (handles : List ℕ) (all alertable : Bool) (ms : ℕ) → ((h : ℕ) → IsMember handles h → h < length s.objects → is_gone (object_at s.objects h) ≡ false) → refusal s t false (Call.Wait (WaitCall.Objects all alertable ms handles)) ≡ None → IsSoundWait s.threads s.objects t (wait_for handles all)
+sound_objects s t handles all alertable ms alive none =
     let caller = free_caller s t (Call.Wait (WaitCall.Objects all alertable ms handles)) none in
     let own = own_causes s t (Call.Wait (WaitCall.Objects all alertable ms handles)) none in
     let first = next_causes (length handles == 0 || nat_lt 64 (length handles)) InvalidParameter ((list_any (is_unknown s.objects) handles, InvalidHandle) ∷ (has_twice handles, InvalidParameter) ∷ (list_any (is_at_limit s.objects t) handles, RecursionLimit) ∷ []) own in
@@ -308,14 +311,15 @@ sound_objects s t handles all alertable ms none =
     let third = next_causes (has_twice handles) InvalidParameter ((list_any (is_at_limit s.objects t) handles, RecursionLimit) ∷ []) second.1 in
     let fourth = next_causes (list_any (is_at_limit s.objects t) handles) RecursionLimit [] third.1 in
     let few = (or_false (length handles == 0) (nat_lt 64 (length handles)) first.0).1 in
+    let known : (h : ℕ) → Names (wait_for handles all) h → h < length s.objects = λ h names. let known = all_unless_any (is_unknown s.objects) handles second.0 names.0 names.1 in subst (λ (k : ℕ). k < length s.objects) names.2 (grind (arith, nat_tests, known)) in
     record {
       known = caller.0;
       runs = caller.1;
       few = grind (arith, nat_tests, few);
       apart = distinct_handles handles third.0;
+      living = λ h names. alive h (named_member handles (wait_for handles all) h refl names) (known h names);
       named = λ h names. (
-        let known = all_unless_any (is_unknown s.objects) handles second.0 names.0 names.1 in
-            subst (λ (k : ℕ). k < length s.objects) names.2 (grind (arith, nat_tests, known)),
+        known h names,
         subst (λ (k : ℕ). is_at_limit s.objects t k ≡ false) names.2 (all_unless_any (is_at_limit s.objects t) handles fourth.0 names.0 names.1),
       );
     }
@@ -328,4 +332,5 @@ sound_sleep s t known runs = record {
   few = omega arith;
   apart = tt;
   named = λ h names. absurd (omega (arith, names.1));
+  living = λ h names. absurd (omega (arith, names.1));
 }

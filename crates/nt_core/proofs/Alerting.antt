@@ -22,8 +22,9 @@ use Rattle.nt_core.specs.State.{State, pends, wait_over, waits_over, object_at}
 use Rattle.nt_core.specs.Dispatcher.{Dispatcher, state}
 use Rattle.nt_core.specs.Serving.{satisfied, IsServed, IsAlerted, Alert, ending}
 use Rattle.nt_core.specs.Steps.{NothingDue, IsAwaited}
-use Rattle.nt_core.specs.Lawful.{IsSound, IsSettled, IsSteady}
+use Rattle.nt_core.specs.Lawful.{IsSound, IsSettled, IsSteady, MarksAgreeBut}
 use Rattle.nt_core.specs.Accepts.{is_by_objects, IsRoused, IsAlertedAfter, IsFresh, Accepts}
+use Rattle.nt_core.proofs.Marking.{marks_along, marks_ended}
 use Rattle.nt_core.proofs.Walks.{get_removed}
 use Rattle.nt_core.proofs.Visiting.{state_same, len_removed}
 use Rattle.nt_core.proofs.Changing.{none_changed, same_changed}
@@ -35,8 +36,8 @@ use Rattle.std.specs.Prelude.{if◌then◌else◌}
 
 -- ---- one wait ends
 
-pub ended_sound : (old : Dispatcher) (table : Waits) (t code : ℕ) (may : Bool) (w : Wait) (grants : List Grant) → IsSound old → Some w ≡ fin.get old.table.pending t → table.pending ≡ fin.remove old.table.pending t → Agrees table.pending table.queues → grants ≡ old.grants ++ ending code t ∷ [] → IsSound (record old { table = table; handing = set old.handing t may; grants = grants })
-ended_sound old table t code may w grants sound has waits agrees pushed =
+pub ended_sound : (old : Dispatcher) (table : Waits) (t code : ℕ) (may : Bool) (w : Wait) (grants : List Grant) (leaving : List (Option ℕ)) → IsSound old → Some w ≡ fin.get old.table.pending t → table.pending ≡ fin.remove old.table.pending t → Agrees table.pending table.queues → grants ≡ old.grants ++ ending code t ∷ [] → MarksAgreeBut [] (record old { table = table; handing = set old.handing t may; grants = grants; leaving = leaving }) → IsSound (record old { table = table; handing = set old.handing t may; grants = grants; leaving = leaving })
+ended_sound old table t code may w grants leaving sound has waits agrees pushed marks =
     let longer : length grants ≡ length old.grants + 1 = ap (λ gs. length gs) pushed ∙ length-append old.grants (ending code t ∷ []) in
     let fewer = len_removed old.table.pending t w (sym has) in
     let same : fin.len table.pending ≡ fin.len (fin.remove old.table.pending t) = ap (λ m. fin.len m) waits in
@@ -51,8 +52,14 @@ ended_sound old table t code may w grants sound has waits agrees pushed =
       none_else = sound.none_else;
       timers = sound.timers;
       handles = sound.handles;
+      marks = marks;
       room = omega (arith, sound.room, longer, fewer, same);
     }
+
+-- what it named may lack its mark
+pub ended_unmarked : (old : Dispatcher) (table : Waits) (t : ℕ) (may : Bool) (w : Wait) (grants : List Grant) → IsSound old → Some w ≡ fin.get old.table.pending t → ((h : ℕ) → queue_of table h ≡ others t (queue_of old.table h)) → MarksAgreeBut w.handles (record old { table = table; handing = set old.handing t may; grants = grants })
+ended_unmarked old table t may w grants sound has queues =
+    marks_ended old (record old { table = table; handing = set old.handing t may; grants = grants }) t w sound (sym has) refl refl refl queues refl (λ o. refl) (λ o. refl)
 
 pub ended_over : (old : Dispatcher) (table : Waits) (t : ℕ) (may : Bool) (grants : List Grant) → table.pending ≡ fin.remove old.table.pending t → ((h : ℕ) → queue_of table h ≡ others t (queue_of old.table h)) → state (record old { table = table; handing = set old.handing t may; grants = grants }) ≡ wait_over (state old) t may
 ended_over old table t may grants waits queues =
@@ -213,6 +220,7 @@ posted_sound d t q sound = record {
   none_else = sound.none_else;
   timers = sound.timers;
   handles = sound.handles;
+  marks = marks_along refl refl refl (λ o. refl) refl sound.marks;
   room = sound.room;
 }
 
@@ -270,6 +278,7 @@ taken_steady d t steady idle = record {
     none_else = steady.sound.none_else;
     timers = steady.sound.timers;
     handles = steady.sound.handles;
+    marks = marks_along refl refl refl (λ o. refl) refl steady.sound.marks;
     room = steady.sound.room;
   };
   settled = record {

@@ -353,3 +353,18 @@ set_local old d1 mid h v armed fresh is now arms rings =
     let parts = timer_parts (object_at old.objects h) is in
     subst (λ (s : State). FitOnlyIn (sequence s (h ∷ [])) s) (sym (rung_after old d1 mid h v parts.0 parts.1 parts.2 armed parts.3 now arms rings))
     (set_fit old h (Timer parts.0 true (rearmed old.now armed)) (notified (withdrawn old.apcs.queues h) h armed.due armed.routine) fresh)
+
+set_due : (o : Object) (armed : Armed) → is_timer o ≡ true → due_of (armed_with (Some armed) (with_set false o)) ≡ Some armed.due
+set_due (Event manual was) armed is = absurd (false≢true is)
+set_due (Semaphore count maximum) armed is = absurd (false≢true is)
+set_due (Mutex owner depth abandoned) armed is = absurd (false≢true is)
+set_due (Timer manual was before) armed is = refl
+set_due (Thread ended) armed is = absurd (false≢true is)
+set_due Gone armed is = absurd (false≢true is)
+
+-- a timer that was armed anew is due when it was asked to be
+pub anew_due : (old d1 : Dispatcher) (h : ℕ) (armed : Armed) → is_timer (object_at old.objects h) ≡ true → state d1 ≡ armed_anew (state old) h armed → due_of (object_at d1.objects h) ≡ Some armed.due
+anew_due old d1 h armed is arms =
+    ap (λ (s : State). due_of (object_at s.objects h)) arms
+    ∙ (ap due_of (object_at-set_same old.objects h (armed_with (Some armed) (with_set false (object_at old.objects h))) (known_timer old.objects h is))
+    ∙ set_due (object_at old.objects h) armed is)

@@ -1,6 +1,6 @@
 -- A wait that begins.
-use Rattle.std.proofs.Common.{◌≡◌, ◌≢◌, ℕ, zero, suc, ◌+◌, ◌≤◌, ◌<◌, ◌-◌, Bool, true, false, ◌&&◌, ◌||◌, List, [], ◌∷◌, ◌++◌, length, set, refl, sym, ap, ◌∙◌, subst, arith, Option, Some, None, is_some, inl, inr, ◌⊎◌, T, map, ◌==◌}
-use Rattle.std.specs.Prelude.{slice_index, if◌then◌else◌}
+use Rattle.std.proofs.Common.{◌≡◌, ◌≢◌, ℕ, zero, suc, ◌+◌, ◌≤◌, ◌<◌, ◌-◌, Bool, true, false, ◌&&◌, ◌||◌, List, [], ◌∷◌, ◌++◌, length, length-append, set, refl, sym, ap, ◌∙◌, subst, arith, Option, Some, None, is_some, inl, inr, ◌⊎◌, T, map, ◌==◌}
+use Rattle.std.specs.Prelude.{nat_lt, slice_index, if◌then◌else◌}
 use Rattle.std.specs.List.{list_any}
 use Rattle.std.specs.Ordering.{nat_cmp, eq_by_cmp, is_lt, MatchOrdering}
 use Rattle.std.specs.declared.cmp.Ordering.{Ordering}
@@ -27,7 +27,8 @@ use Rattle.nt_core.specs.Steps.{begun, IsAwaited}
 use Rattle.nt_core.specs.Lawful.{IsSettled, IsSteady}
 use Rattle.nt_core.proofs.Handling.{handles_along}
 use Rattle.nt_core.proofs.Taking.{unready_after}
-use Rattle.nt_core.proofs.Keeping.{TakesWell, objects_taken_well, taken_timers}
+use Rattle.nt_core.proofs.Keeping.{TakesWell, objects_taken_well, taken_timers, own_kept}
+use Rattle.nt_core.proofs.Marking.{marks_along, marks_same, marks_begun}
 use Rattle.nt_core.proofs.Changing.{served_fewer, due_kept}
 use Rattle.nt_core.proofs.Accepting.{due_taken_by}
 use Rattle.nt_core.proofs.Visiting.{state_same, can_take}
@@ -51,7 +52,7 @@ len_inserted m t w e =
 
 -- ---- which handles a wait names
 
-names_yes : (hs : List ℕ) (h : ℕ) → list_any (λ named. named == h) hs ≡ true → (j : ℕ) × (j < length hs) × (slice_index hs j ≡ h)
+pub names_yes : (hs : List ℕ) (h : ℕ) → list_any (λ named. named == h) hs ≡ true → (j : ℕ) × (j < length hs) × (slice_index hs j ≡ h)
 names_yes [] h e = let f : false ≡ true = e in absurd (false≢true f)
 names_yes (x ∷ hs) h e = go (names_yes hs h) (x == h) refl
   where
@@ -62,7 +63,7 @@ names_yes (x ∷ hs) h e = go (names_yes hs h) (x == h) refl
     go rest true is = (zero, omega arith, eqb-true x h is)
     go rest false is = let found : list_any (λ named. named == h) hs ≡ true = rw is at e in later (rest found)
 
-names_no : (hs : List ℕ) (h : ℕ) → list_any (λ named. named == h) hs ≡ false → (j : ℕ) → j < length hs → slice_index hs j ≡ h → ⊥
+pub names_no : (hs : List ℕ) (h : ℕ) → list_any (λ named. named == h) hs ≡ false → (j : ℕ) → j < length hs → slice_index hs j ≡ h → ⊥
 names_no [] h e j below is = absurd (omega (arith, below))
 names_no (x ∷ hs) h e zero below is = false≢true (sym e ∙ rw (eq-eqb x h is) refl)
 names_no (x ∷ hs) h e (suc j) below is = names_no hs h (second (x == h) (list_any (λ named. named == h) hs) e) j (omega (arith, below)) is
@@ -81,8 +82,18 @@ pends_too old table t w pending joined kept =
     queue h true is = rw is (joined h (names_yes w.handles h is))
     queue h false is = rw is (kept h (λ named. names_no w.handles h is named.0 named.1 named.2))
 
-pub sound_begun : (old : Dispatcher) (table : Waits) (t : ℕ) (w : Wait) → IsSound old → IsSoundWait old.threads old.objects t w → fin.get old.table.pending t ≡ None → length old.grants + fin.len old.table.pending < old.threads → table.pending ≡ fin.insert old.table.pending t w → Agrees table.pending table.queues → IsSound (record old { table = table })
-sound_begun old table t w sound able idle room pending agrees = record {
+-- no queue is shorter then
+pub queues_longer : (old table : Waits) (t : ℕ) (w : Wait) → ((h : ℕ) → Names w h → queue_of table h ≡ queue_of old h ++ t ∷ []) → ((h : ℕ) → (Names w h → ⊥) → queue_of table h ≡ queue_of old h) → (h : ℕ) → nat_lt 0 (length (queue_of old h)) ≡ true → nat_lt 0 (length (queue_of table h)) ≡ true
+queues_longer old table t w joined kept h some = go (names w h) refl
+  where
+    go : (b : Bool) → names w h ≡ b → nat_lt 0 (length (queue_of table h)) ≡ true
+    go true is =
+        let longer : length (queue_of table h) ≡ length (queue_of old h) + 1 = ap (λ q. length q) (joined h (names_yes w.handles h is)) ∙ length-append (queue_of old h) (t ∷ []) in
+        grind (arith, nat_tests, longer)
+    go false is = ap (λ q. nat_lt 0 (length q)) (kept h (λ named. names_no w.handles h is named.0 named.1 named.2)) ∙ some
+
+pub sound_begun : (old : Dispatcher) (table : Waits) (t : ℕ) (w : Wait) → IsSound old → IsSoundWait old.threads old.objects t w → fin.get old.table.pending t ≡ None → length old.grants + fin.len old.table.pending < old.threads → table.pending ≡ fin.insert old.table.pending t w → Agrees table.pending table.queues → ((h : ℕ) → nat_lt 0 (length (queue_of old.table h)) ≡ true → nat_lt 0 (length (queue_of table h)) ≡ true) → IsSound (record old { table = table })
+sound_begun old table t w sound able idle room pending agrees more = record {
   few = sound.few;
   waits = λ u v pends. go u v (get_inserted old.table.pending t u w v (ap (λ m. fin.get m u) (sym pending) ∙ pends));
   blocks = agrees;
@@ -93,6 +104,7 @@ sound_begun old table t w sound able idle room pending agrees = record {
   none_else = sound.none_else;
   timers = sound.timers;
   handles = sound.handles;
+  marks = marks_begun old table more sound.marks;
   room = let more = len_inserted old.table.pending t w idle in let same : fin.len table.pending ≡ fin.len (fin.insert old.table.pending t w) = ap (λ m. fin.len m) pending in omega (arith, room, more, same);
 }
   where
@@ -220,15 +232,17 @@ began_taken old objects owned t code w steady able idle tried =
               few = other.few;
               apart = other.apart;
               named = λ h names. (subst (λ (n : ℕ). h < n) (sym well.length) (other.named h names).0, well.unlimited u differs h (other.named h names).1);
+              living = λ h names. well.gone h ∙ other.living h names;
             };
         blocks = sound.blocks;
         hands = length-set old.handing t false ∙ sound.hands;
         inboxes = sound.inboxes;
         objects = well.lawful sound.objects;
-        own = λ u below. (subst (λ (n : ℕ). u < n) (sym well.length) (sound.own u below).0, well.threads u ∙ (sound.own u below).1);
+        own = λ u below. (subst (λ (n : ℕ). u < n) (sym well.length) (sound.own u below).0, own_kept _ _ (well.threads u) (well.gone u) (sound.own u below).1);
         none_else = λ h beyond known. well.threads h ∙ sound.none_else h beyond (subst (λ (n : ℕ). h < n) well.length known);
         timers = taken_timers old.threads old.objects objects old.alarms old.apcs.places t sound.timers well;
         handles = handles_along old.handles well.length sound.handles;
+        marks = marks_same old new refl refl refl (λ h. refl) well.length well.gone well.ended sound.marks;
         room = sound.room;
       };
       settled = record {
@@ -252,6 +266,7 @@ handed_steady old t may steady = record {
     none_else = steady.sound.none_else;
     timers = steady.sound.timers;
     handles = steady.sound.handles;
+    marks = marks_along refl refl refl (λ o. refl) refl steady.sound.marks;
     room = steady.sound.room;
   };
   settled = record {

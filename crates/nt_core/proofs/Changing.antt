@@ -8,7 +8,7 @@ use Rattle.nt_waits.specs.declared.wait.Wait.{Wait}
 use Rattle.nt_waits.specs.Waits.{IsMember}
 use Rattle.nt_objects.specs.declared.object.Object.{Object}
 use Rattle.nt_objects.specs.declared.object.Object.TheVariants.{Event, Semaphore, Mutex, Timer, Thread, Gone}
-use Rattle.nt_objects.specs.Object.{signaled, is_event, is_thread, has_ended, has_room, owned_by, due_of, setter_of, IsLawfulObject}
+use Rattle.nt_objects.specs.Object.{signaled, is_event, is_thread, is_gone, has_ended, has_room, owned_by, due_of, setter_of, IsLawfulObject}
 use Rattle.nt_core.specs.Rising.{AreRising}
 use Rattle.nt_core.specs.State.{State, object_at}
 use Rattle.nt_core.specs.Dispatcher.{Dispatcher, state, with_created}
@@ -20,7 +20,8 @@ use Rattle.nt_core.specs.Lawful.{IsSound, MayReplace}
 use Rattle.nt_core.proofs.Taking.{fits_kept}
 use Rattle.nt_core.proofs.Handling.{handles_along, handles_created}
 use Rattle.nt_objects.specs.Handles.{full_access}
-use Rattle.nt_core.proofs.Keeping.{timers_kept}
+use Rattle.nt_core.proofs.Keeping.{timers_kept, own_kept}
+use Rattle.nt_core.proofs.Marking.{marks_same, marks_created}
 use Rattle.nt_alarms.specs.Alarms.{alarm_at}
 use Rattle.std.proofs.lemmas.Bool.Decides.{nat_tests}
 
@@ -201,15 +202,17 @@ sound_replaced d h o owned sound may = record {
         few = own.few;
         apart = own.apart;
         named = λ k names. (subst (λ (n : ℕ). k < n) (sym (length-set d.objects h o)) (own.named k names).0, limit_set d.objects h o t (may.unlimited t) k (own.named k names).1);
+        living = λ k names. reading_set is_gone d.objects h o may.gone k ∙ own.living k names;
       };
   blocks = sound.blocks;
   hands = sound.hands;
   inboxes = sound.inboxes;
   objects = property_set IsLawfulObject d.objects h o may.lawful sound.objects;
-  own = λ t below. (subst (λ (n : ℕ). t < n) (sym (length-set d.objects h o)) (sound.own t below).0, reading_set is_thread d.objects h o may.thread t ∙ (sound.own t below).1);
+  own = λ t below. (subst (λ (n : ℕ). t < n) (sym (length-set d.objects h o)) (sound.own t below).0, own_kept _ _ (reading_set is_thread d.objects h o may.thread t) (reading_set is_gone d.objects h o may.gone t) (sound.own t below).1);
   none_else = λ k beyond known. reading_set is_thread d.objects h o may.thread k ∙ sound.none_else k beyond (subst (λ (n : ℕ). k < n) (length-set d.objects h o) known);
   timers = timers_kept d.threads d.objects (set d.objects h o) d.alarms d.apcs.places sound.timers (length-set d.objects h o) (reading_set due_of d.objects h o may.due) (reading_set setter_of d.objects h o may.setter) (reading_set has_ended d.objects h o may.ended);
   handles = handles_along d.handles (length-set d.objects h o) sound.handles;
+  marks = marks_same d (record d { objects = set d.objects h o; owned = owned }) refl refl refl (λ k. refl) (length-set d.objects h o) (reading_set is_gone d.objects h o may.gone) (reading_set has_ended d.objects h o may.ended) sound.marks;
   room = sound.room;
 }
 
@@ -236,8 +239,8 @@ unset_undue (Thread ended) due = refl
 unset_undue Gone due = refl
 
 -- one object more leaves all readings of objects that were there
-pub sound_created : (d : Dispatcher) (o : Object) (owned : List (List ℕ)) → IsSound d → is_full d.handles ≡ false → IsLawfulObject o → is_thread o ≡ false → due_of o ≡ None → IsSound (with_created d o owned)
-sound_created d o owned sound room lawful no_thread due = record {
+pub sound_created : (d : Dispatcher) (o : Object) (owned : List (List ℕ)) → IsSound d → is_full d.handles ≡ false → IsLawfulObject o → is_thread o ≡ false → is_gone o ≡ false → due_of o ≡ None → IsSound (with_created d o owned)
+sound_created d o owned sound room lawful no_thread alive due = record {
   few = sound.few;
   waits = λ t w pends.
       let own = sound.waits t w pends in
@@ -252,6 +255,7 @@ sound_created d o owned sound room lawful no_thread due = record {
               let longer = length-append d.objects (o ∷ []) in omega (arith, longer, before.0),
               ap (λ x. owned_by x t && not (has_room x)) (object_at-append d.objects (o ∷ []) k before.0) ∙ before.1,
             );
+        living = λ k names. ap is_gone (object_at-append d.objects (o ∷ []) k (own.named k names).0) ∙ own.living k names;
       };
   blocks = sound.blocks;
   hands = sound.hands;
@@ -267,10 +271,11 @@ sound_created d o owned sound room lawful no_thread due = record {
         (own.0, ap has_ended (object_at-append d.objects (o ∷ []) t (sound.own t own.0).0) ∙ own.1);
   };
   handles = handles_created (length (d.objects ++ o ∷ [])) d.handles (length d.objects) (full_access o) (grind (arith, nat_tests, room)) sound.handles (length-append d.objects (o ∷ []));
+  marks = marks_created d o owned sound.handles alive sound.marks;
   own = λ t below.
       let before = sound.own t below in (
         let longer = length-append d.objects (o ∷ []) in omega (arith, longer, before.0),
-        ap is_thread (object_at-append d.objects (o ∷ []) t before.0) ∙ before.1,
+        subst (λ (x : Object). (is_thread x ≡ true) ⊎ (is_gone x ≡ true)) (sym (object_at-append d.objects (o ∷ []) t before.0)) before.1,
       );
   room = sound.room;
 }

@@ -20,7 +20,8 @@ use Rattle.nt_core.specs.Dispatcher.{Dispatcher, state}
 use Rattle.nt_core.specs.Due.{is_up_to, due_weight, total_weight}
 use Rattle.nt_core.specs.Serving.{satisfied, sequence, IsServed, IsAlerted, ending, late_status, sleeps}
 use Rattle.nt_core.specs.Change.{all_expired}
-use Rattle.nt_core.specs.Steps.{IsAwaited, IsNextMoment, NothingDue, MomentPasses, Ticked}
+use Rattle.nt_core.specs.Steps.{IsAwaited, IsNextMoment, NothingDue, MomentPasses, MomentsPass, Ticked}
+use Rattle.nt_core.specs.Living.{Ends}
 use Rattle.nt_core.specs.Lawful.{IsSound, IsSteady}
 use Rattle.nt_core.specs.Accepts.{IsFresh, IsPassedAfter, IsDueBy, is_by_objects, ended_by_objects, IsTickLocal}
 use Rattle.nt_core.proofs.Accepting.{IsCalm}
@@ -28,6 +29,7 @@ use Rattle.nt_core.proofs.Alerting.{over_pending, over_objects, over_apcs}
 use Rattle.nt_core.proofs.Replacing.{queue_few}
 use Rattle.nt_core.proofs.Lengths.{length_passed}
 use Rattle.nt_core.proofs.Ticking.{Passed, Passed-then, Passed-end}
+use Rattle.nt_core.proofs.Marking.{marks_along}
 use Rattle.nt_core.proofs.Moments.{Grants_pending, Grants_len, over_len, Grants_queues, over_queues, queues_expired, waits_expired, due_weight_less, due_weight_bound, sequence_weight}
 
 -- how many wait blocks stand in the queue of a handle
@@ -292,9 +294,8 @@ all_due s m = record {
 }
 
 -- nothing up to m is due any more
-pub tick_end : (old now : Dispatcher) (m : ℕ) → old.now ≤ m → TickSoFar old now m → NothingDue (state now) m → Ticked (state old) m (Ok Reply.Done) now.grants (state (record now { now = m })) × IsSteady (record now { now = m }) × IsTickLocal (state old) m now.table.looked now.grants
-tick_end old now m forward far none = (
-  (forward, refl, (far.moments, Passed-end far.moments (state old) (state now) m now.grants far.passed none)),
+pub tick_end : (old now : Dispatcher) (m : ℕ) → TickSoFar old now m → NothingDue (state now) m → IsSteady (record now { now = m }) × IsTickLocal (state old) m now.table.looked now.grants
+tick_end old now m far none = (
   record {
     sound = record {
       few = far.sound.few;
@@ -307,6 +308,7 @@ tick_end old now m forward far none = (
       none_else = far.sound.none_else;
       timers = far.sound.timers;
       handles = far.sound.handles;
+      marks = marks_along refl refl refl (λ o. refl) refl far.sound.marks;
       room = far.sound.room;
     };
     settled = record { served = far.served; alerted = far.calm; passed = none };
@@ -318,3 +320,10 @@ tick_end old now m forward far none = (
     least = far.least;
   },
 )
+
+-- and then the objects end that nothing keeps any more
+pub tick_ended : (old now new : Dispatcher) (m : ℕ) → old.now ≤ m → TickSoFar old now m → NothingDue (state now) m → Ends (state (record now { now = m })) (state new) → new.grants ≡ now.grants → Ticked (state old) m (Ok Reply.Done) new.grants (state new)
+tick_ended old now new m forward far none ends same =
+    let left : State = state (record now { now = m }) in
+    let passed = Passed-end far.moments (state old) (state now) m now.grants far.passed none in
+    (forward, refl, (far.moments, left, subst (λ (gs : List Grant). MomentsPass (state old) m far.moments gs left) (sym same) passed, ends))

@@ -15,11 +15,13 @@ use Rattle.nt_core.specs.declared.call.WaitCall.{WaitCall}
 use Rattle.nt_core.specs.declared.call.Grant.{Grant}
 use Rattle.nt_core.specs.declared.call.Reply.{Reply}
 use Rattle.nt_core.specs.Calls.{timeout_of}
+use Rattle.nt_core.specs.Naming.{call_named}
 use Rattle.nt_core.specs.Rising.{IsRising}
 use Rattle.nt_core.specs.State.{State, Pending, wait_over, waits_over}
 use Rattle.nt_core.specs.Serving.{fits, granted, Grants, Alert, TimeOut}
 use Rattle.nt_core.specs.Change.{change, may_take, expired, expired_as, all_expired}
-use Rattle.nt_core.specs.Steps.{Made, Step, Ticked, MomentPasses, MomentsPass, after_serving, answered, begun, wait_of}
+use Rattle.nt_core.specs.Steps.{Called, Step, Ticked, MomentPasses, MomentsPass, after_serving, answered, begun, wait_of}
+use Rattle.nt_core.proofs.Remaining.{ends_waits}
 
 len_removed : (m : Pending) (t : ℕ) (w : Wait) → map.get m t ≡ Some w → map.len (map.remove m t) + 1 ≡ map.len m
 len_removed m t w e =
@@ -125,17 +127,19 @@ woken_len old who call reply grants new step =
     let both : length grants ≡ length step.served + length step.alerted = ap length step.in_order ∙ length-append step.served step.alerted in
     omega (arith, served, alerted, both, change-len old who call, after-len call step.calm)
 
-pub called_most : (old : State) (who : ℕ) (denied : Bool) (call : Call) (result : Result Reply Refusal) (grants : List Grant) (new : State) → Made old who denied call result grants new → length grants ≤ map.len old.waits
-called_most old who denied call (Err r) grants new h = let none = ap length h.1 in omega arith
-called_most old who denied call (Ok reply) grants new h = omega (arith, woken_len old who call reply grants new h.1)
+pub called_most : (old : State) (who : ℕ) (call : Call) (result : Result Reply Refusal) (grants : List Grant) (new : State) → Called old who call result grants new → length grants ≤ map.len old.waits
+called_most old who call (Err r) grants new h = let none = ap length h.1 in omega arith
+called_most old who call (Ok reply) grants new h = omega (arith, woken_len old who (call_named old.handles call) reply grants h.0 h.1.1)
 
-pub called_few : (old : State) (who : ℕ) (denied : Bool) (call : Call) (result : Result Reply Refusal) (grants : List Grant) (new : State) → Made old who denied call result grants new → length grants + map.len new.waits ≤ map.len old.waits + 1
-called_few old who denied call (Err r) grants new h =
+pub called_few : (old : State) (who : ℕ) (call : Call) (result : Result Reply Refusal) (grants : List Grant) (new : State) → Called old who call result grants new → length grants + map.len new.waits ≤ map.len old.waits + 1
+called_few old who call (Err r) grants new h =
     let none = ap length h.1 in
     let same = ap (λ (s : State). map.len s.waits) h.2 in
     omega arith
-called_few old who denied call (Ok reply) grants new h =
-    omega (arith, woken_len old who call reply grants new h.1, answered-len old (h.1).woken new who call reply (h.1).answers)
+called_few old who call (Ok reply) grants new h =
+    let named : Call = call_named old.handles call in
+    let ends = ap (λ (p : Pending). map.len p) (ends_waits h.0 new h.2) in
+    omega (arith, ends, woken_len old who named reply grants h.0 h.1.1, answered-len old (h.1.1).woken h.0 who named reply (h.1.1).answers)
 
 -- ---- a tick
 
@@ -178,4 +182,7 @@ ticked_few old m (Err r) grants new h =
     let none = ap length h.2 in
     let same = ap (λ (s : State). map.len s.waits) h.3 in
     omega arith
-ticked_few old m (Ok reply) grants new h = moments-len m h.2.0 old new grants h.2.1
+ticked_few old m (Ok reply) grants new h =
+    let ends = ap (λ (p : Pending). map.len p) (ends_waits h.2.1 new h.2.3) in
+    let passed = moments-len m h.2.0 old h.2.1 grants h.2.2 in
+    omega (arith, ends, passed)

@@ -11,7 +11,7 @@ use Rattle.nt_waits.specs.declared.wait.Wait.{Wait}
 use Rattle.nt_waits.specs.Waits.{IsMember, AreOnce}
 use Rattle.nt_objects.specs.declared.object.Object.{Object}
 use Rattle.nt_objects.specs.declared.object.Object.TheVariants.{Event, Semaphore, Mutex, Timer, Thread, Gone}
-use Rattle.nt_objects.specs.Object.{is_timer, is_thread, has_ended, owned_by, due_of, setter_of, abandoned_by, unset_by, IsLawfulObject}
+use Rattle.nt_objects.specs.Object.{is_timer, is_thread, is_gone, has_ended, owned_by, due_of, setter_of, abandoned_by, unset_by, IsLawfulObject}
 use Rattle.nt_apc.specs.Queues.{Apcs, place_of, given_up, cleared}
 use Rattle.nt_apc.specs.declared.apc.Queued.{Queued}
 use Rattle.nt_core.specs.State.{State, object_at}
@@ -25,6 +25,9 @@ use Rattle.nt_core.specs.Accepts.{IsFresh, IsStoppedAfter, IsExitedAfter, Accept
 use Rattle.nt_core.specs.declared.call.Call.{Call}
 use Rattle.nt_core.specs.declared.call.Reply.{Reply}
 use Rattle.nt_core.proofs.Handling.{handles_along}
+use Rattle.nt_core.proofs.Keeping.{own_kept}
+use Rattle.nt_core.proofs.Lives.{not_gone}
+use Rattle.nt_core.proofs.Marking.{marks_ending}
 use Rattle.nt_core.proofs.Changing.{ChangedOnlyAt, object_at-set_other, reading_set, property_set, limit_set, fit_only_in}
 use Rattle.nt_core.proofs.Accepting.{accepted, settled_after}
 use Rattle.nt_core.proofs.Replacing.{once_few, queue_few, known_mutex}
@@ -35,6 +38,10 @@ use Rattle.nt_core.proofs.Leaving.{setter_timer}
 use Rattle.nt_core.proofs.Exiting.{mapped_at, mapped_twice, stopped_objects, unset_all, abandoned_setter, freed_mutex, IsAltered, objects_left, altered_or_same, altered_changed, runs_before, due_exited, calm_exited}
 
 -- ---- the thread's own object, and its APCs
+
+running_thread : (o : Object) → has_ended o ≡ false → (is_thread o ≡ true) ⊎ (is_gone o ≡ true) → is_thread o ≡ true
+running_thread o runs (inl is) = is
+running_thread o runs (inr gone) = absurd (false≢true (sym (not_gone o runs) ∙ gone))
 
 thread_undue : (o : Object) → is_thread o ≡ true → due_of o ≡ None
 thread_undue (Event manual was) is = refl
@@ -52,8 +59,8 @@ thread_unset (Timer manual was armed) is = absurd (false≢true is)
 thread_unset (Thread ended) is = refl
 thread_unset Gone is = refl
 
-pub ended_sound : (d : Dispatcher) (t : ℕ) (apcs : Apcs) → IsSound d → fin.get d.table.pending t ≡ None → t < d.threads → ((h : ℕ) → setter_of (object_at d.objects h) ≢ Some t) → length apcs.queues ≡ length d.apcs.queues → ((m : ℕ) → place_of apcs.places m ≡ given_up t (place_of d.apcs.places m)) → IsSound (record d { objects = set d.objects t (Thread true); apcs = apcs })
-ended_sound d t apcs sound idle known unset len places = record {
+pub ended_sound : (d : Dispatcher) (t : ℕ) (apcs : Apcs) → IsSound d → fin.get d.table.pending t ≡ None → t < d.threads → has_ended (object_at d.objects t) ≡ false → ((h : ℕ) → setter_of (object_at d.objects h) ≢ Some t) → length apcs.queues ≡ length d.apcs.queues → ((m : ℕ) → place_of apcs.places m ≡ given_up t (place_of d.apcs.places m)) → IsSound (record d { objects = set d.objects t (Thread true); apcs = apcs; leaving = set d.leaving t (Some 0) })
+ended_sound d t apcs sound idle known running unset len places = record {
   few = sound.few;
   waits = λ u w pends.
       let own = sound.waits u w pends in
@@ -63,16 +70,17 @@ ended_sound d t apcs sound idle known unset len places = record {
         few = own.few;
         apart = own.apart;
         named = λ k names. (subst (λ (n : ℕ). k < n) (sym count) (own.named k names).0, limit_set d.objects t (Thread true) u (λ below. refl) k (own.named k names).1);
+        living = λ k names. gone k ∙ own.living k names;
       };
   blocks = sound.blocks;
   hands = sound.hands;
   inboxes = len ∙ sound.inboxes;
   objects = property_set IsLawfulObject d.objects t (Thread true) tt sound.objects;
-  own = λ u below. (subst (λ (n : ℕ). u < n) (sym count) (sound.own u below).0, threads u ∙ (sound.own u below).1);
+  own = λ u below. (subst (λ (n : ℕ). u < n) (sym count) (sound.own u below).0, own_kept _ _ (threads u) (gone u) (sound.own u below).1);
   none_else = λ k beyond there. threads k ∙ sound.none_else k beyond (subst (λ (n : ℕ). k < n) count there);
   timers = record {
     count = sound.timers.count ∙ sym count;
-    alarm = λ h. sound.timers.alarm h ∙ sym (reading_set due_of d.objects t (Thread true) (sym (thread_undue (object_at d.objects t) (sound.own t known).1)) h);
+    alarm = λ h. sound.timers.alarm h ∙ sym (reading_set due_of d.objects t (Thread true) (sym (thread_undue (object_at d.objects t) own_thread)) h);
     placed = λ h u sets.
         let before = sym (setters h) ∙ sets in
         places h ∙ (ap (given_up t) (sound.timers.placed h u before) ∙ stays u (λ same. unset h (before ∙ ap Some same)));
@@ -82,9 +90,16 @@ ended_sound d t apcs sound idle known unset len places = record {
         (own.0, runs_on u (λ same. unset h (before ∙ ap Some same)) own.1);
   };
   handles = handles_along d.handles count sound.handles;
+  marks = marks_ending d t apcs (sound.own t known).0 (not_gone (object_at d.objects t) running) sound.marks;
   room = sound.room;
 }
   where
+    own_thread : is_thread (object_at d.objects t) ≡ true
+    own_thread = running_thread (object_at d.objects t) running (sound.own t known).1
+
+    gone : (k : ℕ) → is_gone (object_at (set d.objects t (Thread true)) k) ≡ is_gone (object_at d.objects k)
+    gone = reading_set is_gone d.objects t (Thread true) (sym (not_gone (object_at d.objects t) running))
+
     count : length (set d.objects t (Thread true)) ≡ length d.objects
     count = length-set d.objects t (Thread true)
 
@@ -95,19 +110,19 @@ ended_sound d t apcs sound idle known unset len places = record {
     runs_on u differs runs = ap has_ended (object_at-set_other d.objects t u (Thread true) differs) ∙ runs
 
     threads : (k : ℕ) → is_thread (object_at (set d.objects t (Thread true)) k) ≡ is_thread (object_at d.objects k)
-    threads = reading_set is_thread d.objects t (Thread true) (sym (sound.own t known).1)
+    threads = reading_set is_thread d.objects t (Thread true) (sym own_thread)
 
     setters : (k : ℕ) → setter_of (object_at (set d.objects t (Thread true)) k) ≡ setter_of (object_at d.objects k)
-    setters = reading_set setter_of d.objects t (Thread true) (sym (thread_unset (object_at d.objects t) (sound.own t known).1))
+    setters = reading_set setter_of d.objects t (Thread true) (sym (thread_unset (object_at d.objects t) own_thread))
 
     stays : (u : ℕ) → u ≢ t → given_up t (Some u) ≡ Some u
     stays u differs = ap (λ b. cond b None (Some u)) (same_no u t differs)
 
 -- the dispatcher once the thread's own object says so, and its APCs are gone
-pub own_ended : (old new : Dispatcher) (t : ℕ) (apcs : Apcs) → IsSound old → fin.get old.table.pending t ≡ None → t < old.threads → ((h : ℕ) → setter_of (object_at old.objects h) ≢ Some t) → new ≡ record old { objects = set old.objects t (Thread true); apcs = apcs } → apcs.queues ≡ cleared old.apcs.queues t → ((m : ℕ) → place_of apcs.places m ≡ given_up t (place_of old.apcs.places m)) → (state new ≡ record (state old) { objects = set old.objects t (Thread true); apcs = cleared old.apcs.queues t }) × IsSound new × (new.grants ≡ old.grants) × (new.table ≡ old.table)
-own_ended old new t apcs sound idle known unset becomes queues places = (
+pub own_ended : (old new : Dispatcher) (t : ℕ) (apcs : Apcs) → IsSound old → fin.get old.table.pending t ≡ None → t < old.threads → has_ended (object_at old.objects t) ≡ false → ((h : ℕ) → setter_of (object_at old.objects h) ≢ Some t) → new ≡ record old { objects = set old.objects t (Thread true); apcs = apcs; leaving = set old.leaving t (Some 0) } → apcs.queues ≡ cleared old.apcs.queues t → ((m : ℕ) → place_of apcs.places m ≡ given_up t (place_of old.apcs.places m)) → (state new ≡ record (state old) { objects = set old.objects t (Thread true); apcs = cleared old.apcs.queues t }) × IsSound new × (new.grants ≡ old.grants) × (new.table ≡ old.table)
+own_ended old new t apcs sound idle known running unset becomes queues places = (
   ap (λ (d : Dispatcher). state d) becomes ∙ ap (λ (qs : List (List Queued)). record (state old) { objects = set old.objects t (Thread true); apcs = qs }) queues,
-  subst (λ (d : Dispatcher). IsSound d) (sym becomes) (ended_sound old t apcs sound idle known unset (ap (λ qs. length qs) queues ∙ length-set old.apcs.queues t []) places),
+  subst (λ (d : Dispatcher). IsSound d) (sym becomes) (ended_sound old t apcs sound idle known running unset (ap (λ qs. length qs) queues ∙ length-set old.apcs.queues t []) places),
   ap (λ (d : Dispatcher). d.grants) becomes,
   ap (λ (d : Dispatcher). d.table) becomes,
 )
@@ -125,6 +140,15 @@ exited_state old mid stopped new t timers abandons all stops ends = ends ∙ ap 
         ap (λ (d : Dispatcher). state d) stops.rest
         ∙ (ap (λ (d : Dispatcher). state (record d { objects = stopped.objects; alarms = stopped.alarms })) abandons
         ∙ ap (λ (os : List Object). record (state old) { objects = os }) objects)
+
+-- its own object is as before
+pub stopped_own : (old mid stopped : Dispatcher) (t : ℕ) (timers : List ℕ) → IsSound old → t < old.threads → has_ended (object_at old.objects t) ≡ false → mid ≡ record old { objects = map (abandoned_by t) old.objects; owned = mid.owned } → ((h : ℕ) → IsMember timers h ↔ (setter_of (object_at mid.objects h) ≡ Some t)) → IsStoppedAfter mid timers stopped → object_at stopped.objects t ≡ Thread false
+stopped_own old mid stopped t timers sound known runs abandons all stops =
+    ap (λ (os : List Object). object_at os t) (stopped_objects mid stopped t timers all stops)
+    ∙ (ap (λ (d : Dispatcher). object_at (map (unset_by t) d.objects) t) abandons
+    ∙ (mapped_at (unset_by t) refl (map (abandoned_by t) old.objects) t
+    ∙ (ap (unset_by t) (mapped_at (abandoned_by t) refl old.objects t)
+    ∙ ap (λ o. unset_by t (abandoned_by t o)) (runs_before old t sound known runs))))
 
 -- once its timers are stopped the thread has armed none with a routine
 pub none_set : (mid stopped : Dispatcher) (t : ℕ) (timers : List ℕ) → ((h : ℕ) → IsMember timers h ↔ (setter_of (object_at mid.objects h) ≡ Some t)) → IsStoppedAfter mid timers stopped → (h : ℕ) → setter_of (object_at stopped.objects h) ≢ Some t

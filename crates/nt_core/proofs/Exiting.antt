@@ -7,7 +7,7 @@ use Rattle.nt_waits.specs.Waits.{IsMember}
 use Rattle.nt_objects.specs.declared.object.Object.{Object}
 use Rattle.nt_objects.specs.declared.object.Object.TheVariants.{Event, Semaphore, Mutex, Timer, Thread, Gone}
 use Rattle.nt_objects.specs.declared.object.Routine.{Routine}
-use Rattle.nt_objects.specs.Object.{is_thread, has_ended, has_room, owned_by, due_of, setter_of, armed_with, abandoned_by, unset_by, set_by, IsLawfulObject}
+use Rattle.nt_objects.specs.Object.{is_thread, is_gone, has_ended, has_room, owned_by, due_of, setter_of, armed_with, abandoned_by, unset_by, set_by, IsLawfulObject}
 use Rattle.nt_apc.specs.Queues.{has_apc, cleared}
 use Rattle.nt_apc.specs.declared.apc.Queued.{Queued}
 use Rattle.nt_core.specs.State.{State, object_at}
@@ -20,7 +20,9 @@ use Rattle.nt_core.specs.Accepts.{IsStoppedAfter}
 use Rattle.nt_core.proofs.Handling.{handles_along}
 use Rattle.nt_core.proofs.Changing.{object_at-set_same, object_at-set_other, due_kept}
 use Rattle.nt_core.proofs.Accepting.{IsCalm}
-use Rattle.nt_core.proofs.Keeping.{timers_kept}
+use Rattle.nt_core.proofs.Keeping.{timers_kept, own_kept}
+use Rattle.nt_core.proofs.Lives.{not_gone}
+use Rattle.nt_core.proofs.Marking.{marks_same}
 use Rattle.nt_core.proofs.Replacing.{known_mutex}
 use Rattle.nt_core.proofs.Timing.{and_kept}
 use Rattle.nt_core.proofs.Turns.{left}
@@ -61,15 +63,17 @@ sound_mapped d f owned still may sound = record {
           subst (λ (n : ℕ). k < n) (sym len) (own.named k names).0,
           ap (λ o. owned_by o t && not (has_room o)) (here k) ∙ (may (object_at d.objects k) (sound.objects k)).unlimited t (own.named k names).1,
         );
+        living = λ k names. reading is_gone (λ o r. r.gone) k ∙ own.living k names;
       };
   blocks = sound.blocks;
   hands = sound.hands;
   inboxes = sound.inboxes;
   objects = λ h. subst IsLawfulObject (sym (here h)) (may (object_at d.objects h) (sound.objects h)).lawful;
-  own = λ t below. (subst (λ (n : ℕ). t < n) (sym len) (sound.own t below).0, reading is_thread (λ o r. r.thread) t ∙ (sound.own t below).1);
+  own = λ t below. (subst (λ (n : ℕ). t < n) (sym len) (sound.own t below).0, own_kept _ _ (reading is_thread (λ o r. r.thread) t) (reading is_gone (λ o r. r.gone) t) (sound.own t below).1);
   none_else = λ k beyond known. reading is_thread (λ o r. r.thread) k ∙ sound.none_else k beyond (subst (λ (n : ℕ). k < n) len known);
   timers = timers_kept d.threads d.objects (map f d.objects) d.alarms d.apcs.places sound.timers len (reading due_of (λ o r. r.due)) (reading setter_of (λ o r. r.setter)) (reading has_ended (λ o r. r.ended));
   handles = handles_along d.handles len sound.handles;
+  marks = marks_same d (record d { objects = map f d.objects; owned = owned }) refl refl refl (λ k. refl) len (reading is_gone (λ o r. r.gone)) (reading has_ended (λ o r. r.ended)) sound.marks;
   room = sound.room;
 }
   where
@@ -107,7 +111,7 @@ due_stopped Gone = refl
 -- ---- mutexes
 
 same_replace : (o : Object) → IsLawfulObject o → MayReplace o o
-same_replace o lawful = record { lawful = lawful; thread = refl; ended = refl; due = refl; setter = refl; owner = λ u owns. owns; unlimited = λ u below. below }
+same_replace o lawful = record { lawful = lawful; gone = refl; thread = refl; ended = refl; due = refl; setter = refl; owner = λ u owns. owns; unlimited = λ u below. below }
 
 abandoned_may_replace : (t : ℕ) (o : Object) → IsLawfulObject o → MayReplace o (abandoned_by t o)
 abandoned_may_replace t (Event manual was) lawful = same_replace (Event manual was) lawful
@@ -116,7 +120,7 @@ abandoned_may_replace t (Mutex None depth abandoned) lawful = same_replace (Mute
 abandoned_may_replace t (Mutex (Some owner) depth abandoned) lawful = go (owner == t)
   where
     go : (b : Bool) → MayReplace (Mutex (Some owner) depth abandoned) (cond b (Mutex None 0 true) (Mutex (Some owner) depth abandoned))
-    go true = record { lawful = refl; thread = refl; ended = refl; due = refl; setter = refl; owner = λ u owns. absurd (false≢true owns); unlimited = λ u below. refl }
+    go true = record { lawful = refl; gone = refl; thread = refl; ended = refl; due = refl; setter = refl; owner = λ u owns. absurd (false≢true owns); unlimited = λ u below. refl }
     go false = same_replace (Mutex (Some owner) depth abandoned) lawful
 abandoned_may_replace t (Timer manual was armed) lawful = same_replace (Timer manual was armed) lawful
 abandoned_may_replace t (Thread ended) lawful = same_replace (Thread ended) lawful
@@ -225,7 +229,10 @@ freed_left t o owns = ap (unset_by t) (freed_mutex t o owns)
 
 -- the thread runs before its end
 pub runs_before : (d : Dispatcher) (t : ℕ) → IsSound d → t < d.threads → has_ended (object_at d.objects t) ≡ false → object_at d.objects t ≡ Thread false
-runs_before d t sound known runs = go (object_at d.objects t) (sound.own t known).1 runs
+runs_before d t sound known runs = elim (sound.own t known).1 [
+  | inl thread ↦ go (object_at d.objects t) thread runs
+  | inr gone ↦ absurd (false≢true (sym (not_gone (object_at d.objects t) runs) ∙ gone))
+]
   where
     go : (o : Object) → is_thread o ≡ true → has_ended o ≡ false → o ≡ Thread false
     go (Event manual was) is runs = absurd (false≢true is)

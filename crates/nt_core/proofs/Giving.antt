@@ -230,8 +230,8 @@ settled_gains _ h o is = same_gains o is
 
 turn_gains : (h : ℕ) (old : State) (turn : Turn) (new : State) → AreFair old.waits → IsTurn old turn new → counts (object_at new.objects h) ≡ true → Gains (object_at old.objects h) (object_at new.objects h) (turn_gives h old turn) (length (takers h (turn_took old turn)))
 turn_gains h old (Calls who call (Ok reply) grants) new fair is ends =
-    let none = undenied old who (is_denied old call) (call_named old.handles call) is.0 in
-    let c = in_call h old who (call_named old.handles call) reply grants new fair none is.1 in
+    let none = undenied old who (is_denied old call) (call_named old.handles call) is.1.0 in
+    let c = in_call h old who call reply grants new fair is (plain (object_at new.objects h) ends) in
     let last = all_taken (settled_at (call_named old.handles call) h c.calm) (object_at new.objects h) c.last c.begins ends in
     let settled = settled_gains (call_named old.handles call) h c.calm last.counts in
     let first = all_taken (object_at (change old who (call_named old.handles call)).objects h) c.calm c.first c.serves settled.counts in

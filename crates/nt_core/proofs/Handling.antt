@@ -11,7 +11,7 @@ pub handles_along : {n m : ℕ} (handles : List (Option Opened)) → m ≡ n →
 handles_along handles same agree = subst (λ (k : ℕ). HandlesAgree k handles) (sym same) agree
 
 -- a handle of the longer table is one of the shorter, or the last
-opened_longer : (hs : List (Option Opened)) (new opened : Opened) (h : ℕ) → opened_at (hs ++ Some new ∷ []) h ≡ Some opened → (opened_at hs h ≡ Some opened) ⊎ (new.object ≡ opened.object)
+pub opened_longer : (hs : List (Option Opened)) (new opened : Opened) (h : ℕ) → opened_at (hs ++ Some new ∷ []) h ≡ Some opened → (opened_at hs h ≡ Some opened) ⊎ (new.object ≡ opened.object)
 opened_longer [] new opened zero is = inr (ap object_in is)
 opened_longer [] new opened (suc h) is = inl is
 opened_longer (x ∷ hs) new opened zero is = inl is
@@ -47,7 +47,7 @@ handles_created m handles n access room agree longer =
       ];
     }
 
-own_count : (n access : ℕ) → length (own_handles n access) ≡ n
+pub own_count : (n access : ℕ) → length (own_handles n access) ≡ n
 own_count zero access = refl
 own_count (suc n) access = length-append (own_handles n access) (Some (record { object = n; access = access }) ∷ []) ∙ (let same = own_count n access in omega (arith, same))
 

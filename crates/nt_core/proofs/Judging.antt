@@ -82,6 +82,7 @@ undenied s who true (Call.Act (Act.CreateMutex flags)) none = none
 undenied s who true (Call.Act (Act.CreateTimer flags)) none = none
 undenied s who true (Call.Act (Act.ReleaseMutex h)) none = none
 undenied s who true (Call.Act Act.NextApc) none = none
+undenied s who true (Call.Act (Act.Close h)) none = none
 undenied s who true (Call.Wait (WaitCall.Sleep ms alertable)) none = none
 undenied s who true (Call.Wait (WaitCall.Objects all alertable ms named)) none =
     first_there (callers s who ((length named == 0 || nat_lt wait_limit (length named), InvalidParameter) ∷ (list_any (is_unknown s.objects) named, InvalidHandle) ∷ []))

@@ -7,7 +7,7 @@ use Rattle.std.proofs.lemmas.Bool.Decides.{nat_tests}
 use Rattle.nt_waits.specs.declared.wait.Wait.{Wait}
 use Rattle.nt_objects.specs.declared.object.Object.{Object}
 use Rattle.nt_objects.specs.declared.object.Object.TheVariants.{Event, Semaphore, Mutex, Timer, Thread, Gone}
-use Rattle.nt_objects.specs.Object.{signaled, taken, has_room, owned_by, has_ended, is_thread, due_of, setter_of, IsLawfulObject}
+use Rattle.nt_objects.specs.Object.{signaled, taken, has_room, owned_by, has_ended, is_thread, is_gone, due_of, setter_of, IsLawfulObject}
 use Rattle.nt_core.specs.State.{object_at}
 use Rattle.nt_core.specs.Refusals.{is_at_limit}
 use Rattle.nt_core.specs.Serving.{is_ready, fits, least, take_at, take_each, objects_taken, CanTake}
@@ -132,6 +132,15 @@ thread_taken (Timer manual set armed) t = refl
 thread_taken (Thread ended) t = refl
 thread_taken Gone t = refl
 
+gone_taken : (o : Object) (t : ℕ) → is_gone (taken o t) ≡ is_gone o
+gone_taken (Event manual set) t = refl
+gone_taken (Semaphore count maximum) t = refl
+gone_taken (Mutex None depth abandoned) t = refl
+gone_taken (Mutex (Some owner) depth abandoned) t = refl
+gone_taken (Timer manual set armed) t = refl
+gone_taken (Thread ended) t = refl
+gone_taken Gone t = refl
+
 pub due_taken : (o : Object) (t : ℕ) → due_of (taken o t) ≡ due_of o
 due_taken (Event manual set) t = refl
 due_taken (Semaphore count maximum) t = refl
@@ -168,6 +177,7 @@ pub record TakesWell (old new : List Object) (t : ℕ) : Type 0 where
   pub unlimited : (u : ℕ) → u ≢ t → (h : ℕ) → is_at_limit old u h ≡ false → is_at_limit new u h ≡ false
   pub ended : (k : ℕ) → has_ended (object_at new k) ≡ has_ended (object_at old k)
   pub threads : (k : ℕ) → is_thread (object_at new k) ≡ is_thread (object_at old k)
+  pub gone : (k : ℕ) → is_gone (object_at new k) ≡ is_gone (object_at old k)
   pub due : (k : ℕ) → due_of (object_at new k) ≡ due_of (object_at old k)
   pub setter : (k : ℕ) → setter_of (object_at new k) ≡ setter_of (object_at old k)
 
@@ -178,6 +188,7 @@ takes_well old os t h ready room so_far = record {
   unlimited = λ u other k below. limit u k other (so_far.unlimited u other k below);
   ended = λ k. same_reading has_ended t (λ o. ended_taken o t) os h k ∙ so_far.ended k;
   threads = λ k. same_reading is_thread t (λ o. thread_taken o t) os h k ∙ so_far.threads k;
+  gone = λ k. same_reading is_gone t (λ o. gone_taken o t) os h k ∙ so_far.gone k;
   due = λ k. same_reading due_of t (λ o. due_taken o t) os h k ∙ so_far.due k;
   setter = λ k. same_reading setter_of t (λ o. setter_taken o t) os h k ∙ so_far.setter k;
 }
@@ -203,9 +214,15 @@ objects_taken_well os t w apart room fit =
       unlimited = λ u other h below. below;
       ended = λ k. refl;
       threads = λ k. refl;
+      gone = λ k. refl;
       due = λ k. refl;
       setter = λ k. refl;
     })
+
+-- a thread's own object, or one that is gone, stays so
+pub own_kept : (old new : Object) → is_thread new ≡ is_thread old → is_gone new ≡ is_gone old → (is_thread old ≡ true) ⊎ (is_gone old ≡ true) → (is_thread new ≡ true) ⊎ (is_gone new ≡ true)
+own_kept old new thread gone (inl is) = inl (thread ∙ is)
+own_kept old new thread gone (inr is) = inr (gone ∙ is)
 
 -- ---- timers
 

@@ -22,6 +22,7 @@ use Rattle.std.specs.Prelude.{Option, Some, None, Result, Ok, Err, IfOk, OnErr}
 use Rattle.nt_status.specs.declared.refusal.Refusal.{Refusal}
 use Rattle.nt_objects.specs.declared.object.Armed.{Armed}
 use Rattle.nt_core.specs.Accepts.{Accepts}
+use Rattle.nt_core.proofs.Remaining.{same_count}
 use Rattle.nt_core.proofs.Alerting.{over_objects}
 
 length_taken_each : (t : ℕ) (hs : List ℕ) (os : List Object) → length (take_each os t hs) ≡ length os
@@ -107,7 +108,8 @@ length_moments old new m [] grants has = ap (λ (s : State). length s.objects) h
 length_moments old new m (u ∷ us) grants has = length_moments has.2 new m us has.1 has.5 ∙ length_passed old has.2 m u has.0 has.4
 
 pub tick_length : (old new : State) (m : ℕ) (result : Result Reply Refusal) (grants : List Grant) → Ticked old m result grants new → length new.objects ≡ length old.objects
-tick_length old new m (Ok reply) grants has = length_moments old new m has.2.0 grants has.2.1
+tick_length old new m (Ok reply) grants has =
+    ap (λ (s : State). length s.objects) has.2.3.leaves ∙ (same_count has.2.1 has.2.3.objects ∙ length_moments old has.2.1 m has.2.0 grants has.2.2)
 tick_length old new m (Err r) grants has = ap (λ (s : State). length s.objects) has.3
 
 -- ---- what the table of calls needs

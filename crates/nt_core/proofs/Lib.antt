@@ -18,6 +18,12 @@ mod Giving
 mod Handling
 mod Owing
 mod Setting
+mod Lasting
+mod Remaining
+mod CallKinds
+mod Numbers
+mod Standing
+mod Keepers
 mod Alerting
 mod Listing
 mod Leaving
@@ -38,3 +44,10 @@ mod Counting
 mod Moves
 pub mod Runs
 pub mod Lawful
+mod Lives
+mod Marking
+mod LettingGo
+mod Settling
+mod Gone
+mod Ended
+mod Closing

@@ -31,7 +31,10 @@ use Rattle.nt_core.specs.State.{State, Pending, pends, pending_too, with_handing
 use Rattle.nt_core.specs.Serving.{fits, status, granted, Grants, Alert, TimeOut, ending, taken_by, is_sleep, late_status, sleeps}
 use Rattle.nt_core.specs.Change.{change, act_reply, may_take, armed_anew, timer_set, expired, expired_as, all_expired}
 use Rattle.nt_core.specs.Steps.{Called, Made, Step, Ticked, MomentPasses, MomentsPass, after_serving, answered, begun, wait_of}
+use Rattle.nt_core.specs.Living.{Ends}
 use Rattle.nt_core.specs.Moves.{one_if, pended, is_wait, granted_to, Moves, IsMomentAfter}
+use Rattle.nt_core.proofs.Remaining.{same_threads, ends_waits}
+use Rattle.nt_core.proofs.Settling.{same_now}
 use Rattle.nt_core.proofs.Walks.{get_same, get_other}
 
 granted_to-append : (t : ℕ) (xs ys : List Grant) → granted_to t (xs ++ ys) ≡ granted_to t xs + granted_to t ys
@@ -234,6 +237,7 @@ act_stays s t (Act.ReleaseMutex h) = refl
 act_stays s t (Act.SetTimer h due period routine) = refl
 act_stays s t (Act.CancelTimer h) = refl
 act_stays s t (Act.QueueApc h routine arg) = refl
+act_stays s t (Act.Close h) = refl
 
 answered_counts : (old s : State) (who : ℕ) (call : Call) → get s.waits who ≡ None → IsBegun s who (answered old s who call)
 answered_counts old s who (Call.Act act) free = stays s s who (act_reply old who act) (act_stays old who act) (idle_same s)
@@ -299,9 +303,20 @@ refused_moved old new who grants none same = record {
   each = λ t. (let a = ap (granted_to t) none in let b = ap (λ (s : State). one_if (pends s t)) same in let c = none_begun (eqb who t) in omega arith);
 }
 
-pub call_moves : (old : State) (who : ℕ) (denied : Bool) (call : Call) (result : Result Reply Refusal) (grants : List Grant) (new : State) → Made old who denied call result grants new → Moves old who (pended result) grants new
-call_moves old who denied call (Ok reply) grants new h = step_moved old who call reply grants new (undenied old who denied call h.0) h.1
-call_moves old who denied call (Err r) grants new h = refused_moved old new who grants h.1 h.2
+-- the end of objects ends no wait
+ends_moved : (old left new : State) (who : ℕ) (began : Bool) (grants : List Grant) → Ends left new → Moves old who began grants left → Moves old who began grants new
+ends_moved old left new who began grants ends moved = record {
+  threads = ap (λ (s : State). s.threads) ends.leaves ∙ (same_threads left ends.objects ∙ moved.threads);
+  free = moved.free;
+  ended = moved.ended;
+  each = λ t. ap (λ (p : Pending). one_if (is_some (get p t)) + granted_to t grants) (ends_waits left new ends) ∙ moved.each t;
+}
+
+pub call_moves : (old : State) (who : ℕ) (call : Call) (result : Result Reply Refusal) (grants : List Grant) (new : State) → Called old who call result grants new → Moves old who (pended result) grants new
+call_moves old who call (Ok reply) grants new h =
+    let named : Call = call_named old.handles call in
+    ends_moved old h.0 new who (pended (Ok reply)) grants h.2 (step_moved old who named reply grants h.0 (undenied old who (is_denied old call) named h.1.0) h.1.1)
+call_moves old who call (Err r) grants new h = refused_moved old new who grants h.1 h.2
 
 is_wait_named : (handles : List (Option Opened)) (call : Call) → is_wait (call_named handles call) ≡ true → is_wait call ≡ true
 is_wait_named handles (Call.Act act) is = is
@@ -320,7 +335,8 @@ made_pends old who denied Call.Exit (Ok reply) grants new h pends =
 made_pends old who denied call (Err cause) grants new h pends = absurd (false≢true pends)
 
 pub only_waits_pend : (old : State) (who : ℕ) (call : Call) (result : Result Reply Refusal) (grants : List Grant) (new : State) → Called old who call result grants new → pended result ≡ true → is_wait call ≡ true
-only_waits_pend old who call result grants new h pends = is_wait_named old.handles call (made_pends old who (is_denied old call) (call_named old.handles call) result grants new h pends)
+only_waits_pend old who call (Ok reply) grants new h pends = is_wait_named old.handles call (made_pends old who (is_denied old call) (call_named old.handles call) (Ok reply) grants h.0 h.1 pends)
+only_waits_pend old who call (Err cause) grants new h pends = absurd (false≢true pends)
 
 -- ---- a tick
 
@@ -362,8 +378,8 @@ moments_over m (u ∷ us) old new grants (here, later, mid, next, passes, rest, 
 
 pub tick_moves : (old : State) (by m : ℕ) (result : Result Reply Refusal) (grants : List Grant) (new : State) → Ticked old m result grants new → Moves old by false grants new
 tick_moves old by m (Ok reply) grants new h =
-    let over = moments_over m h.2.0 old new grants h.2.1 in
-    record {
+    let over = moments_over m h.2.0 old h.2.1 grants h.2.2 in
+    ends_moved old h.2.1 new by false grants h.2.3 (record {
       threads = over.threads;
       free = λ began. absurd (false≢true began);
       ended = λ t. omega (arith, over.counts t);
@@ -371,15 +387,20 @@ tick_moves old by m (Ok reply) grants new h =
           let a = over.counts t in
           let b = none_begun (eqb by t) in
           omega (arith, a, b));
-    }
+    })
 tick_moves old by m (Err r) grants new h = refused_moved old new by grants h.2 h.3
 
 -- ---- the present moment
 
+ends_now : (left new : State) → Ends left new → new.now ≡ left.now
+ends_now left new ends = ap (λ (s : State). s.now) ends.leaves ∙ same_now left ends.objects
+
 -- a call moves no moment
-pub call_waits : (old : State) (who : ℕ) (denied : Bool) (call : Call) (result : Result Reply Refusal) (grants : List Grant) (new : State) → Made old who denied call result grants new → new.now ≡ old.now
-call_waits old who denied call (Ok reply) grants new h = ap (λ (k : ℕ × ℕ). k.1) (step_keeps old who call reply grants new (undenied old who denied call h.0) h.1)
-call_waits old who denied call (Err r) grants new h = ap (λ (s : State). s.now) h.2
+pub call_waits : (old : State) (who : ℕ) (call : Call) (result : Result Reply Refusal) (grants : List Grant) (new : State) → Called old who call result grants new → new.now ≡ old.now
+call_waits old who call (Ok reply) grants new h =
+    let named : Call = call_named old.handles call in
+    ends_now h.0 new h.2 ∙ ap (λ (k : ℕ × ℕ). k.1) (step_keeps old who named reply grants h.0 (undenied old who (is_denied old call) named h.1.0) h.1.1)
+call_waits old who call (Err r) grants new h = ap (λ (s : State). s.now) h.2
 
 -- an accepted tick comes to its moment
 moments_come : (m : ℕ) (us : List ℕ) (old new : State) (grants : List Grant) → MomentsPass old m us grants new → new.now ≡ m
@@ -387,7 +408,7 @@ moments_come m [] old new grants h = ap (λ (s : State). s.now) h.2
 moments_come m (u ∷ us) old new grants (here, later, mid, next, passes, rest, e) = moments_come m us mid new later rest
 
 pub tick_moment : (old : State) (m : ℕ) (result : Result Reply Refusal) (grants : List Grant) (new : State) → Ticked old m result grants new → IsMomentAfter old.now m result new.now
-tick_moment old m (Ok reply) grants new h = (h.0, moments_come m h.2.0 old new grants h.2.1)
+tick_moment old m (Ok reply) grants new h = (h.0, ends_now h.2.1 new h.2.3 ∙ moments_come m h.2.0 old h.2.1 grants h.2.2)
 tick_moment old m (Err r) grants new h = ap (λ (s : State). s.now) h.3
 
 -- no tick pends

@@ -18,7 +18,8 @@ use Rattle.nt_core.specs.Serving.{Serve, Alert, TimeOut, sequence, IsLate, endin
 use Rattle.nt_core.specs.Change.{change, all_expired}
 use Rattle.nt_core.specs.Rights.{is_denied}
 use Rattle.nt_core.specs.Refusals.{refusal, grows, IsRefusal}
-use Rattle.nt_core.specs.Steps.{Step, Called, Made, after_serving, answered, MomentPasses, MomentsPass, IsNextMoment, NothingDue, Ticked}
+use Rattle.nt_core.specs.Living.{all_gone, Ends}
+use Rattle.nt_core.specs.Steps.{Step, Called, after_serving, answered, MomentPasses, MomentsPass, IsNextMoment, NothingDue, Ticked}
 use Rattle.nt_core.specs.Runs.{Turn, Calls, Ticks, IsTurn, Turns}
 use Rattle.nt_core.specs.Laws.{AsksCall, AsksTick, wants_memory, question}
 use Rattle.nt_core.proofs.Unique.{serve_unique}
@@ -98,11 +99,20 @@ not_both : (old : State) (who : ℕ) (denied : Bool) (call : Call) (reply : Repl
 not_both old who denied call reply r none is alike =
     let h : false ≡ true = alike ∙ ap (λ f. wants_memory (Err f)) (only_memory old who denied call r none is) in (cc)
 
-called_same : (old a b : State) (who : ℕ) (denied : Bool) (call : Call) (r q : Result Reply Refusal) (gs hs : List Grant) → wants_memory r ≡ wants_memory q → Made old who denied call r gs a → Made old who denied call q hs b → (r ≡ q) × (gs ≡ hs) × (a ≡ b)
-called_same old a b who denied call (Ok r) (Ok q) gs hs alike x y = let same = step_same old a b who call r q gs hs x.1 y.1 in (ap Ok same.0, same.1, same.2)
-called_same old a b who denied call (Ok r) (Err q) gs hs alike x y = not_both old who denied call r q x.0 y.0 alike
-called_same old a b who denied call (Err r) (Ok q) gs hs alike x y = not_both old who denied call q r y.0 x.0 (sym alike)
-called_same old a b who denied call (Err r) (Err q) gs hs alike x y = (ap Err (refusal_same old who denied call r q x.0 y.0), x.1 ∙ sym y.1, x.2 ∙ sym y.2)
+-- the same objects end
+ends_same : (old a b : State) → Ends old a → Ends old b → a ≡ b
+ends_same old a b x y = x.leaves ∙ (ap (λ os. all_gone old os) (are_rising_same _ x.objects y.objects x.forgotten y.forgotten) ∙ sym y.leaves)
+
+accepted_same : (old a b : State) (who : ℕ) (call : Call) (r q : Reply) (gs hs : List Grant) → Called old who call (Ok r) gs a → Called old who call (Ok q) hs b → (r ≡ q) × (gs ≡ hs) × (a ≡ b)
+accepted_same old a b who call r q gs hs x y =
+    let same = step_same old x.0 y.0 who (call_named old.handles call) r q gs hs x.1.1 y.1.1 in
+    (same.0, same.1, ends_same y.0 a b (subst (λ (s : State). Ends s a) same.2 x.2) y.2)
+
+called_same : (old a b : State) (who : ℕ) (call : Call) (r q : Result Reply Refusal) (gs hs : List Grant) → wants_memory r ≡ wants_memory q → Called old who call r gs a → Called old who call q hs b → (r ≡ q) × (gs ≡ hs) × (a ≡ b)
+called_same old a b who call (Ok r) (Ok q) gs hs alike x y = let same = accepted_same old a b who call r q gs hs x y in (ap Ok same.0, same.1, same.2)
+called_same old a b who call (Ok r) (Err q) gs hs alike x y = not_both old who (is_denied old call) (call_named old.handles call) r q x.1.0 y.0 alike
+called_same old a b who call (Err r) (Ok q) gs hs alike x y = not_both old who (is_denied old call) (call_named old.handles call) q r y.1.0 x.0 (sym alike)
+called_same old a b who call (Err r) (Err q) gs hs alike x y = (ap Err (refusal_same old who (is_denied old call) (call_named old.handles call) r q x.0 y.0), x.1 ∙ sym y.1, x.2 ∙ sym y.2)
 
 -- ---- a tick
 
@@ -134,7 +144,8 @@ moments_same (u ∷ us) (v ∷ vs) old a b m gs hs x y =
 
 ticked_same : (old a b : State) (m : ℕ) (r q : Result Reply Refusal) (gs hs : List Grant) → Ticked old m r gs a → Ticked old m q hs b → (r ≡ q) × (gs ≡ hs) × (a ≡ b)
 ticked_same old a b m (Ok r) (Ok q) gs hs x y =
-    let same = moments_same x.2.0 y.2.0 old a b m gs hs x.2.1 y.2.1 in (ap Ok (x.1 ∙ sym y.1), same.0, same.1)
+    let same = moments_same x.2.0 y.2.0 old x.2.1 y.2.1 m gs hs x.2.2 y.2.2 in
+    (ap Ok (x.1 ∙ sym y.1), same.0, ends_same y.2.1 a b (subst (λ (s : State). Ends s a) same.1 x.2.3) y.2.3)
 ticked_same old a b m (Ok r) (Err q) gs hs x y = let p = x.0 in let q = y.0 in absurd (omega (arith, p, q))
 ticked_same old a b m (Err r) (Ok q) gs hs x y = let p = x.0 in let q = y.0 in absurd (omega (arith, p, q))
 ticked_same old a b m (Err r) (Err q) gs hs x y = (ap Err (x.1 ∙ sym y.1), x.2 ∙ sym y.2, x.3 ∙ sym y.3)
@@ -148,7 +159,7 @@ turn_same old a b (Calls who call r gs) (Calls who' call' r' hs) alike x y =
     let c : call ≡ call' = (cc) in
     let k : wants_memory r ≡ wants_memory r' = (cc) in
     let x' : Called old who' call' r gs a = subst (λ z. Called old z call' r gs a) w (subst (λ z. Called old who z r gs a) c x) in
-    let same = called_same old a b who' (is_denied old call') (call_named old.handles call') r r' gs hs k x' y in
+    let same = called_same old a b who' call' r r' gs hs k x' y in
     (ap (λ z. Calls z call r gs) w ∙ (ap (λ z. Calls who' z r gs) c ∙ (ap (λ z. Calls who' call' z gs) same.0 ∙ ap (λ z. Calls who' call' r' z) same.1)), same.2)
 turn_same old a b (Calls who call r gs) (Ticks by m r' hs) alike x y =
     let h : AsksCall who call (wants_memory r) ≡ AsksTick by m = alike in (cc)

@@ -280,8 +280,8 @@ count_append t xs ys = sum_by-append (λ u. cond (u == t) 1 0) xs ys
 
 turn_owing : (t h : ℕ) (old : State) (turn : Turn) (new : State) → AreFair old.waits → IsTurn old turn new → owns (object_at new.objects h) ≡ true → Owes t (object_at old.objects h) (object_at new.objects h) (λ k. turn_owes h t old turn k + count_by (λ u. u == t) (takers h (turn_took old turn)))
 turn_owing t h old (Calls who call (Ok reply) grants) new fair is ends =
-    let none = undenied old who (is_denied old call) (call_named old.handles call) is.0 in
-    let c = in_call h old who (call_named old.handles call) reply grants new fair none is.1 in
+    let none = undenied old who (is_denied old call) (call_named old.handles call) is.1.0 in
+    let c = in_call h old who call reply grants new fair is (plain (object_at new.objects h) ends) in
     let last = all_taken t (settled_at (call_named old.handles call) h c.calm) (object_at new.objects h) c.last c.begins ends in
     let settled = settled_owes t (call_named old.handles call) h c.calm last.owns in
     let first = all_taken t (object_at (change old who (call_named old.handles call)).objects h) c.calm c.first c.serves settled.owns in

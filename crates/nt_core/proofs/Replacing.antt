@@ -7,7 +7,7 @@ use Rattle.std.proofs.Common.{◌==◌}
 use Rattle.nt_waits.specs.Waits.{IsMember, AreOnce, others}
 use Rattle.nt_objects.specs.declared.object.Object.{Object}
 use Rattle.nt_objects.specs.declared.object.Object.TheVariants.{Event, Semaphore, Mutex, Timer, Thread, Gone}
-use Rattle.nt_objects.specs.Object.{signaled, taken, is_thread, is_event, is_semaphore, is_mutex, owned_by, count_of, depth_of, depth_limit, mutex_of, with_set, released, unlocked, due_of, IsLawfulObject}
+use Rattle.nt_objects.specs.Object.{signaled, taken, is_thread, is_gone, is_event, is_semaphore, is_mutex, owned_by, count_of, depth_of, depth_limit, mutex_of, with_set, released, unlocked, due_of, IsLawfulObject}
 use Rattle.std.specs.Prelude.{ℤ, pos, ◌+ℤ◌, ◌<ℤ◌, nat_le, nat_lt, if◌then◌else◌}
 use Rattle.nt_status.specs.Flags.{has_flag, mutex_initial_owner}
 use Rattle.std.proofs.lemmas.Int.{ints}
@@ -27,6 +27,7 @@ use Rattle.nt_status.specs.Access.{access_bits}
 use Rattle.nt_status.specs.Flags.{only_known}
 use Rattle.nt_status.specs.declared.refusal.Refusal.TheVariants.{AccessDenied, HandleLimit, InvalidHandle}
 use Rattle.nt_core.proofs.Handling.{handles_opened}
+use Rattle.nt_core.proofs.Marking.{marks_opened}
 use Rattle.nt_core.specs.Refusals.{is_full, is_unknown, refusal}
 use Rattle.nt_core.specs.Visits.{FitOnlyIn}
 use Rattle.nt_core.specs.Lawful.{IsSound, IsSteady, MayReplace}
@@ -116,7 +117,7 @@ idle_served old mid new handles fresh changed grants looked is steady = record {
 -- ---- events
 
 pub set_may_replace : (set : Bool) (o : Object) → is_event o ≡ true → MayReplace o (with_set set o)
-set_may_replace set (Event manual was) is = record { lawful = tt; thread = refl; ended = refl; due = refl; setter = refl; owner = λ u owns. owns; unlimited = λ u below. below }
+set_may_replace set (Event manual was) is = record { lawful = tt; gone = refl; thread = refl; ended = refl; due = refl; setter = refl; owner = λ u owns. owns; unlimited = λ u below. below }
 set_may_replace set (Semaphore count maximum) is = absurd (false≢true is)
 set_may_replace set (Mutex owner depth abandoned) is = absurd (false≢true is)
 set_may_replace set (Timer manual was armed) is = absurd (false≢true is)
@@ -266,8 +267,15 @@ mutex_no_thread flags t = go (has_flag flags mutex_initial_owner)
     go true = refl
     go false = refl
 
-pub created_accepted : (old new : Dispatcher) (t : ℕ) (o : Object) (owned : List (List ℕ)) (call : Call) (handle : ℕ) → IsFresh old → is_full old.handles ≡ false → IsLawfulObject o → is_thread o ≡ false → due_of o ≡ None → change (state old) t call ≡ created (state old) o → ((s : State) → after_serving call s ≡ s) → ((s : State) → answered (state old) s t call ≡ (Reply.Handle (length old.handles), s)) → handle ≡ length old.handles → new ≡ with_created old o owned → Accepts old new t call (Reply.Handle handle)
-created_accepted old new t o owned call handle fresh room lawful no_thread due changes after answers is becomes =
+pub mutex_lives : (flags t : ℕ) → is_gone (mutex_of flags t) ≡ false
+mutex_lives flags t = go (has_flag flags mutex_initial_owner)
+  where
+    go : (b : Bool) → is_gone (if b then Mutex (Some t) 1 false else Mutex None 0 false) ≡ false
+    go true = refl
+    go false = refl
+
+pub created_accepted : (old new : Dispatcher) (t : ℕ) (o : Object) (owned : List (List ℕ)) (call : Call) (handle : ℕ) → IsFresh old → is_full old.handles ≡ false → IsLawfulObject o → is_thread o ≡ false → is_gone o ≡ false → due_of o ≡ None → change (state old) t call ≡ created (state old) o → ((s : State) → after_serving call s ≡ s) → ((s : State) → answered (state old) s t call ≡ (Reply.Handle (length old.handles), s)) → handle ≡ length old.handles → new ≡ with_created old o owned → Accepts old new t call (Reply.Handle handle)
+created_accepted old new t o owned call handle fresh room lawful no_thread alive due changes after answers is becomes =
     subst (λ (x : Dispatcher). Accepts old x t call (Reply.Handle handle)) (sym becomes)
     (subst (λ (h : ℕ). Accepts old d t call (Reply.Handle h)) (sym is)
     (accepted old d d t call (Reply.Handle (length old.handles))
@@ -279,7 +287,7 @@ created_accepted old new t o owned call handle fresh room lawful no_thread due c
 
     all : IsSteady d
     all = record {
-      sound = sound_created old o owned fresh.steady.sound room lawful no_thread due;
+      sound = sound_created old o owned fresh.steady.sound room lawful no_thread alive due;
       settled = record {
         served = served_unchanged old (old.objects ++ o ∷ []) fresh.steady.sound fresh.steady.settled.served (created_only old.objects o);
         alerted = fresh.steady.settled.alerted;
@@ -290,8 +298,8 @@ created_accepted old new t o owned call handle fresh room lawful no_thread due c
 -- ---- a duplicate
 
 -- one handle more leaves all else as it is
-pub duplicated_accepted : (old new : Dispatcher) (t object access handle : ℕ) → IsFresh old → is_full old.handles ≡ false → object < length old.objects → handle ≡ length old.handles → new ≡ record old { handles = old.handles ++ Some (record { object = object; access = access }) ∷ [] } → Accepts old new t (Call.Act (Act.Duplicate object access)) (Reply.Handle handle)
-duplicated_accepted old new t object access handle fresh room known is becomes =
+pub duplicated_accepted : (old new : Dispatcher) (t object access handle : ℕ) → IsFresh old → is_full old.handles ≡ false → object < length old.objects → is_gone (object_at old.objects object) ≡ false → handle ≡ length old.handles → new ≡ record old { handles = old.handles ++ Some (record { object = object; access = access }) ∷ [] } → Accepts old new t (Call.Act (Act.Duplicate object access)) (Reply.Handle handle)
+duplicated_accepted old new t object access handle fresh room known alive is becomes =
     subst (λ (x : Dispatcher). Accepts old x t (Call.Act (Act.Duplicate object access)) (Reply.Handle handle)) (sym becomes)
     (subst (λ (h : ℕ). Accepts old d t (Call.Act (Act.Duplicate object access)) (Reply.Handle h)) (sym is)
     (accepted old d d t (Call.Act (Act.Duplicate object access)) (Reply.Handle (length old.handles))
@@ -317,6 +325,7 @@ duplicated_accepted old new t object access handle fresh room known is becomes =
         none_else = before.none_else;
         timers = before.timers;
         handles = handles_opened (length old.objects) old.handles object access (grind (arith, nat_tests, room)) known before.handles;
+        marks = marks_opened old object access alive before.marks;
         room = before.room;
       };
       settled = record {
@@ -349,7 +358,7 @@ known_semaphore os h is = known_object os h (semaphore_is_no_thread (object_at o
 
 pub released_may_replace : (n : ℤ) (o : Object) → is_semaphore o ≡ true → IsLawfulObject (released n o) → MayReplace o (released n o)
 released_may_replace n (Event manual was) is lawful = absurd (false≢true is)
-released_may_replace n (Semaphore count maximum) is lawful = record { lawful = lawful; thread = refl; ended = refl; due = refl; setter = refl; owner = λ u owns. owns; unlimited = λ u below. below }
+released_may_replace n (Semaphore count maximum) is lawful = record { lawful = lawful; gone = refl; thread = refl; ended = refl; due = refl; setter = refl; owner = λ u owns. owns; unlimited = λ u below. below }
 released_may_replace n (Mutex owner depth abandoned) is lawful = absurd (false≢true is)
 released_may_replace n (Timer manual was armed) is lawful = absurd (false≢true is)
 released_may_replace n (Thread ended) is lawful = absurd (false≢true is)
@@ -395,9 +404,10 @@ unlocked_may_replace (Mutex (Some owner) depth abandoned) t owns lawful after = 
     never false = refl
 
     go : (b : Bool) → nat_le depth 1 ≡ b → IsLawfulObject (if b then Mutex None 0 false else Mutex (Some owner) (depth - 1) abandoned) → MayReplace (Mutex (Some owner) depth abandoned) (if nat_le depth 1 then Mutex None 0 false else Mutex (Some owner) (depth - 1) abandoned)
-    go true is has = rw is (record { lawful = refl; thread = refl; ended = refl; due = refl; setter = refl; owner = λ u owns. absurd (false≢true owns); unlimited = λ u below. refl })
+    go true is has = rw is (record { lawful = refl; gone = refl; thread = refl; ended = refl; due = refl; setter = refl; owner = λ u owns. absurd (false≢true owns); unlimited = λ u below. refl })
     go false is has = rw is (record {
       lawful = has;
+      gone = refl;
       thread = refl;
       ended = refl;
       due = refl;

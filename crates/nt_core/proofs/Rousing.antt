@@ -33,14 +33,14 @@ marks_less (Some v ∷ marks) zero u is = omega arith
 marks_less (None ∷ marks) (suc t) u is = marks_less marks t u is
 marks_less (Some v ∷ marks) (suc t) u is = let rest = marks_less marks t u is in omega (arith, rest)
 
-cleared_other : (marks : List (Option ℕ)) (t k : ℕ) → k ≢ t → alarm_at (set marks t None) k ≡ alarm_at marks k
+pub cleared_other : (marks : List (Option ℕ)) (t k : ℕ) → k ≢ t → alarm_at (set marks t None) k ≡ alarm_at marks k
 cleared_other [] t k other = refl
 cleared_other (a ∷ marks) zero zero other = absurd (other refl)
 cleared_other (a ∷ marks) zero (suc k) other = refl
 cleared_other (a ∷ marks) (suc t) zero other = refl
 cleared_other (a ∷ marks) (suc t) (suc k) other = cleared_other marks t k (λ e. other (ap suc e))
 
-cleared_here : (marks : List (Option ℕ)) (t : ℕ) → alarm_at (set marks t None) t ≡ None
+pub cleared_here : (marks : List (Option ℕ)) (t : ℕ) → alarm_at (set marks t None) t ≡ None
 cleared_here [] t = refl
 cleared_here (a ∷ marks) zero = refl
 cleared_here (a ∷ marks) (suc t) = cleared_here marks t
@@ -78,7 +78,7 @@ still_alerted s ts x alerted =
     let before = over_pending s ts true x alerted.0 alerted.1 in
     ((alerted.0, before.0, subst (λ (qs : List (List Queued)). ((alerted.0).alertable && has_apc qs x) ≡ true) (over_apcs s ts true) alerted.2), before.1)
 
-lowest_least : (marks : List (Option ℕ)) (t x : ℕ) → IsLowestAt marks 0 t → alarm_at marks x ≡ Some 0 → t ≤ x
+pub lowest_least : (marks : List (Option ℕ)) (t x : ℕ) → IsLowestAt marks 0 t → alarm_at marks x ≡ Some 0 → t ≤ x
 lowest_least marks t x lowest is = go (nat_le t x) refl
   where
     go : (b : Bool) → nat_le t x ≡ b → t ≤ x

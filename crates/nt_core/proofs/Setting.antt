@@ -201,8 +201,8 @@ settled_sets _ h o is = same_sets o 0 is
 
 turn_setting : (h : ℕ) (old : State) (turn : Turn) (new : State) → AreFair old.waits → IsTurn old turn new → resets (object_at new.objects h) ≡ true → Sets (object_at old.objects h) (object_at new.objects h) (one_if (turn_sets h old turn)) (length (takers h (turn_took old turn)))
 turn_setting h old (Calls who call (Ok reply) grants) new fair is ends =
-    let none = undenied old who (is_denied old call) (call_named old.handles call) is.0 in
-    let c = in_call h old who (call_named old.handles call) reply grants new fair none is.1 in
+    let none = undenied old who (is_denied old call) (call_named old.handles call) is.1.0 in
+    let c = in_call h old who call reply grants new fair is (plain (object_at new.objects h) ends) in
     let last = all_taken (settled_at (call_named old.handles call) h c.calm) (object_at new.objects h) c.last c.begins ends in
     let settled = settled_sets (call_named old.handles call) h c.calm last.resets in
     let first = all_taken (object_at (change old who (call_named old.handles call)).objects h) c.calm c.first c.serves settled.resets in

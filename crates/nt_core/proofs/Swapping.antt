@@ -10,7 +10,7 @@ use Rattle.std.proofs.lemmas.List.{append-nil}
 use Rattle.nt_status.specs.declared.refusal.Refusal.TheVariants.{InvalidHandle, NotOwner, TooManyPosts, RecursionLimit}
 use Rattle.nt_objects.specs.declared.object.Object.{Object}
 use Rattle.nt_objects.specs.declared.object.Object.TheVariants.{Event, Semaphore, Mutex, Timer, Thread, Gone}
-use Rattle.nt_objects.specs.Object.{is_mutex, owned_by, overflows, has_ended, IsLawfulObject}
+use Rattle.nt_objects.specs.Object.{is_mutex, owned_by, overflows, has_ended, is_gone, IsLawfulObject}
 use Rattle.nt_waits.specs.declared.wait.Wait.{Wait}
 use Rattle.nt_core.specs.declared.call.Call.{Call}
 use Rattle.nt_core.specs.declared.call.WaitCall.{WaitCall}
@@ -28,6 +28,7 @@ use Rattle.nt_objects.proofs.Lawful.{lawful_released, lawful_unlocked}
 use Rattle.nt_core.proofs.Accepting.{next_causes, own_causes, free_caller, no_alert}
 use Rattle.nt_core.proofs.Orders.{length-filter-le}
 use Rattle.nt_core.proofs.Keeping.{TakesWell, objects_taken_well}
+use Rattle.nt_core.proofs.Marking.{marks_along}
 use Rattle.nt_core.proofs.Visiting.{can_take, len_removed}
 use Rattle.nt_core.proofs.Walks.{get_removed}
 use Rattle.nt_core.proofs.Changing.{reading_set, limit_set, sound_replaced}
@@ -48,6 +49,7 @@ sound_prepared d prepared sound = record {
   none_else = sound.none_else;
   timers = sound.timers;
   handles = sound.handles;
+  marks = marks_along refl refl refl (λ o. refl) refl sound.marks;
   room = sound.room;
 }
 
@@ -113,6 +115,7 @@ pub record LeavesCaller (s new : State) (gs : List Grant) (t : ℕ) : Type 0 whe
   pub idle : fin.get new.waits t ≡ None
   pub as_long : length new.objects ≡ length s.objects
   pub ended : (k : ℕ) → has_ended (object_at new.objects k) ≡ has_ended (object_at s.objects k)
+  pub gone : (k : ℕ) → is_gone (object_at new.objects k) ≡ is_gone (object_at s.objects k)
   pub unlimited : (h : ℕ) → is_at_limit s.objects t h ≡ false → is_at_limit new.objects t h ≡ false
   pub fewer : fin.len new.waits + length gs ≡ fin.len s.waits
 
@@ -130,6 +133,7 @@ serving_leaves n threads s new [] t is sound idle = subst (λ (x : State). Leave
   idle = idle;
   as_long = refl;
   ended = λ k. refl;
+  gone = λ k. refl;
   unlimited = λ h below. below;
   fewer = omega arith;
 })
@@ -148,6 +152,7 @@ serving_leaves n threads s new (g ∷ gs) t has sound idle =
       idle = rest.idle;
       as_long = rest.as_long ∙ well.length;
       ended = λ k. rest.ended k ∙ well.ended k;
+      gone = λ k. rest.gone k ∙ well.gone k;
       unlimited = λ h below. rest.unlimited h (well.unlimited t differs h below);
       fewer = let fewer = rest.fewer in omega (arith, fewer, one);
     }
@@ -164,6 +169,7 @@ serving_leaves n threads s new (g ∷ gs) t has sound idle =
           few = other.few;
           apart = other.apart;
           named = λ h names. (subst (λ (n : ℕ). h < n) (sym well.length) (other.named h names).0, well.unlimited u before.0 h (other.named h names).1);
+          living = λ h names. well.gone h ∙ other.living h names;
         }
 
 -- ---- the dispatcher once the others are served
@@ -179,6 +185,7 @@ lawful_signal Gone within lawful = lawful
 module _ (old calm : Dispatcher) (t h object ms : ℕ) (alertable : Bool)
     (fresh : IsFresh old)
     (free : refusal (state old) t false (Call.Wait (WaitCall.Swap h object ms alertable)) ≡ None)
+    (living : object < length old.objects → is_gone (object_at old.objects object) ≡ false)
     (served : IsServedAfter old (at (state old) h signal) calm) where
   caller : (t < old.threads) × (has_ended (object_at old.objects t) ≡ false) × (fin.get old.table.pending t ≡ None)
   caller = free_caller (state old) t (Call.Wait (WaitCall.Swap h object ms alertable)) free
@@ -214,6 +221,7 @@ module _ (old calm : Dispatcher) (t h object ms : ℕ) (alertable : Bool)
       subst (λ (n : ℕ). object < n) (sym (left.as_long ∙ length-set old.objects h (signal (object_at old.objects h)))) may.known,
       left.unlimited object (limit_set old.objects h (signal (object_at old.objects h)) t (replaced.unlimited t) object may.below),
     );
+    living = λ k names. subst (λ (k : ℕ). is_gone (object_at calm.objects k) ≡ false) (only k (subst (λ (hs : List ℕ). (j : ℕ) × (j < length hs) × (slice_index hs j ≡ k)) is names)) (left.gone object ∙ (reading_set is_gone old.objects h (signal (object_at old.objects h)) replaced.gone object ∙ living may.known));
   }
     where
       only : (k : ℕ) → (j : ℕ) × (j < 1) × (slice_index (object ∷ []) j ≡ k) → object ≡ k

@@ -6,7 +6,7 @@ use Rattle.nt_objects.specs.declared.object.Object.{Object}
 use Rattle.nt_objects.specs.declared.object.Object.TheVariants.{Event, Semaphore, Mutex, Timer, Thread, Gone}
 use Rattle.nt_objects.specs.declared.object.Armed.{Armed}
 use Rattle.nt_objects.specs.declared.object.Routine.{Routine}
-use Rattle.nt_objects.specs.Object.{signaled, is_timer, is_thread, has_ended, owned_by, due_of, setter_of, setting_of, armed_with, IsLawfulObject}
+use Rattle.nt_objects.specs.Object.{signaled, is_timer, is_thread, is_gone, has_ended, owned_by, due_of, setter_of, setting_of, armed_with, IsLawfulObject}
 use Rattle.nt_alarms.specs.Alarms.{alarm_at}
 use Rattle.nt_apc.specs.declared.apc.Queued.{Queued}
 use Rattle.nt_apc.specs.Queues.{Apcs, queue_of, has_apc, has_from, is_from, withdrawn, without_from, place_of, KeepsPlaces}
@@ -21,6 +21,8 @@ use Rattle.nt_core.specs.Change.{timer_cancelled}
 use Rattle.nt_core.specs.Lawful.{IsSound, IsSteady}
 use Rattle.nt_core.specs.Accepts.{IsFresh, Accepts}
 use Rattle.nt_core.proofs.Handling.{handles_along}
+use Rattle.nt_core.proofs.Keeping.{own_kept}
+use Rattle.nt_core.proofs.Marking.{marks_same}
 use Rattle.nt_core.proofs.Changing.{reading_set, limit_set, property_set, object_at-set_same, object_at-set_other, set_as_before, known_object, one_changed, same_changed, served_fewer, due_kept}
 use Rattle.nt_core.proofs.Accepting.{accepted}
 use Rattle.nt_core.proofs.Replacing.{idle_served}
@@ -121,6 +123,14 @@ timer_lawful (Timer manual was armed) is = tt
 timer_lawful (Thread ended) is = tt
 timer_lawful Gone is = tt
 
+timer_lives : (o : Object) → is_timer o ≡ true → is_gone o ≡ false
+timer_lives (Event manual was) is = refl
+timer_lives (Semaphore count maximum) is = refl
+timer_lives (Mutex owner depth abandoned) is = refl
+timer_lives (Timer manual was armed) is = refl
+timer_lives (Thread ended) is = refl
+timer_lives Gone is = absurd (false≢true is)
+
 alarm_set : (alarms : List (Option ℕ)) (os : List Object) (h : ℕ) (o : Object) → length alarms ≡ length os → ((k : ℕ) → alarm_at alarms k ≡ due_of (object_at os k)) → (k : ℕ) → alarm_at (set alarms h (due_of o)) k ≡ due_of (object_at (set os h o) k)
 alarm_set [] [] h o len all k = all k
 alarm_set [] (x ∷ os) h o len all k = absurd (omega (arith, len))
@@ -149,12 +159,13 @@ retimed_sound d h o apcs sound was is len placed others = record {
         few = own.few;
         apart = own.apart;
         named = λ k names. (subst (λ (n : ℕ). k < n) (sym (length-set d.objects h o)) (own.named k names).0, limit_set d.objects h o t (λ below. rw (timer_unowned o t is) refl) k (own.named k names).1);
+        living = λ k names. gone k ∙ own.living k names;
       };
   blocks = sound.blocks;
   hands = sound.hands;
   inboxes = len ∙ sound.inboxes;
   objects = property_set IsLawfulObject d.objects h o (timer_lawful o is) sound.objects;
-  own = λ t below. (subst (λ (n : ℕ). t < n) (sym (length-set d.objects h o)) (sound.own t below).0, threads t ∙ (sound.own t below).1);
+  own = λ t below. (subst (λ (n : ℕ). t < n) (sym (length-set d.objects h o)) (sound.own t below).0, own_kept _ _ (threads t) (gone t) (sound.own t below).1);
   none_else = λ k beyond known. threads k ∙ sound.none_else k beyond (subst (λ (n : ℕ). k < n) (length-set d.objects h o) known);
   timers = record {
     count = length-set d.alarms h (due_of o) ∙ (sound.timers.count ∙ sym (length-set d.objects h o));
@@ -163,6 +174,7 @@ retimed_sound d h o apcs sound was is len placed others = record {
     runs = λ k t sets. let here = own k t sets in (here.1, ended t ∙ here.2);
   };
   handles = handles_along d.handles (length-set d.objects h o) sound.handles;
+  marks = marks_same d (retimed d h o apcs) refl refl refl (λ k. refl) (length-set d.objects h o) gone ended sound.marks;
   room = sound.room;
 }
   where
@@ -171,6 +183,9 @@ retimed_sound d h o apcs sound was is len placed others = record {
 
     threads : (k : ℕ) → is_thread (object_at (set d.objects h o) k) ≡ is_thread (object_at d.objects k)
     threads = reading_set is_thread d.objects h o (timer_no_thread o is ∙ sym (timer_no_thread (object_at d.objects h) was))
+
+    gone : (k : ℕ) → is_gone (object_at (set d.objects h o) k) ≡ is_gone (object_at d.objects k)
+    gone = reading_set is_gone d.objects h o (timer_lives o is ∙ sym (timer_lives (object_at d.objects h) was))
 
     own : (k t : ℕ) → setter_of (object_at (set d.objects h o) k) ≡ Some t → (place_of apcs.places k ≡ Some t) × (t < d.threads) × (has_ended (object_at d.objects t) ≡ false)
     own k t sets = elim (cases_eq k h) [

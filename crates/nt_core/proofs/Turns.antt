@@ -1,11 +1,13 @@
 -- What a turn does to one object: a change, then takings. A new call asks for a line in `acted` or `changed_at` where it changes
 -- an object that is no timer, one in `act_object` or `change_object`, and one in each of Giving, Owing and Setting that it concerns.
-use Rattle.std.proofs.Common.{◌≡◌, ℕ, zero, suc, Bool, true, false, cond, not, ◌&&◌, ◌==◌, List, [], ◌∷◌, ◌++◌, length, set, refl, sym, ap, ◌∙◌, subst, arith, Option, Some, None, inl, inr, ◌⊎◌}
-use Rattle.std.specs.Prelude.{pos, nat_le, int_lt, unsigned_abs, map, slice_set}
+use Rattle.std.proofs.Common.{◌≡◌, ◌≤◌, ℕ, zero, suc, Bool, true, false, cond, not, ◌&&◌, ◌||◌, ◌==◌, List, [], ◌∷◌, ◌++◌, length, set, refl, sym, ap, ◌∙◌, subst, arith, Option, Some, None, inl, inr, ◌⊎◌}
+use Rattle.std.specs.Prelude.{pos, nat_le, nat_lt, int_lt, unsigned_abs, map, slice_set}
+use Rattle.std.specs.List.{list_any}
 use Rattle.std.specs.FinMap.{get}
 use Rattle.std.specs.declared.result.Result.{Result}
 use Rattle.std.specs.declared.result.Result.TheVariants.{Ok, Err}
 use Rattle.std.proofs.lemmas.Bool.{cases_eq, false≢true}
+use Rattle.std.proofs.lemmas.Bool.Decides.{nat_tests}
 use Rattle.std.proofs.lemmas.List.{append-nil}
 use Rattle.nt_status.specs.Status.{io_completion_code}
 use Rattle.nt_status.specs.declared.refusal.Refusal.{Refusal}
@@ -14,7 +16,7 @@ use Rattle.nt_waits.specs.declared.wait.Wait.{Wait}
 use Rattle.nt_objects.specs.declared.object.Object.{Object}
 use Rattle.nt_objects.specs.declared.object.Object.TheVariants.{Event, Semaphore, Mutex, Timer, Thread, Gone}
 use Rattle.nt_objects.specs.declared.object.Armed.{Armed}
-use Rattle.nt_objects.specs.Object.{is_timer, taken, event_of, mutex_of, timer_of, with_set, released, overflows, unlocked, armed_with, setting_of, rearmed, unset_by, abandoned_by}
+use Rattle.nt_objects.specs.Object.{is_timer, is_gone, taken, event_of, mutex_of, timer_of, with_set, released, overflows, unlocked, armed_with, setting_of, rearmed, unset_by, abandoned_by}
 use Rattle.nt_apc.specs.Queues.{has_apc}
 use Rattle.nt_core.specs.declared.call.Call.{Call}
 use Rattle.nt_core.specs.declared.call.Act.{Act}
@@ -28,12 +30,13 @@ use Rattle.nt_core.specs.Serving.{fits, status, is_sleep, late_status, taken_by,
 use Rattle.nt_core.specs.Change.{created, signal, change, act_change, may_take, expired, expired_as, all_expired, armed_anew, timer_set, timer_cancelled, due_moment, routine_for, exited}
 use Rattle.nt_core.specs.Rights.{is_denied}
 use Rattle.nt_core.proofs.Judging.{undenied}
-use Rattle.nt_core.specs.Refusals.{Cause, first_of_causes, refusal, is_no, is_unknown, is_foreign, is_at_limit, may_signal}
-use Rattle.nt_core.specs.Steps.{Step, wait_of, begun, answered, after_serving, MomentPasses, MomentsPass, Ticked}
+use Rattle.nt_core.specs.Refusals.{Cause, first_of_causes, refusal, wait_limit, has_twice, is_no, is_unknown, is_foreign, is_at_limit, may_signal}
+use Rattle.nt_core.specs.Steps.{Step, Called, wait_of, begun, answered, after_serving, MomentPasses, MomentsPass, Ticked}
 use Rattle.nt_core.specs.Runs.{Turn, Calls, Ticks, IsTurn, Turns}
 use Rattle.nt_core.specs.Takes.{takes_of, grants_took, reply_took, call_took, turn_took, takers}
+use Rattle.nt_core.proofs.Remaining.{ends_object, ends_waits}
 use Rattle.nt_core.proofs.Changing.{object_at-set_other}
-use Rattle.nt_core.proofs.Accepting.{next_causes, own_causes, sound_objects, sound_sleep, distinct_handles, free_caller, nothing_pends}
+use Rattle.nt_core.proofs.Accepting.{next_causes, own_causes, distinct_handles, nothing_pends}
 use Rattle.nt_core.proofs.Alerting.{over_pending}
 use Rattle.nt_core.proofs.Beginning.{get_inserted}
 use Rattle.nt_core.proofs.Takes.{same_yes, same_no, TakenBy, TakenBy-append, takers-append, IsFair, AreFair, wait_taken, IsWithin, grants_within, grants_taken, grants_took-append, alerted_told, timed_told, late_told}
@@ -201,6 +204,7 @@ act_object s t (Act.SetTimer g due period routine) h none plain =
     (known_kind is_timer s.objects g ((int_lt period (pos 0), InvalidParameter) ∷ []) (own_causes s t (Call.Act (Act.SetTimer g due period routine)) none)) plain
 act_object s t (Act.QueueApc thread routine arg) h none plain = refl
 act_object s t (Act.Duplicate object access) h none plain = refl
+act_object s t (Act.Close closed) h none plain = refl
 act_object s t Act.NextApc h none plain = go (may_take s t)
   where
     go : (b : Bool) → object_at (cond b (record s { apcs = Rattle.nt_apc.specs.Queues.taken s.apcs t }) (with_handing s t false)).objects h ≡ object_at s.objects h
@@ -329,11 +333,19 @@ begun_fair s t w ms reply new fair all is = go (fits s.objects t w) (w.alertable
 
 -- a wait that no cause refuses is fair
 fair_call : (s : State) (t : ℕ) (wait : WaitCall) (now : ℕ) → refusal s t false (Call.Wait wait) ≡ None → IsFair (wait_of now wait)
-fair_call s t (WaitCall.Objects all alertable ms handles) now none = let sound = sound_objects s t handles all alertable ms none in (sound.few, sound.apart)
-fair_call s t (WaitCall.Sleep ms alertable) now none =
-    let caller = free_caller s t (Call.Wait (WaitCall.Sleep ms alertable)) none in
-    let sound = sound_sleep s t caller.0 caller.1 in
-    (sound.few, sound.apart)
+fair_call s t (WaitCall.Objects all alertable ms handles) now none =
+    let own = own_causes s t (Call.Wait (WaitCall.Objects all alertable ms handles)) none in
+    let last : List Cause = (list_any (is_at_limit s.objects t) handles, RecursionLimit) ∷ [] in
+    let apart : List Cause = (has_twice handles, InvalidParameter) ∷ last in
+    let first = next_causes (length handles == 0 || nat_lt wait_limit (length handles)) InvalidParameter ((list_any (is_unknown s.objects) handles, InvalidHandle) ∷ apart) own in
+    let known = next_causes (list_any (is_unknown s.objects) handles) InvalidHandle apart first.1 in
+    let twice = next_causes (has_twice handles) InvalidParameter last known.1 in
+    (few (length handles == 0) first.0, distinct_handles handles twice.0)
+  where
+    few : (none : Bool) → (none || nat_lt wait_limit (length handles)) ≡ false → length handles ≤ wait_limit
+    few true e = absurd (false≢true (sym e))
+    few false e = grind (arith, nat_tests, e)
+fair_call s t (WaitCall.Sleep ms alertable) now none = (omega arith, distinct_handles [] refl)
 fair_call s t (WaitCall.Swap g object ms alertable) now none = (omega arith, distinct_handles (object ∷ []) refl)
 
 same_handles : (t now then : ℕ) (wait : WaitCall) (reply : Reply) → reply_took t (wait_of now wait) reply ≡ reply_took t (wait_of then wait) reply
@@ -349,13 +361,13 @@ same_handles t now then wait (Reply.Apc apc) = refl
 -- ---- an accepted call
 
 -- the object at h in a call: changed, taken by pending waits, settled, and taken by the caller's own wait
-pub record InCall (h : ℕ) (old : State) (who : ℕ) (call : Call) (reply : Reply) (grants : List Grant) (new : State) : Type 0 where
+pub record InCall (h : ℕ) (old : State) (who : ℕ) (call : Call) (reply : Reply) (grants : List Grant) (new : Object) : Type 0 where
   pub calm : Object
   pub first : List ℕ
   pub last : List ℕ
   pub becomes : is_plain (object_at (change old who call).objects h) ≡ true → object_at (change old who call).objects h ≡ changed_at (length old.objects) who call h (object_at old.objects h)
   pub serves : TakenBy (object_at (change old who call).objects h) first calm
-  pub begins : TakenBy (settled_at call h calm) last (object_at new.objects h)
+  pub begins : TakenBy (settled_at call h calm) last new
   pub told : takers h (grants_took old.waits grants ++ call_took old.now who call reply) ≡ first ++ last
 
 ends_at : (h : ℕ) (old woken new : State) (who : ℕ) (call : Call) (reply : Reply) → refusal old who false call ≡ None → (reply, new) ≡ answered old woken who call → TakenBy (object_at woken.objects h) (takers h (call_took old.now who call reply)) (object_at new.objects h)
@@ -364,8 +376,8 @@ ends_at h old woken new who (Call.Wait wait) reply none is =
     (begun_taken woken who (wait_of woken.now wait) (timeout_of wait) h reply new (fair_call old who wait woken.now none) is)
 ends_at h old woken new who _ reply none is = ap (λ p. object_at p.1.objects h) is
 
-pub in_call : (h : ℕ) (old : State) (who : ℕ) (call : Call) (reply : Reply) (grants : List Grant) (new : State) → AreFair old.waits → refusal old who false call ≡ None → Step old who call reply grants new → InCall h old who call reply grants new
-in_call h old who call reply grants new fair none step =
+in_step : (h : ℕ) (old : State) (who : ℕ) (call : Call) (reply : Reply) (grants : List Grant) (new : State) → AreFair old.waits → refusal old who false call ≡ None → Step old who call reply grants new → InCall h old who call reply grants (object_at new.objects h)
+in_step h old who call reply grants new fair none step =
     let within : IsWithin (change old who call).waits old.waits = λ t w e. subst (λ m. get m t ≡ Some w) (change_waits old who call) e in
     let served = grants_taken (sequence old step.handles) (change old who call) step.calm step.served old.waits h step.serves.0 within fair in
     let woken : object_at step.woken.objects h ≡ settled_at call h (object_at step.calm.objects h) =
@@ -382,6 +394,21 @@ in_call h old who call reply grants new fair none step =
       begins = subst (λ o. TakenBy o (takers h (call_took old.now who call reply)) (object_at new.objects h)) woken (ends_at h old step.woken new who call reply none step.answers);
       told = ap (λ ks. takers h (ks ++ call_took old.now who call reply)) all ∙ takers-append h (grants_took old.waits step.served) (call_took old.now who call reply);
     }
+
+plain_lives : (o : Object) → is_plain o ≡ true → is_gone o ≡ false
+plain_lives (Event manual set) plain = refl
+plain_lives (Semaphore count maximum) plain = refl
+plain_lives (Mutex owner depth abandoned) plain = refl
+plain_lives (Timer manual set armed) plain = refl
+plain_lives (Thread ended) plain = refl
+plain_lives Gone plain = absurd (false≢true plain)
+
+-- where it is not gone at the end, the end of objects does nothing to it
+pub in_call : (h : ℕ) (old : State) (who : ℕ) (call : Call) (reply : Reply) (grants : List Grant) (new : State) → AreFair old.waits → Called old who call (Ok reply) grants new → is_plain (object_at new.objects h) ≡ true → InCall h old who (call_named old.handles call) reply grants (object_at new.objects h)
+in_call h old who call reply grants new fair is plain =
+    let none = undenied old who (is_denied old call) (call_named old.handles call) is.1.0 in
+    subst (InCall h old who (call_named old.handles call) reply grants) (sym (ends_object is.0 new is.2 h (plain_lives (object_at new.objects h) plain)))
+    (in_step h old who (call_named old.handles call) reply grants is.0 fair none is.1.1)
 
 alert_within : (old new : State) (grants : List Grant) (waits : Pending) → Alert old grants new → IsWithin old.waits waits → IsWithin new.waits waits
 alert_within old new grants waits alert within = subst (λ (s : State). IsWithin s.waits waits) (sym alert.leaves) (λ t w e. within t w (over_pending old alert.threads true t w e).0)
@@ -469,18 +496,26 @@ moments_taken (u ∷ us) h old m grants new waits pass within fair plain =
 
 -- the object at h in a tick: taken, no more, unless it is a timer
 pub in_tick : (h : ℕ) (old : State) (by m : ℕ) (r : Result Reply Refusal) (grants : List Grant) (new : State) → AreFair old.waits → Ticked old m r grants new → is_plain (object_at new.objects h) ≡ true → TakenBy (object_at old.objects h) (takers h (turn_took old (Ticks by m r grants))) (object_at new.objects h)
-in_tick h old by m (Ok reply) grants new fair ticked plain = moments_taken ticked.2.0 h old m grants new old.waits ticked.2.1 (λ t w e. e) fair plain
+in_tick h old by m (Ok reply) grants new fair ticked plain =
+    let left : State = ticked.2.1 in
+    let same = ends_object left new ticked.2.3 h (plain_lives (object_at new.objects h) plain) in
+    subst (TakenBy (object_at old.objects h) (takers h (grants_took old.waits grants))) (sym same)
+    (moments_taken ticked.2.0 h old m grants left old.waits ticked.2.2 (λ t w e. e) fair (sym (ap is_plain same) ∙ plain))
 in_tick h old by m (Err r) grants new fair ticked plain =
     subst (λ gs. TakenBy (object_at old.objects h) (takers h (grants_took old.waits gs)) (object_at new.objects h)) (sym ticked.2) (ap (λ (s : State). object_at s.objects h) ticked.3)
 
 tick_fair : (old : State) (m : ℕ) (r : Result Reply Refusal) (grants : List Grant) (new : State) → AreFair old.waits → Ticked old m r grants new → AreFair new.waits
-tick_fair old m (Ok reply) grants new fair ticked = fair_within new.waits old.waits (moments_within ticked.2.0 old m grants new old.waits ticked.2.1 (λ t w e. e)) fair
+tick_fair old m (Ok reply) grants new fair ticked =
+    let left : State = ticked.2.1 in
+    subst AreFair (sym (ends_waits left new ticked.2.3)) (fair_within left.waits old.waits (moments_within ticked.2.0 old m grants left old.waits ticked.2.2 (λ t w e. e)) fair)
 tick_fair old m (Err r) grants new fair ticked = subst (λ (s : State). AreFair s.waits) (sym ticked.3) fair
 
 -- ---- pending waits of a run are fair
 
 pub turn_fair : (old : State) (turn : Turn) (new : State) → AreFair old.waits → IsTurn old turn new → AreFair new.waits
-turn_fair old (Calls who call (Ok reply) grants) new fair is = call_fair old who (call_named old.handles call) reply grants new fair (undenied old who (is_denied old call) (call_named old.handles call) is.0) is.1
+turn_fair old (Calls who call (Ok reply) grants) new fair is =
+    let none = undenied old who (is_denied old call) (call_named old.handles call) is.1.0 in
+    subst AreFair (sym (ends_waits is.0 new is.2)) (call_fair old who (call_named old.handles call) reply grants is.0 fair none is.1.1)
 turn_fair old (Calls who call (Err r) grants) new fair is = subst (λ (s : State). AreFair s.waits) (sym is.2) fair
 turn_fair old (Ticks by m r grants) new fair is = tick_fair old m r grants new fair is
 

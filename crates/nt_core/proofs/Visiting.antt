@@ -13,14 +13,15 @@ use Rattle.nt_core.specs.State.{State, Pending, object_at}
 use Rattle.nt_core.specs.Dispatcher.{Dispatcher, state}
 use Rattle.nt_core.specs.Serving.{fits, satisfied, granted, IsTried, CanTake}
 use Rattle.nt_core.specs.Visits.{IsVisited}
-use Rattle.nt_core.specs.Lawful.{IsSoundWait, IsSound}
+use Rattle.nt_core.specs.Lawful.{IsSoundWait, IsSound, MarksAgreeBut}
 use Rattle.nt_objects.specs.Object.{has_room, signaled, owned_by, IsLawfulObject}
 use Rattle.nt_objects.specs.declared.object.Object.TheVariants.{Event, Semaphore, Mutex, Timer, Thread, Gone}
 use Rattle.std.proofs.lemmas.Bool.Decides.{nat_tests}
 use Rattle.std.specs.Prelude.{slice_index}
 use Rattle.std.proofs.Common.{not, ◌&&◌, inl, inr}
 use Rattle.nt_core.proofs.Handling.{handles_along}
-use Rattle.nt_core.proofs.Keeping.{TakesWell, objects_taken_well, taken_timers}
+use Rattle.nt_core.proofs.Keeping.{TakesWell, objects_taken_well, taken_timers, own_kept}
+use Rattle.nt_core.proofs.Marking.{marks_along, marks_ended}
 use Rattle.nt_core.proofs.Walks.{get_removed}
 
 pub counted : (n : ℕ) → n + 1 < 2 ^ 64 → counted_once n ≡ n + 1
@@ -74,6 +75,7 @@ looked_sound d looked sound = record {
   none_else = sound.none_else;
   timers = sound.timers;
   handles = sound.handles;
+  marks = marks_along refl refl refl (λ o. refl) refl sound.marks;
   room = sound.room;
 }
 
@@ -97,9 +99,19 @@ pub state_same : (s r : State) → s.threads ≡ r.threads → s.handles ≡ r.h
 state_same s r threads handles objects waits queues apcs handing now =
     λ i. record { threads = threads i; handles = handles i; objects = objects i; waits = waits i; queues = λ h. queues h i; apcs = apcs i; handing = handing i; now = now i }
 
-pub visit_granted : (old : Dispatcher) (t code : ℕ) (w : Wait) (objects : List Object) (owned : List (List ℕ)) (table : Waits) (grants : List Grant) → IsSound old → Some w ≡ map.get old.table.pending t → IsTried old.objects objects t w (Some code) → table.pending ≡ map.remove old.table.pending t → ((h : ℕ) → queue_of table h ≡ others t (queue_of old.table h)) → table.looked ≡ old.table.looked + 1 → Agrees table.pending table.queues → grants ≡ old.grants ++ record { thread = t; status = code } ∷ [] → IsVisited old (record old { objects = objects; owned = owned; table = table; handing = set old.handing t false; grants = grants }) t × IsSound (record old { objects = objects; owned = owned; table = table; handing = set old.handing t false; grants = grants })
-visit_granted old t code w objects owned table grants sound has tried waits queues looked agrees pushed =
-    let new : Dispatcher = record old { objects = objects; owned = owned; table = table; handing = set old.handing t false; grants = grants } in
+pub same_wait : (v w : Wait) → Some v ≡ Some w → v ≡ w
+same_wait v w e = (cc)
+
+-- after it what it named may lack its mark
+pub visit_unmarked : (old : Dispatcher) (t code : ℕ) (w : Wait) (objects : List Object) (owned : List (List ℕ)) (table : Waits) (grants : List Grant) → IsSound old → Some w ≡ map.get old.table.pending t → IsTried old.objects objects t w (Some code) → ((h : ℕ) → queue_of table h ≡ others t (queue_of old.table h)) → MarksAgreeBut w.handles (record old { objects = objects; owned = owned; table = table; handing = set old.handing t false; grants = grants })
+visit_unmarked old t code w objects owned table grants sound has tried queues =
+    let own = sound.waits t w (sym has) in
+    let well = subst (λ (os : List Object). TakesWell old.objects os t) (sym tried.2) (objects_taken_well old.objects t w own.apart (can_take old.objects t old.threads w sound.objects own) tried.0) in
+    marks_ended old (record old { objects = objects; owned = owned; table = table; handing = set old.handing t false; grants = grants }) t w sound (sym has) refl refl refl queues well.length well.gone well.ended
+
+pub visit_granted : (old : Dispatcher) (t code : ℕ) (w : Wait) (objects : List Object) (owned : List (List ℕ)) (table : Waits) (grants : List Grant) (leaving : List (Option ℕ)) → IsSound old → Some w ≡ map.get old.table.pending t → IsTried old.objects objects t w (Some code) → table.pending ≡ map.remove old.table.pending t → ((h : ℕ) → queue_of table h ≡ others t (queue_of old.table h)) → table.looked ≡ old.table.looked + 1 → Agrees table.pending table.queues → grants ≡ old.grants ++ record { thread = t; status = code } ∷ [] → MarksAgreeBut [] (record old { objects = objects; owned = owned; table = table; handing = set old.handing t false; grants = grants; leaving = leaving }) → IsVisited old (record old { objects = objects; owned = owned; table = table; handing = set old.handing t false; grants = grants; leaving = leaving }) t × IsSound (record old { objects = objects; owned = owned; table = table; handing = set old.handing t false; grants = grants; leaving = leaving })
+visit_granted old t code w objects owned table grants leaving sound has tried waits queues looked agrees pushed marks =
+    let new : Dispatcher = record old { objects = objects; owned = owned; table = table; handing = set old.handing t false; grants = grants; leaving = leaving } in
     let own = sound.waits t w (sym has) in
     let well = subst (λ (os : List Object). TakesWell old.objects os t) (sym tried.2) (objects_taken_well old.objects t w own.apart (can_take old.objects t old.threads w sound.objects own) tried.0) in
     let longer : length grants ≡ length old.grants + 1 = ap (λ gs. length gs) pushed ∙ length-append old.grants (record { thread = t; status = code } ∷ []) in
@@ -123,15 +135,17 @@ visit_granted old t code w objects owned table grants sound has tried waits queu
               few = other.few;
               apart = other.apart;
               named = λ h names. (subst (λ (n : ℕ). h < n) (sym well.length) (other.named h names).0, well.unlimited u before.0 h (other.named h names).1);
+              living = λ h names. well.gone h ∙ other.living h names;
             };
         blocks = agrees;
         hands = length-set old.handing t false ∙ sound.hands;
         inboxes = sound.inboxes;
         objects = well.lawful sound.objects;
-        own = λ u below. (subst (λ (n : ℕ). u < n) (sym well.length) (sound.own u below).0, well.threads u ∙ (sound.own u below).1);
+        own = λ u below. (subst (λ (n : ℕ). u < n) (sym well.length) (sound.own u below).0, own_kept _ _ (well.threads u) (well.gone u) (sound.own u below).1);
         none_else = λ h beyond known. well.threads h ∙ sound.none_else h beyond (subst (λ (n : ℕ). h < n) well.length known);
         timers = taken_timers old.threads old.objects objects old.alarms old.apcs.places t sound.timers well;
         handles = handles_along old.handles well.length sound.handles;
+        marks = marks;
         room = omega (arith, sound.room, longer, fewer, same);
       },
     )

@@ -1,13 +1,15 @@
 -- What an accepted call does to the dispatcher.
-use Rattle.std.specs.Prelude.{◌≡◌, ℕ, ◌+◌, ◌≢◌, ◌<◌, ◌≤◌, ◌⊎◌, Bool, true, not, ◌&&◌, ◌==◌, List, [], ◌∷◌, ◌++◌, length, Option, Some, None, IfSome}
+use Rattle.std.specs.Prelude.{◌≡◌, ℕ, ◌+◌, ◌≢◌, ◌<◌, ◌≤◌, ◌⊎◌, Bool, true, false, not, ◌&&◌, ◌==◌, List, [], ◌∷◌, ◌++◌, length, Option, Some, None, IfSome}
 use Rattle.std.specs.List.{filter}
 use Rattle.std.specs.FinMap.{len, get}
 use Rattle.nt_status.specs.Status.{io_completion_code, timeout_code}
+use Rattle.nt_core.specs.declared.call.Act.{Act}
 use Rattle.nt_core.specs.declared.call.Call.{Call}
 use Rattle.nt_core.specs.declared.call.Reply.{Reply}
 use Rattle.nt_core.specs.declared.call.Grant.{Grant}
 use Rattle.nt_core.specs.Rising.{AreRising}
-use Rattle.nt_objects.specs.Object.{armed_with}
+use Rattle.nt_objects.specs.declared.object.Object.{Object}
+use Rattle.nt_objects.specs.Object.{armed_with, is_gone}
 use Rattle.nt_objects.specs.declared.object.Routine.{Routine}
 use Rattle.nt_alarms.specs.Alarms.{alarm_at}
 use Rattle.nt_apc.specs.Queues.{withdrawn, place_of}
@@ -121,6 +123,11 @@ pub record IsExitedAfter (old : Dispatcher) (t : ℕ) (new : Dispatcher) (handle
   pub changed : AreRising (IsChanged old.objects new.objects) handles
   pub grants : new.grants ≡ old.grants
   pub table : new.table ≡ old.table
+
+-- where the act duplicates a handle of an object that there is, that object lives
+abbrev pub DuplicatesLiving : List Object → Act → Type 0
+DuplicatesLiving objects (Act.Duplicate object access) = object < length objects → is_gone (object_at objects object) ≡ false
+DuplicatesLiving objects act = Unit {0}
 
 -- steady, and nothing told yet of the call that comes
 pub record IsFresh (d : Dispatcher) : Type 0 where

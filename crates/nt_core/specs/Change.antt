@@ -24,6 +24,10 @@ at s h f = record s { objects = with_object s.objects h f }
 abbrev pub opened_too : State → ℕ → ℕ → State
 opened_too s object access = record s { handles = s.handles ++ Some (record { object = object; access = access }) ∷ [] }
 
+-- the handle names nothing any more, and no other gets its number (Win32 reference: CloseHandle)
+abbrev pub handle_closed : State → ℕ → State
+handle_closed s h = record s { handles = slice_set s.handles h None }
+
 -- one object more, with the next number, and a handle of it with all rights that its kind has
 abbrev pub created : State → Object → State
 created s o = opened_too (record s { objects = s.objects ++ o ∷ [] }) (length s.objects) (full_access o)
@@ -142,6 +146,7 @@ act_change s t (Act.CancelTimer h) = timer_cancelled s h
 act_change s t (Act.QueueApc h routine arg) = apc_queued s h routine arg
 act_change s t Act.NextApc = apc_taken s t
 act_change s t (Act.Duplicate object access) = opened_too s object access
+act_change s t (Act.Close h) = handle_closed s h
 
 abbrev pub wait_change : State → WaitCall → State
 wait_change s (WaitCall.Swap h object ms alertable) = at s h signal

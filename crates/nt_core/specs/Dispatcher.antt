@@ -26,6 +26,8 @@ pub record Dispatcher : Type 0 where
   pub grants : List Grant
   -- by handle, the due moment of an armed timer
   pub alarms : List (Option ℕ)
+  -- by object number, a mark where nothing may keep the object any more
+  pub leaving : List (Option ℕ)
 
 -- the state of the machine
 abbrev pub state : Dispatcher → State
@@ -52,10 +54,11 @@ with_created d o owned =
       objects = d.objects ++ o ∷ [];
       owned = owned;
       alarms = d.alarms ++ None ∷ [];
+      leaving = d.leaving ++ None ∷ [];
     }
 
-abbrev pub dispatcher_of : ℕ → List (Option Opened) → List Object → List (List ℕ) → Waits → Apcs → List Bool → ℕ → List Grant → List (Option ℕ) → Dispatcher
-dispatcher_of threads handles objects owned table apcs handing now grants alarms = record {
+abbrev pub dispatcher_of : ℕ → List (Option Opened) → List Object → List (List ℕ) → Waits → Apcs → List Bool → ℕ → List Grant → List (Option ℕ) → List (Option ℕ) → Dispatcher
+dispatcher_of threads handles objects owned table apcs handing now grants alarms leaving = record {
   threads = threads;
   handles = handles;
   objects = objects;
@@ -66,4 +69,5 @@ dispatcher_of threads handles objects owned table apcs handing now grants alarms
   now = now;
   grants = grants;
   alarms = alarms;
+  leaving = leaving;
 }

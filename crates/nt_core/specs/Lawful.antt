@@ -1,15 +1,15 @@
 -- What every call and tick leaves true.
 use Rattle.std.specs.declared.option.Option.{Option}
-use Rattle.std.specs.Prelude.{◌≡◌, ℕ, ◌<◌, ◌≤◌, ◌+◌, true, false, not, ◌&&◌, List, length, Some, nat_eq}
+use Rattle.std.specs.Prelude.{◌≡◌, ℕ, ◌<◌, ◌≤◌, ◌+◌, ◌⊎◌, true, false, not, ◌&&◌, List, [], length, Some, nat_eq}
 use Rattle.std.specs.FinMap as map
 use Rattle.std.specs.FinMap.{get}
 use Rattle.nt_objects.specs.declared.object.Object.{Object}
 use Rattle.nt_objects.specs.declared.handles.Opened.{Opened}
 use Rattle.nt_objects.specs.Handles.{opened_at}
 use Rattle.nt_owners.specs.Objects.{OwnersAgree}
-use Rattle.nt_objects.specs.Object.{IsLawfulObject, owned_by, has_room, has_ended, is_thread, due_of, setter_of}
+use Rattle.nt_objects.specs.Object.{IsLawfulObject, owned_by, has_room, has_ended, is_thread, is_gone, due_of, setter_of}
 use Rattle.nt_waits.specs.declared.wait.Wait.{Wait}
-use Rattle.nt_waits.specs.Waits.{Names, Agrees}
+use Rattle.nt_waits.specs.Waits.{IsMember, Names, Agrees}
 use Rattle.std.specs.List.{IsDistinct}
 use Rattle.nt_alarms.specs.Alarms.{alarm_at}
 use Rattle.nt_apc.specs.Queues.{place_of}
@@ -18,6 +18,7 @@ use Rattle.nt_core.specs.Serving.{IsServed, IsAlerted}
 use Rattle.nt_core.specs.Refusals.{is_at_limit, wait_limit, handle_limit}
 use Rattle.nt_core.specs.Steps.{NothingDue}
 use Rattle.nt_core.specs.Dispatcher.{Dispatcher, state}
+use Rattle.nt_core.specs.Living.{is_forgotten, LivesWhileKept}
 
 -- no pending wait could end now: none fits, none is to be alerted, none has timed out, and no timer is to expire
 pub record IsSettled (s : State) : Type 0 where
@@ -25,13 +26,14 @@ pub record IsSettled (s : State) : Type 0 where
   pub alerted : (t : ℕ) → IsAlerted s t → ⊥
   pub passed : NothingDue s s.now
 
--- a running thread waits, for distinct objects that there are, no more than a wait may name; it can take each of them
+-- a running thread waits, for distinct objects that live, no more than a wait may name; it can take each of them
 pub record IsSoundWait (threads : ℕ) (objects : List Object) (t : ℕ) (w : Wait) : Type 0 where
   pub known : t < threads
   pub runs : has_ended (object_at objects t) ≡ false
   pub few : length w.handles ≤ wait_limit
   pub apart : IsDistinct nat_eq w.handles
   pub named : (h : ℕ) → Names w h → (h < length objects) × (is_at_limit objects t h ≡ false)
+  pub living : (h : ℕ) → Names w h → is_gone (object_at objects h) ≡ false
 
 -- each armed timer has its alarm, and where it has a routine a place for its APC in the queue of the thread that armed it
 pub record TimersAgree (threads : ℕ) (objects : List Object) (alarms places : List (Option ℕ)) : Type 0 where
@@ -47,6 +49,13 @@ pub record HandlesAgree (count : ℕ) (handles : List (Option Opened)) : Type 0 
   pub enough : count ≤ length handles
   pub named : (h : ℕ) (opened : Opened) → opened_at handles h ≡ Some opened → opened.object < count
 
+-- no handle names an object that is gone, and each object that lives while nothing keeps it has a mark, but for these
+pub record MarksAgreeBut (unmarked : List ℕ) (d : Dispatcher) : Type 0 where
+  pub living : (h : ℕ) (opened : Opened) → opened_at d.handles h ≡ Some opened → is_gone (object_at d.objects opened.object) ≡ false
+  pub count : length d.leaving ≡ length d.objects
+  pub marked : (o : ℕ) → is_forgotten (state d) o ≡ true → (alarm_at d.leaving o ≡ Some 0) ⊎ IsMember unmarked o
+  pub known : (o : ℕ) → IsMember unmarked o → o < length d.objects
+
 -- what holds also between a change and the serving after it
 pub record IsSound (d : Dispatcher) : Type 0 where
   pub few : d.threads ≤ 256
@@ -56,15 +65,16 @@ pub record IsSound (d : Dispatcher) : Type 0 where
   pub hands : length d.handing ≡ d.threads
   pub inboxes : length d.apcs.queues ≡ d.threads
   pub objects : (h : ℕ) → IsLawfulObject (object_at d.objects h)
-  -- the first objects are the threads' own
-  pub own : (t : ℕ) → t < d.threads → (t < length d.objects) × (is_thread (object_at d.objects t) ≡ true)
+  -- the first objects are the threads' own, as long as they live
+  pub own : (t : ℕ) → t < d.threads → (t < length d.objects) × ((is_thread (object_at d.objects t) ≡ true) ⊎ (is_gone (object_at d.objects t) ≡ true))
   pub none_else : (h : ℕ) → d.threads ≤ h → h < length d.objects → is_thread (object_at d.objects h) ≡ false
   pub timers : TimersAgree d.threads d.objects d.alarms d.apcs.places
   pub handles : HandlesAgree (length d.objects) d.handles
+  pub marks : MarksAgreeBut [] d
   -- each pending wait can be granted
   pub room : length d.grants + map.len (state d).waits ≤ d.threads
 
--- what each call and tick of the machine keeps; the table of the objects keeps the owners' lists by itself
+-- what holds also before the objects end that nothing keeps any more; the table of the objects keeps the owners' lists by itself
 pub record IsSteady (d : Dispatcher) : Type 0 where
   pub sound : IsSound d
   pub settled : IsSettled (state d)
@@ -72,13 +82,15 @@ pub record IsSteady (d : Dispatcher) : Type 0 where
 -- what holds between any two calls
 pub record IsLawful (d : Dispatcher) : Type 0 where
   pub steady : IsSteady d
+  pub living : LivesWhileKept (state d)
   -- mutexes and the lists of their owners name each other exactly
   pub owners : OwnersAgree d.objects d.owned
 
--- the object may take the place of the other: it is lawful, a thread's object stays one, a timer stays armed as it is, and
+-- the object may take the place of the other: it is lawful, none of the two is gone without the other, a thread's object stays one, a timer stays armed as it is, and
 -- no thread comes to hold a mutex at the greatest depth
 pub record MayReplace (old new : Object) : Type 0 where
   pub lawful : IsLawfulObject new
+  pub gone : is_gone new ≡ is_gone old
   pub thread : is_thread new ≡ is_thread old
   pub ended : has_ended new ≡ has_ended old
   pub due : due_of new ≡ due_of old

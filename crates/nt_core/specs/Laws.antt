@@ -1,9 +1,12 @@
 -- What follows from the definitions alone.
-use Rattle.std.specs.Prelude.{◌≡◌, ℕ, ◌+◌, ◌-◌, ◌≤◌, ◌<◌, ℤ, pos, ◌+ℤ◌, Bool, true, false, not, ◌&&◌, List, [], ◌∷◌, map, length, count_by, if◌then◌else◌, ◌==◌}
+use Rattle.std.specs.Prelude.{◌≡◌, ◌↔◌, ℕ, ◌+◌, ◌-◌, ◌≤◌, ◌<◌, ℤ, pos, ◌+ℤ◌, Bool, true, false, not, ◌&&◌, List, [], ◌∷◌, map, length, count_by, if◌then◌else◌, ◌==◌}
 use Rattle.std.specs.declared.result.Result.{Result}
 use Rattle.std.specs.declared.result.Result.TheVariants.{Ok, Err}
 use Rattle.nt_status.specs.declared.refusal.Refusal.{Refusal}
 use Rattle.nt_status.specs.declared.refusal.Refusal.TheVariants.{Memory}
+use Rattle.std.specs.List.{list_any}
+use Rattle.std.specs.declared.option.Option.{Option}
+use Rattle.std.specs.declared.option.Option.TheVariants.{None, Some}
 use Rattle.nt_status.specs.Flags.{has_flag, event_initial_set, mutex_initial_owner}
 use Rattle.nt_objects.specs.declared.object.Object.{Object}
 use Rattle.nt_objects.specs.declared.object.Object.TheVariants.{Event}
@@ -13,6 +16,9 @@ use Rattle.nt_core.specs.declared.call.Act.{Act}
 use Rattle.nt_core.specs.declared.call.WaitCall.{WaitCall}
 use Rattle.nt_core.specs.declared.call.Reply.{Reply}
 use Rattle.nt_core.specs.declared.call.Grant.{Grant}
+use Rattle.nt_objects.specs.declared.handles.Opened.{Opened}
+use Rattle.nt_objects.specs.Handles.{opened_at}
+use Rattle.nt_core.specs.Living.{lives, IsKept}
 use Rattle.nt_core.specs.Naming.{call_named}
 use Rattle.nt_core.specs.State.{State, opening, object_at}
 use Rattle.nt_core.specs.Serving.{Serve}
@@ -158,3 +164,46 @@ OneSetOneWait =
     → (part : Turns mid turns s) (h : ℕ)
     → is_auto_reset (object_at s.objects h) ≡ true
     → length (takers h (takes mid turns s part)) + set_now (object_at s.objects h) ≤ times_set h mid turns s part + set_now (object_at mid.objects h)
+
+-- ---- handles
+
+-- the call closes the handle
+abbrev pub call_closes : ℕ → Call → Bool
+call_closes h (Call.Act (Act.Close g)) = g == h
+call_closes h _ = false
+
+-- and was accepted
+abbrev pub turn_closes : ℕ → Turn → Bool
+turn_closes h (Calls who call (Ok reply) grants) = call_closes h call
+turn_closes h _ = false
+
+-- a number is handed out once: over every part of a run it names the same object with the same rights,
+-- and nothing from its closing on
+abbrev pub HandlesStay : Type 0
+HandlesStay =
+    (n : ℕ) (before turns : List Turn) (mid s : State)
+    → Run n before mid
+    → Turns mid turns s
+    → (h : ℕ) → h < length mid.handles
+    → opened_at s.handles h ≡ (if list_any (turn_closes h) turns then None else opened_at mid.handles h)
+
+-- some handle of the object has each of these rights
+abbrev pub HasRights : List (Option Opened) → ℕ → ℕ → Type 0
+HasRights handles o access =
+    (h : ℕ) × (opened : Opened) × (opened_at handles h ≡ Some opened) × (opened.object ≡ o) × (has_flag opened.access access ≡ true)
+
+-- rights never grow: over every part of a run, the rights that a handle of an object has at the end, a handle of it had at the
+-- beginning, if the object was there
+abbrev pub RightsNeverGrow : Type 0
+RightsNeverGrow =
+    (n : ℕ) (before turns : List Turn) (mid s : State)
+    → Run n before mid
+    → Turns mid turns s
+    → (o access : ℕ) → o < length mid.objects
+    → HasRights s.handles o access → HasRights mid.handles o access
+
+-- ---- living
+
+-- over every run an object lives exactly while a handle names it, a pending wait names it, or it is a thread that runs
+abbrev pub LivesExactlyWhileKept : Type 0
+LivesExactlyWhileKept = (n : ℕ) (turns : List Turn) (s : State) → Run n turns s → (o : ℕ) → (lives s o ≡ true) ↔ IsKept s o

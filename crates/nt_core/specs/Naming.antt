@@ -42,7 +42,7 @@ act_named handles (Act.SetTimer h due period routine) = Act.SetTimer (object_nam
 act_named handles (Act.CancelTimer h) = Act.CancelTimer (object_named handles h)
 act_named handles (Act.QueueApc h routine arg) = Act.QueueApc (object_named handles h) routine arg
 act_named handles (Act.Duplicate h access) = Act.Duplicate (object_named handles h) access
--- creations name nothing
+-- creations name nothing, and Close is about the handle itself
 act_named handles act = act
 
 -- the wait, with the numbers of the objects in the place of their handles

@@ -1,5 +1,5 @@
 -- When a call is refused: the first cause that holds is the answer.
-use Rattle.std.specs.Prelude.{◌≡◌, ℕ, ℤ, pos, Bool, false, not, ◌&&◌, ◌||◌, nat_le, nat_lt, int_lt, int_le, List, [], ◌∷◌, length, if◌then◌else◌, ◌==◌, IsTrue, MatchOption}
+use Rattle.std.specs.Prelude.{◌≡◌, ℕ, ℤ, pos, Bool, false, not, ◌&&◌, ◌||◌, nat_le, nat_lt, int_lt, int_le, List, [], ◌∷◌, length, if◌then◌else◌, ◌==◌, IsTrue, MatchOption, is_none}
 use Rattle.std.specs.List.{list_any}
 use Rattle.std.specs.declared.option.Option.{Option}
 use Rattle.std.specs.declared.option.Option.TheVariants.{None, Some}
@@ -8,6 +8,7 @@ use Rattle.nt_status.specs.Access.{access_bits}
 use Rattle.nt_status.specs.declared.refusal.Refusal.{Refusal}
 use Rattle.nt_status.specs.declared.refusal.Refusal.TheVariants.{AccessDenied, InvalidHandle, Memory, ThreadGone, InvalidParameter, NotOwner, TooManyPosts, ThreadWaiting, ThreadEnded, UnknownThread, RecursionLimit, HandleLimit}
 use Rattle.nt_objects.specs.declared.handles.Opened.{Opened}
+use Rattle.nt_objects.specs.Handles.{opened_at}
 use Rattle.nt_objects.specs.declared.object.Object.{Object}
 use Rattle.nt_objects.specs.Object.{is_event, is_semaphore, is_mutex, is_timer, is_thread, has_ended, owned_by, has_room, overflows, may_count}
 use Rattle.nt_waits.specs.declared.wait.Wait.{Wait}
@@ -101,6 +102,10 @@ duplicate_causes handles objects denied object access =
     ∷ (is_full handles, HandleLimit)
     ∷ []
 
+-- the handle was closed before, or never handed out; whatever its rights, it may be closed
+abbrev pub close_causes : List (Option Opened) → ℕ → List Cause
+close_causes handles h = (is_none (opened_at handles h), InvalidHandle) ∷ []
+
 -- two handles of one object name it twice
 abbrev pub objects_causes : List Object → ℕ → Bool → List ℕ → List Cause
 objects_causes objects t denied named =
@@ -139,6 +144,7 @@ act_causes handles objects t denied (Act.CancelTimer h) = kind_causes is_timer o
 act_causes handles objects t denied (Act.QueueApc h routine arg) = apc_causes objects denied h
 act_causes handles objects t denied Act.NextApc = []
 act_causes handles objects t denied (Act.Duplicate object access) = duplicate_causes handles objects denied object access
+act_causes handles objects t denied (Act.Close h) = close_causes handles h
 
 abbrev pub wait_causes : List Object → ℕ → Bool → WaitCall → List Cause
 wait_causes objects t denied (WaitCall.Objects all alertable ms named) = objects_causes objects t denied named

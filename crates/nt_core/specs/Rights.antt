@@ -11,7 +11,8 @@ use Rattle.nt_core.specs.declared.call.WaitCall.{WaitCall}
 use Rattle.nt_core.specs.Naming.{lacks, object_named}
 use Rattle.nt_core.specs.State.{State, object_at}
 
--- an act is denied where its handle lacks a right that the act needs; ReleaseMutex needs none, and a duplicate those that it is to have
+-- an act is denied where its handle lacks a right that the act needs; ReleaseMutex and Close need none,
+-- and a duplicate those that it is to have
 abbrev pub act_denied : List (Option Opened) → Act → Bool
 act_denied handles (Act.SetEvent h) = lacks modify_state handles h
 act_denied handles (Act.ResetEvent h) = lacks modify_state handles h

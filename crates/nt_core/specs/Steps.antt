@@ -21,6 +21,7 @@ use Rattle.nt_core.specs.Rising.{AreRising}
 use Rattle.nt_core.specs.State.{State, with_handing, pending_too}
 use Rattle.nt_core.specs.Serving.{fits, status, taken_by, IsChanged, sequence, Serve, Alert, TimeOut, late_status, is_sleep}
 use Rattle.nt_core.specs.Change.{at, change, act_reply, all_expired, IsTimerDue}
+use Rattle.nt_core.specs.Living.{Ends}
 use Rattle.nt_core.specs.Refusals.{refusal, IsRefusal}
 
 -- ---- a wait begins
@@ -65,9 +66,12 @@ abbrev pub Made : State → ℕ → Bool → Call → Result Reply Refusal → L
 Made old who denied call (Ok reply) grants new = (refusal old who denied call ≡ None) × Step old who call reply grants new
 Made old who denied call (Err r) grants new = IsRefusal old who denied call r × (grants ≡ []) × (new ≡ old)
 
--- a call with its result: it is made on the objects that its handles name
+-- a call with its result: it is made on the objects that its handles name, and where it is accepted, last of all the objects end that
+-- nothing keeps any more
 abbrev pub Called : State → ℕ → Call → Result Reply Refusal → List Grant → State → Type 0
-Called old who call result grants new = Made old who (is_denied old call) (call_named old.handles call) result grants new
+Called old who call (Ok reply) grants new =
+    (left : State) × Made old who (is_denied old call) (call_named old.handles call) (Ok reply) grants left × Ends left new
+Called old who call (Err r) grants new = Made old who (is_denied old call) (call_named old.handles call) (Err r) grants new
 
 -- ---- a tick
 
@@ -107,9 +111,9 @@ MomentsPass old m (u ∷ us) grants new =
     × MomentsPass mid m us later new
     × (grants ≡ here ++ later)
 
--- one accepted tick to moment m
+-- one accepted tick to moment m; after its last moment the objects end that nothing keeps any more
 abbrev pub Tick : State → ℕ → List Grant → State → Type 0
-Tick old m grants new = (moments : List ℕ) × MomentsPass old m moments grants new
+Tick old m grants new = (moments : List ℕ) × (left : State) × MomentsPass old m moments grants left × Ends left new
 
 -- a tick with its result: what is due up to m happens, or the moment is past and everything stays
 abbrev pub Ticked : State → ℕ → Result Reply Refusal → List Grant → State → Type 0

@@ -54,9 +54,10 @@ impl Machine {
         ensures looked { self.new.table.looked ≡ self.old.table.looked }
         ensures sound { IsSound self.new }
     {
-        let _ended = self.waits.end(thread);
+        let ended = self.waits.end(thread);
         self.handing[thread.get() as usize] = may;
         self.grants.push_reserved(Grant { thread, status });
+        self.let_go(ended.handles.as_slice());
     }
 
     /// Queues an APC that no timer queues. Where memory is refused nothing changes.

@@ -5,9 +5,11 @@ ghost use Rattle.nt_core.specs.Calls.{act_creates, act_signals, act_grows};
 ghost use Rattle.nt_core.specs.Dispatcher.{state};
 ghost use Rattle.nt_core.specs.Refusals.{refusal, first_of_causes, call_causes};
 ghost use Rattle.nt_core.specs.Naming.{call_named};
+ghost use Rattle.nt_core.specs.Rights.{is_denied};
 ghost use Rattle.nt_core.specs.Steps.{Made, Called};
 ghost use Rattle.nt_core.specs.Lawful.{IsSteady};
-ghost use Rattle.nt_core.specs.Accepts.{IsFresh, IsLocal, Accepts};
+ghost use Rattle.nt_core.specs.Living.{LivesWhileKept};
+ghost use Rattle.nt_core.specs.Accepts.{IsFresh, IsLocal, DuplicatesLiving, Accepts};
 ghost use Rattle.nt_core.specs.declared.call.Call.{Call};
 
 use crate::call::{Act, Call, Reply};
@@ -100,6 +102,7 @@ impl Machine {
         requires fresh { IsFresh self.old }
         requires room { length self.old.objects ≤ vec_capacity changed.old }
         requires free { refusal (state self.old) thread false (Call.Act act.now) ≡ None }
+        requires living { DuplicatesLiving self.old.objects act.now }
         ensures ok { IfOk result (λ reply. Accepts self.old self.new thread (Call.Act act.now) reply) }
         ensures memory { IfErr result (λ refusal. refusal ≡ Memory) }
         ensures grows { OnErr result (IsTrue (act_grows act.now)) }
@@ -138,6 +141,10 @@ impl Machine {
             Act::Duplicate { handle, access } => {
                 Ok(Reply::Handle(self.duplicate(thread, *handle, *access)?))
             }
+            Act::Close(handle) => {
+                self.close(thread, *handle);
+                Ok(Reply::Done)
+            }
             Act::NextApc => Ok(Reply::Apc(self.next_apc(thread))),
             _ => Ok(self.signal_object(thread, act)),
         }
@@ -153,6 +160,7 @@ impl Machine {
     ) -> Result<Reply, Refusal>
         requires fresh { IsFresh self.old }
         requires room { length self.old.objects ≤ vec_capacity changed.old }
+        requires living { DuplicatesLiving self.old.objects act.now }
         requires caller { (denied : Bool) (call : Call) → refusal (state self.old) thread denied call ≡ first_of_causes (call_causes (state self.old) thread denied call) }
         ensures made { Made (state self.old) thread denied (Call.Act act.now) result self.new.grants (state self.new) }
         ensures steady { IsSteady self.new }
@@ -166,9 +174,9 @@ impl Machine {
         }
     }
 
-    /// Makes the call of this thread, or refuses it. `numbers` is for the objects that a wait names; `changed` is for lists of
-    /// objects, and has room for each.
-    pub fn call(
+    /// Makes the call of this thread, or refuses it, and ends no object. `numbers` is for the objects that a wait names; `changed`
+    /// is for lists of objects, and has room for each.
+    fn make(
         &mut self,
         who: u32,
         call: &Call,
@@ -178,7 +186,7 @@ impl Machine {
         requires few { 64 ≤ vec_capacity numbers.old }
         requires steady { IsSteady self.old }
         requires room { length self.old.objects ≤ vec_capacity changed.old }
-        ensures called { Called (state self.old) who call.now result self.new.grants (state self.new) }
+        ensures made { Made (state self.old) who (is_denied (state self.old) call.now) (call_named self.old.handles call.now) result self.new.grants (state self.new) }
         ensures steady { IsSteady self.new }
         ensures local { OnOk result (IsLocal (state self.old) who (call_named self.old.handles call.now) self.new.table.looked self.new.grants) }
         ensures untested { OnErr result (self.new.table.looked ≡ 0) }
@@ -202,5 +210,31 @@ impl Machine {
                 Ok(Reply::Done)
             }
         }
+    }
+
+    /// Makes the call of this thread, or refuses it, and ends the objects that nothing keeps any more. `numbers` is for the objects
+    /// that a wait names; `changed` is for lists of objects, and has room for each.
+    pub fn call(
+        &mut self,
+        who: u32,
+        call: &Call,
+        numbers: &mut Vec<Handle>,
+        changed: &mut Vec<Handle>,
+    ) -> Result<Reply, Refusal>
+        requires few { 64 ≤ vec_capacity numbers.old }
+        requires steady { IsSteady self.old }
+        requires living { LivesWhileKept (state self.old) }
+        requires room { length self.old.objects ≤ vec_capacity changed.old }
+        ensures called { Called (state self.old) who call.now result self.new.grants (state self.new) }
+        ensures steady { IsSteady self.new }
+        ensures living { LivesWhileKept (state self.new) }
+        ensures local { OnOk result (IsLocal (state self.old) who (call_named self.old.handles call.now) self.new.table.looked self.new.grants) }
+        ensures untested { OnErr result (self.new.table.looked ≡ 0) }
+        ensures few { 64 ≤ vec_capacity numbers.new }
+        ensures room { length self.new.objects ≤ vec_capacity changed.new }
+    {
+        let reply = self.make(who, call, numbers, changed)?;
+        self.end_forgotten();
+        Ok(reply)
     }
 }

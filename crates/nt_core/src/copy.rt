@@ -28,6 +28,7 @@ impl Machine {
         let handles = self.handles.copy()?;
         let handing = Vec::from_slice(alloc, &self.handing)?;
         let alarms = self.alarms.copy()?;
+        let leaving = self.leaving.copy()?;
         let grants = copy_grants(alloc, self.threads as usize, &self.grants)?;
         let objects = self.objects.copy()?;
         Ok(Machine {
@@ -40,6 +41,7 @@ impl Machine {
             moment: self.moment,
             grants,
             alarms,
+            leaving,
         })
     }
 }

@@ -5,6 +5,7 @@ ghost use Rattle.nt_core.specs.State.{opening, pends};
 ghost use Rattle.nt_core.specs.Naming.{call_named};
 ghost use Rattle.nt_core.specs.Steps.{Called, Ticked};
 ghost use Rattle.nt_core.specs.Dispatcher.{state};
+ghost use Rattle.nt_core.specs.Living.{living};
 ghost use Rattle.nt_core.specs.Lawful.{IsLawful};
 ghost use Rattle.nt_core.specs.Accepts.{IsLocal, IsTickLocal};
 ghost use Rattle.nt_core.specs.Moves.{Moves, IsMomentAfter, pended, is_wait};
@@ -129,6 +130,14 @@ impl Core {
         ensures { result ≡ map.len (state self.now).waits }
     {
         self.machine.pending()
+    }
+
+    /// How many objects live: those that a handle or a pending wait names, and the threads that run. It walks the list of all
+    /// objects that there ever were.
+    pub fn living(&self) -> usize
+        ensures { result ≡ living (state self.now) }
+    {
+        self.machine.living()
     }
 
     /// Whether the wait of this thread pends. A number that no thread has waits for nothing.

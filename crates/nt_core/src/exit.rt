@@ -74,6 +74,7 @@ impl Machine {
         requires sound { IsSound self.old }
         requires idle { fin.get self.old.table.pending thread ≡ None }
         requires known { thread < self.old.threads }
+        requires runs { has_ended (object_at self.old.objects thread) ≡ false }
         requires unset { (h : ℕ) → setter_of (object_at self.old.objects h) ≢ Some thread }
         ensures ended { state self.new ≡ record (state self.old) { objects = slice_set self.old.objects thread (Thread true); apcs = cleared self.old.apcs.queues thread } }
         ensures sound { IsSound self.new }
@@ -85,6 +86,7 @@ impl Machine {
         object.end();
         self.exchange(own, object);
         self.apcs.clear(thread);
+        self.mark(own);
     }
 
     /// The thread ends, and the objects that this changes are listed, by rising handle.

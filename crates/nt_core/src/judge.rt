@@ -8,7 +8,7 @@ ghost use Rattle.nt_core.specs.Naming.{object_named, lacks};
 ghost use Rattle.nt_core.specs.Rights.{signal_denied};
 ghost use Rattle.nt_core.specs.Dispatcher.{state};
 ghost use Rattle.nt_core.specs.declared.call.Call.{Call};
-ghost use Rattle.nt_core.specs.Refusals.{first_of_causes, call_causes, act_causes, objects_causes, creation_causes, release_causes, unlock_causes, arm_causes, kind_causes, apc_causes, duplicate_causes, swap_causes, refusal, is_no, is_unknown, has_twice, is_at_limit};
+ghost use Rattle.nt_core.specs.Refusals.{first_of_causes, call_causes, act_causes, objects_causes, creation_causes, release_causes, unlock_causes, arm_causes, kind_causes, apc_causes, duplicate_causes, close_causes, swap_causes, refusal, is_no, is_unknown, has_twice, is_at_limit};
 
 use crate::call::Act;
 use crate::handles::{MODIFY_STATE, SYNCHRONIZE, lacks, name_all, named, object_named};
@@ -250,6 +250,16 @@ fn duplicate_refusal(
     }
 }
 
+/// The refusal of closing this handle.
+fn close_refusal(handles: &HandleTable, handle: Handle) -> Option<Refusal>
+    ensures { result ≡ first_of_causes (close_causes handles.now.opened handle) }
+{
+    match handles.get(handle) {
+        Some(_opened) => None,
+        None => Some(Refusal::InvalidHandle),
+    }
+}
+
 /// The refusal of an act by its own causes.
 fn act_refusal(
     handles: &HandleTable,
@@ -290,6 +300,7 @@ fn act_refusal(
         Act::Duplicate { handle, access } => {
             duplicate_refusal(handles, objects, denied, *handle, *access)
         }
+        Act::Close(handle) => close_refusal(handles, *handle),
     }
 }
 

@@ -1,5 +1,5 @@
 //! Laws of the definitions, as contracts of functions that do nothing.
-ghost use Rattle.nt_core.specs.Laws.{ServesOneWay, RunsOneWay, SemaphoresGiveWhatTheyHave, OneOwner, OneSetOneWait};
+ghost use Rattle.nt_core.specs.Laws.{ServesOneWay, RunsOneWay, SemaphoresGiveWhatTheyHave, OneOwner, OneSetOneWait, HandlesStay, RightsNeverGrow, LivesExactlyWhileKept};
 
 /// The order of grants leaves no choice: which waits a change ends, with which statuses, and the state after it are a
 /// function of the state and of the sequence of the waits on changed objects.
@@ -28,4 +28,22 @@ pub fn one_owner()
 /// stands at the beginning counts.
 pub fn one_set_one_wait()
     ensures { OneSetOneWait }
+{}
+
+/// A handle is for one object: over any turns its number names the same object with the same rights, and nothing from its closing
+/// on; it is not handed out again.
+pub fn handles_stay()
+    ensures { HandlesStay }
+{}
+
+/// Rights never grow: over every part of a run, the rights that a handle of an object has at the end, a handle of it had at the
+/// beginning.
+pub fn rights_never_grow()
+    ensures { RightsNeverGrow }
+{}
+
+/// Over every run an object lives exactly while something keeps it: a handle names it, a pending wait names it, or it is a thread
+/// that runs.
+pub fn objects_live_while_kept()
+    ensures { LivesExactlyWhileKept }
 {}

@@ -11,6 +11,7 @@ mod exit;
 mod handles;
 mod judge;
 mod laws;
+mod living;
 mod machine;
 mod mutexes;
 mod objects;

@@ -8,6 +8,7 @@ ghost use Rattle.nt_core.specs.Dispatcher.{state};
 ghost use Rattle.nt_core.specs.Serving.{sequence, Serve};
 ghost use Rattle.nt_core.specs.Visits.{IsVisited, Visits, FitOnlyBy, FitOnlyIn};
 ghost use Rattle.nt_core.specs.Lawful.{IsSound, IsSteady};
+ghost use Rattle.nt_core.specs.Living.{LivesWhileKept};
 ghost use Rattle.nt_core.specs.Accepts.{IsFresh};
 
 use crate::call::Grant;
@@ -41,6 +42,8 @@ pub struct Machine {
     pub(crate) moment: Moment,
     pub(crate) grants: Vec<Grant>,
     pub(crate) alarms: Alarms,
+    /// A mark for each object that nothing may keep any more.
+    pub(crate) leaving: Alarms,
 }
 
 impl Model for Machine {
@@ -53,7 +56,7 @@ impl Model for Machine {
 
     ghost coded = { Prim.hlevel (codes, waits_code) };
 
-    ghost view = { λ m. dispatcher_of m.threads m.handles.opened m.objects.items m.objects.owned m.waits m.apcs m.handing.items m.moment m.grants.items m.alarms };
+    ghost view = { λ m. dispatcher_of m.threads m.handles.opened m.objects.items m.objects.owned m.waits m.apcs m.handing.items m.moment m.grants.items m.alarms m.leaving };
 
     ghost invariant = { λ m. (m.threads ≤ 256) × (m.threads ≤ vec_capacity m.grants) × (length m.objects.owned ≡ m.threads) };
 }
@@ -65,6 +68,7 @@ impl Machine {
         ensures opening { IfOk result (λ m. state m ≡ opening threads) }
         ensures grants { IfOk result (λ m. m.grants ≡ []) }
         ensures steady { IfOk result (λ m. IsSteady m) }
+        ensures living { IfOk result (λ m. LivesWhileKept (state m)) }
         ensures memory { IfErr result (λ refusal. refusal ≡ Memory) }
     {
         let count = threads as usize;
@@ -72,6 +76,7 @@ impl Machine {
         let grants = Vec::with_capacity(alloc, count)?;
         let apcs = ApcQueues::new(alloc, count)?;
         let alarms = quiet_alarms(alloc, count)?;
+        let leaving = quiet_alarms(alloc, count)?;
         let handles = HandleTable::new(alloc, count, Object::new_thread().full_access())?;
         let objects = ObjectTable::new(alloc, count)?;
         let waits = WaitTable::new(alloc);
@@ -85,6 +90,7 @@ impl Machine {
             moment: Moment::ZERO,
             grants,
             alarms,
+            leaving,
         })
     }
 
@@ -104,9 +110,10 @@ impl Machine {
         let Some(status) = try_wait(&mut self.objects, thread, handles, wait.all) else {
             return;
         };
-        let _ended = self.waits.end(thread);
+        let ended = self.waits.end(thread);
         self.handing[thread.get() as usize] = false;
         self.grants.push_reserved(Grant { thread, status });
+        self.let_go(ended.handles.as_slice());
     }
 
     /// Visits the waits on this handle, in the order in which they began.

@@ -1,6 +1,6 @@
 //! The list of objects, and the creation of more.
 ghost use Rattle.std.specs.Prelude.{◌≡◌, ◌≢◌, ◌<◌, ◌≤◌, ℕ, vec_capacity, None, ◌∷◌, ◌++◌, [], true, false, Some, replicate, IfOk, OnOk, OnErr, length, slice_set};
-ghost use Rattle.nt_objects.specs.Object.{owner_of, owned_by};
+ghost use Rattle.nt_objects.specs.Object.{owner_of, owned_by, is_gone};
 ghost use Rattle.nt_core.specs.State.{object_at};
 ghost use Rattle.nt_core.specs.Refusals.{is_full, refusal};
 ghost use Rattle.nt_core.specs.Change.{at};
@@ -51,7 +51,7 @@ impl Machine {
         changed.reserve(count + 1)?;
         self.objects.make_room()?;
         self.handles.make_room()?;
-        self.alarms.add()?;
+        self.alarms.add_with(&mut self.leaving)?;
         self.objects.add(object);
         let object = Handle::new(count as u32);
         Ok(self.handles.add(Opened { object, access }))
@@ -66,6 +66,7 @@ impl Machine {
     ) -> Result<Handle, AllocError>
         requires fresh { IsFresh self.old }
         requires free { refusal (state self.old) thread false (Call.Act (Act.Duplicate object access)) ≡ None }
+        requires living { object < length self.old.objects → is_gone (object_at self.old.objects object) ≡ false }
         ensures ok { IfOk result (λ handle. Accepts self.old self.new thread (Call.Act (Act.Duplicate object access)) (Reply.Handle handle)) }
         ensures err { OnErr result (self.new ≡ self.old) }
         ensures room { self.new.objects ≡ self.old.objects }

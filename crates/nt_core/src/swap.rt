@@ -3,7 +3,7 @@ ghost use Rattle.std.specs.Prelude.{◌≡◌, ◌≢◌, ◌∷◌, ◌+◌, �
 ghost use Rattle.std.specs.Option.{ForSome};
 ghost use Rattle.std.specs.FinMap as map;
 ghost use Rattle.nt_status.specs.declared.refusal.Refusal.TheVariants.{Memory};
-ghost use Rattle.nt_objects.specs.Object.{overflows};
+ghost use Rattle.nt_objects.specs.Object.{overflows, is_gone};
 ghost use Rattle.nt_waits.specs.declared.wait.Wait.{Wait};
 ghost use Rattle.nt_core.specs.State.{object_at, deadline_after, pending_too};
 ghost use Rattle.nt_core.specs.Dispatcher.{state, with_prepared};
@@ -109,6 +109,7 @@ impl Machine {
     ) -> Result<Reply, Refusal>
         requires fresh { IsFresh self.old }
         requires free { refusal (state self.old) thread false (Call.Wait (WaitCall.Swap signal object ms alertable)) ≡ None }
+        requires living { object < length self.old.objects → is_gone (object_at self.old.objects object) ≡ false }
         ensures ok { IfOk result (λ reply. Accepts self.old self.new thread (Call.Wait (WaitCall.Swap signal object ms alertable)) reply) }
         ensures prepared { OnOk result (self.new.table.prepared ≡ None) }
         ensures grows { OnErr result (IsTrue (not (ms == 0))) }

@@ -9,6 +9,7 @@ ghost use Rattle.nt_core.specs.Dispatcher.{state};
 ghost use Rattle.nt_core.specs.Serving.{ending, late_status, sleeps, IsServed, IsAlerted};
 ghost use Rattle.nt_core.specs.Steps.{IsNextMoment, NothingDue, Ticked};
 ghost use Rattle.nt_core.specs.Lawful.{IsSound, IsSteady};
+ghost use Rattle.nt_core.specs.Living.{LivesWhileKept};
 ghost use Rattle.nt_core.specs.Accepts.{IsTimedOutAfter, IsAlertedAfter, IsExpiredAfter, IsPassedAfter, IsTickLocal};
 
 use crate::call::{Grant, Reply};
@@ -105,10 +106,11 @@ impl Machine {
         ensures looked { self.new.table.looked ≡ self.old.table.looked }
         ensures sound { IsSound self.new }
     {
-        let wait = self.waits.end(thread);
-        let status = late_status(wait.handles.as_slice().is_empty());
+        let ended = self.waits.end(thread);
+        let status = late_status(ended.handles.as_slice().is_empty());
         self.handing[thread.get() as usize] = false;
         self.grants.push_reserved(Grant { thread, status });
+        self.let_go(ended.handles.as_slice());
     }
 
     /// Ends the waits with this deadline, the earliest of all, by rising thread number.
@@ -131,10 +133,12 @@ impl Machine {
         alerted: &mut Alarms,
     ) -> Result<Reply, Refusal>
         requires steady { IsSteady self.old }
+        requires living { LivesWhileKept (state self.old) }
         requires room { length self.old.objects ≤ vec_capacity changed.old }
         requires marks { length alerted.old ≡ 256 }
         ensures ticked { Ticked (state self.old) m result self.new.grants (state self.new) }
         ensures steady { IsSteady self.new }
+        ensures living { LivesWhileKept (state self.new) }
         ensures local { OnOk result (IsTickLocal (state self.old) m self.new.table.looked self.new.grants) }
         ensures untested { OnErr result (self.new.table.looked ≡ 0) }
         ensures room { length self.new.objects ≤ vec_capacity changed.new }
@@ -149,6 +153,7 @@ impl Machine {
             self.pass(u, m, changed, alerted);
         }
         self.moment = m;
+        self.end_forgotten();
         Ok(Reply::Done)
     }
 

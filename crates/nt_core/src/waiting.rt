@@ -4,8 +4,9 @@ ghost use Rattle.std.specs.Option.{OnSome};
 ghost use Rattle.std.specs.List.{list_any};
 ghost use Rattle.std.specs.FinMap as fin;
 ghost use Rattle.nt_status.specs.declared.refusal.Refusal.TheVariants.{Memory};
+ghost use Rattle.nt_objects.specs.Object.{is_gone};
 ghost use Rattle.nt_apc.specs.Queues.{has_apc};
-ghost use Rattle.nt_core.specs.State.{deadline_after, pending_too};
+ghost use Rattle.nt_core.specs.State.{object_at, deadline_after, pending_too};
 ghost use Rattle.nt_core.specs.Naming.{object_named, lacks, wait_named};
 ghost use Rattle.nt_core.specs.Rights.{wait_denied};
 ghost use Rattle.nt_core.specs.Dispatcher.{state};
@@ -209,6 +210,7 @@ impl Machine {
         alertable: bool,
     ) -> Result<Reply, Refusal>
         requires fresh { IsFresh self.old }
+        requires living { object < length self.old.objects → is_gone (object_at self.old.objects object) ≡ false }
         requires caller { (denied : Bool) (call : Call) → refusal (state self.old) thread denied call ≡ first_of_causes (call_causes (state self.old) thread denied call) }
         ensures free { OnOk result (refusal (state self.old) thread denied (Call.Wait (WaitCall.Swap signal object ms alertable)) ≡ None) }
         ensures ok { IfOk result (λ reply. Accepts self.old self.new thread (Call.Wait (WaitCall.Swap signal object ms alertable)) reply) }

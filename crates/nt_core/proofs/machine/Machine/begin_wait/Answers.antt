@@ -4,6 +4,7 @@ use Rattle.nt_waits.specs.declared.wait.Wait.{Wait}
 use Rattle.nt_core.specs.declared.call.Reply.{Reply}
 use Rattle.nt_core.specs.State.{State, deadline_after, pending_too}
 use Rattle.nt_core.specs.Dispatcher.{Dispatcher, state}
+use Rattle.nt_core.specs.Lawful.{IsSoundWait}
 use Rattle.nt_core.specs.Serving.{fits, wait_for}
 use Rattle.nt_core.proofs.Beginning.{began_pending, begun_pends}
 use Rattle.nt_core.proofs.machine.Machine.begin_wait.Goals as goal
@@ -31,3 +32,12 @@ returns-clause-steady c =
     let quiet : (w.alertable && has_apc d.apcs.queues c.args.thread) ≡ false = subst (λ (x : Dispatcher). (c.args.alertable && has_apc x.apcs.queues c.args.thread) ≡ false) (sym same) pends.1 in
     let deadline : w.deadline ≡ deadline_after d.now c.args.ms = c.deadline_after.ensures ∙ ap (λ (x : Dispatcher). deadline_after x.now c.args.ms) c.self.view_is in
     began_pending d c.pend.new.self c.args.thread c.args.ms w c.end_at_once.ensures.steady unfit quiet pends.2 deadline c.in_ok-pend.ensures.state c.pend.ensures.sound
+
+pub pend-requires-clause-able : goal.pend-requires-clause-able
+pend-requires-clause-able c =
+    let d = c.end_at_once.new.self in
+    let same = c.in_default.ensures.none in
+    let able : IsSoundWait d.threads d.objects c.args.thread (wait_for c.in_ok-from_slice.field-0 c.args.all) =
+    subst (λ (hs : List ℕ). IsSoundWait d.threads d.objects c.args.thread (wait_for hs c.args.all)) (sym c.in_ok-from_slice.ensures)
+    (subst (λ (x : Dispatcher). IsSoundWait x.threads x.objects c.args.thread (wait_for c.args.handles.now c.args.all)) (sym same) c.requires.able) in
+    record { known = able.known; runs = able.runs; few = able.few; apart = able.apart; named = able.named; living = able.living }

@@ -1,42 +1,27 @@
-use Rattle.std.proofs.Common.{◌≡◌, ◌≤◌, ℕ, None, false, length, vec_capacity, arith, sym, ap, subst}
-use Rattle.std.specs.FinMap.{get}
-use Rattle.nt_objects.specs.Object.{has_ended}
-use Rattle.nt_core.specs.declared.call.Call.{Call}
-use Rattle.nt_core.specs.Naming.{wait_named, call_named}
-use Rattle.nt_core.specs.Rights.{wait_denied, is_denied}
-use Rattle.nt_core.specs.State.{State, object_at}
+use Rattle.std.proofs.Common.{◌≡◌, List, length, Ok, sym, ap, ◌∙◌, subst, arith}
+use Rattle.nt_core.specs.declared.call.Grant.{Grant}
+use Rattle.nt_core.specs.Naming.{call_named}
+use Rattle.nt_core.specs.Rights.{is_denied}
+use Rattle.nt_core.specs.State.{State}
 use Rattle.nt_core.specs.Dispatcher.{state}
+use Rattle.nt_core.specs.Living.{LivesWhileKept}
 use Rattle.nt_core.specs.Steps.{Made}
-use Rattle.nt_core.proofs.Accepting.{free_caller}
-use Rattle.nt_core.proofs.Judging.{made_told}
-use Rattle.nt_core.proofs.Lengths.{room_tried, length_wait_change}
+use Rattle.nt_core.proofs.Remaining.{same_count}
 use Rattle.nt_core.proofs.machine.Machine.call.Goals as goal
 
-pub exit-requires-clause-idle : goal.exit-requires-clause-idle
-exit-requires-clause-idle c =
-    let d = c.tell_anew.new.self in
-    let caller = free_caller (state d) c.args.who Call.Exit (c.in_default.ensures.free false Call.Exit) in
-    subst (λ (t : ℕ). get d.table.pending t ≡ None) (sym c.new-thread.ensures) caller.2
+pub returns-in_err-reply-clause-living : goal.returns-in_err-reply-clause-living
+returns-in_err-reply-clause-living c = subst (λ (s : State). LivesWhileKept s) (sym c.in_err-reply.ensures.made.2) c.requires.living
 
-pub exit-requires-clause-runs : goal.exit-requires-clause-runs
-exit-requires-clause-runs c =
-    let d = c.tell_anew.new.self in
-    let caller = free_caller (state d) c.args.who Call.Exit (c.in_default.ensures.free false Call.Exit) in
-    subst (λ (t : ℕ). has_ended (object_at d.objects t) ≡ false) (sym c.new-thread.ensures) caller.1
+pub returns-clause-called : goal.returns-clause-called
+returns-clause-called c =
+    let old = c.args.self.now in
+    let left = state c.make.new.self in
+    let made = subst (λ (gs : List Grant). Made (state old) c.args.who (is_denied (state old) c.args.call.now) (call_named old.handles c.args.call.now) (Ok c.in_ok-reply.reply) gs left) (sym c.end_forgotten.ensures.grants) c.in_ok-reply.ensures.made in
+    (left, made, c.end_forgotten.ensures.ends)
 
-pub returns-in-Wait-clause-called : goal.returns-in-Wait-clause-called
-returns-in-Wait-clause-called c =
-    let d = c.tell_anew.new.self in
-    let new = c.wait.new.self in
-    let made = made_told d new c.new-thread.result (wait_denied d.handles d.objects c.in-Wait.wait) (Call.Wait (wait_named d.handles c.in-Wait.wait)) c.wait.result c.tell_anew.ensures.fresh.no_grants c.wait.ensures.free c.wait.ensures.ok c.wait.ensures.refused c.wait.ensures.err in
-    let by = subst (λ (t : ℕ). Made (state d) t (wait_denied d.handles d.objects c.in-Wait.wait) (Call.Wait (wait_named d.handles c.in-Wait.wait)) c.wait.result new.grants (state new)) c.new-thread.ensures made in
-    let from = subst (λ (s : State). Made s c.args.who (wait_denied s.handles s.objects c.in-Wait.wait) (Call.Wait (wait_named s.handles c.in-Wait.wait)) c.wait.result new.grants (state new)) c.tell_anew.ensures.state by in
-    subst (λ (call : Call). Made (state c.args.self.now) c.args.who (is_denied (state c.args.self.now) call) (call_named c.args.self.now.handles call) c.wait.result new.grants (state new)) (sym c.in-Wait.is) from
-
-pub returns-in-Wait-clause-room : goal.returns-in-Wait-clause-room
-returns-in-Wait-clause-room c =
-    let d = c.tell_anew.new.self in
-    let same : length d.objects ≡ length c.args.self.now.objects = ap (λ (s : State). length s.objects) c.tell_anew.ensures.state in
-    let room = c.requires.room in
-    let before : length d.objects ≤ vec_capacity c.args.changed.now = omega (arith, same, room) in
-    room_tried d c.wait.new.self c.new-thread.result (Call.Wait (wait_named d.handles c.in-Wait.wait)) c.wait.result _ c.wait.ensures.ok c.wait.ensures.err (length_wait_change (state d) (wait_named d.handles c.in-Wait.wait)) before
+pub returns-clause-room : goal.returns-clause-room
+returns-clause-room c =
+    let ends = c.end_forgotten.ensures.ends in
+    let same : length c.end_forgotten.new.self.objects ≡ length c.make.new.self.objects = ap (λ (s : State). length s.objects) ends.leaves ∙ same_count (state c.make.new.self) ends.objects in
+    let room = c.in_ok-reply.ensures.room in
+    omega (arith, same, room)

@@ -18,6 +18,6 @@ returns-clause-ok c =
     (λ handle. handle ≡ length old.handles)
     (c.create.new.self ≡ with_created old c.new_event.result c.create.new.self.owned)
     (λ handle. Accepts old c.create.new.self c.args.thread (Call.Act (Act.CreateEvent c.args.flags)) (Reply.Handle handle))
-    (λ handle is becomes. created_accepted old c.create.new.self c.args.thread (event_of c.args.flags) c.create.new.self.owned (Call.Act (Act.CreateEvent c.args.flags)) handle c.requires.fresh c.requires.few tt refl refl refl (λ s. refl) (λ s. refl) is
+    (λ handle is becomes. created_accepted old c.create.new.self c.args.thread (event_of c.args.flags) c.create.new.self.owned (Call.Act (Act.CreateEvent c.args.flags)) handle c.requires.fresh c.requires.few tt refl refl refl refl (λ s. refl) (λ s. refl) is
     (becomes ∙ ap (λ (o : Object). with_created old o c.create.new.self.owned) made.event))
     c.create.result c.create.ensures.handle c.create.ensures.ok

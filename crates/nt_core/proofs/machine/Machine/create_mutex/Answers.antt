@@ -8,7 +8,7 @@ use Rattle.nt_core.specs.Dispatcher.{with_created}
 use Rattle.nt_core.specs.Accepts.{Accepts}
 use Rattle.nt_core.proofs.Owned.{new_owner}
 use Rattle.nt_core.proofs.Accepting.{ok_both}
-use Rattle.nt_core.proofs.Replacing.{created_accepted, mutex_undue, mutex_no_thread}
+use Rattle.nt_core.proofs.Replacing.{created_accepted, mutex_undue, mutex_no_thread, mutex_lives}
 use Rattle.nt_core.proofs.machine.Machine.create_mutex.Goals as goal
 
 pub returns-clause-ok : goal.returns-clause-ok
@@ -20,7 +20,7 @@ returns-clause-ok c =
     (c.create.new.self ≡ with_created old c.new_mutex.result c.create.new.self.owned)
     (λ handle. Accepts old c.create.new.self c.args.thread (Call.Act (Act.CreateMutex c.args.flags)) (Reply.Handle handle))
     (λ handle is becomes. created_accepted old c.create.new.self c.args.thread (mutex_of c.args.flags c.args.thread) c.create.new.self.owned (Call.Act (Act.CreateMutex c.args.flags)) handle c.requires.fresh c.requires.few
-    (subst IsLawfulObject made.mutex made.lawful) (mutex_no_thread c.args.flags c.args.thread) (mutex_undue c.args.flags c.args.thread) refl (λ s. refl) (λ s. refl) is
+    (subst IsLawfulObject made.mutex made.lawful) (mutex_no_thread c.args.flags c.args.thread) (mutex_lives c.args.flags c.args.thread) (mutex_undue c.args.flags c.args.thread) refl (λ s. refl) (λ s. refl) is
     (becomes ∙ ap (λ (o : Object). with_created old o c.create.new.self.owned) made.mutex))
     c.create.result c.create.ensures.handle c.create.ensures.ok
 

@@ -28,6 +28,6 @@ returns-clause-ok c =
     (c.create.new.self ≡ with_created old c.in-Ok.semaphore c.create.new.self.owned)
     (λ handle. Accepts old c.create.new.self c.args.thread (Call.Act (Act.CreateSemaphore c.args.initial c.args.maximum)) (Reply.Handle handle))
     (λ handle is becomes. created_accepted old c.create.new.self c.args.thread o c.create.new.self.owned (Call.Act (Act.CreateSemaphore c.args.initial c.args.maximum)) handle c.requires.fresh c.requires.few
-    (subst IsLawfulObject is_o made.lawful) refl refl refl (λ s. refl) (λ s. refl) is
+    (subst IsLawfulObject is_o made.lawful) refl refl refl refl (λ s. refl) (λ s. refl) is
     (becomes ∙ ap (λ (x : Object). with_created old x c.create.new.self.owned) is_o))
     c.create.result c.create.ensures.handle c.create.ensures.ok

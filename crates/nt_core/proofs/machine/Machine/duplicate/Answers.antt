@@ -17,6 +17,6 @@ returns-clause-ok c =
     (λ handle. handle ≡ length old.handles)
     (new ≡ record old { handles = old.handles ++ Some (record { object = c.args.object; access = c.in-Some.access }) ∷ [] })
     (λ handle. Accepts old new c.args.thread (Call.Act (Act.Duplicate c.args.object c.args.access)) (Reply.Handle handle))
-    (λ handle is becomes. duplicated_accepted old new c.args.thread c.args.object c.args.access handle c.requires.fresh free.2 free.0 is
+    (λ handle is becomes. duplicated_accepted old new c.args.thread c.args.object c.args.access handle c.requires.fresh free.2 free.0 (c.requires.living free.0) is
     (becomes ∙ ap (λ access. record old { handles = old.handles ++ Some (record { object = c.args.object; access = access }) ∷ [] }) c.in-Some.ensures.value))
     c.open.result c.open.ensures.handle c.open.ensures.ok

@@ -1,4 +1,4 @@
-use Rattle.std.proofs.Common.{◌≡◌, ℕ, true, set, ap, ◌∙◌}
+use Rattle.std.proofs.Common.{◌≡◌, ℕ, Some, true, set, ap, ◌∙◌}
 use Rattle.nt_objects.specs.declared.object.Object.{Object}
 use Rattle.nt_objects.specs.declared.object.Object.TheVariants.{Thread}
 use Rattle.nt_apc.specs.Queues.{place_of, given_up, cleared}
@@ -15,8 +15,10 @@ returns c =
     let before : the_view c.self.inside ≡ record old { objects = set old.objects t (Thread true) } =
     c.self.view_is ∙ (c.exchange.ensures ∙ (ap (λ (h : ℕ). record old { objects = set old.objects h c.end.new.self }) own ∙ ap (λ (o : Object). record old { objects = set old.objects t o }) c.end.ensures)) in
     let apcs = c.clear.new.self in
-    let all = own_ended old (record (the_view c.self.inside) { apcs = apcs }) t apcs c.requires.sound c.requires.idle c.requires.known c.requires.unset
-    (ap (λ (d : Dispatcher). record d { apcs = apcs }) before)
+    let mid = record (the_view c.self.inside) { apcs = apcs } in
+    let ended : mid ≡ record old { objects = set old.objects t (Thread true); apcs = apcs } = ap (λ (d : Dispatcher). record d { apcs = apcs }) before in
+    let all = own_ended old c.mark.new.self t apcs c.requires.sound c.requires.idle c.requires.known c.requires.runs c.requires.unset
+    (c.mark.ensures ∙ (ap (λ (h : ℕ). record mid { leaving = set mid.leaving h (Some 0) }) own ∙ ap (λ (d : Dispatcher). record d { leaving = set d.leaving t (Some 0) }) ended))
     (c.clear.ensures.queues ∙ ap (λ (d : Dispatcher). cleared d.apcs.queues t) before)
     (λ m. c.clear.ensures.places m ∙ ap (λ (d : Dispatcher). given_up t (place_of d.apcs.places m)) before) in
     record { ended = all.0; sound = all.1; grants = all.2; table = all.3 }

@@ -3,7 +3,7 @@ use Rattle.std.specs.List.Sorted.{IsPermutation}
 use Rattle.std.proofs.lemmas.List.{length-map}
 use Rattle.std.proofs.lemmas.List.Sorted.{IsNonDecreasingBy-from_sort}
 use Rattle.nt_objects.specs.declared.object.Object.{Object}
-use Rattle.nt_objects.specs.Object.{is_timer, owned_by, setter_of, abandoned_by}
+use Rattle.nt_objects.specs.Object.{is_timer, has_ended, owned_by, setter_of, abandoned_by}
 use Rattle.std.specs.FinMap as fin
 use Rattle.nt_core.specs.State.{State, object_at}
 use Rattle.nt_core.specs.Dispatcher.{Dispatcher, state}
@@ -12,7 +12,7 @@ use Rattle.nt_core.specs.Serving.{IsChanged}
 use Rattle.nt_core.specs.Change.{exited}
 use Rattle.nt_core.specs.Lawful.{IsSound}
 use Rattle.nt_core.proofs.Exiting.{abandoned_sound, objects_left}
-use Rattle.nt_core.proofs.Ending.{AreGathered, exited_state, none_set, mutexes_once, mutexes_others, tail_timers, tail_stopped, own_room, sorted_changed}
+use Rattle.nt_core.proofs.Ending.{AreGathered, exited_state, stopped_own, none_set, mutexes_once, mutexes_others, tail_timers, tail_stopped, own_room, sorted_changed}
 use Rattle.nt_core.proofs.machine.Machine.leave.Goals as goal
 
 pub abandon_all-requires : goal.abandon_all-requires
@@ -60,6 +60,7 @@ end_own-requires c =
       sound = c.stop_all.ensures.sound;
       idle = ap (λ (d : Dispatcher). fin.get d.table.pending c.args.thread) rest ∙ c.requires.idle;
       known = let known = c.requires.known in let threads : stopped.threads ≡ c.args.self.now.threads = ap (λ (d : Dispatcher). d.threads) rest in omega (arith, known, threads);
+      runs = ap has_ended (stopped_own c.args.self.now mid stopped c.args.thread (c.list_timers.ensures.listed).more c.requires.sound c.requires.known c.requires.runs c.abandon_all.ensures.abandoned (c.list_timers.ensures.listed).exactly stops);
       unset = none_set mid stopped c.args.thread (c.list_timers.ensures.listed).more (c.list_timers.ensures.listed).exactly stops;
     }
 

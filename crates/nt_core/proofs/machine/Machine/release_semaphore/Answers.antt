@@ -11,6 +11,7 @@ use Rattle.nt_core.specs.Change.{at}
 use Rattle.nt_core.specs.declared.call.Act.{Act}
 use Rattle.nt_core.specs.declared.call.Call.{Call}
 use Rattle.nt_core.specs.declared.call.Reply.{Reply}
+use Rattle.nt_core.specs.Lawful.{MayReplace}
 use Rattle.nt_core.specs.Accepts.{IsServedAfter, Accepts}
 use Rattle.nt_core.proofs.Replacing.{released_may_replace, replaced_accepted}
 use Rattle.nt_core.proofs.machine.Machine.release_semaphore.Goals as goal
@@ -29,3 +30,12 @@ returns c =
     subst (λ (z : ℤ). Accepts old c.replace.new.self c.args.thread (Call.Act (Act.ReleaseSemaphore c.args.semaphore c.args.count)) (Reply.Previous z)) (sym (reading ∙ previous))
     (replaced_accepted old c.replace.new.self c.args.thread c.args.semaphore (released c.args.count o) (Call.Act (Act.ReleaseSemaphore c.args.semaphore c.args.count)) (Reply.Previous (count_of o)) c.requires.fresh
     (released_may_replace c.args.count o c.requires.kind lawful) refl refl refl after)
+
+pub replace-requires-clause-may : goal.replace-requires-clause-may
+replace-requires-clause-may c =
+    let o = object_at c.args.self.now.objects c.args.semaphore in
+    let made = c.in-Ok.ensures in
+    let count : to_z w32 (of_z w32 c.args.count) ≡ c.args.count = to_z-of_z w32 c.args.count c.ranges.count in
+    let becomes : c.release_semaphore.new.self ≡ released c.args.count o = made.ok ∙ (ap (λ (z : ℤ). released z c.object-object.result) count ∙ ap (λ (x : Object). released c.args.count x) c.object-object.ensures) in
+    let lawful : IsLawfulObject (released c.args.count o) = subst IsLawfulObject becomes (made.lawful (subst IsLawfulObject (sym c.object-object.ensures) (c.requires.fresh.steady.sound.objects c.args.semaphore))) in
+    subst (λ (x : Object). MayReplace o x) (sym becomes) (released_may_replace c.args.count o c.requires.kind lawful)

@@ -1,5 +1,5 @@
-use Rattle.std.proofs.Common.{◌≡◌, ◌<◌, ◌≤◌, sym, ap, ◌∙◌, arith}
-use Rattle.std.specs.Prelude.{ℤ, unsigned_abs}
+use Rattle.std.proofs.Common.{◌≡◌, ◌<◌, ◌≤◌, sym, ap, ◌∙◌, subst, arith}
+use Rattle.std.specs.Prelude.{ℤ, unsigned_abs, Option, IsSomeAnd}
 use Rattle.std.proofs.Common.{ℕ, w32, w64}
 use Rattle.std.proofs.lemmas.Int.{to_z-of_z}
 use Rattle.nt_objects.specs.declared.object.Object.{Object}
@@ -8,7 +8,7 @@ use Rattle.nt_objects.specs.Object.{signaled}
 use Rattle.nt_core.specs.Change.{due_moment}
 use Rattle.nt_core.specs.Dispatcher.{Dispatcher}
 use Rattle.nt_core.proofs.Replacing.{one_few}
-use Rattle.nt_core.proofs.Arming.{asked, set_local, set_ahead, set_at_once, set_and_served}
+use Rattle.nt_core.proofs.Arming.{asked, anew_due, set_local, set_ahead, set_at_once, set_and_served}
 use Rattle.nt_core.proofs.machine.Machine.set_timer.Goals as goal
 
 pub serve-requires-clause-local : goal.serve-requires-clause-local
@@ -55,3 +55,10 @@ returns-else-due-get-clause-ok c =
     let same : armed ≡ asked old.now c.args.thread c.args.due c.args.period c.args.routine = λ i. record { due = due i; period = period i; routine = c.routine_for.ensures i } in
     let ahead : old.now < c.due_moment-due.result = let h = c.if-due-get.false in let k = c.get.ensures.value in omega (arith, h, k, now) in
     set_ahead old c.arm.new.self c.args.thread c.args.timer c.args.due c.args.period c.args.routine armed c.requires.fresh c.requires.idle c.requires.kind same ahead c.in_ok-arm.ensures.armed c.in_ok-arm.ensures.sound c.in_ok-arm.ensures.grants c.in_ok-arm.ensures.table
+
+pub expire-requires-clause-due : goal.expire-requires-clause-due
+expire-requires-clause-due c =
+    let old = c.args.self.now in
+    let armed : Armed = record { due = c.due_moment-due.result; period = c.unsigned_abs-period.result; routine = c.routine_for.result } in
+    let past : c.due_moment-due.result ≤ c.self.inside.moment = let h = c.if-due-get.true in let k = c.get.ensures.value in omega (arith, h, k) in
+    subst (λ (o : Option ℕ). IsSomeAnd o (λ due. due ≤ c.self.inside.moment)) (sym (anew_due old c.arm.new.self c.args.timer armed c.requires.kind c.in_ok-arm.ensures.armed)) past

@@ -1,12 +1,16 @@
-use Rattle.std.proofs.Common.{◌≡◌, ◌≤◌, ◌<◌, length, refl, sym, ap, ◌∙◌, subst, arith}
+use Rattle.std.proofs.Common.{◌≡◌, ◌≤◌, ◌<◌, ℕ, List, length, refl, sym, ap, ◌∙◌, subst, arith}
 use Rattle.std.specs.Prelude.{Ok}
 use Rattle.nt_core.specs.declared.call.Reply.{Reply}
 use Rattle.nt_core.specs.State.{State}
 use Rattle.nt_core.specs.Dispatcher.{Dispatcher, state}
 use Rattle.nt_core.specs.Steps.{Ticked}
+use Rattle.nt_waits.specs.Waits.{Waits}
+use Rattle.nt_core.specs.declared.call.Grant.{Grant}
+use Rattle.nt_core.specs.Living.{Ends, LivesWhileKept}
 use Rattle.nt_core.specs.Lawful.{IsSteady}
 use Rattle.nt_core.specs.Accepts.{IsTickLocal}
-use Rattle.nt_core.proofs.Coming.{left_to_come, left_smaller, tick_first, tick_next, tick_end, tick_countable}
+use Rattle.nt_core.proofs.Coming.{left_to_come, left_smaller, tick_first, tick_next, tick_end, tick_ended, tick_countable}
+use Rattle.nt_core.proofs.Remaining.{same_count}
 use Rattle.nt_core.specs.contracts.machine.Machine.{the_view}
 use Rattle.nt_core.proofs.machine.Machine.tick.Goals as goal
 
@@ -36,27 +40,35 @@ loop-u-preserved c = record {
   marks = c.pass.ensures.marks;
 }
 
--- the tick's end, where nothing is due any more
-ended : (c : goal.After-m-1) → Ticked (state c.tell_anew.new.self) c.args.m (Ok Reply.Done) c.loop-u.self.grants (state (record c.loop-u.self { now = c.args.m })) × IsSteady (record c.loop-u.self { now = c.args.m }) × IsTickLocal (state c.tell_anew.new.self) c.args.m c.loop-u.self.table.looked c.loop-u.self.grants
-ended c =
+pub end_forgotten-requires : goal.end_forgotten-requires
+end_forgotten-requires c = record {
+  steady = subst (λ (x : Dispatcher). IsSteady (record x { now = c.args.m })) (sym c.self-2.view_is) (tick_end c.tell_anew.new.self c.loop-u.self c.args.m c.loop-u.invariant.far c.in_default.ensures).0;
+}
+
+pub returns-then-asked-present-clause-living : goal.returns-then-asked-present-clause-living
+returns-then-asked-present-clause-living c = subst (λ (s : State). LivesWhileKept s) (sym c.tell_anew.ensures.state) c.requires.living
+
+pub returns-clause-ticked : goal.returns-clause-ticked
+returns-clause-ticked c =
     let h : c.get-present.result ≤ c.get-asked.result = c.if-asked-present.false in
     let k : c.get-asked.result ≡ c.args.m = c.get-asked.ensures.value in
     let p : c.get-present.result ≡ c.self.inside.moment = c.get-present.ensures.value in
     let q : c.self.inside.moment ≡ c.tell_anew.new.self.now = ap (λ (x : Dispatcher). x.now) c.self.view_is in
-    tick_end c.tell_anew.new.self c.loop-u.self c.args.m (omega (arith, h, k, p, q)) c.loop-u.invariant.far c.in_default.ensures
-
-pub returns-clause-ticked : goal.returns-clause-ticked
-returns-clause-ticked c =
-    subst (λ (s : State). Ticked s c.args.m (Ok Reply.Done) c.self-2.inside.grants.items (state (record (the_view c.self-2.inside) { now = c.args.m }))) c.tell_anew.ensures.state
-    (subst (λ (x : Dispatcher). Ticked (state c.tell_anew.new.self) c.args.m (Ok Reply.Done) x.grants (state (record x { now = c.args.m }))) (sym c.self-2.view_is) (ended c).0)
-
-pub returns-clause-steady : goal.returns-clause-steady
-returns-clause-steady c = subst (λ (x : Dispatcher). IsSteady (record x { now = c.args.m })) (sym c.self-2.view_is) (ended c).1
+    let new = c.end_forgotten.new.self in
+    subst (λ (s : State). Ticked s c.args.m (Ok Reply.Done) new.grants (state new)) c.tell_anew.ensures.state
+    (tick_ended c.tell_anew.new.self c.loop-u.self new c.args.m (omega (arith, h, k, p, q)) c.loop-u.invariant.far c.in_default.ensures
+    (subst (λ (x : Dispatcher). Ends (state (record x { now = c.args.m })) (state new)) c.self-2.view_is c.end_forgotten.ensures.ends)
+    (c.end_forgotten.ensures.grants ∙ ap (λ (x : Dispatcher). x.grants) c.self-2.view_is))
 
 pub returns-clause-local : goal.returns-clause-local
 returns-clause-local c =
-    subst (λ (s : State). IsTickLocal s c.args.m (the_view c.self-2.inside).table.looked (the_view c.self-2.inside).grants) c.tell_anew.ensures.state
-    (subst (λ (x : Dispatcher). IsTickLocal (state c.tell_anew.new.self) c.args.m x.table.looked x.grants) (sym c.self-2.view_is) (ended c).2)
+    let new = c.end_forgotten.new.self in
+    let looked : new.table.looked ≡ c.loop-u.self.table.looked = ap (λ (v : Waits). v.looked) (c.end_forgotten.ensures.table ∙ ap (λ (x : Dispatcher). x.table) c.self-2.view_is) in
+    let grants : new.grants ≡ c.loop-u.self.grants = c.end_forgotten.ensures.grants ∙ ap (λ (x : Dispatcher). x.grants) c.self-2.view_is in
+    subst (λ (s : State). IsTickLocal s c.args.m new.table.looked new.grants) c.tell_anew.ensures.state
+    (subst (λ (n : ℕ). IsTickLocal (state c.tell_anew.new.self) c.args.m n new.grants) (sym looked)
+    (subst (λ (gs : List Grant). IsTickLocal (state c.tell_anew.new.self) c.args.m c.loop-u.self.table.looked gs) (sym grants)
+    (tick_end c.tell_anew.new.self c.loop-u.self c.args.m c.loop-u.invariant.far c.in_default.ensures).1))
 
 pub returns-clause-room : goal.returns-clause-room
 returns-clause-room c =
@@ -65,4 +77,6 @@ returns-clause-room c =
     let enough = c.requires.room in
     let same : length c.tell_anew.new.self.objects ≡ length c.args.self.now.objects = ap (λ (s : State). length s.objects) c.tell_anew.ensures.state in
     let view : length (the_view c.self-2.inside).objects ≡ length c.loop-u.self.objects = ap (λ (x : Dispatcher). length x.objects) c.self-2.view_is in
-    omega (arith, count, room, enough, same, view)
+    let ends = c.end_forgotten.ensures.ends in
+    let ended : length c.end_forgotten.new.self.objects ≡ length (the_view c.self-2.inside).objects = ap (λ (s : State). length s.objects) ends.leaves ∙ same_count (state (record (the_view c.self-2.inside) { now = c.args.m })) ends.objects in
+    omega (arith, count, room, enough, same, view, ended)

@@ -1,15 +1,15 @@
-use Rattle.std.proofs.Common.{◌≡◌, ◌<◌, ◌≤◌, ℕ, true, false, length, set, sym, subst, arith}
+use Rattle.std.proofs.Common.{◌≡◌, ◌<◌, ◌≤◌, ℕ, true, false, List, [], length, set, sym, ap, ◌∙◌, subst, arith}
 use Rattle.std.specs.Vec.{vec_capacity}
 use Rattle.nt_core.specs.State.{pends, wait_over}
 use Rattle.nt_core.specs.Dispatcher.{Dispatcher, dispatcher_of, state}
-use Rattle.nt_core.specs.Lawful.{IsSound}
+use Rattle.nt_core.specs.Lawful.{IsSound, MarksAgreeBut}
 use Rattle.nt_core.proofs.Visiting.{room_for}
-use Rattle.nt_core.proofs.Alerting.{pending_wait, ended_sound, ended_over}
+use Rattle.nt_core.proofs.Alerting.{pending_wait, ended_sound, ended_unmarked, ended_over}
 use Rattle.nt_core.proofs.machine.Machine.time_out.Goals as goal
 
 pub index_mut-requires : goal.index_mut-requires
 index_mut-requires c =
-    let d = dispatcher_of c.self.inside.threads c.self.inside.handles.opened c.self.inside.objects.items c.self.inside.objects.owned c.self.inside.waits c.self.inside.apcs c.self.inside.handing.items c.self.inside.moment c.self.inside.grants.items c.self.inside.alarms in
+    let d = dispatcher_of c.self.inside.threads c.self.inside.handles.opened c.self.inside.objects.items c.self.inside.objects.owned c.self.inside.waits c.self.inside.apcs c.self.inside.handing.items c.self.inside.moment c.self.inside.grants.items c.self.inside.alarms c.self.inside.leaving in
     let sound : IsSound d = subst IsSound (sym c.self.view_is) c.requires.sound in
     let pending = pending_wait (state d) c.args.thread (subst (λ (x : Dispatcher). pends (state x) c.args.thread ≡ true) (sym c.self.view_is) c.requires.pends) in
     let hands : length c.self.inside.handing.items ≡ d.threads = sound.hands in
@@ -19,26 +19,40 @@ index_mut-requires c =
 
 pub push_reserved-requires : goal.push_reserved-requires
 push_reserved-requires c =
-    let d = dispatcher_of c.self.inside.threads c.self.inside.handles.opened c.self.inside.objects.items c.self.inside.objects.owned c.self.inside.waits c.self.inside.apcs c.self.inside.handing.items c.self.inside.moment c.self.inside.grants.items c.self.inside.alarms in
+    let d = dispatcher_of c.self.inside.threads c.self.inside.handles.opened c.self.inside.objects.items c.self.inside.objects.owned c.self.inside.waits c.self.inside.apcs c.self.inside.handing.items c.self.inside.moment c.self.inside.grants.items c.self.inside.alarms c.self.inside.leaving in
     let sound : IsSound d = subst IsSound (sym c.self.view_is) c.requires.sound in
     let pending = pending_wait (state d) c.args.thread (subst (λ (x : Dispatcher). pends (state x) c.args.thread ≡ true) (sym c.self.view_is) c.requires.pends) in
     let room : length d.grants < d.threads = room_for d c.args.thread pending.0 sound pending.1 in
     let capacity : d.threads ≤ vec_capacity c.self.inside.grants = c.self.invariant.1 in
     omega (arith, room, capacity, c.self.inside.grants.ok.0)
 
+pub let_go-requires : goal.let_go-requires
+let_go-requires c =
+    let d = dispatcher_of c.self.inside.threads c.self.inside.handles.opened c.self.inside.objects.items c.self.inside.objects.owned c.self.inside.waits c.self.inside.apcs c.self.inside.handing.items c.self.inside.moment c.self.inside.grants.items c.self.inside.alarms c.self.inside.leaving in
+    let sound : IsSound d = subst IsSound (sym c.self.view_is) c.requires.sound in
+    let ended = c.end-ended.ensures in
+    subst (λ (k : ℕ). MarksAgreeBut c.as_slice-2.result.now (record d { table = c.end-ended.new.self; handing = set d.handing k false; grants = c.push_reserved.new.self.items })) (sym c.get.ensures)
+    (subst (λ (hs : List ℕ). MarksAgreeBut hs (record d { table = c.end-ended.new.self; handing = set d.handing c.args.thread false; grants = c.push_reserved.new.self.items })) (sym c.as_slice-2.ensures)
+    (ended_unmarked d c.end-ended.new.self c.args.thread false c.end-ended.result c.push_reserved.new.self.items sound (sym ended.wait) ended.queues))
+
 pub returns-clause-over : goal.returns-clause-over
 returns-clause-over c =
-    let d = dispatcher_of c.self.inside.threads c.self.inside.handles.opened c.self.inside.objects.items c.self.inside.objects.owned c.self.inside.waits c.self.inside.apcs c.self.inside.handing.items c.self.inside.moment c.self.inside.grants.items c.self.inside.alarms in
-    let ended = c.end-wait.ensures in
-    subst (λ (x : Dispatcher). state (record d { table = c.end-wait.new.self; handing = set d.handing c.get.result false; grants = c.push_reserved.new.self.items }) ≡ wait_over (state x) c.args.thread false) c.self.view_is
-    (subst (λ (k : ℕ). state (record d { table = c.end-wait.new.self; handing = set d.handing k false; grants = c.push_reserved.new.self.items }) ≡ wait_over (state d) c.args.thread false) (sym c.get.ensures)
-    (ended_over d c.end-wait.new.self c.args.thread false c.push_reserved.new.self.items ended.pending ended.queues))
+    let d = dispatcher_of c.self.inside.threads c.self.inside.handles.opened c.self.inside.objects.items c.self.inside.objects.owned c.self.inside.waits c.self.inside.apcs c.self.inside.handing.items c.self.inside.moment c.self.inside.grants.items c.self.inside.alarms c.self.inside.leaving in
+    let ended = c.end-ended.ensures in
+    let leaving = c.let_go.new.self.leaving in
+    let is : c.let_go.new.self ≡ record d { table = c.end-ended.new.self; handing = set d.handing c.args.thread false; grants = c.push_reserved.new.self.items; leaving = leaving } =
+    c.let_go.ensures.rest ∙ ap (λ (k : ℕ). record d { table = c.end-ended.new.self; handing = set d.handing k false; grants = c.push_reserved.new.self.items; leaving = leaving }) c.get.ensures in
+    subst (λ (x : Dispatcher). state c.let_go.new.self ≡ wait_over (state x) c.args.thread false) c.self.view_is
+    (ap (λ (x : Dispatcher). state x) is ∙ ended_over d c.end-ended.new.self c.args.thread false c.push_reserved.new.self.items ended.pending ended.queues)
 
 pub returns-clause-sound : goal.returns-clause-sound
 returns-clause-sound c =
-    let d = dispatcher_of c.self.inside.threads c.self.inside.handles.opened c.self.inside.objects.items c.self.inside.objects.owned c.self.inside.waits c.self.inside.apcs c.self.inside.handing.items c.self.inside.moment c.self.inside.grants.items c.self.inside.alarms in
+    let d = dispatcher_of c.self.inside.threads c.self.inside.handles.opened c.self.inside.objects.items c.self.inside.objects.owned c.self.inside.waits c.self.inside.apcs c.self.inside.handing.items c.self.inside.moment c.self.inside.grants.items c.self.inside.alarms c.self.inside.leaving in
     let sound : IsSound d = subst IsSound (sym c.self.view_is) c.requires.sound in
-    let pending = pending_wait (state d) c.args.thread (subst (λ (x : Dispatcher). pends (state x) c.args.thread ≡ true) (sym c.self.view_is) c.requires.pends) in
-    let ended = c.end-wait.ensures in
-    subst (λ (k : ℕ). IsSound (record d { table = c.end-wait.new.self; handing = set d.handing k false; grants = c.push_reserved.new.self.items })) (sym c.get.ensures)
-    (ended_sound d c.end-wait.new.self c.args.thread c.late_status-status.result false pending.0 c.push_reserved.new.self.items sound pending.1 ended.pending ended.agrees c.push_reserved.ensures.items)
+    let ended = c.end-ended.ensures in
+    let leaving = c.let_go.new.self.leaving in
+    let is : c.let_go.new.self ≡ record d { table = c.end-ended.new.self; handing = set d.handing c.args.thread false; grants = c.push_reserved.new.self.items; leaving = leaving } =
+    c.let_go.ensures.rest ∙ ap (λ (k : ℕ). record d { table = c.end-ended.new.self; handing = set d.handing k false; grants = c.push_reserved.new.self.items; leaving = leaving }) c.get.ensures in
+    subst IsSound (sym is)
+    (ended_sound d c.end-ended.new.self c.args.thread c.late_status-status.result false c.end-ended.result c.push_reserved.new.self.items leaving sound (sym ended.wait) ended.pending ended.agrees c.push_reserved.ensures.items
+    (subst (λ (x : Dispatcher). MarksAgreeBut [] x) is c.let_go.ensures.marks))

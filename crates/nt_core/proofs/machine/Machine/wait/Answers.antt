@@ -1,10 +1,11 @@
-use Rattle.std.proofs.Common.{◌≡◌, [], length, arith, sym, ap, subst, refl, false, None}
+use Rattle.std.proofs.Common.{◌∙◌, ◌<◌, ℕ, ◌≡◌, [], length, arith, sym, ap, subst, refl, false, None}
 use Rattle.nt_core.specs.declared.call.Call.{Call}
 use Rattle.nt_core.specs.declared.call.WaitCall.{WaitCall}
-use Rattle.nt_core.specs.Naming.{wait_named}
+use Rattle.nt_objects.specs.Object.{is_gone}
+use Rattle.nt_core.specs.Naming.{object_named, wait_named}
 use Rattle.nt_core.specs.Rights.{wait_denied}
-use Rattle.nt_core.specs.State.{deadline_after}
-use Rattle.nt_core.specs.Dispatcher.{state}
+use Rattle.nt_core.specs.State.{object_at, deadline_after}
+use Rattle.nt_core.specs.Dispatcher.{Dispatcher, state}
 use Rattle.nt_core.specs.Serving.{wait_for}
 use Rattle.nt_core.specs.Refusals.{refusal, IsRefusal}
 use Rattle.nt_core.specs.Steps.{begun}
@@ -12,6 +13,7 @@ use Rattle.nt_core.specs.Accepts.{Accepts}
 use Rattle.std.specs.Prelude.{OnOk, IfErr}
 use Rattle.nt_core.proofs.Accepting.{ok_then, free_caller, sound_sleep, wait_accepted}
 use Rattle.nt_core.proofs.Beginning.{room_to_begin}
+use Rattle.nt_core.proofs.Closing.{named_living}
 use Rattle.nt_core.proofs.Judging.{tried_refused, tried_free}
 use Rattle.nt_core.proofs.machine.Machine.wait.Goals as goal
 
@@ -62,3 +64,9 @@ returns-in-Sleep-clause-refused c =
     let call = Call.Wait (WaitCall.Sleep c.in-Sleep.ms c.in-Sleep.alertable) in
     subst (λ (w : WaitCall). IfErr c.begin_wait.result (λ cause. IsRefusal s c.args.thread (wait_denied s.handles s.objects w) (Call.Wait (wait_named s.handles w)) cause)) (sym c.in-Sleep.is)
     (tried_refused s c.args.thread false call c.begin_wait.result (c.requires.caller false call) c.begin_wait.ensures.grows c.begin_wait.ensures.memory)
+
+pub judge_swap-requires-clause-living : goal.judge_swap-requires-clause-living
+judge_swap-requires-clause-living c =
+    let d = c.args.self.now in
+    let named : c.object_named-object.result ≡ object_named d.handles c.in-Swap.object = c.object_named-object.ensures ∙ ap (λ (x : Dispatcher). object_named x.handles c.in-Swap.object) c.self.view_is in
+    subst (λ (k : ℕ). k < length d.objects → is_gone (object_at d.objects k) ≡ false) (sym named) (named_living d c.in-Swap.object c.requires.fresh.steady.sound)

@@ -14,6 +14,7 @@ use Rattle.nt_core.specs.Refusals.{grows}
 use Rattle.std.specs.Prelude.{IsTrue, OnErr}
 use Rattle.nt_core.proofs.Accepting.{ok_then, free_caller, sound_objects, wait_accepted}
 use Rattle.nt_core.proofs.Beginning.{room_to_begin}
+use Rattle.nt_core.proofs.Closing.{all_living}
 use Rattle.nt_core.proofs.Judging.{is_refusal, tried_refused, tried_free, undenied}
 use Rattle.nt_core.proofs.machine.Machine.wait_for.Goals as goal
 
@@ -29,7 +30,7 @@ begin_wait-requires-clause-able c =
     let named = map (object_named s.handles) c.args.these.now in
     let call = Call.Wait (WaitCall.Objects c.args.all c.args.alertable c.args.ms named) in
     subst (λ (hs : List ℕ). IsSoundWait s.threads s.objects c.args.thread (wait_for hs c.args.all)) (sym (c.as_slice.ensures.value ∙ c.in-None.ensures.named))
-    (sound_objects s c.args.thread named c.args.all c.args.alertable c.args.ms (undenied (state c.args.self.now) c.args.thread (list_any (lacks 0x00100000 c.args.self.now.handles) c.args.these.now) call (c.requires.caller (list_any (lacks 0x00100000 c.args.self.now.handles) c.args.these.now) call ∙ (sym c.refusal_of_wait.ensures.refusal ∙ c.in-None.is))))
+    (sound_objects s c.args.thread named c.args.all c.args.alertable c.args.ms (all_living c.args.self.now c.args.these.now c.requires.fresh.steady.sound) (undenied (state c.args.self.now) c.args.thread (list_any (lacks 0x00100000 c.args.self.now.handles) c.args.these.now) call (c.requires.caller (list_any (lacks 0x00100000 c.args.self.now.handles) c.args.these.now) call ∙ (sym c.refusal_of_wait.ensures.refusal ∙ c.in-None.is))))
 
 pub begin_wait-requires-clause-room : goal.begin_wait-requires-clause-room
 begin_wait-requires-clause-room c =

@@ -1,0 +1,51 @@
+use Rattle.std.proofs.Common.{◌≡◌, ◌≤◌, ℕ, None, false, length, vec_capacity, arith, sym, ap, ◌∙◌, subst}
+use Rattle.std.specs.FinMap.{get}
+use Rattle.nt_objects.specs.Object.{has_ended}
+use Rattle.nt_core.specs.declared.call.Call.{Call}
+use Rattle.nt_core.specs.declared.call.Act.{Act}
+use Rattle.nt_core.specs.Naming.{act_named, wait_named, call_named}
+use Rattle.nt_core.specs.Rights.{wait_denied, is_denied}
+use Rattle.nt_core.specs.State.{State, object_at}
+use Rattle.nt_core.specs.Accepts.{DuplicatesLiving}
+use Rattle.nt_core.specs.Dispatcher.{Dispatcher, state}
+use Rattle.nt_core.specs.Steps.{Made}
+use Rattle.nt_core.proofs.Accepting.{free_caller}
+use Rattle.nt_core.proofs.Closing.{duplicates_living}
+use Rattle.nt_core.proofs.Judging.{made_told}
+use Rattle.nt_core.proofs.Lengths.{room_tried, length_wait_change}
+use Rattle.nt_core.proofs.machine.Machine.make.Goals as goal
+
+pub exit-requires-clause-idle : goal.exit-requires-clause-idle
+exit-requires-clause-idle c =
+    let d = c.tell_anew.new.self in
+    let caller = free_caller (state d) c.args.who Call.Exit (c.in_default.ensures.free false Call.Exit) in
+    subst (λ (t : ℕ). get d.table.pending t ≡ None) (sym c.new-thread.ensures) caller.2
+
+pub exit-requires-clause-runs : goal.exit-requires-clause-runs
+exit-requires-clause-runs c =
+    let d = c.tell_anew.new.self in
+    let caller = free_caller (state d) c.args.who Call.Exit (c.in_default.ensures.free false Call.Exit) in
+    subst (λ (t : ℕ). has_ended (object_at d.objects t) ≡ false) (sym c.new-thread.ensures) caller.1
+
+pub returns-in-Wait-clause-made : goal.returns-in-Wait-clause-made
+returns-in-Wait-clause-made c =
+    let d = c.tell_anew.new.self in
+    let new = c.wait.new.self in
+    let made = made_told d new c.new-thread.result (wait_denied d.handles d.objects c.in-Wait.wait) (Call.Wait (wait_named d.handles c.in-Wait.wait)) c.wait.result c.tell_anew.ensures.fresh.no_grants c.wait.ensures.free c.wait.ensures.ok c.wait.ensures.refused c.wait.ensures.err in
+    let by = subst (λ (t : ℕ). Made (state d) t (wait_denied d.handles d.objects c.in-Wait.wait) (Call.Wait (wait_named d.handles c.in-Wait.wait)) c.wait.result new.grants (state new)) c.new-thread.ensures made in
+    let from = subst (λ (s : State). Made s c.args.who (wait_denied s.handles s.objects c.in-Wait.wait) (Call.Wait (wait_named s.handles c.in-Wait.wait)) c.wait.result new.grants (state new)) c.tell_anew.ensures.state by in
+    subst (λ (call : Call). Made (state c.args.self.now) c.args.who (is_denied (state c.args.self.now) call) (call_named c.args.self.now.handles call) c.wait.result new.grants (state new)) (sym c.in-Wait.is) from
+
+pub returns-in-Wait-clause-room : goal.returns-in-Wait-clause-room
+returns-in-Wait-clause-room c =
+    let d = c.tell_anew.new.self in
+    let same : length d.objects ≡ length c.args.self.now.objects = ap (λ (s : State). length s.objects) c.tell_anew.ensures.state in
+    let room = c.requires.room in
+    let before : length d.objects ≤ vec_capacity c.args.changed.now = omega (arith, same, room) in
+    room_tried d c.wait.new.self c.new-thread.result (Call.Wait (wait_named d.handles c.in-Wait.wait)) c.wait.result _ c.wait.ensures.ok c.wait.ensures.err (length_wait_change (state d) (wait_named d.handles c.in-Wait.wait)) before
+
+pub judge_act-requires-clause-living : goal.judge_act-requires-clause-living
+judge_act-requires-clause-living c =
+    let d = c.tell_anew.new.self in
+    let named : c.name_act-act.result ≡ act_named d.handles c.in-Act.act = c.name_act-act.ensures ∙ ap (λ (x : Dispatcher). act_named x.handles c.in-Act.act) c.self.view_is in
+    subst (λ (act : Act). DuplicatesLiving d.objects act) (sym named) (duplicates_living d c.in-Act.act c.tell_anew.ensures.fresh.steady.sound)

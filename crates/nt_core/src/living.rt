@@ -1,0 +1,153 @@
+//! When an object lives, and the end of those that nothing keeps any more.
+ghost use Rattle.std.specs.Prelude.{◌≡◌, ◌≢◌, ◌<◌, [], ℕ, None, Some, true, not, false, length, slice_set, count_by, IsSome, if◌then◌else◌};
+ghost use Rattle.std.specs.Option.{ForSome};
+ghost use Rattle.nt_objects.specs.Object.{is_gone};
+ghost use Rattle.nt_objects.specs.Handles.{opened_at};
+ghost use Rattle.nt_apc.specs.Queues.{withdrawn, place_of};
+ghost use Rattle.nt_core.specs.Dispatcher.{state};
+ghost use Rattle.nt_core.specs.Lawful.{IsSound, IsSteady, MarksAgreeBut};
+ghost use Rattle.nt_core.specs.Living.{is_forgotten, gone, living, Ends, LivesWhileKept};
+ghost use Rattle.nt_core.specs.Refusals.{refusal};
+ghost use Rattle.nt_core.specs.Accepts.{IsFresh, Accepts};
+ghost use Rattle.nt_core.specs.declared.call.Act.{Act};
+ghost use Rattle.nt_core.specs.declared.call.Call.{Call};
+ghost use Rattle.nt_core.specs.declared.call.Reply.{Reply};
+
+use crate::machine::Machine;
+use nt_objects::Object;
+use nt_status::{Handle, ThreadId};
+
+/// How many of the objects are not gone.
+fn count_living(objects: &[Object]) -> usize
+    ensures { result ≡ count_by (λ o. not (is_gone o)) objects.now }
+{
+    objects.iter().filter(|object| !object.is_gone()).count()
+}
+
+impl Machine {
+    /// Whether the object lives and nothing keeps it any more. No list is walked.
+    fn is_forgotten(&self, object: Handle) -> bool
+        ensures { result ≡ is_forgotten (state self.now) object }
+    {
+        let Some(there) = self.objects.as_slice().get(object.get() as usize) else {
+            return false;
+        };
+        let opened = 0 < self.handles.count(object);
+        let awaited = 0 < self.waits.blocks_on(object);
+        let runs = object.get() < self.threads && !there.has_ended();
+        !there.is_gone() && !(opened || (awaited || runs))
+    }
+
+    /// From now on nothing may keep the object any more.
+    pub(crate) fn mark(&mut self, object: Handle)
+        requires { object < length self.old.leaving }
+        ensures { self.new ≡ record self.old { leaving = slice_set self.old.leaving object (Some 0) } }
+    {
+        self.leaving.set(object.get() as usize, 0);
+    }
+
+    /// Marks those of the objects that a wait named which has ended that no handle names.
+    pub(crate) fn let_go(&mut self, ended: &[Handle])
+        requires { MarksAgreeBut ended.now self.old }
+        ensures rest { self.new ≡ record self.old { leaving = self.new.leaving } }
+        ensures marks { MarksAgreeBut [] self.new }
+    {
+        for object in ended {
+            if self.handles.count(*object) == 0 {
+                self.mark(*object);
+            }
+        }
+    }
+
+    /// CloseHandle: the handle names nothing any more, and what it named may be kept by nothing.
+    pub(crate) fn close(&mut self, thread: ThreadId, handle: Handle)
+        requires fresh { IsFresh self.old }
+        requires free { refusal (state self.old) thread false (Call.Act (Act.Close handle)) ≡ None }
+        ensures accepts { Accepts self.old self.new thread (Call.Act (Act.Close handle)) Reply.Done }
+        ensures room { self.new.objects ≡ self.old.objects }
+    {
+        let _ = thread;
+        let object = self.close_handle(handle);
+        self.mark(object);
+    }
+
+    /// The handle names nothing any more. Answers the object that it named.
+    fn close_handle(&mut self, handle: Handle) -> Handle
+        requires { IsSome (opened_at self.old.handles handle) }
+        ensures object { ForSome (opened_at self.old.handles handle) (λ opened. result ≡ opened.object) }
+        ensures closed { self.new ≡ record self.old { handles = slice_set self.old.handles handle None } }
+    {
+        self.handles.close(handle)
+    }
+
+    /// Withdraws the object's queued APC, if it is a timer that has one, and gives up its place.
+    fn forget(&mut self, object: Handle)
+        ensures rest { self.new ≡ record self.old { apcs = self.new.apcs } }
+        ensures queues { self.new.apcs.queues ≡ withdrawn self.old.apcs.queues object }
+        ensures others { (m : ℕ) → m ≢ object → place_of self.new.apcs.places m ≡ place_of self.old.apcs.places m }
+    {
+        if let Some(thread) = self.apcs.place_of(object) {
+            self.apcs.forget(thread, object);
+        }
+    }
+
+    /// The object is gone: a timer is not armed any more and its queued APC is withdrawn, a mutex is nobody's.
+    fn end_object(&mut self, object: Handle)
+        requires sound { IsSound self.old }
+        requires forgotten { is_forgotten (state self.old) object ≡ true }
+        ensures gone { state self.new ≡ gone (state self.old) object }
+        ensures sound { IsSound self.new }
+        ensures leaving { self.new.leaving ≡ self.old.leaving }
+        ensures grants { self.new.grants ≡ self.old.grants }
+        ensures table { self.new.table ≡ self.old.table }
+    {
+        self.forget(object);
+        self.alarms.clear(object.get() as usize);
+        self.objects.put(object, Object::Gone);
+    }
+
+    /// Takes the mark of the object away.
+    fn unmark(&mut self, object: Handle)
+        requires { object < length self.old.leaving }
+        ensures { self.new ≡ record self.old { leaving = slice_set self.old.leaving object None } }
+    {
+        self.leaving.clear(object.get() as usize);
+    }
+
+    /// An object that has a mark is gone where nothing keeps it any more, and has no mark then.
+    fn end_marked(&mut self, object: Handle)
+        requires sound { IsSound self.old }
+        requires known { object < length self.old.leaving }
+        ensures becomes { state self.new ≡ (if is_forgotten (state self.old) object then gone (state self.old) object else state self.old) }
+        ensures sound { IsSound self.new }
+        ensures leaving { self.new.leaving ≡ slice_set self.old.leaving object None }
+        ensures grants { self.new.grants ≡ self.old.grants }
+        ensures table { self.new.table ≡ self.old.table }
+    {
+        if self.is_forgotten(object) {
+            self.end_object(object);
+        }
+        self.unmark(object);
+    }
+
+    /// Ends each object that nothing keeps any more, and looks at none that has no mark.
+    pub(crate) fn end_forgotten(&mut self)
+        requires steady { IsSteady self.old }
+        ensures ends { Ends (state self.old) (state self.new) }
+        ensures steady { IsSteady self.new }
+        ensures living { LivesWhileKept (state self.new) }
+        ensures grants { self.new.grants ≡ self.old.grants }
+        ensures table { self.new.table ≡ self.old.table }
+    {
+        while let Some(place) = self.leaving.first_at(0) {
+            self.end_marked(Handle::new(place as u32));
+        }
+    }
+
+    /// How many objects live. It walks the list of the objects.
+    pub(crate) fn living(&self) -> usize
+        ensures { result ≡ living (state self.now) }
+    {
+        count_living(self.objects.as_slice())
+    }
+}
