@@ -1,3 +1,4 @@
 pub mod Firsts
 pub mod Counting
 pub mod Accepted
+pub mod Planned

@@ -1,5 +1,5 @@
 -- The calls that a door to a front made.
-use Rattle.std.specs.Prelude.{List, [], ◌∷◌, ◌++◌, Option, Some, None, Result, Ok, Err}
+use Rattle.std.specs.Prelude.{ℕ, List, [], ◌∷◌, ◌++◌, Option, Some, None, Result, Ok, Err}
 use Rattle.nt_core.specs.declared.call.Call.{Call}
 use Rattle.nt_core.specs.declared.call.Reply.{Reply}
 use Rattle.nt_status.specs.declared.refusal.Refusal.{Refusal}
@@ -28,3 +28,8 @@ calls_of_hold hold = accepted_calls (knowledge_of hold).made
 abbrev pub made_through : {X : Type 0} → Option (Carried (Held X)) → List Call
 made_through None = []
 made_through (Some carried) = calls_of_hold carried.hold
+
+-- the thread whose hold this is, where there is one
+abbrev pub holder_of : {X : Type 0} → Option (Carried (Held X)) → Option ℕ
+holder_of None = None
+holder_of (Some carried) = Some (knowledge_of carried.hold).thread

@@ -1,21 +1,22 @@
 //! A door to a front.
-ghost use Rattle.std.specs.Prelude.{◌≡◌, ◌++◌, ◌∷◌, [], None, IfSome, IfNone, OnOk};
+ghost use Rattle.std.specs.Prelude.{◌≡◌, ◌++◌, ◌∷◌, [], Some, OnOk};
 ghost use Rattle.nt_core.specs.declared.call.Call.{Call};
 ghost use Rattle.nt_front.specs.Held.{knowledge_of};
-ghost use Rattle.nt_threads.specs.Doors.{accepted_calls, calls_of_hold, made_through};
+ghost use Rattle.nt_threads.specs.Doors.{accepted_calls, calls_of_hold, made_through, holder_of};
 
 use crate::door::Door;
 use nt_core::{Act, Reply, WaitCall};
-use nt_front::{Begun, Carried, Exited, Front, Held, Named, Pass};
+use nt_front::{Carried, Exited, Front, Held, Named, Pass, Waited};
 use nt_status::{Refusal, ThreadId};
 use std::sync::Wait;
 
-/// A thread's way to a front: its hold, and the front of that hold.
+/// A thread's way to a front: its hold, which is there between any two calls, and the front of that hold.
 #[derive(Drop)]
 pub struct FrontDoor<'f, N: Named> {
     front: &'f Front<N>,
     thread: ThreadId,
     hold: Option<Carried<Held<N>>>,
+    ghost own: { holder_of hold ≡ Some thread },
 }
 
 impl<'f, N: Named> FrontDoor<'f, N> {
@@ -34,19 +35,17 @@ impl<'f, N: Named> FrontDoor<'f, N> {
     }
 
     /// What the thread holds at the end.
-    pub fn into_held(self) -> Option<Held<N>>
-        ensures made { IfSome result (λ h. made_through self.entry.hold ≡ calls_of_hold h) }
-        ensures none { IfNone result (self.entry.hold ≡ None) }
+    pub fn into_held(self) -> Held<N>
+        ensures thread { (knowledge_of result).thread ≡ self.entry.thread }
+        ensures made { calls_of_hold result ≡ made_through self.entry.hold }
     {
         let FrontDoor {
             front: _,
             thread: _,
             hold,
         } = self;
-        match hold {
-            Some(carried) => Some(carried.into_hold()),
-            None => None,
-        }
+        let Some(carried) = hold else { unreachable!() };
+        carried.into_hold()
     }
 }
 
@@ -63,7 +62,7 @@ impl<'f, N: Named> Door for FrontDoor<'f, N> {
 
     fn act<R: Wait>(&mut self, rt: &R, act: Act) -> Result<Reply, Refusal> {
         let Some(carried) = self.hold.take() else {
-            return Err(Refusal::ThreadEnded);
+            unreachable!()
         };
         let (hold, answer) = act_by(rt, self.front, carried.into_hold(), act);
         self.hold = Some(Carried { hold });
@@ -72,7 +71,7 @@ impl<'f, N: Named> Door for FrontDoor<'f, N> {
 
     fn wait<R: Wait>(&mut self, rt: &R, wait: WaitCall) -> Result<Reply, Refusal> {
         let Some(carried) = self.hold.take() else {
-            return Err(Refusal::ThreadEnded);
+            unreachable!()
         };
         let (hold, answer) = wait_by(rt, self.front, carried.into_hold(), wait);
         self.hold = Some(Carried { hold });
@@ -81,7 +80,7 @@ impl<'f, N: Named> Door for FrontDoor<'f, N> {
 
     fn exit<R: Wait>(&mut self, rt: &R) -> Result<Reply, Refusal> {
         let Some(carried) = self.hold.take() else {
-            return Err(Refusal::ThreadEnded);
+            unreachable!()
         };
         let (hold, answer) = exit_by(rt, self.front, carried.into_hold());
         self.hold = Some(Carried { hold });
@@ -109,7 +108,7 @@ fn act_by<N: Named, R: Wait>(
     }
 }
 
-/// Begins a wait, and sleeps until it has ended. Only a thread with a pass can.
+/// Waits until the wait has ended. Only a thread with a pass can.
 #[tactic(auto, using(crate::proofs::Accepted::call_accepted))]
 fn wait_by<N: Named, R: Wait>(
     rt: &R,
@@ -123,13 +122,10 @@ fn wait_by<N: Named, R: Wait>(
     let Held::Pass(pass) = held else {
         return (held, Err(Refusal::ThreadEnded));
     };
-    match front.begin(rt, pass, wait) {
-        Begun::Done(pass, receipt) => (Held::Pass(pass), receipt.result),
-        Begun::NoRoom(pass) => (Held::Pass(pass), Err(Refusal::JournalFull)),
-        Begun::Pended(sleeper, _) => {
-            let (pass, receipt) = front.sleep(rt, sleeper);
-            (Held::Pass(pass), receipt.result)
-        }
+    match front.wait(rt, pass, wait) {
+        Waited::Done(pass, receipt) => (Held::Pass(pass), receipt.result),
+        Waited::Granted(pass, _, receipt) => (Held::Pass(pass), receipt.result),
+        Waited::NoRoom(pass) => (Held::Pass(pass), Err(Refusal::JournalFull)),
     }
 }
 

@@ -1,10 +1,14 @@
 //! The plan over a front, by threads that run.
-ghost use Rattle.std.specs.Prelude.{◌≡◌, ◌+◌, ◌*◌, ◌<◌, ◌≤◌, [], map, vec_len, vec_capacity, IfOk};
+ghost use Rattle.std.specs.Prelude.{◌≡◌, ◌+◌, ◌-◌, ◌*◌, ◌<◌, ◌≤◌, [], true, map, vec_len, vec_capacity, IfOk};
 ghost use Rattle.nt_core.specs.Dispatcher.{Dispatcher, state};
 ghost use Rattle.nt_core.specs.Lawful.{IsLawful};
 ghost use Rattle.nt_front.specs.Runs.{IsRun};
-ghost use Rattle.nt_threads.specs.Doors.{accepted_calls, made_through};
-ghost use Rattle.nt_threads.specs.Reports.{IsReport, ComesOfRun};
+ghost use Rattle.nt_front.specs.Held.{knowledge_of};
+ghost use Rattle.nt_front.specs.Holds.{new_threads};
+ghost use Rattle.nt_threads.specs.declared.plan.Objects.{Objects};
+ghost use Rattle.nt_threads.specs.Doors.{accepted_calls, calls_of_hold, made_through};
+ghost use Rattle.nt_threads.specs.Plans.{carried_out};
+ghost use Rattle.nt_threads.specs.Reports.{IsCarriedOut, IsReport, ComesOfRun};
 
 use crate::counts::counts_of;
 use crate::driving::{Driven, drive};
@@ -81,7 +85,8 @@ pub fn report_of<R: Threads + Wait + Sync>(
 /// The lines that tell of what ran.
 fn report_in(alloc: Global, workers: u32, rounds: u32, ran: Ran) -> Result<Vec<u8>, AllocError>
     requires workers { workers ≤ 64 }
-    requires comes { ComesOfRun ran.history.entries.items }
+    requires comes { ComesOfRun (workers + 1) ran.history.entries.items }
+    requires whole { ran.whole ≡ true → IsCarriedOut workers rounds ran.history.entries.items }
     ensures { IfOk result (λ lines. IsReport workers rounds lines.items) }
 {
     told_of(
@@ -102,7 +107,8 @@ fn told_of(
     whole: bool,
 ) -> Result<Vec<u8>, AllocError>
     requires workers { workers ≤ 64 }
-    requires comes { ComesOfRun entries.now }
+    requires comes { ComesOfRun (workers + 1) entries.now }
+    requires whole { whole ≡ true → IsCarriedOut workers rounds entries.now }
     ensures { IfOk result (λ lines. IsReport workers rounds lines.items) }
 {
     if !whole {
@@ -113,7 +119,7 @@ fn told_of(
     lines_of(alloc, workers, rounds, &counts)
 }
 
-/// Opens the front, and has its threads carry out the plan. All memory for the way is taken before.
+/// Opens the front, and has its threads carry out the plan. All memory for their way is taken before.
 fn run<N: Named + Send + Sync, R: Threads + Wait + Sync>(
     rt: &R,
     alloc: Global,
@@ -121,11 +127,37 @@ fn run<N: Named + Send + Sync, R: Threads + Wait + Sync>(
     rounds: u32,
 ) -> Result<Ran, AllocError>
     requires front { blank ≡ N.front }
-    requires threads { blank.threads ≤ 65 }
+    requires threads { (0 < blank.threads) × (blank.threads ≤ 65) }
     requires rounds { rounds ≤ 1000 }
-    ensures { IfOk result (λ r. ComesOfRun r.history.entries.items) }
+    ensures comes { IfOk result (λ r. ComesOfRun blank.threads r.history.entries.items) }
+    ensures whole { IfOk result (λ r. r.whole ≡ true → IsCarriedOut (blank.threads - 1) rounds r.history.entries.items) }
 {
-    let room = Room::new(alloc, 65)?;
+    match Room::new(alloc, 65) {
+        Ok(room) => run_in::<N, R>(rt, alloc, blank, room, rounds),
+        Err(refused) => {
+            drop(blank);
+            Err(refused)
+        }
+    }
+}
+
+/// The same, with the memory for the way.
+fn run_in<N: Named + Send + Sync, R: Threads + Wait + Sync>(
+    rt: &R,
+    alloc: Global,
+    blank: Blank,
+    room: Room<'_, N>,
+    rounds: u32,
+) -> Result<Ran, AllocError>
+    requires front { blank ≡ N.front }
+    requires threads { (0 < blank.threads) × (blank.threads ≤ 65) }
+    requires rounds { rounds ≤ 1000 }
+    requires doors { (room.doors.items ≡ []) × (65 ≤ vec_capacity room.doors) }
+    requires back { (room.back.items ≡ []) × (65 ≤ vec_capacity room.back) }
+    requires holds { (room.holds.items ≡ []) × (65 ≤ vec_capacity room.holds) }
+    ensures comes { IfOk result (λ r. ComesOfRun blank.threads r.history.entries.items) }
+    ensures whole { IfOk result (λ r. r.whole ≡ true → IsCarriedOut (blank.threads - 1) rounds r.history.entries.items) }
+{
     match open::<N>(alloc, blank) {
         Ok((front, passes)) => Ok(run_on(rt, alloc, front, passes, room, rounds)),
         Err(_) => {
@@ -144,12 +176,14 @@ fn run_on<N: Named + Send + Sync, R: Threads + Wait + Sync>(
     room: Room<'_, N>,
     rounds: u32,
 ) -> Ran
+    requires passes { (passes.items ≡ new_threads N.front.threads) × (0 < N.front.threads) }
     requires threads { vec_len passes ≤ 65 }
     requires rounds { rounds ≤ 1000 }
     requires doors { (room.doors.items ≡ []) × (vec_len passes ≤ vec_capacity room.doors) }
     requires back { (room.back.items ≡ []) × (vec_len passes ≤ vec_capacity room.back) }
     requires holds { (room.holds.items ≡ []) × (vec_len passes ≤ vec_capacity room.holds) }
-    ensures { ComesOfRun result.history.entries.items }
+    ensures comes { ComesOfRun N.front.threads result.history.entries.items }
+    ensures whole { result.whole ≡ true → IsCarriedOut (N.front.threads - 1) rounds result.history.entries.items }
 {
     let (holds, whole) = drive_on(rt, alloc, &front, passes, room, rounds);
     Ran {
@@ -172,6 +206,8 @@ fn drive_on<'f, N: Named + Send + Sync, R: Threads + Wait + Sync>(
     requires doors { (room.doors.items ≡ []) × (vec_len passes ≤ vec_capacity room.doors) }
     requires back { (room.back.items ≡ []) × (vec_len passes ≤ vec_capacity room.back) }
     requires holds { (room.holds.items ≡ []) × (vec_len passes ≤ vec_capacity room.holds) }
+    ensures threads { map (λ h. (knowledge_of h).thread) result.0.items ≡ map (λ p. p.thread) passes.items }
+    ensures whole { result.1 ≡ true → (o : Objects) × (map calls_of_hold result.0.items ≡ carried_out (λ p. accepted_calls p.made) o rounds passes.items) }
 {
     let Room { doors, back, holds } = room;
     let doors = doors_of(front, passes, doors);
@@ -200,14 +236,18 @@ fn doors_of<'f, N: Named>(
     doors
 }
 
-/// What the threads of these doors hold.
-fn holds_of<N: Named>(mut doors: Vec<FrontDoor<'_, N>>, mut holds: Vec<Held<N>>) -> Vec<Held<N>>
+/// What the threads of these doors hold, in their order.
+fn holds_of<N: Named>(mut doors: Vec<FrontDoor<'_, N>>, holds: Vec<Held<N>>) -> Vec<Held<N>>
     requires { (holds.items ≡ []) × (vec_len doors ≤ vec_capacity holds) }
+    ensures threads { map (λ h. (knowledge_of h).thread) result.items ≡ map (λ d. d.thread) doors.entry.items }
+    ensures made { map calls_of_hold result.items ≡ map (λ d. made_through d.hold) doors.entry.items }
+    ensures count { vec_len result ≡ vec_len doors.entry }
+    ensures capacity { vec_capacity result ≡ vec_capacity holds }
 {
-    while let Some(door) = doors.pop() {
-        if let Some(held) = door.into_held() {
-            holds.push_reserved(held);
-        }
-    }
+    let Some(door) = doors.pop() else {
+        return holds;
+    };
+    let mut holds = holds_of(doors, holds);
+    holds.push_reserved(door.into_held());
     holds
 }
