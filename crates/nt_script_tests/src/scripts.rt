@@ -1,21 +1,38 @@
-//! Scripts whose transcripts are known from the Win32 reference, and devices that fail.
-
-mod forms;
-mod readings;
-mod worked;
+//! Scripts over devices that fail, and scripts that are made for the limits of a line and of handles. Those whose transcripts
+//! are known from the Win32 reference are files, in `tests/scripts`.
 
 use crate::devices::{Given, Room, Taken};
 use crate::refused::{Host, before_refusal, is_refusing, tell_refused};
-use crate::scripts::forms::FORMS;
-use crate::scripts::readings::READINGS;
-use crate::scripts::worked::exits::EXITS;
-use crate::scripts::worked::faults::FAULTS;
-use crate::scripts::worked::objects::OBJECTS;
-use crate::scripts::worked::times::TIMES;
-use crate::scripts::worked::{APCS, HAND_OVER, Worked};
 use nt_script::{Counted, RunFault, ScriptFault, Summary, run};
 use std::alloc::{AllocError, Global};
 use std::test::Fail;
+
+/// One event with two threads that wait for it in turn.
+const HAND_OVER: &[u8] = b"\
+threads 3
+t0 event e
+t0 any inf plain e
+t1 any inf plain e
+t2 set e
+t2 set e
+";
+
+/// A thread whose sleep an APC ends, and which takes its APCs.
+const APCS: &[u8] = b"\
+threads 2
+t0 event e
+t0 any inf plain e
+t1 apc t0 7 1
+t1 apc t0 8 2
+t1 set e
+t0 any inf alertable e
+t0 next
+t0 next
+t0 next
+t0 sleep inf alertable
+t1 apc t0 9 3
+t0 next
+";
 
 /// What a run wrote, and what it answered.
 #[derive(Drop)]
@@ -65,62 +82,6 @@ fn run_over(rt: &impl Host, given: Given<'_>, room: Room) -> Outcome {
 
 fn outcome_of(rt: &impl Host, script: &[u8]) -> Outcome {
     run_over(rt, Given::all(script), Room::ENDLESS)
-}
-
-/// Whether the run wrote the whole output of the worked script, and ended with its fault, if it has one.
-fn is_as_worked(found: &Outcome, worked: &Worked) -> bool {
-    let is_answered = match worked.fault {
-        None => found.answer.is_ok(),
-        Some((line, fault)) => found.answer == Err(RunFault::Script { line, fault }),
-    };
-    is_answered && found.written.as_slice() == worked.transcript
-}
-
-fn check(rt: &impl Host, worked: &Worked) {
-    let found = outcome_of(rt, worked.script);
-    assert!(rt; is_as_worked(&found, worked), "{}", worked.shows);
-}
-
-#[test]
-fn scripts_of_objects_have_their_transcripts(rt: HostRuntime) {
-    for worked in OBJECTS {
-        check(&rt, worked);
-    }
-}
-
-#[test]
-fn scripts_of_time_have_their_transcripts(rt: HostRuntime) {
-    for worked in TIMES {
-        check(&rt, worked);
-    }
-}
-
-#[test]
-fn scripts_of_threads_that_end_have_their_transcripts(rt: HostRuntime) {
-    for worked in EXITS {
-        check(&rt, worked);
-    }
-}
-
-#[test]
-fn the_reference_is_read_as_it_is_meant(rt: HostRuntime) {
-    for worked in READINGS {
-        check(&rt, worked);
-    }
-}
-
-#[test]
-fn lines_are_read_in_their_forms(rt: HostRuntime) {
-    for worked in FORMS {
-        check(&rt, worked);
-    }
-}
-
-#[test]
-fn the_first_fault_ends_a_run_without_an_end_line(rt: HostRuntime) {
-    for worked in FAULTS {
-        check(&rt, worked);
-    }
 }
 
 #[test]
