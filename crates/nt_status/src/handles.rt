@@ -74,6 +74,21 @@ impl Handles {
         Ok(())
     }
 
+    /// These handles in the place of those that it has. Where they are as many, it takes no memory; where memory is refused, nothing
+    /// changes.
+    #[inline(always)]
+    pub fn copy_from(&mut self, handles: &[Handle]) -> Result<(), AllocError>
+        ensures ok { OnOk result (self.new ≡ handles.now) }
+        ensures err { OnErr result (self.new ≡ self.old) }
+    {
+        if self.items.len() == handles.len() {
+            self.items.as_mut_slice().copy_from_slice(handles);
+            return Ok(());
+        }
+        self.items = SmallVec::from_slice(*self.items.allocator(), handles)?;
+        Ok(())
+    }
+
     /// The same handles in memory of their own.
     pub fn copy(&self) -> Result<Self, AllocError>
         ensures { IfOk result (λ copied. copied ≡ self.now) }
