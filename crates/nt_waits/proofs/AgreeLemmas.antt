@@ -12,14 +12,14 @@ use Rattle.nt_waits.proofs.NextLemmas.{waiter}
 use Rattle.nt_waits.proofs.ViewLemmas.{get-waits, get_or-threads}
 
 -- a wait that is shown is in a place
-shown : (slot : Option Pending) (wait : Wait) → option_map (λ p. p.wait) slot ≡ Some wait → (p : Pending) × (slot ≡ Some p) × (p.wait ≡ wait)
-shown None wait e = absurd (none-some wait e)
-shown (Some p) wait e = (p, refl, same_Some p.wait wait e)
+pub shown_in : (slot : Option Pending) (wait : Wait) → option_map (λ p. p.wait) slot ≡ Some wait → (p : Pending) × (slot ≡ Some p) × (p.wait ≡ wait)
+shown_in None wait e = absurd (none-some wait e)
+shown_in (Some p) wait e = (p, refl, same_Some p.wait wait e)
 
 pub agrees : (queues : Lists) (slots : List (Option Pending)) → IsTable queues slots → Agrees (waits_of slots) (map threads queues.lists)
 agrees queues slots table = record {
   listed = λ t h w e named.
-      let found = shown (slot_at slots t) w (sym (get-waits slots t) ∙ e) in
+      let found = shown_in (slot_at slots t) w (sym (get-waits slots t) ∙ e) in
       let mine = subst (λ (x : Wait). Names x h) (sym found.2) named in
       let link = (table.linked t found.0 found.1).linked mine.0 mine.1 in
       let here = subst (λ (k : ℕ). HasLink (list_at queues k) (record { number = get_or found.0.numbers.items mine.0 0; thread = t })) mine.2 link in

@@ -1,11 +1,17 @@
 -- What a table shows once a wait has begun.
-use Rattle.std.proofs.Common.{◌≡◌, ◌≢◌, ◌≤◌, arith, subst, ◌+◌, ◌∷◌, ◌++◌, [], ℕ, List, length, map, Option, Some, None, refl, ap, sym, ◌∙◌}
+use Rattle.std.proofs.Common.{◌≡◌, ◌≢◌, ◌<◌, ◌≤◌, inl, inr, get_or, set, arith, subst, ◌+◌, ◌∷◌, ◌++◌, [], ℕ, List, length, map, Option, Some, None, refl, ap, sym, ◌∙◌}
 use Rattle.nt_waits.specs.declared.wait.Wait.{Wait}
 use Rattle.nt_waits.specs.declared.pending.Pending.{Pending}
 use Rattle.nt_waits.specs.declared.prepared.Prepared.{Prepared}
 use Rattle.nt_waits.specs.Queues.{Lists, OnlyGrows, list_at}
 use Rattle.nt_waits.specs.Prepared.{IsReady}
-use Rattle.nt_waits.proofs.BeginLemmas.{table_same}
+use Rattle.nt_waits.specs.Link.{Link, AreNumbersOnce}
+use Rattle.nt_waits.specs.Slot.{IsFilled}
+use Rattle.std.proofs.lemmas.Bool.{cases_eq}
+use Rattle.std.proofs.lemmas.List.{get_or-set_same, get_or-set_other, map-append}
+use Rattle.std.specs.Prelude.{nat_eq, Result, Ok, Err, OnErr}
+use Rattle.std.specs.List.{IsDistinct}
+use Rattle.nt_waits.proofs.BeginLemmas.{table_same, table_begun}
 use Rattle.std.proofs.lemmas.Option.{same_Some}
 use Rattle.nt_waits.specs.Table.{slot_at, threads, waits_of, IsTable, IsWhole}
 use Rattle.nt_waits.specs.Waits.{Waits, wait_of, Names, Begins}
@@ -14,7 +20,9 @@ use Rattle.nt_waits.proofs.DeadlineLemmas.{alarmed_begun}
 use Rattle.nt_waits.proofs.CountLemmas.{len-begun}
 use Rattle.nt_waits.proofs.PreparedLemmas.{none_ready, ready_kept}
 use Rattle.nt_alarms.specs.Alarms.{alarm_at}
+use Rattle.std.specs.Cmp.{nat_cmp_total}
 use Rattle.std.specs.FinMap as finmap
+use Rattle.std.specs.Option.{option_map}
 
 -- what these queues and places show
 abbrev pub view_of : Lists → List (Option Pending) → ℕ → Option (ℕ × Wait) → Waits
@@ -44,41 +52,77 @@ module _ (queues queues' : Lists) (slots slots' : List (Option Pending)) (t : �
     prepared = refl;
   }
 
-  pub whole_begun : (places places' count : ℕ) (before mid after : List (Option ℕ)) (prepared : Option Prepared)
-      → IsWhole queues slots places before count prepared
+  pub whole_begun : (count : ℕ) (before mid after : List (Option ℕ)) (prepared : Option Prepared)
+      → IsWhole queues slots before count prepared
       → finmap.get (waits_of slots) t ≡ None
       → IsTable queues' slots'
       → ((u : ℕ) → alarm_at mid u ≡ alarm_at before u)
       → alarm_at after t ≡ wait.deadline
       → ((u : ℕ) → u ≢ t → alarm_at after u ≡ alarm_at mid u)
-      → IsWhole queues' slots' places' after (count + 1) None
-  whole_begun places places' count before mid after prepared whole free table reserved here elsewhere = record {
+      → IsWhole queues' slots' after (count + 1) None
+  whole_begun count before mid after prepared whole free table reserved here elsewhere = record {
     table = table;
     counted = rw (pending_begun, len-begun (waits_of slots) t wait free) (ap (λ (n : ℕ). n + 1) whole.counted);
     alarmed = alarmed_begun mid after slots slots' t wait placed.0 (λ u. reserved u ∙ whole.alarmed u) placed.1 placed.2 others here elsewhere;
-    ready = none_ready queues' places' (length after);
+    ready = none_ready queues' (length slots') (length after);
   }
 
--- only room was made
-pub whole_reserved : (queues queues' : Lists) (slots slots' : List (Option Pending)) (places places' : ℕ) (alarms alarms' : List (Option ℕ)) (count : ℕ) (prepared : Option Prepared)
-    → OnlyGrows queues queues' → slots' ≡ slots → places ≤ places'
+-- a wait stands last in the queue of each handle that it names, and the other queues are as they were
+module _ (old new : Lists) (t : ℕ) (wait : Wait) (slot : Option Pending) (filled : IsFilled old new t wait slot) where
+  pub filled_joined : (h : ℕ) → Names wait h → threads (list_at new h) ≡ threads (list_at old h) ++ t ∷ []
+  filled_joined h named = subst (λ (x : ℕ). threads (list_at new x) ≡ threads (list_at old x) ++ t ∷ []) named.2 (rw (filled.4.done named.0 named.1, map-append (λ (l : Link). l.thread) (list_at old (get_or wait.handles named.0 0)) _) refl)
+
+  pub filled_kept : (h : ℕ) → (Names wait h → ⊥) → list_at new h ≡ list_at old h
+  filled_kept h outside = filled.4.others h (λ j below same. outside (j, below, same))
+
+  pub filled_table : (slots : List (Option Pending)) → IsTable old slots → slot_at slots t ≡ None → t < length slots → length wait.handles ≤ 64 → IsDistinct nat_eq wait.handles → ((h : ℕ) → AreNumbersOnce (list_at new h)) → IsTable new (set slots t slot)
+  filled_table slots table free within few apart distinct =
+      let is = filled.2 in
+      rw filled.1 (table_begun old new slots t filled.0 table free within (rw is filled.3) (rw is few) (rw is apart) (rw is filled.4) distinct)
+
+  pub filled_placed : (slots : List (Option Pending)) → t < length slots → (p : Pending) × (slot_at (set slots t slot) t ≡ Some p) × (p.wait ≡ wait)
+  filled_placed slots within = (filled.0, get_or-set_same slots t slot None within ∙ filled.1, filled.2)
+
+-- an empty place that is written anew
+pub set_empty : (slots : List (Option Pending)) (t : ℕ) (slot : Option Pending) → t < length slots → slot_at slots t ≡ None → slot ≡ None → (u : ℕ) → slot_at (set slots t slot) u ≡ slot_at slots u
+set_empty slots t slot within free none u = elim (cases_eq u t) [
+  | inl same ↦ rw same (get_or-set_same slots t slot None within ∙ none ∙ sym free)
+  | inr differs ↦ get_or-set_other slots t u slot None differs
+]
+
+-- places that show the same show the same waits
+pub waits_same : (slots slots' : List (Option Pending)) → ((u : ℕ) → slot_at slots' u ≡ slot_at slots u) → waits_of slots' ≡ waits_of slots
+waits_same slots slots' same = finmap.same_map nat_cmp_total finmap.nat_cmp-IsAntisymmetric _ _ (λ q. get-waits slots' q ∙ ap (option_map (λ (p : Pending). p.wait)) (same q) ∙ sym (get-waits slots q))
+
+-- only room was made: the table shows what it showed
+pub view_same : (queues queues' : Lists) (slots slots' : List (Option Pending)) (looked : ℕ) (prepared : Option (ℕ × Wait)) → OnlyGrows queues queues' → ((u : ℕ) → slot_at slots' u ≡ slot_at slots u) → view_of queues' slots' looked prepared ≡ view_of queues slots looked prepared
+view_same queues queues' slots slots' looked prepared grows same = rw (waits_same slots slots' same, grows.lists, grows.touched) refl
+
+-- only room was made: the table is whole
+pub whole_reserved : (queues queues' : Lists) (slots slots' : List (Option Pending)) (alarms alarms' : List (Option ℕ)) (count : ℕ) (prepared : Option Prepared)
+    → OnlyGrows queues queues' → ((u : ℕ) → slot_at slots' u ≡ slot_at slots u) → length slots ≤ length slots' → (length slots ≤ 65536 → length slots' ≤ 65536)
     → ((u : ℕ) → alarm_at alarms' u ≡ alarm_at alarms u) → length alarms ≤ length alarms'
-    → IsWhole queues slots places alarms count prepared
-    → IsWhole queues' slots' places' alarms' count prepared
-whole_reserved queues queues' slots slots' places places' alarms alarms' count prepared grows same more kept longer whole = record {
-  table = rw same (table_same queues queues' slots slots (λ h. rw grows.lists refl) (λ u. refl) whole.table.small whole.table);
-  counted = rw same whole.counted;
-  alarmed = rw same (λ u. kept u ∙ whole.alarmed u);
-  ready = let used = grows.used in ready_kept queues queues' places places' (length alarms) (length alarms') (omega (arith, used)) grows.capacity grows.handle_room more longer prepared whole.ready;
+    → IsWhole queues slots alarms count prepared
+    → IsWhole queues' slots' alarms' count prepared
+whole_reserved queues queues' slots slots' alarms alarms' count prepared grows same more small kept longer whole = record {
+  table = table_same queues queues' slots slots' (λ h. rw grows.lists refl) same (small whole.table.small) whole.table;
+  counted = rw (waits_same slots slots' same) whole.counted;
+  alarmed = λ u. rw (same u) (kept u ∙ whole.alarmed u);
+  ready = let used = grows.used in ready_kept queues queues' (length slots) (length slots') (length alarms) (length alarms') (omega (arith, used)) grows.capacity grows.handle_room more longer prepared whole.ready;
 }
 
 -- a wait is prepared once its room is made
-pub whole_prepared : (queues : Lists) (slots : List (Option Pending)) (places : ℕ) (alarms : List (Option ℕ)) (count : ℕ) (before : Option Prepared) (prepared : Prepared)
-    → IsWhole queues slots places alarms count before → IsReady queues places (length alarms) prepared
-    → IsWhole queues slots places alarms count (Some prepared)
-whole_prepared queues slots places alarms count before prepared whole ready = record {
+pub whole_prepared : (queues : Lists) (slots : List (Option Pending)) (alarms : List (Option ℕ)) (count : ℕ) (before : Option Prepared) (prepared : Prepared)
+    → IsWhole queues slots alarms count before → IsReady queues (length slots) (length alarms) prepared
+    → IsWhole queues slots alarms count (Some prepared)
+whole_prepared queues slots alarms count before prepared whole ready = record {
   table = whole.table;
   counted = whole.counted;
   alarmed = whole.alarmed;
-  ready = λ p is. subst (IsReady queues places (length alarms)) (same_Some prepared p is) ready;
+  ready = λ p is. subst (IsReady queues (length slots) (length alarms)) (same_Some prepared p is) ready;
 }
+
+-- what holds, holds where a result is an error
+pub on_err : {T E : Type 0} {P : Type 0} (r : Result T E) → P → OnErr r P
+on_err (Ok x) p = tt
+on_err (Err e) p = p

@@ -1,5 +1,5 @@
 -- A copy of the blocks, the ends and the places.
-use Rattle.std.proofs.Common.{◌≡◌, ℕ, List, [], ◌∷◌, length, get_or, map, Option, Some, None, refl, sym, ap, subst, ◌∙◌, inl, inr, arith}
+use Rattle.std.proofs.Common.{◌≡◌, ℕ, Bool, true, false, List, [], ◌∷◌, length, get_or, map, Option, Some, None, refl, sym, ap, subst, ◌∙◌, inl, inr, arith}
 use Rattle.std.proofs.lemmas.Bool.{cases_lt}
 use Rattle.std.proofs.lemmas.List.{get_or_past}
 use Rattle.std.proofs.lemmas.Option.{same_Some, none-some}
@@ -19,6 +19,7 @@ use Rattle.nt_waits.specs.Queues.{Lists}
 use Rattle.nt_waits.specs.Table.{slot_at, waits_of, IsLinked, IsTable}
 use Rattle.nt_waits.specs.Waits.{Names}
 use Rattle.nt_waits.specs.Pending.{IsCopy}
+use Rattle.nt_waits.specs.Slot.{IsSlotCopy, kept_where}
 use Rattle.nt_waits.specs.Deadlines.{deadline_in}
 use Rattle.nt_waits.proofs.DeadlineLemmas.{AreAlarmed}
 use Rattle.nt_waits.proofs.ViewLemmas.{get-waits}
@@ -45,23 +46,17 @@ module _ (blocks blocks' : Slab Block) (ends ends' : List Ends)
   pub lists_copied : map (links blocks') ends' ≡ map (links blocks) ends
   lists_copied = rw (each_same ends ends' copied) (ap (λ (slots : List (Option Block)). map (links (record blocks { slots = slots })) ends) same_slots)
 
--- both places are empty, or both hold the same
-abbrev pub IsSlotCopy : Option Pending → Option Pending → Type 0
-IsSlotCopy None copy = copy ≡ None
-IsSlotCopy (Some pending) copy = IsSomeAnd copy (IsCopy pending)
-
-slot_copied : (R : Option Pending → Option Pending → Type 0) → ((q : Pending) → R None (Some q) → ⊥) → ((p : Pending) → R (Some p) None → ⊥) → ((p q : Pending) → R (Some p) (Some q) → IsCopy p q) → (slot copy : Option Pending) → R slot copy → IsSlotCopy slot copy
-slot_copied R fills empties copies None None r = refl
-slot_copied R fills empties copies None (Some q) r = absurd (fills q r)
-slot_copied R fills empties copies (Some p) None r = absurd (empties p r)
-slot_copied R fills empties copies (Some p) (Some q) r = copies p q r
-
 -- what holds of clones, place by place, holds at each thread
-pub slots_cloned : (R : Option Pending → Option Pending → Type 0) → ((q : Pending) → R None (Some q) → ⊥) → ((p : Pending) → R (Some p) None → ⊥) → ((p q : Pending) → R (Some p) (Some q) → IsCopy p q) → (slots copy : List (Option Pending)) → AllZip R slots copy → (t : ℕ) → IsSlotCopy (slot_at slots t) (slot_at copy t)
-slots_cloned R fills empties copies slots copy same t = elim (cases_lt t (length slots)) [
-  | inl below ↦ slot_copied R fills empties copies (slot_at slots t) (slot_at copy t) (AllZip-get_or R slots copy t None None same below)
-  | inr past ↦ rw (get_or_past slots t None past) (get_or_past copy t None (omega (arith, length_all_zip R slots copy same)))
+pub slots_cloned : (slots copy : List (Option Pending)) → AllZip IsSlotCopy slots copy → (t : ℕ) → IsSlotCopy (slot_at slots t) (slot_at copy t)
+slots_cloned slots copy same t = elim (cases_lt t (length slots)) [
+  | inl below ↦ AllZip-get_or IsSlotCopy slots copy t None None same below
+  | inr past ↦ rw (get_or_past slots t None past) (get_or_past copy t None (omega (arith, length_all_zip IsSlotCopy slots copy same)))
 ]
+
+-- a copy of a place shows a copy of what the place shows
+pub slot_cloned : (pends : Bool) (p q : Pending) → IsCopy p q → IsSlotCopy (kept_where pends p) (kept_where pends q)
+slot_cloned false p q is = refl
+slot_cloned true p q is = is
 
 module _ (old new : Lists) (slots copy : List (Option Pending))
     (lists : new.lists ≡ old.lists)

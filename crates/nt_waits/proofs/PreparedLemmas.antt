@@ -18,7 +18,6 @@ ready_kept old new places places' alarms alarms' used capacity handle_room more_
       below = before.below;
       handles = let handles = before.handles in omega (arith, handles, handle_room);
       place = let place = before.place in omega (arith, place, more_places);
-      empty = before.empty;
       numbers = before.numbers;
       alarm = λ some. let alarm = before.alarm some in omega (arith, alarm, more_alarms);
     }

@@ -3,8 +3,10 @@ use Rattle.std.proofs.Common.{◌≡◌, ◌≢◌, ◌∙◌, ◌<◌, ◌≤�
 use Rattle.std.proofs.lemmas.Bool.{cases_eq, eq-eqb, false≢true}
 use Rattle.std.proofs.lemmas.Map.Keys.{apart_from_distinct}
 use Rattle.std.specs.Prelude.{nat_eq}
-use Rattle.std.specs.List.{IsDistinct}
-use Rattle.std.proofs.lemmas.List.{get_or-set_same, get_or-set_other, get_or_push, get_or_append_left}
+use Rattle.std.proofs.Math.Seq.{take-append_seam}
+use Rattle.std.specs.Prelude.{drop}
+use Rattle.std.specs.List.{IsDistinct, refill}
+use Rattle.std.proofs.lemmas.List.{get_or-set_same, get_or-set_other}
 use Rattle.nt_waits.specs.Link.{HasNumber, AreNumbersOnce, without}
 use Rattle.nt_waits.specs.Queues.{Lists, list_at}
 use Rattle.nt_waits.specs.Steps.{IsOutside, AreUnlinked, AreLinked}
@@ -55,14 +57,13 @@ module _ (old now new : Lists) (handles numbers : List ℕ) (i : ℕ)
   pub next_linked : AreUnlinked old now handles numbers i → HasNumber (list_at old (get_or handles i 0)) (get_or numbers i 0) → HasNumber (list_at now (get_or handles i 0)) (get_or numbers i 0)
   next_linked before has = rw (before.others (get_or handles i 0) outside_yet) has
 
-pub record LinkedSoFar (old new : Lists) (thread : ℕ) (handles numbers : List ℕ) (capacity_old capacity_new : ℕ) (count : ℕ) : Type 0 where
+pub record LinkedSoFar (old new : Lists) (thread : ℕ) (handles numbers : List ℕ) (count : ℕ) : Type 0 where
   pub linked : AreLinked old new thread handles numbers count
   pub distinct : (h : ℕ) → AreNumbersOnce (list_at new h)
-  pub numbered : length numbers ≡ count
+  pub numbered : length numbers ≡ length handles
   pub same_handles : length new.lists ≡ length old.lists
   pub used : new.used ≡ old.used + count
   pub capacity : new.capacity ≡ old.capacity
-  pub places : capacity_new ≡ capacity_old
   pub touched : new.touched ≡ old.touched
 
 pub linked_none : (old : Lists) (thread : ℕ) (handles numbers : List ℕ) → AreLinked old old thread handles numbers 0
@@ -71,11 +72,11 @@ linked_none old thread handles numbers = record { done = λ j below. absurd (ome
 module _ (old now new : Lists) (thread : ℕ) (handles numbers : List ℕ) (i number : ℕ)
     (apart : IsDistinct nat_eq handles)
     (within : i < length handles)
-    (numbered : length numbers ≡ i)
+    (numbered : length numbers ≡ length handles)
     (there : get_or handles i 0 < length now.lists) where
   pub linked_more : AreLinked old now thread handles numbers i
       → new.lists ≡ set now.lists (get_or handles i 0) (list_at now (get_or handles i 0) ++ record { number = number; thread = thread } ∷ [])
-      → AreLinked old new thread handles (numbers ++ number ∷ []) (i + 1)
+      → AreLinked old new thread handles (set numbers i number) (i + 1)
   linked_more before written =
       let added = list_at now (get_or handles i 0) ++ record { number = number; thread = thread } ∷ [] in
       let same = before.others (get_or handles i 0) (λ j below. differ handles j i apart below within) in
@@ -83,10 +84,14 @@ module _ (old now new : Lists) (thread : ℕ) (handles numbers : List ℕ) (i nu
       rw (written, get_or-set_same now.lists (get_or handles i 0) added [] there, same) refl in
       record {
         done = λ j below. elim (cases_eq j i) [
-          | inl last ↦ rw (last, get_or_push numbers number 0 i numbered) here
+          | inl last ↦ rw (last, get_or-set_same numbers i number 0 (omega (arith, numbered, within))) here
           | inr earlier ↦
               let below_i : j < i = omega arith in
-              rw (written, get_or-set_other now.lists (get_or handles i 0) (get_or handles j 0) added [] (differ handles j i apart below_i within), get_or_append_left numbers (number ∷ []) 0 j (omega (arith, numbered))) (before.done j below_i)
+              rw (written, get_or-set_other now.lists (get_or handles i 0) (get_or handles j 0) added [] (differ handles j i apart below_i within), get_or-set_other numbers i j number 0 earlier) (before.done j below_i)
         ];
         others = λ handle outside. rw (written, get_or-set_other now.lists (get_or handles i 0) handle added [] (λ e. outside i (omega arith) (sym e))) (before.others handle (λ j below. outside j (omega arith)));
       }
+
+-- a list that is written over whole, by one that is as long
+pub refill_whole : (numbers these : List ℕ) → length these ≡ length numbers → refill (length numbers) numbers these ≡ these
+refill_whole numbers these same = rw (← same) (take-append_seam these (drop (length these) numbers))

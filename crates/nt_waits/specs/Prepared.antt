@@ -1,5 +1,5 @@
 -- When all that a prepared wait needs is there. No public clause cites this module.
-use Rattle.std.specs.Prelude.{◌≡◌, ℕ, ◌<◌, ◌≤◌, [], length, Option, IsSome, slice_index, nat_eq}
+use Rattle.std.specs.Prelude.{◌≡◌, ℕ, ◌<◌, ◌≤◌, length, Option, IsSome, slice_index, nat_eq}
 use Rattle.std.specs.List.{IsDistinct}
 use Rattle.std.specs.Option.{option_map}
 use Rattle.nt_waits.specs.declared.wait.Wait.{Wait}
@@ -18,6 +18,5 @@ pub record IsReady (queues : Lists) (places alarms : ℕ) (p : Prepared) : Type 
   pub below : (j : ℕ) → j < length p.wait.handles → slice_index p.wait.handles j < p.handles
   pub handles : p.handles ≤ queues.handle_room
   pub place : p.thread < places
-  pub empty : p.numbers.items ≡ []
-  pub numbers : length p.wait.handles ≤ p.numbers.capacity
+  pub numbers : length p.numbers.items ≡ length p.wait.handles
   pub alarm : IsSome p.wait.deadline → p.thread < alarms

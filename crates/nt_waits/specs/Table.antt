@@ -53,8 +53,8 @@ pub record IsTable (queues : Lists) (slots : List (Option Pending)) : Type 0 whe
   pub small : length slots ≤ 65536
 
 -- blocks and waits name each other, the waits are counted, the alarm of each thread is the deadline of its wait, and a prepared wait has its room
-pub record IsWhole (queues : Lists) (slots : List (Option Pending)) (places : ℕ) (deadlines : List (Option ℕ)) (count : ℕ) (prepared : Option Prepared) : Type 0 where
+pub record IsWhole (queues : Lists) (slots : List (Option Pending)) (deadlines : List (Option ℕ)) (count : ℕ) (prepared : Option Prepared) : Type 0 where
   pub table : IsTable queues slots
   pub counted : count ≡ map.len (waits_of slots)
   pub alarmed : (thread : ℕ) → alarm_at deadlines thread ≡ deadline_in (option_map (λ pending. pending.wait) (slot_at slots thread))
-  pub ready : ForSome prepared (IsReady queues places (length deadlines))
+  pub ready : ForSome prepared (IsReady queues (length slots) (length deadlines))

@@ -1,5 +1,5 @@
 -- What callers see of a `WaitTable`.
-use Rattle.std.specs.Prelude.{◌≡◌, ℕ, ◌+◌, ◌-◌, ◌^◌, min, ◌<◌, Bool, ◌==◌, List, [], ◌∷◌, ◌++◌, length, if◌then◌else◌, Option, Some, None, slice_get, slice_index, slice_index_or, ◌⊎◌, refl}
+use Rattle.std.specs.Prelude.{◌≡◌, ℕ, ◌+◌, ◌-◌, ◌*◌, ◌≤◌, ◌^◌, min, ◌<◌, Bool, ◌==◌, List, [], ◌∷◌, ◌++◌, length, if◌then◌else◌, Option, Some, None, slice_get, slice_index, slice_index_or, ◌⊎◌, refl}
 use Rattle.std.specs.Ordering.{nat_cmp}
 use Rattle.std.specs.FinMap as map
 use Rattle.std.specs.Coded.{Coded, code_by, coded×, coded_ℕ, coded_bool, coded_list, coded_option}
@@ -79,9 +79,18 @@ pub record Begins (old new : Waits) (thread : ℕ) (wait : Wait) : Type 0 where
   pub touched : new.touched ≡ old.touched
   pub prepared : new.prepared ≡ None
 
+-- the wait for these handles, for all of them or for one, with what is told of it without a look
+abbrev pub wait_for : List ℕ → Bool → About → Wait
+wait_for handles all about = record { handles = handles; all = all; alertable = about.alertable; deadline = about.deadline }
+
 -- what of a wait is told without a look
 abbrev pub about_of : Wait → About
 about_of wait = record { alertable = wait.alertable; deadline = wait.deadline }
+
+-- an end of this wait reaches its own blocks, and at most two beside each of them
+pub record IsTouched (wait : Wait) (touched : ℕ) : Type 0 where
+  pub at_least : length wait.handles ≤ touched
+  pub at_most : touched ≤ 3 * length wait.handles
 
 -- one more, but the count stops at the greatest u64
 abbrev pub counted_once : ℕ → ℕ

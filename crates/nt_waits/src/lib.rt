@@ -10,6 +10,7 @@ mod pending;
 mod place;
 mod prepared;
 mod queues;
+mod slot;
 mod table;
 mod take;
 mod wait;

@@ -9,7 +9,7 @@ use smallvec::SmallVec;
 pub struct Prepared {
     pub thread: ThreadId,
     pub wait: Wait,
-    /// No number yet, but room for that of each block.
+    /// A place for the number of each block.
     pub numbers: SmallVec<BlockNumber, 4>,
     /// A number above each handle of the wait.
     pub handles: usize,

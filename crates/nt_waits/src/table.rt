@@ -7,16 +7,26 @@ ghost use Rattle.std.specs.Borrow.{sem};
 
 use crate::begin::{begin_ready, begin_wait, make_room};
 use crate::deadlines::{clear_alarm, reserve_alarm, set_alarm};
-use crate::pending::Pending;
 use crate::place::handle_count;
 use crate::prepared::Prepared;
 use crate::queues::Queues;
-use crate::take::{next_in, take_wait, wait_in};
+use crate::slot::{Slot, blank_numbers};
+use crate::take::{end_wait, next_in, take_wait, wait_in};
 use crate::wait::{About, Wait};
 use nt_alarms::Alarms;
 use nt_status::{Handle, Refusal, ThreadId};
 use std::alloc::{AllocError, Global};
 use std::marker::Model;
+
+/// No wait is prepared from now on.
+#[inline(always)]
+fn clear_prepared(prepared: &mut Option<Prepared>)
+    ensures { prepared.new ≡ None }
+{
+    if prepared.is_some() {
+        *prepared = None;
+    }
+}
 
 /// The pending waits, and for each handle the threads that wait on it, in the order in which their waits began.
 ///
@@ -27,7 +37,7 @@ use std::marker::Model;
 #[derive(Drop)]
 pub struct WaitTable {
     queues: Queues,
-    waits: Vec<Option<Pending>>,
+    waits: Vec<Slot>,
     deadlines: Alarms,
     count: usize,
     looked: u64,
@@ -35,7 +45,7 @@ pub struct WaitTable {
 }
 
 impl Model for WaitTable {
-    ghost use Rattle.std.specs.Prelude.{map as list_map, vec_capacity};
+    ghost use Rattle.std.specs.Prelude.{map as list_map};
     ghost use Rattle.nt_waits.specs.Waits.{Waits, waits_code};
 
     ghost Value = { Waits };
@@ -53,13 +63,13 @@ impl Model for WaitTable {
       prepared = shown t.prepared;
     } };
 
-    ghost invariant = { λ t. IsWhole t.queues t.waits.items (vec_capacity t.waits) t.deadlines t.count t.prepared };
+    ghost invariant = { λ t. IsWhole t.queues t.waits.items t.deadlines t.count t.prepared };
 }
 
 impl WaitTable {
     ghost use Rattle.nt_waits.specs.Looking.{LeavesLooked};
     ghost use Rattle.nt_waits.specs.Deadlines.{NoDeadline, NoneEarlier, IsEarliestDeadline, NoneWithDeadline, IsFirstWithDeadline};
-    ghost use Rattle.nt_waits.specs.Waits.{Begins, wait_of, queue_of, about_of, others, Agrees, Names, IsMember, next_after};
+    ghost use Rattle.nt_waits.specs.Waits.{Begins, wait_of, wait_for, queue_of, about_of, others, Agrees, IsTouched, Names, IsMember, next_after};
 
     /// A table with no wait.
     pub fn new(alloc: Global) -> Self
@@ -121,12 +131,35 @@ impl WaitTable {
         ensures memory { IfErr result (λ refusal. refusal ≡ Refusal.Memory) }
         ensures err { OnErr result (self.new ≡ self.old) }
     {
-        let deadline = wait.deadline;
-        reserve_alarm(&mut self.deadlines, t, deadline)?;
-        begin_wait(&mut self.queues, &mut self.waits, t, wait)?;
-        set_alarm(&mut self.deadlines, t, deadline);
+        let about = About {
+            alertable: wait.alertable,
+            deadline: wait.deadline,
+        };
+        self.begin_in_place(t, wait.handles.as_slice(), wait.all, about)
+    }
+
+    /// Begins the thread's wait for these handles, as `begin` does, and moves no wait: it is written where it will lie.
+    #[inline(always)]
+    pub fn begin_in_place(
+        &mut self,
+        t: ThreadId,
+        handles: &[Handle],
+        all: bool,
+        about: About,
+    ) -> Result<(), Refusal>
+        requires free { wait_of self.old t ≡ None }
+        requires few { length handles.now ≤ 64 }
+        requires distinct { IsDistinct nat_eq handles.now }
+        ensures begins { OnOk result (Begins self.old self.new t (wait_for handles.now all about)) }
+        ensures agrees { Agrees self.new.pending self.new.queues }
+        ensures memory { IfErr result (λ refusal. refusal ≡ Refusal.Memory) }
+        ensures err { OnErr result (self.new ≡ self.old) }
+    {
+        reserve_alarm(&mut self.deadlines, t, about.deadline)?;
+        begin_wait(&mut self.queues, &mut self.waits, t, handles, all, about)?;
+        set_alarm(&mut self.deadlines, t, about.deadline);
         self.count += 1;
-        self.prepared = None;
+        clear_prepared(&mut self.prepared);
         Ok(())
     }
 
@@ -142,7 +175,8 @@ impl WaitTable {
         reserve_alarm(&mut self.deadlines, t, wait.deadline)?;
         let named = wait.handles.as_slice();
         let handles = handle_count(named);
-        let numbers = make_room(&mut self.queues, &mut self.waits, t, named.len(), handles)?;
+        make_room(&mut self.queues, &mut self.waits, t, named.len(), handles)?;
+        let numbers = blank_numbers(*self.waits.allocator(), named.len())?;
         self.prepared = Some(Prepared {
             thread: t,
             wait,
@@ -181,7 +215,23 @@ impl WaitTable {
     pub fn forget_prepared(&mut self)
         ensures { self.new ≡ record self.old { prepared = None } }
     {
-        self.prepared.take();
+        clear_prepared(&mut self.prepared);
+    }
+
+    /// Ends the thread's wait where it lies. The other threads keep their order in every queue.
+    #[inline(always)]
+    pub fn end_in_place(&mut self, t: ThreadId)
+        requires { IsSome (wait_of self.old t) }
+        ensures pending { self.new.pending ≡ map.remove self.old.pending t }
+        ensures queues { (h : ℕ) → queue_of self.new h ≡ others t (queue_of self.old h) }
+        ensures looked { self.new.looked ≡ self.old.looked }
+        ensures prepared { self.new.prepared ≡ self.old.prepared }
+        ensures touched { ForSome (wait_of self.old t) (λ wait. IsTouched wait self.new.touched) }
+        ensures agrees { Agrees self.new.pending self.new.queues }
+    {
+        self.count -= 1;
+        clear_alarm(&mut self.deadlines, t);
+        end_wait(&mut self.queues, &mut self.waits, t);
     }
 
     /// Ends the thread's wait, and hands it back. The other threads keep their order in every queue.
@@ -194,7 +244,7 @@ impl WaitTable {
         ensures looked { self.new.looked ≡ self.old.looked }
         ensures prepared { self.new.prepared ≡ self.old.prepared }
         ensures at_least { length result.handles ≤ self.new.touched }
-        ensures at_most { self.new.touched ≤ 4 * length result.handles }
+        ensures at_most { self.new.touched ≤ 3 * length result.handles }
         ensures agrees { Agrees self.new.pending self.new.queues }
     {
         self.count -= 1;

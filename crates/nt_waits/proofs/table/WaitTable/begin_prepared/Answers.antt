@@ -27,8 +27,8 @@ begin_ready-requires-clause-handles c = (c.self.invariant.ready c.in-Some.prepar
 pub begin_ready-requires-clause-place : goal.begin_ready-requires-clause-place
 begin_ready-requires-clause-place c = (c.self.invariant.ready c.in-Some.prepared (sym c.in-Some.ensures.value)).place
 
-pub begin_ready-requires-clause-empty : goal.begin_ready-requires-clause-empty
-begin_ready-requires-clause-empty c = (c.self.invariant.ready c.in-Some.prepared (sym c.in-Some.ensures.value)).empty
+pub begin_ready-requires-clause-numbers : goal.begin_ready-requires-clause-numbers
+begin_ready-requires-clause-numbers c = (c.self.invariant.ready c.in-Some.prepared (sym c.in-Some.ensures.value)).numbers
 
 pub set_alarm-requires-clause-quiet : goal.set_alarm-requires-clause-quiet
 set_alarm-requires-clause-quiet c =
@@ -44,7 +44,7 @@ invariant_of-self c =
     let p = c.in-Some.prepared in
     let done = c.begin_ready.ensures in
     rw c.take.ensures.after (whole_begun c.self.inside.queues c.begin_ready.new.queues c.self.inside.waits.items c.begin_ready.new.waits.items p.thread p.wait done.placed done.others
-    _ _ c.self.inside.count c.self.inside.deadlines c.self.inside.deadlines c.set_alarm.new.alarms c.self.inside.prepared c.self.invariant
+    c.self.inside.count c.self.inside.deadlines c.self.inside.deadlines c.set_alarm.new.alarms c.self.inside.prepared c.self.invariant
     (ap (λ v. wait_of v p.thread) c.self.view_is ∙ free (goal.at.invariant_of-self c).In-Some) done.table (λ u. refl) c.set_alarm.ensures.here c.set_alarm.ensures.others)
 
 pub returns-clause-begins : goal.returns-clause-begins

@@ -8,7 +8,7 @@ pub invariant_of-result : goal.invariant_of-result
 invariant_of-result c =
     let items = c.self.inside.waits.items in
     let copy = c.in_ok-clone.field-0.items in
-    let same = slots_cloned _ (λ q r. r) (λ p r. r) (λ p q r. r) items copy c.in_ok-clone.ensures.cases.0 in
+    let same = slots_cloned items copy c.in_ok-clone.ensures.cases.0 in
     let long : length copy ≡ length items = omega (arith, c.in_ok-clone.ensures.cases.1, c.in_ok-clone.field-0.ok.0, c.self.inside.waits.ok.0) in
     record {
       table = table_copied c.self.inside.queues c.in_ok-copy.field-0 items copy c.in_ok-copy.ensures.lists same long c.self.invariant.table;
@@ -21,6 +21,6 @@ pub returns : goal.returns
 returns c =
     let items = c.self.inside.waits.items in
     let copy = c.in_ok-clone.field-0.items in
-    let same = slots_cloned _ (λ q r. r) (λ p r. r) (λ p q r. r) items copy c.in_ok-clone.ensures.cases.0 in
+    let same = slots_cloned items copy c.in_ok-clone.ensures.cases.0 in
     let waits = waits-copied c.self.inside.queues c.in_ok-copy.field-0 items copy c.in_ok-copy.ensures.lists same in
     rw (waits, c.in_ok-copy.ensures.lists, c.in_ok-copy.ensures.touched) (ap {B = Waits} (λ (v : Waits). record v { prepared = None }) c.self.view_is)

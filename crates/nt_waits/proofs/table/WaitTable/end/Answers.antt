@@ -1,13 +1,11 @@
-use Rattle.std.proofs.Common.{arith, ℕ, ◌-◌, subst, ap, sym, ◌∙◌}
+use Rattle.std.proofs.Common.{arith, ℕ, ◌≡◌, subst, ap, sym, ◌∙◌}
 use Rattle.std.specs.Prelude.{IsSome}
 use Rattle.nt_waits.specs.Table.{slot_at, waits_of}
 use Rattle.nt_waits.specs.Waits.{Waits, wait_of, queue_of, others}
-use Rattle.nt_waits.proofs.TableLemmas.{slot_within}
-use Rattle.nt_waits.proofs.ViewLemmas.{get-waits, waits-removed, get_or-threads, IsSome-mapped}
-use Rattle.nt_waits.proofs.DeadlineLemmas.{alarmed_ended}
+use Rattle.nt_waits.proofs.ViewLemmas.{get-waits, get_or-threads, IsSome-mapped}
+use Rattle.nt_waits.proofs.EndedLemmas.{pending_ended, whole_ended}
 use Rattle.nt_waits.proofs.AgreeLemmas.{agrees}
-use Rattle.nt_waits.proofs.PreparedLemmas.{ready_kept}
-use Rattle.nt_waits.proofs.CountLemmas.{len-some, len-ended}
+use Rattle.nt_waits.proofs.CountLemmas.{len-some}
 use Rattle.nt_waits.proofs.table.WaitTable.end.Goals as goal
 
 pub take_wait-requires-clause-there : goal.take_wait-requires-clause-there
@@ -16,20 +14,16 @@ take_wait-requires-clause-there c =
     let shown = ap (λ v. wait_of v c.args.t) (sym c.self.view_is) ∙ get-waits items c.args.t in
     IsSome-mapped (slot_at items c.args.t) (rw shown at c.requires)
 
-pub returns-clause-wait : goal.returns-clause-wait
-returns-clause-wait c = ap (λ v. wait_of v c.args.t) (sym c.self.view_is) ∙ get-waits c.self.inside.waits.items c.args.t ∙ c.take_wait.ensures.wait
-
 pub returns-clause-pending : goal.returns-clause-pending
 returns-clause-pending c =
     let items = c.self.inside.waits.items in
     let shown = ap (λ v. wait_of v c.args.t) (sym c.self.view_is) ∙ get-waits items c.args.t in
-    let within = slot_within items c.args.t (IsSome-mapped (slot_at items c.args.t) (rw shown at c.requires)) in
-    rw (c.take_wait.ensures.slots, ← c.self.view_is) (waits-removed items c.args.t within)
+    rw (← c.self.view_is) (pending_ended c.self.inside.queues c.take_wait.new.queues items c.take_wait.new.waits.items c.args.t c.take_wait.ensures.ended (IsSome-mapped (slot_at items c.args.t) (rw shown at c.requires)))
 
 pub returns-clause-queues : goal.returns-clause-queues
 returns-clause-queues c h =
     get_or-threads c.take_wait.new.queues.lists h
-    ∙ c.take_wait.ensures.queues h
+    ∙ c.take_wait.ensures.ended.queues h
     ∙ ap (others c.args.t) (sym (get_or-threads c.self.inside.queues.lists h) ∙ ap (λ v. queue_of v h) c.self.view_is)
 
 pub overflow_sub-self : goal.overflow_sub-self
@@ -42,14 +36,12 @@ pub invariant_of-self : goal.invariant_of-self
 invariant_of-self c =
     let items = c.self.inside.waits.items in
     let shown = ap (λ v. wait_of v c.args.t) (sym c.self.view_is) ∙ get-waits items c.args.t in
-    let within = slot_within items c.args.t (IsSome-mapped (slot_at items c.args.t) (rw shown at c.requires)) in
     let there = subst (λ (v : Waits). IsSome (wait_of v c.args.t)) (sym c.self.view_is) c.requires in
-    record {
-      table = c.take_wait.ensures.table;
-      counted = rw (c.take_wait.ensures.slots, waits-removed items c.args.t within, len-ended (waits_of items) c.args.t there) (ap (λ (n : ℕ). n - 1) c.self.invariant.counted);
-      ready = ready_kept c.self.inside.queues c.take_wait.new.queues _ _ _ _ c.take_wait.ensures.used (omega (arith, c.take_wait.ensures.capacity)) (omega (arith, c.take_wait.ensures.handle_room)) (omega (arith, c.take_wait.ensures.places)) (omega (arith, c.clear_alarm.ensures.places)) c.self.inside.prepared c.self.invariant.ready;
-      alarmed = rw c.take_wait.ensures.slots (alarmed_ended c.self.inside.deadlines c.clear_alarm.new.alarms items c.args.t c.self.invariant.alarmed within c.clear_alarm.ensures.here c.clear_alarm.ensures.others);
-    }
+    whole_ended c.self.inside.queues c.take_wait.new.queues items c.take_wait.new.waits.items c.args.t c.take_wait.ensures.ended (IsSome-mapped (slot_at items c.args.t) (rw shown at c.requires))
+    c.self.inside.count c.self.inside.deadlines c.clear_alarm.new.alarms c.self.inside.prepared c.self.invariant there c.clear_alarm.ensures.here c.clear_alarm.ensures.others c.clear_alarm.ensures.places
 
 pub returns-clause-agrees : goal.returns-clause-agrees
-returns-clause-agrees c = agrees c.take_wait.new.queues c.take_wait.new.waits.items c.take_wait.ensures.table
+returns-clause-agrees c = agrees c.take_wait.new.queues c.take_wait.new.waits.items c.take_wait.ensures.ended.table
+
+pub returns-clause-wait : goal.returns-clause-wait
+returns-clause-wait c = ap (λ v. wait_of v c.args.t) (sym c.self.view_is) ∙ get-waits c.self.inside.waits.items c.args.t ∙ c.take_wait.ensures.wait

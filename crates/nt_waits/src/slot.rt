@@ -1,0 +1,187 @@
+//! The place of one thread's wait, which is filled and emptied where it lies.
+ghost use Rattle.std.specs.Prelude.{nat_eq, ◌≡◌, ℕ, ◌<◌, ◌≤◌, ◌^◌, IfOk, IsSome, None, Some, OnOk, OnErr, length, slice_index};
+ghost use Rattle.std.specs.List.{IsDistinct};
+ghost use Rattle.std.specs.Option.{option_copied, option_map, ForSome};
+ghost use Rattle.nt_waits.specs.Link.{AreNumbersOnce};
+ghost use Rattle.nt_waits.specs.Queues.{list_at, HasRoomFor};
+ghost use Rattle.nt_waits.specs.Slot.{IsFilled, IsUnlinked};
+ghost use Rattle.nt_waits.specs.Table.{IsLinked};
+ghost use Rattle.nt_waits.specs.Waits.{wait_for};
+
+use crate::block::BlockNumber;
+use crate::links::{link_all, unlink_all};
+use crate::pending::Pending;
+use crate::queues::Queues;
+use crate::wait::{About, Wait};
+use nt_status::{Handle, Handles, ThreadId};
+use smallvec::SmallVec;
+use std::alloc::{AllocError, Global};
+use std::marker::Model;
+use std::mem;
+
+/// A thread's wait with its blocks, or none. What is left of an ended wait is written over by the next.
+#[derive(Drop)]
+pub struct Slot {
+    pends: bool,
+    pending: Pending,
+}
+
+impl Model for Slot {
+    ghost use Rattle.std.specs.Prelude.{Option};
+    ghost use Rattle.nt_waits.specs.Slot.{kept_where};
+    ghost use Rattle.nt_waits.specs.declared.pending.Pending.{Pending};
+
+    ghost Value = { Option Pending };
+
+    ghost view = { λ s. kept_where s.pends s.pending };
+}
+
+impl Clone for Slot {
+    ghost use Rattle.nt_waits.specs.Slot.{IsSlotCopy};
+
+    ghost is_clone = { IsSlotCopy };
+
+    fn clone(&self) -> Result<Self, AllocError> {
+        Ok(Slot {
+            pends: self.pends,
+            pending: self.pending.clone()?,
+        })
+    }
+}
+
+/// A wait that names nothing.
+fn no_wait(alloc: Global) -> Wait {
+    Wait {
+        handles: Handles::new(alloc),
+        all: false,
+        alertable: false,
+        deadline: None,
+    }
+}
+
+/// Makes the list so long. What the numbers are does not matter yet.
+#[inline(always)]
+fn make_numbers(numbers: &mut SmallVec<BlockNumber, 4>, count: usize) -> Result<(), AllocError>
+    ensures { OnOk result (length numbers.new.items ≡ count) }
+{
+    if numbers.len() != count {
+        *numbers = blank_numbers(*numbers.allocator(), count)?;
+    }
+    Ok(())
+}
+
+/// A list of so many numbers. What they are does not matter yet.
+pub fn blank_numbers(alloc: Global, count: usize) -> Result<SmallVec<BlockNumber, 4>, AllocError>
+    ensures { IfOk result (λ numbers. length numbers.items ≡ count) }
+{
+    SmallVec::from_elem(alloc, BlockNumber::default(), count)
+}
+
+impl Slot {
+    /// A place with no wait.
+    pub fn new(alloc: Global) -> Self
+        ensures { result ≡ None }
+    {
+        Slot {
+            pends: false,
+            pending: Pending {
+                wait: no_wait(alloc),
+                numbers: SmallVec::new(alloc),
+            },
+        }
+    }
+
+    /// This wait stands here from now on.
+    pub fn hold(&mut self, pending: Pending)
+        ensures { self.new ≡ Some pending }
+    {
+        self.pends = true;
+        self.pending = pending;
+    }
+
+    /// The wait with its blocks, if there is one.
+    #[inline(always)]
+    pub fn get(&self) -> Option<&Pending>
+        ensures { option_copied result ≡ self.now }
+    {
+        if self.pends {
+            Some(&self.pending)
+        } else {
+            None
+        }
+    }
+
+    /// The thread's wait for these handles, all below `count`, stands here from now on, with a block at the end of each of their queues.
+    /// Where memory is refused nothing changes.
+    #[inline(always)]
+    pub fn fill(
+        &mut self,
+        queues: &mut Queues,
+        t: ThreadId,
+        handles: &[Handle],
+        all: bool,
+        about: About,
+        count: usize,
+    ) -> Result<(), AllocError>
+        requires free { self.old ≡ None }
+        requires apart { IsDistinct nat_eq handles.now }
+        requires below { (j : ℕ) → j < length handles.now → slice_index handles.now j < count }
+        requires room { HasRoomFor queues.old (length handles.now) }
+        requires handle_room { count ≤ queues.old.handle_room }
+        requires numbers { (h : ℕ) → AreNumbersOnce (list_at queues.old h) }
+        requires countable { (h : ℕ) → length (list_at queues.old h) < 2 ^ 32 }
+        ensures filled { OnOk result (IsFilled queues.old queues.new t (wait_for handles.now all about) self.new) }
+        ensures distinct { OnOk result ((h : ℕ) → AreNumbersOnce (list_at queues.new h)) }
+        ensures touched { queues.new.touched ≡ queues.old.touched }
+        ensures queues { OnErr result (queues.new ≡ queues.old) }
+        ensures err { OnErr result (self.new ≡ None) }
+    {
+        self.pending.wait.handles.copy_from(handles)?;
+        make_numbers(&mut self.pending.numbers, handles.len())?;
+        queues.add_handles(count);
+        link_all(queues, t, handles, self.pending.numbers.as_mut_slice());
+        self.pending.wait.all = all;
+        self.pending.wait.alertable = about.alertable;
+        self.pending.wait.deadline = about.deadline;
+        self.pends = true;
+        Ok(())
+    }
+
+    /// Takes the blocks of its wait out of their queues. The place is empty then.
+    #[inline(always)]
+    pub fn empty(&mut self, queues: &mut Queues)
+        requires there { IsSome self.old }
+        requires linked { ForSome self.old (λ p. (t : ℕ) × IsLinked queues.old t p) }
+        requires numbers { (h : ℕ) → AreNumbersOnce (list_at queues.old h) }
+        requires countable { queues.old.touched ≡ 0 }
+        ensures empty { self.new ≡ None }
+        ensures unlinked { ForSome self.old (λ p. IsUnlinked queues.old queues.new p) }
+    {
+        unlink_all(
+            queues,
+            self.pending.wait.handles.as_slice(),
+            self.pending.numbers.as_slice(),
+        );
+        self.pends = false;
+    }
+
+    /// Empties the place, and hands its wait back.
+    pub fn take(&mut self, queues: &mut Queues) -> Wait
+        requires there { IsSome self.old }
+        requires linked { ForSome self.old (λ p. (t : ℕ) × IsLinked queues.old t p) }
+        requires numbers { (h : ℕ) → AreNumbersOnce (list_at queues.old h) }
+        requires countable { queues.old.touched ≡ 0 }
+        ensures wait { option_map (λ p. p.wait) self.old ≡ Some result }
+        ensures empty { self.new ≡ None }
+        ensures unlinked { ForSome self.old (λ p. IsUnlinked queues.old queues.new p) }
+    {
+        unlink_all(
+            queues,
+            self.pending.wait.handles.as_slice(),
+            self.pending.numbers.as_slice(),
+        );
+        self.pends = false;
+        let alloc = *self.pending.numbers.allocator();
+        mem::replace(&mut self.pending.wait, no_wait(alloc))
+    }
+}
