@@ -177,8 +177,8 @@ abbrev pub turn_closes : ℕ → Turn → Bool
 turn_closes h (Calls who call (Ok reply) grants) = call_closes h call
 turn_closes h _ = false
 
--- a number is handed out once: over every part of a run it names the same object with the same rights,
--- and nothing from its closing on
+-- a number is handed out once: over every part of a run it names the same object with the same rights, and nothing from its
+-- closing on
 abbrev pub HandlesStay : Type 0
 HandlesStay =
     (n : ℕ) (before turns : List Turn) (mid s : State)
@@ -193,7 +193,7 @@ HasRights handles o access =
     (h : ℕ) × (opened : Opened) × (opened_at handles h ≡ Some opened) × (opened.object ≡ o) × (has_flag opened.access access ≡ true)
 
 -- rights never grow: over every part of a run, the rights that a handle of an object has at the end, a handle of it had at the
--- beginning, if the object was there
+-- beginning, if the object was there; so a right that no handle of an object has any more never comes back
 abbrev pub RightsNeverGrow : Type 0
 RightsNeverGrow =
     (n : ℕ) (before turns : List Turn) (mid s : State)

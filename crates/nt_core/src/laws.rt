@@ -30,14 +30,14 @@ pub fn one_set_one_wait()
     ensures { OneSetOneWait }
 {}
 
-/// A handle is for one object: over any turns its number names the same object with the same rights, and nothing from its closing
-/// on; it is not handed out again.
+/// A number is handed out once: over every part of a run it names the same object with the same rights, and nothing from its
+/// closing on.
 pub fn handles_stay()
     ensures { HandlesStay }
 {}
 
 /// Rights never grow: over every part of a run, the rights that a handle of an object has at the end, a handle of it had at the
-/// beginning.
+/// beginning, if the object was there. So a right that no handle of an object has any more never comes back.
 pub fn rights_never_grow()
     ensures { RightsNeverGrow }
 {}
