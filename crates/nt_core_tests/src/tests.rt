@@ -3,6 +3,7 @@
 mod apcs;
 mod callers;
 mod calls;
+mod closing;
 mod copies;
 mod corners;
 mod events;

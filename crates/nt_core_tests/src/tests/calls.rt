@@ -95,6 +95,7 @@ pub fn call_of(alloc: Global, ask: Ask, objects: &[u32]) -> Result<Call, AllocEr
             handle: first(objects),
             access,
         },
+        Ask::Close => Act::Close(first(objects)),
         Ask::Next => Act::NextApc,
     };
     Ok(Call::Act(act))

@@ -1,54 +1,85 @@
 //! Copies of a dispatcher: a call on a copy changes nothing in what it was made of.
 use crate::tests::memory::{Host, copy_at_last, let_go, open};
 use crate::tests::play::take_steps;
-use crate::tests::script::Answer::{Done, Handle, Pended};
-use crate::tests::script::Ask::{Any, Event, Set};
-use crate::tests::script::Step::{Call, Waiting};
-use crate::tests::script::{INFINITE, Step};
+use crate::tests::script::Answer::{Done, Handle, NoApc, Pended};
+use crate::tests::script::Ask::{AlertableSleep, Any, ArmRoutine, Close, Event, Next, Set, Timer};
+use crate::tests::script::Step::{Call, Living, Tick, Waiting};
+use crate::tests::script::{INFINITE, IO_COMPLETION, Step};
 use nt_core::Core;
 use nt_status::Refusal;
 use std::test::Fail;
 
-/// Before the copy is made.
-const BEFORE: &[Step] = &[
-    Call(2, Event(0), &[], Handle(3), &[]),
-    Call(0, Any(INFINITE), &[3], Pended, &[]),
-    Call(1, Any(INFINITE), &[3], Pended, &[]),
+/// What is done before a copy is made, then in the copy, and then, once that is gone, in what it was made of.
+struct Copied {
+    shows: &'static str,
+    threads: u32,
+    before: &'static [Step],
+    in_the_copy: &'static [Step],
+    after: &'static [Step],
+}
+
+const COPIES: &[Copied] = &[
+    Copied {
+        shows: "a copy goes its own way",
+        threads: 3,
+        before: &[
+            Call(2, Event(0), &[], Handle(3), &[]),
+            Call(0, Any(INFINITE), &[3], Pended, &[]),
+            Call(1, Any(INFINITE), &[3], Pended, &[]),
+        ],
+        in_the_copy: &[Call(2, Set, &[3], Done, &[(0, 0)]), Waiting(&[1])],
+        after: &[Waiting(&[0, 1]), Call(2, Set, &[3], Done, &[(0, 0)])],
+    },
+    Copied {
+        shows: "what a wait alone keeps is kept in a copy too",
+        threads: 2,
+        before: &[
+            Call(0, Timer(0), &[], Handle(2), &[]),
+            Call(0, ArmRoutine(10000, 0, 7, 9), &[2], Done, &[]),
+            Call(1, Any(INFINITE), &[2], Pended, &[]),
+            Call(0, Close, &[2], Done, &[]),
+            Call(0, AlertableSleep(INFINITE), &[], Pended, &[]),
+        ],
+        in_the_copy: LAST_OF_A_TIMER,
+        after: LAST_OF_A_TIMER,
+    },
 ];
 
-const IN_THE_COPY: &[Step] = &[Call(2, Set, &[3], Done, &[(0, 0)]), Waiting(&[1])];
+/// The timer that thread 1 alone keeps expires, and is gone with its APC.
+const LAST_OF_A_TIMER: &[Step] = &[
+    Living(3),
+    Tick(10000, Done, &[(1, 0), (0, IO_COMPLETION)]),
+    Living(2),
+    Call(0, Next, &[], NoApc, &[]),
+    Call(0, Event(0), &[], Handle(3), &[]),
+    Living(3),
+];
 
-/// In the first dispatcher, after the copy is gone.
-const AFTER: &[Step] = &[Waiting(&[0, 1]), Call(2, Set, &[3], Done, &[(0, 0)])];
-
-fn play_in_a_copy(rt: &impl Host, core: &Core) -> Result<(), Refusal> {
-    let mut copied = copy_at_last(rt, core)?;
-    take_steps(
-        rt,
-        &mut copied,
-        "a copy goes its own way, in the copy",
-        IN_THE_COPY,
-    );
-    let_go(copied);
+fn play_in_a_copy(rt: &impl Host, core: &Core, copied: &Copied) -> Result<(), Refusal> {
+    let mut copy = copy_at_last(rt, core)?;
+    take_steps(rt, &mut copy, copied.shows, copied.in_the_copy);
+    let_go(copy);
     Ok(())
 }
 
-fn play_in_both(rt: &impl Host, core: &mut Core) {
-    take_steps(
-        rt,
-        core,
-        "a copy goes its own way, before it is made",
-        BEFORE,
-    );
-    let played = play_in_a_copy(rt, core);
+fn play_in_both(rt: &impl Host, core: &mut Core, copied: &Copied) {
+    take_steps(rt, core, copied.shows, copied.before);
+    let played = play_in_a_copy(rt, core, copied);
     assert!(rt; played.is_ok(), "a copy was refused twice");
-    take_steps(rt, core, "a copy goes its own way, after it is gone", AFTER);
+    take_steps(rt, core, copied.shows, copied.after);
+}
+
+fn play_copied(rt: &impl Host, copied: &Copied) -> Result<(), Refusal> {
+    let mut core = open(rt, copied.threads)?;
+    play_in_both(rt, &mut core, copied);
+    let_go(core);
+    Ok(())
 }
 
 #[test]
 fn a_copy_goes_its_own_way(rt: HostRuntime) -> Result<(), Fail> {
-    let mut core = open(&rt, 3)?;
-    play_in_both(&rt, &mut core);
-    let_go(core);
+    for copied in COPIES {
+        play_copied(&rt, copied)?;
+    }
     Ok(())
 }

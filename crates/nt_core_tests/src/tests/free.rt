@@ -2,12 +2,12 @@
 use crate::tests::play::play_all;
 use crate::tests::script::Answer::{Done, Handle, NoApc, Pended, Previous, Status, ThreadApc};
 use crate::tests::script::Ask::{
-    AlertableSleep, All, Any, Apc, Arm, ArmRoutine, Cancel, Event, Exit, Mutex, Next, Pulse,
+    AlertableSleep, All, Any, Apc, Arm, ArmRoutine, Cancel, Close, Event, Exit, Mutex, Next, Pulse,
     Release, Reset, Semaphore, Set, Sleep, Timer, Unlock,
 };
-use crate::tests::script::Step::{Call, NoGrowth, Tick, Waiting};
+use crate::tests::script::Step::{Call, Living, NoGrowth, Tick, Waiting};
 use crate::tests::script::{
-    ABANDONED, INFINITE, IO_COMPLETION, NOT_OWNER, Scenario, TOO_MANY_POSTS,
+    ABANDONED, INFINITE, INVALID_HANDLE, IO_COMPLETION, NOT_OWNER, Scenario, TOO_MANY_POSTS,
 };
 use std::test::Fail;
 
@@ -79,6 +79,26 @@ const SCENARIOS: &[Scenario] = &[
             Call(1, All(INFINITE), &[3, 4], Pended, &[]),
             Call(2, Any(INFINITE), &[0], Pended, &[]),
             NoGrowth(0, Exit, &[], Done, &[(2, 0), (1, ABANDONED)]),
+        ],
+    },
+    Scenario {
+        shows: "to close takes no memory, nor does the end of objects",
+        threads: 4,
+        steps: &[
+            Call(0, Event(0), &[], Handle(4), &[]),
+            Call(0, Mutex(1), &[], Handle(5), &[]),
+            Call(0, Timer(0), &[], Handle(6), &[]),
+            Call(0, ArmRoutine(-80, 0, 7, 9), &[6], Done, &[]),
+            Call(1, Any(INFINITE), &[4], Pended, &[]),
+            Call(2, Any(INFINITE), &[5], Pended, &[]),
+            NoGrowth(0, Close, &[4], Done, &[]),
+            NoGrowth(0, Close, &[5], Done, &[]),
+            NoGrowth(0, Close, &[6], Done, &[]),
+            NoGrowth(0, Close, &[3], Done, &[]),
+            NoGrowth(0, Close, &[3], INVALID_HANDLE, &[]),
+            Living(6),
+            NoGrowth(0, Exit, &[], Done, &[(2, ABANDONED)]),
+            Living(5),
         ],
     },
 ];

@@ -2,10 +2,10 @@
 use crate::tests::play::play_all;
 use crate::tests::script::Answer::{Done, Handle, Pended, Previous, Status};
 use crate::tests::script::Ask::{
-    AlertableAny, All, Any, Apc, Arm, ArmRoutine, Cancel, Duplicate, Event, Exit, Mutex, Pulse,
-    Release, Reset, Semaphore, Set, Swap, Timer, Unlock,
+    AlertableAny, All, Any, Apc, Arm, ArmRoutine, Cancel, Close, Duplicate, Event, Exit, Mutex,
+    Pulse, Release, Reset, Semaphore, Set, Swap, Timer, Unlock,
 };
-use crate::tests::script::Step::{Call, CreateEvents, Tick, Waiting};
+use crate::tests::script::Step::{Call, CreateEvents, Living, Tick, Waiting};
 use crate::tests::script::{
     ABANDONED, ACCESS_DENIED, HANDLE_LIMIT, INFINITE, INVALID_HANDLE, INVALID_PARAMETER, NOT_OWNER,
     Scenario, THREAD_GONE, TIMEOUT, TOO_MANY_POSTS,
@@ -230,7 +230,7 @@ const SCENARIOS: &[Scenario] = &[
         ],
     },
     Scenario {
-        shows: "duplicates count among the 65536 handle numbers, and what is refused uses none",
+        shows: "duplicates count among the 65536 handle numbers, which closing frees none of, and what is refused uses none",
         threads: 1,
         steps: &[
             CreateEvents(0, 1, 65533),
@@ -245,6 +245,10 @@ const SCENARIOS: &[Scenario] = &[
             Call(0, Event(0), &[], HANDLE_LIMIT, &[]),
             Call(0, Set, &[65535], Done, &[]),
             Call(0, Any(0), &[65534, 65535], Status(1), &[]),
+            Call(0, Close, &[65535], Done, &[]),
+            Living(65534),
+            Call(0, Event(0), &[], HANDLE_LIMIT, &[]),
+            Call(0, Duplicate(MAY_WAIT), &[1], HANDLE_LIMIT, &[]),
         ],
     },
 ];

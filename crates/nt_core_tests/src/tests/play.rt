@@ -85,6 +85,7 @@ fn look(rt: &impl Host, core: &mut Core, step: Step, place: Place) {
         Step::CreateEvents(who, first, last) => create_events(rt, core, who, first, last, place),
         Step::Tested(count) => expect_number(rt, core.tested(), count, place),
         Step::Now(moment) => expect_number(rt, core.now().get(), moment, place),
+        Step::Living(count) => expect_number(rt, core.living() as u64, count, place),
         Step::Waiting(threads) => {
             expect_number(rt, core.pending() as u64, threads.len() as u64, place);
             expect_waiting(rt, core, threads, true, place);

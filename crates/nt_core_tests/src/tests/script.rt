@@ -70,6 +70,7 @@ pub enum Ask {
     Cancel,
     /// One handle more, with these rights.
     Duplicate(u32),
+    Close,
     /// The caller's oldest APC.
     Next,
     Any(u32),
@@ -121,6 +122,8 @@ pub enum Step {
     Tested(u64),
     /// This is the present moment.
     Now(u64),
+    /// So many objects live.
+    Living(u64),
     /// Exactly these threads wait.
     Waiting(&'static [u32]),
     /// None of these numbers is that of a thread that waits.
