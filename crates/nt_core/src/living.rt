@@ -84,6 +84,7 @@ impl Machine {
     fn forget(&mut self, object: Handle)
         ensures rest { self.new ≡ record self.old { apcs = self.new.apcs } }
         ensures queues { self.new.apcs.queues ≡ withdrawn self.old.apcs.queues object }
+        ensures place { place_of self.new.apcs.places object ≡ None }
         ensures others { (m : ℕ) → m ≢ object → place_of self.new.apcs.places m ≡ place_of self.old.apcs.places m }
     {
         if let Some(thread) = self.apcs.place_of(object) {
@@ -97,6 +98,7 @@ impl Machine {
         requires forgotten { is_forgotten (state self.old) object ≡ true }
         ensures gone { state self.new ≡ gone (state self.old) object }
         ensures sound { IsSound self.new }
+        ensures place { place_of self.new.apcs.places object ≡ None }
         ensures leaving { self.new.leaving ≡ self.old.leaving }
         ensures grants { self.new.grants ≡ self.old.grants }
         ensures table { self.new.table ≡ self.old.table }
