@@ -12,7 +12,7 @@ use crate::prepared::Prepared;
 use crate::queues::Queues;
 use crate::slot::{Slot, blank_numbers};
 use crate::take::{end_wait, next_in, take_wait, wait_in};
-use crate::wait::{About, Wait};
+use crate::wait::{About, Wait, tell};
 use nt_alarms::Alarms;
 use nt_status::{Handle, Refusal, ThreadId};
 use std::alloc::{AllocError, Global};
@@ -131,11 +131,7 @@ impl WaitTable {
         ensures memory { IfErr result (λ refusal. refusal ≡ Refusal.Memory) }
         ensures err { OnErr result (self.new ≡ self.old) }
     {
-        let about = About {
-            alertable: wait.alertable,
-            deadline: wait.deadline,
-        };
-        self.begin_in_place(t, wait.handles.as_slice(), wait.all, about)
+        self.begin_in_place(t, wait.handles.as_slice(), wait.all, tell(&wait))
     }
 
     /// Begins the thread's wait for these handles, as `begin` does, and moves no wait: it is written where it will lie.
@@ -215,7 +211,7 @@ impl WaitTable {
     pub fn forget_prepared(&mut self)
         ensures { self.new ≡ record self.old { prepared = None } }
     {
-        clear_prepared(&mut self.prepared);
+        self.prepared = None;
     }
 
     /// Ends the thread's wait where it lies. The other threads keep their order in every queue.
@@ -229,9 +225,10 @@ impl WaitTable {
         ensures touched { ForSome (wait_of self.old t) (λ wait. IsTouched wait self.new.touched) }
         ensures agrees { Agrees self.new.pending self.new.queues }
     {
-        self.count -= 1;
+        let left = self.count - 1;
         clear_alarm(&mut self.deadlines, t);
         end_wait(&mut self.queues, &mut self.waits, t);
+        self.count = left;
     }
 
     /// Ends the thread's wait, and hands it back. The other threads keep their order in every queue.
@@ -280,10 +277,7 @@ impl WaitTable {
         ensures { result ≡ option_map about_of (wait_of self.now t) }
     {
         let wait = wait_in(&self.waits, t)?;
-        Some(About {
-            alertable: wait.alertable,
-            deadline: wait.deadline,
-        })
+        Some(tell(wait))
     }
 
     /// How many waits are pending.

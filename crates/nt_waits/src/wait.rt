@@ -1,5 +1,6 @@
 //! A wait, and what of it is told without a look.
 ghost use Rattle.std.specs.Prelude.{◌≡◌};
+ghost use Rattle.nt_waits.specs.Waits.{about_of};
 
 use nt_status::Handles;
 use std::alloc::AllocError;
@@ -35,4 +36,14 @@ pub struct About {
     pub alertable: bool,
     /// The moment at which the wait times out, in units of 100 ns.
     pub deadline: Option<u64>,
+}
+
+/// What of this wait is told without a look.
+pub fn tell(wait: &Wait) -> About
+    ensures { result ≡ about_of wait.now }
+{
+    About {
+        alertable: wait.alertable,
+        deadline: wait.deadline,
+    }
 }

@@ -12,4 +12,4 @@ returns-in_err-wait c =
 pub returns : goal.returns
 returns c =
     let value = (rw c.deref.ensures.value at c.wait_in.ensures) ∙ sym (get-waits c.self.inside.waits.items c.args.t) ∙ ap (λ v. wait_of v c.args.t) c.self.view_is in
-    ap (option_map about_of) (ap option_copied (sym c.in_ok-wait.was) ∙ value)
+    rw c.tell.ensures (ap (option_map about_of) (ap option_copied (sym c.in_ok-wait.was) ∙ value))

@@ -26,8 +26,8 @@ returns-clause-queues c h =
     ∙ c.end_wait.ensures.ended.queues h
     ∙ ap (others c.args.t) (sym (get_or-threads c.self.inside.queues.lists h) ∙ ap (λ v. queue_of v h) c.self.view_is)
 
-pub overflow_sub-self : goal.overflow_sub-self
-overflow_sub-self c =
+pub overflow_sub-left : goal.overflow_sub-left
+overflow_sub-left c =
     let waits = waits_of c.self.inside.waits.items in
     let there = subst (λ (v : Waits). IsSome (wait_of v c.args.t)) (sym c.self.view_is) c.requires in
     omega (arith, c.self.invariant.counted, len-some waits c.args.t there)
