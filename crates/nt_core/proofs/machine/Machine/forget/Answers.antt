@@ -15,7 +15,7 @@ pub returns-in_default-clause-place : goal.returns-in_default-clause-place
 returns-in_default-clause-place c =
     subst (λ (d : Dispatcher). place_of d.apcs.places c.args.object ≡ None) c.self.view_is (sym c.place_of.ensures.place ∙ c.in_default.is)
 
-pub returns-in-Some-clause-place : goal.returns-clause-place
+pub returns-in-Some-clause-place : goal.returns-in-Some-clause-place
 returns-in-Some-clause-place c =
     let t = c.in-Some.thread in
     let same : (t == t) ≡ true = grind (arith, nat_tests) in
