@@ -49,6 +49,9 @@ question (Ticks by moment result grants) = AsksTick by moment
 abbrev pub RunsOneWay : Type 0
 RunsOneWay = (n : ℕ) (turns others : List Turn) (a b : State) → Run n turns a → Run n others b → map question turns ≡ map question others → (turns ≡ others) × (a ≡ b)
 
+-- the three laws that follow speak of an object at the end of a run, so of one that lives then; of one that is gone they hold as long
+-- as it lived, since each beginning of a run is a run
+
 -- ---- semaphores
 
 -- what an act gives to the semaphore with number h, where the next object has number n: the count that it begins with, and what
