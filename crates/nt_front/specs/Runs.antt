@@ -1,25 +1,12 @@
 -- A journal as a run of the machine.
-use Rattle.std.specs.Prelude.{◌≡◌, ◌<◌, ℕ, List, [], ◌∷◌, ◌++◌, map, true}
+use Rattle.std.specs.Prelude.{◌≡◌, ◌<◌, ℕ, List, [], ◌∷◌, ◌++◌, true}
 use Rattle.nt_core.specs.declared.call.Grant.{Grant}
 use Rattle.nt_core.specs.State.{State, pends}
-use Rattle.nt_core.specs.Runs.{Turn, Calls, Ticks, Run}
+use Rattle.nt_core.specs.Runs.{Turn, Run}
 use Rattle.nt_mail.specs.declared.entry.Entry.{Entry}
-use Rattle.nt_mail.specs.declared.entry.Entry.TheVariants.{Called, Ticked, Granted}
 use Rattle.nt_mail.specs.Entries.{is_armed, accepted}
+pub use Rattle.nt_mail.specs.Journals.{granted, entries_of, journal_of}
 use Rattle.nt_mail.specs.Knowledge.{latest}
-
-abbrev pub granted : Grant → Entry
-granted g = Granted g.thread g.status
-
--- what a turn writes: the entry of its call or tick, and then those of the waits that it ended
-abbrev pub entries_of : Turn → List Entry
-entries_of (Calls who call result grants) = Called who call result ∷ map granted grants
-entries_of (Ticks by moment result grants) = Ticked by moment result ∷ map granted grants
-
--- what turns write
-abbrev pub journal_of : List Turn → List Entry
-journal_of [] = []
-journal_of (turn ∷ turns) = entries_of turn ++ journal_of turns
 
 -- the entries are those of a run of n threads, from the opening to this state
 pub record IsRun (n : ℕ) (es : List Entry) (s : State) : Type 0 where

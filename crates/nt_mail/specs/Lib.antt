@@ -1,4 +1,5 @@
 pub mod Entries
+pub mod Journals
 pub mod Words
 pub mod Knowledge
 pub mod Views

@@ -1,0 +1,134 @@
+//! Entries made again, one after another.
+ghost use Rattle.std.specs.Prelude.{◌≡◌, ◌≢◌, ◌<◌, ◌↔◌, Some, length, true, IfOk, IfErr, OnOk};
+ghost use Rattle.std.specs.List.{slice_get};
+ghost use Rattle.nt_core.specs.Dispatcher.{state};
+ghost use Rattle.nt_core.specs.Laws.{wants_memory};
+ghost use Rattle.nt_mail.specs.Journals.{IsRunFrom};
+ghost use Rattle.nt_replay.specs.Replays.{GoesOn, StopsFor, IsUnreplayed, IsMismatch};
+
+use crate::unreplayed::Unreplayed;
+use nt_core::{Core, Grant, Reply, runs_one_way};
+use nt_mail::Entry;
+use nt_status::Refusal;
+
+/// Makes the calls and ticks of the entries on the base, compares every result and grant, and answers the machine after them.
+///
+/// It answers it exactly where the entries are a run from the base, unless memory is refused.
+pub fn replay(base: Core, entries: &[Entry]) -> Result<Core, Unreplayed>
+    ensures run { IfOk result (λ core. IsRunFrom (state base) entries.now (state core)) }
+    ensures unreplayed { IfErr result (IsUnreplayed (state base) entries.now) }
+{
+    let mut core = base;
+    let outcome = replay_all(&mut core, entries);
+    match outcome {
+        Ok(()) => Ok(core),
+        Err(cause) => {
+            drop(core);
+            Err(cause)
+        }
+    }
+}
+
+/// Makes all entries again on this machine.
+#[tactic(auto, using(crate::proofs::Comparing::none_replayed, crate::proofs::Comparing::run_replayed, crate::proofs::Comparing::grants_lacking_at))]
+fn replay_all(core: &mut Core, entries: &[Entry]) -> Result<(), Unreplayed>
+    ensures run { OnOk result (IsRunFrom (state core.old) entries.now (state core.new)) }
+    ensures unreplayed { IfErr result (IsUnreplayed (state core.old) entries.now) }
+{
+    runs_one_way();
+    let mut compared = core.grants().len();
+    for place in 0..entries.len() {
+        compared = match replay_entry(core, compared, entries, place) {
+            Ok(now) => now,
+            Err(cause) => return Err(cause),
+        };
+    }
+    if compared < core.grants().len() {
+        return Err(Unreplayed::Differs(entries.len()));
+    }
+    Ok(())
+}
+
+/// Makes the call or tick of one entry again, or compares its grant. So many grants of the last call were compared before; it
+/// answers how many are now.
+fn replay_entry(
+    core: &mut Core,
+    compared: usize,
+    entries: &[Entry],
+    place: usize,
+) -> Result<usize, Unreplayed>
+    requires { place < length entries.now }
+    ensures ok { IfOk result (λ now. GoesOn entries.now place compared core.old now core.new) }
+    ensures err { IfErr result (StopsFor entries.now place compared core.old) }
+{
+    runs_one_way();
+    if let Entry::Granted { who, status } = &entries[place] {
+        let grant = Grant {
+            thread: *who,
+            status: *status,
+        };
+        return if is_next(core.grants(), compared, grant) {
+            Ok(compared + 1)
+        } else {
+            Err(Unreplayed::Differs(place))
+        };
+    }
+    if compared < core.grants().len() {
+        return Err(Unreplayed::Differs(place));
+    }
+    match &entries[place] {
+        Entry::Called { who, call, result } => {
+            compare_call(core.call(u32::from(who.get()), call), *result, place)
+        }
+        Entry::Ticked { moment, result, .. } => compare(core.tick(*moment), *result, place),
+        Entry::Granted { .. } => Err(Unreplayed::Differs(place)),
+    }
+}
+
+/// Whether this grant is the next one.
+fn is_next(grants: &[Grant], compared: usize, grant: Grant) -> bool
+    ensures { (result ≡ true) ↔ (slice_get grants.now compared ≡ Some grant) }
+{
+    match grants.get(compared) {
+        Some(next) => *next == grant,
+        None => false,
+    }
+}
+
+/// Compares the answer of a call with the one that stands in the entries. No grant of it was compared yet.
+fn compare_call(
+    made: Result<Reply, Refusal>,
+    told: Result<Reply, Refusal>,
+    place: usize,
+) -> Result<usize, Unreplayed>
+    ensures ok { IfOk result (λ now. (now ≡ 0) × (made ≡ told)) }
+    ensures err { IfErr result (IsMismatch made told place) }
+{
+    if is_for_memory(&made) != is_for_memory(&told) {
+        return Err(Unreplayed::Memory(place));
+    }
+    compare(made, told, place)
+}
+
+/// Compares two answers. No grant that came with them was compared yet.
+fn compare(
+    made: Result<Reply, Refusal>,
+    told: Result<Reply, Refusal>,
+    place: usize,
+) -> Result<usize, Unreplayed>
+    ensures ok { IfOk result (λ now. (now ≡ 0) × (made ≡ told)) }
+    ensures err { IfErr result (λ cause. (cause ≡ Unreplayed.Differs place) × (made ≢ told)) }
+{
+    if made == told {
+        Ok(0)
+    } else {
+        Err(Unreplayed::Differs(place))
+    }
+}
+
+/// Whether a call was refused for memory.
+fn is_for_memory(answer: &Result<Reply, Refusal>) -> bool
+    ensures { result ≡ wants_memory answer.now }
+{
+    matches!(answer, Err(Refusal::Memory))
+}
