@@ -6,7 +6,6 @@ use Rattle.std.proofs.lemmas.Option.{same_Some, none-some}
 use Rattle.std.proofs.lemmas.List.Elements.{AllZip-get_or, length_all_zip}
 use Rattle.std.specs.List.{AllZip, each_same}
 use Rattle.std.specs.Option.{option_map}
-use Rattle.std.specs.Prelude.{IsSomeAnd}
 use Rattle.std.specs.Cmp.{nat_cmp_total}
 use Rattle.std.specs.FinMap as finmap
 use Rattle.slab.specs.Slab.{Slab, IsSlotClone, IsSlabClone}

@@ -1,5 +1,5 @@
 -- The table once a thread's wait has ended.
-use Rattle.std.proofs.Common.{◌≡◌, ◌≢◌, ◌≤◌, ◌-◌, ℕ, Bool, true, false, List, length, set, map, Option, Some, None, refl, sym, ap, ◌∙◌, arith, length-set}
+use Rattle.std.proofs.Common.{◌≡◌, ◌≢◌, ◌≤◌, ◌-◌, ℕ, Bool, true, false, List, length, set, Option, Some, None, refl, ap, arith, length-set}
 use Rattle.std.proofs.lemmas.Bool.{false≢true}
 use Rattle.std.specs.Prelude.{IsSome}
 use Rattle.std.specs.FinMap as finmap
@@ -8,11 +8,11 @@ use Rattle.nt_waits.specs.declared.pending.Pending.{Pending}
 use Rattle.nt_waits.specs.declared.prepared.Prepared.{Prepared}
 use Rattle.nt_waits.specs.Ended.{IsEnded}
 use Rattle.nt_waits.specs.Slot.{IsUnlinked, kept_where}
-use Rattle.nt_waits.specs.Queues.{Lists, list_at}
-use Rattle.nt_waits.specs.Table.{threads, slot_at, waits_of, IsLinked, IsTable, IsWhole}
+use Rattle.nt_waits.specs.Queues.{Lists}
+use Rattle.nt_waits.specs.Table.{slot_at, waits_of, IsLinked, IsTable, IsWhole}
 use Rattle.nt_waits.specs.Waits.{IsTouched}
 use Rattle.nt_waits.proofs.TableLemmas.{slot_within, unlinked_from, table_ended, threads_ended}
-use Rattle.nt_waits.proofs.ViewLemmas.{get-waits, waits-removed, IsSome-mapped}
+use Rattle.nt_waits.proofs.ViewLemmas.{waits-removed}
 use Rattle.nt_waits.proofs.DeadlineLemmas.{alarmed_ended}
 use Rattle.nt_waits.proofs.CountLemmas.{len-ended}
 use Rattle.nt_waits.proofs.PreparedLemmas.{ready_kept}

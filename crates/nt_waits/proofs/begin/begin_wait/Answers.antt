@@ -1,6 +1,6 @@
 use Rattle.std.proofs.Common.{◌≡◌, ◌≤◌, None, length, set, refl, ◌∙◌, arith, length-set}
 use Rattle.std.proofs.lemmas.List.{get_or_read, get_or-set_other}
-use Rattle.nt_waits.specs.Table.{slot_at, IsTable}
+use Rattle.nt_waits.specs.Table.{IsTable}
 use Rattle.nt_waits.specs.Waits.{wait_for}
 use Rattle.nt_waits.proofs.BeginLemmas.{length-list, table_same}
 use Rattle.nt_waits.proofs.BegunLemmas.{filled_joined, filled_kept, filled_table, filled_placed, set_empty, on_err}

@@ -1,4 +1,4 @@
-use Rattle.std.proofs.Common.{◌<◌, length, get_or, refl, arith, ◌∙◌}
+use Rattle.std.proofs.Common.{◌<◌, length, get_or, arith, ◌∙◌}
 use Rattle.std.proofs.lemmas.List.{get_or_read, length-set}
 use Rattle.nt_waits.proofs.StepLemmas.{linked_more}
 use Rattle.nt_waits.proofs.links.link_all.Goals as goal

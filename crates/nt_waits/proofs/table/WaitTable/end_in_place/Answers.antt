@@ -1,4 +1,4 @@
-use Rattle.std.proofs.Common.{arith, ℕ, ◌≡◌, subst, ap, sym, ◌∙◌}
+use Rattle.std.proofs.Common.{arith, subst, ap, sym, ◌∙◌}
 use Rattle.std.specs.Prelude.{IsSome}
 use Rattle.nt_waits.specs.Table.{slot_at, waits_of}
 use Rattle.nt_waits.specs.Waits.{Waits, wait_of, queue_of, others}
