@@ -21,6 +21,7 @@ unlock OBJ
 arm OBJ DUE PERIOD [ROUTINE ARG]
 cancel OBJ
 apc OBJ ROUTINE ARG
+close OBJ
 any TIME MODE OBJ..
 all TIME MODE OBJ..
 sleep TIME MODE

@@ -52,6 +52,7 @@ line_free scope (Called who Keyword.Unlock values after) words s = tt
 line_free scope (Called who Keyword.Arm values after) words s = tt
 line_free scope (Called who Keyword.Cancel values after) words s = tt
 line_free scope (Called who Keyword.Apc values after) words s = tt
+line_free scope (Called who Keyword.Close values after) words s = tt
 line_free scope (Called who Keyword.Any values after) words s = tt
 line_free scope (Called who Keyword.All values after) words s = tt
 line_free scope (Called who Keyword.Sleep values after) words s = tt

@@ -111,6 +111,8 @@ row Keyword.Arm = record {
 row Keyword.Cancel = record { shape = only (ObjectPlace ∷ []); made = λ who timer given. act_by who (Act.CancelTimer timer) }
 -- tN apc OBJ ROUTINE ARG
 row Keyword.Apc = record { shape = only (ObjectPlace ∷ ValuePlace ∷ ValuePlace ∷ []); made = λ who thread routine arg given. act_by who (Act.QueueApc thread routine arg) }
+-- tN close OBJ
+row Keyword.Close = record { shape = only (ObjectPlace ∷ []); made = λ who handle given. act_by who (Act.Close handle) }
 -- tN any TIME MODE OBJ.., tN all TIME MODE OBJ..
 row Keyword.Any = record { shape = shape (TimePlace ∷ ModePlace ∷ []) (Each ObjectPlace); made = λ who ms alertable handles. wait_by who (WaitCall.Objects false alertable ms handles) }
 row Keyword.All = record { shape = shape (TimePlace ∷ ModePlace ∷ []) (Each ObjectPlace); made = λ who ms alertable handles. wait_by who (WaitCall.Objects true alertable ms handles) }

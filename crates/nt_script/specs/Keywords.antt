@@ -18,6 +18,7 @@ text_of Keyword.Unlock = codes "unlock"
 text_of Keyword.Arm = codes "arm"
 text_of Keyword.Cancel = codes "cancel"
 text_of Keyword.Apc = codes "apc"
+text_of Keyword.Close = codes "close"
 text_of Keyword.Any = codes "any"
 text_of Keyword.All = codes "all"
 text_of Keyword.Sleep = codes "sleep"
@@ -29,9 +30,9 @@ text_of Keyword.Exit = codes "exit"
 abbrev pub creations : List Keyword
 creations = Keyword.Event ∷ Keyword.Semaphore ∷ Keyword.Mutex ∷ Keyword.Timer ∷ Keyword.Duplicate ∷ []
 
--- those of an object that is there
+-- those of a handle that is there
 abbrev pub acts : List Keyword
-acts = Keyword.Set ∷ Keyword.Reset ∷ Keyword.Pulse ∷ Keyword.Release ∷ Keyword.Unlock ∷ Keyword.Arm ∷ Keyword.Cancel ∷ Keyword.Apc ∷ []
+acts = Keyword.Set ∷ Keyword.Reset ∷ Keyword.Pulse ∷ Keyword.Release ∷ Keyword.Unlock ∷ Keyword.Arm ∷ Keyword.Cancel ∷ Keyword.Apc ∷ Keyword.Close ∷ []
 
 -- those that wait, take an APC or exit
 abbrev pub other_calls : List Keyword

@@ -65,6 +65,7 @@ act_line who (Act.ReleaseMutex handle) = Some (Called who Keyword.Unlock (handle
 act_line who (Act.SetTimer handle due period routine) = Some (Called who Keyword.Arm (handle, (due, (period, tt))) routine)
 act_line who (Act.CancelTimer handle) = Some (Called who Keyword.Cancel (handle, tt) tt)
 act_line who (Act.QueueApc handle routine arg) = Some (Called who Keyword.Apc (handle, (routine, (arg, tt))) tt)
+act_line who (Act.Close handle) = Some (Called who Keyword.Close (handle, tt) tt)
 act_line who Act.NextApc = Some (Called who Keyword.Next tt tt)
 act_line who _ = None
 

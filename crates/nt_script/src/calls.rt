@@ -39,6 +39,7 @@ pub(crate) fn parse_call(
         Keyword::Arm => arm(bindings, who, words),
         Keyword::Cancel => cancel(bindings, who, words),
         Keyword::Apc => apc(bindings, who, words),
+        Keyword::Close => close(bindings, who, words),
         Keyword::Any => any(alloc, bindings, who, words),
         Keyword::All => all(alloc, bindings, who, words),
         Keyword::Sleep => sleep(who, words),
@@ -253,6 +254,16 @@ fn apc(bindings: &Bindings, who: u32, mut words: Words) -> Result<Statement, Lin
         arg,
     };
     Ok(act_of(who, act))
+}
+
+/// `tN close OBJ`
+#[tactic(auto, unfolding(crate::specs::Reading::call_at))]
+fn close(bindings: &Bindings, who: u32, mut words: Words) -> Result<Statement, LineFault>
+    ensures { Gives (λ statement. statement) result (call_at bindings.now.scope who Keyword.Close words.entry) }
+{
+    let handle = words.object(bindings)?;
+    words.end()?;
+    Ok(act_of(who, Act::Close(handle)))
 }
 
 /// `tN any TIME MODE OBJ..`

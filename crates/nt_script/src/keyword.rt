@@ -19,6 +19,7 @@ pub(crate) enum Keyword {
     Arm,
     Cancel,
     Apc,
+    Close,
     Any,
     All,
     Sleep,
@@ -62,7 +63,7 @@ fn other_call(word: &[u8]) -> Option<Keyword>
     }
 }
 
-/// An act on an object that is there.
+/// An act on a handle that is there.
 fn act(word: &[u8]) -> Option<Keyword>
     ensures { result ≡ keyword_among acts word.now }
 {
@@ -82,6 +83,8 @@ fn act(word: &[u8]) -> Option<Keyword>
         Some(Keyword::Cancel)
     } else if word == b"apc".as_slice() {
         Some(Keyword::Apc)
+    } else if word == b"close".as_slice() {
+        Some(Keyword::Close)
     } else {
         None
     }
