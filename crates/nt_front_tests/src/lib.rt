@@ -7,3 +7,5 @@ mod front;
 mod mail;
 #[cfg(test)]
 mod refused;
+#[cfg(test)]
+mod replays;
