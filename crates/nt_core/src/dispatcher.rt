@@ -21,7 +21,7 @@ use std::marker::Model;
 /// A dispatcher for a fixed number of threads, driven by one. Between two calls no pending wait could end.
 #[derive(Drop)]
 pub struct Core {
-    machine: Machine,
+    pub(crate) machine: Machine,
     /// Room for the numbers of the objects that a wait names.
     numbers: Vec<Handle>,
     /// Room to list every object, so that a call that changes many needs no memory for it.

@@ -15,6 +15,7 @@ mod living;
 mod machine;
 mod mutexes;
 mod objects;
+mod readers;
 mod semaphores;
 mod serving;
 mod swap;

@@ -31,7 +31,7 @@ fn earlier(first: Option<u64>, second: Option<u64>) -> Option<u64>
 
 impl Machine {
     /// The next moment up to `m` at which a timer is due or a deadline comes.
-    fn next_moment(&self, m: Moment) -> Option<u64>
+    pub(crate) fn next_moment(&self, m: Moment) -> Option<u64>
         requires { IsSound self.now }
         ensures { MatchOption result (NothingDue (state self.now) m) (λ u. IsNextMoment (state self.now) m u) }
     {

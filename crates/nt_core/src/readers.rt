@@ -1,0 +1,38 @@
+//! What whoever drives threads asks of a dispatcher: what is there, and when something is due.
+ghost use Rattle.std.specs.Prelude.{◌≡◌, MatchOption, slice_get};
+ghost use Rattle.nt_core.specs.Dispatcher.{state};
+ghost use Rattle.nt_core.specs.Naming.{object_named};
+ghost use Rattle.nt_core.specs.Steps.{IsNextMoment, NothingDue};
+
+use crate::dispatcher::Core;
+use crate::handles::{named, object_named};
+use nt_objects::Object;
+use nt_status::{Handle, Moment};
+
+impl Core {
+    /// How many threads there are, those that have ended among them.
+    pub fn threads(&self) -> u32
+        ensures { result ≡ (state self.now).threads }
+    {
+        self.machine.threads
+    }
+
+    /// The object that the handle names, as it is; none where it names none.
+    pub fn object(&self, handle: Handle) -> Option<Object>
+        ensures { result ≡ slice_get (state self.now).objects (object_named (state self.now).handles handle) }
+    {
+        let number = object_named(&self.machine.handles, handle);
+        named(self.machine.objects.as_slice(), number).copied()
+    }
+
+    /// The next moment up to `up_to` at which a timer is due or a wait's deadline comes, counted in 100 ns; none where nothing is due
+    /// by then. A driver that ticks no later than this misses nothing.
+    pub fn due(&self, up_to: Moment) -> Option<Moment>
+        ensures { MatchOption result (NothingDue (state self.now) up_to) (λ moment. IsNextMoment (state self.now) up_to moment) }
+    {
+        match self.machine.next_moment(up_to) {
+            Some(moment) => Moment::new(moment),
+            None => None,
+        }
+    }
+}
