@@ -1,0 +1,158 @@
+-- What a call through C's handle does.
+use Rattle.std.specs.Prelude.{◌≡◌, ℕ, ◌≤◌, ◌<◌, ◌⊎◌, ◌^◌, Bool, List, Option, None, Some, MatchOption, slice_get, MatchBool, nat_le, ◌&&◌, [], pos, is_some, true, false}
+use Rattle.nt_c.specs.declared.grants.NtGrant.{NtGrant}
+use Rattle.nt_c.specs.declared.handle.Nt.{Nt}
+use Rattle.nt_c.specs.declared.reply.NtReply.{NtReply}
+use Rattle.std.specs.declared.result.Result.{Result}
+use Rattle.std.specs.declared.result.Result.TheVariants.{Ok, Err}
+use Rattle.nt_status.specs.Refusal.{number_of}
+use Rattle.nt_status.specs.declared.refusal.Refusal.{Refusal}
+use Rattle.nt_status.specs.declared.refusal.Refusal.TheVariants.{InvalidHandle}
+use Rattle.nt_core.specs.declared.call.Act.{Act}
+use Rattle.nt_core.specs.declared.call.Call.{Call}
+use Rattle.nt_core.specs.declared.call.Grant.{Grant}
+use Rattle.nt_core.specs.declared.call.Reply.{Reply}
+use Rattle.nt_core.specs.declared.call.WaitCall.{WaitCall}
+use Rattle.nt_core.specs.Dispatcher.{Dispatcher, state}
+use Rattle.nt_core.specs.Lawful.{IsLawful}
+use Rattle.nt_core.specs.State.{opening, pends}
+use Rattle.nt_core.specs.Steps.{Called, Ticked, IsNextMoment, NothingDue}
+
+-- a handle says that it has a dispatcher exactly where it has one
+abbrev pub IsFit : Nt → Type 0
+IsFit nt = nt.live ≡ is_some nt.cell.core
+
+-- the handle has the dispatcher that it had, or none as before
+abbrev pub Keeps : Nt → Nt → Type 0
+Keeps old new = new.cell.core ≡ old.cell.core
+
+-- ---- a call
+
+-- a call on what the handle holds: one of the dispatcher there, or refused where there is none
+abbrev pub Asked : Option Dispatcher → ℕ → Call → Result Reply Refusal → Option Dispatcher → Type 0
+Asked None who call result new = (result ≡ Err InvalidHandle) × (new ≡ None)
+Asked (Some old) who call result new = (core : Dispatcher) × (new ≡ Some core) × Called (state old) who call result core.grants (state core) × IsLawful core
+
+-- the number that C sees of a result
+abbrev pub error_of : Result Reply Refusal → ℕ
+error_of (Ok reply) = 0
+error_of (Err refusal) = number_of refusal
+
+-- a reply in numbers: its kind, and the handle or status that it tells
+abbrev plain_reply : ℕ → ℕ → NtReply
+plain_reply kind number = record { kind = kind; number = number; previous = pos 0; timed = false; routine = 0; arg = 0; at = 0 }
+
+-- the reply of an APC, which a timer queued at this moment or no timer did
+abbrev timed_reply : NtReply → Option ℕ → NtReply
+timed_reply reply None = reply
+timed_reply reply (Some moment) = record reply { timed = true; at = moment }
+
+-- the reply in numbers
+abbrev pub reply_in : Reply → NtReply
+reply_in Reply.Done = plain_reply 0 0
+reply_in (Reply.Handle handle) = plain_reply 1 handle
+reply_in (Reply.Previous count) = record (plain_reply 2 0) { previous = count }
+reply_in (Reply.Status status) = plain_reply 3 status
+reply_in Reply.Pended = plain_reply 4 0
+reply_in (Reply.Apc None) = plain_reply 6 0
+reply_in (Reply.Apc (Some apc)) = timed_reply (record (plain_reply 5 0) { routine = apc.routine; arg = apc.arg }) apc.at
+
+-- what C has of a result where it had another reply before: a refusal leaves that
+abbrev pub told_in : NtReply → Result Reply Refusal → NtReply
+told_in old (Ok reply) = reply_in reply
+told_in old (Err refusal) = old
+
+-- a call of which C sees the number and the reply
+abbrev pub Answers : Nt → ℕ → Call → ℕ → NtReply → NtReply → Nt → Type 0
+Answers old who call number before after new =
+    (result : Result Reply Refusal)
+    × Asked old.cell.core who call result new.cell.core
+    × (number ≡ error_of result)
+    × (after ≡ told_in before result)
+
+-- an act of which C sees the number and the reply
+abbrev pub Acts : Nt → ℕ → Act → ℕ → NtReply → NtReply → Nt → Type 0
+Acts old who act number before after new = Answers old who (Call.Act act) number before after new
+
+-- a wait of which C sees the number and the reply
+abbrev pub WaitsWith : Nt → ℕ → WaitCall → ℕ → NtReply → NtReply → Nt → Type 0
+WaitsWith old who wait number before after new = Answers old who (Call.Wait wait) number before after new
+
+-- a wait for objects; where memory for the list of its handles is refused, with 8, it is not asked at all
+abbrev pub WaitsForObjects : Nt → ℕ → WaitCall → ℕ → NtReply → NtReply → Nt → Type 0
+WaitsForObjects old who wait number before after new = WaitsWith old who wait number before after new ⊎ ((number ≡ 8) × (after ≡ before) × (new ≡ old))
+
+-- ---- a tick
+
+-- a tick of what the handle holds
+abbrev pub TickAsked : Option Dispatcher → ℕ → Result Reply Refusal → Option Dispatcher → Type 0
+TickAsked None m result new = (result ≡ Err InvalidHandle) × (new ≡ None)
+TickAsked (Some old) m result new = (core : Dispatcher) × (new ≡ Some core) × Ticked (state old) m result core.grants (state core) × IsLawful core
+
+-- a tick of which C sees the number; no moment is above 2^62
+abbrev pub Ticks : Nt → ℕ → ℕ → Nt → Type 0
+Ticks old m number new =
+    MatchBool (nat_le m (2 ^ 62))
+    ((result : Result Reply Refusal) × TickAsked old.cell.core m result new.cell.core × (number ≡ error_of result))
+    ((number ≡ 87) × (new ≡ old))
+
+-- ---- what C reads
+
+-- nothing is told
+abbrev Untold : (A : Type 0) → ℕ → ℕ → A → A → Type 0
+Untold A refusal number before after = (number ≡ refusal) × (after ≡ before)
+
+-- a value of the dispatcher is told
+abbrev Told : (A : Type 0) → A → ℕ → A → Type 0
+Told A value number after = (number ≡ 0) × (after ≡ value)
+
+-- a number of the dispatcher is told, or 6 is answered where there is none
+abbrev pub Reads : (Dispatcher → ℕ) → Nt → ℕ → ℕ → ℕ → Type 0
+Reads value nt number before after = MatchOption nt.cell.core (Untold ℕ 6 number before after) (λ core. Told ℕ (value core) number after)
+
+-- whether the thread's wait pends is told, or 536870915 is answered where no thread has this number
+abbrev pub ReadsWaiting : ℕ → Nt → ℕ → Bool → Bool → Type 0
+ReadsWaiting thread nt number before after =
+    MatchOption nt.cell.core
+    (Untold Bool 6 number before after)
+    (λ core. MatchBool (nat_le (state core).threads thread) (Untold Bool 0x20000003 number before after) (Told Bool (pends (state core) thread) number after))
+
+-- a grant as C sees it
+abbrev grant_in : Grant → NtGrant
+grant_in grant = record { thread = grant.thread; status = grant.status }
+
+-- the grant at this index is told, or 259 is answered past the last
+abbrev pub ReadsGrant : ℕ → Nt → ℕ → NtGrant → NtGrant → Type 0
+ReadsGrant index nt number before after =
+    MatchOption nt.cell.core
+    (Untold NtGrant 6 number before after)
+    (λ core. MatchOption (slice_get core.grants index) (Untold NtGrant 259 number before after) (λ grant. Told NtGrant (grant_in grant) number after))
+
+-- the next moment up to m at which something is due is told, or 259 is answered where nothing is
+abbrev IsDueTold : Dispatcher → ℕ → ℕ → ℕ → ℕ → Type 0
+IsDueTold core m number before after =
+    ((number ≡ 0) × IsNextMoment (state core) m after) ⊎ (Untold ℕ 259 number before after × NothingDue (state core) m)
+
+-- the same through a handle; no moment is above 2^62
+abbrev pub ReadsDue : ℕ → Nt → ℕ → ℕ → ℕ → Type 0
+ReadsDue m nt number before after =
+    MatchBool (nat_le m (2 ^ 62))
+    (MatchOption nt.cell.core (Untold ℕ 6 number before after) (λ core. IsDueTold core m number before after))
+    (Untold ℕ 87 number before after)
+
+-- ---- dispatchers come and go
+
+-- a dispatcher for so many threads is opened where there is none; refused with 87 where there is one or the count is not 1 to 256,
+-- and with 8 where memory is refused
+abbrev pub Opens : Option Dispatcher → ℕ → ℕ → Option Dispatcher → Type 0
+Opens (Some old) threads number new = (number ≡ 87) × (new ≡ Some old)
+Opens None threads number new =
+    ((core : Dispatcher) × (new ≡ Some core) × (number ≡ 0) × (1 ≤ threads) × (threads ≤ 256) × (state core ≡ opening threads) × (core.grants ≡ []))
+    ⊎ ((new ≡ None) × MatchBool (nat_le 1 threads && nat_le threads 256) (number ≡ 8) (number ≡ 87))
+
+-- an equal dispatcher comes to where there was none; refused with 6 where there is nothing to copy, with 87 where there is one
+-- already, and with 8 where memory is refused
+abbrev pub Copies : Option Dispatcher → Option Dispatcher → ℕ → Option Dispatcher → Type 0
+Copies None to number new = (number ≡ 6) × (new ≡ to)
+Copies (Some core) (Some to) number new = (number ≡ 87) × (new ≡ Some to)
+Copies (Some core) None number new = ((number ≡ 0) × (new ≡ Some core)) ⊎ ((number ≡ 8) × (new ≡ None))

@@ -1,0 +1,40 @@
+//! What C keeps of a dispatcher.
+ghost use Rattle.nt_c.specs.Asks.{IsFit, Asked, TickAsked};
+
+use crate::cell::Cell;
+use nt_core::{Call, Reply};
+use nt_status::{Moment, Refusal};
+
+/// A handle in C's hands: a pointer to room for a dispatcher, and whether there is one.
+#[repr(C)]
+#[derive(Drop)]
+pub struct Nt {
+    pub(crate) cell: Cell,
+    pub(crate) live: bool,
+}
+
+impl Nt {
+    /// Makes the call of this thread.
+    pub(crate) fn ask(&mut self, who: u32, call: &Call) -> Result<Reply, Refusal>
+        requires fit { IsFit self.old }
+        ensures fit { IsFit self.new }
+        ensures asked { Asked self.old.cell.core who call.now result self.new.cell.core }
+    {
+        if !self.live {
+            return Err(Refusal::InvalidHandle);
+        }
+        self.cell.core_mut().call(who, call)
+    }
+
+    /// Lets the moments up to `m` pass.
+    pub(crate) fn pass(&mut self, m: Moment) -> Result<Reply, Refusal>
+        requires fit { IsFit self.old }
+        ensures fit { IsFit self.new }
+        ensures asked { TickAsked self.old.cell.core m result self.new.cell.core }
+    {
+        if !self.live {
+            return Err(Refusal::InvalidHandle);
+        }
+        self.cell.core_mut().tick(m)
+    }
+}

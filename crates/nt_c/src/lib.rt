@@ -1,0 +1,21 @@
+//! The dispatcher for callers in C: a static library, whose header is `c/nt.h`.
+//!
+//! A handle is a pointer to room for a dispatcher, of `nt_room` bytes, and whether there is one. One thread at a time calls through it.
+#![tactic(auto)]
+
+mod apcs;
+mod cell;
+mod core_mut;
+mod events;
+mod grants;
+mod handle;
+mod life;
+mod mutexes;
+mod named;
+mod numbers;
+mod objects;
+mod readers;
+mod reply;
+mod semaphores;
+mod timers;
+mod waits;

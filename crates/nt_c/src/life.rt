@@ -1,0 +1,81 @@
+//! Dispatchers come and go.
+ghost use Rattle.std.specs.Prelude.{◌≡◌, None};
+ghost use Rattle.std.specs.Mem.{type_size};
+ghost use Rattle.nt_core.specs.contracts.dispatcher.Core.{the_row as core_row};
+ghost use Rattle.nt_c.specs.Asks.{IsFit, Keeps, Opens, Copies};
+
+use crate::handle::Nt;
+use crate::numbers::{INVALID_PARAMETER, NO_DISPATCHER};
+use nt_core::Core;
+use std::alloc::Global;
+
+/// How many bytes of room a dispatcher takes, at an alignment of 16.
+#[unsafe(no_mangle)]
+pub extern "C" fn nt_room() -> usize
+    ensures { result ≡ type_size core_row }
+{
+    size_of::<Core>()
+}
+
+/// Opens a dispatcher for this many threads, which run and wait for nothing, where the handle has none.
+///
+/// Refused with 87 where the handle has one, or the threads are not 1 to 256, and with 8 where memory is refused.
+#[unsafe(no_mangle)]
+pub extern "C" fn nt_open(alloc: Global, nt: &mut Nt, threads: u32) -> u32
+    requires fit { IsFit nt.old }
+    ensures fit { IsFit nt.new }
+    ensures opens { Opens nt.old.cell.core threads result nt.new.cell.core }
+{
+    if nt.live {
+        return INVALID_PARAMETER;
+    }
+    match Core::new(alloc, threads) {
+        Ok(core) => {
+            nt.cell.put(core);
+            nt.live = true;
+            0
+        }
+        Err(refusal) => refusal.number(),
+    }
+}
+
+/// Opens an equal dispatcher where the other handle has none, as a point to come back to. Each goes its own way from then on.
+///
+/// Refused with 6 where there is none to copy, with 87 where the other handle has one, and with 8 where memory is refused.
+#[unsafe(no_mangle)]
+pub extern "C" fn nt_copy(nt: &mut Nt, to: &mut Nt) -> u32
+    requires fit { IsFit nt.old }
+    requires to_fit { IsFit to.old }
+    ensures fit { IsFit nt.new }
+    ensures to_fit { IsFit to.new }
+    ensures same { Keeps nt.old nt.new }
+    ensures copies { Copies nt.old.cell.core to.old.cell.core result to.new.cell.core }
+{
+    if !nt.live {
+        return NO_DISPATCHER;
+    }
+    if to.live {
+        return INVALID_PARAMETER;
+    }
+    match nt.cell.core_mut().copy() {
+        Ok(core) => {
+            to.cell.put(core);
+            to.live = true;
+            0
+        }
+        Err(refusal) => refusal.number(),
+    }
+}
+
+/// Frees what the handle has. Where it has nothing, nothing is done.
+#[unsafe(no_mangle)]
+pub extern "C" fn nt_close(nt: &mut Nt)
+    requires fit { IsFit nt.old }
+    ensures fit { IsFit nt.new }
+    ensures closed { nt.new.cell.core ≡ None }
+{
+    if nt.live {
+        nt.live = false;
+        drop(nt.cell.take());
+    }
+}

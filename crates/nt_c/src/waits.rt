@@ -1,0 +1,80 @@
+//! Waits.
+ghost use Rattle.nt_core.specs.declared.call.WaitCall.{WaitCall};
+ghost use Rattle.nt_c.specs.Asks.{IsFit, WaitsWith, WaitsForObjects};
+
+use crate::handle::Nt;
+use crate::named::named;
+use crate::numbers::OUT_OF_MEMORY;
+use crate::reply::{NtReply, tell};
+use nt_core::{Call, WaitCall};
+use nt_status::Handle;
+use std::alloc::Global;
+
+/// WaitForMultipleObjectsEx: for any of the objects, or for all. The timeout is in milliseconds, 0xFFFFFFFF for INFINITE.
+#[unsafe(no_mangle)]
+pub extern "C" fn nt_wait_objects(
+    alloc: Global,
+    nt: &mut Nt,
+    who: u32,
+    handles: &[u32],
+    all: bool,
+    ms: u32,
+    alertable: bool,
+    out: &mut NtReply,
+) -> u32
+    requires fit { IsFit nt.old }
+    ensures fit { IsFit nt.new }
+    ensures answers { WaitsForObjects nt.old who (WaitCall.Objects all alertable ms handles.now) result out.old out.new nt.new }
+{
+    let Ok(handles) = named(alloc, handles) else {
+        return OUT_OF_MEMORY;
+    };
+    let wait = WaitCall::Objects {
+        all,
+        alertable,
+        ms,
+        handles,
+    };
+    tell(nt.ask(who, &Call::Wait(wait)), out)
+}
+
+/// SleepEx. The interval is in milliseconds, 0xFFFFFFFF for INFINITE.
+#[unsafe(no_mangle)]
+pub extern "C" fn nt_sleep(
+    nt: &mut Nt,
+    who: u32,
+    ms: u32,
+    alertable: bool,
+    out: &mut NtReply,
+) -> u32
+    requires fit { IsFit nt.old }
+    ensures fit { IsFit nt.new }
+    ensures answers { WaitsWith nt.old who (WaitCall.Sleep ms alertable) result out.old out.new nt.new }
+{
+    let wait = WaitCall::Sleep { ms, alertable };
+    tell(nt.ask(who, &Call::Wait(wait)), out)
+}
+
+/// SignalObjectAndWait: signals one object, and waits for the other, or for the same.
+#[unsafe(no_mangle)]
+pub extern "C" fn nt_swap(
+    nt: &mut Nt,
+    who: u32,
+    signal: u32,
+    object: u32,
+    ms: u32,
+    alertable: bool,
+    out: &mut NtReply,
+) -> u32
+    requires fit { IsFit nt.old }
+    ensures fit { IsFit nt.new }
+    ensures answers { WaitsWith nt.old who (WaitCall.Swap signal object ms alertable) result out.old out.new nt.new }
+{
+    let wait = WaitCall::Swap {
+        signal: Handle::new(signal),
+        object: Handle::new(object),
+        ms,
+        alertable,
+    };
+    tell(nt.ask(who, &Call::Wait(wait)), out)
+}
