@@ -1,0 +1,277 @@
+/* Win32's waitable objects, waits and APCs for the threads of one process, on POSIX threads. Link with libntwin.
+ *
+ * A program that includes <windows.h> for these calls compiles unchanged with -I of the folder `win` beside this file. Which waits end,
+ * in which order and with which status is decided by the proved dispatcher (nt.h); this layer puts threads to sleep and wakes them.
+ *
+ * What differs from Windows:
+ *   - At most 256 threads make calls in a process's life, the first thread among them; a thread that ends gives no place back. The
+ *     257th gets ERROR_NO_SYSTEM_RESOURCES from each call.
+ *   - At most 65,536 handles in a process's life, 256 of them the threads': CreateEvent and its like then fail with
+ *     ERROR_NO_SYSTEM_RESOURCES, since no number of a closed handle is used again.
+ *   - No names: a creation with a name fails with ERROR_NOT_SUPPORTED. Security attributes are ignored. Nothing is shared with other
+ *     processes, nor with a child that is forked.
+ *   - DWORD, LONG and ULONG have 32 bits, as on Windows, and so are no `long` here: print them with %u and %d.
+ *   - A wait names no object twice, in both modes, by whichever handles.
+ *   - No thread is suspended, terminated or given a priority.
+ * docs/WIN32.md has each call. Each is made as Microsoft's page says, otherwise. */
+#ifndef NTWIN_H
+#define NTWIN_H
+
+#include <stddef.h>
+#include <stdint.h>
+#include <wchar.h>
+
+#ifdef __cplusplus
+extern "C" {
+#endif
+
+/* ---- Types. */
+
+#define VOID void
+#define CONST const
+#define WINAPI
+#define CALLBACK
+#define NTAPI
+#define APIENTRY
+#define FALSE 0
+#define TRUE 1
+
+typedef int BOOL;
+typedef unsigned char BYTE, BOOLEAN, UCHAR;
+typedef char CHAR;
+typedef wchar_t WCHAR;
+typedef int16_t SHORT;
+typedef uint16_t WORD, USHORT;
+typedef int INT;
+typedef unsigned UINT;
+typedef int32_t LONG;
+typedef uint32_t DWORD, ULONG;
+typedef int64_t LONGLONG, LONG64;
+typedef uint64_t ULONGLONG, DWORD64, ULONG64, DWORDLONG;
+typedef intptr_t LONG_PTR, INT_PTR;
+typedef uintptr_t ULONG_PTR, UINT_PTR, DWORD_PTR;
+typedef size_t SIZE_T;
+typedef void *PVOID, *LPVOID, *HANDLE;
+typedef const void *LPCVOID;
+typedef HANDLE *PHANDLE, *LPHANDLE;
+typedef BOOL *PBOOL, *LPBOOL;
+typedef BYTE *PBYTE, *LPBYTE;
+typedef LONG *PLONG, *LPLONG;
+typedef DWORD *PDWORD, *LPDWORD;
+typedef CHAR *PSTR, *LPSTR;
+typedef const CHAR *PCSTR, *LPCSTR;
+typedef WCHAR *PWSTR, *LPWSTR;
+typedef const WCHAR *PCWSTR, *LPCWSTR;
+
+#ifdef UNICODE
+typedef WCHAR TCHAR;
+typedef LPWSTR LPTSTR;
+typedef LPCWSTR LPCTSTR;
+#define TEXT(quoted) L##quoted
+#else
+typedef CHAR TCHAR;
+typedef LPSTR LPTSTR;
+typedef LPCSTR LPCTSTR;
+#define TEXT(quoted) quoted
+#endif
+
+typedef union {
+    struct {
+        DWORD LowPart;
+        LONG HighPart;
+    } u;
+    LONGLONG QuadPart;
+    __extension__ struct {
+        DWORD LowPart;
+        LONG HighPart;
+    };
+} LARGE_INTEGER, *PLARGE_INTEGER;
+
+typedef struct {
+    DWORD dwLowDateTime;
+    DWORD dwHighDateTime;
+} FILETIME, *PFILETIME, *LPFILETIME;
+
+typedef struct {
+    DWORD nLength;
+    LPVOID lpSecurityDescriptor;
+    BOOL bInheritHandle;
+} SECURITY_ATTRIBUTES, *PSECURITY_ATTRIBUTES, *LPSECURITY_ATTRIBUTES;
+
+typedef struct ntwin_reason *PREASON_CONTEXT;
+
+typedef DWORD (*PTHREAD_START_ROUTINE)(LPVOID parameter);
+typedef PTHREAD_START_ROUTINE LPTHREAD_START_ROUTINE;
+typedef void (*PAPCFUNC)(ULONG_PTR parameter);
+typedef void (*PTIMERAPCROUTINE)(LPVOID argument, DWORD low, DWORD high);
+
+/* ---- Constants. */
+
+#define INVALID_HANDLE_VALUE ((HANDLE)(intptr_t)-1)
+#define INFINITE 0xFFFFFFFFu
+#define MAXIMUM_WAIT_OBJECTS 64
+#define STATUS_WAIT_0 0x00000000u
+#define WAIT_OBJECT_0 0x00000000u
+#define WAIT_ABANDONED 0x00000080u
+#define WAIT_ABANDONED_0 0x00000080u
+#define WAIT_IO_COMPLETION 0x000000C0u
+#define WAIT_TIMEOUT 0x00000102u
+#define WAIT_FAILED 0xFFFFFFFFu
+
+#define ERROR_SUCCESS 0u
+#define NO_ERROR 0u
+#define ERROR_ACCESS_DENIED 5u
+#define ERROR_INVALID_HANDLE 6u
+#define ERROR_NOT_ENOUGH_MEMORY 8u
+#define ERROR_GEN_FAILURE 31u
+#define ERROR_NOT_SUPPORTED 50u
+#define ERROR_INVALID_PARAMETER 87u
+#define ERROR_NOT_OWNER 288u
+#define ERROR_TOO_MANY_POSTS 298u
+#define ERROR_MUTANT_LIMIT_EXCEEDED 587u
+#define ERROR_NO_SYSTEM_RESOURCES 1450u
+
+#define CREATE_SUSPENDED 0x4u
+#define CREATE_EVENT_MANUAL_RESET 0x1u
+#define CREATE_EVENT_INITIAL_SET 0x2u
+#define CREATE_MUTEX_INITIAL_OWNER 0x1u
+#define CREATE_WAITABLE_TIMER_MANUAL_RESET 0x1u
+#define STACK_SIZE_PARAM_IS_A_RESERVATION 0x00010000u
+#define DUPLICATE_CLOSE_SOURCE 0x1u
+#define DUPLICATE_SAME_ACCESS 0x2u
+
+#define SYNCHRONIZE 0x00100000u
+#define STANDARD_RIGHTS_REQUIRED 0x000F0000u
+#define MAXIMUM_ALLOWED 0x02000000u
+#define GENERIC_ALL 0x10000000u
+#define EVENT_MODIFY_STATE 0x0002u
+#define EVENT_ALL_ACCESS 0x001F0003u
+#define SEMAPHORE_MODIFY_STATE 0x0002u
+#define SEMAPHORE_ALL_ACCESS 0x001F0003u
+#define MUTEX_MODIFY_STATE 0x0001u
+#define MUTANT_QUERY_STATE 0x0001u
+#define MUTEX_ALL_ACCESS 0x001F0001u
+#define TIMER_QUERY_STATE 0x0001u
+#define TIMER_MODIFY_STATE 0x0002u
+#define TIMER_ALL_ACCESS 0x001F0003u
+#define THREAD_SET_CONTEXT 0x0010u
+#define THREAD_ALL_ACCESS 0x001FFFFFu
+
+/* ---- Events, semaphores, mutexes, waitable timers. */
+
+HANDLE CreateEventA(LPSECURITY_ATTRIBUTES attributes, BOOL manual, BOOL set, LPCSTR name);
+HANDLE CreateEventW(LPSECURITY_ATTRIBUTES attributes, BOOL manual, BOOL set, LPCWSTR name);
+HANDLE CreateEventExA(LPSECURITY_ATTRIBUTES attributes, LPCSTR name, DWORD flags, DWORD access);
+HANDLE CreateEventExW(LPSECURITY_ATTRIBUTES attributes, LPCWSTR name, DWORD flags, DWORD access);
+BOOL SetEvent(HANDLE event);
+BOOL ResetEvent(HANDLE event);
+BOOL PulseEvent(HANDLE event);
+
+HANDLE CreateSemaphoreA(LPSECURITY_ATTRIBUTES attributes, LONG initial, LONG maximum, LPCSTR name);
+HANDLE CreateSemaphoreW(LPSECURITY_ATTRIBUTES attributes, LONG initial, LONG maximum, LPCWSTR name);
+HANDLE CreateSemaphoreExA(LPSECURITY_ATTRIBUTES attributes, LONG initial, LONG maximum, LPCSTR name, DWORD flags, DWORD access);
+HANDLE CreateSemaphoreExW(LPSECURITY_ATTRIBUTES attributes, LONG initial, LONG maximum, LPCWSTR name, DWORD flags, DWORD access);
+BOOL ReleaseSemaphore(HANDLE semaphore, LONG count, LPLONG previous);
+
+HANDLE CreateMutexA(LPSECURITY_ATTRIBUTES attributes, BOOL owned, LPCSTR name);
+HANDLE CreateMutexW(LPSECURITY_ATTRIBUTES attributes, BOOL owned, LPCWSTR name);
+HANDLE CreateMutexExA(LPSECURITY_ATTRIBUTES attributes, LPCSTR name, DWORD flags, DWORD access);
+HANDLE CreateMutexExW(LPSECURITY_ATTRIBUTES attributes, LPCWSTR name, DWORD flags, DWORD access);
+BOOL ReleaseMutex(HANDLE mutex);
+
+HANDLE CreateWaitableTimerA(LPSECURITY_ATTRIBUTES attributes, BOOL manual, LPCSTR name);
+HANDLE CreateWaitableTimerW(LPSECURITY_ATTRIBUTES attributes, BOOL manual, LPCWSTR name);
+HANDLE CreateWaitableTimerExA(LPSECURITY_ATTRIBUTES attributes, LPCSTR name, DWORD flags, DWORD access);
+HANDLE CreateWaitableTimerExW(LPSECURITY_ATTRIBUTES attributes, LPCWSTR name, DWORD flags, DWORD access);
+/* Due in units of 100 ns, from now on where negative, else in UTC since 1601; the period in milliseconds. `resume` is ignored. */
+BOOL SetWaitableTimer(HANDLE timer, const LARGE_INTEGER *due, LONG period, PTIMERAPCROUTINE routine, LPVOID argument, BOOL resume);
+/* `delay` and `context` are ignored. */
+BOOL SetWaitableTimerEx(HANDLE timer, const LARGE_INTEGER *due, LONG period, PTIMERAPCROUTINE routine, LPVOID argument,
+                        PREASON_CONTEXT context, ULONG delay);
+BOOL CancelWaitableTimer(HANDLE timer);
+
+/* ---- Waits. APCs run inside a wait that ends with WAIT_IO_COMPLETION. */
+
+DWORD WaitForSingleObject(HANDLE object, DWORD ms);
+DWORD WaitForSingleObjectEx(HANDLE object, DWORD ms, BOOL alertable);
+DWORD WaitForMultipleObjects(DWORD count, const HANDLE *objects, BOOL all, DWORD ms);
+DWORD WaitForMultipleObjectsEx(DWORD count, const HANDLE *objects, BOOL all, DWORD ms, BOOL alertable);
+DWORD SignalObjectAndWait(HANDLE signal, HANDLE object, DWORD ms, BOOL alertable);
+void Sleep(DWORD ms);
+DWORD SleepEx(DWORD ms, BOOL alertable);
+DWORD QueueUserAPC(PAPCFUNC routine, HANDLE thread, ULONG_PTR argument);
+
+/* ---- Threads and the process. */
+
+HANDLE CreateThread(LPSECURITY_ATTRIBUTES attributes, SIZE_T stack, LPTHREAD_START_ROUTINE start, LPVOID parameter, DWORD flags,
+                    LPDWORD id);
+void ExitThread(DWORD code) __attribute__((noreturn));
+HANDLE GetCurrentThread(void);
+DWORD GetCurrentThreadId(void);
+HANDLE GetCurrentProcess(void);
+DWORD GetCurrentProcessId(void);
+BOOL TerminateProcess(HANDLE process, UINT code);
+void ExitProcess(UINT code) __attribute__((noreturn));
+
+/* ---- Handles and errors. */
+
+BOOL DuplicateHandle(HANDLE from, HANDLE handle, HANDLE to, LPHANDLE duplicate, DWORD access, BOOL inherit, DWORD options);
+BOOL CloseHandle(HANDLE handle);
+DWORD GetLastError(void);
+void SetLastError(DWORD error);
+
+/* ---- Time. */
+
+DWORD GetTickCount(void);
+ULONGLONG GetTickCount64(void);
+BOOL QueryPerformanceCounter(LARGE_INTEGER *count);
+BOOL QueryPerformanceFrequency(LARGE_INTEGER *frequency);
+void GetSystemTimeAsFileTime(LPFILETIME now);
+
+/* ---- Names without A or W, and the interlocked calls. */
+
+#ifdef UNICODE
+#define CreateEvent CreateEventW
+#define CreateEventEx CreateEventExW
+#define CreateSemaphore CreateSemaphoreW
+#define CreateSemaphoreEx CreateSemaphoreExW
+#define CreateMutex CreateMutexW
+#define CreateMutexEx CreateMutexExW
+#define CreateWaitableTimer CreateWaitableTimerW
+#define CreateWaitableTimerEx CreateWaitableTimerExW
+#else
+#define CreateEvent CreateEventA
+#define CreateEventEx CreateEventExA
+#define CreateSemaphore CreateSemaphoreA
+#define CreateSemaphoreEx CreateSemaphoreExA
+#define CreateMutex CreateMutexA
+#define CreateMutexEx CreateMutexExA
+#define CreateWaitableTimer CreateWaitableTimerA
+#define CreateWaitableTimerEx CreateWaitableTimerExA
+#endif
+
+/* Each is one atomic step and orders all others. The first three answer the value after, the others the value before. */
+#define InterlockedIncrement(at) __atomic_add_fetch((at), 1, __ATOMIC_SEQ_CST)
+#define InterlockedDecrement(at) __atomic_sub_fetch((at), 1, __ATOMIC_SEQ_CST)
+#define InterlockedAdd(at, by) __atomic_add_fetch((at), (by), __ATOMIC_SEQ_CST)
+#define InterlockedExchangeAdd(at, by) __atomic_fetch_add((at), (by), __ATOMIC_SEQ_CST)
+#define InterlockedExchange(at, value) __atomic_exchange_n((at), (value), __ATOMIC_SEQ_CST)
+#define InterlockedCompareExchange(at, value, comparand) __sync_val_compare_and_swap((at), (comparand), (value))
+#define InterlockedAnd(at, bits) __atomic_fetch_and((at), (bits), __ATOMIC_SEQ_CST)
+#define InterlockedOr(at, bits) __atomic_fetch_or((at), (bits), __ATOMIC_SEQ_CST)
+#define InterlockedXor(at, bits) __atomic_fetch_xor((at), (bits), __ATOMIC_SEQ_CST)
+#define InterlockedIncrement64 InterlockedIncrement
+#define InterlockedDecrement64 InterlockedDecrement
+#define InterlockedExchangeAdd64 InterlockedExchangeAdd
+#define InterlockedExchange64 InterlockedExchange
+#define InterlockedCompareExchange64 InterlockedCompareExchange
+#define InterlockedExchangePointer InterlockedExchange
+#define InterlockedCompareExchangePointer InterlockedCompareExchange
+#define MemoryBarrier() __atomic_thread_fence(__ATOMIC_SEQ_CST)
+#define YieldProcessor() ((void)0)
+
+#ifdef __cplusplus
+}
+#endif
+
+#endif

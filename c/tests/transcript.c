@@ -1,0 +1,296 @@
+/* Reads a script on standard input (docs/SCRIPTS.md), has each call made by a thread of its own, one after another, through nt.h, and
+ * writes the transcript. A line that can't be read ends it, with status 2: which fault that is, ntrun alone tells. */
+#include "../nt.h"
+
+#include <pthread.h>
+#include <stdio.h>
+#include <stdlib.h>
+#include <string.h>
+
+enum { MOST_WORDS = 80, LONGEST = 4200 };
+
+static struct nt NT;
+static uint32_t THREADS;
+
+/* The names of objects, in the order in which they were given. */
+static struct {
+    char name[33];
+    uint32_t handle;
+} NAMES[NT_MAXIMUM_HANDLES];
+static size_t NAMED;
+
+/* The line that is carried out. */
+static unsigned long NUMBER;
+static char *WORDS[MOST_WORDS];
+static int COUNT;
+
+static void stop(void)
+{
+    fflush(stdout);
+    exit(2);
+}
+
+static const char *word(int at)
+{
+    if (at >= COUNT)
+        stop();
+    return WORDS[at];
+}
+
+static uint64_t number(int at)
+{
+    return strtoull(word(at), NULL, 10);
+}
+
+static int64_t signed_number(int at)
+{
+    return strtoll(word(at), NULL, 10);
+}
+
+static uint32_t timeout(int at)
+{
+    return strcmp(word(at), "inf") == 0 ? NT_INFINITE : (uint32_t)number(at);
+}
+
+static bool alertable(int at)
+{
+    return strcmp(word(at), "alertable") == 0;
+}
+
+static uint32_t handle(int at)
+{
+    const char *text = word(at);
+    if (text[0] >= '0' && text[0] <= '9')
+        return (uint32_t)number(at);
+    if (text[0] == 't' && text[1] >= '0' && text[1] <= '9' && strtoul(text + 1, NULL, 10) < THREADS)
+        return (uint32_t)strtoul(text + 1, NULL, 10);
+    for (size_t i = 0; i < NAMED; i++)
+        if (strcmp(NAMES[i].name, text) == 0)
+            return NAMES[i].handle;
+    stop();
+    return 0;
+}
+
+/* Whether one of the words after the name is this one. */
+static bool has(const char *flag)
+{
+    for (int at = 3; at < COUNT; at++)
+        if (strcmp(WORDS[at], flag) == 0)
+            return true;
+    return false;
+}
+
+static uint32_t create(uint32_t who, struct nt_reply *reply)
+{
+    const char *kind = word(1);
+    uint32_t refused;
+    if (strcmp(kind, "event") == 0)
+        refused = nt_create_event(&NT, who, (has("manual") ? NT_EVENT_MANUAL_RESET : 0) | (has("set") ? NT_EVENT_INITIAL_SET : 0), reply);
+    else if (strcmp(kind, "semaphore") == 0)
+        refused = nt_create_semaphore(&NT, who, (int32_t)signed_number(3), (int32_t)signed_number(4), reply);
+    else if (strcmp(kind, "dup") == 0)
+        refused = nt_duplicate(&NT, who, handle(3), (uint32_t)number(4), reply);
+    else if (strcmp(kind, "mutex") == 0)
+        refused = nt_create_mutex(&NT, who, has("owned") ? NT_MUTEX_INITIAL_OWNER : 0, reply);
+    else
+        refused = nt_create_timer(&NT, who, has("manual") ? NT_TIMER_MANUAL_RESET : 0, reply);
+    if (refused == 0) {
+        snprintf(NAMES[NAMED].name, sizeof NAMES[NAMED].name, "%s", word(2));
+        NAMES[NAMED++].handle = reply->number;
+    }
+    return refused;
+}
+
+static uint32_t arm(uint32_t who, struct nt_reply *reply)
+{
+    const uint32_t timer = handle(2);
+    const int64_t due = signed_number(3);
+    const int32_t period = (int32_t)signed_number(4);
+    if (COUNT == 5)
+        return nt_set_timer(&NT, who, timer, due, period, reply);
+    return nt_set_timer_apc(&NT, who, timer, due, period, number(5), number(6), reply);
+}
+
+static uint32_t wait_for(uint32_t who, bool all, struct nt_reply *reply)
+{
+    uint32_t handles[MOST_WORDS];
+    size_t count = 0;
+    for (int at = 4; at < COUNT; at++)
+        handles[count++] = handle(at);
+    return nt_wait(&NT, who, handles, count, all, timeout(2), alertable(3), reply);
+}
+
+/* The call of the line. */
+static uint32_t call(uint32_t who, struct nt_reply *reply)
+{
+    const char *keyword = word(1);
+    if (strcmp(keyword, "set") == 0)
+        return nt_set_event(&NT, who, handle(2), reply);
+    if (strcmp(keyword, "reset") == 0)
+        return nt_reset_event(&NT, who, handle(2), reply);
+    if (strcmp(keyword, "pulse") == 0)
+        return nt_pulse_event(&NT, who, handle(2), reply);
+    if (strcmp(keyword, "release") == 0)
+        return nt_release_semaphore(&NT, who, handle(2), (int32_t)signed_number(3), reply);
+    if (strcmp(keyword, "unlock") == 0)
+        return nt_release_mutex(&NT, who, handle(2), reply);
+    if (strcmp(keyword, "arm") == 0)
+        return arm(who, reply);
+    if (strcmp(keyword, "cancel") == 0)
+        return nt_cancel_timer(&NT, who, handle(2), reply);
+    if (strcmp(keyword, "apc") == 0)
+        return nt_queue_apc(&NT, who, handle(2), number(3), number(4), reply);
+    if (strcmp(keyword, "close") == 0)
+        return nt_close_handle(&NT, who, handle(2), reply);
+    if (strcmp(keyword, "any") == 0 || strcmp(keyword, "all") == 0)
+        return wait_for(who, strcmp(keyword, "all") == 0, reply);
+    if (strcmp(keyword, "sleep") == 0)
+        return nt_sleep(&NT, who, timeout(2), alertable(3), reply);
+    if (strcmp(keyword, "swap") == 0)
+        return nt_swap(&NT, who, handle(2), handle(3), timeout(4), alertable(5), reply);
+    if (strcmp(keyword, "next") == 0)
+        return nt_next_apc(&NT, who, reply);
+    if (strcmp(keyword, "exit") == 0)
+        return nt_exit(&NT, who, reply);
+    return create(who, reply);
+}
+
+static void write_reply(const struct nt_reply *reply)
+{
+    switch (reply->kind) {
+    case NT_DONE:
+        printf("%lu: ok\n", NUMBER);
+        break;
+    case NT_HANDLE:
+        printf("%lu: handle %u\n", NUMBER, reply->number);
+        break;
+    case NT_PREVIOUS:
+        printf("%lu: previous %d\n", NUMBER, reply->previous);
+        break;
+    case NT_STATUS:
+        printf("%lu: status 0x%08X\n", NUMBER, reply->number);
+        break;
+    case NT_PENDED:
+        printf("%lu: pending\n", NUMBER);
+        break;
+    case NT_APC:
+        printf("%lu: apc %llu %llu", NUMBER, (unsigned long long)reply->routine, (unsigned long long)reply->arg);
+        if (reply->timed)
+            printf(" at %llu", (unsigned long long)reply->at);
+        printf("\n");
+        break;
+    default:
+        printf("%lu: apc none\n", NUMBER);
+    }
+}
+
+/* Writes what the line answered: its reply or refusal, and then the waits that it ended. */
+static void write_answer(uint32_t refused, const struct nt_reply *reply)
+{
+    struct nt_grant grant;
+    if (refused != 0)
+        printf("%lu: error %u\n", NUMBER, refused);
+    else
+        write_reply(reply);
+    for (size_t index = 0; nt_grant(&NT, index, &grant) == 0; index++)
+        printf("%lu: t%u status 0x%08X\n", NUMBER, grant.thread, grant.status);
+}
+
+static void write_end(void)
+{
+    bool waits, any = false;
+    printf("end: pending");
+    for (uint32_t thread = 0; thread < THREADS; thread++)
+        if (nt_is_waiting(&NT, thread, &waits) == 0 && waits) {
+            printf(" t%u", thread);
+            any = true;
+        }
+    printf(any ? "\n" : " none\n");
+}
+
+/* ---- Threads: each makes the calls of its own lines, when its turn comes. */
+
+static const uint32_t NOBODY = 0xFFFFFFFF, EVERYBODY_ENDS = 0xFFFFFFFE;
+static pthread_mutex_t LOCK = PTHREAD_MUTEX_INITIALIZER;
+static pthread_cond_t TURNS = PTHREAD_COND_INITIALIZER;
+static uint32_t TURN = 0xFFFFFFFF;
+
+static void *make_calls(void *at)
+{
+    const uint32_t who = (uint32_t)(uintptr_t)at;
+    pthread_mutex_lock(&LOCK);
+    while (TURN != EVERYBODY_ENDS) {
+        if (TURN == who) {
+            struct nt_reply reply;
+            const uint32_t refused = call(who, &reply);
+            write_answer(refused, &reply);
+            TURN = NOBODY;
+            pthread_cond_broadcast(&TURNS);
+        }
+        pthread_cond_wait(&TURNS, &LOCK);
+    }
+    pthread_mutex_unlock(&LOCK);
+    return NULL;
+}
+
+/* Gives the turn to this thread, and waits until it has made its call. */
+static void give_turn(uint32_t who)
+{
+    pthread_mutex_lock(&LOCK);
+    TURN = who;
+    pthread_cond_broadcast(&TURNS);
+    while (TURN == who && who != EVERYBODY_ENDS)
+        pthread_cond_wait(&TURNS, &LOCK);
+    pthread_mutex_unlock(&LOCK);
+}
+
+static bool read_line(void)
+{
+    static char line[LONGEST];
+    do {
+        if (fgets(line, sizeof line, stdin) == NULL)
+            return false;
+        NUMBER++;
+        line[strcspn(line, ";\r\n")] = 0;
+        COUNT = 0;
+        for (char *next = strtok(line, " \t"); next != NULL && COUNT < MOST_WORDS; next = strtok(NULL, " \t"))
+            WORDS[COUNT++] = next;
+    } while (COUNT == 0);
+    return true;
+}
+
+static void carry_out(void)
+{
+    const struct nt_reply done = { .kind = NT_DONE };
+    if (strcmp(word(0), "tick") == 0)
+        write_answer(nt_tick(&NT, number(1)), &done);
+    else if (word(0)[0] == 't' && strtoul(word(0) + 1, NULL, 10) < THREADS)
+        give_turn((uint32_t)strtoul(word(0) + 1, NULL, 10));
+    else if (word(0)[0] == 't') { /* no thread has this number, so the first one asks for it */
+        struct nt_reply reply;
+        const uint32_t refused = call((uint32_t)strtoul(word(0) + 1, NULL, 10), &reply);
+        write_answer(refused, &reply);
+    } else
+        stop();
+}
+
+int main(void)
+{
+    pthread_t threads[NT_MAXIMUM_THREADS];
+    NT.room = aligned_alloc(16, (nt_room() + 15) / 16 * 16);
+    if (!read_line() || strcmp(word(0), "threads") != 0 || NT.room == NULL || nt_open(&NT, (uint32_t)number(1)) != 0)
+        stop();
+    THREADS = (uint32_t)number(1);
+    for (uint32_t thread = 0; thread < THREADS; thread++)
+        if (pthread_create(&threads[thread], NULL, make_calls, (void *)(uintptr_t)thread) != 0)
+            abort();
+    while (read_line())
+        carry_out();
+    write_end();
+    give_turn(EVERYBODY_ENDS);
+    for (uint32_t thread = 0; thread < THREADS; thread++)
+        pthread_join(threads[thread], NULL);
+    nt_close(&NT);
+    free(NT.room);
+    return 0;
+}
