@@ -1,5 +1,5 @@
 //! Opens a front for a shape, and makes its rounds.
-ghost use Rattle.std.specs.Prelude.{◌≡◌, ◌+◌, ◌<◌, ◌≤◌, [], vec_len, vec_capacity};
+ghost use Rattle.std.specs.Prelude.{◌≡◌, ◌+◌, ◌<◌, ◌≤◌, [], vec_len, vec_capacity, IfOk};
 
 use crate::alone::alone;
 use crate::moves::{nanos_since, now};
@@ -8,11 +8,11 @@ use crate::parts::{bare_lock, core_alone, core_and_journal};
 use crate::queue::one_of_64;
 use crate::shapes::{Kind, Shape};
 use crate::told::{Fault, Told};
-use crate::workers::{Objects, with_all};
+use crate::workers::{Back, Objects, with_all};
 use nt_core::{Act, Call};
-use nt_front::{Blank, Carried, Entry, Front, History, Named, Pass, open, prepare};
+use nt_front::{Blank, Carried, Entry, Front, Held, History, Named, Pass, open, prepare};
 use nt_status::Handle;
-use std::alloc::Global;
+use std::alloc::{AllocError, Global};
 use std::marker::Brand;
 use std::sync::Wait;
 use std::thread::Threads;
@@ -77,10 +77,37 @@ fn on_passes<N: Named + Send + Sync, R: Threads + Wait + Clock + Sync>(
 ) -> Result<Told, Fault>
     requires { (blank ≡ N.front) × (blank.threads ≡ threads) }
 {
-    let carriers = Vec::with_capacity(alloc, threads as usize)?;
-    let (front, passes) = open::<N>(alloc, blank)?;
-    let carriers = carry(passes, carriers);
-    Ok(on_carriers(rt, alloc, front, carriers, shape, rounds))
+    match Vec::with_capacity(alloc, threads as usize) {
+        Ok(carriers) => on_opened::<N, _>(rt, alloc, blank, carriers, shape, rounds),
+        Err(refused) => {
+            drop(blank);
+            Err(refused.into())
+        }
+    }
+}
+
+/// Opens the front, with room for its passes.
+fn on_opened<N: Named + Send + Sync, R: Threads + Wait + Clock + Sync>(
+    rt: &R,
+    alloc: Global,
+    blank: Blank,
+    carriers: Vec<Carried<Pass<N>>>,
+    shape: Shape,
+    rounds: u32,
+) -> Result<Told, Fault>
+    requires blank { blank ≡ N.front }
+    requires carriers { (carriers.items ≡ []) × (blank.threads ≤ vec_capacity carriers) }
+{
+    match open::<N>(alloc, blank) {
+        Ok((front, passes)) => {
+            let carriers = carry(passes, carriers);
+            Ok(on_carriers(rt, alloc, front, carriers, shape, rounds))
+        }
+        Err(refused) => {
+            drop(carriers);
+            Err(refused.into())
+        }
+    }
 }
 
 fn on_carriers<N: Named + Send + Sync, R: Threads + Wait + Clock + Sync>(
@@ -144,9 +171,10 @@ fn the_plan<R: Threads + Wait + Clock + Sync>(
 ) -> Result<Told, Fault> {
     let threads = shape.threads();
     let began = now(rt);
+    let handles = handles_of(alloc, threads)?;
+    let objects = Objects::new(alloc, workers, rounds);
     let blank = prepare(alloc, threads, shape.entries(rounds))?;
-    let (history, mut told) = planned::<Brand, _>(rt, alloc, blank, threads, workers, rounds)?;
-    told.grants = releases(&history);
+    let mut told = planned::<Brand, _>(rt, alloc, blank, threads, handles.as_slice(), &objects)?;
     told.nanos = nanos_since(rt, began);
     let wanted = u64::from(workers).wrapping_mul(u64::from(rounds));
     if told.grants != wanted {
@@ -173,43 +201,117 @@ fn releases(history: &History) -> u64 {
     releases
 }
 
-fn planned<N: Named + Send + Sync, R: Threads + Wait + Clock + Sync>(
-    rt: &R,
-    alloc: Global,
-    blank: Blank,
-    threads: u32,
-    workers: u32,
-    rounds: u32,
-) -> Result<(History, Told), Fault>
-    requires { (blank ≡ N.front) × (blank.threads ≡ threads) }
-{
-    let count = threads as usize;
-    let carriers = Vec::with_capacity(alloc, count)?;
-    let back = Vec::with_capacity(alloc, count)?;
-    let mut handles = Vec::with_capacity(alloc, count)?;
+/// The handles of the workers, those of the threads but the first.
+fn handles_of(alloc: Global, threads: u32) -> Result<Vec<Handle>, Fault> {
+    let mut handles = Vec::with_capacity(alloc, threads as usize)?;
     for number in 1..threads {
         if handles.push(Handle::new(number)).is_err() {
             return Err(Fault::Memory);
         }
     }
-    let objects = Objects::new(alloc, workers, rounds);
-    let holds = Vec::with_capacity(alloc, count)?;
-    match open::<N>(alloc, blank) {
-        Ok((front, passes)) => {
-            let carriers = carry(passes, carriers);
-            Ok(with_all(
-                rt,
-                front,
-                carriers,
-                back,
-                holds,
-                handles.as_slice(),
-                &objects,
-            ))
-        }
+    Ok(handles)
+}
+
+/// Room for the carriers, for what comes back, and for what the threads hold at the end.
+struct Room<N: Named> {
+    carriers: Vec<Carried<Pass<N>>>,
+    back: Vec<Back<N>>,
+    holds: Vec<Held<N>>,
+}
+
+impl<N: Named> Room<N> {
+    /// Room for so many threads.
+    fn new(alloc: Global, threads: usize) -> Result<Room<N>, AllocError>
+        ensures carriers { IfOk result (λ r. (r.carriers.items ≡ []) × (threads ≤ vec_capacity r.carriers)) }
+        ensures back { IfOk result (λ r. (r.back.items ≡ []) × (threads ≤ vec_capacity r.back)) }
+        ensures holds { IfOk result (λ r. (r.holds.items ≡ []) × (threads ≤ vec_capacity r.holds)) }
+    {
+        let carriers = Vec::with_capacity(alloc, threads)?;
+        let back = Vec::with_capacity(alloc, threads)?;
+        let holds = Vec::with_capacity(alloc, threads)?;
+        Ok(Room {
+            carriers,
+            back,
+            holds,
+        })
+    }
+
+    /// Gives back what was never used.
+    fn let_go(self)
+        requires { self.holds.items ≡ [] }
+    {
+        let Room {
+            carriers: _,
+            back: _,
+            holds,
+        } = self;
+        holds.destroy_empty();
+    }
+}
+
+/// Takes the memory for the way, opens the front, and has its threads do the plan. What is told has the releases of the history as its grants.
+fn planned<N: Named + Send + Sync, R: Threads + Wait + Clock + Sync>(
+    rt: &R,
+    alloc: Global,
+    blank: Blank,
+    threads: u32,
+    handles: &[Handle],
+    objects: &Objects,
+) -> Result<Told, Fault>
+    requires { (blank ≡ N.front) × (blank.threads ≡ threads) }
+{
+    match Room::new(alloc, threads as usize) {
+        Ok(room) => planned_in::<N, _>(rt, alloc, blank, room, handles, objects),
         Err(refused) => {
-            holds.destroy_empty();
+            drop(blank);
             Err(refused.into())
         }
     }
+}
+
+/// The same, with the memory for the way.
+fn planned_in<N: Named + Send + Sync, R: Threads + Wait + Clock + Sync>(
+    rt: &R,
+    alloc: Global,
+    blank: Blank,
+    room: Room<N>,
+    handles: &[Handle],
+    objects: &Objects,
+) -> Result<Told, Fault>
+    requires blank { blank ≡ N.front }
+    requires carriers { (room.carriers.items ≡ []) × (blank.threads ≤ vec_capacity room.carriers) }
+    requires back { (room.back.items ≡ []) × (blank.threads ≤ vec_capacity room.back) }
+    requires holds { (room.holds.items ≡ []) × (blank.threads ≤ vec_capacity room.holds) }
+{
+    match open::<N>(alloc, blank) {
+        Ok((front, passes)) => Ok(planned_on(rt, front, passes, room, handles, objects)),
+        Err(refused) => {
+            room.let_go();
+            Err(refused.into())
+        }
+    }
+}
+
+/// Has the threads of these passes do the plan, and counts the releases in the history.
+fn planned_on<N: Named + Send + Sync, R: Threads + Wait + Clock + Sync>(
+    rt: &R,
+    front: Front<N>,
+    passes: Vec<Pass<N>>,
+    room: Room<N>,
+    handles: &[Handle],
+    objects: &Objects,
+) -> Told
+    requires carriers { (room.carriers.items ≡ []) × (vec_len passes ≤ vec_capacity room.carriers) }
+    requires back { (room.back.items ≡ []) × (vec_len passes ≤ vec_capacity room.back) }
+    requires holds { (room.holds.items ≡ []) × (vec_len passes ≤ vec_capacity room.holds) }
+{
+    let Room {
+        carriers,
+        back,
+        holds,
+    } = room;
+    let carriers = carry(passes, carriers);
+    let (history, mut told) = with_all(rt, front, carriers, back, holds, handles, objects);
+    told.grants = releases(&history);
+    told
 }

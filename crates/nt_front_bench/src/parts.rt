@@ -109,7 +109,9 @@ fn time_both<R: Clock>(
 /// The rounds on the dispatcher alone.
 pub fn core_alone<R: Clock>(rt: &R, alloc: Global, rounds: u32) -> Result<Told, Fault> {
     let mut core = Core::new(alloc, 1)?;
-    time_core(rt, &mut core, alloc, rounds)
+    let told = time_core(rt, &mut core, alloc, rounds);
+    drop(core);
+    told
 }
 
 /// The rounds on the dispatcher, each call written into a journal.
@@ -125,7 +127,9 @@ fn core_beside<R: Clock>(
     journal: &mut Vec<Entry>,
 ) -> Result<Told, Fault> {
     let mut core = Core::new(alloc, 1)?;
-    time_both(rt, &mut core, journal, alloc, rounds)
+    let told = time_both(rt, &mut core, journal, alloc, rounds);
+    drop(core);
+    told
 }
 
 /// A lock is taken and given back.
