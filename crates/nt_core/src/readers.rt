@@ -1,13 +1,31 @@
 //! What whoever drives threads asks of a dispatcher: what is there, and when something is due.
 ghost use Rattle.std.specs.Prelude.{◌≡◌, MatchOption, slice_get};
+ghost use Rattle.std.specs.Option.{option_copied};
+ghost use Rattle.std.specs.FinMap as map;
 ghost use Rattle.nt_core.specs.Dispatcher.{state};
+ghost use Rattle.nt_core.specs.Lawful.{IsSteady};
 ghost use Rattle.nt_core.specs.Naming.{object_named};
 ghost use Rattle.nt_core.specs.Steps.{IsNextMoment, NothingDue};
 
 use crate::dispatcher::Core;
 use crate::handles::{named, object_named};
+use crate::machine::Machine;
 use nt_objects::Object;
-use nt_status::{Handle, Moment};
+use nt_status::{Handle, Moment, ThreadId};
+use nt_waits::Wait;
+
+impl Machine {
+    /// The thread's pending wait.
+    fn waits_for(&self, thread: u32) -> Option<&Wait>
+        requires { IsSteady self.now }
+        ensures { option_copied result ≡ map.get (state self.now).waits thread }
+    {
+        if self.threads <= thread {
+            return None;
+        }
+        self.waits.peek(ThreadId::new(thread as u16))
+    }
+}
 
 impl Core {
     /// How many threads there are, those that have ended among them.
@@ -23,6 +41,14 @@ impl Core {
     {
         let number = object_named(&self.machine.handles, handle);
         named(self.machine.objects.as_slice(), number).copied()
+    }
+
+    /// What the thread's pending wait names, in its order, and its mode; none where no wait of this thread pends. The numbers are those
+    /// of the objects, and not of the handles by which the caller named them. This is no look.
+    pub fn waits_for(&self, thread: u32) -> Option<&Wait>
+        ensures { option_copied result ≡ map.get (state self.now).waits thread }
+    {
+        self.machine.waits_for(thread)
     }
 
     /// The next moment up to `up_to` at which a timer is due or a wait's deadline comes, counted in 100 ns; none where nothing is due

@@ -2,7 +2,7 @@ ghost use Rattle.std.specs.Prelude.{◌≡◌};
 ghost use Rattle.nt_status.specs.Refusal.{number_of};
 ghost use Rattle.nt_status.specs.declared.refusal.Refusal.TheVariants.{Memory};
 
-use std::alloc::AllocError;
+use std::alloc::{AllocError, AllocFailed};
 
 /// Why a call was refused. A refused call changed nothing.
 #[derive(Clone, Copy, PartialEq, Eq, Debug)]
@@ -66,5 +66,14 @@ impl From<AllocError> for Refusal {
 
     fn from(_refused: AllocError) -> Refusal {
         Self::Memory
+    }
+}
+
+impl<T: Drop> From<AllocFailed<T>> for Refusal {
+    ghost from_gives = { λ _ refusal. refusal ≡ Memory };
+
+    /// The value that found no room is dropped.
+    fn from(_refused: AllocFailed<T>) -> Refusal {
+        Self::from(AllocError)
     }
 }

@@ -280,6 +280,13 @@ impl WaitTable {
         Some(tell(wait))
     }
 
+    /// The pending wait of the thread. This is no look.
+    pub fn peek(&self, t: ThreadId) -> Option<&Wait>
+        ensures { option_copied result ≡ wait_of self.now t }
+    {
+        wait_in(self.waits.as_slice(), t)
+    }
+
     /// How many waits are pending.
     pub fn pending(&self) -> usize
         ensures { result ≡ map.len self.now.pending }
