@@ -213,6 +213,11 @@ static void fill(struct shape *s, int which) {
         waits(s, 0, 2, 1, false, UINT32_MAX); then(s, SWAP, 1, 2, 3); then(s, SET, 0, 3, 0); break;
     case 6: s->name = "a mutex to and fro"; s->threads = 2; prepare(s, 0, (struct object){.kind = MUTEX, .owner = 0, .depth = 1});
         waits(s, 1, 2, 1, false, UINT32_MAX); then(s, UNLOCK, 0, 2, 0); waits(s, 0, 2, 1, false, UINT32_MAX); then(s, UNLOCK, 1, 2, 0); break;
+    case 8: s->name = "wait for a free mutex, release it"; s->threads = 1; prepare(s, 0, (struct object){.kind = MUTEX, .owner = -1});
+        waits(s, 0, 1, 1, false, 0); then(s, UNLOCK, 0, 1, 0); break;
+    case 9: s->name = "release a semaphore, wait(0)"; s->threads = 1; prepare(s, 0, (struct object){.kind = SEMAPHORE, .maximum = 1, .owner = -1});
+        then(s, RELEASE, 0, 1, 1); waits(s, 0, 1, 1, false, 0); break;
+    case 10: s->name = "wait(0) for any of 64, none set"; s->threads = 1; events(s, 64); waits(s, 0, 1, 64, false, 0); break;
     }
 }
 
@@ -240,7 +245,7 @@ static void run(struct shape *s, uint64_t rounds, bool timed) {
 
 int main(int argc, char **argv) {
     uint64_t rounds = argc > 1 ? strtoull(argv[1], NULL, 10) : 3;
-    for (int which = 0; which < 8; which++) {
+    for (int which = 0; which < 11; which++) {
         struct shape s;
         fill(&s, which);
         run(&s, rounds, argc > 1);

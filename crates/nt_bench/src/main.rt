@@ -1,5 +1,5 @@
-//! `nt_bench [ROUNDS]` makes the same calls on the core round by round, and prints for each shape how many calls and
-//! grants a round has, and with ROUNDS the picoseconds of a call.
+//! `nt_bench [ROUNDS [SHAPE]]` makes the same calls on the core round by round, and prints for each shape how many calls and
+//! grants a round has, and with ROUNDS the picoseconds of a call. SHAPE, which counts from 0, runs that one alone.
 #![tactic(auto)]
 
 mod shapes;
@@ -16,11 +16,21 @@ use turns::{Counts, Fault, Stage};
 /// How often a round is made where nothing is timed.
 const FEW: u64 = 3;
 
-/// What the command line asks for: so many rounds, timed or not.
+/// What the command line asks for: so many rounds, timed or not, of all shapes or of one.
 #[derive(Clone, Copy)]
 struct Plan {
     rounds: u64,
     is_timed: bool,
+    only: Option<u32>,
+}
+
+impl Plan {
+    fn has(self, shape: u32) -> bool {
+        match self.only {
+            Some(only) => only == shape,
+            None => true,
+        }
+    }
 }
 
 fn plan_of(rt: &HostRuntime) -> Result<Plan, AllocError> {
@@ -30,14 +40,20 @@ fn plan_of(rt: &HostRuntime) -> Result<Plan, AllocError> {
         Some(word) => word.as_str().parse::<u64>().ok(),
         None => None,
     };
+    let only = match words.next() {
+        Some(word) => word.as_str().parse::<u32>().ok(),
+        None => None,
+    };
     Ok(match asked {
         Some(rounds) => Plan {
             rounds,
             is_timed: true,
+            only,
         },
         None => Plan {
             rounds: FEW,
             is_timed: false,
+            only,
         },
     })
 }
@@ -85,7 +101,9 @@ fn run_all(rt: &HostRuntime) -> Result<(), Fault> {
     let plan = plan_of(rt)?;
     let mut out = io::writer(rt);
     for number in 0..SHAPES {
-        run_shape(rt, number, plan, &mut out)?;
+        if plan.has(number) {
+            run_shape(rt, number, plan, &mut out)?;
+        }
     }
     Ok(())
 }

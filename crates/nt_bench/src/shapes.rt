@@ -168,8 +168,39 @@ fn signal_and_wait(alloc: Global) -> Result<Shape, AllocError> {
     shape.then(0, set(3))
 }
 
+/// A free mutex is taken and released by one thread.
+fn free_mutex(alloc: Global) -> Result<Shape, AllocError> {
+    Shape::new(alloc, "wait for a free mutex, release it", 1)
+        .make(0, Act::CreateMutex(0))?
+        .wait(0, 1, 1, false, 0)?
+        .then(0, Act::ReleaseMutex(Handle::new(1)))
+}
+
+/// A semaphore is released by one, and taken at once.
+fn free_semaphore(alloc: Global) -> Result<Shape, AllocError> {
+    let semaphore = Act::CreateSemaphore {
+        initial: 0,
+        maximum: 1,
+    };
+    let release = Act::ReleaseSemaphore {
+        semaphore: Handle::new(1),
+        count: 1,
+    };
+    Shape::new(alloc, "release a semaphore, wait(0)", 1)
+        .make(0, semaphore)?
+        .then(0, release)?
+        .wait(0, 1, 1, false, 0)
+}
+
+/// None of 64 events is set, and the wait for any of them times out at once.
+fn none_of_64(alloc: Global) -> Result<Shape, AllocError> {
+    Shape::new(alloc, "wait(0) for any of 64, none set", 1)
+        .with_events(64)?
+        .wait(0, 1, 64, false, 0)
+}
+
 /// How many shapes there are.
-pub const SHAPES: u32 = 8;
+pub const SHAPES: u32 = 11;
 
 /// The shape of this number, which counts from 0.
 pub fn shape_of(alloc: Global, number: u32) -> Result<Shape, AllocError> {
@@ -181,6 +212,9 @@ pub fn shape_of(alloc: Global, number: u32) -> Result<Shape, AllocError> {
         4 => pulse_255(alloc),
         5 => release_8(alloc),
         6 => mutex(alloc),
-        _ => signal_and_wait(alloc),
+        7 => signal_and_wait(alloc),
+        8 => free_mutex(alloc),
+        9 => free_semaphore(alloc),
+        _ => none_of_64(alloc),
     }
 }
