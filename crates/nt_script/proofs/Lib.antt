@@ -17,3 +17,4 @@ pub mod Spelling
 pub mod Saying
 pub mod OneWay
 pub mod Naming
+pub mod Puts

@@ -11,3 +11,5 @@ pub mod Progress
 pub mod Running
 pub mod Laws
 pub mod Message
+pub mod Written
+pub mod Writing

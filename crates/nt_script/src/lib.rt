@@ -15,6 +15,9 @@ mod tally;
 mod text;
 mod transcript;
 mod words;
+mod writing;
+mod written_calls;
+mod written_words;
 
 pub use fault::{RunFault, ScriptFault};
 pub use laws::{
@@ -24,3 +27,4 @@ pub use laws::{
 pub use nt_devices::{Counted, Sink, Source};
 pub use runner::run;
 pub use summary::Summary;
+pub use writing::{Unwritten, write_line};

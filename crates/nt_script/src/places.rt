@@ -12,7 +12,7 @@ use nt_lines::{are_digits, caller_of, name_of, number_of};
 use nt_status::Handle;
 
 /// The timeout that never comes.
-const INFINITE: u32 = u32::MAX;
+pub(crate) const INFINITE: u32 = u32::MAX;
 
 impl<'a> Words<'a> {
     #[tactic(auto, unfolding(crate::specs::Reading::number_at))]

@@ -36,7 +36,7 @@ pub(crate) struct Session {
 }
 
 /// The handle that a creation answered.
-fn handle_of(answer: &Result<Reply, Refusal>) -> Option<Handle>
+pub(crate) fn handle_of(answer: &Result<Reply, Refusal>) -> Option<Handle>
     ensures { result ≡ handle_of answer.now }
 {
     match answer {

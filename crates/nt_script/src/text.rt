@@ -30,6 +30,17 @@ pub(crate) fn put_signed(out: &mut Vec<u8>, count: i32)
     put(out, buffer.format(count).as_bytes());
 }
 
+/// Puts a number of 64 bits, which may be negative, in decimal, where there is room for the most digits.
+pub(crate) fn put_signed64(out: &mut Vec<u8>, number: i64)
+    requires { vec_len out.old + 20 ≤ vec_capacity out.old }
+    ensures items { out.new.items ≡ out.old.items ++ signed_decimal number }
+    ensures len { vec_len out.new ≤ vec_len out.old + 20 }
+    ensures room { vec_capacity out.old ≤ vec_capacity out.new }
+{
+    let mut buffer = Buffer::new();
+    put(out, buffer.format(number).as_bytes());
+}
+
 fn hex_digit(digit: u8) -> u8
     requires { digit < 16 }
     ensures { result ≡ digit_glyph true digit }

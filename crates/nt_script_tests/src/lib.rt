@@ -9,3 +9,5 @@ mod devices;
 mod refused;
 #[cfg(test)]
 mod scripts;
+#[cfg(test)]
+mod written;
