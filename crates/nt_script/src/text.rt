@@ -31,14 +31,14 @@ pub(crate) fn put_signed(out: &mut Vec<u8>, count: i32)
 }
 
 /// Puts a number of 64 bits, which may be negative, in decimal, where there is room for the most digits.
-pub(crate) fn put_signed64(out: &mut Vec<u8>, number: i64)
+pub(crate) fn put_signed64(out: &mut Vec<u8>, value: i64)
     requires { vec_len out.old + 20 ≤ vec_capacity out.old }
-    ensures items { out.new.items ≡ out.old.items ++ signed_decimal number }
+    ensures items { out.new.items ≡ out.old.items ++ signed_decimal value }
     ensures len { vec_len out.new ≤ vec_len out.old + 20 }
     ensures room { vec_capacity out.old ≤ vec_capacity out.new }
 {
     let mut buffer = Buffer::new();
-    put(out, buffer.format(number).as_bytes());
+    put(out, buffer.format(value).as_bytes());
 }
 
 fn hex_digit(digit: u8) -> u8
