@@ -1,5 +1,5 @@
 //! Whether a call is refused, and by which cause.
-ghost use Rattle.std.specs.Prelude.{◌≡◌, ◌≤◌, ◌<◌, ◌||◌, Bool, map, vec_capacity, Some, IfSome, IfNone};
+ghost use Rattle.std.specs.Prelude.{ℕ, ◌≡◌, ◌==◌, ◌≤◌, ◌<◌, ◌||◌, Bool, true, false, map, vec_capacity, Some, IfSome, IfNone};
 ghost use Rattle.std.specs.List.{list_any};
 ghost use Rattle.nt_status.specs.Flags.{only_known, event_bits, mutex_bits, timer_bits};
 ghost use Rattle.nt_objects.specs.Object.{is_event, is_timer, has_ended};
@@ -81,6 +81,27 @@ fn has_twice(handles: &[Handle]) -> bool
     match handles {
         [] => false,
         [first, rest @ ..] => rest.contains(first) || has_twice(rest),
+    }
+}
+
+/// Whether the numbers rise, the first from above this one: then none of them stands twice.
+fn rises_from(below: Handle, numbers: &[Handle]) -> bool
+    ensures above { result ≡ true → (x : ℕ) → x ≤ below → list_any (λ other. other == x) numbers.now ≡ false }
+    ensures apart { result ≡ true → has_twice numbers.now ≡ false }
+{
+    match numbers {
+        [] => true,
+        [first, rest @ ..] => below < *first && rises_from(*first, rest),
+    }
+}
+
+/// Whether a number stands twice. Where the numbers rise, one look at each tells.
+fn names_twice(numbers: &[Handle]) -> bool
+    ensures { result ≡ has_twice numbers.now }
+{
+    match numbers {
+        [] => false,
+        [first, rest @ ..] => !rises_from(*first, rest) && has_twice(numbers),
     }
 }
 
@@ -319,7 +340,7 @@ fn objects_refusal(
         Some(Refusal::InvalidHandle)
     } else if denied {
         Some(Refusal::AccessDenied)
-    } else if has_twice(numbers) {
+    } else if names_twice(numbers) {
         Some(Refusal::InvalidParameter)
     } else if has_limit(objects, thread, numbers) {
         Some(Refusal::RecursionLimit)
