@@ -36,101 +36,88 @@ enum Said {
     Exit,
 }
 
-/// A thread's call, the handle that it answered, and its line.
+/// A thread, its call, the handle that it answered, and its line.
 #[derive(Clone, Copy)]
-struct Row {
-    who: u16,
-    said: Said,
-    created: Option<u32>,
-    line: Result<&'static [u8], Unwritten>,
-}
-
-const fn row(who: u16, said: Said, created: Option<u32>, line: &'static [u8]) -> Row {
-    Row {
-        who,
-        said,
-        created,
-        line: Ok(line),
-    }
-}
-
-const fn unwritten(said: Said, why: Unwritten) -> Row {
-    Row {
-        who: 0,
-        said,
-        created: None,
-        line: Err(why),
-    }
-}
+struct Row(u16, Said, Option<u32>, Result<&'static [u8], Unwritten>);
 
 const ROWS: &[Row] = &[
-    row(0, Said::Event(0), Some(3), b"t0 event h3\n"),
-    row(1, Said::Event(2), Some(65535), b"t1 event h65535 set\n"),
-    row(0, Said::Event(3), None, b"t0 event refused manual set\n"),
-    row(0, Said::Semaphore(0, 6), Some(4), b"t0 semaphore h4 0 6\n"),
-    row(
+    Row(0, Said::Event(0), Some(3), Ok(b"t0 event h3\n")),
+    Row(1, Said::Event(2), Some(65535), Ok(b"t1 event h65535 set\n")),
+    Row(
+        0,
+        Said::Event(3),
+        None,
+        Ok(b"t0 event refused manual set\n"),
+    ),
+    Row(
+        0,
+        Said::Semaphore(0, 6),
+        Some(4),
+        Ok(b"t0 semaphore h4 0 6\n"),
+    ),
+    Row(
         255,
         Said::Semaphore(-1, i32::MIN),
         None,
-        b"t255 semaphore refused -1 -2147483648\n",
+        Ok(b"t255 semaphore refused -1 -2147483648\n"),
     ),
-    row(0, Said::Mutex(1), Some(5), b"t0 mutex h5 owned\n"),
-    row(0, Said::Mutex(0), Some(6), b"t0 mutex h6\n"),
-    row(0, Said::Timer(1), Some(7), b"t0 timer h7 manual\n"),
-    row(
+    Row(0, Said::Mutex(1), Some(5), Ok(b"t0 mutex h5 owned\n")),
+    Row(0, Said::Mutex(0), Some(6), Ok(b"t0 mutex h6\n")),
+    Row(0, Said::Timer(1), Some(7), Ok(b"t0 timer h7 manual\n")),
+    Row(
         1,
         Said::Duplicate(5, 0x0010_0000),
         Some(8),
-        b"t1 dup h8 5 1048576\n",
+        Ok(b"t1 dup h8 5 1048576\n"),
     ),
-    row(0, Said::Set(3), None, b"t0 set 3\n"),
-    row(0, Said::Reset(3), None, b"t0 reset 3\n"),
-    row(0, Said::Pulse(3), None, b"t0 pulse 3\n"),
-    row(1, Said::Release(4, 1), None, b"t1 release 4 1\n"),
-    row(1, Said::Unlock(5), None, b"t1 unlock 5\n"),
-    row(
+    Row(0, Said::Set(3), None, Ok(b"t0 set 3\n")),
+    Row(0, Said::Reset(3), None, Ok(b"t0 reset 3\n")),
+    Row(0, Said::Pulse(3), None, Ok(b"t0 pulse 3\n")),
+    Row(1, Said::Release(4, 1), None, Ok(b"t1 release 4 1\n")),
+    Row(1, Said::Unlock(5), None, Ok(b"t1 unlock 5\n")),
+    Row(
         0,
         Said::Arm(7, -10_000, 5, None),
         None,
-        b"t0 arm 7 -10000 5\n",
+        Ok(b"t0 arm 7 -10000 5\n"),
     ),
-    row(
+    Row(
         0,
         Said::Arm(7, 20_000, 0, Some((9, u64::MAX))),
         None,
-        b"t0 arm 7 20000 0 9 18446744073709551615\n",
+        Ok(b"t0 arm 7 20000 0 9 18446744073709551615\n"),
     ),
-    row(0, Said::Cancel(7), None, b"t0 cancel 7\n"),
-    row(0, Said::Apc(1, 9, 0), None, b"t0 apc 1 9 0\n"),
-    row(0, Said::Close(u32::MAX), None, b"t0 close 4294967295\n"),
-    row(1, Said::Next, None, b"t1 next\n"),
-    row(
+    Row(0, Said::Cancel(7), None, Ok(b"t0 cancel 7\n")),
+    Row(0, Said::Apc(1, 9, 0), None, Ok(b"t0 apc 1 9 0\n")),
+    Row(0, Said::Close(u32::MAX), None, Ok(b"t0 close 4294967295\n")),
+    Row(1, Said::Next, None, Ok(b"t1 next\n")),
+    Row(
         1,
         Said::Any(INFINITE, false, &[3]),
         None,
-        b"t1 any inf plain 3\n",
+        Ok(b"t1 any inf plain 3\n"),
     ),
-    row(
+    Row(
         0,
         Said::All(0, true, &[1, 2]),
         None,
-        b"t0 all 0 alertable 1 2\n",
+        Ok(b"t0 all 0 alertable 1 2\n"),
     ),
-    row(0, Said::Any(0, false, &[]), None, b"t0 any 0 plain\n"),
-    row(2, Said::Sleep(10, false), None, b"t2 sleep 10 plain\n"),
-    row(
+    Row(0, Said::Any(0, false, &[]), None, Ok(b"t0 any 0 plain\n")),
+    Row(2, Said::Sleep(10, false), None, Ok(b"t2 sleep 10 plain\n")),
+    Row(
         2,
         Said::Swap(3, 4, INFINITE, true),
         None,
-        b"t2 swap 3 4 inf alertable\n",
+        Ok(b"t2 swap 3 4 inf alertable\n"),
     ),
-    row(2, Said::Exit, None, b"t2 exit\n"),
-    unwritten(Said::Event(4), Unwritten::Unsayable),
-    unwritten(Said::Mutex(2), Unwritten::Unsayable),
-    unwritten(Said::Timer(2), Unwritten::Unsayable),
+    Row(2, Said::Exit, None, Ok(b"t2 exit\n")),
+    Row(0, Said::Event(4), None, Err(Unwritten::Unsayable)),
+    Row(0, Said::Mutex(2), None, Err(Unwritten::Unsayable)),
+    Row(0, Said::Timer(2), None, Err(Unwritten::Unsayable)),
     // 14 bytes, and 6 for each handle: 680 of them make 4094 bytes, and one more 4100
-    unwritten(Said::Many(681), Unwritten::TooLong),
-    unwritten(Said::Many(5000), Unwritten::TooLong),
+    Row(0, Said::Many(681), None, Err(Unwritten::TooLong)),
+    Row(0, Said::Many(5000), None, Err(Unwritten::TooLong)),
 ];
 
 /// The call that never pends.
@@ -221,25 +208,31 @@ fn call_of(alloc: Global, said: Said) -> Result<Call, AllocError> {
 }
 
 /// The line of a call, after bytes that stand already.
-fn written(alloc: Global, row: &Row) -> Result<Vec<u8>, Unwritten> {
-    let call = call_of(alloc, row.said)?;
-    let answer = match row.created {
+fn written(
+    alloc: Global,
+    who: u16,
+    said: Said,
+    created: Option<u32>,
+) -> Result<Vec<u8>, Unwritten> {
+    let call = call_of(alloc, said)?;
+    let answer = match created {
         Some(handle) => Ok(Reply::Handle(Handle::new(handle))),
         None => Err(Refusal::HandleLimit),
     };
     let mut out = Vec::new(alloc);
-    write_line(&mut out, ThreadId::new(row.who), &call, &answer)?;
+    write_line(&mut out, ThreadId::new(who), &call, &answer)?;
     Ok(out)
 }
 
 /// The line is the one expected, or there is none for the reason expected.
 fn check(rt: &impl Host, row: &Row) {
-    let found = written(rt.alloc(), row);
+    let Row(who, said, created, line) = *row;
+    let found = written(rt.alloc(), who, said, created);
     if matches!(found, Err(Unwritten::Memory)) {
         return tell_refused(rt, "a line");
     }
-    let is_right = match (&found, row.line) {
-        (Ok(line), Ok(expected)) => line.as_slice() == expected,
+    let is_right = match (&found, line) {
+        (Ok(found), Ok(expected)) => found.as_slice() == expected,
         (Err(why), Err(expected)) => *why == expected,
         _ => false,
     };
@@ -253,16 +246,10 @@ fn calls_are_written_as_lines(rt: HostRuntime) {
     }
 }
 
-/// The longest line that 14 bytes and handles of six make: 680 of them, and a line feed.
+/// 14 bytes, 680 handles of six bytes with their spaces, and a line feed.
 #[test]
-fn a_line_may_have_4096_bytes(rt: HostRuntime) {
-    let row = Row {
-        who: 0,
-        said: Said::Many(680),
-        created: None,
-        line: Ok(b""),
-    };
-    match written(rt.alloc(), &row) {
+fn a_line_of_4094_bytes_is_written(rt: HostRuntime) {
+    match written(rt.alloc(), 0, Said::Many(680), None) {
         Ok(line) => assert!(rt; line.len() == 4095),
         Err(why) => {
             assert!(rt; why == Unwritten::Memory);
