@@ -1,5 +1,6 @@
 ghost use Rattle.std.specs.Prelude.{◌≡◌, ◌<◌, ◌++◌, ◌∷◌, ◌==◌, [], length, slice_set, Some, None, OnOk, OnErr, IfOk, MatchOption};
 
+use crate::marks::Marks;
 use crate::tree::{Alarm, first_below, mend};
 use std::alloc::{AllocError, Global};
 use std::marker::Model;
@@ -63,16 +64,17 @@ impl Alarms {
         Ok(())
     }
 
-    /// Adds a place to these alarms and to others, last, with no alarm; where memory is refused, to neither.
-    pub fn add_with(&mut self, others: &mut Alarms) -> Result<(), AllocError>
+    /// Adds a place to these alarms, with no alarm, and one to the marks, with no mark, both last; where memory is refused, to
+    /// neither.
+    pub fn add_with(&mut self, marks: &mut Marks) -> Result<(), AllocError>
         ensures ok { OnOk result (self.new ≡ self.old ++ None ∷ []) }
-        ensures others { OnOk result (others.new ≡ others.old ++ None ∷ []) }
+        ensures marks { OnOk result (marks.new ≡ marks.old ++ None ∷ []) }
         ensures err { OnErr result (self.new ≡ self.old) }
-        ensures kept { OnErr result (others.new ≡ others.old) }
+        ensures kept { OnErr result (marks.new ≡ marks.old) }
     {
         self.alarms.reserve(1)?;
         self.firsts.reserve(1)?;
-        others.add()?;
+        marks.add()?;
         self.alarms.push_reserved(None);
         self.firsts.push_reserved(None);
         Ok(())

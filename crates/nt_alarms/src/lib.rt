@@ -2,6 +2,8 @@
 #![tactic(auto)]
 
 mod alarms;
+mod marks;
 mod tree;
 
 pub use alarms::Alarms;
+pub use marks::Marks;

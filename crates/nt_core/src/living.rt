@@ -43,7 +43,7 @@ impl Machine {
         requires { object < length self.old.leaving }
         ensures { self.new ≡ record self.old { leaving = slice_set self.old.leaving object (Some 0) } }
     {
-        self.leaving.set(object.get() as usize, 0);
+        self.leaving.set(object.get() as usize);
     }
 
     /// Marks those of the objects that a wait named which has ended that no handle names.
@@ -141,7 +141,7 @@ impl Machine {
         ensures grants { self.new.grants ≡ self.old.grants }
         ensures table { self.new.table ≡ self.old.table }
     {
-        while let Some(place) = self.leaving.first_at(0) {
+        while let Some(place) = self.leaving.first() {
             self.end_marked(Handle::new(place as u32));
         }
     }

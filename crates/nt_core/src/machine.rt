@@ -12,9 +12,9 @@ ghost use Rattle.nt_core.specs.Living.{LivesWhileKept};
 ghost use Rattle.nt_core.specs.Accepts.{IsFresh};
 
 use crate::call::Grant;
-use crate::objects::quiet_alarms;
+use crate::objects::{no_marks, quiet_alarms};
 use crate::serving::{is_ready, try_wait};
-use nt_alarms::Alarms;
+use nt_alarms::{Alarms, Marks};
 use nt_apc::ApcQueues;
 use nt_objects::{HandleTable, Object};
 use nt_owners::ObjectTable;
@@ -43,7 +43,7 @@ pub struct Machine {
     pub(crate) grants: Vec<Grant>,
     pub(crate) alarms: Alarms,
     /// A mark for each object that nothing may keep any more.
-    pub(crate) leaving: Alarms,
+    pub(crate) leaving: Marks,
 }
 
 impl Model for Machine {
@@ -76,7 +76,7 @@ impl Machine {
         let grants = Vec::with_capacity(alloc, count)?;
         let apcs = ApcQueues::new(alloc, count)?;
         let alarms = quiet_alarms(alloc, count)?;
-        let leaving = quiet_alarms(alloc, count)?;
+        let leaving = no_marks(alloc, count)?;
         let handles = HandleTable::new(alloc, count, Object::new_thread().full_access())?;
         let objects = ObjectTable::new(alloc, count)?;
         let waits = WaitTable::new(alloc);

@@ -12,7 +12,7 @@ ghost use Rattle.nt_core.specs.declared.call.Call.{Call};
 ghost use Rattle.nt_core.specs.declared.call.Reply.{Reply};
 
 use crate::machine::Machine;
-use nt_alarms::Alarms;
+use nt_alarms::{Alarms, Marks};
 use nt_objects::{Object, Opened};
 use nt_status::{Access, Handle, ThreadId};
 use std::alloc::{AllocError, Global};
@@ -26,6 +26,17 @@ pub fn quiet_alarms(alloc: Global, count: usize) -> Result<Alarms, AllocError>
         alarms.add()?;
     }
     Ok(alarms)
+}
+
+/// A place for each object's mark, with no mark.
+pub fn no_marks(alloc: Global, count: usize) -> Result<Marks, AllocError>
+    ensures { IfOk result (λ marks. marks ≡ replicate count None) }
+{
+    let mut marks = Marks::new(alloc);
+    for _ in 0..count {
+        marks.add()?;
+    }
+    Ok(marks)
 }
 
 impl Machine {
