@@ -19,6 +19,7 @@ mod script;
 mod semaphores;
 mod sequences;
 mod serving;
+mod slots;
 mod swaps;
 mod ticks;
 mod timers;

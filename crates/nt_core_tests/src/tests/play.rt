@@ -53,6 +53,37 @@ fn create_events(rt: &impl Host, core: &mut Core, who: u32, first: u32, last: u3
     }
 }
 
+/// Creates an object with this handle, asks this of it, and closes it.
+fn close_one(
+    rt: &impl Host,
+    core: &mut Core,
+    who: u32,
+    create: Ask,
+    asks: &[Ask],
+    handle: u32,
+    place: Place,
+) {
+    let created = answer_to(rt, core, who, create, &[]);
+    expect_answer(rt, created, Answer::Handle(handle), place);
+    for ask in asks {
+        let found = answer_to(rt, core, who, *ask, &[handle]);
+        expect_answer(rt, found, Answer::Done, place);
+    }
+    let closed = answer_at_once(rt, core, who, Ask::Close, &[handle]);
+    expect_answer(rt, closed, Answer::Done, place);
+}
+
+/// The next moment up to this one at which something is due.
+fn due(core: &Core, up_to: u64) -> Option<u64> {
+    let moment = core.due(Moment::new(up_to)?)?;
+    Some(moment.get())
+}
+
+fn expect_due(rt: &impl Host, core: &Core, up_to: u64, expected: Option<u64>, place: Place) {
+    let Place { shows, step } = place;
+    assert_eq!(rt; due(core, up_to), expected, "{shows}, step {step}");
+}
+
 /// Lets all moments up to this one pass.
 fn tick_to(core: &mut Core, moment: u64) -> Answer {
     match Moment::new(moment) {
@@ -79,10 +110,16 @@ fn answered(
     }
 }
 
-/// Takes a step that looks at the dispatcher, or that creates events.
+/// Takes a step that looks at the dispatcher, or that creates many objects.
 fn look(rt: &impl Host, core: &mut Core, step: Step, place: Place) {
     match step {
         Step::CreateEvents(who, first, last) => create_events(rt, core, who, first, last, place),
+        Step::CloseEach(who, create, asks, first, last) => {
+            for handle in first..=last {
+                close_one(rt, core, who, create, asks, handle, place);
+            }
+        }
+        Step::Due(up_to, moment) => expect_due(rt, core, up_to, moment, place),
         Step::Tested(count) => expect_number(rt, core.tested(), count, place),
         Step::Now(moment) => expect_number(rt, core.now().get(), moment, place),
         Step::Living(count) => expect_number(rt, core.living() as u64, count, place),

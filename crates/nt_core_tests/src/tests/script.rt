@@ -116,6 +116,9 @@ pub enum Step {
     NoGrowth(u32, Ask, &'static [u32], Answer, &'static [Ended]),
     /// This thread creates events, with the handles from the first of these to the last.
     CreateEvents(u32, u32, u32),
+    /// This thread creates an object so, asks this of it, which is done, and closes it: with the handles from the first of these to
+    /// the last.
+    CloseEach(u32, Ask, &'static [Ask], u32, u32),
     /// All moments up to this one pass. The answer, and the waits that end, in their order. It takes no memory.
     Tick(u64, Answer, &'static [Ended]),
     /// So many pending waits the last call or tick tested.
@@ -124,6 +127,8 @@ pub enum Step {
     Now(u64),
     /// So many objects live.
     Living(u64),
+    /// The next moment up to this one at which something is due.
+    Due(u64, Option<u64>),
     /// Exactly these threads wait.
     Waiting(&'static [u32]),
     /// None of these numbers is that of a thread that waits.
