@@ -194,6 +194,10 @@ static void waits(struct shape *s, uint32_t who, uint32_t first, uint32_t count,
     for (uint32_t i = 0; i < count; i++) a->handles[i] = first + i;
 }
 
+static void begin_each(struct shape *s, uint32_t first, uint32_t end, uint32_t object) {
+    for (uint32_t t = first; t < end; t++) s->prepare[s->prepared++] = (struct turn){.ask = WAIT, .who = t, .count = 1, .ms = UINT32_MAX, .handles = {object}};
+}
+
 static void fill(struct shape *s, int which) {
     *s = (struct shape){.prepare = room(64, sizeof(struct turn)), .round = room(256, sizeof(struct turn))};
     switch (which) {
@@ -218,6 +222,13 @@ static void fill(struct shape *s, int which) {
     case 9: s->name = "release a semaphore, wait(0)"; s->threads = 1; prepare(s, 0, (struct object){.kind = SEMAPHORE, .maximum = 1, .owner = -1});
         then(s, RELEASE, 0, 1, 1); waits(s, 0, 1, 1, false, 0); break;
     case 10: s->name = "wait(0) for any of 64, none set"; s->threads = 1; events(s, 64); waits(s, 0, 1, 64, false, 0); break;
+    case 11: s->name = "63 waits for one event, set in turn"; s->threads = 64; events(s, 1); begin_each(s, 1, 64, 64);
+        for (uint32_t t = 1; t < 64; t++) { then(s, SET, 0, 64, 0); waits(s, t, 64, 1, false, UINT32_MAX); }
+        break;
+    case 12: s->name = "63 waits for one mutex, passed on"; s->threads = 64; prepare(s, 0, (struct object){.kind = MUTEX, .owner = 0, .depth = 1});
+        begin_each(s, 1, 64, 64);
+        for (uint32_t t = 0; t < 64; t++) { then(s, UNLOCK, t, 64, 0); waits(s, t, 64, 1, false, UINT32_MAX); }
+        break;
     }
 }
 
@@ -245,7 +256,8 @@ static void run(struct shape *s, uint64_t rounds, bool timed) {
 
 int main(int argc, char **argv) {
     uint64_t rounds = argc > 1 ? strtoull(argv[1], NULL, 10) : 3;
-    for (int which = 0; which < 11; which++) {
+    for (int which = 0; which < 13; which++) {
+        if (argc > 2 && which != atoi(argv[2])) continue;
         struct shape s;
         fill(&s, which);
         run(&s, rounds, argc > 1);

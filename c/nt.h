@@ -67,6 +67,15 @@ struct nt_grant {
     uint32_t status;
 };
 
+/* What a pending wait waits for. */
+struct nt_pending_wait {
+    size_t count;      /* how many objects it names: none for a sleep */
+    bool all;          /* for all of them, and not for any */
+    bool alertable;
+    bool timed;        /* it times out, at the moment `deadline`; else that is 0 */
+    uint64_t deadline;
+};
+
 /* Statuses of waits; to the first two the index of the object is added. */
 #define NT_WAIT_OBJECT_0 0x00000000u
 #define NT_WAIT_ABANDONED_0 0x00000080u
@@ -90,7 +99,7 @@ struct nt_grant {
 #define NT_ERROR_NOT_ENOUGH_MEMORY 8u   /* the call had to grow, and memory was refused */
 #define NT_ERROR_GEN_FAILURE 31u        /* the thread has ended */
 #define NT_ERROR_INVALID_PARAMETER 87u  /* an argument that no state allows */
-#define NT_ERROR_NO_MORE_ITEMS 259u     /* past the last grant; nothing is due by then */
+#define NT_ERROR_NO_MORE_ITEMS 259u     /* past the last grant or object; nothing is due by then; no wait pends */
 #define NT_ERROR_NOT_OWNER 288u         /* the mutex is not the caller's */
 #define NT_ERROR_TOO_MANY_POSTS 298u    /* the semaphore's maximum would be passed */
 #define NT_ERROR_THREAD_WAITING 0x20000001u  /* the caller waits */
@@ -191,6 +200,12 @@ uint32_t nt_tested(struct nt *nt, uint64_t *waits);
 
 /* Whether the wait of this thread pends. */
 uint32_t nt_is_waiting(struct nt *nt, uint32_t thread, bool *waits);
+
+/* The pending wait of this thread, and the object at this index among those that it names. Where none pends, NT_ERROR_NO_MORE_ITEMS.
+ * Objects have numbers of their own, by which handles no more than name them: thread t has the number t, and what is created has the
+ * next number each time, as handles do where there are no duplicates. */
+uint32_t nt_waits_for(struct nt *nt, uint32_t thread, struct nt_pending_wait *wait);
+uint32_t nt_waited_object(struct nt *nt, uint32_t thread, size_t index, uint32_t *object);
 
 #ifdef __cplusplus
 }

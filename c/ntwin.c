@@ -1,25 +1,36 @@
 /* Win32's names over the proved dispatcher (nt.h).
  *
- * One lock is held round each call of the dispatcher, and no longer. Each thread has a seat: its number in the dispatcher, and a
- * condition variable to sleep on while its wait pends. Who makes a call notes under the lock whose waits it ended, gives the lock back,
- * and signals those threads alone. All stands in one file, so that no inner name meets one of a program's. */
+ * One lock is held round each call of the dispatcher, and no longer. Each thread has a seat: its number in the dispatcher, and a word
+ * that tells it, without the lock, whether its wait has ended. It looks at the word for a moment, and then sleeps on it. Who makes a call
+ * writes under the lock into the words of those whose waits it ended, gives the lock back, and wakes those of them that sleep. One of the
+ * threads whose waits pend keeps the time. All stands in one file, so that no inner name meets one of a program's. */
 #define _GNU_SOURCE
 #include "ntwin.h"
 #include "nt.h"
 
 #include <errno.h>
+#include <linux/futex.h>
 #include <pthread.h>
 #include <sched.h>
-#include <signal.h>
+#include <stdatomic.h>
 #include <stdlib.h>
+#include <sys/syscall.h>
 #include <time.h>
 #include <unistd.h>
+
+#if defined __has_include
+#if __has_include(<sys/single_threaded.h>)
+#include <sys/single_threaded.h>
+#define TELLS_WHETHER_ALONE
+#endif
+#endif
 
 #define CURRENT_PROCESS ((HANDLE)(intptr_t)-1)
 #define CURRENT_THREAD ((HANDLE)(intptr_t)-2)
 
 enum {
     NO_HANDLE = 0xFFFFFF, /* a number that no handle has */
+    MOST_LOOKS = 40,      /* at a word, before sleeping: as long as falling asleep and waking take */
     MOMENTS_PER_SECOND = 10000000,
     NANOSECONDS_PER_MOMENT = 100
 };
@@ -27,28 +38,36 @@ enum {
 /* From 1601 to 1970, in units of 100 ns. */
 static const int64_t UNIX_EPOCH = INT64_C(116444736000000000);
 
+/* How the wait of a thread stands. */
+enum {
+    IS_AWAKE,   /* the thread looks at its word */
+    IS_ASLEEP,  /* it sleeps on it */
+    IS_CALLED,  /* it is to keep the time */
+    IS_GRANTED
+};
+
 /* A thread's place in the dispatcher. */
 struct seat {
-    pthread_cond_t granted;
-    bool is_granted;        /* under the lock: its wait has ended, */
-    uint32_t status;        /* with this status */
+    _Atomic uint32_t word;   /* how its wait stands: written by others under the lock */
+    uint32_t status;         /* with which status it was granted */
+    uint32_t number;         /* the thread's, which is also the seat's place among all */
+    struct nt_reply reply;   /* what its last call was answered */
+    struct nt_grant grant;   /* the last wait of those that its last call ended */
+    struct seat *earlier;    /* under the lock: whose wait began to pend before its own and still pends, */
+    struct seat *later;      /* and whose began after it */
     LPTHREAD_START_ROUTINE start;
     LPVOID parameter;
-    pthread_t thread;       /* where CreateThread made it */
-    struct seat *left_next; /* under the lock: who left before it and is not joined */
+    pthread_t thread;        /* where CreateThread made it */
+    struct seat *left_next;  /* under the lock: who left before it and is not joined */
+    uint32_t wakes;          /* how many threads its call has told something while they slept: it wakes them, */
+    uint32_t woken[NT_MAXIMUM_THREADS]; /* once the lock is given back */
 };
 
-/* The threads whose waits a call ended, to be signalled once the lock is given back. */
-struct granted {
-    uint32_t count;
-    uint32_t threads[NT_MAXIMUM_THREADS];
-};
-
-static pthread_mutex_t LOCK = PTHREAD_MUTEX_INITIALIZER;
 static pthread_once_t OPENED = PTHREAD_ONCE_INIT;
 static uint32_t OPENING_REFUSED;
 static pthread_key_t LEAVING;
 static pid_t PROCESS;
+static uint32_t LOOKS; /* how often a thread looks at a word before it sleeps on it */
 static uint64_t START; /* the dispatcher's moment 0, on the monotonic clock */
 
 /* Under the lock. */
@@ -60,6 +79,79 @@ static uint32_t HANDED; /* the first number that was not handed out yet */
 
 static _Thread_local struct seat *SEAT;
 static _Thread_local DWORD LAST_ERROR;
+
+/* ---- Words that threads sleep on. */
+
+/* Sleeps while the word is `seen`, to this time of the monotonic clock at the longest where one is given. It may return sooner. */
+static void sleep_on(_Atomic uint32_t *word, uint32_t seen, const struct timespec *until)
+{
+    const int error = errno;
+    syscall(SYS_futex, word, FUTEX_WAIT_BITSET_PRIVATE, seen, until, NULL, FUTEX_BITSET_MATCH_ANY);
+    errno = error;
+}
+
+/* Wakes one thread that sleeps on the word. */
+static void wake_one(_Atomic uint32_t *word)
+{
+    const int error = errno;
+    syscall(SYS_futex, word, FUTEX_WAKE_PRIVATE, 1, NULL, NULL, 0);
+    errno = error;
+}
+
+/* Between two looks at a word. */
+static inline void rest(void)
+{
+#if defined __x86_64__ || defined __i386__
+    __builtin_ia32_pause();
+#endif
+}
+
+/* ---- The lock: a word that is FREE, TAKEN, or taken and WANTED by threads that may sleep on it. */
+
+enum { FREE, TAKEN, WANTED };
+static _Atomic uint32_t LOCK;
+
+/* Whether the process has one thread, so that what it does with the lock need not be one step. */
+static inline bool is_alone(void)
+{
+#ifdef TELLS_WHETHER_ALONE
+    return __libc_single_threaded;
+#else
+    return false;
+#endif
+}
+
+/* Takes the lock where it was not free at once: looks at it for a while, and then sleeps on it. */
+__attribute__((noinline, cold)) static void wait_for_lock(void)
+{
+    for (uint32_t i = 0; i < LOOKS; i++) {
+        uint32_t seen = atomic_load_explicit(&LOCK, memory_order_relaxed);
+        if (seen == WANTED)
+            break;
+        if (seen == FREE && atomic_compare_exchange_strong_explicit(&LOCK, &seen, TAKEN, memory_order_acquire, memory_order_relaxed))
+            return;
+        rest();
+    }
+    while (atomic_exchange_explicit(&LOCK, WANTED, memory_order_acquire) != FREE)
+        sleep_on(&LOCK, WANTED, NULL);
+}
+
+static inline void take_lock(void)
+{
+    uint32_t seen = FREE;
+    if (is_alone() && atomic_load_explicit(&LOCK, memory_order_relaxed) == FREE)
+        atomic_store_explicit(&LOCK, TAKEN, memory_order_relaxed);
+    else if (!atomic_compare_exchange_strong_explicit(&LOCK, &seen, TAKEN, memory_order_acquire, memory_order_relaxed))
+        wait_for_lock();
+}
+
+static inline void give_lock(void)
+{
+    if (is_alone())
+        atomic_store_explicit(&LOCK, FREE, memory_order_relaxed);
+    else if (atomic_exchange_explicit(&LOCK, FREE, memory_order_release) == WANTED)
+        wake_one(&LOCK);
+}
 
 /* ---- Errors. */
 
@@ -76,7 +168,7 @@ static DWORD error_of(uint32_t refused)
 }
 
 /* Sets the last error, and answers FALSE. */
-static BOOL fail(uint32_t refused)
+__attribute__((noinline, cold)) static BOOL fail(uint32_t refused)
 {
     LAST_ERROR = error_of(refused);
     return FALSE;
@@ -152,143 +244,240 @@ void GetSystemTimeAsFileTime(LPFILETIME now)
     now->dwHighDateTime = (DWORD)(time >> 32);
 }
 
-/* ---- Grants. */
+/* ---- Those whose waits pend. One of them, the keeper, keeps the time for all: it sleeps no longer than to the next moment that is due.
+ * While no wait pends nobody can see that something is overdue, but by a call, and so the next call lets the time pass first. */
 
-/* Notes, under the lock, whose waits the last call or tick ended. No thread's wait ends twice before the lock is given back. */
-static void note(struct granted *granted)
+#define NEVER (NT_GREATEST_MOMENT + 1)
+
+/* Under the lock. */
+static struct seat *SLEEPERS;    /* those whose waits pend, the last to begin first */
+static struct seat *KEEPER;      /* the one of them that keeps the time, */
+static uint64_t KEPT_TO = NEVER; /* to this moment; 0 while it is awake, and NEVER where nobody does */
+static bool TIMED;               /* a call has named a time since nothing was due */
+
+/* The next moment at which something is due, under the lock, or NEVER. */
+static uint64_t next_due(void)
 {
-    struct nt_grant grant;
-    for (size_t index = 0; nt_grant(&DISPATCHER, index, &grant) == 0; index++) {
-        SEATS[grant.thread].status = grant.status;
-        SEATS[grant.thread].is_granted = true;
-        granted->threads[granted->count++] = grant.thread;
+    uint64_t due;
+    if (TIMED && nt_due(&DISPATCHER, NT_GREATEST_MOMENT, &due) == 0)
+        return due;
+    TIMED = false;
+    return NEVER;
+}
+
+/* Tells a thread, under the lock, how its wait stands. The caller wakes it later, where it sleeps. */
+static void tell(struct seat *caller, struct seat *seat, uint32_t how)
+{
+    if (atomic_exchange_explicit(&seat->word, how, memory_order_release) == IS_ASLEEP)
+        caller->woken[caller->wakes++] = seat->number;
+}
+
+/* The caller's wait pends, under the lock. It keeps the time where nobody does, or where something is due before the keeper wakes. */
+static void fall_asleep(struct seat *seat)
+{
+    atomic_store_explicit(&seat->word, IS_AWAKE, memory_order_relaxed);
+    seat->earlier = SLEEPERS;
+    seat->later = NULL;
+    if (SLEEPERS != NULL)
+        SLEEPERS->later = seat;
+    SLEEPERS = seat;
+    if (TIMED && next_due() < KEPT_TO) {
+        KEEPER = seat;
+        KEPT_TO = 0;
     }
 }
 
-/* Gives the lock back, and signals those threads. */
-static void unlock_and_wake(const struct granted *granted)
+/* Nobody keeps the time, under the lock. */
+static void leave_time(void)
 {
-    pthread_mutex_unlock(&LOCK);
-    for (uint32_t i = 0; i < granted->count; i++)
-        pthread_cond_signal(&SEATS[granted->threads[i]].granted);
+    KEEPER = NULL;
+    KEPT_TO = NEVER;
 }
 
-/* Lets time pass up to now. */
-static void pass_time(struct granted *granted)
+/* The thread's wait has ended, under the lock, with this status. */
+static void wake_up(struct seat *caller, struct seat *seat, uint32_t status)
+{
+    if (seat->earlier != NULL)
+        seat->earlier->later = seat->later;
+    if (seat->later != NULL)
+        seat->later->earlier = seat->earlier;
+    else
+        SLEEPERS = seat->earlier;
+    if (KEEPER == seat)
+        leave_time();
+    seat->status = status;
+    tell(caller, seat, IS_GRANTED);
+}
+
+/* Has somebody keep the time, under the lock, where waits pend and something is due that the keeper would miss, or there is none. */
+__attribute__((noinline)) static void have_time_kept(struct seat *caller)
+{
+    if (!TIMED || SLEEPERS == NULL || next_due() >= KEPT_TO)
+        return;
+    if (KEEPER == NULL)
+        KEEPER = SLEEPERS;
+    KEPT_TO = 0;
+    tell(caller, KEEPER, IS_CALLED);
+}
+
+/* The same as `note`, where there is one: it is in the caller's seat. */
+__attribute__((noinline)) static void note_all(struct seat *caller)
+{
+    size_t index = 0;
+    do
+        wake_up(caller, &SEATS[caller->grant.thread], caller->grant.status);
+    while (nt_grant(&DISPATCHER, ++index, &caller->grant) == 0);
+}
+
+/* Tells, under the lock, those whose waits the last call or tick ended. No thread's wait ends twice before the lock is given back. */
+static inline void note(struct seat *caller)
+{
+    if (nt_grant(&DISPATCHER, 0, &caller->grant) == 0)
+        note_all(caller);
+}
+
+/* Nobody keeps the time, so no wait pends or nothing is due: what is overdue happens now, and ends no wait. */
+__attribute__((noinline)) static void catch_up(void)
+{
+    if (next_due() <= present())
+        nt_tick(&DISPATCHER, present());
+}
+
+/* Takes the lock. What is overdue happens first. */
+static inline void lock(void)
+{
+    take_lock();
+    if (TIMED && KEEPER == NULL)
+        catch_up();
+}
+
+/* Wakes the threads that the caller's call told something while they slept. */
+__attribute__((noinline)) static void wake_all(struct seat *caller)
+{
+    const uint32_t wakes = caller->wakes;
+    caller->wakes = 0;
+    for (uint32_t i = 0; i < wakes; i++)
+        wake_one(&SEATS[caller->woken[i]].word);
+}
+
+/* Gives the lock back, and wakes whom the call told something. */
+static inline void unlock_and_wake(struct seat *caller)
+{
+    if (TIMED && KEEPER == NULL)
+        have_time_kept(caller);
+    give_lock();
+    if (caller->wakes > 0)
+        wake_all(caller);
+}
+
+/* Lets time pass up to now, under the lock. */
+static void pass_time(struct seat *caller)
 {
     nt_tick(&DISPATCHER, present());
-    note(granted);
+    note(caller);
 }
 
-/* ---- The clock: a thread that sleeps to the next moment at which something is due, once a call has named a time. */
-
-static const uint64_t NEVER = NT_GREATEST_MOMENT + 1;
-static pthread_t CLOCK;
-static pthread_cond_t CLOCK_CALLED;
-static bool CLOCK_RUNS, CLOCK_ENDS; /* under the lock */
-static uint64_t CLOCK_SLEEPS_TO;    /* under the lock; 0 while it is awake */
-
-/* Sleeps, with the lock given back, to the next moment that is due, or until it is called. */
-static void sleep_to_due(void)
+/* The moment to which the caller sleeps, under the lock, where it keeps the time, and else NEVER. It is the keeper no more where nothing
+ * is due. */
+static uint64_t time_to_keep(const struct seat *seat)
 {
-    uint64_t due;
-    if (nt_due(&DISPATCHER, NT_GREATEST_MOMENT, &due) == 0) {
-        const uint64_t time = START + due;
-        const struct timespec until = {
-            .tv_sec = (time_t)(time / MOMENTS_PER_SECOND),
-            .tv_nsec = (long)(time % MOMENTS_PER_SECOND) * NANOSECONDS_PER_MOMENT,
-        };
-        CLOCK_SLEEPS_TO = due;
-        pthread_cond_timedwait(&CLOCK_CALLED, &LOCK, &until);
-    } else {
-        CLOCK_SLEEPS_TO = NEVER;
-        pthread_cond_wait(&CLOCK_CALLED, &LOCK);
+    if (KEEPER != seat)
+        return NEVER;
+    KEPT_TO = next_due();
+    if (KEPT_TO == NEVER)
+        leave_time();
+    return KEPT_TO;
+}
+
+/* Looks at the caller's word so many times, and then sleeps to this moment at the longest, until the caller is told something. Answers
+ * whether its wait was granted. */
+static bool sleep_to(struct seat *seat, uint64_t moment, uint32_t looks)
+{
+    const uint64_t time = START + moment;
+    const struct timespec until = {
+        .tv_sec = (time_t)(time / MOMENTS_PER_SECOND),
+        .tv_nsec = (long)(time % MOMENTS_PER_SECOND) * NANOSECONDS_PER_MOMENT,
+    };
+    uint32_t seen;
+    for (uint32_t i = 0; i < looks; i++) {
+        seen = atomic_load_explicit(&seat->word, memory_order_acquire);
+        if (seen != IS_AWAKE)
+            return seen == IS_GRANTED;
+        rest();
     }
-    CLOCK_SLEEPS_TO = 0;
+    seen = IS_AWAKE;
+    if (atomic_compare_exchange_strong_explicit(&seat->word, &seen, IS_ASLEEP, memory_order_acquire, memory_order_acquire))
+        do {
+            if (moment != NEVER && present() >= moment)
+                return false;
+            sleep_on(&seat->word, IS_ASLEEP, moment == NEVER ? NULL : &until);
+            seen = atomic_load_explicit(&seat->word, memory_order_acquire);
+        } while (seen == IS_ASLEEP);
+    return seen == IS_GRANTED;
 }
 
-static void *run_clock(void *unused)
+/* The caller has slept to its moment or was called: it lets the time pass where it keeps it. Answers to which moment it sleeps on. */
+static uint64_t keep_time(struct seat *seat)
 {
-    (void)unused;
-    pthread_mutex_lock(&LOCK);
-    while (!CLOCK_ENDS) {
-        struct granted granted;
-        granted.count = 0;
-        pass_time(&granted);
-        if (granted.count > 0) {
-            unlock_and_wake(&granted);
-            pthread_mutex_lock(&LOCK);
-        } else {
-            sleep_to_due();
-        }
+    uint64_t moment = NEVER;
+    take_lock();
+    if (KEEPER == seat) {
+        KEPT_TO = 0;
+        pass_time(seat);
     }
-    pthread_mutex_unlock(&LOCK);
-    return NULL;
+    if (atomic_load_explicit(&seat->word, memory_order_relaxed) != IS_GRANTED) {
+        atomic_store_explicit(&seat->word, IS_AWAKE, memory_order_relaxed);
+        moment = time_to_keep(seat);
+    }
+    unlock_and_wake(seat);
+    return moment;
 }
 
-/* Makes the clock, under the lock, where there is none; it takes no signals. Answers whether there is one. */
-static bool have_clock(void)
+/* Gives the lock back, sleeps until the caller's pending wait is granted, and answers its status. */
+__attribute__((noinline)) static DWORD sleep_until_granted(struct seat *seat)
 {
-    sigset_t all, before;
-    if (CLOCK_RUNS)
-        return true;
-    sigfillset(&all);
-    pthread_sigmask(SIG_SETMASK, &all, &before);
-    CLOCK_RUNS = pthread_create(&CLOCK, NULL, run_clock, NULL) == 0;
-    pthread_sigmask(SIG_SETMASK, &before, NULL);
-    return CLOCK_RUNS;
-}
-
-/* Calls the clock, under the lock, where something is due before the moment to which it sleeps. */
-static void call_clock(void)
-{
-    uint64_t due;
-    if (CLOCK_SLEEPS_TO > 0 && nt_due(&DISPATCHER, CLOCK_SLEEPS_TO - 1, &due) == 0)
-        pthread_cond_signal(&CLOCK_CALLED);
+    fall_asleep(seat);
+    /* Where more waits pend, the processor may be wanted by who ends this one. */
+    uint32_t looks = seat->earlier == NULL ? LOOKS : 0;
+    uint64_t moment = time_to_keep(seat);
+    unlock_and_wake(seat);
+    while (!sleep_to(seat, moment, looks)) {
+        moment = keep_time(seat);
+        looks = 0;
+    }
+    return seat->status;
 }
 
 /* ---- Threads come and go. */
-
-static uint32_t index_of(const struct seat *seat)
-{
-    return (uint32_t)(seat - SEATS);
-}
 
 /* Takes a seat, under the lock; null where none is left. */
 static struct seat *take_seat(void)
 {
     if (SEATED == NT_MAXIMUM_THREADS)
         return NULL;
-    struct seat *seat = &SEATS[SEATED++];
-    pthread_cond_init(&seat->granted, NULL);
+    struct seat *seat = &SEATS[SEATED];
+    seat->number = SEATED++;
     return seat;
 }
 
 /* The thread ends, for the dispatcher: its mutexes are abandoned, and who waits for it is granted. */
 static void leave(void *unused)
 {
-    struct granted granted;
-    struct nt_reply reply;
     (void)unused;
-    granted.count = 0;
-    pthread_mutex_lock(&LOCK);
-    if (nt_exit(&DISPATCHER, index_of(SEAT), &reply) == 0) {
-        note(&granted);
+    lock();
+    if (nt_exit(&DISPATCHER, SEAT->number, &SEAT->reply) == 0) {
+        note(SEAT);
         if (SEAT->start != NULL) {
             SEAT->left_next = LEFT;
             LEFT = SEAT;
         }
     }
-    unlock_and_wake(&granted);
+    unlock_and_wake(SEAT);
 }
 
 static void open_dispatcher(void)
 {
-    pthread_condattr_t monotonic_clock;
-    pthread_condattr_init(&monotonic_clock);
-    pthread_condattr_setclock(&monotonic_clock, CLOCK_MONOTONIC);
-    pthread_cond_init(&CLOCK_CALLED, &monotonic_clock);
-    pthread_condattr_destroy(&monotonic_clock);
+    LOOKS = sysconf(_SC_NPROCESSORS_ONLN) > 1 ? MOST_LOOKS : 0;
     PROCESS = getpid();
     START = monotonic();
     DISPATCHER.room = aligned_alloc(16, (nt_room() + 15) / 16 * 16);
@@ -298,11 +487,9 @@ static void open_dispatcher(void)
         OPENING_REFUSED = nt_open(&DISPATCHER, NT_MAXIMUM_THREADS);
 }
 
-/* The caller's seat, which it takes at its first call. Null, with the last error set, where it can't have one. */
-static struct seat *join(void)
+/* The caller's seat, which it takes now. Null, with the last error set, where it can't have one. */
+__attribute__((noinline, cold)) static struct seat *join_first(void)
 {
-    if (SEAT != NULL)
-        return SEAT;
     pthread_once(&OPENED, open_dispatcher);
     if (OPENING_REFUSED != 0) {
         fail(OPENING_REFUSED);
@@ -313,9 +500,9 @@ static struct seat *join(void)
         fail(NT_ERROR_NOT_ENOUGH_MEMORY);
         return NULL;
     }
-    pthread_mutex_lock(&LOCK);
+    take_lock();
     SEAT = take_seat();
-    pthread_mutex_unlock(&LOCK);
+    give_lock();
     if (SEAT == NULL) {
         pthread_setspecific(LEAVING, NULL);
         fail(ERROR_NO_SYSTEM_RESOURCES);
@@ -323,40 +510,32 @@ static struct seat *join(void)
     return SEAT;
 }
 
+/* The caller's seat, which it takes at its first call. Null, with the last error set, where it can't have one. */
+static inline struct seat *join(void)
+{
+    struct seat *seat = SEAT;
+    return seat != NULL ? seat : join_first();
+}
+
 /* Joins the threads of CreateThread that have left. */
 static void join_those_who_left(void)
 {
-    pthread_mutex_lock(&LOCK);
+    take_lock();
     while (LEFT != NULL) {
         struct seat *seat = LEFT;
         LEFT = seat->left_next;
-        pthread_mutex_unlock(&LOCK);
+        give_lock();
         pthread_join(seat->thread, NULL);
-        pthread_mutex_lock(&LOCK);
+        take_lock();
     }
-    pthread_mutex_unlock(&LOCK);
-}
-
-static void end_clock(void)
-{
-    pthread_mutex_lock(&LOCK);
-    const bool runs = CLOCK_RUNS;
-    CLOCK_ENDS = true;
-    CLOCK_RUNS = false;
-    if (runs)
-        pthread_cond_signal(&CLOCK_CALLED);
-    pthread_mutex_unlock(&LOCK);
-    if (runs)
-        pthread_join(CLOCK, NULL);
+    give_lock();
 }
 
 /* At the end of the process, though not in a child that was forked. Threads that still run may still call. */
 __attribute__((destructor)) static void end_process(void)
 {
-    if (PROCESS != getpid())
-        return;
-    end_clock();
-    join_those_who_left();
+    if (PROCESS == getpid())
+        join_those_who_left();
 }
 
 static void *run_thread(void *at)
@@ -406,11 +585,11 @@ static uint32_t close_number(uint32_t caller, uint32_t number)
 }
 
 /* The number of a handle, under the lock; NO_HANDLE where it was never handed out. */
-static uint32_t number_of(const struct seat *caller, HANDLE handle)
+static inline uint32_t number_of(const struct seat *caller, HANDLE handle)
 {
     const uintptr_t value = (uintptr_t)handle;
     if (handle == CURRENT_THREAD)
-        return index_of(caller);
+        return caller->number;
     if (value % 4 != 0 || value / 4 <= NT_MAXIMUM_THREADS || value / 4 > HANDED)
         return NO_HANDLE;
     return (uint32_t)(value / 4 - 1);
@@ -419,25 +598,23 @@ static uint32_t number_of(const struct seat *caller, HANDLE handle)
 /* ---- A call: the caller joins and takes the lock, makes the call, and gives the lock back. */
 
 /* The caller's seat, with the lock taken; null, with the last error set, where it has none. */
-static struct seat *begin(void)
+static inline struct seat *begin(void)
 {
     struct seat *seat = join();
     if (seat != NULL)
-        pthread_mutex_lock(&LOCK);
+        lock();
     return seat;
 }
 
 /* Gives the lock back, wakes whom the call granted, and answers whether it was accepted. */
-static BOOL finish(uint32_t refused)
+static inline BOOL finish(struct seat *seat, uint32_t refused)
 {
     if (refused != 0) {
-        pthread_mutex_unlock(&LOCK);
+        give_lock();
         return fail(refused);
     }
-    struct granted granted;
-    granted.count = 0;
-    note(&granted);
-    unlock_and_wake(&granted);
+    note(seat);
+    unlock_and_wake(seat);
     return TRUE;
 }
 
@@ -447,11 +624,11 @@ static HANDLE finish_creation(struct seat *seat, uint32_t refused, struct nt_rep
     const DWORD rights = (access & (MAXIMUM_ALLOWED | GENERIC_ALL)) != 0 ? full : access & full;
     if (refused == 0 && rights != full) {
         const uint32_t first = reply->number;
-        refused = nt_duplicate(&DISPATCHER, index_of(seat), first, rights, reply);
-        close_number(index_of(seat), first);
+        refused = nt_duplicate(&DISPATCHER, seat->number, first, rights, reply);
+        close_number(seat->number, first);
     }
     hand_out(refused, reply);
-    if (!finish(refused))
+    if (!finish(seat, refused))
         return NULL;
     LAST_ERROR = ERROR_SUCCESS;
     return handle_of(reply->number);
@@ -469,7 +646,7 @@ static HANDLE create_event(const void *name, DWORD flags, DWORD access)
     struct seat *seat = begin();
     if (seat == NULL)
         return NULL;
-    const uint32_t refused = nt_create_event(&DISPATCHER, index_of(seat), flags, &reply);
+    const uint32_t refused = nt_create_event(&DISPATCHER, seat->number, flags, &reply);
     return finish_creation(seat, refused, &reply, SYNCHRONIZE | EVENT_MODIFY_STATE, access);
 }
 
@@ -502,23 +679,20 @@ HANDLE CreateEventW(LPSECURITY_ATTRIBUTES attributes, BOOL manual, BOOL set, LPC
 
 BOOL SetEvent(HANDLE event)
 {
-    struct nt_reply reply;
     struct seat *seat = begin();
-    return seat != NULL && finish(nt_set_event(&DISPATCHER, index_of(seat), number_of(seat, event), &reply));
+    return seat != NULL && finish(seat, nt_set_event(&DISPATCHER, seat->number, number_of(seat, event), &seat->reply));
 }
 
 BOOL ResetEvent(HANDLE event)
 {
-    struct nt_reply reply;
     struct seat *seat = begin();
-    return seat != NULL && finish(nt_reset_event(&DISPATCHER, index_of(seat), number_of(seat, event), &reply));
+    return seat != NULL && finish(seat, nt_reset_event(&DISPATCHER, seat->number, number_of(seat, event), &seat->reply));
 }
 
 BOOL PulseEvent(HANDLE event)
 {
-    struct nt_reply reply;
     struct seat *seat = begin();
-    return seat != NULL && finish(nt_pulse_event(&DISPATCHER, index_of(seat), number_of(seat, event), &reply));
+    return seat != NULL && finish(seat, nt_pulse_event(&DISPATCHER, seat->number, number_of(seat, event), &seat->reply));
 }
 
 /* ---- Semaphores. */
@@ -533,7 +707,7 @@ static HANDLE create_semaphore(const void *name, LONG initial, LONG maximum, DWO
     struct seat *seat = begin();
     if (seat == NULL)
         return NULL;
-    const uint32_t refused = nt_create_semaphore(&DISPATCHER, index_of(seat), initial, maximum, &reply);
+    const uint32_t refused = nt_create_semaphore(&DISPATCHER, seat->number, initial, maximum, &reply);
     return finish_creation(seat, refused, &reply, SYNCHRONIZE | SEMAPHORE_MODIFY_STATE, access);
 }
 
@@ -561,14 +735,13 @@ HANDLE CreateSemaphoreW(LPSECURITY_ATTRIBUTES attributes, LONG initial, LONG max
 
 BOOL ReleaseSemaphore(HANDLE semaphore, LONG count, LPLONG previous)
 {
-    struct nt_reply reply;
     struct seat *seat = begin();
     if (seat == NULL)
         return FALSE;
-    if (!finish(nt_release_semaphore(&DISPATCHER, index_of(seat), number_of(seat, semaphore), count, &reply)))
+    if (!finish(seat, nt_release_semaphore(&DISPATCHER, seat->number, number_of(seat, semaphore), count, &seat->reply)))
         return FALSE;
     if (previous != NULL)
-        *previous = reply.previous;
+        *previous = seat->reply.previous;
     return TRUE;
 }
 
@@ -584,7 +757,7 @@ static HANDLE create_mutex(const void *name, DWORD flags, DWORD access)
     struct seat *seat = begin();
     if (seat == NULL)
         return NULL;
-    const uint32_t refused = nt_create_mutex(&DISPATCHER, index_of(seat), flags, &reply);
+    const uint32_t refused = nt_create_mutex(&DISPATCHER, seat->number, flags, &reply);
     return finish_creation(seat, refused, &reply, SYNCHRONIZE, access);
 }
 
@@ -612,9 +785,8 @@ HANDLE CreateMutexW(LPSECURITY_ATTRIBUTES attributes, BOOL owned, LPCWSTR name)
 
 BOOL ReleaseMutex(HANDLE mutex)
 {
-    struct nt_reply reply;
     struct seat *seat = begin();
-    return seat != NULL && finish(nt_release_mutex(&DISPATCHER, index_of(seat), number_of(seat, mutex), &reply));
+    return seat != NULL && finish(seat, nt_release_mutex(&DISPATCHER, seat->number, number_of(seat, mutex), &seat->reply));
 }
 
 /* ---- Waitable timers. */
@@ -629,7 +801,7 @@ static HANDLE create_timer(const void *name, DWORD flags, DWORD access)
     struct seat *seat = begin();
     if (seat == NULL)
         return NULL;
-    const uint32_t refused = nt_create_timer(&DISPATCHER, index_of(seat), flags, &reply);
+    const uint32_t refused = nt_create_timer(&DISPATCHER, seat->number, flags, &reply);
     return finish_creation(seat, refused, &reply, SYNCHRONIZE | TIMER_MODIFY_STATE, access);
 }
 
@@ -658,25 +830,22 @@ HANDLE CreateWaitableTimerW(LPSECURITY_ATTRIBUTES attributes, BOOL manual, LPCWS
 BOOL SetWaitableTimer(HANDLE timer, const LARGE_INTEGER *due, LONG period, PTIMERAPCROUTINE routine, LPVOID argument, BOOL resume)
 {
     (void)resume;
-    struct nt_reply reply;
-    struct granted granted;
     if (due == NULL)
         return fail(ERROR_INVALID_PARAMETER);
     struct seat *seat = begin();
     if (seat == NULL)
         return FALSE;
-    if (!have_clock())
-        return finish(ERROR_NO_SYSTEM_RESOURCES);
-    granted.count = 0;
-    pass_time(&granted);
+    pass_time(seat);
+    TIMED = true;
     const int64_t moment = due->QuadPart < 0 ? due->QuadPart : moment_of(due->QuadPart);
-    const uint32_t caller = index_of(seat), number = number_of(seat, timer);
-    const uint32_t refused = routine == NULL ? nt_set_timer(&DISPATCHER, caller, number, moment, period, &reply)
+    const uint32_t caller = seat->number, number = number_of(seat, timer);
+    const uint32_t refused = routine == NULL ? nt_set_timer(&DISPATCHER, caller, number, moment, period, &seat->reply)
                                              : nt_set_timer_apc(&DISPATCHER, caller, number, moment, period,
-                                                                (uint64_t)(uintptr_t)routine, (uint64_t)(uintptr_t)argument, &reply);
-    note(&granted);
-    call_clock();
-    unlock_and_wake(&granted);
+                                                                (uint64_t)(uintptr_t)routine, (uint64_t)(uintptr_t)argument,
+                                                                &seat->reply);
+    note(seat);
+    have_time_kept(seat);
+    unlock_and_wake(seat);
     return refused == 0 ? TRUE : fail(refused);
 }
 
@@ -690,21 +859,20 @@ BOOL SetWaitableTimerEx(HANDLE timer, const LARGE_INTEGER *due, LONG period, PTI
 
 BOOL CancelWaitableTimer(HANDLE timer)
 {
-    struct nt_reply reply;
     struct seat *seat = begin();
-    return seat != NULL && finish(nt_cancel_timer(&DISPATCHER, index_of(seat), number_of(seat, timer), &reply));
+    return seat != NULL && finish(seat, nt_cancel_timer(&DISPATCHER, seat->number, number_of(seat, timer), &seat->reply));
 }
 
 /* ---- APCs. */
 
 DWORD QueueUserAPC(PAPCFUNC routine, HANDLE thread, ULONG_PTR argument)
 {
-    struct nt_reply reply;
     if (routine == NULL)
         return (DWORD)fail(ERROR_INVALID_PARAMETER);
     struct seat *seat = begin();
     return seat != NULL
-        && finish(nt_queue_apc(&DISPATCHER, index_of(seat), number_of(seat, thread), (uint64_t)(uintptr_t)routine, argument, &reply));
+        && finish(seat, nt_queue_apc(&DISPATCHER, seat->number, number_of(seat, thread), (uint64_t)(uintptr_t)routine, argument,
+                                     &seat->reply));
 }
 
 /* Runs an APC. A timer's routine is told the moment at which the timer was due, in UTC. */
@@ -722,11 +890,11 @@ static void run_apc(const struct nt_reply *apc)
  * APC before it has waited. */
 static bool take_apc(const struct seat *seat, struct nt_reply *apc)
 {
-    const uint32_t caller = index_of(seat);
-    pthread_mutex_lock(&LOCK);
+    const uint32_t caller = seat->number;
+    lock();
     const bool is_queued = nt_sleep(&DISPATCHER, caller, 0, true, apc) == 0 && apc->number == WAIT_IO_COMPLETION;
     const bool is_taken = is_queued && nt_next_apc(&DISPATCHER, caller, apc) == 0 && apc->kind == NT_APC;
-    pthread_mutex_unlock(&LOCK);
+    give_lock();
     return is_taken;
 }
 
@@ -740,47 +908,34 @@ static void run_apcs(const struct seat *seat)
 
 /* ---- Waits. */
 
-/* Lets time pass, under the lock, where the call counts a time from now. Answers why it can't be made, or 0. */
-static uint32_t begin_timed(DWORD ms, struct granted *granted)
+/* Lets time pass, under the lock, where the call counts a time from now. */
+static inline void begin_timed(struct seat *seat, DWORD ms)
 {
-    granted->count = 0;
     if (ms == 0 || ms == INFINITE)
-        return 0;
-    if (!have_clock())
-        return ERROR_NO_SYSTEM_RESOURCES;
-    pass_time(granted);
-    return 0;
+        return;
+    pass_time(seat);
+    TIMED = true;
 }
 
-/* Sleeps, with the lock given back meanwhile, until the caller's pending wait is granted, and answers its status. */
-static DWORD sleep_until_granted(struct seat *seat, struct granted *granted)
+/* What a wait answers that was refused. */
+__attribute__((noinline, cold)) static DWORD fail_wait(struct seat *seat, uint32_t refused)
 {
-    seat->is_granted = false;
-    call_clock();
-    if (granted->count > 0) {
-        unlock_and_wake(granted);
-        pthread_mutex_lock(&LOCK);
-    }
-    while (!seat->is_granted)
-        pthread_cond_wait(&seat->granted, &LOCK);
-    pthread_mutex_unlock(&LOCK);
-    return seat->status;
+    unlock_and_wake(seat);
+    fail(refused);
+    return WAIT_FAILED;
 }
 
 /* What a wait answers: at once, or once it is granted. The caller's APCs run before. */
-static DWORD finish_wait(struct seat *seat, uint32_t refused, const struct nt_reply *reply, struct granted *granted)
+static inline DWORD finish_wait(struct seat *seat, uint32_t refused)
 {
-    if (refused != 0) {
-        unlock_and_wake(granted);
-        fail(refused);
-        return WAIT_FAILED;
-    }
-    note(granted);
-    DWORD status = reply->number;
-    if (reply->kind == NT_PENDED)
-        status = sleep_until_granted(seat, granted);
+    if (refused != 0)
+        return fail_wait(seat, refused);
+    note(seat);
+    DWORD status = seat->reply.number;
+    if (seat->reply.kind == NT_PENDED)
+        status = sleep_until_granted(seat);
     else
-        unlock_and_wake(granted);
+        unlock_and_wake(seat);
     if (status == WAIT_IO_COMPLETION)
         run_apcs(seat);
     return status;
@@ -788,8 +943,6 @@ static DWORD finish_wait(struct seat *seat, uint32_t refused, const struct nt_re
 
 DWORD WaitForMultipleObjectsEx(DWORD count, const HANDLE *objects, BOOL all, DWORD ms, BOOL alertable)
 {
-    struct nt_reply reply;
-    struct granted granted;
     uint32_t numbers[MAXIMUM_WAIT_OBJECTS];
     if (objects == NULL || count > MAXIMUM_WAIT_OBJECTS) {
         fail(ERROR_INVALID_PARAMETER);
@@ -800,10 +953,8 @@ DWORD WaitForMultipleObjectsEx(DWORD count, const HANDLE *objects, BOOL all, DWO
         return WAIT_FAILED;
     for (DWORD i = 0; i < count; i++)
         numbers[i] = number_of(seat, objects[i]);
-    uint32_t refused = begin_timed(ms, &granted);
-    if (refused == 0)
-        refused = nt_wait(&DISPATCHER, index_of(seat), numbers, count, all != FALSE, ms, alertable != FALSE, &reply);
-    return finish_wait(seat, refused, &reply, &granted);
+    begin_timed(seat, ms);
+    return finish_wait(seat, nt_wait(&DISPATCHER, seat->number, numbers, count, all != FALSE, ms, alertable != FALSE, &seat->reply));
 }
 
 DWORD WaitForMultipleObjects(DWORD count, const HANDLE *objects, BOOL all, DWORD ms)
@@ -813,39 +964,36 @@ DWORD WaitForMultipleObjects(DWORD count, const HANDLE *objects, BOOL all, DWORD
 
 DWORD WaitForSingleObjectEx(HANDLE object, DWORD ms, BOOL alertable)
 {
-    return WaitForMultipleObjectsEx(1, &object, FALSE, ms, alertable);
+    struct seat *seat = begin();
+    if (seat == NULL)
+        return WAIT_FAILED;
+    const uint32_t number = number_of(seat, object);
+    begin_timed(seat, ms);
+    return finish_wait(seat, nt_wait(&DISPATCHER, seat->number, &number, 1, false, ms, alertable != FALSE, &seat->reply));
 }
 
 DWORD WaitForSingleObject(HANDLE object, DWORD ms)
 {
-    return WaitForMultipleObjectsEx(1, &object, FALSE, ms, FALSE);
+    return WaitForSingleObjectEx(object, ms, FALSE);
 }
 
 DWORD SignalObjectAndWait(HANDLE signal, HANDLE object, DWORD ms, BOOL alertable)
 {
-    struct nt_reply reply;
-    struct granted granted;
     struct seat *seat = begin();
     if (seat == NULL)
         return WAIT_FAILED;
-    uint32_t refused = begin_timed(ms, &granted);
-    if (refused == 0)
-        refused = nt_swap(&DISPATCHER, index_of(seat), number_of(seat, signal), number_of(seat, object), ms, alertable != FALSE,
-                          &reply);
-    return finish_wait(seat, refused, &reply, &granted);
+    begin_timed(seat, ms);
+    return finish_wait(seat, nt_swap(&DISPATCHER, seat->number, number_of(seat, signal), number_of(seat, object), ms,
+                                     alertable != FALSE, &seat->reply));
 }
 
 DWORD SleepEx(DWORD ms, BOOL alertable)
 {
-    struct nt_reply reply;
-    struct granted granted;
     struct seat *seat = begin();
     if (seat == NULL)
         return WAIT_FAILED;
-    uint32_t refused = begin_timed(ms, &granted);
-    if (refused == 0)
-        refused = nt_sleep(&DISPATCHER, index_of(seat), ms, alertable != FALSE, &reply);
-    const DWORD status = finish_wait(seat, refused, &reply, &granted);
+    begin_timed(seat, ms);
+    const DWORD status = finish_wait(seat, nt_sleep(&DISPATCHER, seat->number, ms, alertable != FALSE, &seat->reply));
     if (ms == 0)
         sched_yield();
     return status;
@@ -865,7 +1013,7 @@ static uint32_t seat_thread(const struct seat *caller, struct seat **seat, struc
     if (*seat == NULL)
         return ERROR_NO_SYSTEM_RESOURCES;
     const uint32_t refused
-        = nt_duplicate(&DISPATCHER, index_of(caller), index_of(*seat), SYNCHRONIZE | THREAD_SET_CONTEXT, reply);
+        = nt_duplicate(&DISPATCHER, caller->number, (*seat)->number, SYNCHRONIZE | THREAD_SET_CONTEXT, reply);
     hand_out(refused, reply);
     return refused;
 }
@@ -882,15 +1030,15 @@ HANDLE CreateThread(LPSECURITY_ATTRIBUTES attributes, SIZE_T stack, LPTHREAD_STA
     }
     join_those_who_left();
     struct seat *caller = begin();
-    if (caller == NULL || !finish(seat_thread(caller, &seat, &reply)))
+    if (caller == NULL || !finish(caller, seat_thread(caller, &seat, &reply)))
         return NULL;
     seat->start = start;
     seat->parameter = parameter;
     /* The new thread may end before this call does. */
-    const DWORD number = (index_of(seat) + 1) * 4;
+    const DWORD number = (seat->number + 1) * 4;
     if (start_thread(seat, stack) != 0) {
-        pthread_mutex_lock(&LOCK);
-        finish(nt_exit(&DISPATCHER, index_of(seat), &left));
+        lock();
+        finish(caller, nt_exit(&DISPATCHER, seat->number, &left));
         fail(NT_ERROR_NOT_ENOUGH_MEMORY);
         return NULL;
     }
@@ -913,7 +1061,7 @@ HANDLE GetCurrentThread(void)
 DWORD GetCurrentThreadId(void)
 {
     const struct seat *seat = join();
-    return seat == NULL ? 0 : (index_of(seat) + 1) * 4;
+    return seat == NULL ? 0 : (seat->number + 1) * 4;
 }
 
 HANDLE GetCurrentProcess(void)
@@ -968,7 +1116,7 @@ BOOL DuplicateHandle(HANDLE from, HANDLE handle, HANDLE to, LPHANDLE duplicate, 
     struct seat *seat = begin();
     if (seat == NULL)
         return FALSE;
-    const uint32_t caller = index_of(seat), number = number_of(seat, handle);
+    const uint32_t caller = seat->number, number = number_of(seat, handle);
     const DWORD known = SYNCHRONIZE | NT_MODIFY_STATE | THREAD_SET_CONTEXT;
     const bool is_same = (options & DUPLICATE_SAME_ACCESS) != 0 || (access & (MAXIMUM_ALLOWED | GENERIC_ALL)) != 0;
     const uint32_t refused = is_same ? duplicate_same_access(caller, number, &reply)
@@ -976,7 +1124,7 @@ BOOL DuplicateHandle(HANDLE from, HANDLE handle, HANDLE to, LPHANDLE duplicate, 
     if (refused == 0 && (options & DUPLICATE_CLOSE_SOURCE) != 0 && handle != CURRENT_THREAD)
         close_number(caller, number);
     hand_out(refused, &reply);
-    if (!finish(refused))
+    if (!finish(seat, refused))
         return FALSE;
     if (duplicate != NULL)
         *duplicate = handle_of(reply.number);
@@ -988,5 +1136,5 @@ BOOL CloseHandle(HANDLE handle)
     if (handle == CURRENT_PROCESS || handle == CURRENT_THREAD)
         return TRUE;
     struct seat *seat = begin();
-    return seat != NULL && finish(close_number(index_of(seat), number_of(seat, handle)));
+    return seat != NULL && finish(seat, close_number(seat->number, number_of(seat, handle)));
 }

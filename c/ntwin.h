@@ -13,6 +13,7 @@
  *   - DWORD, LONG and ULONG have 32 bits, as on Windows, and so are no `long` here: print them with %u and %d.
  *   - A wait names no object twice, in both modes, by whichever handles.
  *   - No thread is suspended, terminated or given a priority.
+ *   - No thread is made to keep the time: one of those that sleep does. A handler of signals that runs long in it delays what is due.
  * docs/WIN32.md has each call. Each is made as Microsoft's page says, otherwise. */
 #ifndef NTWIN_H
 #define NTWIN_H

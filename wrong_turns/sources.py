@@ -48,14 +48,14 @@ def named(head):
 
 
 def implemented(words):
-    """Returns the type and the trait, if there is one, that an impl names, from the words after `impl`. What a trait is at, as of `From<AllocError>`, is
-    in its name."""
+    """Returns the type and the trait, if there is one, that an impl names, from the words after `impl`. What a trait is at is in its name, as
+    AllocError of `From<AllocError>` and AllocFailed alone of `From<AllocFailed<T>>`."""
     depth, names, is_at = 0, [""], "for" in words
     for word in words:
         depth += (word == "<") - (word == ">")
         if word in ("for", "where") and not depth:
             names.append("")
-        elif re.match(r"\w", word) and depth and is_at and len(names) == 1 and names[0]:
+        elif re.match(r"\w", word) and depth == 1 and is_at and len(names) == 1 and names[0]:
             names[0] += word
         elif re.match(r"\w", word) and not depth:
             names[-1] = word

@@ -64,6 +64,7 @@ static void without_dispatcher(void)
     uint64_t moment = 99;
     size_t waits = 99;
     bool waiting = true;
+    struct nt_pending_wait wait = { .count = 99 };
     REFUSED(nt_create_event(&nt, 0, 0, &reply), 6);
     REFUSED(nt_create_semaphore(&nt, 0, 0, 1, &reply), 6);
     REFUSED(nt_create_mutex(&nt, 0, 0, &reply), 6);
@@ -91,6 +92,8 @@ static void without_dispatcher(void)
     IS(nt_pending(&nt, &waits), 6);
     IS(nt_threads(&nt, &threads), 6);
     IS(nt_is_waiting(&nt, 0, &waiting), 6);
+    IS(nt_waits_for(&nt, 0, &wait), 6);
+    IS(nt_waited_object(&nt, 0, 0, &threads), 6);
     IS(nt_grant(&nt, 0, &grant), 6);
     IS(nt_copy(&nt, &other), 6);
     IS(other.live, false);
@@ -100,6 +103,7 @@ static void without_dispatcher(void)
     IS(waits, 99);
     IS(threads, 99);
     IS(waiting, true);
+    IS(wait.count, 99);
 }
 
 static void opening(void)
@@ -163,6 +167,56 @@ static void events(void)
     REFUSED(nt_set_event(&nt, 0, 6, &reply), 6);
     REFUSED(nt_reset_event(&nt, 0, 6, &reply), 6);
     REFUSED(nt_pulse_event(&nt, 0, 9, &reply), 6);
+}
+
+/* The pending wait of this thread names so many objects. */
+#define WAITS_FOR(thread, wanted_count, wanted_all, wanted_alertable, wanted_timed, wanted_deadline) \
+    do { \
+        struct nt_pending_wait wait; \
+        IS(nt_waits_for(&nt, thread, &wait), 0); \
+        IS(wait.count, wanted_count); \
+        IS(wait.all, wanted_all); \
+        IS(wait.alertable, wanted_alertable); \
+        IS(wait.timed, wanted_timed); \
+        IS(wait.deadline, wanted_deadline); \
+    } while (0)
+
+/* The objects have the numbers of their handles so far. A millisecond has 10,000 moments, and it is moment 0. */
+static void pending_waits(void)
+{
+    const uint32_t three[3] = { 6, 4, 2 };
+    uint32_t object = 99;
+    struct nt_pending_wait wait = { .count = 99 };
+    IS(nt_waits_for(&nt, 0, &wait), NT_ERROR_NO_MORE_ITEMS);
+    IS(nt_waits_for(&nt, 4, &wait), NT_ERROR_UNKNOWN_THREAD);
+    IS(nt_waited_object(&nt, 0, 0, &object), NT_ERROR_NO_MORE_ITEMS);
+    IS(nt_waited_object(&nt, 4, 0, &object), NT_ERROR_UNKNOWN_THREAD);
+    TELLS(nt_wait(&nt, 0, three, 3, true, 7, true, &reply), NT_PENDED, 0);
+    TELLS(nt_wait(&nt, 1, three + 1, 1, false, NT_INFINITE, false, &reply), NT_PENDED, 0);
+    TELLS(nt_sleep(&nt, 2, 7, true, &reply), NT_PENDED, 0);
+    IS(nt_waited_object(&nt, 0, 3, &object), NT_ERROR_NO_MORE_ITEMS);
+    IS(nt_waited_object(&nt, 2, 0, &object), NT_ERROR_NO_MORE_ITEMS);
+    IS(wait.count, 99);
+    IS(object, 99);
+    WAITS_FOR(0, 3, true, true, true, 70000);
+    WAITS_FOR(1, 1, false, false, false, 0);
+    WAITS_FOR(2, 0, false, true, true, 70000);
+    for (size_t i = 0; i < 3; i++) {
+        IS(nt_waited_object(&nt, 0, i, &object), 0);
+        IS(object, three[i]);
+    }
+}
+
+/* The same waits in a copy of the dispatcher, which alone goes on. */
+static void pending_waits_in_a_copy(void)
+{
+    struct nt whole = nt;
+    nt = (struct nt){ room(), false };
+    IS(nt_copy(&whole, &nt), 0);
+    pending_waits();
+    nt_close(&nt);
+    free(nt.room);
+    nt = whole;
 }
 
 static void lists_of_handles(void)
@@ -275,7 +329,7 @@ static void apcs_and_rights(void)
     REFUSED(nt_close_handle(&nt, 0, 11, &reply), 6);
 }
 
-/* A copy goes its own way. Thread 1 owns mutex 7 and ends, in the copy alone. */
+/* A copy goes its own way, from the grants on that both have. Thread 1 owns mutex 7 and ends, in the copy alone. */
 static void copies_and_exits(void)
 {
     struct nt copy = { room(), false };
@@ -296,6 +350,15 @@ static void copies_and_exits(void)
     GRANTS(0, 0, NT_WAIT_OBJECT_0);
     nt_close(&copy);
     IS(copy.live, false);
+    IS(nt_copy(&nt, &copy), 0);
+    IS(nt_grant(&copy, 0, &grant), 0);
+    IS(grant.thread, 0);
+    IS(grant.status, NT_WAIT_OBJECT_0);
+    TELLS(nt_set_event(&copy, 1, 4, &reply), NT_DONE, 0);
+    IS(nt_grant(&copy, 0, &grant), NT_ERROR_NO_MORE_ITEMS);
+    GRANTS(0, 0, NT_WAIT_OBJECT_0);
+    NO_GRANT(1);
+    nt_close(&copy);
     free(copy.room);
 }
 
@@ -318,6 +381,7 @@ int main(void)
     opening();
     creations();
     events();
+    pending_waits_in_a_copy();
     lists_of_handles();
     semaphores();
     mutexes();

@@ -1,84 +1,10 @@
 /* Reads a script on standard input (docs/SCRIPTS.md), has each call made by a thread of its own, one after another, through nt.h, and
  * writes the transcript. A line that can't be read ends it, with status 2: which fault that is, ntrun alone tells. */
-#include "../nt.h"
+#include "script.h"
 
 #include <pthread.h>
-#include <stdio.h>
-#include <stdlib.h>
-#include <string.h>
-
-enum { MOST_WORDS = 80, LONGEST = 4200 };
 
 static struct nt NT;
-static uint32_t THREADS;
-
-/* The names of objects, in the order in which they were given. */
-static struct {
-    char name[33];
-    uint32_t handle;
-} NAMES[NT_MAXIMUM_HANDLES];
-static size_t NAMED;
-
-/* The line that is carried out. */
-static unsigned long NUMBER;
-static char *WORDS[MOST_WORDS];
-static int COUNT;
-
-static void stop(void)
-{
-    fflush(stdout);
-    exit(2);
-}
-
-static const char *word(int at)
-{
-    if (at >= COUNT)
-        stop();
-    return WORDS[at];
-}
-
-static uint64_t number(int at)
-{
-    return strtoull(word(at), NULL, 10);
-}
-
-static int64_t signed_number(int at)
-{
-    return strtoll(word(at), NULL, 10);
-}
-
-static uint32_t timeout(int at)
-{
-    return strcmp(word(at), "inf") == 0 ? NT_INFINITE : (uint32_t)number(at);
-}
-
-static bool alertable(int at)
-{
-    return strcmp(word(at), "alertable") == 0;
-}
-
-static uint32_t handle(int at)
-{
-    const char *text = word(at);
-    if (text[0] >= '0' && text[0] <= '9')
-        return (uint32_t)number(at);
-    if (text[0] == 't' && text[1] >= '0' && text[1] <= '9' && strtoul(text + 1, NULL, 10) < THREADS)
-        return (uint32_t)strtoul(text + 1, NULL, 10);
-    for (size_t i = 0; i < NAMED; i++)
-        if (strcmp(NAMES[i].name, text) == 0)
-            return NAMES[i].handle;
-    stop();
-    return 0;
-}
-
-/* Whether one of the words after the name is this one. */
-static bool has(const char *flag)
-{
-    for (int at = 3; at < COUNT; at++)
-        if (strcmp(WORDS[at], flag) == 0)
-            return true;
-    return false;
-}
 
 static uint32_t create(uint32_t who, struct nt_reply *reply)
 {
@@ -94,10 +20,8 @@ static uint32_t create(uint32_t who, struct nt_reply *reply)
         refused = nt_create_mutex(&NT, who, has("owned") ? NT_MUTEX_INITIAL_OWNER : 0, reply);
     else
         refused = nt_create_timer(&NT, who, has("manual") ? NT_TIMER_MANUAL_RESET : 0, reply);
-    if (refused == 0) {
-        snprintf(NAMES[NAMED].name, sizeof NAMES[NAMED].name, "%s", word(2));
-        NAMES[NAMED++].handle = reply->number;
-    }
+    if (refused == 0)
+        give_name(reply->number);
     return refused;
 }
 
@@ -242,21 +166,6 @@ static void give_turn(uint32_t who)
     while (TURN == who && who != EVERYBODY_ENDS)
         pthread_cond_wait(&TURNS, &LOCK);
     pthread_mutex_unlock(&LOCK);
-}
-
-static bool read_line(void)
-{
-    static char line[LONGEST];
-    do {
-        if (fgets(line, sizeof line, stdin) == NULL)
-            return false;
-        NUMBER++;
-        line[strcspn(line, ";\r\n")] = 0;
-        COUNT = 0;
-        for (char *next = strtok(line, " \t"); next != NULL && COUNT < MOST_WORDS; next = strtok(NULL, " \t"))
-            WORDS[COUNT++] = next;
-    } while (COUNT == 0);
-    return true;
 }
 
 static void carry_out(void)

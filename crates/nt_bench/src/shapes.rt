@@ -4,6 +4,7 @@ use crate::turns::Turn;
 use nt_core::{Act, Call, WaitCall};
 use nt_status::{Handle, Handles};
 use std::alloc::{AllocError, Global};
+use std::ops::Range;
 
 /// INFINITE.
 const INFINITE: u32 = 0xFFFF_FFFF;
@@ -54,20 +55,62 @@ impl Shape {
         all: bool,
         ms: u32,
     ) -> Result<Self, AllocError> {
-        let alloc = *self.round.allocator();
-        let mut handles = Handles::new(alloc);
-        for number in first..first.saturating_add(count) {
-            handles.push(Handle::new(number))?;
-        }
-        let call = Call::Wait(WaitCall::Objects {
-            handles,
+        let turn = wait(
+            *self.round.allocator(),
+            who,
+            first..first.saturating_add(count),
             all,
             ms,
-            alertable: false,
-        });
-        self.round.push(Turn { who, call })?;
+        )?;
+        self.round.push(turn)?;
         Ok(self)
     }
+
+    /// Each of these threads waits for this object alone, without a timeout.
+    fn wait_each(mut self, threads: Range<u32>, object: u32) -> Result<Self, AllocError> {
+        for who in threads {
+            self = self.wait(who, object, 1, false, INFINITE)?;
+        }
+        Ok(self)
+    }
+
+    /// Before the round each of these threads waits for this object alone, without a timeout.
+    fn begin_each(mut self, threads: Range<u32>, object: u32) -> Result<Self, AllocError> {
+        for who in threads {
+            let turn = wait(
+                *self.prepare.allocator(),
+                who,
+                object..object.saturating_add(1),
+                false,
+                INFINITE,
+            )?;
+            self.prepare.push(turn)?;
+        }
+        Ok(self)
+    }
+}
+
+fn wait(
+    alloc: Global,
+    who: u32,
+    objects: Range<u32>,
+    all: bool,
+    ms: u32,
+) -> Result<Turn, AllocError> {
+    let mut handles = Handles::new(alloc);
+    for number in objects {
+        handles.push(Handle::new(number))?;
+    }
+    let wait = WaitCall::Objects {
+        handles,
+        all,
+        ms,
+        alertable: false,
+    };
+    Ok(Turn {
+        who,
+        call: Call::Wait(wait),
+    })
 }
 
 fn act(who: u32, act: Act) -> Turn {
@@ -118,11 +161,10 @@ fn all_of_64(alloc: Global) -> Result<Shape, AllocError> {
 
 /// 255 threads wait for one manual-reset event, which is pulsed.
 fn pulse_255(alloc: Global) -> Result<Shape, AllocError> {
-    let mut shape = Shape::new(alloc, "255 waits, one pulse", 256).make(0, Act::CreateEvent(1))?;
-    for who in 1..256 {
-        shape = shape.wait(who, 256, 1, false, INFINITE)?;
-    }
-    shape.then(0, Act::PulseEvent(Handle::new(256)))
+    Shape::new(alloc, "255 waits, one pulse", 256)
+        .make(0, Act::CreateEvent(1))?
+        .wait_each(1..256, 256)?
+        .then(0, Act::PulseEvent(Handle::new(256)))
 }
 
 /// Eight threads wait for one semaphore, which is released by eight.
@@ -131,15 +173,14 @@ fn release_8(alloc: Global) -> Result<Shape, AllocError> {
         initial: 0,
         maximum: 8,
     };
-    let mut shape = Shape::new(alloc, "8 waits, release by 8", 9).make(0, semaphore)?;
-    for who in 1..9 {
-        shape = shape.wait(who, 9, 1, false, INFINITE)?;
-    }
     let release = Act::ReleaseSemaphore {
         semaphore: Handle::new(9),
         count: 8,
     };
-    shape.then(0, release)
+    Shape::new(alloc, "8 waits, release by 8", 9)
+        .make(0, semaphore)?
+        .wait_each(1..9, 9)?
+        .then(0, release)
 }
 
 /// A mutex goes from one thread to the other and back.
@@ -199,8 +240,32 @@ fn none_of_64(alloc: Global) -> Result<Shape, AllocError> {
         .wait(0, 1, 64, false, 0)
 }
 
+/// 63 threads wait for one auto-reset event. It is set, and who gets it waits again, until each has had it.
+fn event_of_63(alloc: Global) -> Result<Shape, AllocError> {
+    let mut shape = Shape::new(alloc, "63 waits for one event, set in turn", 64)
+        .with_events(1)?
+        .begin_each(1..64, 64)?;
+    for who in 1..64 {
+        shape = shape.then(0, set(64))?.wait(who, 64, 1, false, INFINITE)?;
+    }
+    Ok(shape)
+}
+
+/// 63 threads wait for one mutex. Its owner passes it on, and waits again, until the first has it again.
+fn mutex_of_64(alloc: Global) -> Result<Shape, AllocError> {
+    let mut shape = Shape::new(alloc, "63 waits for one mutex, passed on", 64)
+        .make(0, Act::CreateMutex(1))?
+        .begin_each(1..64, 64)?;
+    for who in 0..64 {
+        shape = shape
+            .then(who, Act::ReleaseMutex(Handle::new(64)))?
+            .wait(who, 64, 1, false, INFINITE)?;
+    }
+    Ok(shape)
+}
+
 /// How many shapes there are.
-pub const SHAPES: u32 = 11;
+pub const SHAPES: u32 = 13;
 
 /// The shape of this number, which counts from 0.
 pub fn shape_of(alloc: Global, number: u32) -> Result<Shape, AllocError> {
@@ -215,6 +280,8 @@ pub fn shape_of(alloc: Global, number: u32) -> Result<Shape, AllocError> {
         7 => signal_and_wait(alloc),
         8 => free_mutex(alloc),
         9 => free_semaphore(alloc),
-        _ => none_of_64(alloc),
+        10 => none_of_64(alloc),
+        11 => event_of_63(alloc),
+        _ => mutex_of_64(alloc),
     }
 }

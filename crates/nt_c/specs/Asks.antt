@@ -1,13 +1,16 @@
 -- What a call through C's handle does.
-use Rattle.std.specs.Prelude.{◌≡◌, ℕ, ◌≤◌, ◌<◌, ◌⊎◌, ◌^◌, Bool, List, Option, None, Some, MatchOption, slice_get, MatchBool, nat_le, ◌&&◌, [], pos, is_some, true, false}
+use Rattle.std.specs.Prelude.{◌≡◌, ℕ, ◌≤◌, ◌⊎◌, ◌^◌, Bool, Option, None, Some, MatchOption, slice_get, MatchBool, nat_le, ◌&&◌, [], length, pos, is_some, true, false}
+use Rattle.std.specs.FinMap as map
 use Rattle.nt_c.specs.declared.grants.NtGrant.{NtGrant}
 use Rattle.nt_c.specs.declared.handle.Nt.{Nt}
+use Rattle.nt_c.specs.declared.pending.NtPendingWait.{NtPendingWait}
 use Rattle.nt_c.specs.declared.reply.NtReply.{NtReply}
 use Rattle.std.specs.declared.result.Result.{Result}
 use Rattle.std.specs.declared.result.Result.TheVariants.{Ok, Err}
 use Rattle.nt_status.specs.Refusal.{number_of}
 use Rattle.nt_status.specs.declared.refusal.Refusal.{Refusal}
-use Rattle.nt_status.specs.declared.refusal.Refusal.TheVariants.{InvalidHandle}
+use Rattle.nt_status.specs.declared.refusal.Refusal.TheVariants.{InvalidHandle, Memory}
+use Rattle.nt_waits.specs.declared.wait.Wait.{Wait}
 use Rattle.nt_core.specs.declared.call.Act.{Act}
 use Rattle.nt_core.specs.declared.call.Call.{Call}
 use Rattle.nt_core.specs.declared.call.Grant.{Grant}
@@ -82,6 +85,11 @@ WaitsWith old who wait number before after new = Answers old who (Call.Wait wait
 abbrev pub WaitsForObjects : Nt → ℕ → WaitCall → ℕ → NtReply → NtReply → Nt → Type 0
 WaitsForObjects old who wait number before after new = WaitsWith old who wait number before after new ⊎ ((number ≡ 8) × (after ≡ before) × (new ≡ old))
 
+-- a wait of a dispatcher; where memory for the list of its handles is refused, it is not asked at all
+abbrev pub WaitsOrKeeps : Dispatcher → ℕ → WaitCall → Result Reply Refusal → Dispatcher → Type 0
+WaitsOrKeeps old who wait result new =
+    (Called (state old) who (Call.Wait wait) result new.grants (state new) × IsLawful new) ⊎ ((result ≡ Err Memory) × (new ≡ old))
+
 -- ---- a tick
 
 -- a tick of what the handle holds
@@ -116,6 +124,34 @@ ReadsWaiting thread nt number before after =
     MatchOption nt.cell.core
     (Untold Bool 6 number before after)
     (λ core. MatchBool (nat_le (state core).threads thread) (Untold Bool 0x20000003 number before after) (Told Bool (pends (state core) thread) number after))
+
+-- a number, or 0 for none
+abbrev or_zero : Option ℕ → ℕ
+or_zero None = 0
+or_zero (Some n) = n
+
+-- a pending wait as C sees it
+abbrev pub wait_in : Wait → NtPendingWait
+wait_in wait = record { count = length wait.handles; all = wait.all; alertable = wait.alertable; timed = is_some wait.deadline; deadline = or_zero wait.deadline }
+
+-- what is read of the pending wait of the thread, or 259 is answered where none pends, or 536870915 where no thread has this number
+abbrev ReadsOfWait : (A : Type 0) → ℕ → (Wait → Option A) → Nt → ℕ → A → A → Type 0
+ReadsOfWait A thread part nt number before after =
+    MatchOption nt.cell.core
+    (Untold A 6 number before after)
+    (λ core. MatchBool (nat_le (state core).threads thread)
+    (Untold A 0x20000003 number before after)
+    (MatchOption (map.get (state core).waits thread)
+    (Untold A 259 number before after)
+    (λ wait. MatchOption (part wait) (Untold A 259 number before after) (λ value. Told A value number after))))
+
+-- the pending wait of the thread is told
+abbrev pub ReadsWait : ℕ → Nt → ℕ → NtPendingWait → NtPendingWait → Type 0
+ReadsWait thread nt number before after = ReadsOfWait NtPendingWait thread (λ wait. Some (wait_in wait)) nt number before after
+
+-- the object at this index among those that the pending wait of the thread names is told, or 259 is answered past the last
+abbrev pub ReadsObject : ℕ → ℕ → Nt → ℕ → ℕ → ℕ → Type 0
+ReadsObject thread index nt number before after = ReadsOfWait ℕ thread (λ wait. slice_get wait.handles index) nt number before after
 
 -- a grant as C sees it
 abbrev grant_in : Grant → NtGrant

@@ -23,7 +23,7 @@ impl Nt {
         if !self.live {
             return Err(Refusal::InvalidHandle);
         }
-        self.cell.core_mut().call(who, call)
+        self.cell.driver_mut().core.call(who, call)
     }
 
     /// Lets the moments up to `m` pass.
@@ -35,6 +35,6 @@ impl Nt {
         if !self.live {
             return Err(Refusal::InvalidHandle);
         }
-        self.cell.core_mut().tick(m)
+        self.cell.driver_mut().core.tick(m)
     }
 }

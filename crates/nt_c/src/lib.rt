@@ -5,15 +5,16 @@
 
 mod apcs;
 mod cell;
-mod core_mut;
+mod driver;
+mod driver_mut;
 mod events;
 mod grants;
 mod handle;
 mod life;
 mod mutexes;
-mod named;
 mod numbers;
 mod objects;
+mod pending;
 mod readers;
 mod reply;
 mod semaphores;

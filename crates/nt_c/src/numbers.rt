@@ -3,9 +3,6 @@
 /// ERROR_INVALID_HANDLE: the handle has no dispatcher.
 pub(crate) const NO_DISPATCHER: u32 = 6;
 
-/// ERROR_NOT_ENOUGH_MEMORY.
-pub(crate) const OUT_OF_MEMORY: u32 = 8;
-
 /// ERROR_INVALID_PARAMETER.
 pub(crate) const INVALID_PARAMETER: u32 = 87;
 

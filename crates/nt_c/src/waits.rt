@@ -3,17 +3,14 @@ ghost use Rattle.nt_core.specs.declared.call.WaitCall.{WaitCall};
 ghost use Rattle.nt_c.specs.Asks.{IsFit, WaitsWith, WaitsForObjects};
 
 use crate::handle::Nt;
-use crate::named::named;
-use crate::numbers::OUT_OF_MEMORY;
+use crate::numbers::NO_DISPATCHER;
 use crate::reply::{NtReply, tell};
 use nt_core::{Call, WaitCall};
 use nt_status::Handle;
-use std::alloc::Global;
 
 /// WaitForMultipleObjectsEx: for any of the objects, or for all. The timeout is in milliseconds, 0xFFFFFFFF for INFINITE.
 #[unsafe(no_mangle)]
 pub extern "C" fn nt_wait_objects(
-    alloc: Global,
     nt: &mut Nt,
     who: u32,
     handles: &[u32],
@@ -26,16 +23,11 @@ pub extern "C" fn nt_wait_objects(
     ensures fit { IsFit nt.new }
     ensures answers { WaitsForObjects nt.old who (WaitCall.Objects all alertable ms handles.now) result out.old out.new nt.new }
 {
-    let Ok(handles) = named(alloc, handles) else {
-        return OUT_OF_MEMORY;
-    };
-    let wait = WaitCall::Objects {
-        all,
-        alertable,
-        ms,
-        handles,
-    };
-    tell(nt.ask(who, &Call::Wait(wait)), out)
+    if !nt.live {
+        return NO_DISPATCHER;
+    }
+    let driver = nt.cell.driver_mut();
+    tell(driver.wait_objects(who, handles, all, alertable, ms), out)
 }
 
 /// SleepEx. The interval is in milliseconds, 0xFFFFFFFF for INFINITE.

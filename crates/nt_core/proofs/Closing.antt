@@ -14,14 +14,14 @@ use Rattle.nt_core.specs.declared.call.Call.{Call}
 use Rattle.nt_core.specs.declared.call.Act.{Act}
 use Rattle.nt_core.specs.declared.call.Reply.{Reply}
 use Rattle.nt_core.specs.Change.{handle_closed}
-use Rattle.nt_core.specs.State.{State, object_at}
-use Rattle.nt_core.specs.Naming.{object_in, object_named, act_named}
+use Rattle.nt_core.specs.State.{object_at}
+use Rattle.nt_core.specs.Naming.{object_in, object_named}
 use Rattle.nt_core.specs.Dispatcher.{Dispatcher, state}
 use Rattle.nt_core.specs.Living.{is_forgotten}
 use Rattle.nt_core.specs.Lawful.{IsSound, IsSteady, HandlesAgree, MarksAgreeBut}
-use Rattle.nt_core.specs.Refusals.{refusal}
-use Rattle.nt_core.specs.Accepts.{IsFresh, DuplicatesLiving, Accepts}
-use Rattle.nt_core.proofs.Accepting.{accepted, own_causes, next_causes}
+use Rattle.nt_core.specs.Refusals.{first_of_causes, close_causes}
+use Rattle.nt_core.specs.Accepts.{IsFresh, Accepts}
+use Rattle.nt_core.proofs.Accepting.{accepted, next_causes}
 use Rattle.nt_core.proofs.Changing.{same_changed}
 use Rattle.nt_core.proofs.Lives.{IsForgotten, parts, whole}
 use Rattle.nt_core.proofs.Replacing.{idle_served}
@@ -44,31 +44,11 @@ all_living d [] sound o m known = absurd m
 all_living d (h ∷ hs) sound o (inl here) known = ap (λ (k : ℕ). is_gone (object_at d.objects k)) (sym here) ∙ named_living d h sound (subst (λ (k : ℕ). k < length d.objects) (sym here) known)
 all_living d (h ∷ hs) sound o (inr m) known = all_living d hs sound o m known
 
-pub duplicates_living : (d : Dispatcher) (act : Act) → IsSound d → DuplicatesLiving d.objects (act_named d.handles act)
-duplicates_living d (Act.CreateEvent flags) sound = tt
-duplicates_living d (Act.CreateSemaphore initial maximum) sound = tt
-duplicates_living d (Act.CreateMutex flags) sound = tt
-duplicates_living d (Act.SetEvent h) sound = tt
-duplicates_living d (Act.ResetEvent h) sound = tt
-duplicates_living d (Act.PulseEvent h) sound = tt
-duplicates_living d (Act.ReleaseSemaphore h n) sound = tt
-duplicates_living d (Act.ReleaseMutex h) sound = tt
-duplicates_living d (Act.CreateTimer flags) sound = tt
-duplicates_living d (Act.SetTimer h due period routine) sound = tt
-duplicates_living d (Act.CancelTimer h) sound = tt
-duplicates_living d (Act.QueueApc h routine arg) sound = tt
-duplicates_living d (Act.Duplicate h access) sound = named_living d h sound
-duplicates_living d (Act.Close h) sound = tt
-duplicates_living d Act.NextApc sound = tt
-
 -- ---- a handle is closed
 
 -- a close that no cause refuses is of a handle that names something
-pub close_free : (s : State) (t h : ℕ) → refusal s t false (Call.Act (Act.Close h)) ≡ None → is_some (opened_at s.handles h) ≡ true
-close_free s t h none =
-    let own = own_causes s t (Call.Act (Act.Close h)) none in
-    let known = next_causes (is_none (opened_at s.handles h)) InvalidHandle [] own in
-    there (opened_at s.handles h) known.0
+pub close_free : (handles : List (Option Opened)) (h : ℕ) → first_of_causes (close_causes handles h) ≡ None → is_some (opened_at handles h) ≡ true
+close_free handles h none = there (opened_at handles h) (next_causes (is_none (opened_at handles h)) InvalidHandle [] none).0
   where
     there : (o : Option Opened) → is_none o ≡ false → is_some o ≡ true
     there None e = sym e

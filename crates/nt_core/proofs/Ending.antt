@@ -31,11 +31,9 @@ use Rattle.nt_core.proofs.Marking.{marks_ending}
 use Rattle.nt_core.proofs.Changing.{ChangedOnlyAt, object_at-set_other, reading_set, property_set, limit_set, fit_only_in}
 use Rattle.nt_core.proofs.Accepting.{accepted, settled_after}
 use Rattle.nt_core.proofs.Replacing.{once_few, queue_few, known_mutex}
-use Rattle.nt_core.proofs.Takes.{same_no}
-use Rattle.nt_core.proofs.Turns.{left}
-use Rattle.nt_core.proofs.Listing.{member_of_append, member_first, member_last, once_append, once_more, sorted_rising}
+use Rattle.nt_core.proofs.Listing.{same_no, member_of_append, member_first, member_last, once_append, once_more, sorted_rising}
 use Rattle.nt_core.proofs.Leaving.{setter_timer}
-use Rattle.nt_core.proofs.Exiting.{mapped_at, mapped_twice, stopped_objects, unset_all, abandoned_setter, freed_mutex, IsAltered, objects_left, altered_or_same, altered_changed, runs_before, due_exited, calm_exited}
+use Rattle.nt_core.proofs.Exiting.{left, mapped_at, mapped_twice, stopped_objects, unset_all, abandoned_setter, freed_mutex, IsAltered, objects_left, altered_or_same, altered_changed, runs_before, due_exited, calm_exited}
 
 -- ---- the thread's own object, and its APCs
 

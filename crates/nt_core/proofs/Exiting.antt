@@ -25,10 +25,12 @@ use Rattle.nt_core.proofs.Lives.{not_gone}
 use Rattle.nt_core.proofs.Marking.{marks_same}
 use Rattle.nt_core.proofs.Replacing.{known_mutex}
 use Rattle.nt_core.proofs.Timing.{and_kept}
-use Rattle.nt_core.proofs.Turns.{left}
-use Rattle.nt_core.proofs.Takes.{same_yes, same_no}
-use Rattle.nt_core.proofs.Listing.{member_or_not}
+use Rattle.nt_core.proofs.Listing.{same_yes, same_no, member_or_not}
 use Rattle.nt_core.proofs.Leaving.{stopped_unset, set_timer_known}
+
+-- what is left of an object once thread t has ended
+abbrev pub left : ℕ → Object → Object
+left t o = unset_by t (abandoned_by t o)
 
 -- ---- objects that are all changed in one way
 

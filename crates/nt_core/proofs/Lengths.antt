@@ -1,17 +1,20 @@
 -- How many objects there are: only creations change it.
-use Rattle.std.proofs.Common.{◌≡◌, ◌≤◌, ℕ, Bool, true, false, cond, ◌&&◌, List, [], ◌∷◌, length, refl, ap, ◌∙◌, arith}
+use Rattle.std.proofs.Common.{◌≡◌, ◌≤◌, ℕ, Bool, true, false, cond, ◌&&◌, List, [], ◌∷◌, length, refl, sym, ap, ◌∙◌, arith}
+use Rattle.std.proofs.lemmas.Bool.{false≢true}
 use Rattle.std.proofs.lemmas.List.{length-set}
 use Rattle.std.specs.Prelude.{nat_le, slice_index, ◌==◌}
 use Rattle.nt_waits.specs.declared.wait.Wait.{Wait}
 use Rattle.nt_objects.specs.declared.object.Object.{Object}
-use Rattle.nt_objects.specs.Object.{taken, with_set, armed_with, setting_of, rearmed}
+use Rattle.nt_objects.specs.Object.{taken, with_set, armed_with, setting_of, rearmed, released, unlocked}
+use Rattle.nt_objects.specs.declared.handles.Opened.{Opened}
 use Rattle.nt_status.specs.Status.{io_completion_code}
 use Rattle.nt_apc.specs.Queues.{has_apc, taken as queues_taken}
 use Rattle.nt_core.specs.declared.call.Act.{Act}
 use Rattle.nt_core.specs.declared.call.Call.{Call}
 use Rattle.nt_core.specs.declared.call.Reply.{Reply}
 use Rattle.nt_core.specs.declared.call.Grant.{Grant}
-use Rattle.nt_core.specs.Calls.{timeout_of}
+use Rattle.nt_core.specs.Calls.{timeout_of, act_creates}
+use Rattle.nt_core.specs.Naming.{act_named}
 use Rattle.nt_core.specs.State.{State, object_at, with_handing, pending_too}
 use Rattle.nt_core.specs.Dispatcher.{Dispatcher, state}
 use Rattle.nt_core.specs.Serving.{fits, status, least, take_at, take_each, objects_taken, taken_by, granted, Grants, late_status, is_sleep}
@@ -21,8 +24,9 @@ use Rattle.nt_core.specs.Steps.{begun, wait_of, after_serving, answered, Step, M
 use Rattle.std.specs.Prelude.{Option, Some, None, Result, Ok, Err, IfOk, OnErr}
 use Rattle.nt_status.specs.declared.refusal.Refusal.{Refusal}
 use Rattle.nt_objects.specs.declared.object.Armed.{Armed}
-use Rattle.nt_core.specs.Accepts.{Accepts}
+use Rattle.nt_core.specs.Accepts.{Accepts, IsActMade}
 use Rattle.nt_core.proofs.Remaining.{same_count}
+use Rattle.nt_core.proofs.Arming.{asked}
 use Rattle.nt_core.proofs.Alerting.{over_objects}
 
 length_taken_each : (t : ℕ) (hs : List ℕ) (os : List Object) → length (take_each os t hs) ≡ length os
@@ -140,3 +144,54 @@ length_timer_set s h armed = go (nat_le armed.due s.now)
     go : (b : Bool) → length_in (cond b (expired s.now (armed_anew s h armed) h) (armed_anew s h armed)) ≡ length s.objects
     go true = length_expired (armed_anew s h armed) s.now (h ∷ []) ∙ anew
     go false = anew
+
+-- an act that creates nothing leaves as many objects
+pub length_act_change : (s : State) (t : ℕ) (act : Act) → act_creates act ≡ false → length (change s t (Call.Act act)).objects ≡ length s.objects
+length_act_change s t (Act.SetEvent h) none = length-set s.objects h (with_set true (object_at s.objects h))
+length_act_change s t (Act.ResetEvent h) none = length-set s.objects h (with_set false (object_at s.objects h))
+length_act_change s t (Act.PulseEvent h) none = length-set s.objects h (with_set true (object_at s.objects h))
+length_act_change s t (Act.ReleaseSemaphore h n) none = length-set s.objects h (released n (object_at s.objects h))
+length_act_change s t (Act.ReleaseMutex h) none = length-set s.objects h (unlocked (object_at s.objects h))
+length_act_change s t (Act.SetTimer h due period routine) none = length_timer_set s h (asked s.now t due period routine)
+length_act_change s t (Act.CancelTimer h) none = length-set s.objects h (armed_with None (object_at s.objects h))
+length_act_change s t (Act.QueueApc h routine arg) none = refl
+length_act_change s t (Act.Duplicate h access) none = refl
+length_act_change s t (Act.Close h) none = refl
+length_act_change s t Act.NextApc none = length_apc_taken s t
+length_act_change s t (Act.CreateEvent flags) none = absurd (false≢true (sym none))
+length_act_change s t (Act.CreateSemaphore initial maximum) none = absurd (false≢true (sym none))
+length_act_change s t (Act.CreateMutex flags) none = absurd (false≢true (sym none))
+length_act_change s t (Act.CreateTimer flags) none = absurd (false≢true (sym none))
+
+-- nor does the name of its object matter
+creates_named : (handles : List (Option Opened)) (act : Act) → act_creates act ≡ false → act_creates (act_named handles act) ≡ false
+creates_named handles (Act.SetEvent h) none = refl
+creates_named handles (Act.ResetEvent h) none = refl
+creates_named handles (Act.PulseEvent h) none = refl
+creates_named handles (Act.ReleaseSemaphore h n) none = refl
+creates_named handles (Act.ReleaseMutex h) none = refl
+creates_named handles (Act.SetTimer h due period routine) none = refl
+creates_named handles (Act.CancelTimer h) none = refl
+creates_named handles (Act.QueueApc h routine arg) none = refl
+creates_named handles (Act.Duplicate h access) none = refl
+creates_named handles (Act.Close h) none = refl
+creates_named handles Act.NextApc none = refl
+creates_named handles (Act.CreateEvent flags) none = none
+creates_named handles (Act.CreateSemaphore initial maximum) none = none
+creates_named handles (Act.CreateMutex flags) none = none
+creates_named handles (Act.CreateTimer flags) none = none
+
+-- how many objects there are after a call that creates none, made or refused
+pub length_made : (old new : Dispatcher) (t : ℕ) (act : Act) (result : Result Reply Refusal) → IsActMade old new t act result → act_creates act ≡ false → length new.objects ≡ length old.objects
+length_made old new t act (Ok reply) made none =
+    step_length (state old) (state new) t (Call.Act (act_named old.handles act)) reply new.grants made.made.1
+    ∙ length_act_change (state old) t (act_named old.handles act) (creates_named old.handles act none)
+length_made old new t act (Err r) made none = ap (λ (s : State). length s.objects) made.made.2
+
+-- what creates makes room, and what creates nothing needs none
+pub room_act : (creates : Bool) (before after room new_room : ℕ) → (creates ≡ true → after ≤ new_room) → (creates ≡ false → after ≡ before) → (creates ≡ false → new_room ≡ room) → before ≤ room → after ≤ new_room
+room_act true before after room new_room made same kept there = made refl
+room_act false before after room new_room made same kept there =
+    let count = same refl in
+    let capacity = kept refl in
+    omega (arith, count, capacity, there)

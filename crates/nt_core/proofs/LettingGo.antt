@@ -1,54 +1,71 @@
 -- Marks for what a wait that ended named.
-use Rattle.std.proofs.Common.{◌≡◌, ℕ, true, List, ◌∷◌, set, refl, sym, ap, ◌∙◌, subst, arith, Some, None, inl, inr}
-use Rattle.std.specs.Prelude.{nat_lt}
+use Rattle.std.proofs.Common.{◌≡◌, ◌<◌, ℕ, zero, suc, true, false, Option, length, [], List, ◌∷◌, set, refl, sym, ap, ◌∙◌, subst, arith, Some, None, inl, inr}
+use Rattle.std.specs.Prelude.{nat_lt, drop}
+use Rattle.nt_waits.specs.Waits.{IsMember}
 use Rattle.std.proofs.lemmas.Bool.{cases_eq, false≢true}
+use Rattle.std.proofs.lemmas.Bool.Decides.{nat_tests}
 use Rattle.std.proofs.lemmas.List.{length-set, get_or-set_same, get_or-set_other}
+use Rattle.nt_objects.specs.declared.handles.Opened.{Opened}
 use Rattle.nt_objects.specs.Handles.{count_named}
 use Rattle.nt_alarms.specs.Alarms.{alarm_at}
 use Rattle.nt_core.specs.Dispatcher.{Dispatcher, state}
-use Rattle.nt_core.specs.Lawful.{MarksAgreeBut}
+use Rattle.nt_core.specs.Lawful.{MarksAgreeBut, LetsGoBut}
 use Rattle.nt_core.proofs.Lives.{parts}
 
--- these objects are still to be looked at
-pub record LetGoSoFar (old now : Dispatcher) (left : List ℕ) : Type 0 where
-  pub rest : now ≡ record old { leaving = now.leaving }
-  pub marks : MarksAgreeBut left now
-
 -- an object that a handle names needs no mark
-pub let_go_named : (old now : Dispatcher) (o : ℕ) (left : List ℕ) → LetGoSoFar old now (o ∷ left) → nat_lt 0 (count_named now.handles o) ≡ true → LetGoSoFar old now left
-let_go_named old now o left far opened = record {
-  rest = far.rest;
-  marks = record {
-    living = far.marks.living;
-    count = far.marks.count;
-    marked = λ k forgotten. elim (far.marks.marked k forgotten) [
-      | inl mark ↦ inl mark
-      | inr member ↦ elim member [
-        | inl here ↦ absurd (false≢true (sym ((parts (state now) k forgotten).unopened) ∙ (ap (λ j. nat_lt 0 (count_named now.handles j)) (sym here) ∙ opened)))
-        | inr later ↦ inr later
-      ]
-    ];
-    known = λ k m. far.marks.known k (inr m);
-  };
+pub let_go_named : (handles : List (Option Opened)) (ended : List ℕ) (old now : List (Option ℕ)) (o : ℕ) (left : List ℕ) → LetsGoBut (o ∷ left) handles ended old now → nat_lt 0 (count_named handles o) ≡ true → LetsGoBut left handles ended old now
+let_go_named handles ended old now o left far named = record {
+  count = far.count;
+  marked = λ k member none. elim (far.marked k member none) [
+    | inl mark ↦ inl mark
+    | inr here_or_later ↦ elim here_or_later [
+      | inl here ↦ absurd (let zero : count_named handles o ≡ 0 = ap (count_named handles) here ∙ none in false≢true (sym (ap (λ n. nat_lt 0 n) zero) ∙ named))
+      | inr later ↦ inr later
+    ]
+  ];
+  kept = far.kept;
 }
 
 -- the others get one
-pub let_go_marked : (old now new : Dispatcher) (o : ℕ) (left : List ℕ) → LetGoSoFar old now (o ∷ left) → new ≡ record now { leaving = set now.leaving o (Some 0) } → LetGoSoFar old new left
-let_go_marked old now new o left far is = subst (λ (d : Dispatcher). LetGoSoFar old d left) (sym is) (record {
-  rest = ap (λ (d : Dispatcher). record d { leaving = set now.leaving o (Some 0) }) far.rest;
-  marks = record {
-    living = far.marks.living;
-    count = length-set now.leaving o (Some 0) ∙ far.marks.count;
-    marked = λ k forgotten. elim (cases_eq k o) [
-      | inl same ↦ inl (ap (λ j. alarm_at (set now.leaving o (Some 0)) j) same ∙ get_or-set_same now.leaving o (Some 0) None (let known = far.marks.known o (inl refl) in let count = far.marks.count in omega (arith, known, count)))
-      | inr other ↦ elim (far.marks.marked k forgotten) [
-        | inl mark ↦ inl (get_or-set_other now.leaving o k (Some 0) None other ∙ mark)
-        | inr member ↦ elim member [
-          | inl here ↦ absurd (other (sym here))
-          | inr later ↦ inr later
+pub let_go_marked : (handles : List (Option Opened)) (ended : List ℕ) (old now : List (Option ℕ)) (o : ℕ) (left : List ℕ) → LetsGoBut (o ∷ left) handles ended old now → o < length old → LetsGoBut left handles ended old (set now o (Some 0))
+let_go_marked handles ended old now o left far known =
+    let count = far.count in
+    let here : alarm_at (set now o (Some 0)) o ≡ Some 0 = get_or-set_same now o (Some 0) None (omega (arith, known, count)) in
+    record {
+      count = length-set now o (Some 0) ∙ far.count;
+      marked = λ k member none. elim (cases_eq k o) [
+        | inl same ↦ inl (ap (λ j. alarm_at (set now o (Some 0)) j) same ∙ here)
+        | inr other ↦ elim (far.marked k member none) [
+          | inl mark ↦ inl (get_or-set_other now o k (Some 0) None other ∙ mark)
+          | inr here_or_later ↦ elim here_or_later [
+            | inl is ↦ absurd (other (sym is))
+            | inr later ↦ inr later
+          ]
         ]
-      ]
-    ];
-    known = λ k m. far.marks.known k (inr m);
-  };
-})
+      ];
+      kept = λ k was. elim (cases_eq k o) [
+        | inl same ↦ ap (λ j. alarm_at (set now o (Some 0)) j) same ∙ here
+        | inr other ↦ get_or-set_other now o k (Some 0) None other ∙ far.kept k was
+      ];
+    }
+
+-- with these marks each object that lives while nothing keeps it has one
+pub let_go_agree : (d : Dispatcher) (ended : List ℕ) (leaving : List (Option ℕ)) → MarksAgreeBut ended d → LetsGoBut [] d.handles ended d.leaving leaving → MarksAgreeBut [] (record d { leaving = leaving })
+let_go_agree d ended leaving marks lets = record {
+  living = marks.living;
+  count = lets.count ∙ marks.count;
+  marked = λ o forgotten. elim (marks.marked o forgotten) [
+    | inl mark ↦ inl (lets.kept o mark)
+    | inr member ↦ lets.marked o member (none_named (count_named d.handles o) (parts (state d) o forgotten).unopened)
+  ];
+  known = λ o none. absurd none;
+}
+  where
+    none_named : (n : ℕ) → nat_lt 0 n ≡ false → n ≡ 0
+    none_named n unopened = grind (arith, nat_tests, unopened)
+
+-- what a list has from some place on stands in it
+pub dropped_member : (i : ℕ) (xs : List ℕ) (h : ℕ) (rest : List ℕ) → drop i xs ≡ h ∷ rest → IsMember xs h
+dropped_member zero xs h rest is = subst (λ (ys : List ℕ). IsMember ys h) (sym is) (inl refl)
+dropped_member (suc i) [] h rest is = let none = ap (λ (ys : List ℕ). length ys) is in absurd (omega (arith, none))
+dropped_member (suc i) (x ∷ xs) h rest is = inr (dropped_member i xs h rest is)

@@ -1,36 +1,25 @@
 mod Taking
 mod Ready
-mod Tries
+pub mod Tries
 mod Orders
-mod Keeping
-mod Walks
+pub mod Keeping
+pub mod Walks
 mod Stopping
 mod Visiting
-mod Changing
-mod Accepting
+pub mod Changing
+pub mod Accepting
 mod Replacing
-mod Beginning
-mod Unique
-mod OneWay
-mod Takes
-mod Turns
-mod Giving
-mod Handling
-mod Owing
-mod Setting
-mod Lasting
-mod Remaining
-mod CallKinds
-mod Numbers
-mod Standing
-mod Keepers
-mod Alerting
-mod Listing
+pub mod Beginning
+pub mod Handling
+pub mod Remaining
+pub mod Alerting
+pub mod Listing
 mod Leaving
-mod Exiting
+mod Exchanging
+pub mod Exiting
 mod Ending
 mod Ticking
-mod Lengths
+pub mod Lengths
 mod Timing
 mod Swapping
 mod Arming
@@ -38,16 +27,17 @@ mod Passing
 mod Rousing
 mod Moments
 mod Coming
-mod Judging
+pub mod Judging
+mod Making
 mod Owned
 mod Counting
 mod Moves
 pub mod Runs
 pub mod Lawful
-mod Lives
+pub mod Lives
 mod Marking
 mod LettingGo
-mod Settling
+pub mod Settling
 mod Gone
 mod Ended
 mod Closing

@@ -1,8 +1,9 @@
 -- Lists of handles, each once: put together, counted, and sorted.
-use Rattle.std.proofs.Common.{◌≡◌, ◌≢◌, ◌<◌, ◌≤◌, ◌+◌, ◌==◌, ℕ, zero, suc, true, cond, List, [], ◌∷◌, ◌++◌, length, get_or, take, refl, sym, ap, ◌∙◌, subst, arith, inl, inr, ◌⊎◌}
+use Rattle.std.proofs.Common.{◌≡◌, ◌≢◌, ◌<◌, ◌≤◌, ◌+◌, ◌==◌, ℕ, zero, suc, true, false, cond, List, [], ◌∷◌, ◌++◌, length, get_or, take, refl, sym, ap, ◌∙◌, subst, arith, inl, inr, ◌⊎◌}
 use Rattle.std.specs.Prelude.{count_by, AllPairs, Contains, ◌↔◌}
 use Rattle.std.specs.List.Sorted.{IsPermutation, IsNonDecreasing}
 use Rattle.std.proofs.lemmas.Bool.{cases_eq}
+use Rattle.std.proofs.lemmas.Bool.Decides.{nat_tests}
 use Rattle.std.proofs.lemmas.List.{take_more}
 use Rattle.std.proofs.lemmas.List.Sums.{sum_by-cons}
 use Rattle.std.proofs.lemmas.List.Sorted.{sum_by-IsPermutation}
@@ -13,7 +14,14 @@ use Rattle.nt_owners.specs.Owned.{IsMember as IsOwned, AreOnce as AreOwnedOnce}
 use Rattle.nt_owners.specs.Objects.{AreListed}
 use Rattle.nt_core.specs.Rising.{IsRising, AreRising, Lists}
 use Rattle.nt_core.specs.State.{object_at}
-use Rattle.nt_core.proofs.Takes.{same_yes, same_no}
+
+-- ---- tests of numbers
+
+pub same_yes : (a b : ℕ) → a ≡ b → (a == b) ≡ true
+same_yes a b e = grind (arith, nat_tests, e)
+
+pub same_no : (a b : ℕ) → a ≢ b → (a == b) ≡ false
+same_no a b e = grind (arith, nat_tests, e)
 
 -- ---- members
 

@@ -81,6 +81,32 @@ kept_lives d sound o kept = elim (one_of (is_opened (state d) o) (is_awaited (st
   ]
 ]
 
+-- ---- at the opening
+
+-- each object is a thread that runs, and that keeps it
+pub opening_living : (d : Dispatcher) → IsSound d → length d.objects ≡ d.threads → ((o : ℕ) → object_at d.objects o ≡ Thread false) → LivesWhileKept (state d)
+opening_living d sound count running o = go (lives (state d) o) (is_kept (state d) o) refl refl
+  where
+    runs_there : lives (state d) o ≡ true → runs (state d) o ≡ true
+    runs_there is =
+        let test = (both (nat_lt o (length d.objects)) (not (is_gone (object_at d.objects o))) is).0 in
+        let below : o < length d.objects = grind (arith, nat_tests, test) in
+        let known : nat_lt o d.threads ≡ true = (let less : o < d.threads = omega (arith, below, count) in grind (arith, nat_tests, less)) in
+        ap (λ b. b && not (has_ended (object_at d.objects o))) known ∙ ap (λ x. not (has_ended x)) (running o)
+
+    keeps : (a b : Bool) → (a || (b || true)) ≡ true
+    keeps true b = refl
+    keeps false true = refl
+    keeps false false = refl
+
+    kept : lives (state d) o ≡ true → is_kept (state d) o ≡ true
+    kept is = ap (λ c. is_opened (state d) o || (is_awaited (state d) o || c)) (runs_there is) ∙ keeps (is_opened (state d) o) (is_awaited (state d) o)
+
+    go : (a b : Bool) → lives (state d) o ≡ a → is_kept (state d) o ≡ b → lives (state d) o ≡ is_kept (state d) o
+    go true b p q = p ∙ sym (kept p)
+    go false true p q = kept_lives d sound o q ∙ sym q
+    go false false p q = p ∙ sym q
+
 -- ---- what names an object keeps it
 
 -- a handle that names the object is counted

@@ -205,7 +205,7 @@ named_member hs w o is named = at hs named.0 (subst (λ (xs : List ℕ). named.0
     at (x ∷ xs) zero below e = inl e
     at (x ∷ xs) (suc j) below e = inr (at xs j (omega (arith, below)) e)
 
-member_named : (w : Wait) (o : ℕ) → IsMember w.handles o → Names w o
+pub member_named : (w : Wait) (o : ℕ) → IsMember w.handles o → Names w o
 member_named w o m = at w.handles m
   where
     at : (xs : List ℕ) → IsMember xs o → (j : ℕ) × (j < length xs) × (get_or xs j 0 ≡ o)

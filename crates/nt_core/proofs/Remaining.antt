@@ -89,25 +89,6 @@ goes s [] o m known = absurd m
 goes s (p ∷ os) o (inl e) known = stays_gone (gone s p) os o (ap (λ q. object_at (slice_set s.objects q Gone) o) e ∙ set_here s.objects o known)
 goes s (p ∷ os) o (inr m) known = goes (gone s p) os o m (let same = length-set s.objects p Gone in omega (arith, known, same))
 
-gone_one : (objects : List Object) (o h : ℕ) → is_gone (object_at (slice_set objects o Gone) h) ≡ false → object_at (slice_set objects o Gone) h ≡ object_at objects h
-gone_one [] o h lives = refl
-gone_one (x ∷ objects) zero zero lives = absurd (false≢true (sym lives))
-gone_one (x ∷ objects) zero (suc h) lives = refl
-gone_one (x ∷ objects) (suc o) zero lives = refl
-gone_one (x ∷ objects) (suc o) (suc h) lives = gone_one objects o h lives
-
-gone_all : (s : State) (os : List ℕ) (h : ℕ) → is_gone (object_at (all_gone s os).objects h) ≡ false → object_at (all_gone s os).objects h ≡ object_at s.objects h
-gone_all s [] h lives = refl
-gone_all s (o ∷ os) h lives =
-    let rest = gone_all (gone s o) os h lives in
-    rest ∙ gone_one s.objects o h (sym (ap is_gone rest) ∙ lives)
-
--- an object that is not gone is as it was before the end of others
-pub ends_object : (left new : State) → Ends left new → (h : ℕ) → is_gone (object_at new.objects h) ≡ false → object_at new.objects h ≡ object_at left.objects h
-ends_object left new ends h lives =
-    let there = ap (λ (s : State). object_at s.objects h) ends.leaves in
-    there ∙ gone_all left ends.objects h (sym (ap is_gone there) ∙ lives)
-
 -- the end of objects ends no wait
 pub ends_waits : (left new : State) → Ends left new → new.waits ≡ left.waits
 ends_waits left new ends = ap (λ (s : State). s.waits) ends.leaves ∙ same_waits left ends.objects

@@ -1,5 +1,5 @@
 -- Calls that exchange one object, and serve the waits on it.
-use Rattle.std.proofs.Common.{◌≡◌, ◌≢◌, ◌<◌, ◌≤◌, ◌^◌, ℕ, zero, suc, ◌+◌, Bool, true, false, ◌&&◌, List, [], ◌∷◌, ◌++◌, length, set, refl, sym, ap, ◌∙◌, subst, arith, inl, inr, ◌⊎◌, Some, None}
+use Rattle.std.proofs.Common.{◌≡◌, ◌≢◌, ◌<◌, ◌≤◌, ◌^◌, ℕ, zero, suc, ◌+◌, Bool, true, false, ◌&&◌, List, [], ◌∷◌, ◌++◌, length, set, refl, sym, ap, ◌∙◌, subst, arith, inl, inr, ◌⊎◌, Some, None, Option}
 use Rattle.std.proofs.lemmas.Bool.{cases_eq, false≢true}
 use Rattle.std.proofs.lemmas.List.{append-nil}
 use Rattle.std.proofs.lemmas.Bool.Decides.{nat_tests}
@@ -8,7 +8,7 @@ use Rattle.nt_waits.specs.Waits.{IsMember, AreOnce, others}
 use Rattle.nt_objects.specs.declared.object.Object.{Object}
 use Rattle.nt_objects.specs.declared.object.Object.TheVariants.{Event, Semaphore, Mutex, Timer, Thread, Gone}
 use Rattle.nt_objects.specs.Object.{signaled, taken, is_thread, is_gone, is_event, is_semaphore, is_mutex, owned_by, count_of, depth_of, depth_limit, mutex_of, with_set, released, unlocked, due_of, IsLawfulObject}
-use Rattle.std.specs.Prelude.{ℤ, pos, ◌+ℤ◌, ◌<ℤ◌, nat_le, nat_lt, if◌then◌else◌}
+use Rattle.std.specs.Prelude.{◌||◌, ℤ, pos, ◌+ℤ◌, ◌<ℤ◌, nat_le, nat_lt, if◌then◌else◌}
 use Rattle.nt_status.specs.Flags.{has_flag, mutex_initial_owner}
 use Rattle.std.proofs.lemmas.Int.{ints}
 use Rattle.std.proofs.Common.{◌-◌}
@@ -28,12 +28,13 @@ use Rattle.nt_status.specs.Flags.{only_known}
 use Rattle.nt_status.specs.declared.refusal.Refusal.TheVariants.{AccessDenied, HandleLimit, InvalidHandle}
 use Rattle.nt_core.proofs.Handling.{handles_opened}
 use Rattle.nt_core.proofs.Marking.{marks_opened}
-use Rattle.nt_core.specs.Refusals.{is_full, is_unknown, refusal}
+use Rattle.nt_objects.specs.declared.handles.Opened.{Opened}
+use Rattle.nt_core.specs.Refusals.{duplicate_causes, first_of_causes, is_full, is_unknown}
 use Rattle.nt_core.specs.Visits.{FitOnlyIn}
 use Rattle.nt_core.specs.Lawful.{IsSound, IsSteady, MayReplace}
 use Rattle.nt_core.specs.Accepts.{IsFresh, IsServedAfter, Accepts}
 use Rattle.nt_core.proofs.Changing.{ChangedOnlyAt, one_changed, same_changed, fit_only_in, changed_at_one, sound_replaced, served_fewer, due_replaced, none_created, sound_created, served_unchanged, object_at-append, due_kept, known_event, known_object, set_as_before, object_at-set_same}
-use Rattle.nt_core.proofs.Accepting.{accepted, settled_after, reading_taken_by, next_causes, own_causes}
+use Rattle.nt_core.proofs.Accepting.{accepted, settled_after, reading_taken_by, next_causes}
 use Rattle.nt_core.proofs.Walks.{others-IsMember, AreOnce-others}
 
 -- ---- a queue holds each thread once at most
@@ -159,12 +160,14 @@ with_set_same Gone t is = absurd (false≢true is)
 pub set_differs : (o : Object) (t : ℕ) → is_event o ≡ true → signaled o t ≡ false → with_set true o ≢ o
 set_differs o t is unset e = false≢true (sym unset ∙ (sym (ap (λ x. signaled x t) e) ∙ signaled_with_set true o t is))
 
+-- setting an event that is set leaves it as it is
+pub raised_same : (os : List Object) (t h : ℕ) → is_event (object_at os h) ≡ true → signaled (object_at os h) t ≡ true → with_object os h (with_set true) ≡ os
+raised_same os t h is was = set_as_before os h (with_set true (object_at os h)) (ap (λ b. with_set b (object_at os h)) (sym was) ∙ with_set_same (object_at os h) t is)
+
 -- the event was set
 pub raised_idle : (old : Dispatcher) (t h : ℕ) → IsFresh old → is_event (object_at old.objects h) ≡ true → signaled (object_at old.objects h) t ≡ true → IsServedAfter old (at (state old) h (with_set true)) old
 raised_idle old t h fresh is was =
-    let o = object_at old.objects h in
-    let same : with_set true o ≡ o = ap (λ b. with_set b o) (sym was) ∙ with_set_same o t is in
-    let objects : with_object old.objects h (with_set true) ≡ old.objects = set_as_before old.objects h (with_set true o) same in
+    let objects : with_object old.objects h (with_set true) ≡ old.objects = raised_same old.objects t h is was in
     idle_served old (at (state old) h (with_set true)) old [] fresh (same_changed old.objects (with_object old.objects h (with_set true)) objects) refl refl (λ i. record (state old) { objects = sym objects i }) fresh.steady
 
 -- what holds of a state at which an event was set, and waits are served
@@ -336,17 +339,17 @@ duplicated_accepted old new t object access handle fresh room known alive is bec
     }
 
 -- what a duplicate that no cause refuses names, with rights that there are
-pub duplicate_free : (s : State) (t object access : ℕ) → refusal s t false (Call.Act (Act.Duplicate object access)) ≡ None → (object < length s.objects) × (only_known access_bits access ≡ true) × (is_full s.handles ≡ false)
-duplicate_free s t object access none =
-    let own = own_causes s t (Call.Act (Act.Duplicate object access)) none in
-    let known = next_causes (is_unknown s.objects object) InvalidHandle ((not (only_known access_bits access), AccessDenied) ∷ (is_full s.handles, HandleLimit) ∷ []) own in
-    let rights = next_causes (not (only_known access_bits access)) AccessDenied ((is_full s.handles, HandleLimit) ∷ []) known.1 in
-    let room = next_causes (is_full s.handles) HandleLimit [] rights.1 in
-    (grind (arith, nat_tests, known.0), unnot (only_known access_bits access) rights.0, room.0)
+pub duplicate_free : (handles : List (Option Opened)) (os : List Object) (denied : Bool) (object access : ℕ) → first_of_causes (duplicate_causes handles os denied object access) ≡ None → (object < length os) × (only_known access_bits access ≡ true) × (is_full handles ≡ false)
+duplicate_free handles os denied object access none =
+    let known = next_causes (is_unknown os object) InvalidHandle ((denied || not (only_known access_bits access), AccessDenied) ∷ (is_full handles, HandleLimit) ∷ []) none in
+    let rights = next_causes (denied || not (only_known access_bits access)) AccessDenied ((is_full handles, HandleLimit) ∷ []) known.1 in
+    let room = next_causes (is_full handles) HandleLimit [] rights.1 in
+    (grind (arith, nat_tests, known.0), unnot denied (only_known access_bits access) rights.0, room.0)
   where
-    unnot : (b : Bool) → not b ≡ false → b ≡ true
-    unnot true e = refl
-    unnot false e = sym e
+    unnot : (denied b : Bool) → (denied || not b) ≡ false → b ≡ true
+    unnot denied true e = refl
+    unnot true false e = sym e
+    unnot false false e = sym e
 
 -- ---- semaphores
 

@@ -1,15 +1,15 @@
 -- What an accepted call does to the dispatcher.
-use Rattle.std.specs.Prelude.{◌≡◌, ℕ, ◌+◌, ◌≢◌, ◌<◌, ◌≤◌, ◌⊎◌, Bool, true, false, not, ◌&&◌, ◌==◌, List, [], ◌∷◌, ◌++◌, length, Option, Some, None, IfSome}
+use Rattle.std.specs.Prelude.{◌≡◌, ℕ, ◌+◌, ◌≢◌, ◌<◌, ◌≤◌, ◌⊎◌, Bool, true, not, ◌&&◌, ◌==◌, List, [], ◌∷◌, ◌++◌, length, Option, Some, None, IfSome, Result, Ok, Err, OnOk, OnErr}
 use Rattle.std.specs.List.{filter}
 use Rattle.std.specs.FinMap.{len, get}
 use Rattle.nt_status.specs.Status.{io_completion_code, timeout_code}
+use Rattle.nt_status.specs.declared.refusal.Refusal.{Refusal}
 use Rattle.nt_core.specs.declared.call.Act.{Act}
 use Rattle.nt_core.specs.declared.call.Call.{Call}
 use Rattle.nt_core.specs.declared.call.Reply.{Reply}
 use Rattle.nt_core.specs.declared.call.Grant.{Grant}
 use Rattle.nt_core.specs.Rising.{AreRising}
-use Rattle.nt_objects.specs.declared.object.Object.{Object}
-use Rattle.nt_objects.specs.Object.{armed_with, is_gone}
+use Rattle.nt_objects.specs.Object.{armed_with}
 use Rattle.nt_objects.specs.declared.object.Routine.{Routine}
 use Rattle.nt_alarms.specs.Alarms.{alarm_at}
 use Rattle.nt_apc.specs.Queues.{withdrawn, place_of}
@@ -17,7 +17,10 @@ use Rattle.nt_waits.specs.Waits.{IsMember}
 use Rattle.nt_core.specs.State.{State, object_at, wait_over}
 use Rattle.nt_core.specs.Serving.{IsChanged, sequence, sleeps, Serve, IsAlerted, Alert, ending, TimeOut, IsLate}
 use Rattle.nt_core.specs.Change.{change, all_expired, exited, IsTimerDue}
-use Rattle.nt_core.specs.Steps.{Step, MomentPasses}
+use Rattle.nt_core.specs.Naming.{object_named, lacks, act_named}
+use Rattle.nt_core.specs.Rights.{act_denied}
+use Rattle.nt_core.specs.Refusals.{Cause, first_of_causes, call_causes, refusal}
+use Rattle.nt_core.specs.Steps.{Step, MomentPasses, Made}
 use Rattle.nt_core.specs.Dispatcher.{Dispatcher, state}
 use Rattle.nt_core.specs.Due.{due_weight, total_weight}
 use Rattle.nt_core.specs.Lawful.{IsSound, IsSteady}
@@ -124,11 +127,6 @@ pub record IsExitedAfter (old : Dispatcher) (t : ℕ) (new : Dispatcher) (handle
   pub grants : new.grants ≡ old.grants
   pub table : new.table ≡ old.table
 
--- where the act duplicates a handle of an object that there is, that object lives
-abbrev pub DuplicatesLiving : List Object → Act → Type 0
-DuplicatesLiving objects (Act.Duplicate object access) = object < length objects → is_gone (object_at objects object) ≡ false
-DuplicatesLiving objects act = Unit {0}
-
 -- steady, and nothing told yet of the call that comes
 pub record IsFresh (d : Dispatcher) : Type 0 where
   pub steady : IsSteady d
@@ -140,3 +138,25 @@ pub record Accepts (old new : Dispatcher) (t : ℕ) (call : Call) (reply : Reply
   pub step : Step (state old) t call reply new.grants (state new)
   pub steady : IsSteady new
   pub local : IsLocal (state old) t call new.table.looked new.grants
+
+-- a call of this thread is refused by its own causes alone: the thread is known, it runs, and waits for nothing
+abbrev pub IsFree : State → ℕ → Type 0
+IsFree s t = (denied : Bool) (call : Call) → refusal s t denied call ≡ first_of_causes (call_causes s t denied call)
+
+-- a call on numbers of objects is a step of the machine, local, or is refused; either way the dispatcher is steady
+pub record IsMade (old new : Dispatcher) (t : ℕ) (denied : Bool) (call : Call) (result : Result Reply Refusal) : Type 0 where
+  pub made : Made (state old) t denied call result new.grants (state new)
+  pub steady : IsSteady new
+  pub local : OnOk result (IsLocal (state old) t call new.table.looked new.grants)
+  pub untested : OnErr result (new.table.looked ≡ 0)
+
+-- an act is made on the object that its handle names, or refused
+abbrev pub IsActMade : Dispatcher → Dispatcher → ℕ → Act → Result Reply Refusal → Type 0
+IsActMade old new t act result = IsMade old new t (act_denied old.handles act) (Call.Act (act_named old.handles act)) result
+
+-- the number of the object that a handle names, or the first cause that holds of it, and of whether the handle lacks these rights
+abbrev pub IsJudged : Dispatcher → ℕ → ℕ → (Bool → ℕ → List Cause) → Result ℕ Refusal → Type 0
+IsJudged d handle access causes (Ok object) =
+    (object ≡ object_named d.handles handle) × (first_of_causes (causes (lacks access d.handles handle) object) ≡ None)
+IsJudged d handle access causes (Err cause) =
+    first_of_causes (causes (lacks access d.handles handle) (object_named d.handles handle)) ≡ Some cause

@@ -5,7 +5,7 @@ use Rattle.std.specs.FinMap as map
 use Rattle.std.specs.FinMap.{get}
 use Rattle.nt_objects.specs.declared.object.Object.{Object}
 use Rattle.nt_objects.specs.declared.handles.Opened.{Opened}
-use Rattle.nt_objects.specs.Handles.{opened_at}
+use Rattle.nt_objects.specs.Handles.{opened_at, count_named}
 use Rattle.nt_owners.specs.Objects.{OwnersAgree}
 use Rattle.nt_objects.specs.Object.{IsLawfulObject, owned_by, has_room, has_ended, is_thread, is_gone, due_of, setter_of}
 use Rattle.nt_waits.specs.declared.wait.Wait.{Wait}
@@ -55,6 +55,12 @@ pub record MarksAgreeBut (unmarked : List ℕ) (d : Dispatcher) : Type 0 where
   pub count : length d.leaving ≡ length d.objects
   pub marked : (o : ℕ) → is_forgotten (state d) o ≡ true → (alarm_at d.leaving o ≡ Some 0) ⊎ IsMember unmarked o
   pub known : (o : ℕ) → IsMember unmarked o → o < length d.objects
+
+-- each of these objects that no handle names has a mark now, but for those that are left; no mark is gone
+pub record LetsGoBut (left : List ℕ) (handles : List (Option Opened)) (ended : List ℕ) (old new : List (Option ℕ)) : Type 0 where
+  pub count : length new ≡ length old
+  pub marked : (o : ℕ) → IsMember ended o → count_named handles o ≡ 0 → (alarm_at new o ≡ Some 0) ⊎ IsMember left o
+  pub kept : (o : ℕ) → alarm_at old o ≡ Some 0 → alarm_at new o ≡ Some 0
 
 -- what holds also between a change and the serving after it
 pub record IsSound (d : Dispatcher) : Type 0 where

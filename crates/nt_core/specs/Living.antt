@@ -1,13 +1,8 @@
 -- When an object lives, and what becomes of one that nothing keeps any more.
-use Rattle.std.specs.Prelude.{◌≡◌, ℕ, ◌⊎◌, Bool, true, not, ◌&&◌, ◌||◌, nat_lt, List, [], ◌∷◌, length, slice_set, count_by}
-use Rattle.std.specs.declared.option.Option.TheVariants.{Some}
-use Rattle.std.specs.FinMap.{get}
-use Rattle.nt_objects.specs.declared.handles.Opened.{Opened}
+use Rattle.std.specs.Prelude.{◌≡◌, ℕ, Bool, true, not, ◌&&◌, ◌||◌, nat_lt, List, [], ◌∷◌, length, slice_set, count_by}
 use Rattle.nt_objects.specs.declared.object.Object.TheVariants.{Gone}
-use Rattle.nt_objects.specs.Handles.{opened_at, count_named}
+use Rattle.nt_objects.specs.Handles.{count_named}
 use Rattle.nt_objects.specs.Object.{has_ended, is_gone}
-use Rattle.nt_waits.specs.declared.wait.Wait.{Wait}
-use Rattle.nt_waits.specs.Waits.{Names}
 use Rattle.nt_apc.specs.Queues.{withdrawn}
 use Rattle.nt_core.specs.Rising.{AreRising}
 use Rattle.nt_core.specs.State.{State, object_at}
@@ -57,15 +52,3 @@ LivesWhileKept s = (o : ℕ) → lives s o ≡ is_kept s o
 -- how many objects live
 abbrev pub living : State → ℕ
 living s = count_by (λ o. not (is_gone o)) s.objects
-
--- ---- what keeps an object, in the words of the law about it
-
-abbrev pub HasHandle : State → ℕ → Type 0
-HasHandle s o = (h : ℕ) × (opened : Opened) × (opened_at s.handles h ≡ Some opened) × (opened.object ≡ o)
-
-abbrev pub HasWait : State → ℕ → Type 0
-HasWait s o = (t : ℕ) × (w : Wait) × (get s.waits t ≡ Some w) × Names w o
-
--- a handle names it, a pending wait names it, or it is a thread that runs
-abbrev pub IsKept : State → ℕ → Type 0
-IsKept s o = HasHandle s o ⊎ HasWait s o ⊎ (runs s o ≡ true)

@@ -2,7 +2,6 @@
 ghost use Rattle.std.specs.Prelude.{◌≡◌, ◌<◌, ◌∷◌, ◌++◌, [], ℕ, None, IsTrue, OnOk, OnErr, length};
 ghost use Rattle.nt_core.specs.declared.call.Act.{Act};
 ghost use Rattle.nt_core.specs.declared.call.Call.{Call};
-ghost use Rattle.nt_core.specs.declared.call.Reply.{Reply};
 ghost use Rattle.nt_apc.specs.Queues.{pushed, taken, oldest, apc_of, queue_of};
 ghost use Rattle.nt_core.specs.Change.{may_take};
 ghost use Rattle.std.specs.FinMap as map;
@@ -10,12 +9,12 @@ ghost use Rattle.nt_core.specs.State.{pends, wait_over};
 ghost use Rattle.nt_core.specs.Dispatcher.{state};
 ghost use Rattle.nt_core.specs.Serving.{IsAlerted, ending};
 ghost use Rattle.nt_core.specs.Lawful.{IsSound};
-ghost use Rattle.nt_core.specs.Accepts.{IsFresh, IsRoused, IsAlertedAfter, Accepts};
+ghost use Rattle.nt_core.specs.Accepts.{IsFresh, IsFree, IsRoused, IsAlertedAfter, IsActMade, Accepts};
 
-use crate::call::Grant;
+use crate::call::{Grant, Reply};
 use crate::machine::Machine;
 use nt_apc::Apc;
-use nt_status::{Handle, OptionalMoment, Status, ThreadId};
+use nt_status::{Handle, OptionalMoment, Refusal, Status, ThreadId};
 use std::alloc::AllocError;
 
 impl Machine {
@@ -78,21 +77,18 @@ impl Machine {
     /// QueueUserAPC: the APC stands last in the thread's queue, and an alertable wait of it ends.
     pub(crate) fn queue_apc(
         &mut self,
-        thread: ThreadId,
         target: Handle,
         routine: u64,
         arg: u64,
-    ) -> Result<(), AllocError>
+    ) -> Result<Reply, Refusal>
         requires fresh { IsFresh self.old }
-        requires known { target < self.old.threads }
-        ensures ok { OnOk result (Accepts self.old self.new thread (Call.Act (Act.QueueApc target routine arg)) Reply.Done) }
-        ensures err { OnErr result (self.new ≡ self.old) }
+        ensures { (t : ℕ) → IsFree (state self.old) t → IsActMade self.old self.new t (Act.QueueApc target routine arg) result }
     {
-        let _ = thread;
+        let target = self.running_thread(target)?;
         let target = ThreadId::new(target.get() as u16);
         self.post(target, routine, arg)?;
         self.alert(target);
-        Ok(())
+        Ok(Reply::Done)
     }
 
     /// Whether the thread may take an APC, and has one.
@@ -113,18 +109,18 @@ impl Machine {
         self.apcs.next(thread)
     }
 
-    /// The caller's oldest APC, where its last ended wait ended for its APCs and it has not found none since.
-    pub(crate) fn next_apc(&mut self, thread: ThreadId) -> Option<Apc>
+    /// NextApc: the caller's oldest APC, where its last ended wait ended for its APCs and it has not found none since.
+    pub(crate) fn next_apc(&mut self, thread: ThreadId) -> Reply
         requires fresh { IsFresh self.old }
         requires known { thread < self.old.threads }
         requires idle { map.get self.old.table.pending thread ≡ None }
-        ensures { Accepts self.old self.new thread (Call.Act Act.NextApc) (Reply.Apc result) }
+        ensures { Accepts self.old self.new thread (Call.Act Act.NextApc) result }
     {
         if self.may_take(thread) {
-            self.take_apc(thread)
+            Reply::Apc(self.take_apc(thread))
         } else {
             self.hand(thread, false);
-            None
+            Reply::Apc(None)
         }
     }
 }

@@ -1,89 +1,94 @@
 //! Calls on events.
-ghost use Rattle.std.specs.Prelude.{◌≡◌, ◌≤◌, vec_capacity, length, true, false, IfOk, IsTrue, OnErr};
-ghost use Rattle.nt_objects.specs.Object.{is_event, with_set};
+ghost use Rattle.std.specs.Prelude.{◌≡◌, ◌≤◌, ◌<◌, ℕ, vec_capacity, length, true, false, not, IsTrue};
+ghost use Rattle.nt_objects.specs.Object.{is_event, signaled, with_set};
 ghost use Rattle.nt_core.specs.State.{object_at, with_object};
 ghost use Rattle.nt_core.specs.Change.{at};
 ghost use Rattle.nt_core.specs.Dispatcher.{state};
-ghost use Rattle.nt_core.specs.Refusals.{is_full};
-ghost use Rattle.nt_core.specs.Accepts.{IsFresh, IsServedAfter, Accepts};
+ghost use Rattle.nt_core.specs.Accepts.{IsFresh, IsFree, IsServedAfter, IsActMade};
 ghost use Rattle.nt_core.specs.declared.call.Act.{Act};
-ghost use Rattle.nt_core.specs.declared.call.Call.{Call};
-ghost use Rattle.nt_core.specs.declared.call.Reply.{Reply};
 
+use crate::call::Reply;
 use crate::machine::Machine;
 use nt_objects::Object;
-use nt_status::{EventFlags, Handle, ThreadId};
-use std::alloc::AllocError;
+use nt_status::{EventFlags, Handle, Refusal};
 
 impl Machine {
     /// CreateEvent.
     pub(crate) fn create_event(
         &mut self,
-        thread: ThreadId,
-        flags: EventFlags,
+        flags: u32,
         changed: &mut Vec<Handle>,
-    ) -> Result<Handle, AllocError>
+    ) -> Result<Reply, Refusal>
         requires fresh { IsFresh self.old }
-        requires few { is_full self.old.handles ≡ false }
         requires room { length self.old.objects ≤ vec_capacity changed.old }
-        ensures ok { IfOk result (λ handle. Accepts self.old self.new thread (Call.Act (Act.CreateEvent flags)) (Reply.Handle handle)) }
-        ensures err { OnErr result (self.new ≡ self.old) }
+        ensures made { (t : ℕ) → IsFree (state self.old) t → IsActMade self.old self.new t (Act.CreateEvent flags) result }
         ensures room { length self.new.objects ≤ vec_capacity changed.new }
     {
-        let _ = thread;
+        let Some(flags) = EventFlags::from_bits(flags) else {
+            return Err(Refusal::InvalidParameter);
+        };
         self.create(Object::new_event(flags), changed)
     }
 
+    /// The event is set from now on; answers whether it was not before.
+    fn set(&mut self, event: Handle) -> bool
+        requires known { event < length self.old.objects }
+        requires kind { IsTrue (is_event (object_at self.old.objects event)) }
+        ensures becomes { self.new ≡ record self.old { objects = with_object self.old.objects event (with_set true) } }
+        ensures answer { (t : ℕ) → result ≡ not (signaled (object_at self.old.objects event) t) }
+    {
+        self.objects.set(event)
+    }
+
     /// The event is not set from now on.
-    fn unset_event(&mut self, event: Handle)
-        requires { IsTrue (is_event (object_at self.old.objects event)) }
+    fn unset(&mut self, event: Handle)
+        requires known { event < length self.old.objects }
+        requires kind { IsTrue (is_event (object_at self.old.objects event)) }
         ensures { self.new ≡ record self.old { objects = with_object self.old.objects event (with_set false) } }
     {
-        let mut object = self.object(event);
-        object.reset();
-        self.exchange(event, object);
+        self.objects.reset(event);
     }
 
     /// The event is set from now on. Where it was not, the waits that name it are served.
-    pub(crate) fn raise_event(&mut self, thread: ThreadId, event: Handle)
+    pub(crate) fn raise_event(&mut self, event: Handle)
         requires fresh { IsFresh self.old }
         requires kind { IsTrue (is_event (object_at self.old.objects event)) }
         ensures served { IsServedAfter self.old (at (state self.old) event (with_set true)) self.new }
         ensures prepared { self.new.table.prepared ≡ self.old.table.prepared }
     {
-        let mut object = self.object(event);
-        if !object.signaled_for(thread) {
-            object.set();
-            self.replace(event, object);
+        if self.set(event) {
+            self.serve_one(event);
         }
     }
 
     /// SetEvent.
-    pub(crate) fn set_event(&mut self, thread: ThreadId, event: Handle)
+    pub(crate) fn set_event(&mut self, event: Handle) -> Result<Reply, Refusal>
         requires fresh { IsFresh self.old }
-        requires kind { IsTrue (is_event (object_at self.old.objects event)) }
-        ensures { Accepts self.old self.new thread (Call.Act (Act.SetEvent event)) Reply.Done }
+        ensures { (t : ℕ) → IsFree (state self.old) t → IsActMade self.old self.new t (Act.SetEvent event) result }
     {
-        self.raise_event(thread, event);
+        let event = self.event(event)?;
+        self.raise_event(event);
+        Ok(Reply::Done)
     }
 
     /// ResetEvent: no wait is granted.
-    pub(crate) fn reset_event(&mut self, thread: ThreadId, event: Handle)
+    pub(crate) fn reset_event(&mut self, event: Handle) -> Result<Reply, Refusal>
         requires fresh { IsFresh self.old }
-        requires kind { IsTrue (is_event (object_at self.old.objects event)) }
-        ensures { Accepts self.old self.new thread (Call.Act (Act.ResetEvent event)) Reply.Done }
+        ensures { (t : ℕ) → IsFree (state self.old) t → IsActMade self.old self.new t (Act.ResetEvent event) result }
     {
-        let _ = thread;
-        self.unset_event(event);
+        let event = self.event(event)?;
+        self.unset(event);
+        Ok(Reply::Done)
     }
 
     /// PulseEvent: sets the event, grants what fits then, and leaves it not set.
-    pub(crate) fn pulse_event(&mut self, thread: ThreadId, event: Handle)
+    pub(crate) fn pulse_event(&mut self, event: Handle) -> Result<Reply, Refusal>
         requires fresh { IsFresh self.old }
-        requires kind { IsTrue (is_event (object_at self.old.objects event)) }
-        ensures { Accepts self.old self.new thread (Call.Act (Act.PulseEvent event)) Reply.Done }
+        ensures { (t : ℕ) → IsFree (state self.old) t → IsActMade self.old self.new t (Act.PulseEvent event) result }
     {
-        self.raise_event(thread, event);
-        self.unset_event(event);
+        let event = self.event(event)?;
+        self.raise_event(event);
+        self.unset(event);
+        Ok(Reply::Done)
     }
 }

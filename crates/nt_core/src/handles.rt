@@ -4,10 +4,8 @@ ghost use Rattle.std.specs.List.{list_any};
 ghost use Rattle.std.specs.Option.{option_copied};
 ghost use Rattle.nt_objects.specs.declared.object.Object.TheVariants.{Thread};
 ghost use Rattle.nt_core.specs.State.{object_at};
-ghost use Rattle.nt_core.specs.Naming.{object_named, lacks, act_named};
-ghost use Rattle.nt_core.specs.Rights.{act_denied};
+ghost use Rattle.nt_core.specs.Naming.{object_named, lacks};
 
-use crate::call::Act;
 use nt_objects::{HandleTable, Object};
 use nt_status::Handle;
 
@@ -21,7 +19,7 @@ pub const SYNCHRONIZE: u32 = 0x0010_0000;
 pub const MODIFY_STATE: u32 = 0x0002;
 
 /// THREAD_SET_CONTEXT.
-const SET_CONTEXT: u32 = 0x0010;
+pub const SET_CONTEXT: u32 = 0x0010;
 
 /// The number of the object that the handle names, and one that no object has where it names none.
 pub fn object_named(handles: &HandleTable, handle: Handle) -> Handle
@@ -44,6 +42,18 @@ pub fn lacks(handles: &HandleTable, handle: Handle, access: u32) -> bool
     held & access != access
 }
 
+/// What the handle names: the number of its object, and one that no object has where it names none; and whether it lacks one of these rights.
+pub fn opened(handles: &HandleTable, handle: Handle, access: u32) -> (Handle, bool)
+    ensures object { result.0 ≡ object_named handles.now.opened handle }
+    ensures denied { result.1 ≡ lacks access handles.now.opened handle }
+{
+    let (object, held) = match handles.get(handle) {
+        Some(opened) => (opened.object, opened.access.bits()),
+        None => (Handle::new(NO_OBJECT), 0),
+    };
+    (object, held & access != access)
+}
+
 /// The numbers of the objects that the handles name, in this order. Answers whether one of the handles may not be waited for.
 pub fn name_all(handles: &HandleTable, these: &[Handle], named: &mut Vec<Handle>) -> bool
     requires { length these.now ≤ vec_capacity named.old }
@@ -62,77 +72,6 @@ pub fn name_all(handles: &HandleTable, these: &[Handle], named: &mut Vec<Handle>
         denied = denied || held & SYNCHRONIZE != SYNCHRONIZE;
     }
     denied
-}
-
-/// Whether the act's handle lacks a right that the act needs.
-pub fn act_denied(handles: &HandleTable, act: &Act) -> bool
-    ensures { result ≡ act_denied handles.now.opened act.now }
-{
-    match *act {
-        Act::SetEvent(object)
-        | Act::ResetEvent(object)
-        | Act::PulseEvent(object)
-        | Act::ReleaseSemaphore {
-            semaphore: object,
-            count: _,
-        }
-        | Act::SetTimer {
-            timer: object,
-            due: _,
-            period: _,
-            routine: _,
-        }
-        | Act::CancelTimer(object) => lacks(handles, object, MODIFY_STATE),
-        Act::QueueApc {
-            thread,
-            routine: _,
-            arg: _,
-        } => lacks(handles, thread, SET_CONTEXT),
-        Act::Duplicate { handle, access } => lacks(handles, handle, access),
-        _ => false,
-    }
-}
-
-/// The act, with the numbers of the objects in the place of their handles.
-pub fn name_act(handles: &HandleTable, act: &Act) -> Act
-    ensures { result ≡ act_named handles.now.opened act.now }
-{
-    match *act {
-        Act::SetEvent(event) => Act::SetEvent(object_named(handles, event)),
-        Act::ResetEvent(event) => Act::ResetEvent(object_named(handles, event)),
-        Act::PulseEvent(event) => Act::PulseEvent(object_named(handles, event)),
-        Act::ReleaseSemaphore { semaphore, count } => Act::ReleaseSemaphore {
-            semaphore: object_named(handles, semaphore),
-            count,
-        },
-        Act::ReleaseMutex(mutex) => Act::ReleaseMutex(object_named(handles, mutex)),
-        Act::SetTimer {
-            timer,
-            due,
-            period,
-            routine,
-        } => Act::SetTimer {
-            timer: object_named(handles, timer),
-            due,
-            period,
-            routine,
-        },
-        Act::CancelTimer(timer) => Act::CancelTimer(object_named(handles, timer)),
-        Act::QueueApc {
-            thread,
-            routine,
-            arg,
-        } => Act::QueueApc {
-            thread: object_named(handles, thread),
-            routine,
-            arg,
-        },
-        Act::Duplicate { handle, access } => Act::Duplicate {
-            handle: object_named(handles, handle),
-            access,
-        },
-        unnamed => unnamed,
-    }
 }
 
 /// The object with this number, or none.

@@ -1,26 +1,38 @@
 //! Whether a call is refused, and by which cause.
-ghost use Rattle.std.specs.Prelude.{ℕ, ◌≡◌, ◌==◌, ◌≤◌, ◌<◌, ◌||◌, Bool, true, false, map, vec_capacity, Some, IfSome, IfNone};
+ghost use Rattle.std.specs.Prelude.{ℕ, ◌≡◌, ◌==◌, ◌≤◌, ◌<◌, ◌||◌, [], ◌∷◌, Bool, true, false, map, vec_capacity, Some, Ok, Err, IfSome, IfNone, MatchOption};
 ghost use Rattle.std.specs.List.{list_any};
-ghost use Rattle.nt_status.specs.Flags.{only_known, event_bits, mutex_bits, timer_bits};
+ghost use Rattle.nt_status.specs.Access.{modify_state, set_context};
 ghost use Rattle.nt_objects.specs.Object.{is_event, is_timer, has_ended};
 ghost use Rattle.nt_core.specs.State.{object_at};
 ghost use Rattle.nt_core.specs.Naming.{object_named, lacks};
 ghost use Rattle.nt_core.specs.Rights.{signal_denied};
 ghost use Rattle.nt_core.specs.Dispatcher.{state};
+ghost use Rattle.nt_core.specs.Accepts.{IsFree, IsJudged};
 ghost use Rattle.nt_core.specs.declared.call.Call.{Call};
-ghost use Rattle.nt_core.specs.Refusals.{first_of_causes, call_causes, act_causes, objects_causes, creation_causes, release_causes, unlock_causes, arm_causes, kind_causes, apc_causes, duplicate_causes, close_causes, swap_causes, refusal, is_no, is_unknown, has_twice, is_at_limit};
+ghost use Rattle.nt_core.specs.Refusals.{first_of_causes, objects_causes, release_causes, unlock_causes, arm_causes, kind_causes, apc_causes, duplicate_causes, close_causes, swap_causes, refusal, is_no, is_unknown, has_twice, is_at_limit};
 
-use crate::call::Act;
-use crate::handles::{MODIFY_STATE, SYNCHRONIZE, lacks, name_all, named, object_named};
+use crate::handles::{
+    MODIFY_STATE, SET_CONTEXT, SYNCHRONIZE, lacks, name_all, named, object_named, opened,
+};
 use crate::machine::Machine;
 use nt_objects::{HandleTable, Object};
-use nt_status::{Access, EventFlags, Handle, MutexFlags, Refusal, ThreadId, TimerFlags};
+use nt_status::{Access, Handle, Refusal, ThreadId};
 
 /// MAXIMUM_WAIT_OBJECTS: the most handles that a wait names.
 const WAIT_LIMIT: usize = 64;
 
 /// Handle numbers are below this.
-const HANDLE_LIMIT: usize = 65536;
+pub const HANDLE_LIMIT: usize = 65536;
+
+/// The number of the object, or why it is refused.
+fn judged(object: Handle, refusal: Option<Refusal>) -> Result<Handle, Refusal>
+    ensures { MatchOption refusal (result ≡ Ok object) (λ cause. result ≡ Err cause) }
+{
+    match refusal {
+        Some(refusal) => Err(refusal),
+        None => Ok(object),
+    }
+}
 
 /// Whether no event has this number.
 fn is_no_event(objects: &[Object], event: Handle) -> bool
@@ -119,20 +131,6 @@ fn has_unknown(objects: &[Object], handles: &[Handle]) -> bool
     handles.iter().any(|handle| is_unknown(objects, *handle))
 }
 
-/// Whether each bit is that of a flag of CreateEventEx.
-fn are_event_flags(bits: u32) -> bool
-    ensures { result ≡ only_known event_bits bits }
-{
-    EventFlags::from_bits(bits).is_some()
-}
-
-/// Whether each bit is that of a flag of CreateMutexEx.
-fn are_mutex_flags(bits: u32) -> bool
-    ensures { result ≡ only_known mutex_bits bits }
-{
-    MutexFlags::from_bits(bits).is_some()
-}
-
 /// The refusal of a release of the semaphore at this handle.
 fn release_refusal(
     objects: &[Object],
@@ -172,13 +170,6 @@ fn unlock_refusal(objects: &[Object], thread: ThreadId, mutex: Handle) -> Option
         }
         _ => Some(Refusal::InvalidHandle),
     }
-}
-
-/// Whether each bit is that of a flag of CreateWaitableTimerEx.
-fn are_timer_flags(bits: u32) -> bool
-    ensures { result ≡ only_known timer_bits bits }
-{
-    TimerFlags::from_bits(bits).is_some()
 }
 
 /// Whether the handle names no timer.
@@ -237,19 +228,6 @@ fn apc_refusal(objects: &[Object], denied: bool, thread: Handle) -> Option<Refus
     }
 }
 
-/// The refusal of a creation, whose flags are lawful or not.
-fn creation_refusal(handles: &HandleTable, lawful: bool) -> Option<Refusal>
-    ensures { result ≡ first_of_causes (creation_causes handles.now.opened lawful) }
-{
-    if !lawful {
-        Some(Refusal::InvalidParameter)
-    } else if handles.len() >= HANDLE_LIMIT {
-        Some(Refusal::HandleLimit)
-    } else {
-        None
-    }
-}
-
 /// The refusal of one handle more for this object, with these rights.
 fn duplicate_refusal(
     handles: &HandleTable,
@@ -272,7 +250,7 @@ fn duplicate_refusal(
 }
 
 /// The refusal of closing this handle.
-fn close_refusal(handles: &HandleTable, handle: Handle) -> Option<Refusal>
+pub fn close_refusal(handles: &HandleTable, handle: Handle) -> Option<Refusal>
     ensures { result ≡ first_of_causes (close_causes handles.now.opened handle) }
 {
     match handles.get(handle) {
@@ -281,47 +259,24 @@ fn close_refusal(handles: &HandleTable, handle: Handle) -> Option<Refusal>
     }
 }
 
-/// The refusal of an act by its own causes.
-fn act_refusal(
-    handles: &HandleTable,
+/// The refusal of a wait for the object with this number alone.
+fn object_refusal(
     objects: &[Object],
     thread: ThreadId,
     denied: bool,
-    act: &Act,
+    object: Handle,
 ) -> Option<Refusal>
-    ensures { result ≡ first_of_causes (act_causes handles.now.opened objects.now thread denied act.now) }
+    ensures { result ≡ first_of_causes (objects_causes objects.now thread denied (object ∷ [])) }
 {
-    match act {
-        Act::CreateEvent(flags) => creation_refusal(handles, are_event_flags(*flags)),
-        Act::CreateSemaphore { initial, maximum } => {
-            creation_refusal(handles, Object::new_semaphore(*initial, *maximum).is_ok())
-        }
-        Act::CreateMutex(flags) => creation_refusal(handles, are_mutex_flags(*flags)),
-        Act::ReleaseSemaphore { semaphore, count } => {
-            release_refusal(objects, denied, *semaphore, *count)
-        }
-        Act::NextApc => None,
-        Act::QueueApc {
-            thread,
-            routine: _,
-            arg: _,
-        } => apc_refusal(objects, denied, *thread),
-        Act::CreateTimer(flags) => creation_refusal(handles, are_timer_flags(*flags)),
-        Act::SetTimer {
-            timer,
-            due: _,
-            period,
-            routine: _,
-        } => arm_refusal(objects, denied, *timer, *period),
-        Act::CancelTimer(timer) => cancel_refusal(objects, denied, *timer),
-        Act::ReleaseMutex(mutex) => unlock_refusal(objects, thread, *mutex),
-        Act::SetEvent(event) | Act::ResetEvent(event) | Act::PulseEvent(event) => {
-            event_refusal(objects, denied, *event)
-        }
-        Act::Duplicate { handle, access } => {
-            duplicate_refusal(handles, objects, denied, *handle, *access)
-        }
-        Act::Close(handle) => close_refusal(handles, *handle),
+    let Some(there) = named(objects, object) else {
+        return Some(Refusal::InvalidHandle);
+    };
+    if denied {
+        Some(Refusal::AccessDenied)
+    } else if there.is_owned_by(thread) && !there.has_room() {
+        Some(Refusal::RecursionLimit)
+    } else {
+        None
     }
 }
 
@@ -396,7 +351,7 @@ impl Machine {
     /// The refusal that every call of this thread must meet, if any.
     pub(crate) fn caller_refusal(&self, who: u32) -> Option<Refusal>
         ensures refused { IfSome result (λ cause. (denied : Bool) (call : Call) → refusal (state self.now) who denied call ≡ Some cause) }
-        ensures free { IfNone result ((denied : Bool) (call : Call) → refusal (state self.now) who denied call ≡ first_of_causes (call_causes (state self.now) who denied call)) }
+        ensures free { IfNone result (IsFree (state self.now) who) }
         ensures known { IfNone result (who < self.now.threads) }
     {
         if who >= self.threads {
@@ -411,16 +366,76 @@ impl Machine {
         None
     }
 
-    /// The refusal of an act on the number of an object by its own causes.
-    pub(crate) fn refusal_of_act(
-        &self,
-        thread: ThreadId,
-        denied: bool,
-        act: &Act,
-    ) -> Option<Refusal>
-        ensures { result ≡ first_of_causes (act_causes self.now.handles self.now.objects thread denied act.now) }
+    /// The event that the handle names, for a call that changes it.
+    pub(crate) fn event(&self, handle: Handle) -> Result<Handle, Refusal>
+        ensures { IsJudged self.now handle modify_state (kind_causes is_event self.now.objects) result }
     {
-        act_refusal(&self.handles, self.objects.as_slice(), thread, denied, act)
+        let (event, denied) = opened(&self.handles, handle, MODIFY_STATE);
+        judged(event, event_refusal(self.objects.as_slice(), denied, event))
+    }
+
+    /// The semaphore that the handle names, for a release by this count.
+    pub(crate) fn semaphore(&self, handle: Handle, count: i32) -> Result<Handle, Refusal>
+        ensures { IsJudged self.now handle modify_state (λ denied h. release_causes self.now.objects denied h count) result }
+    {
+        let (semaphore, denied) = opened(&self.handles, handle, MODIFY_STATE);
+        judged(
+            semaphore,
+            release_refusal(self.objects.as_slice(), denied, semaphore, count),
+        )
+    }
+
+    /// The mutex that the handle names, for its release by this thread, which needs no right.
+    pub(crate) fn mutex(&self, thread: ThreadId, handle: Handle) -> Result<Handle, Refusal>
+        ensures { IsJudged self.now handle 0 (λ _ h. unlock_causes self.now.objects thread h) result }
+    {
+        let mutex = object_named(&self.handles, handle);
+        judged(
+            mutex,
+            unlock_refusal(self.objects.as_slice(), thread, mutex),
+        )
+    }
+
+    /// The timer that the handle names, to be armed with this period.
+    pub(crate) fn timer_to_arm(&self, handle: Handle, period: i32) -> Result<Handle, Refusal>
+        ensures { IsJudged self.now handle modify_state (λ denied h. arm_causes self.now.objects denied h period) result }
+    {
+        let (timer, denied) = opened(&self.handles, handle, MODIFY_STATE);
+        judged(
+            timer,
+            arm_refusal(self.objects.as_slice(), denied, timer, period),
+        )
+    }
+
+    /// The timer that the handle names, to be cancelled.
+    pub(crate) fn timer_to_cancel(&self, handle: Handle) -> Result<Handle, Refusal>
+        ensures { IsJudged self.now handle modify_state (kind_causes is_timer self.now.objects) result }
+    {
+        let (timer, denied) = opened(&self.handles, handle, MODIFY_STATE);
+        judged(
+            timer,
+            cancel_refusal(self.objects.as_slice(), denied, timer),
+        )
+    }
+
+    /// The object of the running thread that the handle names, for an APC.
+    pub(crate) fn running_thread(&self, handle: Handle) -> Result<Handle, Refusal>
+        ensures { IsJudged self.now handle set_context (apc_causes self.now.objects) result }
+    {
+        let (thread, denied) = opened(&self.handles, handle, SET_CONTEXT);
+        judged(thread, apc_refusal(self.objects.as_slice(), denied, thread))
+    }
+
+    /// The object that the handle names, for one handle more with these rights.
+    pub(crate) fn object_to_share(&self, handle: Handle, access: u32) -> Result<Handle, Refusal>
+        ensures { IsJudged self.now handle access (λ denied h. duplicate_causes self.now.handles self.now.objects denied h access) result }
+    {
+        let (object, denied) = opened(&self.handles, handle, access);
+        let objects = self.objects.as_slice();
+        judged(
+            object,
+            duplicate_refusal(&self.handles, objects, denied, object, access),
+        )
     }
 
     /// Whether a handle of a swap lacks a right that the swap needs.
@@ -444,6 +459,24 @@ impl Machine {
         swap_refusal(self.objects.as_slice(), thread, denied, signal, object)
     }
 
+    /// The refusal of a wait for this handle alone by its own causes, and the number of the object that it names.
+    fn refusal_of_one(
+        &self,
+        thread: ThreadId,
+        handle: Handle,
+        numbers: &mut Vec<Handle>,
+    ) -> Option<Refusal>
+        requires { 64 ≤ vec_capacity numbers.old }
+        ensures refusal { result ≡ first_of_causes (objects_causes self.now.objects thread (lacks 0x00100000 self.now.handles handle) (object_named self.now.handles handle ∷ [])) }
+        ensures named { numbers.new.items ≡ object_named self.now.handles handle ∷ [] }
+        ensures capacity { vec_capacity numbers.new ≡ vec_capacity numbers.old }
+    {
+        let (object, denied) = opened(&self.handles, handle, SYNCHRONIZE);
+        numbers.clear();
+        numbers.push_reserved(object);
+        object_refusal(self.objects.as_slice(), thread, denied, object)
+    }
+
     /// The refusal of a wait for these handles by its own causes, and the numbers of the objects that they name where it has none.
     pub(crate) fn refusal_of_wait(
         &self,
@@ -456,6 +489,9 @@ impl Machine {
         ensures named { IfNone result (numbers.new.items ≡ map (object_named self.now.handles) these.now) }
         ensures capacity { vec_capacity numbers.new ≡ vec_capacity numbers.old }
     {
+        if let [handle] = these {
+            return self.refusal_of_one(thread, *handle, numbers);
+        }
         if these.len() > WAIT_LIMIT {
             return Some(Refusal::InvalidParameter);
         }

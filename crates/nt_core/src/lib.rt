@@ -1,30 +1,45 @@
 //! The dispatcher for one thread: objects, waits, and the calls on them.
+//!
+//! Threads share objects, and wait until objects let them go on. A `Core` is told one call after another, each with the thread that makes
+//! it, and tells which waits that call ended. It starts no thread and takes no lock: whoever drives threads does that, as `nt_front` does.
+//!
+//! **The life of a wait.** It begins (`begin_wait`): where its objects let it, it takes them and is over at once; else it pends, last in the
+//! queue of each object that it names. A later call changes an object, and the waits in that object's queue are visited in the order in
+//! which they began (`serve_one`, `visit`): each that fits takes its objects, leaves its queues, and is told among `grants()`. Or an APC
+//! comes for a wait that is alertable (`rouse`), or its moment passes (`time_out`).
+//!
+//! **The way of one call.** `Core::call` judges the caller, and one match hands the call to the function for it. That function finds its
+//! object once, answers the first cause that refuses the call, and else makes the change where the object stands; then the waits that the
+//! change may end are served. Last of all the objects end that nothing keeps any more. A refused call changes nothing.
+//!
+//! What a call has to do is said in `specs/` (`Step`, `Called`), and nothing of it is said by this code: that page comes first.
 #![tactic(auto)]
 
-mod apcs;
+// What a caller sees.
 mod call;
-mod calls;
-mod copy;
 mod dispatcher;
-mod events;
-mod exit;
+mod readers;
+// The parts, and the way of a call through them.
+mod calls;
 mod handles;
 mod judge;
-mod laws;
-mod living;
 mod machine;
+// Waits: how they begin, are tried, and are served.
+mod serving;
+mod waiting;
+// The calls by their objects.
+mod apcs;
+mod events;
+mod exit;
 mod mutexes;
 mod objects;
-mod readers;
 mod semaphores;
-mod serving;
 mod swap;
-mod ticks;
 mod timers;
-mod waiting;
+// What comes with time, and what nothing keeps any more.
+mod copy;
+mod living;
+mod ticks;
 
 pub use call::{Act, Call, Grant, Reply, WaitCall};
 pub use dispatcher::Core;
-pub use laws::{
-    one_owner, one_set_one_wait, runs_one_way, semaphores_give_what_they_have, serves_one_way,
-};

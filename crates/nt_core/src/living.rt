@@ -3,25 +3,38 @@ ghost use Rattle.std.specs.Prelude.{◌≡◌, ◌≢◌, ◌<◌, [], ℕ, None
 ghost use Rattle.std.specs.Option.{ForSome};
 ghost use Rattle.nt_objects.specs.Object.{is_gone};
 ghost use Rattle.nt_objects.specs.Handles.{opened_at};
+ghost use Rattle.nt_waits.specs.Waits.{IsMember};
 ghost use Rattle.nt_apc.specs.Queues.{withdrawn, place_of};
 ghost use Rattle.nt_core.specs.Dispatcher.{state};
-ghost use Rattle.nt_core.specs.Lawful.{IsSound, IsSteady, MarksAgreeBut};
+ghost use Rattle.nt_core.specs.Lawful.{IsSound, IsSteady, MarksAgreeBut, LetsGoBut};
 ghost use Rattle.nt_core.specs.Living.{is_forgotten, gone, living, Ends, LivesWhileKept};
-ghost use Rattle.nt_core.specs.Refusals.{refusal};
-ghost use Rattle.nt_core.specs.Accepts.{IsFresh, Accepts};
+ghost use Rattle.nt_core.specs.Accepts.{IsFresh, IsFree, IsActMade};
 ghost use Rattle.nt_core.specs.declared.call.Act.{Act};
-ghost use Rattle.nt_core.specs.declared.call.Call.{Call};
-ghost use Rattle.nt_core.specs.declared.call.Reply.{Reply};
 
+use crate::call::Reply;
+use crate::judge::close_refusal;
 use crate::machine::Machine;
-use nt_objects::Object;
-use nt_status::{Handle, ThreadId};
+use nt_alarms::Marks;
+use nt_objects::{HandleTable, Object};
+use nt_status::{Handle, Refusal};
 
 /// How many of the objects are not gone.
 fn count_living(objects: &[Object]) -> usize
     ensures { result ≡ count_by (λ o. not (is_gone o)) objects.now }
 {
     objects.iter().filter(|object| !object.is_gone()).count()
+}
+
+/// Marks those of the objects of a wait, which ends, that no handle names.
+pub(crate) fn let_go(handles: &HandleTable, leaving: &mut Marks, ended: &[Handle])
+    requires { (o : ℕ) → IsMember ended.now o → o < length leaving.old }
+    ensures { LetsGoBut [] handles.now.opened ended.now leaving.old leaving.new }
+{
+    for object in ended {
+        if handles.count(*object) == 0 {
+            leaving.set(object.get() as usize);
+        }
+    }
 }
 
 impl Machine {
@@ -52,23 +65,21 @@ impl Machine {
         ensures rest { self.new ≡ record self.old { leaving = self.new.leaving } }
         ensures marks { MarksAgreeBut [] self.new }
     {
-        for object in ended {
-            if self.handles.count(*object) == 0 {
-                self.mark(*object);
-            }
-        }
+        let_go(&self.handles, &mut self.leaving, ended);
     }
 
     /// CloseHandle: the handle names nothing any more, and what it named may be kept by nothing.
-    pub(crate) fn close(&mut self, thread: ThreadId, handle: Handle)
+    pub(crate) fn close(&mut self, handle: Handle) -> Result<Reply, Refusal>
         requires fresh { IsFresh self.old }
-        requires free { refusal (state self.old) thread false (Call.Act (Act.Close handle)) ≡ None }
-        ensures accepts { Accepts self.old self.new thread (Call.Act (Act.Close handle)) Reply.Done }
+        ensures made { (t : ℕ) → IsFree (state self.old) t → IsActMade self.old self.new t (Act.Close handle) result }
         ensures room { self.new.objects ≡ self.old.objects }
     {
-        let _ = thread;
+        if let Some(refusal) = close_refusal(&self.handles, handle) {
+            return Err(refusal);
+        }
         let object = self.close_handle(handle);
         self.mark(object);
+        Ok(Reply::Done)
     }
 
     /// The handle names nothing any more. Answers the object that it named.

@@ -1,5 +1,5 @@
 //! The parts of a dispatcher, and the serving of pending waits.
-ghost use Rattle.std.specs.Prelude.{◌≡◌, ◌+◌, ◌≤◌, ◌<◌, ◌^◌, ℕ, [], ◌∷◌, length, replicate, false, IsTrue, IfOk, IfErr};
+ghost use Rattle.std.specs.Prelude.{◌≡◌, ◌+◌, ◌≤◌, ◌<◌, ◌^◌, ℕ, [], ◌∷◌, length, replicate, slice_get, false, IsTrue, IfOk, IfErr};
 ghost use Rattle.std.specs.FinMap as map;
 ghost use Rattle.nt_status.specs.declared.refusal.Refusal.TheVariants.{Memory};
 ghost use Rattle.nt_owners.specs.Objects.{OwnersAgree};
@@ -12,6 +12,7 @@ ghost use Rattle.nt_core.specs.Living.{LivesWhileKept};
 ghost use Rattle.nt_core.specs.Accepts.{IsFresh};
 
 use crate::call::Grant;
+use crate::living::let_go;
 use crate::objects::{no_marks, quiet_alarms};
 use crate::serving::{is_ready, try_wait};
 use nt_alarms::{Alarms, Marks};
@@ -95,6 +96,7 @@ impl Machine {
     }
 
     /// Tests the pending wait of this thread, and ends it where it fits.
+    #[inline(always)]
     fn visit(&mut self, thread: ThreadId)
         requires pends { IsTrue (pends (state self.old) thread) }
         requires sound { IsSound self.old }
@@ -110,10 +112,10 @@ impl Machine {
         let Some(status) = try_wait(&mut self.objects, thread, handles, wait.all) else {
             return;
         };
-        let ended = self.waits.end(thread);
+        let_go(&self.handles, &mut self.leaving, handles);
+        self.waits.end_in_place(thread);
         self.handing[thread.get() as usize] = false;
         self.grants.push_reserved(Grant { thread, status });
-        self.let_go(ended.handles.as_slice());
     }
 
     /// Visits the waits on this handle, in the order in which they began.
@@ -160,9 +162,33 @@ impl Machine {
         self.serve_all(changed);
     }
 
-    /// Visits the waits on this handle, in the order in which they began, until its object is signaled for none that is left. The
-    /// caller knows that a wait that fits needs this object.
-    fn serve_first(&mut self, handle: Handle)
+    /// Visits the waits on this handle, the first of which is this thread's, in the order in which they began, until its object is
+    /// signaled for none that is left. The caller knows that a wait that fits needs this object.
+    #[inline(never)]
+    fn serve_first(&mut self, handle: Handle, first: ThreadId)
+        requires sound { IsSound self.old }
+        requires first { slice_get ((state self.old).queues handle) 0 ≡ Some first }
+        requires needed { FitOnlyBy handle (state self.old) }
+        requires countable { self.old.table.looked + length ((state self.old).queues handle) < 2 ^ 64 }
+        ensures visits { Visits ((state self.old).queues handle) self.old self.new }
+        ensures prepared { self.new.table.prepared ≡ self.old.table.prepared }
+        ensures sound { IsSound self.new }
+    {
+        let mut next = Some(first);
+        while let Some(thread) = next {
+            next = self.waits.next_on(handle, thread);
+            self.visit(thread);
+            if let Some(after) = next {
+                if !is_ready(self.objects.as_slice(), after, handle) {
+                    return;
+                }
+            }
+        }
+    }
+
+    /// Does as `serve_first`, and sees first whether any wait is on this handle: mostly there is none.
+    #[inline(always)]
+    fn serve_any(&mut self, handle: Handle)
         requires sound { IsSound self.old }
         requires needed { FitOnlyBy handle (state self.old) }
         requires countable { self.old.table.looked + length ((state self.old).queues handle) < 2 ^ 64 }
@@ -170,18 +196,14 @@ impl Machine {
         ensures prepared { self.new.table.prepared ≡ self.old.table.prepared }
         ensures sound { IsSound self.new }
     {
-        let mut next = self.waits.first_on(handle);
-        while let Some(thread) = next {
-            if !is_ready(self.objects.as_slice(), thread, handle) {
-                return;
-            }
-            next = self.waits.next_on(handle, thread);
-            self.visit(thread);
+        if let Some(first) = self.waits.first_on(handle) {
+            self.serve_first(handle, first);
         }
     }
 
     /// Grants what fits after the object at this handle alone changed. The caller knows that a wait that fits names it, and needs
     /// it.
+    #[inline(always)]
     pub(crate) fn serve_one(&mut self, handle: Handle)
         requires sound { IsSound self.old }
         requires local { FitOnlyIn (sequence (state self.old) (handle ∷ [])) (state self.old) }
@@ -195,7 +217,7 @@ impl Machine {
         ensures most { self.new.table.looked ≤ length (sequence (state self.old) (handle ∷ [])) }
         ensures least { length self.new.grants ≤ self.new.table.looked }
     {
-        self.serve_first(handle);
+        self.serve_any(handle);
     }
 }
 

@@ -1,47 +1,72 @@
 //! Calls on mutexes.
-ghost use Rattle.std.specs.Prelude.{◌≡◌, ◌≤◌, ◌<◌, vec_capacity, length, false, IfOk, IsTrue, OnErr};
-ghost use Rattle.nt_objects.specs.Object.{is_mutex, owned_by};
-ghost use Rattle.nt_core.specs.State.{object_at};
-ghost use Rattle.nt_core.specs.Refusals.{is_full};
-ghost use Rattle.nt_core.specs.Accepts.{IsFresh, Accepts};
+ghost use Rattle.std.specs.Prelude.{◌≡◌, ◌≤◌, ◌<◌, vec_capacity, length, IsTrue};
+ghost use Rattle.nt_objects.specs.Object.{owned_by, unlocked};
+ghost use Rattle.nt_core.specs.State.{object_at, with_object};
+ghost use Rattle.nt_core.specs.Change.{at};
+ghost use Rattle.nt_core.specs.Dispatcher.{state};
+ghost use Rattle.nt_core.specs.Accepts.{IsFresh, IsFree, IsServedAfter, IsActMade};
 ghost use Rattle.nt_core.specs.declared.call.Act.{Act};
-ghost use Rattle.nt_core.specs.declared.call.Call.{Call};
-ghost use Rattle.nt_core.specs.declared.call.Reply.{Reply};
 
+use crate::call::Reply;
 use crate::machine::Machine;
 use nt_objects::Object;
-use nt_status::{Handle, MutexFlags, ThreadId};
-use std::alloc::AllocError;
+use nt_status::{Handle, MutexFlags, Refusal, ThreadId};
 
 impl Machine {
     /// CreateMutex.
     pub(crate) fn create_mutex(
         &mut self,
         thread: ThreadId,
-        flags: MutexFlags,
+        flags: u32,
         changed: &mut Vec<Handle>,
-    ) -> Result<Handle, AllocError>
+    ) -> Result<Reply, Refusal>
         requires fresh { IsFresh self.old }
-        requires known { thread < self.old.threads }
-        requires few { is_full self.old.handles ≡ false }
+        requires free { IsFree (state self.old) thread }
         requires room { length self.old.objects ≤ vec_capacity changed.old }
-        ensures ok { IfOk result (λ handle. Accepts self.old self.new thread (Call.Act (Act.CreateMutex flags)) (Reply.Handle handle)) }
-        ensures err { OnErr result (self.new ≡ self.old) }
+        requires known { thread < self.old.threads }
+        ensures made { IsActMade self.old self.new thread (Act.CreateMutex flags) result }
         ensures room { length self.new.objects ≤ vec_capacity changed.new }
     {
+        let Some(flags) = MutexFlags::from_bits(flags) else {
+            return Err(Refusal::InvalidParameter);
+        };
         self.create(Object::new_mutex(flags, thread), changed)
     }
 
-    /// ReleaseMutex: its owner holds it one level less deep, and where that was the last the waits that name it are served.
-    pub(crate) fn release_mutex(&mut self, thread: ThreadId, mutex: Handle)
-        requires fresh { IsFresh self.old }
+    /// The mutex is held one level less deep from now on, and free after the last.
+    fn unlock(&mut self, thread: ThreadId, mutex: Handle)
+        requires known { mutex < length self.old.objects }
         requires owner { IsTrue (owned_by (object_at self.old.objects mutex) thread) }
-        ensures { Accepts self.old self.new thread (Call.Act (Act.ReleaseMutex mutex)) Reply.Done }
+        ensures { self.new ≡ record self.old { objects = with_object self.old.objects mutex unlocked; owned = self.new.owned } }
     {
-        let mut object = self.object(mutex);
-        let Ok(_released) = object.release_mutex(thread) else {
+        let Ok(_released) = self.objects.unlock(mutex, thread) else {
             unreachable!()
         };
-        self.replace(mutex, object);
+    }
+
+    /// The mutex is held one level less deep, and where that was the last the waits that name it are served.
+    pub(crate) fn give_back(&mut self, thread: ThreadId, mutex: Handle)
+        requires fresh { IsFresh self.old }
+        requires owner { IsTrue (owned_by (object_at self.old.objects mutex) thread) }
+        ensures served { IsServedAfter self.old (at (state self.old) mutex unlocked) self.new }
+        ensures prepared { self.new.table.prepared ≡ self.old.table.prepared }
+    {
+        self.unlock(thread, mutex);
+        self.serve_one(mutex);
+    }
+
+    /// ReleaseMutex.
+    pub(crate) fn release_mutex(
+        &mut self,
+        thread: ThreadId,
+        mutex: Handle,
+    ) -> Result<Reply, Refusal>
+        requires fresh { IsFresh self.old }
+        requires free { IsFree (state self.old) thread }
+        ensures { IsActMade self.old self.new thread (Act.ReleaseMutex mutex) result }
+    {
+        let mutex = self.mutex(thread, mutex)?;
+        self.give_back(thread, mutex);
+        Ok(Reply::Done)
     }
 }

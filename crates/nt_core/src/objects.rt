@@ -1,20 +1,21 @@
 //! The list of objects, and the creation of more.
-ghost use Rattle.std.specs.Prelude.{◌≡◌, ◌≢◌, ◌<◌, ◌≤◌, ℕ, vec_capacity, None, ◌∷◌, ◌++◌, [], true, false, Some, replicate, IfOk, OnOk, OnErr, length, slice_set};
-ghost use Rattle.nt_objects.specs.Object.{owner_of, owned_by, is_gone};
+ghost use Rattle.std.specs.Prelude.{◌≡◌, ◌<◌, ◌≤◌, ℕ, vec_capacity, None, ◌∷◌, ◌++◌, [], true, false, Some, replicate, IfOk, IfErr, OnOk, OnErr, MatchBool, length, slice_set};
+ghost use Rattle.nt_status.specs.declared.refusal.Refusal.TheVariants.{HandleLimit, Memory};
+ghost use Rattle.nt_objects.specs.Object.{owner_of, owned_by};
 ghost use Rattle.nt_core.specs.State.{object_at};
-ghost use Rattle.nt_core.specs.Refusals.{is_full, refusal};
-ghost use Rattle.nt_core.specs.Change.{at};
+ghost use Rattle.nt_core.specs.Refusals.{is_full};
 ghost use Rattle.nt_core.specs.Dispatcher.{state, with_created};
-ghost use Rattle.nt_core.specs.Lawful.{MayReplace, HandlesAgree};
-ghost use Rattle.nt_core.specs.Accepts.{IsFresh, IsServedAfter, Accepts};
+ghost use Rattle.nt_core.specs.Lawful.{HandlesAgree};
+ghost use Rattle.nt_core.specs.Accepts.{IsFresh, IsFree, IsActMade};
 ghost use Rattle.nt_core.specs.declared.call.Act.{Act};
-ghost use Rattle.nt_core.specs.declared.call.Call.{Call};
 ghost use Rattle.nt_core.specs.declared.call.Reply.{Reply};
 
+use crate::call::Reply;
+use crate::judge::HANDLE_LIMIT;
 use crate::machine::Machine;
 use nt_alarms::{Alarms, Marks};
 use nt_objects::{Object, Opened};
-use nt_status::{Access, Handle, ThreadId};
+use nt_status::{Access, Handle, Refusal};
 use std::alloc::{AllocError, Global};
 
 /// A place for each object's alarm, with no alarm.
@@ -40,13 +41,33 @@ pub fn no_marks(alloc: Global, count: usize) -> Result<Marks, AllocError>
 }
 
 impl Machine {
-    /// Adds an object with a handle that has all rights of its kind, and answers the handle. Where memory is refused nothing
-    /// changes. `changed` gets room for one handle more, so that later calls can list every object without memory.
+    /// Adds an object with a handle that has all rights of its kind, and answers the handle, unless no handle number is left or
+    /// memory is refused: then nothing changes. `changed` gets room for one handle more, so that later calls can list every object
+    /// without memory.
     pub(crate) fn create(
         &mut self,
         object: Object,
         changed: &mut Vec<Handle>,
-    ) -> Result<Handle, AllocError>
+    ) -> Result<Reply, Refusal>
+        requires agree { HandlesAgree (length self.old.objects) self.old.handles }
+        requires room { length self.old.objects ≤ vec_capacity changed.old }
+        requires owner { (t : ℕ) → owned_by object t ≡ true → t < self.old.threads }
+        ensures few { OnOk result (is_full self.old.handles ≡ false) }
+        ensures handle { IfOk result (λ reply. reply ≡ Reply.Handle (length self.old.handles)) }
+        ensures ok { OnOk result (self.new ≡ with_created self.old object self.new.owned) }
+        ensures refused { IfErr result (λ cause. MatchBool (is_full self.old.handles) (cause ≡ HandleLimit) (cause ≡ Memory)) }
+        ensures err { OnErr result (self.new ≡ self.old) }
+        ensures room { length self.new.objects ≤ vec_capacity changed.new }
+    {
+        if self.handles.len() >= HANDLE_LIMIT {
+            return Err(Refusal::HandleLimit);
+        }
+        Ok(Reply::Handle(self.add(object, changed)?))
+    }
+
+    /// Adds an object with a handle that has all rights of its kind, and answers the handle. Where memory is refused nothing
+    /// changes.
+    fn add(&mut self, object: Object, changed: &mut Vec<Handle>) -> Result<Handle, AllocError>
         requires agree { HandlesAgree (length self.old.objects) self.old.handles }
         requires few { is_full self.old.handles ≡ false }
         requires room { length self.old.objects ≤ vec_capacity changed.old }
@@ -69,24 +90,16 @@ impl Machine {
     }
 
     /// DuplicateHandle: one handle more for this object, with these rights. Where memory is refused nothing changes.
-    pub(crate) fn duplicate(
-        &mut self,
-        thread: ThreadId,
-        object: Handle,
-        access: u32,
-    ) -> Result<Handle, AllocError>
+    pub(crate) fn duplicate(&mut self, handle: Handle, access: u32) -> Result<Reply, Refusal>
         requires fresh { IsFresh self.old }
-        requires free { refusal (state self.old) thread false (Call.Act (Act.Duplicate object access)) ≡ None }
-        requires living { object < length self.old.objects → is_gone (object_at self.old.objects object) ≡ false }
-        ensures ok { IfOk result (λ handle. Accepts self.old self.new thread (Call.Act (Act.Duplicate object access)) (Reply.Handle handle)) }
-        ensures err { OnErr result (self.new ≡ self.old) }
+        ensures made { (t : ℕ) → IsFree (state self.old) t → IsActMade self.old self.new t (Act.Duplicate handle access) result }
         ensures room { self.new.objects ≡ self.old.objects }
     {
-        let _ = thread;
+        let object = self.object_to_share(handle, access)?;
         let Some(access) = Access::from_bits(access) else {
             unreachable!()
         };
-        self.open(object, access)
+        Ok(Reply::Handle(self.open(object, access)?))
     }
 
     /// One handle more for this object.
@@ -117,27 +130,5 @@ impl Machine {
         ensures { self.new ≡ record self.old { objects = slice_set self.old.objects handle object } }
     {
         self.objects.put(handle, object);
-    }
-
-    /// Puts an object in the place of the one at this handle, which had the same owner if this one has any.
-    fn exchange_owned(&mut self, handle: Handle, object: Object)
-        requires known { handle < length self.old.objects }
-        requires owner { (t : ℕ) → owned_by object t ≡ true → owned_by (object_at self.old.objects handle) t ≡ true }
-        ensures { self.new ≡ record self.old { objects = slice_set self.old.objects handle object; owned = self.new.owned } }
-    {
-        self.objects.put(handle, object);
-    }
-
-    /// Puts another object in the place of the one at this handle, and serves the waits that name it.
-    pub(crate) fn replace(&mut self, handle: Handle, object: Object)
-        requires fresh { IsFresh self.old }
-        requires known { handle < length self.old.objects }
-        requires differs { object ≢ object_at self.old.objects handle }
-        requires may { MayReplace (object_at self.old.objects handle) object }
-        ensures served { IsServedAfter self.old (at (state self.old) handle (λ _. object)) self.new }
-        ensures prepared { self.new.table.prepared ≡ self.old.table.prepared }
-    {
-        self.exchange_owned(handle, object);
-        self.serve_one(handle);
     }
 }

@@ -1,62 +1,76 @@
 //! Calls on semaphores.
-ghost use Rattle.std.specs.Prelude.{◌≡◌, ◌≤◌, vec_capacity, length, pos, ◌<ℤ◌, false, IfOk, IsTrue, OnErr};
-ghost use Rattle.nt_objects.specs.Object.{is_semaphore, may_count, overflows};
-ghost use Rattle.nt_core.specs.State.{object_at};
-ghost use Rattle.nt_core.specs.Refusals.{is_full};
-ghost use Rattle.nt_core.specs.Accepts.{IsFresh, Accepts};
+ghost use Rattle.std.specs.Prelude.{◌≡◌, ◌≤◌, ◌<◌, ℕ, vec_capacity, length, pos, ◌<ℤ◌, false, IsTrue};
+ghost use Rattle.nt_objects.specs.Object.{is_semaphore, count_of, overflows, released};
+ghost use Rattle.nt_core.specs.State.{object_at, with_object};
+ghost use Rattle.nt_core.specs.Change.{at};
+ghost use Rattle.nt_core.specs.Dispatcher.{state};
+ghost use Rattle.nt_core.specs.Accepts.{IsFresh, IsFree, IsServedAfter, IsActMade};
 ghost use Rattle.nt_core.specs.declared.call.Act.{Act};
-ghost use Rattle.nt_core.specs.declared.call.Call.{Call};
-ghost use Rattle.nt_core.specs.declared.call.Reply.{Reply};
 
 use crate::call::Reply;
 use crate::machine::Machine;
 use nt_objects::Object;
-use nt_status::{Handle, ThreadId};
-use std::alloc::AllocError;
+use nt_status::{Handle, Refusal};
 
 impl Machine {
     /// CreateSemaphore.
     pub(crate) fn create_semaphore(
         &mut self,
-        thread: ThreadId,
         initial: i32,
         maximum: i32,
         changed: &mut Vec<Handle>,
-    ) -> Result<Handle, AllocError>
+    ) -> Result<Reply, Refusal>
         requires fresh { IsFresh self.old }
-        requires counts { IsTrue (may_count initial maximum) }
-        requires few { is_full self.old.handles ≡ false }
         requires room { length self.old.objects ≤ vec_capacity changed.old }
-        ensures ok { IfOk result (λ handle. Accepts self.old self.new thread (Call.Act (Act.CreateSemaphore initial maximum)) (Reply.Handle handle)) }
-        ensures err { OnErr result (self.new ≡ self.old) }
+        ensures made { (t : ℕ) → IsFree (state self.old) t → IsActMade self.old self.new t (Act.CreateSemaphore initial maximum) result }
         ensures room { length self.new.objects ≤ vec_capacity changed.new }
     {
-        let _ = thread;
         let Ok(semaphore) = Object::new_semaphore(initial, maximum) else {
-            unreachable!()
+            return Err(Refusal::InvalidParameter);
         };
         self.create(semaphore, changed)
     }
 
-    /// ReleaseSemaphore: the count is higher, and the waits that name it are served. Answers the count before.
-    pub(crate) fn release_semaphore(
-        &mut self,
-        thread: ThreadId,
-        semaphore: Handle,
-        count: i32,
-    ) -> Reply
+    /// The semaphore counts so many more from now on; answers its count before.
+    fn count(&mut self, semaphore: Handle, count: i32) -> i32
+        requires known { semaphore < length self.old.objects }
+        requires kind { IsTrue (is_semaphore (object_at self.old.objects semaphore)) }
+        requires positive { pos 0 <ℤ count }
+        requires within { overflows count (object_at self.old.objects semaphore) ≡ false }
+        ensures becomes { self.new ≡ record self.old { objects = with_object self.old.objects semaphore (released count) } }
+        ensures previous { result ≡ count_of (object_at self.old.objects semaphore) }
+    {
+        let Ok(previous) = self.objects.release(semaphore, count) else {
+            unreachable!()
+        };
+        previous
+    }
+
+    /// The semaphore counts so many more, and the waits that name it are served. Answers the count before.
+    pub(crate) fn raise_count(&mut self, semaphore: Handle, count: i32) -> i32
         requires fresh { IsFresh self.old }
         requires kind { IsTrue (is_semaphore (object_at self.old.objects semaphore)) }
         requires positive { pos 0 <ℤ count }
         requires within { overflows count (object_at self.old.objects semaphore) ≡ false }
-        ensures { Accepts self.old self.new thread (Call.Act (Act.ReleaseSemaphore semaphore count)) result }
+        ensures served { IsServedAfter self.old (at (state self.old) semaphore (released count)) self.new }
+        ensures prepared { self.new.table.prepared ≡ self.old.table.prepared }
+        ensures previous { result ≡ count_of (object_at self.old.objects semaphore) }
     {
-        let _ = thread;
-        let mut object = self.object(semaphore);
-        let Ok(previous) = object.release_semaphore(count) else {
-            unreachable!()
-        };
-        self.replace(semaphore, object);
-        Reply::Previous(previous)
+        let previous = self.count(semaphore, count);
+        self.serve_one(semaphore);
+        previous
+    }
+
+    /// ReleaseSemaphore. Answers the count before.
+    pub(crate) fn release_semaphore(
+        &mut self,
+        semaphore: Handle,
+        count: i32,
+    ) -> Result<Reply, Refusal>
+        requires fresh { IsFresh self.old }
+        ensures { (t : ℕ) → IsFree (state self.old) t → IsActMade self.old self.new t (Act.ReleaseSemaphore semaphore count) result }
+    {
+        let semaphore = self.semaphore(semaphore, count)?;
+        Ok(Reply::Previous(self.raise_count(semaphore, count)))
     }
 }

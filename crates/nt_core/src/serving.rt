@@ -1,4 +1,4 @@
-ghost use Rattle.std.specs.Prelude.{◌≡◌, ◌≤◌, ◌<◌, ℕ, IsTrue, IfNone, None, true, false, length};
+ghost use Rattle.std.specs.Prelude.{◌≡◌, ◌≤◌, ◌<◌, ℕ, Bool, [], ◌∷◌, IsTrue, IfNone, None, true, false, length};
 ghost use Rattle.std.specs.List.{position, list_all, list_any};
 ghost use Rattle.std.specs.List.{IsDistinct};
 ghost use Rattle.std.specs.Prelude.{nat_eq};
@@ -67,6 +67,7 @@ fn status_at(marked: bool, place: u32) -> Status
 }
 
 /// The thread takes the object at this handle.
+#[inline(always)]
 fn take_at(objects: &mut ObjectTable, thread: ThreadId, handle: Handle)
     requires ready { IsTrue (is_ready objects.old.items thread handle) }
     requires room { IsTrue (has_room (object_at objects.old.items handle)) }
@@ -91,7 +92,25 @@ fn take_each(objects: &mut ObjectTable, thread: ThreadId, handles: &[Handle])
     }
 }
 
+/// Where the object satisfies a wait for it alone, takes it, and answers the status.
+#[inline(always)]
+fn try_one(objects: &mut ObjectTable, thread: ThreadId, handle: Handle) -> Option<Status>
+    requires room { CanTake objects.old.items thread (handle ∷ []) }
+    requires known { thread < length objects.old.owned }
+    ensures tried { (all : Bool) → IsTried objects.old.items objects.new.items thread (wait_for (handle ∷ []) all) result }
+    ensures none { IfNone result (objects.new ≡ objects.old) }
+    ensures threads { length objects.new.owned ≡ length objects.old.owned }
+{
+    if !is_ready(objects.as_slice(), thread, handle) {
+        return None;
+    }
+    let marked = has_mark(objects.as_slice(), handle);
+    take_at(objects, thread, handle);
+    Some(status_at(marked, 0))
+}
+
 /// Where the objects satisfy a wait for any of these handles, takes the object at the least, and answers the status.
+#[inline(never)]
 fn try_any(objects: &mut ObjectTable, thread: ThreadId, handles: &[Handle]) -> Option<Status>
     requires few { length handles.now ≤ 64 }
     requires room { CanTake objects.old.items thread handles.now }
@@ -108,6 +127,7 @@ fn try_any(objects: &mut ObjectTable, thread: ThreadId, handles: &[Handle]) -> O
 }
 
 /// Where the objects satisfy a wait for all these handles, takes them, and answers the status.
+#[inline(never)]
 fn try_all(objects: &mut ObjectTable, thread: ThreadId, handles: &[Handle]) -> Option<Status>
     requires apart { IsDistinct nat_eq handles.now }
     requires room { CanTake objects.old.items thread handles.now }
@@ -125,6 +145,7 @@ fn try_all(objects: &mut ObjectTable, thread: ThreadId, handles: &[Handle]) -> O
 }
 
 /// Where the objects satisfy a wait for any or all of these handles, takes what it takes of them, and answers its status.
+#[inline(never)]
 pub fn try_wait(
     objects: &mut ObjectTable,
     thread: ThreadId,
@@ -139,9 +160,9 @@ pub fn try_wait(
     ensures none { IfNone result (objects.new ≡ objects.old) }
     ensures threads { length objects.new.owned ≡ length objects.old.owned }
 {
-    if all {
-        try_all(objects, thread, handles)
-    } else {
-        try_any(objects, thread, handles)
+    match handles {
+        [handle] => try_one(objects, thread, *handle),
+        _ if all => try_all(objects, thread, handles),
+        _ => try_any(objects, thread, handles),
     }
 }

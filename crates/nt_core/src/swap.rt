@@ -31,21 +31,14 @@ impl Machine {
         ensures served { IsServedAfter self.old (at (state self.old) handle signal) self.new }
         ensures prepared { self.new.table.prepared ≡ self.old.table.prepared }
     {
-        let mut object = self.object(handle);
+        let object = self.object(handle);
         if object.is_event() {
-            self.raise_event(thread, handle);
-            return;
-        }
-        if object.is_semaphore() {
-            let Ok(_count) = object.release_semaphore(1) else {
-                unreachable!()
-            };
+            self.raise_event(handle);
+        } else if object.is_semaphore() {
+            let _previous = self.raise_count(handle, 1);
         } else {
-            let Ok(_released) = object.release_mutex(thread) else {
-                unreachable!()
-            };
+            self.give_back(thread, handle);
         }
-        self.replace(handle, object);
     }
 
     /// Makes all the room that the caller's wait for this object may need. With a timeout of 0 it needs none.

@@ -1,22 +1,22 @@
 //! Calls on timers, and their expiry.
-ghost use Rattle.std.specs.Prelude.{◌≡◌, ◌≤◌, ◌<◌, pos, ◌≤ℤ◌, false, length, slice_set, vec_capacity, is_some, None, Some, IfOk, IfSome, IsSomeAnd, IsTrue, OnOk, OnErr};
+ghost use Rattle.std.specs.Prelude.{◌≡◌, ◌≤◌, ◌<◌, pos, ◌≤ℤ◌, false, ℕ, length, slice_set, vec_capacity, is_some, None, Some, IfOk, IfSome, IsSomeAnd, IsTrue, OnOk, OnErr};
 ghost use Rattle.nt_objects.specs.Object.{is_timer, has_ended, due_of, owner_of};
 ghost use Rattle.nt_apc.specs.Queues.{withdrawn, place_of};
 ghost use Rattle.nt_core.specs.State.{object_at};
 ghost use Rattle.nt_core.specs.Change.{notified, expired, armed_anew, due_moment, routine_for};
 ghost use Rattle.nt_core.specs.Dispatcher.{state};
-ghost use Rattle.nt_core.specs.Refusals.{is_full};
 ghost use Rattle.std.specs.FinMap as map;
 ghost use Rattle.nt_core.specs.Lawful.{IsSound};
-ghost use Rattle.nt_core.specs.Accepts.{IsFresh, IsPromised, Accepts};
+ghost use Rattle.nt_core.specs.Accepts.{IsFresh, IsFree, IsPromised, IsActMade, Accepts};
 ghost use Rattle.nt_core.specs.declared.call.Act.{Act};
 ghost use Rattle.nt_core.specs.declared.call.Call.{Call};
 ghost use Rattle.nt_core.specs.declared.call.Reply.{Reply};
 
+use crate::call::Reply;
 use crate::machine::Machine;
 use nt_apc::Apc;
 use nt_objects::{Armed, Object, Routine};
-use nt_status::{Handle, Moment, OptionalMoment, ThreadId, TimerFlags};
+use nt_status::{Handle, Moment, OptionalMoment, Refusal, ThreadId, TimerFlags};
 use std::alloc::AllocError;
 
 /// The due moment of a due time in units of 100 ns: from now on where it is negative.
@@ -46,18 +46,17 @@ impl Machine {
     /// CreateWaitableTimer.
     pub(crate) fn create_timer(
         &mut self,
-        thread: ThreadId,
-        flags: TimerFlags,
+        flags: u32,
         changed: &mut Vec<Handle>,
-    ) -> Result<Handle, AllocError>
+    ) -> Result<Reply, Refusal>
         requires fresh { IsFresh self.old }
-        requires few { is_full self.old.handles ≡ false }
         requires room { length self.old.objects ≤ vec_capacity changed.old }
-        ensures ok { IfOk result (λ handle. Accepts self.old self.new thread (Call.Act (Act.CreateTimer flags)) (Reply.Handle handle)) }
-        ensures err { OnErr result (self.new ≡ self.old) }
+        ensures made { (t : ℕ) → IsFree (state self.old) t → IsActMade self.old self.new t (Act.CreateTimer flags) result }
         ensures room { length self.new.objects ≤ vec_capacity changed.new }
     {
-        let _ = thread;
+        let Some(flags) = TimerFlags::from_bits(flags) else {
+            return Err(Refusal::InvalidParameter);
+        };
         self.create(Object::new_timer(flags), changed)
     }
 
@@ -158,9 +157,9 @@ impl Machine {
         Ok(())
     }
 
-    /// SetWaitableTimer: the timer is armed anew. Where its due moment is not ahead it expires at once, and where it then is
-    /// set and was not, the waits that name it are served.
-    pub(crate) fn set_timer(
+    /// The timer is armed anew. Where its due moment is not ahead it expires at once, and where it then is set and was not, the
+    /// waits that name it are served.
+    fn start(
         &mut self,
         thread: ThreadId,
         timer: Handle,
@@ -197,16 +196,37 @@ impl Machine {
         Ok(())
     }
 
-    /// CancelWaitableTimer: the timer is stopped, and its queued APC withdrawn. Whether it is set stays.
-    pub(crate) fn cancel_timer(&mut self, thread: ThreadId, timer: Handle)
+    /// SetWaitableTimer.
+    pub(crate) fn set_timer(
+        &mut self,
+        thread: ThreadId,
+        timer: Handle,
+        due: i64,
+        period: i32,
+        routine: Option<(u64, u64)>,
+    ) -> Result<Reply, Refusal>
         requires fresh { IsFresh self.old }
-        requires kind { IsTrue (is_timer (object_at self.old.objects timer)) }
-        ensures { Accepts self.old self.new thread (Call.Act (Act.CancelTimer timer)) Reply.Done }
+        requires free { IsFree (state self.old) thread }
+        requires idle { map.get self.old.table.pending thread ≡ None }
+        requires known { thread < self.old.threads }
+        requires runs { has_ended (object_at self.old.objects thread) ≡ false }
+        ensures { IsActMade self.old self.new thread (Act.SetTimer timer due period routine) result }
     {
-        let _ = thread;
+        let timer = self.timer_to_arm(timer, period)?;
+        self.start(thread, timer, due, period, routine)?;
+        Ok(Reply::Done)
+    }
+
+    /// CancelWaitableTimer: the timer is stopped, and its queued APC withdrawn. Whether it is set stays.
+    pub(crate) fn cancel_timer(&mut self, timer: Handle) -> Result<Reply, Refusal>
+        requires fresh { IsFresh self.old }
+        ensures { (t : ℕ) → IsFree (state self.old) t → IsActMade self.old self.new t (Act.CancelTimer timer) result }
+    {
+        let timer = self.timer_to_cancel(timer)?;
         self.withdraw(timer);
         let mut object = self.object(timer);
         object.cancel();
         self.put_timer(timer, object);
+        Ok(Reply::Done)
     }
 }

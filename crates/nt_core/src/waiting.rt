@@ -6,24 +6,25 @@ ghost use Rattle.std.specs.FinMap as fin;
 ghost use Rattle.nt_status.specs.declared.refusal.Refusal.TheVariants.{Memory};
 ghost use Rattle.nt_objects.specs.Object.{is_gone};
 ghost use Rattle.nt_apc.specs.Queues.{has_apc};
+ghost use Rattle.nt_waits.specs.Waits as waits;
 ghost use Rattle.nt_core.specs.State.{object_at, deadline_after, pending_too};
 ghost use Rattle.nt_core.specs.Naming.{object_named, lacks, wait_named};
 ghost use Rattle.nt_core.specs.Rights.{wait_denied};
 ghost use Rattle.nt_core.specs.Dispatcher.{state};
 ghost use Rattle.nt_core.specs.Serving.{late_status, wait_for, fits, status, taken_by};
 ghost use Rattle.nt_core.specs.Steps.{begun, wait_of};
-ghost use Rattle.nt_core.specs.Refusals.{refusal, first_of_causes, call_causes, IsRefusal, would_pend};
+ghost use Rattle.nt_core.specs.Refusals.{refusal, IsRefusal, would_pend};
 ghost use Rattle.nt_core.specs.declared.call.Call.{Call};
 ghost use Rattle.nt_core.specs.declared.call.WaitCall.{WaitCall};
 ghost use Rattle.nt_core.specs.Lawful.{IsSoundWait, IsSound, IsSteady};
-ghost use Rattle.nt_core.specs.Accepts.{IsFresh, Accepts};
+ghost use Rattle.nt_core.specs.Accepts.{IsFresh, IsFree, Accepts};
 
 use crate::call::{Reply, WaitCall};
 use crate::handles::object_named;
 use crate::machine::Machine;
 use crate::serving::try_wait;
-use nt_status::{Handle, Handles, Moment, Refusal, Status, ThreadId};
-use nt_waits::Wait;
+use nt_status::{Handle, Moment, Refusal, Status, ThreadId};
+use nt_waits::About;
 
 /// INFINITE: the timeout without a deadline.
 const INFINITE: u32 = 0xFFFF_FFFF;
@@ -51,20 +52,27 @@ pub(crate) fn late_status(sleeps: bool) -> Status
 }
 
 impl Machine {
-    /// The wait pends from now on. Where memory is refused nothing changes.
-    fn pend(&mut self, thread: ThreadId, wait: Wait) -> Result<(), Refusal>
+    /// The thread's wait for these handles pends from now on. Where memory is refused nothing changes.
+    #[inline(never)]
+    fn pend(
+        &mut self,
+        thread: ThreadId,
+        handles: &[Handle],
+        all: bool,
+        about: About,
+    ) -> Result<(), Refusal>
         requires idle { fin.get self.old.table.pending thread ≡ None }
-        requires able { IsSoundWait self.old.threads self.old.objects thread wait }
+        requires able { IsSoundWait self.old.threads self.old.objects thread (waits.wait_for handles.now all about) }
         requires room { length self.old.grants + fin.len self.old.table.pending < self.old.threads }
         requires sound { IsSound self.old }
-        ensures state { OnOk result (state self.new ≡ pending_too (state self.old) thread wait) }
+        ensures state { OnOk result (state self.new ≡ pending_too (state self.old) thread (waits.wait_for handles.now all about)) }
         ensures sound { IsSound self.new }
         ensures grants { self.new.grants ≡ self.old.grants }
         ensures looked { self.new.table.looked ≡ self.old.table.looked }
         ensures memory { IfErr result (λ refusal. refusal ≡ Memory) }
         ensures err { OnErr result (self.new ≡ self.old) }
     {
-        self.waits.begin(thread, wait)?;
+        self.waits.begin_in_place(thread, handles, all, about)?;
         Ok(())
     }
 
@@ -88,6 +96,7 @@ impl Machine {
     }
 
     /// Where the objects satisfy the caller's wait, takes them, and answers its status.
+    #[inline(always)]
     fn take_now(&mut self, thread: ThreadId, handles: &[Handle], all: bool) -> Option<Status>
         requires idle { fin.get self.old.table.pending thread ≡ None }
         requires able { IsSoundWait self.old.threads self.old.objects thread (wait_for handles.now all) }
@@ -107,6 +116,7 @@ impl Machine {
 
     /// Where the caller's wait for these handles ends at once, its status: it takes what it fits, or ends for its queued APCs, or
     /// for its timeout of 0.
+    #[inline(always)]
     pub(crate) fn end_at_once(
         &mut self,
         thread: ThreadId,
@@ -141,6 +151,7 @@ impl Machine {
 
     /// Begins the caller's wait for these handles, none for a sleep: it ends at once, or pends. Where memory is refused nothing
     /// changes.
+    #[inline(always)]
     pub(crate) fn begin_wait(
         &mut self,
         thread: ThreadId,
@@ -164,13 +175,11 @@ impl Machine {
         if let Some(status) = self.end_at_once(thread, handles, all, ms, alertable) {
             return Ok(Reply::Status(status));
         }
-        let wait = Wait {
-            handles: Handles::from_slice(*self.grants.allocator(), handles)?,
-            all,
+        let about = About {
             alertable,
             deadline: deadline_after(self.moment, ms),
         };
-        self.pend(thread, wait)?;
+        self.pend(thread, handles, all, about)?;
         Ok(Reply::Pended)
     }
 
@@ -186,7 +195,7 @@ impl Machine {
     ) -> Result<Reply, Refusal>
         requires few { 64 ≤ vec_capacity numbers.old }
         requires fresh { IsFresh self.old }
-        requires caller { (denied : Bool) (call : Call) → refusal (state self.old) thread denied call ≡ first_of_causes (call_causes (state self.old) thread denied call) }
+        requires caller { IsFree (state self.old) thread }
         ensures free { OnOk result (refusal (state self.old) thread (list_any (lacks 0x00100000 self.old.handles) these.now) (Call.Wait (WaitCall.Objects all alertable ms (map (object_named self.old.handles) these.now))) ≡ None) }
         ensures ok { IfOk result (λ reply. Accepts self.old self.new thread (Call.Wait (WaitCall.Objects all alertable ms (map (object_named self.old.handles) these.now))) reply) }
         ensures refused { IfErr result (λ cause. IsRefusal (state self.old) thread (list_any (lacks 0x00100000 self.old.handles) these.now) (Call.Wait (WaitCall.Objects all alertable ms (map (object_named self.old.handles) these.now))) cause) }
@@ -211,7 +220,7 @@ impl Machine {
     ) -> Result<Reply, Refusal>
         requires fresh { IsFresh self.old }
         requires living { object < length self.old.objects → is_gone (object_at self.old.objects object) ≡ false }
-        requires caller { (denied : Bool) (call : Call) → refusal (state self.old) thread denied call ≡ first_of_causes (call_causes (state self.old) thread denied call) }
+        requires caller { IsFree (state self.old) thread }
         ensures free { OnOk result (refusal (state self.old) thread denied (Call.Wait (WaitCall.Swap signal object ms alertable)) ≡ None) }
         ensures ok { IfOk result (λ reply. Accepts self.old self.new thread (Call.Wait (WaitCall.Swap signal object ms alertable)) reply) }
         ensures refused { IfErr result (λ cause. IsRefusal (state self.old) thread denied (Call.Wait (WaitCall.Swap signal object ms alertable)) cause) }
@@ -232,7 +241,7 @@ impl Machine {
     ) -> Result<Reply, Refusal>
         requires few { 64 ≤ vec_capacity numbers.old }
         requires fresh { IsFresh self.old }
-        requires caller { (denied : Bool) (call : Call) → refusal (state self.old) thread denied call ≡ first_of_causes (call_causes (state self.old) thread denied call) }
+        requires caller { IsFree (state self.old) thread }
         ensures free { OnOk result (refusal (state self.old) thread (wait_denied self.old.handles self.old.objects call.now) (Call.Wait (wait_named self.old.handles call.now)) ≡ None) }
         ensures ok { IfOk result (λ reply. Accepts self.old self.new thread (Call.Wait (wait_named self.old.handles call.now)) reply) }
         ensures refused { IfErr result (λ cause. IsRefusal (state self.old) thread (wait_denied self.old.handles self.old.objects call.now) (Call.Wait (wait_named self.old.handles call.now)) cause) }

@@ -1,10 +1,10 @@
 -- The journal and the dispatcher, step by step.
-use Rattle.std.proofs.Common.{◌≡◌, ℕ, ◌+◌, ◌<◌, ◌≤◌, List, [], ◌∷◌, ◌++◌, length, map, Result, Ok, Err, Bool, true, false, cond, eqb, eq-eqb, ne_eqb, refl, sym, ap, ◌∙◌, subst, arith, append_assoc, ⊎_elim}
+use Rattle.std.proofs.Common.{◌≡◌, ℕ, ◌+◌, ◌-◌, ◌^◌, min, ◌<◌, ◌≤◌, List, [], ◌∷◌, ◌++◌, length, length-append, map, Result, Ok, Err, Bool, true, false, cond, eqb, eq-eqb, ne_eqb, refl, sym, ap, ◌∙◌, subst, arith, append_assoc, ⊎_elim}
 use Rattle.std.specs.Prelude.{◌||◌, ◌↔◌, IfOk, nat_le, slice_set}
 use Rattle.std.proofs.lemmas.Bool.Decides.{leb_tells}
 use Rattle.std.proofs.Math.ListN.{get_or}
 use Rattle.std.proofs.Math.Seq.{set-append_seam, get_or-append_seam}
-use Rattle.std.proofs.lemmas.List.{append-nil}
+use Rattle.std.proofs.lemmas.List.{append-nil, length-map}
 use Rattle.std.proofs.lemmas.Bool.{false≢true}
 use native.Mathlib.Decide.{ℕ_discrete}
 use Rattle.nt_status.specs.declared.refusal.Refusal.{Refusal}
@@ -24,11 +24,11 @@ use Rattle.nt_mail.specs.declared.entry.Entry.TheVariants.{Called, Ticked}
 use Rattle.nt_core.specs.Moves.{one_if, pended, granted_to, Moves, IsMomentAfter}
 use Rattle.nt_core.proofs.Lawful.{who_waits}
 use Rattle.nt_core.proofs.Runs.{turns-append}
-use Rattle.nt_mail.specs.Entries.{arms, is_armed, accepted, accepted_at, IsOwn}
+use Rattle.nt_mail.specs.Entries.{Each, arms, is_armed, accepted, accepted_at, IsOwn}
 use Rattle.nt_mail.specs.Knowledge.{latest}
 use Rattle.nt_mail.proofs.Calls.{same_push, after_call, after_grant, one_or, own_thread}
 use Rattle.nt_mail.proofs.Taken.{latest-push}
-use Rattle.nt_front.specs.Runs.{granted, entries_of, journal_of, IsRun, Agree, AreArmed}
+use Rattle.nt_front.specs.Runs.{granted, entries_of, journal_of, IsRunFrom, LeadTo, Agree, AreArmed}
 use Rattle.nt_front.specs.Books.{Stands, ledger}
 
 -- ---- the journal as a run
@@ -37,28 +37,80 @@ journal_of-append : (first more : List Turn) → journal_of (first ++ more) ≡ 
 journal_of-append [] more = refl
 journal_of-append (turn ∷ turns) more = ap (λ l. entries_of turn ++ l) (journal_of-append turns more) ∙ sym (append_assoc (entries_of turn) (journal_of turns) (journal_of more))
 
-run_goes_on : (n : ℕ) (es : List Entry) (old new : State) (turn : Turn) → IsRun n es old → IsTurn old turn new → IsRun n (es ++ entries_of turn) new
-run_goes_on n es old new turn r step = record {
+pub run_goes_on : (base : State) (es : List Entry) (old new : State) (turn : Turn) → IsRunFrom base es old → IsTurn old turn new → IsRunFrom base (es ++ entries_of turn) new
+run_goes_on base es old new turn r step = record {
   turns = r.turns ++ turn ∷ [];
-  run = turns-append (opening n) old new r.turns (turn ∷ []) r.run (new, step, refl);
+  run = turns-append base old new r.turns (turn ∷ []) r.run (new, step, refl);
   entries = ap (λ l. l ++ entries_of turn) r.entries ∙ (ap (λ l. journal_of r.turns ++ l) (sym (append-nil (entries_of turn))) ∙ sym (journal_of-append r.turns (turn ∷ [])));
 }
 
-pub stands_after : (core after : Dispatcher) (es next : List Entry) (room : ℕ) (turn : Turn) → Stands (ledger core es room) → IsLawful after → after.threads ≡ core.threads
-    → IsTurn (state core) turn (state after) → next ≡ es ++ entries_of turn → Stands (ledger after next room)
-stands_after core after es next room turn s lawful same step grown = record {
-  lawful = lawful;
-  run = subst (λ (x : ℕ × List Entry). IsRun x.0 x.1 (state after)) (λ i. (sym same i, sym grown i)) (run_goes_on core.threads es (state core) (state after) turn s.run step);
+-- a run after a run
+pub run_joins : (base mid : State) (before es : List Entry) (s : State) → IsRunFrom base before mid → IsRunFrom mid es s → IsRunFrom base (before ++ es) s
+run_joins base mid before es s first next = record {
+  turns = first.turns ++ next.turns;
+  run = turns-append base mid s first.turns next.turns first.run next.run;
+  entries = ap (λ l. l ++ es) first.entries ∙ (ap (λ l. journal_of first.turns ++ l) next.entries ∙ sym (journal_of-append first.turns next.turns));
 }
 
-pub stands_at_first : (core : Dispatcher) (n room : ℕ) (es : List Entry) → state core ≡ opening n → IsLawful core → es ≡ [] → Stands (ledger core es room)
-stands_at_first core n room es new lawful none = record {
+pub stands_after : (core after base : Dispatcher) (written more : List Entry) (first : ℕ) (es next : List Entry) (room : ℕ) (turn : Turn) → Stands (ledger core base written first es room) → IsLawful after → after.threads ≡ core.threads
+    → IsTurn (state core) turn (state after) → next ≡ es ++ entries_of turn → more ≡ written ++ entries_of turn → Stands (ledger after base more first next room)
+stands_after core after base written more first es next room turn s lawful same step grown longer = record {
   lawful = lawful;
-  run = record { turns = []; run = new ∙ ap opening (sym (ap (λ (s : State). s.threads) new)); entries = none };
+  run = subst (λ (l : List Entry). IsRunFrom (state base) l (state after)) (sym grown) (run_goes_on (state base) es (state core) (state after) turn s.run step);
+  before = s.before;
+  led = subst (λ (n : ℕ). LeadTo n first s.before (state base)) (sym same) s.led;
+  all = longer ∙ (ap (λ l. l ++ entries_of turn) s.all ∙ (append_assoc s.before es (entries_of turn) ∙ ap (λ l. s.before ++ l) (sym grown)));
+}
+
+leads_at_first : (n : ℕ) (s : State) → s ≡ opening n → LeadTo n 1 [] s
+leads_at_first n s new = record {
+  run = record { turns = []; run = new; entries = refl };
+  threads = ap (λ (x : State). x.threads) new;
+  numbers = refl;
+  past = tt;
+}
+
+pub stands_at_first : (core base : Dispatcher) (n room : ℕ) (written es : List Entry) → state core ≡ opening n → IsLawful core → state base ≡ opening n → written ≡ [] → es ≡ [] → Stands (ledger core base written 1 es room)
+stands_at_first core base n room written es new lawful same unwritten none = record {
+  lawful = lawful;
+  run = record { turns = []; run = new ∙ sym same; entries = none };
+  before = [];
+  led = subst (λ (k : ℕ). LeadTo k 1 [] (state base)) (sym (ap (λ (s : State). s.threads) new)) (leads_at_first n (state base) same);
+  all = unwritten ∙ sym none;
+}
+
+-- all entries written lead to the present state
+leads_on : (core base : Dispatcher) (written : List Entry) (first n : ℕ) (es : List Entry) (room : ℕ) → Stands (ledger core base written first es room) → Agree n written (state core) → LeadTo core.threads (length written + 1) written (state core)
+leads_on core base written first n es room s a = record {
+  run = subst (λ (l : List Entry). IsRunFrom (opening core.threads) l (state core)) (sym s.all) (run_joins (opening core.threads) (state base) s.before es (state core) s.led.run s.run);
+  threads = refl;
+  numbers = refl;
+  past = a.past;
+}
+
+-- a dispatcher whose entries were handed out stands on a copy of itself
+pub stands_anew : (core base copied : Dispatcher) (written told : List Entry) (first next n : ℕ) (es none : List Entry) (room : ℕ) → Stands (ledger core base written first es room) → Agree n written (state core) → copied ≡ core → told ≡ written
+    → next ≡ length written + 1 → none ≡ [] → Stands (ledger core copied told next none room)
+stands_anew core base copied written told first next n es none room s a same unchanged number empty = record {
+  lawful = s.lawful;
+  run = record { turns = []; run = ap state (sym same); entries = empty };
+  before = written;
+  led = subst (λ (x : ℕ × State). LeadTo core.threads x.0 written x.1) (λ i. (sym number i, state (sym same i))) (leads_on core base written first n es room s a);
+  all = unchanged ∙ (sym (append-nil written) ∙ ap (λ l. written ++ l) (sym empty));
 }
 
 pub agree_at_first : (n : ℕ) (es : List Entry) (s : State) → s ≡ opening n → es ≡ [] → Agree n es s
-agree_at_first n es s new none = subst (λ (x : List Entry × State). Agree n x.0 x.1) (λ i. (sym none i, sym new i)) (record { threads = refl; waits = λ t. sym (ap (λ (o : Option Wait). is_some o) (get-empty nat_cmp t)); moment = refl })
+agree_at_first n es s new none = subst (λ (x : List Entry × State). Agree n x.0 x.1) (λ i. (sym none i, sym new i)) (record { threads = refl; waits = λ t. sym (ap (λ (o : Option Wait). is_some o) (get-empty nat_cmp t)); moment = refl; past = tt })
+
+-- ---- moments that no accepted tick is after
+
+each_most : (a b : ℕ) (ms : List ℕ) → a ≤ b → Each (λ m. m ≤ a) ms → Each (λ m. m ≤ b) ms
+each_most a b [] le are = tt
+each_most a b (m ∷ ms) le are = (let one = are.0 in omega (arith, one, le), each_most a b ms le are.1)
+
+most-push : (a : ℕ) (ms : List ℕ) (m : ℕ) → m ≤ a → Each (λ x. x ≤ a) ms → Each (λ x. x ≤ a) (ms ++ m ∷ [])
+most-push a [] m le are = (le, tt)
+most-push a (x ∷ xs) m le are = (are.0, most-push a xs m le are.1)
 
 -- ---- who is armed
 
@@ -141,7 +193,7 @@ can_send n es s new who result e armed gs a below moved p =
     (λ t. (let b = own_armed es e who armed p.own p.one t in let c = moved.ended t in let d = ap one_if (a.waits t) in omega arith))
     (λ t some. below t (must_be (pends s t) (let c = moved.ended t in omega arith)))
 
-accepted-append : (xs ys : List Entry) → accepted (xs ++ ys) ≡ accepted xs ++ accepted ys
+pub accepted-append : (xs ys : List Entry) → accepted (xs ++ ys) ≡ accepted xs ++ accepted ys
 accepted-append [] ys = refl
 accepted-append (x ∷ xs) ys = ap (λ l. accepted_at x ++ l) (accepted-append xs ys) ∙ sym (append_assoc (accepted_at x) (accepted xs) (accepted ys))
 
@@ -154,8 +206,8 @@ pub accepted-step : (es : List Entry) (e : Entry) (gs : List Grant) → accepted
 accepted-step es e gs = accepted-append es (e ∷ map granted gs) ∙ ap (λ l. accepted es ++ (accepted_at e ++ l)) (accepted-granted gs) ∙ ap (λ l. accepted es ++ l) (append-nil (accepted_at e))
 
 agree_goes_on : (n : ℕ) (es : List Entry) (s new : State) (who : ℕ) (result : Result Reply Refusal) (e : Entry) (armed : Bool) (gs : List Grant) → Agree n es s → AreBelow n s → Moves s who (pended result) gs new → IsPosted es s who result e armed
-    → latest 0 (accepted es ++ accepted_at e) ≡ new.now → Agree n (es ++ e ∷ map granted gs) new
-agree_goes_on n es s new who result e armed gs a below moved p moment = record {
+    → latest 0 (accepted es ++ accepted_at e) ≡ new.now → Each (λ m. m ≤ new.now) (accepted es ++ accepted_at e) → Agree n (es ++ e ∷ map granted gs) new
+agree_goes_on n es s new who result e armed gs a below moved p moment past = record {
   threads = moved.threads ∙ a.threads;
   waits = λ t. one_if-same (is_armed t (es ++ e ∷ map granted gs)) (pends new t) (
       let sent = can_send n es s new who result e armed gs a below moved p in
@@ -167,6 +219,7 @@ agree_goes_on n es s new who result e armed gs a below moved p moment = record {
       let h = ap (λ l. one_if (is_armed t l)) (append_assoc es (e ∷ []) (map granted gs)) in
       omega arith);
   moment = ap (latest 0) (accepted-step es e gs) ∙ moment;
+  past = subst (Each (λ m. m ≤ new.now)) (sym (accepted-step es e gs)) past;
 }
 
 -- ---- a call
@@ -199,6 +252,7 @@ pub agree_after_call : (n : ℕ) (es : List Entry) (s : State) (who : ℕ) (call
 agree_after_call n es s who call result gs new waited a below moved is same =
     agree_goes_on n es s new who result (Called who call result) (waited || pended result) gs a below moved (posted_call n es s who call result gs new waited a moved is)
     (ap (latest 0) (append-nil (accepted es)) ∙ (a.moment ∙ sym same))
+    (subst (Each (λ m. m ≤ new.now)) (sym (append-nil (accepted es))) (each_most s.now new.now (accepted es) (omega (arith, same)) a.past))
 
 -- ---- a tick
 
@@ -226,11 +280,16 @@ tick_moment : (es : List Entry) (s : State) (by m : ℕ) (result : Result Reply 
 tick_moment es s by m (Ok reply) new is come = latest-push 0 (accepted es) m ∙ sym come.1
 tick_moment es s by m (Err cause) new is come = ap (latest 0) (append-nil (accepted es)) ∙ (is ∙ sym come)
 
+tick_past : (es : List Entry) (s : State) (by m : ℕ) (result : Result Reply Refusal) (new : State) → Each (λ x. x ≤ s.now) (accepted es) → IsMomentAfter s.now m result new.now
+    → Each (λ x. x ≤ new.now) (accepted es ++ accepted_at (Ticked by m result))
+tick_past es s by m (Ok reply) new past come = (let here = come.0 in let now = come.1 in most-push new.now (accepted es) m (omega (arith, now)) (each_most s.now new.now (accepted es) (omega (arith, here, now)) past))
+tick_past es s by m (Err cause) new past come = subst (Each (λ x. x ≤ new.now)) (sym (append-nil (accepted es))) (each_most s.now new.now (accepted es) (omega (arith, come)) past)
+
 pub agree_after_tick : (n : ℕ) (es : List Entry) (s : State) (by m : ℕ) (result : Result Reply Refusal) (gs : List Grant) (new : State) (waited : Bool) → Agree n es s → AreBelow n s → pended result ≡ false → Moves s by false gs new → IsMomentAfter s.now m result new.now → waited ≡ pends s by
     → Agree n (es ++ entries_of (Ticks by m result gs)) new
 agree_after_tick n es s by m result gs new waited a below stays moved come is =
     agree_goes_on n es s new by result (Ticked by m result) waited gs a below (moved_by s by result gs new stays moved) (posted_tick n es s by m result waited a stays is)
-    (tick_moment es s by m result new a.moment come)
+    (tick_moment es s by m result new a.moment come) (tick_past es s by m result new a.past come)
 
 -- an accepted tick is to no moment before those published
 pub tick_rises : (n : ℕ) (es : List Entry) (s : State) (m : ℕ) (result : Result Reply Refusal) (new : State) (published : List ℕ) → Agree n es s → IsMomentAfter s.now m result new.now → published ≡ accepted es → IfOk result (λ _. latest 0 published ≤ m)
@@ -251,14 +310,21 @@ set_last es e new all place is here = ap (λ (l : List Entry). slice_set l place
 pub last_is : (es : List Entry) (e : Entry) (all : List Entry) (place : ℕ) (x : Entry) → x ≡ get_or all place x → all ≡ es ++ e ∷ [] → place ≡ length es → x ≡ e
 last_is es e all place x value is here = value ∙ (ap (λ (l : List Entry). get_or l place x) is ∙ (ap (λ n. get_or (es ++ e ∷ []) n x) here ∙ get_or-append_seam es e [] x))
 
--- there is room for an entry, and one more for each pending wait
-pub room_left : (entries room pending : ℕ) (full : Bool) → (full ≡ true) ↔ (room < entries + 1 + pending) → full ≡ false → entries + 1 + pending ≤ room
-room_left entries room pending full exactly free = ⊎_elim
-    (λ (enough : (nat_le (entries + 1 + pending) room ≡ true) × (entries + 1 + pending ≤ room)). enough.1)
-    (λ (less : (nat_le (entries + 1 + pending) room ≡ false) × (room < entries + 1 + pending)). absurd (false≢true (sym free ∙ exactly.1 less.1)))
-    (leb_tells (entries + 1 + pending) room)
+-- there is room for an entry, and one more for each pending wait, and so many numbers are left
+pub room_left : (entries room next pending : ℕ) (full : Bool) → (full ≡ true) ↔ (min (room - entries) (2 ^ 54 - next) < 1 + pending) → full ≡ false → (entries + 1 + pending ≤ room) × (next + 1 + pending ≤ 2 ^ 54)
+room_left entries room next pending full exactly free =
+    let left = min (room - entries) (2 ^ 54 - next) in
+    let enough : 1 + pending ≤ left = ⊎_elim
+    (λ (more : (nat_le (1 + pending) left ≡ true) × (1 + pending ≤ left)). more.1)
+    (λ (less : (nat_le (1 + pending) left ≡ false) × (left < 1 + pending)). absurd (false≢true (sym free ∙ exactly.1 less.1)))
+    (leb_tells (1 + pending) left) in
+    (omega (arith, enough), omega (arith, enough))
 
 -- the journal after the entry and the grants were written
 pub journal_is : (es now next : List Entry) (e : Entry) (gs sent : List Grant) → now ≡ es ++ e ∷ [] → next ≡ now ++ map granted sent → sent ≡ gs → next ≡ es ++ e ∷ map granted gs
 journal_is es now next e gs sent posted grown same =
     grown ∙ ap (λ l. l ++ map granted sent) posted ∙ append_assoc es (e ∷ []) (map granted sent) ∙ ap (λ l. es ++ (e ∷ map granted l)) same
+
+-- how many entries there are after an entry and the grants
+pub written_count : (es next : List Entry) (e : Entry) (gs : List Grant) → next ≡ es ++ e ∷ map granted gs → length next ≡ length es + 1 + length gs
+written_count es next e gs is = let a = ap length is in let b = length-append es (e ∷ map granted gs) in let d = length-map gs granted in omega arith

@@ -1,5 +1,5 @@
 -- What contracts see of a book.
-use Rattle.std.specs.Prelude.{◌≡◌, ℕ, Bool, ◌+◌, ◌<◌, ◌≤◌, ◌^◌, ◌&&◌, nat_le, List, [], ◌++◌, length, true, Result}
+use Rattle.std.specs.Prelude.{◌≡◌, ℕ, Bool, ◌+◌, ◌-◌, ◌<◌, ◌≤◌, ◌^◌, ◌&&◌, nat_le, min, List, [], ◌++◌, length, true, Result}
 use Rattle.std.specs.FinMap.{len}
 use Rattle.nt_status.specs.declared.refusal.Refusal.{Refusal}
 use Rattle.nt_core.specs.declared.call.Call.{Call}
@@ -17,26 +17,38 @@ use Rattle.nt_mail.specs.Knowledge.{newcomers}
 use Rattle.nt_mail.specs.Rule.{IsTold}
 use Rattle.nt_mail.specs.Seats.{Dispatcher as Seat, Gathered}
 use Rattle.nt_front.specs.Names.{Prepared}
-use Rattle.nt_front.specs.Runs.{entries_of, IsRun, Agree}
+use Rattle.nt_front.specs.declared.receipt.Part.{Part}
+use Rattle.nt_front.specs.Runs.{entries_of, IsRunFrom, LeadTo, Agree}
 
--- the dispatcher, the entries written, and the number of places in the journal
+-- the dispatcher, and the base: the same dispatcher as it was when the journal was last handed out, or at first; all entries written, the
+-- number of the first that the journal still has, and those that it has; and how many places it has
 pub record Ledger : Type 0 where
   pub core : Dispatcher
+  pub base : Dispatcher
+  pub written : List Entry
+  pub first : ℕ
   pub journal : List Entry
   pub room : ℕ
 
-abbrev pub ledger : Dispatcher → List Entry → ℕ → Ledger
-ledger core journal room = record { core = core; journal = journal; room = room }
+abbrev pub ledger : Dispatcher → Dispatcher → List Entry → ℕ → List Entry → ℕ → Ledger
+ledger core base written first journal room = record { core = core; base = base; written = written; first = first; journal = journal; room = room }
 
--- the headline: the dispatcher is lawful, and the journal is a run that leads to this very state
+-- the headline: the dispatcher is lawful, and the journal is a run from the base that leads to this very state; the entries before
+-- it, which were handed out, led to the base
 pub record Stands (b : Ledger) : Type 0 where
   pub lawful : IsLawful b.core
-  pub run : IsRun b.core.threads b.journal (state b.core)
+  pub run : IsRunFrom (state b.base) b.journal (state b.core)
+  pub before : List Entry
+  pub led : LeadTo b.core.threads b.first before (state b.base)
+  pub all : b.written ≡ before ++ b.journal
 
 -- the turn is one of the machine, and its entries were written
 pub record Writes (old : Ledger) (turn : Turn) (new : Ledger) : Type 0 where
   pub step : IsTurn (state old.core) turn (state new.core)
   pub journal : new.journal ≡ old.journal ++ entries_of turn
+  pub written : new.written ≡ old.written ++ entries_of turn
+  pub base : new.base ≡ old.base
+  pub first : new.first ≡ old.first
   pub room : new.room ≡ old.room
 
 abbrev pub WritesCall : Ledger → ℕ → Call → Result Reply Refusal → Ledger → Type 0
@@ -54,9 +66,25 @@ pub record IsCarriedOut (old : Dispatcher) (who : ℕ) (call : Call) (result : R
   pub moment : (state new).now ≡ (state old).now
   pub most : length new.grants ≤ len (state old).waits
 
+-- the number of the next entry
+abbrev pub next_number : Ledger → ℕ
+next_number b = b.first + length b.journal
+
+-- how many entries there is a place for, and a number below 2^54
+abbrev pub room_left : Ledger → ℕ
+room_left b = min (b.room - length b.journal) (2 ^ 54 - next_number b)
+
 -- the room left is too small for an entry and one more for each pending wait
 abbrev pub IsFull : Ledger → Type 0
-IsFull b = b.room < length b.journal + 1 + len (state b.core).waits
+IsFull b = room_left b < 1 + len (state b.core).waits
+
+-- the entries since the base were handed out, with the base and the number of the first; the dispatcher is as before, and the new base; no
+-- entry stands, and numbers go on
+pub record HandsOut (old : Ledger) (part : Part) (new : Ledger) : Type 0 where
+  pub first : part.first ≡ old.first
+  pub base : part.base ≡ old.base
+  pub entries : part.entries.items ≡ old.journal
+  pub rest : new ≡ ledger old.core old.core old.written (next_number old) [] old.room
 
 -- a book of this front had no room for the thread's next call: it stood, it was full, and its journal tells just what the thread knows
 pub record WasFull (front : Prepared) (k : Knowledge) : Type 0 where
@@ -65,7 +93,18 @@ pub record WasFull (front : Prepared) (k : Knowledge) : Type 0 where
   pub threads : book.core.threads ≡ front.threads
   pub room : book.room ≡ front.room
   pub full : IsFull book
-  pub told : IsTold book.journal (accepted book.journal) k
+  pub told : IsTold book.written (accepted book.written) k
+
+-- a book of this front handed out this part: it stood, and stands without the part; the entries told just what the thread knows
+pub record WasHandedOut (front : Prepared) (k : Knowledge) (part : Part) : Type 0 where
+  pub book : Ledger
+  pub stands : Stands book
+  pub threads : book.core.threads ≡ front.threads
+  pub room : book.room ≡ front.room
+  pub told : IsTold book.written (accepted book.written) k
+  pub rest : Ledger
+  pub handed : HandsOut book part rest
+  pub goes_on : Stands rest
 
 -- so many threads and so much room are lawful
 abbrev pub is_lawful_front : ℕ → ℕ → Bool
@@ -79,17 +118,17 @@ pub record IsBlank (b : Prepared) (all : Gathered) (core : Dispatcher) (journal 
   pub lawful : IsLawful core
   pub empty : journal ≡ []
   pub places : b.room ≤ capacity
-  pub numbers : b.room < 2 ^ 54
   pub few : b.threads ≤ 256
 
--- what a book keeps: the headline, entries that agree with the state, the threads and the room of its front, places for that room, and
--- a seat that knows the journal
+-- what a book keeps: the headline, entries that agree with the state, the threads and the room of its front, places for that room,
+-- numbers for the entries, and a seat that knows all entries written
 pub record IsBook (b : Ledger) (count capacity : ℕ) (dispatcher : Seat) (front : Prepared) : Type 0 where
   pub stands : Stands b
-  pub agree : Agree count b.journal (state b.core)
+  pub agree : Agree count b.written (state b.core)
   pub threads : count ≡ front.threads
   pub room : b.room ≡ front.room
   pub places : b.room ≤ capacity
-  pub numbers : b.room < 2 ^ 54
-  pub seat : dispatcher ≡ record { table = front.table; written = b.journal; published = accepted b.journal }
+  pub next : length b.written + 1 ≡ next_number b
+  pub numbers : next_number b ≤ 2 ^ 54
+  pub seat : dispatcher ≡ record { table = front.table; written = b.written; published = accepted b.written }
   pub words : front.table.words ≡ count + 1

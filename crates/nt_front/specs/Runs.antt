@@ -1,24 +1,36 @@
 -- A journal as a run of the machine.
-use Rattle.std.specs.Prelude.{◌≡◌, ◌<◌, ℕ, List, [], ◌∷◌, ◌++◌, true}
+use Rattle.std.specs.Prelude.{◌≡◌, ◌<◌, ◌≤◌, ◌+◌, ℕ, List, [], ◌∷◌, ◌++◌, length, true}
 use Rattle.nt_core.specs.declared.call.Grant.{Grant}
-use Rattle.nt_core.specs.State.{State, pends}
-use Rattle.nt_core.specs.Runs.{Turn, Run}
+use Rattle.nt_core.specs.Dispatcher.{Dispatcher, state}
+use Rattle.nt_core.specs.Lawful.{IsLawful}
+use Rattle.nt_core.specs.State.{State, pends, opening}
 use Rattle.nt_mail.specs.declared.entry.Entry.{Entry}
-use Rattle.nt_mail.specs.Entries.{is_armed, accepted}
-pub use Rattle.nt_mail.specs.Journals.{granted, entries_of, journal_of}
+use Rattle.nt_mail.specs.Entries.{Each, is_armed, accepted}
+pub use Rattle.nt_mail.specs.Journals.{granted, entries_of, journal_of, IsRunFrom}
 use Rattle.nt_mail.specs.Knowledge.{latest}
 
 -- the entries are those of a run of n threads, from the opening to this state
-pub record IsRun (n : ℕ) (es : List Entry) (s : State) : Type 0 where
-  pub turns : List Turn
-  pub run : Run n turns s
-  pub entries : es ≡ journal_of turns
+abbrev pub IsRun : ℕ → List Entry → State → Type 0
+IsRun n es s = IsRunFrom (opening n) es s
 
--- the entries and the state say the same of who waits, and of the present moment
+-- the entries are a run from the base to a lawful dispatcher
+abbrev pub IsLawfulRun : Dispatcher → List Entry → Type 0
+IsLawfulRun base es = (core : Dispatcher) × IsLawful core × IsRunFrom (state base) es (state core)
+
+-- these entries led n threads from the opening to the base, and the next one has number `first`; no tick among them was accepted
+-- with a moment after the base's
+pub record LeadTo (n first : ℕ) (before : List Entry) (base : State) : Type 0 where
+  pub run : IsRun n before base
+  pub threads : base.threads ≡ n
+  pub numbers : first ≡ length before + 1
+  pub past : Each (λ m. m ≤ base.now) (accepted before)
+
+-- the entries and the state say the same of who waits, and of the present moment, which no accepted tick is after
 pub record Agree (n : ℕ) (es : List Entry) (s : State) : Type 0 where
   pub threads : s.threads ≡ n
   pub waits : (t : ℕ) → is_armed t es ≡ pends s t
   pub moment : latest 0 (accepted es) ≡ s.now
+  pub past : Each (λ m. m ≤ s.now) (accepted es)
 
 -- each grant is to a thread whose wait is pending when it is written
 abbrev pub AreArmed : ℕ → List Entry → List Grant → Type 0

@@ -1,6 +1,8 @@
 //! How a front is made.
-ghost use Rattle.std.specs.Prelude.{◌≡◌, ◌+◌, ◌≤◌, ◌<◌, ◌^◌, ◌&&◌, [], vec_len, vec_capacity, IfOk, IfErr, MatchBool, nat_le};
+ghost use Rattle.std.specs.Prelude.{◌≡◌, ◌+◌, ◌≤◌, ◌&&◌, [], vec_len, vec_capacity, IfOk, IfErr, MatchBool, nat_le};
 ghost use Rattle.nt_status.specs.declared.refusal.Refusal.TheVariants.{InvalidParameter, Memory};
+ghost use Rattle.nt_core.specs.State.{opening};
+ghost use Rattle.nt_core.specs.Dispatcher.{state};
 ghost use Rattle.nt_mail.specs.Knowledge.{newcomers};
 ghost use Rattle.nt_front.specs.Books.{is_lawful_front};
 ghost use Rattle.nt_front.specs.Holds.{new_threads};
@@ -65,8 +67,8 @@ pub fn open<N: Named>(alloc: Global, blank: Blank) -> Result<(Front<N>, Vec<Pass
     ensures count { IfOk result (λ r. vec_len r.1 ≡ blank.threads) }
     ensures memory { IfErr result (λ r. r ≡ Memory) }
 {
-    match rooms(alloc, blank.threads as usize) {
-        Ok((bells, passes)) => Ok(put_together(blank, bells, passes)),
+    match make_rest(alloc, &blank) {
+        Ok(made) => Ok(put_together(blank, made)),
         Err(refused) => {
             let_go(blank);
             Err(refused)
@@ -78,13 +80,10 @@ pub fn open<N: Named>(alloc: Global, blank: Blank) -> Result<(Front<N>, Vec<Pass
 fn let_go(_blank: Blank) {}
 
 /// Puts the front together. Each thread gets its pass.
-fn put_together<N: Named>(
-    blank: Blank,
-    bells: Bells,
-    mut passes: Vec<Pass<N>>,
-) -> (Front<N>, Vec<Pass<N>>)
+fn put_together<N: Named>(blank: Blank, made: Made<N>) -> (Front<N>, Vec<Pass<N>>)
     requires name { blank ≡ N.front }
-    requires room { (passes.items ≡ []) × (blank.threads ≤ vec_capacity passes) }
+    requires room { (made.passes.items ≡ []) × (blank.threads ≤ vec_capacity made.passes) }
+    requires base { state made.base ≡ opening blank.threads }
     ensures passes { result.1.items ≡ new_threads blank.threads }
     ensures count { vec_len result.1 ≡ blank.threads }
 {
@@ -96,8 +95,13 @@ fn put_together<N: Named>(
         threads,
         room,
     } = blank;
+    let Made {
+        bells,
+        mut passes,
+        base,
+    } = made;
     hand_out(&mail, &mut seats, threads as u16, &mut passes);
-    let book = Book::new(core, threads, journal, room, seats.into_dispatcher());
+    let book = Book::new(core, base, threads, journal, room, seats.into_dispatcher());
     let front = Front {
         mail,
         book: Mutex::new(book),
@@ -106,14 +110,33 @@ fn put_together<N: Named>(
     (front, passes)
 }
 
-/// What opening takes memory for: a bell for each thread, and room for the passes.
-fn rooms<N: Named>(alloc: Global, threads: usize) -> Result<(Bells, Vec<Pass<N>>), Refusal>
-    ensures passes { IfOk result (λ r. (r.1.items ≡ []) × (threads ≤ vec_capacity r.1)) }
+/// What opening takes memory for: a bell for each thread, room for the passes, and the dispatcher that the journal begins at.
+struct Made<N: Named> {
+    bells: Bells,
+    passes: Vec<Pass<N>>,
+    base: Core,
+}
+
+/// Makes what opening takes memory for.
+fn make_rest<N: Named>(alloc: Global, blank: &Blank) -> Result<Made<N>, Refusal>
+    ensures passes { IfOk result (λ r. (r.passes.items ≡ []) × (blank.now.threads ≤ vec_capacity r.passes)) }
+    ensures base { IfOk result (λ r. state r.base ≡ opening blank.now.threads) }
     ensures memory { IfErr result (λ r. r ≡ Memory) }
 {
+    let threads = blank.threads as usize;
     let bells = Bells::new(alloc, threads)?;
     let passes = Vec::with_capacity(alloc, threads)?;
-    Ok((bells, passes))
+    match blank.core.copy() {
+        Ok(base) => Ok(Made {
+            bells,
+            passes,
+            base,
+        }),
+        Err(refused) => {
+            passes.destroy_empty();
+            Err(refused)
+        }
+    }
 }
 
 /// Whether a front may have so many threads, and its journal so much room.
@@ -125,7 +148,7 @@ fn is_lawful(threads: u32, room: usize) -> bool
 
 /// The parts of a front.
 fn parts(alloc: Global, threads: u32, room: usize) -> Result<Blank, Refusal>
-    requires { (1 ≤ threads) × (threads ≤ 256) × (room < 2 ^ 54) }
+    requires { (1 ≤ threads) × (threads ≤ 256) }
     ensures ok { IfOk result (λ b. (b.threads ≡ threads) × (b.room ≡ room)) }
     ensures memory { IfErr result (λ r. r ≡ Memory) }
 {

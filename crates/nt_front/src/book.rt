@@ -1,34 +1,40 @@
 //! What lies behind the lock.
-ghost use Rattle.std.specs.Prelude.{◌≡◌, ◌+◌, ◌^◌, ◌<◌, ◌≤◌, ◌↔◌, [], length, vec_capacity, true, false, IfOk, IfErr, IfNone, IfSome, OnErr, Err};
-ghost use Rattle.nt_status.specs.declared.refusal.Refusal.TheVariants.{JournalFull};
+ghost use Rattle.std.specs.Prelude.{◌≡◌, ◌==◌, ◌+◌, ◌-◌, ◌^◌, ◌<◌, ◌≤◌, ◌↔◌, [], length, min, vec_capacity, true, false, IfOk, IfErr, IfNone, IfSome, OnErr, Err};
+ghost use Rattle.std.specs.FinMap as map;
+ghost use Rattle.nt_status.specs.declared.refusal.Refusal.TheVariants.{JournalFull, Memory};
 ghost use Rattle.nt_core.specs.State.{opening};
 ghost use Rattle.nt_core.specs.Dispatcher.{state};
 ghost use Rattle.nt_core.specs.Lawful.{IsLawful};
 ghost use Rattle.nt_core.specs.Moves.{pended, is_wait};
 ghost use Rattle.nt_mail.specs.Entries.{accepted};
 ghost use Rattle.nt_mail.specs.Knowledge.{IsEarlier};
-ghost use Rattle.nt_front.specs.Runs.{IsRun};
-ghost use Rattle.nt_front.specs.Books.{Stands, WritesCall, WritesTick, IsFull, WasFull};
+ghost use Rattle.nt_front.specs.Books.{Stands, WritesCall, WritesTick, IsFull, WasFull, HandsOut, WasHandedOut, ledger, next_number};
 ghost use Rattle.nt_front.specs.Holds.{with_call, with_tick};
 ghost use Rattle.nt_front.specs.Marks.{AreMarks};
 
 use crate::hold::Hold;
 use crate::moments::floor_after;
 use crate::named::Named;
-use crate::receipt::{History, Receipt};
+use crate::receipt::{History, Part, Receipt};
 use crate::wake::Marks;
 use crate::write::{publish, send, tell, write_call};
 use nt_core::{Call, Core, Reply};
 use nt_mail::{DispatcherSeat, Entry, Mail};
 use nt_status::{Moment, Refusal};
 use std::marker::{Model, PhantomData};
+use std::mem;
 
-/// The dispatcher, its journal, and the seat that knows the journal. Only `open` makes one.
+/// The most entries that have numbers, and one more.
+const NUMBERS: u64 = 1 << 54;
+
+/// The dispatcher, its journal with the dispatcher that it begins at, and the seat that knows all entries. Only `open` makes one.
 ///
-/// Its type keeps that the dispatcher is lawful, and that the journal is a run which leads to this very state.
+/// Its type keeps that the dispatcher is lawful, and that the journal is a run which leads from its base to this very state.
 #[derive(Drop)]
 pub struct Book<N: Named> {
     core: Core,
+    base: Core,
+    first: u64,
     journal: Vec<Entry>,
     room: usize,
     threads: u32,
@@ -46,9 +52,9 @@ impl<N: Named> Model for Book<N> {
 
     ghost coded = { Prim.hlevel (codes, waits_code) };
 
-    ghost view = { λ b. ledger b.core b.journal.items b.room };
+    ghost view = { λ b. ledger b.core b.base b.dispatcher.written b.first b.journal.items b.room };
 
-    ghost invariant = { λ b. IsBook (ledger b.core b.journal.items b.room) b.threads (vec_capacity b.journal) b.dispatcher N.front };
+    ghost invariant = { λ b. IsBook (ledger b.core b.base b.dispatcher.written b.first b.journal.items b.room) b.threads (vec_capacity b.journal) b.dispatcher N.front };
 }
 
 impl<N: Named> Book<N> {
@@ -56,6 +62,7 @@ impl<N: Named> Book<N> {
     ///
     /// Refused with JournalFull where the room left is too small for an entry and one more for each pending wait; nothing changes
     /// then. Every other answer of the dispatcher is written, a refusal too.
+    #[inline(always)]
     pub fn call(
         &mut self,
         mail: &Mail,
@@ -64,7 +71,7 @@ impl<N: Named> Book<N> {
     ) -> Result<Receipt, Refusal>
         requires mail { mail.now ≡ N.front.table }
         ensures book { IfOk result (λ r. WritesCall self.old caller.old.thread call r.result self.new) }
-        ensures entry { IfOk result (λ r. r.entry ≡ length self.old.journal + 1) }
+        ensures entry { IfOk result (λ r. r.entry ≡ next_number self.old) }
         ensures made { IfOk result (λ r. caller.new ≡ with_call caller.old r.entry call r.result) }
         ensures earlier { IfOk result (λ r. IsEarlier r.entry caller.old) }
         ensures waits { IfOk result (λ r. pended r.result ≡ true → is_wait call ≡ true) }
@@ -73,13 +80,13 @@ impl<N: Named> Book<N> {
         ensures told { OnErr result (WasFull N.front caller.old) }
         ensures err { OnErr result ((self.new ≡ self.old) × (caller.new ≡ caller.old)) }
     {
-        if is_full(self.journal.len(), self.room, self.core.pending()) {
+        let place = self.journal.len();
+        let entry = self.first + place as u64;
+        if is_full(place, self.room, entry, self.core.pending()) {
             return Err(self.refusal(mail, caller));
         }
         let who = caller.thread();
         let waited = self.core.is_waiting(u32::from(who.get()));
-        let place = self.journal.len();
-        let entry = place as u64 + 1;
         let result = write_call(&mut self.core, &mut self.journal, who, call);
         let armed = waited | has_pended(&result);
         tell(
@@ -95,6 +102,7 @@ impl<N: Named> Book<N> {
             mail,
             &mut self.dispatcher,
             &mut self.journal,
+            entry + 1,
             self.core.grants(),
         );
         Ok(Receipt { entry, result })
@@ -111,7 +119,7 @@ impl<N: Named> Book<N> {
     ) -> Result<Receipt, Refusal>
         requires mail { mail.now ≡ N.front.table }
         ensures book { IfOk result (λ r. WritesTick self.old caller.old.thread moment r.result self.new) }
-        ensures entry { IfOk result (λ r. r.entry ≡ length self.old.journal + 1) }
+        ensures entry { IfOk result (λ r. r.entry ≡ next_number self.old) }
         ensures made { IfOk result (λ r. caller.new ≡ with_tick caller.old r.entry moment r.result) }
         ensures earlier { IfOk result (λ r. IsEarlier r.entry caller.old) }
         ensures waits { IfOk result (λ r. pended r.result ≡ false) }
@@ -120,13 +128,13 @@ impl<N: Named> Book<N> {
         ensures told { OnErr result (WasFull N.front caller.old) }
         ensures err { OnErr result ((self.new ≡ self.old) × (caller.new ≡ caller.old)) }
     {
-        if is_full(self.journal.len(), self.room, self.core.pending()) {
+        let place = self.journal.len();
+        let entry = self.first + place as u64;
+        if is_full(place, self.room, entry, self.core.pending()) {
             return Err(self.refusal(mail, caller));
         }
         let by = caller.thread();
         let armed = self.core.is_waiting(u32::from(by.get()));
-        let place = self.journal.len();
-        let entry = place as u64 + 1;
         let result = self.core.tick(moment);
         self.journal
             .push_reserved(Entry::Ticked { by, moment, result });
@@ -144,13 +152,50 @@ impl<N: Named> Book<N> {
             mail,
             &mut self.dispatcher,
             &mut self.journal,
+            entry + 1,
             self.core.grants(),
         );
         publish(mail, &mut self.dispatcher, moment, &result);
         Ok(Receipt { entry, result })
     }
 
+    /// Hands out the entries since the base, with the base. From then on a copy of the dispatcher is the base, and no entry stands.
+    ///
+    /// Refused with 8 where memory is refused; nothing changes then. It writes no entry, and looks at the mail once.
+    pub fn rotate(&mut self, mail: &Mail, caller: &mut Hold<N>) -> Result<Part, Refusal>
+        requires mail { mail.now ≡ N.front.table }
+        ensures part { IfOk result (λ part. HandsOut self.old part self.new) }
+        ensures told { IfOk result (λ part. WasHandedOut N.front caller.old part) }
+        ensures memory { IfErr result (λ r. r ≡ Memory) }
+        ensures err { OnErr result (self.new ≡ self.old) }
+        ensures caller { caller.new ≡ caller.old }
+    {
+        let (journal, base) = self.anew()?;
+        mail.look(&mut self.dispatcher, &mut caller.seat);
+        let first = self.first;
+        let entries = mem::replace(&mut self.journal, journal);
+        let base = mem::replace(&mut self.base, base);
+        self.first = first + entries.len() as u64;
+        Ok(Part {
+            first,
+            base,
+            entries,
+        })
+    }
+
+    /// An empty journal of the full room, and a copy of the dispatcher.
+    fn anew(&self) -> Result<(Vec<Entry>, Core), Refusal>
+        ensures journal { IfOk result (λ r. (r.0.items ≡ []) × (self.now.room ≤ vec_capacity r.0)) }
+        ensures base { IfOk result (λ r. r.1 ≡ self.now.core) }
+        ensures memory { IfErr result (λ r. r ≡ Memory) }
+    {
+        let journal = Vec::with_capacity(*self.journal.allocator(), self.room)?;
+        let base = self.core.copy()?;
+        Ok((journal, base))
+    }
+
     /// The refusal of a call where the journal is full. Nothing changes; what the thread knows is what the journal tells of it.
+    #[inline(never)]
     fn refusal(&mut self, mail: &Mail, caller: &mut Hold<N>) -> Refusal
         requires mail { mail.now ≡ N.front.table }
         requires full { IsFull self.old }
@@ -160,6 +205,22 @@ impl<N: Named> Book<N> {
     {
         mail.look(&mut self.dispatcher, &mut caller.seat);
         Refusal::JournalFull
+    }
+
+    /// Whether the last call or tick ended no wait.
+    #[inline(always)]
+    pub(crate) fn ended_none(&self) -> bool
+        ensures { result ≡ (length self.now.core.grants == 0) }
+    {
+        self.core.grants().is_empty()
+    }
+
+    /// How many waits pend.
+    #[inline(always)]
+    pub(crate) fn pending(&self) -> usize
+        ensures { result ≡ map.len (state self.now.core).waits }
+    {
+        self.core.pending()
     }
 
     /// A mark for each thread whose wait the last call or tick ended; none where it ended no wait.
@@ -175,22 +236,26 @@ impl<N: Named> Book<N> {
         }
     }
 
-    /// A book with an empty journal.
+    /// A book with an empty journal, which begins at the opening.
     pub(crate) fn new(
         core: Core,
+        base: Core,
         threads: u32,
         journal: Vec<Entry>,
         room: usize,
         dispatcher: DispatcherSeat,
     ) -> Book<N>
         requires core { (state core ≡ opening threads) × IsLawful core }
-        requires journal { (journal.items ≡ []) × (room ≤ vec_capacity journal) × (room < 2 ^ 54) }
+        requires base { state base ≡ opening threads }
+        requires journal { (journal.items ≡ []) × (room ≤ vec_capacity journal) }
         requires dispatcher { dispatcher ≡ record { table = N.front.table; written = []; published = [] } }
         requires front { (N.front.table.words ≡ threads + 1) × (threads ≡ N.front.threads) × (room ≡ N.front.room) }
-        ensures { result ≡ record { core = core; journal = []; room = room } }
+        ensures { result ≡ ledger core base [] 1 [] room }
     {
         Book {
             core,
+            base,
+            first: 1,
             journal,
             room,
             threads,
@@ -206,25 +271,27 @@ impl<N: Named> Book<N> {
         let _ = &self.core;
     }
 
-    /// The journal, and the seat that knows it.
+    /// The rest of the journal, and the seat that knows all entries.
     pub(crate) fn into_history(self) -> (History, DispatcherSeat)
-        ensures entries { result.0.entries.items ≡ self.journal }
-        ensures threads { result.0.threads ≡ N.front.threads }
-        ensures lawful { IsLawful self.core }
-        ensures run { IsRun result.0.threads result.0.entries.items (state self.core) }
-        ensures seat { result.1 ≡ record { table = N.front.table; written = result.0.entries.items; published = accepted result.0.entries.items } }
+        ensures history { (result.0.first ≡ self.first) × (result.0.base ≡ self.base) × (result.0.entries.items ≡ self.journal) }
+        ensures stands { Stands self }
+        ensures threads { self.core.threads ≡ N.front.threads }
+        ensures seat { result.1 ≡ record { table = N.front.table; written = self.written; published = accepted self.written } }
     {
         let Book {
             core,
+            base,
+            first,
             journal,
             room: _,
-            threads,
+            threads: _,
             dispatcher,
             of: _,
         } = self;
         let_go(core);
         let history = History {
-            threads,
+            first,
+            base,
             entries: journal,
         };
         (history, dispatcher)
@@ -234,14 +301,18 @@ impl<N: Named> Book<N> {
 /// Drops the dispatcher.
 fn let_go(_core: Core) {}
 
-/// There is no place for one entry and one more for each pending wait.
-fn is_full(entries: usize, room: usize, pending: usize) -> bool
-    ensures { (result ≡ true) ↔ (room < entries + 1 + pending) }
+/// There is no place, or no number, for one entry and one more for each pending wait.
+#[inline(always)]
+fn is_full(entries: usize, room: usize, next: u64, pending: usize) -> bool
+    ensures { (result ≡ true) ↔ (min (room - entries) (2 ^ 54 - next) < 1 + pending) }
 {
-    room < entries || room - entries < 1 || room - entries - 1 < pending
+    let places = room.saturating_sub(entries) as u64;
+    let numbers = NUMBERS.saturating_sub(next);
+    places.min(numbers) <= pending as u64
 }
 
 /// Whether the caller's wait pends from now on.
+#[inline(always)]
 pub(crate) fn has_pended(answer: &Result<Reply, Refusal>) -> bool
     ensures { result ≡ pended answer.now }
 {

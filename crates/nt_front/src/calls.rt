@@ -1,10 +1,13 @@
 //! What a thread with a pass may do under the lock.
 ghost use Rattle.std.specs.Prelude.{◌≡◌, true, IfOk, IfErr, OnErr};
-ghost use Rattle.nt_status.specs.declared.refusal.Refusal.TheVariants.{JournalFull};
+ghost use Rattle.nt_status.specs.declared.refusal.Refusal.TheVariants.{JournalFull, Memory};
 ghost use Rattle.nt_core.specs.declared.call.Call.{Call};
+ghost use Rattle.nt_core.specs.Dispatcher.{state};
 ghost use Rattle.nt_core.specs.Moves.{pended, is_wait};
 ghost use Rattle.nt_mail.specs.Knowledge.{IsEarlier};
-ghost use Rattle.nt_front.specs.Books.{WasFull};
+ghost use Rattle.nt_front.specs.Books.{WasFull, WasHandedOut};
+ghost use Rattle.nt_front.specs.Held.{IsAllOf};
+ghost use Rattle.nt_front.specs.Runs.{IsLawfulRun};
 ghost use Rattle.nt_front.specs.Holds.{with_tick};
 ghost use Rattle.nt_front.specs.Polls.{IsMade, IsBegun, IsExited};
 
@@ -12,7 +15,7 @@ use crate::book::{Book, has_pended};
 use crate::front::Front;
 use crate::hold::{Ended, Hold, Pass, Sleeper};
 use crate::named::Named;
-use crate::receipt::Receipt;
+use crate::receipt::{Part, Receipt};
 use nt_core::{Act, Call, WaitCall};
 use nt_status::{Moment, Refusal};
 use std::sync::{MutexGuard, Wait};
@@ -38,6 +41,7 @@ impl<N: Named> Front<N> {
     /// Makes a call that never pends.
     ///
     /// Refused with JournalFull alone, and the pass is unchanged then; what the dispatcher answers, a refusal too, is in the receipt.
+    #[inline(always)]
     #[tactic(auto, using(crate::proofs::Floors::free_unless_waits))]
     pub fn call(&self, rt: &impl Wait, pass: &mut Pass<N>, act: Act) -> Result<Receipt, Refusal>
         ensures made { IfOk result (λ r. IsMade pass.old (Call.Act act) r.entry r.result pass.new) }
@@ -68,7 +72,24 @@ impl<N: Named> Front<N> {
         Ok(receipt)
     }
 
+    /// Takes the journal's entries since the part before, or since the opening, with the dispatcher that they begin at. The journal is
+    /// empty then, with its full room, and the numbers of entries go on.
+    ///
+    /// Refused with 8 where memory is refused; nothing changes then. It is no call: it is not written, and is never refused with
+    /// JournalFull.
+    #[tactic(auto, using(crate::proofs::Since::part_runs, crate::proofs::Since::part_accounts))]
+    pub fn rotate(&self, rt: &impl Wait, pass: &mut Pass<N>) -> Result<Part, Refusal>
+        ensures run { IfOk result (λ part. IsLawfulRun part.base part.entries.items) }
+        ensures account { IfOk result (λ part. IsAllOf part.first (state part.base).now part.entries.items pass.old) }
+        ensures book { IfOk result (WasHandedOut N.front pass.old) }
+        ensures pass { pass.new ≡ pass.old }
+        ensures memory { IfErr result (λ r. r ≡ Memory) }
+    {
+        self.book.lock(rt).rotate(&self.mail, &mut pass.hold)
+    }
+
     /// Begins a wait. The journal takes it in; nothing of it is copied. Where the journal is full it is dropped.
+    #[inline(always)]
     pub fn begin(&self, rt: &impl Wait, pass: Pass<N>, wait: WaitCall) -> Begun<N>
         ensures { IsBegun N.front pass wait result }
     {
@@ -97,6 +118,7 @@ impl<N: Named> Front<N> {
     }
 
     /// Makes a call under the lock, and wakes whom it granted once the lock is given back.
+    #[inline(always)]
     fn make(&self, rt: &impl Wait, caller: &mut Hold<N>, call: Call) -> Result<Receipt, Refusal>
         ensures made { IfOk result (λ r. IsMade caller.old call r.entry r.result caller.new) }
         ensures waits { IfOk result (λ r. pended r.result ≡ true → is_wait call ≡ true) }
@@ -104,14 +126,34 @@ impl<N: Named> Front<N> {
         ensures full { OnErr result (WasFull N.front caller.old) }
         ensures err { OnErr result (caller.new ≡ caller.old) }
     {
-        let mut book = self.book.lock(rt);
+        let mut book = self.locked(rt);
         let receipt = book.call(&self.mail, caller, call)?;
         self.leave(book);
         Ok(receipt)
     }
 
+    /// Takes the lock. Mostly it is free.
+    #[inline(always)]
+    pub(crate) fn locked(&self, rt: &impl Wait) -> MutexGuard<'_, Book<N>> {
+        match self.book.try_lock() {
+            Some(book) => book,
+            None => self.book.lock(rt),
+        }
+    }
+
     /// Gives the lock back, and then wakes the threads whose waits the last call ended.
+    #[inline(always)]
     pub(crate) fn leave(&self, book: MutexGuard<'_, Book<N>>) {
+        if book.ended_none() {
+            drop(book);
+        } else {
+            self.leave_ringing(book);
+        }
+    }
+
+    /// The same, where it ended some.
+    #[inline(never)]
+    fn leave_ringing(&self, book: MutexGuard<'_, Book<N>>) {
         let ended = book.ended();
         drop(book);
         if let Some(marks) = ended {

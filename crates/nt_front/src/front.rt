@@ -1,9 +1,9 @@
 //! The front: the mail, the book behind its lock, and a condition variable for each thread.
-ghost use Rattle.std.specs.Prelude.{◌≡◌};
-ghost use Rattle.nt_core.specs.Dispatcher.{Dispatcher, state};
-ghost use Rattle.nt_core.specs.Lawful.{IsLawful};
+ghost use Rattle.std.specs.Prelude.{◌≡◌, List};
+ghost use Rattle.nt_core.specs.Dispatcher.{state};
+ghost use Rattle.nt_mail.specs.declared.entry.Entry.{Entry};
 ghost use Rattle.nt_mail.specs.Entries.{Each};
-ghost use Rattle.nt_front.specs.Runs.{IsRun};
+ghost use Rattle.nt_front.specs.Runs.{IsLawfulRun, LeadTo};
 ghost use Rattle.nt_front.specs.Held.{IsAccounted};
 
 use crate::book::Book;
@@ -24,11 +24,11 @@ pub struct Front<N: Named> {
 }
 
 impl<N: Named> Front<N> {
-    /// Ends the front. What each hold knows is what stands in the history.
+    /// Ends the front, and answers the rest of the journal. What each hold knows from its first number on is what stands there.
     pub fn finish(self, mut holds: Vec<Held<N>>) -> History
-        ensures run { (core : Dispatcher) × IsLawful core × IsRun result.threads result.entries.items (state core) }
-        ensures threads { result.threads ≡ N.front.threads }
-        ensures told { Each (IsAccounted result.entries.items) holds.items }
+        ensures run { IsLawfulRun result.base result.entries.items }
+        ensures base { (before : List Entry) × LeadTo N.front.threads result.first before (state result.base) }
+        ensures told { Each (IsAccounted result.first (state result.base).now result.entries.items) holds.items }
     {
         let Front {
             mail,

@@ -12,9 +12,10 @@ use std::marker::{Model, PhantomData};
 ///
 /// Contracts see it, and each hold, as what the thread knows.
 pub struct Hold<N: Named> {
-    pub(crate) seat: ThreadSeat,
     pub(crate) floor: Moment,
     pub(crate) calls: u64,
+    /// Last: it has a number of two bytes, and what stands before it is moved in whole words.
+    pub(crate) seat: ThreadSeat,
     pub(crate) of: PhantomData<N>,
 }
 

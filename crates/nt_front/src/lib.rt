@@ -1,8 +1,8 @@
 //! The dispatcher behind one lock, for the threads of a process.
 //!
 //! Whoever takes the lock finds a lawful dispatcher, and beside it the journal: each call and tick with its answer, and each wait
-//! that ended, in their order. The journal is a run of the machine from its opening to the state that lies beside it, so all that
-//! is proved of runs is true of what the threads were told.
+//! that ended, in their order. With the parts of it that were handed out before, the journal is a run of the machine from its opening
+//! to the state that lies beside it, so all that is proved of runs is true of what the threads were told.
 //!
 //! ```text
 //!    thread 0: a pass      thread 1: a sleeper      thread 2: a pass
@@ -23,8 +23,10 @@
 //!   word and never waits for the lock; once the wait is granted, it gives the pass back with the entry of the grant. A thread that
 //!   has nothing else to do meanwhile calls `wait`, which begins a wait and sleeps in one hold of the lock.
 //! - A thread that ends its work with `exit` keeps an **ended** mark.
-//! - `finish` takes the holds of all threads, and gives out the whole journal. What each hold knows is what stands there: no call
-//!   is missing, none is there twice, and no grant was given that the journal does not have.
+//! - `finish` takes the holds of all threads, and gives out the journal. What each hold knows is what stands there: no call is
+//!   missing, none is there twice, and no grant was given that the journal does not have.
+//! - A program that runs for long takes the journal in parts: `rotate` hands out the entries since the last part, with their base, the
+//!   dispatcher as it was before the first of them. The journal is empty then, and the numbers of entries go on.
 //!
 //! Every entry has its place before the call is made: a call is refused with JournalFull, and changes nothing, where there would be
 //! no room for its entry and one for each pending wait. So nothing that the dispatcher did can fail to be written.
@@ -56,5 +58,5 @@ pub use hold::{Ended, Held, Hold, Pass, Sleeper};
 pub use named::Named;
 pub use nt_mail::Entry;
 pub use polls::Polled;
-pub use receipt::{History, Receipt};
+pub use receipt::{History, Part, Receipt};
 pub use waits::Waited;

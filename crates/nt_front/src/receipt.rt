@@ -1,5 +1,5 @@
 //! What is told of entries.
-use nt_core::Reply;
+use nt_core::{Core, Reply};
 use nt_mail::Entry;
 use nt_status::Refusal;
 
@@ -11,10 +11,22 @@ pub struct Receipt {
     pub result: Result<Reply, Refusal>,
 }
 
-/// The whole journal, at the end.
+/// A part of the journal: the entries since the last part, or since the opening.
+#[derive(Drop)]
+pub struct Part {
+    /// The number of the first of the entries. Numbers go on from part to part.
+    pub first: u64,
+    /// The dispatcher as it was before the first of the entries, from which they can be made again.
+    pub base: Core,
+    pub entries: Vec<Entry>,
+}
+
+/// The rest of the journal, at the end: all of it where no part was handed out.
 #[derive(Drop)]
 pub struct History {
-    /// How many threads there are.
-    pub threads: u32,
+    /// The number of the first of the entries.
+    pub first: u64,
+    /// The dispatcher as it was before the first of the entries, from which they can be made again.
+    pub base: Core,
     pub entries: Vec<Entry>,
 }

@@ -3,14 +3,16 @@ ghost use Rattle.std.specs.Prelude.{◌≡◌};
 ghost use Rattle.nt_front.specs.Holds.{IsGiven};
 ghost use Rattle.nt_front.specs.Polls.{IsWaited};
 
-use crate::book::{Book, has_pended};
+use crate::book::has_pended;
 use crate::front::Front;
 use crate::hold::{Pass, Sleeper};
 use crate::named::Named;
 use crate::polls::Polled;
 use crate::receipt::Receipt;
+use crate::wake::{rings_of, sleep_unless_rung};
 use nt_core::{Call, WaitCall};
-use std::sync::{MutexGuard, Wait};
+use std::hint::spin_loop;
+use std::sync::Wait;
 
 /// What a wait answers once it has ended.
 pub enum Waited<N: Named> {
@@ -22,57 +24,59 @@ pub enum Waited<N: Named> {
     NoRoom(Pass<N>),
 }
 
+/// How often a thread looks for its grant before it sleeps, where no other wait pends: about as long as falling asleep and waking take.
+const LOOKS: u32 = 40;
+
 impl<N: Named> Front<N> {
-    /// Begins a wait and, where it pends, waits until it is granted and takes the grant, all within one hold of the lock: it is
-    /// given back only while the thread sleeps. Where the journal is full the wait is dropped.
+    /// Begins a wait and, where it pends, waits until it is granted and takes the grant. Where the journal is full the wait is dropped.
+    #[inline(always)]
     pub fn wait(&self, rt: &impl Wait, pass: Pass<N>, wait: WaitCall) -> Waited<N>
         ensures { IsWaited N.front pass wait result }
     {
         let Pass { mut hold } = pass;
-        let mut book = self.book.lock(rt);
+        let mut book = self.locked(rt);
         let Ok(begun) = book.call(&self.mail, &mut hold, Call::Wait(wait)) else {
             return Waited::NoRoom(Pass { hold });
         };
         if has_pended(&begun.result) {
+            let looks = if book.pending() == 1 { LOOKS } else { 0 };
             // Whom the signal of a swap granted is woken before this thread sleeps.
-            if let Some(marks) = book.ended() {
-                self.bells.ring(marks);
-            }
-            let (pass, granted) = self.sleep_in(rt, book, Sleeper { hold });
+            self.leave(book);
+            let (pass, granted) = self.sleep_after(rt, Sleeper { hold }, looks);
             return Waited::Granted(pass, begun, granted);
         }
         self.leave(book);
         Waited::Done(Pass { hold }, begun)
     }
 
-    /// Waits until the thread's wait is granted, and takes the grant.
+    /// Waits until the thread's wait is granted, and takes the grant. It never waits for the lock.
     pub fn sleep(&self, rt: &impl Wait, sleeper: Sleeper<N>) -> (Pass<N>, Receipt)
         ensures { IsGiven sleeper result.1.entry result.1.result result.0 }
     {
-        self.sleep_in(rt, self.book.lock(rt), sleeper)
+        self.sleep_after(rt, sleeper, 0)
     }
 
-    /// The same, where the lock is held. It is given back while the thread sleeps.
+    /// The same, after it has looked for the grant so many times.
+    #[inline(never)]
     #[tactic(auto, using(crate::proofs::Polling::same_still))]
-    fn sleep_in(
-        &self,
-        rt: &impl Wait,
-        book: MutexGuard<'_, Book<N>>,
-        sleeper: Sleeper<N>,
-    ) -> (Pass<N>, Receipt)
+    fn sleep_after(&self, rt: &impl Wait, sleeper: Sleeper<N>, looks: u32) -> (Pass<N>, Receipt)
         ensures { IsGiven sleeper result.1.entry result.1.result result.0 }
     {
-        let thread = sleeper.thread();
-        let mut book = book;
+        let bell = self.bells.of(sleeper.thread());
+        let mut looks = looks;
         let mut sleeper = sleeper;
         for _ in rt.forever() {
+            // A grant is sent before its bell rings: one that the poll does not find rings after this.
+            let rings = rings_of(bell);
             match self.poll(sleeper) {
                 Polled::Ready(pass, receipt) => return (pass, receipt),
                 Polled::Still(still) => sleeper = still,
             }
-            // Grants are sent under the lock, so none comes between the poll and the wait.
-            if let Some(bell) = self.bells.of(thread) {
-                book = bell.wait(rt, book);
+            if looks > 0 {
+                looks -= 1;
+                spin_loop();
+            } else {
+                sleep_unless_rung(rt, bell, rings);
             }
         }
         unreachable!()

@@ -6,7 +6,8 @@ ghost use Rattle.nt_front.specs.Marks.{IsMarkedToo, AreMarks};
 use nt_core::Grant;
 use nt_status::{Refusal, ThreadId};
 use std::alloc::{AllocError, Global};
-use std::sync::Condvar;
+use std::sync::{Condvar, Wait};
+use std::time::Duration;
 
 /// A mark for each thread whose wait ended, 64 threads a number.
 #[derive(Clone, Copy)]
@@ -77,5 +78,20 @@ impl Bells {
                 left &= left.wrapping_sub(1);
             }
         }
+    }
+}
+
+/// How often the bell has rung.
+pub(crate) fn rings_of(bell: Option<&Condvar>) -> u64 {
+    match bell {
+        Some(bell) => bell.notifications(),
+        None => 0,
+    }
+}
+
+/// Sleeps until the bell rings, unless it has rung more often than so. It may return before, and takes no lock.
+pub(crate) fn sleep_unless_rung(rt: &impl Wait, bell: Option<&Condvar>, rings: u64) {
+    if let Some(bell) = bell {
+        bell.sleep(rt, rings, Duration::MAX);
     }
 }

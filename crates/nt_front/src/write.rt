@@ -13,6 +13,7 @@ use nt_mail::{DispatcherSeat, Entry, Mail, ThreadSeat};
 use nt_status::{Moment, Refusal, ThreadId};
 
 /// Moves the call into the journal, carries it out where it lies, and writes its result beside it.
+#[inline(always)]
 pub(crate) fn write_call(
     core: &mut Core,
     journal: &mut Vec<Entry>,
@@ -38,6 +39,7 @@ pub(crate) fn write_call(
 }
 
 /// Tells the thread of its entry, and whether a wait of it is pending.
+#[inline(always)]
 pub(crate) fn tell(
     mail: &Mail,
     dispatcher: &mut DispatcherSeat,
@@ -77,28 +79,53 @@ pub(crate) fn publish(
     }
 }
 
-/// Writes the grants, and sends them.
+/// Writes the grants, from this number on, and sends them. Mostly there are none.
+#[inline(always)]
 pub(crate) fn send(
     mail: &Mail,
     dispatcher: &mut DispatcherSeat,
     journal: &mut Vec<Entry>,
+    next: u64,
     grants: &[Grant],
 )
     requires table { dispatcher.old.table ≡ mail.now }
-    requires journal { dispatcher.old.written ≡ journal.old.items }
-    requires room { (vec_len journal.old + length grants.now ≤ vec_capacity journal.old) × (vec_len journal.old + length grants.now < 2 ^ 54) }
-    requires armed { AreArmed (mail.now.words - 1) journal.old.items grants.now }
+    requires next { next ≡ length dispatcher.old.written + 1 }
+    requires room { (vec_len journal.old + length grants.now ≤ vec_capacity journal.old) × (next + length grants.now ≤ 2 ^ 54) }
+    requires armed { AreArmed (mail.now.words - 1) dispatcher.old.written grants.now }
     ensures journal { journal.new.items ≡ journal.old.items ++ map granted grants.now }
     ensures capacity { vec_capacity journal.new ≡ vec_capacity journal.old }
-    ensures written { dispatcher.new ≡ record dispatcher.old { written = journal.new.items } }
+    ensures written { dispatcher.new ≡ record dispatcher.old { written = dispatcher.old.written ++ map granted grants.now } }
 {
+    if !grants.is_empty() {
+        send_all(mail, dispatcher, journal, next, grants);
+    }
+}
+
+/// Writes the grants one by one.
+#[inline(never)]
+fn send_all(
+    mail: &Mail,
+    dispatcher: &mut DispatcherSeat,
+    journal: &mut Vec<Entry>,
+    next: u64,
+    grants: &[Grant],
+)
+    requires table { dispatcher.old.table ≡ mail.now }
+    requires next { next ≡ length dispatcher.old.written + 1 }
+    requires room { (vec_len journal.old + length grants.now ≤ vec_capacity journal.old) × (next + length grants.now ≤ 2 ^ 54) }
+    requires armed { AreArmed (mail.now.words - 1) dispatcher.old.written grants.now }
+    ensures journal { journal.new.items ≡ journal.old.items ++ map granted grants.now }
+    ensures capacity { vec_capacity journal.new ≡ vec_capacity journal.old }
+    ensures written { dispatcher.new ≡ record dispatcher.old { written = dispatcher.old.written ++ map granted grants.now } }
+{
+    let mut number = next;
     for grant in grants {
         let Grant { thread, status } = *grant;
-        let number = journal.len() as u64 + 1;
         journal.push_reserved(Entry::Granted {
             who: thread,
             status,
         });
         mail.grant(dispatcher, thread, status, number);
+        number += 1;
     }
 }

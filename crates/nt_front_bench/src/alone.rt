@@ -123,6 +123,10 @@ pub fn alone<N: Named, R: Wait + Clock>(
             ticks(rt, front, &mut pass, rounds, told);
             pass
         }
+        Kind::Rotate => {
+            parts(rt, front, &mut pass, rounds, told);
+            pass
+        }
         _ => events(rt, alloc, front, pass, object, rounds, told),
     };
     told.nanos = nanos_since(rt, began);
@@ -205,6 +209,19 @@ fn any_of_64<N: Named, R: Wait>(
         pass = try_wait(rt, alloc, front, pass, &events, Status::TIMEOUT, told);
     }
     pass
+}
+
+/// Takes so many parts of the journal.
+fn parts<N: Named, R: Wait>(
+    rt: &R,
+    front: &Front<N>,
+    pass: &mut Pass<N>,
+    rounds: u32,
+    told: &mut Told,
+) {
+    for _ in 0..rounds {
+        told.called(front.rotate(rt, pass).is_ok());
+    }
 }
 
 fn ticks<N: Named, R: Wait>(

@@ -1,7 +1,7 @@
 //! Calls of a thread, counted.
 use crate::told::Told;
 use nt_core::{Act, Reply, WaitCall};
-use nt_front::{Begun, Front, Named, Pass, Sleeper};
+use nt_front::{Begun, Front, Named, Pass, Waited};
 use nt_status::{Handle, Handles, Status};
 use std::alloc::Global;
 use std::sync::Wait;
@@ -67,7 +67,7 @@ pub fn wait_for<N: Named, R: Wait>(
     }
 }
 
-/// Begins the wait, and sleeps until it is granted.
+/// Waits until the wait has ended.
 pub fn wait<N: Named, R: Wait>(
     rt: &R,
     front: &Front<N>,
@@ -75,18 +75,17 @@ pub fn wait<N: Named, R: Wait>(
     asked: WaitCall,
     told: &mut Told,
 ) -> Pass<N> {
-    match front.begin(rt, pass, asked) {
-        Begun::Done(pass, receipt) => {
+    match front.wait(rt, pass, asked) {
+        Waited::Done(pass, receipt) => {
             told.called(receipt.result.is_ok());
             pass
         }
-        Begun::Pended(sleeper, _) => {
-            told.called(true);
-            let (pass, _) = front.sleep(rt, sleeper);
+        Waited::Granted(pass, _, granted) => {
+            told.called(granted.result.is_ok());
             told.granted();
             pass
         }
-        Begun::NoRoom(pass) => {
+        Waited::NoRoom(pass) => {
             told.wrong();
             pass
         }

@@ -1,4 +1,4 @@
-//! What is timed. `bench/front.c` makes the same calls under the same names.
+//! What is timed. `bench/front.c` makes the same calls under the same names, but for those of `Rotate`: it has no parts.
 
 /// How many threads and how many untouched events a crowd has.
 pub const CROWD_THREADS: u32 = 256;
@@ -30,6 +30,8 @@ pub enum Kind {
     CoreAndJournal,
     /// A lock is taken and given back.
     Lock,
+    /// A part of the journal is taken: with the entries that set the stage at first, and from then on with none.
+    Rotate,
 }
 
 /// A round under its name, with a crowd of threads and objects that no call touches or without.
@@ -141,6 +143,16 @@ pub const SHAPES: &[Shape] = &[
         kind: Kind::Lock,
         has_crowd: false,
     },
+    Shape {
+        name: "rotate",
+        kind: Kind::Rotate,
+        has_crowd: false,
+    },
+    Shape {
+        name: "rotate_crowd",
+        kind: Kind::Rotate,
+        has_crowd: true,
+    },
 ];
 
 pub fn shape_named(name: &str) -> Option<Shape> {
@@ -180,6 +192,7 @@ impl Shape {
     pub fn entries(&self, rounds: u32) -> usize {
         let (stage, each) = match self.kind {
             Kind::AnyOf64 => (64, 1),
+            Kind::Rotate => (8, 0),
             Kind::OneOf64 => (256, 4),
             Kind::Ticks(timers) => (timers.saturating_mul(2), 1),
             Kind::RoundTrip => (8, 6),

@@ -13,12 +13,13 @@ use Rattle.nt_core.specs.Moves.{pended}
 use Rattle.nt_mail.specs.Entries.{item, last_number, given, call_at, calls_from, calls_of, grant_at, grants_from, grants_of, armed_by, armed_from, is_armed, last_from, last_of, pended_in, last_pended_from, last_pended, thread_of, AreBelow, AreMadeBelow, IsOwn, arms}
 use Rattle.nt_mail.specs.Rule.{IsCounted}
 
-calls_from-append : (t n : ℕ) (xs ys : List Entry) (m : ℕ) → m ≡ n + length xs → calls_from t n (xs ++ ys) ≡ calls_from t n xs ++ calls_from t m ys
+-- the entries before the rest, and the rest
+pub calls_from-append : (t n : ℕ) (xs ys : List Entry) (m : ℕ) → m ≡ n + length xs → calls_from t n (xs ++ ys) ≡ calls_from t n xs ++ calls_from t m ys
 calls_from-append t n [] ys m e = ap (λ (k : ℕ). calls_from t k ys) (omega arith)
 calls_from-append t n (x ∷ xs) ys m e =
     ap (λ l. call_at t n x ++ l) (calls_from-append t (suc n) xs ys m (omega arith)) ∙ sym (append_assoc (call_at t n x) (calls_from t (suc n) xs) (calls_from t m ys))
 
-grants_from-append : (t n : ℕ) (xs ys : List Entry) (m : ℕ) → m ≡ n + length xs → grants_from t n (xs ++ ys) ≡ grants_from t n xs ++ grants_from t m ys
+pub grants_from-append : (t n : ℕ) (xs ys : List Entry) (m : ℕ) → m ≡ n + length xs → grants_from t n (xs ++ ys) ≡ grants_from t n xs ++ grants_from t m ys
 grants_from-append t n [] ys m e = ap (λ (k : ℕ). grants_from t k ys) (omega arith)
 grants_from-append t n (x ∷ xs) ys m e =
     ap (λ l. grant_at t n x ++ l) (grants_from-append t (suc n) xs ys m (omega arith)) ∙ sym (append_assoc (grant_at t n x) (grants_from t (suc n) xs) (grants_from t m ys))

@@ -22,6 +22,7 @@ use std::mem;
 
 impl Mail {
     /// Writes a call or tick of the thread after which no wait of it is pending: its word becomes idle.
+    #[inline(always)]
     pub fn note(
         &self,
         dispatcher: &mut DispatcherSeat,
@@ -61,6 +62,7 @@ impl Mail {
     }
 
     // The caller's seat is joined for the one store, and parted again.
+    #[inline(always)]
     fn write_call(
         &self,
         dispatcher: &mut DispatcherSeat,
@@ -176,6 +178,7 @@ impl Mail {
 }
 
 // One store, which writes the call or tick that `W` names.
+#[inline(always)]
 fn store_call<W: Writing>(
     table: &Letters,
     seat: &mut Place,

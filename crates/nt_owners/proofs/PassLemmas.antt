@@ -177,3 +177,11 @@ heir_known objects lists m o agree heir t e = elim (heir t ((owned_owner o t).1 
   | inl had ↦ listed_known lists t m ((agree.named t m).1 had)
   | inr known ↦ known
 ]
+
+-- ---- a mutex is free after its owner's last release
+
+pub agree_freed : (objects : List Object) (lists : List (List ℕ)) (t m : ℕ) (freed : Object) → OwnersAgree objects lists → owner_of (object_at objects m) ≡ Some t → owner_of freed ≡ None → OwnersAgree (set objects m freed) (removed lists t m)
+agree_freed objects lists t m freed agree owner free =
+    let itself : (u : ℕ) → IsMember (list_of lists u) m ↔ (Some t ≡ Some u) = λ u. ((λ has. sym owner ∙ (agree_owner objects lists m agree u).0 has), λ e. (agree_owner objects lists m agree u).1 (owner ∙ e)) in
+    agree_put objects lists (removed lists t m) m freed (owned_below objects t m owner) agree
+    (subst (λ (to : Option ℕ). IsPassed lists (removed lists t m) m to) (sym free) (removed_passed lists t m itself agree.once))

@@ -56,6 +56,7 @@ impl Owners {
     }
 
     /// The thread owns this mutex, which nobody owned, from now on.
+    #[inline(never)]
     pub fn add(&mut self, thread: ThreadId, mutex: Handle)
         requires thread { thread < length self.old.lists }
         requires room { mutex < self.old.room }

@@ -1,14 +1,17 @@
 //! The objects by handle, with the lists of those that are owned.
-ghost use Rattle.std.specs.Prelude.{◌≡◌, ◌≢◌, ◌<◌, ◌≤◌, ◌⊎◌, ◌+◌, ◌↔◌, ◌++◌, ◌∷◌, ◌^◌, ℕ, [], true, false, None, Some, length, map, replicate, slice_get, slice_set, vec_len, vec_capacity, IsTrue, IfOk, IfSome, IfNone, OnOk, OnErr};
+ghost use Rattle.std.specs.Prelude.{◌≡◌, ◌≢◌, ◌<◌, ◌≤◌, ◌⊎◌, ◌+◌, ◌↔◌, ◌++◌, ◌∷◌, ◌^◌, ℕ, [], true, false, None, Some, length, map, replicate, slice_get, slice_set, vec_len, vec_capacity, not, IsTrue, IsOk, IfOk, IfErr, IfSome, IfNone, OnOk, OnErr};
 ghost use Rattle.std.specs.Option.{ForSome};
 ghost use Rattle.nt_objects.specs.declared.object.Object.TheVariants.{Thread};
-ghost use Rattle.nt_objects.specs.Object.{owner_of, owned_by, abandoned_by, signaled, taken, has_room, TellsAbandoned};
+ghost use Rattle.std.specs.Result.{result_err};
+ghost use Rattle.nt_objects.specs.Object.{is_event, is_semaphore, is_mutex, count_of, owner_of, owned_by, abandoned_by};
+ghost use Rattle.nt_objects.specs.Object.{signaled, taken, has_room, TellsAbandoned};
+ghost use Rattle.nt_objects.specs.Object.{with_set, released, release_refusal, unlocked};
 ghost use Rattle.nt_owners.specs.Owned.{list_of, IsMember, AreOnce, IsUnowned};
 ghost use Rattle.nt_owners.specs.Objects.{object_at, OwnersAgree, IsPassed, AreListed};
 
 use crate::owners::Owners;
-use nt_objects::{Armed, Object, Routine, Taken};
-use nt_status::{Handle, ThreadId};
+use nt_objects::{Armed, Object, Released, Routine, Taken};
+use nt_status::{Handle, Refusal, ThreadId};
 use std::alloc::{AllocError, Global};
 use std::marker::Model;
 
@@ -211,7 +214,64 @@ impl ObjectTable {
         self.objects[place] = object;
     }
 
-    /// The thread takes the object at this handle, which is signaled for it, and learns what that tells.
+    /// Sets the event at this handle, and answers whether it was not set before.
+    pub fn set(&mut self, event: Handle) -> bool
+        requires known { event < length self.old.items }
+        requires kind { IsTrue (is_event (object_at self.old.items event)) }
+        ensures items { self.new.items ≡ slice_set self.old.items event (with_set true (object_at self.old.items event)) }
+        ensures owned { self.new.owned ≡ self.old.owned }
+        ensures answer { (t : ℕ) → result ≡ not (signaled (object_at self.old.items event) t) }
+    {
+        self.objects[event.get() as usize].set()
+    }
+
+    /// Makes the event at this handle not set.
+    pub fn reset(&mut self, event: Handle)
+        requires known { event < length self.old.items }
+        requires kind { IsTrue (is_event (object_at self.old.items event)) }
+        ensures items { self.new.items ≡ slice_set self.old.items event (with_set false (object_at self.old.items event)) }
+        ensures owned { self.new.owned ≡ self.old.owned }
+    {
+        self.objects[event.get() as usize].reset();
+    }
+
+    /// Releases the semaphore at this handle by `count`, and answers its count before.
+    ///
+    /// Refused with 87 where `count` is not positive, then with 298 where the maximum would be passed; nothing changes then.
+    pub fn release(&mut self, semaphore: Handle, count: i32) -> Result<i32, Refusal>
+        requires known { semaphore < length self.old.items }
+        requires kind { IsTrue (is_semaphore (object_at self.old.items semaphore)) }
+        ensures refusal { result_err result ≡ release_refusal count (object_at self.old.items semaphore) }
+        ensures previous { IfOk result (λ before. before ≡ count_of (object_at self.old.items semaphore)) }
+        ensures items { OnOk result (self.new.items ≡ slice_set self.old.items semaphore (released count (object_at self.old.items semaphore))) }
+        ensures owned { self.new.owned ≡ self.old.owned }
+        ensures err { OnErr result (self.new ≡ self.old) }
+    {
+        self.objects[semaphore.get() as usize].release_semaphore(count)
+    }
+
+    /// Releases the mutex at this handle once. After the last release that its owner owed it is in no list.
+    ///
+    /// Refused with 288 where this thread does not own it; nothing changes then.
+    pub fn unlock(&mut self, mutex: Handle, thread: ThreadId) -> Result<Released, Refusal>
+        requires known { mutex < length self.old.items }
+        requires kind { IsTrue (is_mutex (object_at self.old.items mutex)) }
+        ensures owner { IsOk result ↔ IsTrue (owned_by (object_at self.old.items mutex) thread) }
+        ensures items { OnOk result (self.new.items ≡ slice_set self.old.items mutex (unlocked (object_at self.old.items mutex))) }
+        ensures threads { length self.new.owned ≡ length self.old.owned }
+        ensures refused { IfErr result (λ refusal. refusal ≡ Refusal.NotOwner) }
+        ensures err { OnErr result (self.new ≡ self.old) }
+    {
+        let released = self.objects[mutex.get() as usize].release_mutex(thread)?;
+        if released == Released::Freed {
+            self.owners.remove(thread, mutex);
+        }
+        Ok(released)
+    }
+
+    /// The thread takes the object at this handle, which is signaled for it, and learns what that tells. A mutex that was free joins
+    /// the thread's list.
+    #[inline(always)]
     pub fn take(&mut self, handle: Handle, thread: ThreadId) -> Taken
         requires known { handle < length self.old.items }
         requires signaled { IsTrue (signaled (object_at self.old.items handle) thread) }
@@ -221,11 +281,12 @@ impl ObjectTable {
         ensures answer { TellsAbandoned result (object_at self.old.items handle) }
         ensures threads { length self.new.owned ≡ length self.old.owned }
     {
-        let place = handle.get() as usize;
-        let before = self.objects[place].owner();
-        let taken = self.objects[place].take_for(thread);
-        let after = self.objects[place].owner();
-        pass(&mut self.owners, handle, before, after);
+        let object = &mut self.objects[handle.get() as usize];
+        let joins = object.is_mutex() && object.owner().is_none();
+        let taken = object.take_for(thread);
+        if joins {
+            self.owners.add(thread, handle);
+        }
         taken
     }
 

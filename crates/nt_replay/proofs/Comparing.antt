@@ -10,7 +10,7 @@ use Rattle.nt_core.specs.declared.call.Call.{Call}
 use Rattle.nt_core.specs.declared.call.Reply.{Reply}
 use Rattle.nt_core.specs.declared.call.Grant.{Grant}
 use Rattle.nt_core.specs.Dispatcher.{Dispatcher, state}
-use Rattle.nt_core.specs.Laws.{AsksCall, AsksTick, wants_memory, question, RunsOneWay}
+use Rattle.nt_laws.specs.Laws.{AsksCall, AsksTick, wants_memory, question, RunsOneWay}
 use Rattle.nt_core.specs.Runs.{Turn, Calls, Ticks, IsTurn}
 use Rattle.nt_core.specs.State.{State}
 use Rattle.nt_core.specs.Steps.{Called as Makes, Ticked as Passes}

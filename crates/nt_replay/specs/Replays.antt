@@ -6,7 +6,7 @@ use Rattle.nt_core.specs.declared.call.Call.{Call}
 use Rattle.nt_core.specs.declared.call.Reply.{Reply}
 use Rattle.nt_core.specs.declared.call.Grant.{Grant}
 use Rattle.nt_core.specs.Dispatcher.{Dispatcher, state}
-use Rattle.nt_core.specs.Laws.{wants_memory}
+use Rattle.nt_laws.specs.Laws.{wants_memory}
 use Rattle.nt_core.specs.Runs.{Turn, Run}
 use Rattle.nt_core.specs.State.{State}
 use Rattle.nt_core.specs.Steps.{Called as Makes}

@@ -2,12 +2,13 @@
 ghost use Rattle.std.specs.Prelude.{◌≡◌, ◌≢◌, ◌<◌, ◌↔◌, Some, length, true, IfOk, IfErr, OnOk};
 ghost use Rattle.std.specs.List.{slice_get};
 ghost use Rattle.nt_core.specs.Dispatcher.{state};
-ghost use Rattle.nt_core.specs.Laws.{wants_memory};
+ghost use Rattle.nt_laws.specs.Laws.{wants_memory};
 ghost use Rattle.nt_mail.specs.Journals.{IsRunFrom};
 ghost use Rattle.nt_replay.specs.Replays.{GoesOn, StopsFor, IsUnreplayed, IsMismatch};
 
 use crate::unreplayed::Unreplayed;
-use nt_core::{Core, Grant, Reply, runs_one_way};
+use nt_core::{Core, Grant, Reply};
+use nt_laws::runs_one_way;
 use nt_mail::Entry;
 use nt_status::Refusal;
 

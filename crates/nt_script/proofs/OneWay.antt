@@ -8,7 +8,7 @@ use Rattle.nt_core.specs.declared.call.Reply.{Reply}
 use Rattle.nt_core.specs.declared.call.Grant.{Grant}
 use Rattle.nt_core.specs.State.{State, opening}
 use Rattle.nt_core.specs.Runs.{Turn, Calls, Ticks, Turns, Run}
-use Rattle.nt_core.specs.Laws.{RunsOneWay, AsksCall, wants_memory, question}
+use Rattle.nt_laws.specs.Laws.{RunsOneWay, AsksCall, wants_memory, question}
 use Rattle.nt_lines.specs.Lines.{lines_of}
 use Rattle.nt_script.specs.Scope.{Scope}
 use Rattle.nt_script.specs.Transcript.{Transcript, LineGives, IsCarriedOut, opened_scope, turn_text, binds, handle_of, end_text}

@@ -4,7 +4,7 @@ use Rattle.std.specs.List.{All}
 use Rattle.std.specs.Fmt.{decimal}
 use Rattle.nt_status.specs.Status.{infinite}
 use Rattle.nt_core.specs.Runs.{Turn, Calls, Ticks}
-use Rattle.nt_core.specs.Laws.{wants_memory}
+use Rattle.nt_laws.specs.Laws.{wants_memory}
 use Rattle.nt_lines.specs.Words.{words_of, text_of}
 use Rattle.nt_script.specs.Plain.{plain_word}
 use Rattle.nt_script.specs.Scope.{Scope}

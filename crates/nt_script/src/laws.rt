@@ -21,5 +21,5 @@ pub fn lines_read_one_way()
 pub fn output_is_a_function_of_the_input()
     ensures { OutputIsAFunctionOfTheInput }
 {
-    nt_core::runs_one_way();
+    nt_laws::runs_one_way();
 }

@@ -56,6 +56,15 @@ impl Handles {
         }
     }
 
+    /// No handle, with room for so many.
+    pub fn with_capacity(alloc: Global, count: usize) -> Result<Self, AllocError>
+        ensures { IfOk result (λ these. these ≡ []) }
+    {
+        Ok(Handles {
+            items: SmallVec::with_capacity(alloc, count)?,
+        })
+    }
+
     /// These handles, in this order.
     pub fn from_slice(alloc: Global, handles: &[Handle]) -> Result<Self, AllocError>
         ensures { IfOk result (λ these. these ≡ handles.now) }
@@ -74,6 +83,13 @@ impl Handles {
         Ok(())
     }
 
+    /// Names no handle any more. The room stays.
+    pub fn clear(&mut self)
+        ensures { self.new ≡ [] }
+    {
+        self.items.clear();
+    }
+
     /// These handles in the place of those that it has. Where they are as many, it takes no memory; where memory is refused, nothing
     /// changes.
     #[inline(always)]
@@ -81,10 +97,23 @@ impl Handles {
         ensures ok { OnOk result (self.new ≡ handles.now) }
         ensures err { OnErr result (self.new ≡ self.old) }
     {
-        if self.items.len() == handles.len() {
-            self.items.as_mut_slice().copy_from_slice(handles);
-            return Ok(());
+        if self.items.len() != handles.len() {
+            return self.replace(handles);
         }
+        // Most lists have one, which is written here, without a call.
+        match handles {
+            [handle] => self.items.as_mut_slice()[0] = *handle,
+            _ => self.items.as_mut_slice().copy_from_slice(handles),
+        }
+        Ok(())
+    }
+
+    /// A new list of these handles in the place of its own. It stands apart, since mostly there are as many as before.
+    #[inline(never)]
+    fn replace(&mut self, handles: &[Handle]) -> Result<(), AllocError>
+        ensures ok { OnOk result (self.new ≡ handles.now) }
+        ensures err { OnErr result (self.new ≡ self.old) }
+    {
         self.items = SmallVec::from_slice(*self.items.allocator(), handles)?;
         Ok(())
     }

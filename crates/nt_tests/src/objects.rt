@@ -18,6 +18,8 @@ enum Step {
     /// The thread gives the mutex up: what then, or the number of the refusal.
     Unlock(u16, Result<Released, u32>),
     Depth(u32),
+    /// Whether it can be taken once more.
+    HasRoom(bool),
     Owner(Option<u16>),
     /// The owner ends.
     Abandon,
@@ -97,6 +99,7 @@ fn take_mutex_step(object: &mut Object, step: Step) -> bool {
             object.release_mutex(thread).map_err(Refusal::number) == wanted
         }
         Step::Depth(wanted) => object.depth() == wanted,
+        Step::HasRoom(wanted) => object.has_room() == wanted,
         Step::Owner(None) => object.owner().is_none(),
         Step::Owner(Some(thread)) => object.is_owned_by(ThreadId::new(thread)),
         Step::Abandon if object.owner().is_some() => {
@@ -230,6 +233,28 @@ fn a_mutex_is_released_as_often_as_it_was_taken(rt: HostRuntime) {
         Step::Signaled(2, true),
     ];
     let mutex = Object::new_mutex(MutexFlags::INITIAL_OWNER, ThreadId::new(1));
+    play(&rt, mutex, &steps);
+}
+
+#[test]
+fn a_mutex_is_taken_up_to_its_greatest_depth(rt: HostRuntime) {
+    let steps = [
+        Step::HasRoom(true),
+        Step::Take(1, Taken::Plain),
+        Step::Depth(2147483647),
+        Step::Signaled(1, true),
+        Step::Signaled(2, false),
+        Step::HasRoom(false),
+        Step::Unlock(1, Ok(Released::StillOwned)),
+        Step::Depth(2147483646),
+        Step::HasRoom(true),
+    ];
+    // No run of calls comes so far, so it stands here by value.
+    let mutex = Object::Mutex {
+        owner: Some(ThreadId::new(1)),
+        depth: 2147483646,
+        abandoned: false,
+    };
     play(&rt, mutex, &steps);
 }
 

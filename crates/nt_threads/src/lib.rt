@@ -14,4 +14,4 @@ pub use door::Door;
 pub use driving::{Driven, drive};
 pub use front_door::FrontDoor;
 pub use plan::Objects;
-pub use running::report_of;
+pub use running::{history_of, report_of};

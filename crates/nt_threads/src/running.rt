@@ -22,11 +22,25 @@ use std::marker::Brand;
 use std::sync::Wait;
 use std::thread::Threads;
 
-/// What the threads of a plan left, and whether all of it was carried out.
+/// What the threads of a plan left, and whether all of it was carried out and stands in the history.
 #[derive(Drop)]
 struct Ran {
     history: History,
     whole: bool,
+}
+
+impl Ran {
+    /// The history, where all of the plan was carried out.
+    fn whole_history(self) -> Result<History, AllocError>
+        ensures { IfOk result (λ history. (self.whole ≡ true) × (history ≡ self.history)) }
+    {
+        let Ran { history, whole } = self;
+        if whole {
+            return Ok(history);
+        }
+        drop(history);
+        Err(AllocError)
+    }
 }
 
 /// Room for the doors, for those that come back, and for what the threads hold at the end.
@@ -62,10 +76,30 @@ impl<'f, N: Named> Room<'f, N> {
     }
 }
 
-/// Runs the plan by real threads over a front, and answers the lines that tell of its history.
+/// Runs the plan by real threads over a front, and answers the history that they left.
 ///
 /// The front has a thread more than there are workers. Memory alone can be wanting, at the opening or in a call; all threads
 /// have ended then too.
+pub fn history_of<R: Threads + Wait + Sync>(
+    rt: &R,
+    alloc: Global,
+    workers: u32,
+    rounds: u32,
+) -> Result<History, AllocError>
+    requires workers { workers ≤ 64 }
+    requires rounds { rounds ≤ 1000 }
+    ensures comes { IfOk result (λ history. ComesOfRun (workers + 1) history.entries.items) }
+    ensures whole { IfOk result (λ history. IsCarriedOut workers rounds history.entries.items) }
+{
+    let room = workers as usize * (4 * rounds as usize + 3) + 7;
+    let blank = prepare(alloc, workers + 1, room).map_err(|_| AllocError)?;
+    let ran = run::<Brand, R>(rt, alloc, blank, rounds)?;
+    ran.whole_history()
+}
+
+/// Runs the plan by real threads over a front, and answers the lines that tell of its history.
+///
+/// Memory alone can be wanting, as for the history; all threads have ended then too.
 pub fn report_of<R: Threads + Wait + Sync>(
     rt: &R,
     alloc: Global,
@@ -76,44 +110,24 @@ pub fn report_of<R: Threads + Wait + Sync>(
     requires rounds { rounds ≤ 1000 }
     ensures { IfOk result (λ lines. IsReport workers rounds lines.items) }
 {
-    let room = workers as usize * (4 * rounds as usize + 3) + 7;
-    let blank = prepare(alloc, workers + 1, room).map_err(|_| AllocError)?;
-    let ran = run::<Brand, R>(rt, alloc, blank, rounds)?;
-    report_in(alloc, workers, rounds, ran)
+    let history = history_of(rt, alloc, workers, rounds)?;
+    let told = told_of(alloc, workers, rounds, history.entries.as_slice());
+    drop(history);
+    told
 }
 
-/// The lines that tell of what ran.
-fn report_in(alloc: Global, workers: u32, rounds: u32, ran: Ran) -> Result<Vec<u8>, AllocError>
-    requires workers { workers ≤ 64 }
-    requires comes { ComesOfRun (workers + 1) ran.history.entries.items }
-    requires whole { ran.whole ≡ true → IsCarriedOut workers rounds ran.history.entries.items }
-    ensures { IfOk result (λ lines. IsReport workers rounds lines.items) }
-{
-    told_of(
-        alloc,
-        workers,
-        rounds,
-        ran.history.entries.as_slice(),
-        ran.whole,
-    )
-}
-
-/// The lines that tell of these entries, where all of the plan was carried out.
+/// The lines that tell of these entries.
 fn told_of(
     alloc: Global,
     workers: u32,
     rounds: u32,
     entries: &[Entry],
-    whole: bool,
 ) -> Result<Vec<u8>, AllocError>
     requires workers { workers ≤ 64 }
     requires comes { ComesOfRun (workers + 1) entries.now }
-    requires whole { whole ≡ true → IsCarriedOut workers rounds entries.now }
+    requires whole { IsCarriedOut workers rounds entries.now }
     ensures { IfOk result (λ lines. IsReport workers rounds lines.items) }
 {
-    if !whole {
-        return Err(AllocError);
-    }
     let threads = workers + 1;
     let counts = counts_of(alloc, threads, Handle::new(threads), entries)?;
     lines_of(alloc, workers, rounds, &counts)
@@ -129,7 +143,7 @@ fn run<N: Named + Send + Sync, R: Threads + Wait + Sync>(
     requires front { blank ≡ N.front }
     requires threads { (0 < blank.threads) × (blank.threads ≤ 65) }
     requires rounds { rounds ≤ 1000 }
-    ensures comes { IfOk result (λ r. ComesOfRun blank.threads r.history.entries.items) }
+    ensures comes { IfOk result (λ r. r.whole ≡ true → ComesOfRun blank.threads r.history.entries.items) }
     ensures whole { IfOk result (λ r. r.whole ≡ true → IsCarriedOut (blank.threads - 1) rounds r.history.entries.items) }
 {
     match Room::new(alloc, 65) {
@@ -155,7 +169,7 @@ fn run_in<N: Named + Send + Sync, R: Threads + Wait + Sync>(
     requires doors { (room.doors.items ≡ []) × (65 ≤ vec_capacity room.doors) }
     requires back { (room.back.items ≡ []) × (65 ≤ vec_capacity room.back) }
     requires holds { (room.holds.items ≡ []) × (65 ≤ vec_capacity room.holds) }
-    ensures comes { IfOk result (λ r. ComesOfRun blank.threads r.history.entries.items) }
+    ensures comes { IfOk result (λ r. r.whole ≡ true → ComesOfRun blank.threads r.history.entries.items) }
     ensures whole { IfOk result (λ r. r.whole ≡ true → IsCarriedOut (blank.threads - 1) rounds r.history.entries.items) }
 {
     match open::<N>(alloc, blank) {
@@ -182,13 +196,16 @@ fn run_on<N: Named + Send + Sync, R: Threads + Wait + Sync>(
     requires doors { (room.doors.items ≡ []) × (vec_len passes ≤ vec_capacity room.doors) }
     requires back { (room.back.items ≡ []) × (vec_len passes ≤ vec_capacity room.back) }
     requires holds { (room.holds.items ≡ []) × (vec_len passes ≤ vec_capacity room.holds) }
-    ensures comes { ComesOfRun N.front.threads result.history.entries.items }
+    ensures comes { result.whole ≡ true → ComesOfRun N.front.threads result.history.entries.items }
     ensures whole { result.whole ≡ true → IsCarriedOut (N.front.threads - 1) rounds result.history.entries.items }
 {
     let (holds, whole) = drive_on(rt, alloc, &front, passes, room, rounds);
+    let history = front.finish(holds);
+    // Where no part of the journal was handed out before, the history is all of it.
+    let is_all = history.first == 1;
     Ran {
-        history: front.finish(holds),
-        whole,
+        history,
+        whole: whole & is_all,
     }
 }
 

@@ -64,9 +64,18 @@ fn no_wait(alloc: Global) -> Wait {
 fn make_numbers(numbers: &mut SmallVec<BlockNumber, 4>, count: usize) -> Result<(), AllocError>
     ensures { OnOk result (length numbers.new.items ≡ count) }
 {
-    if numbers.len() != count {
-        *numbers = blank_numbers(*numbers.allocator(), count)?;
+    if numbers.len() == count {
+        return Ok(());
     }
+    remake_numbers(numbers, count)
+}
+
+/// Makes the list anew, so long. It stands apart, since a wait mostly names as many handles as its thread's last one.
+#[inline(never)]
+fn remake_numbers(numbers: &mut SmallVec<BlockNumber, 4>, count: usize) -> Result<(), AllocError>
+    ensures { OnOk result (length numbers.new.items ≡ count) }
+{
+    *numbers = blank_numbers(*numbers.allocator(), count)?;
     Ok(())
 }
 

@@ -1,5 +1,5 @@
 //! Close, and the end of objects that no handle, no pending wait and no running thread keeps.
-use crate::tests::play::play_all;
+use crate::tests::play::{play_all, play_all_in_both};
 use crate::tests::script::Answer::{Done, Handle, NoApc, Pended, Status};
 use crate::tests::script::Ask::{
     AlertableAny, AlertableSleep, All, Any, Apc, Arm, ArmRoutine, Cancel, Close, Duplicate, Event,
@@ -326,4 +326,9 @@ const SCENARIOS: &[Scenario] = &[
 #[test]
 fn objects_end_once_nothing_keeps_them(rt: HostRuntime) -> Result<(), Fail> {
     play_all(&rt, SCENARIOS)
+}
+
+#[test]
+fn objects_end_alike_in_copies(rt: HostRuntime) -> Result<(), Fail> {
+    play_all_in_both(&rt, SCENARIOS)
 }

@@ -1,5 +1,5 @@
 //! Handles apart from objects: duplicates, and the rights that calls need.
-use crate::tests::play::play_all;
+use crate::tests::play::{play_all, play_all_in_both};
 use crate::tests::script::Answer::{Done, Handle, Pended, Previous, Status};
 use crate::tests::script::Ask::{
     AlertableAny, All, Any, Apc, Arm, ArmRoutine, Cancel, Close, Duplicate, Event, Exit, Mutex,
@@ -229,31 +229,39 @@ const SCENARIOS: &[Scenario] = &[
             Tick(10000, Done, &[(2, 0), (1, 0)]),
         ],
     },
-    Scenario {
-        shows: "duplicates count among the 65536 handle numbers, which closing frees none of, and what is refused uses none",
-        threads: 1,
-        steps: &[
-            CreateEvents(0, 1, 65533),
-            Call(0, Duplicate(MAY_QUEUE), &[1], ACCESS_DENIED, &[]),
-            Call(0, Duplicate(0), &[65534], INVALID_HANDLE, &[]),
-            Call(0, Duplicate(MAY_WAIT), &[1], Handle(65534), &[]),
-            Call(0, Event(4), &[], INVALID_PARAMETER, &[]),
-            Call(0, Event(0), &[], Handle(65535), &[]),
-            Call(0, Duplicate(MAY_WAIT), &[1], HANDLE_LIMIT, &[]),
-            Call(0, Duplicate(MAY_QUEUE), &[1], ACCESS_DENIED, &[]),
-            Call(0, Duplicate(0), &[65536], INVALID_HANDLE, &[]),
-            Call(0, Event(0), &[], HANDLE_LIMIT, &[]),
-            Call(0, Set, &[65535], Done, &[]),
-            Call(0, Any(0), &[65534, 65535], Status(1), &[]),
-            Call(0, Close, &[65535], Done, &[]),
-            Living(65534),
-            Call(0, Event(0), &[], HANDLE_LIMIT, &[]),
-            Call(0, Duplicate(MAY_WAIT), &[1], HANDLE_LIMIT, &[]),
-        ],
-    },
 ];
+
+/// With so many handles that no copies are made in the middle of it.
+const ALL_NUMBERS: &[Scenario] = &[Scenario {
+    shows: "duplicates count among the 65536 handle numbers, which closing frees none of, and what is refused uses none",
+    threads: 1,
+    steps: &[
+        CreateEvents(0, 1, 65533),
+        Call(0, Duplicate(MAY_QUEUE), &[1], ACCESS_DENIED, &[]),
+        Call(0, Duplicate(0), &[65534], INVALID_HANDLE, &[]),
+        Call(0, Duplicate(MAY_WAIT), &[1], Handle(65534), &[]),
+        Call(0, Event(4), &[], INVALID_PARAMETER, &[]),
+        Call(0, Event(0), &[], Handle(65535), &[]),
+        Call(0, Duplicate(MAY_WAIT), &[1], HANDLE_LIMIT, &[]),
+        Call(0, Duplicate(MAY_QUEUE), &[1], ACCESS_DENIED, &[]),
+        Call(0, Duplicate(0), &[65536], INVALID_HANDLE, &[]),
+        Call(0, Event(0), &[], HANDLE_LIMIT, &[]),
+        Call(0, Set, &[65535], Done, &[]),
+        Call(0, Any(0), &[65534, 65535], Status(1), &[]),
+        Call(0, Close, &[65535], Done, &[]),
+        Living(65534),
+        Call(0, Event(0), &[], HANDLE_LIMIT, &[]),
+        Call(0, Duplicate(MAY_WAIT), &[1], HANDLE_LIMIT, &[]),
+    ],
+}];
 
 #[test]
 fn handles_name_objects_with_rights(rt: HostRuntime) -> Result<(), Fail> {
-    play_all(&rt, SCENARIOS)
+    play_all(&rt, SCENARIOS)?;
+    play_all(&rt, ALL_NUMBERS)
+}
+
+#[test]
+fn handles_name_objects_in_copies_too(rt: HostRuntime) -> Result<(), Fail> {
+    play_all_in_both(&rt, SCENARIOS)
 }

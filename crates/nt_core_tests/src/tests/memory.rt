@@ -4,7 +4,7 @@ use crate::tests::script::{Answer, Ask};
 use nt_core::{Call, Core};
 use nt_status::Refusal;
 use std::alloc::AllocError;
-use std::env::{Env, var};
+use std::env::Env;
 use std::io::Print;
 use std::process::Abort;
 
@@ -16,13 +16,16 @@ impl<R: Abort + AllocGlobal + Env + Print> Host for R {}
 /// Where memory was refused, as the dispatcher answers it: ERROR_NOT_ENOUGH_MEMORY.
 pub const NOT_ENOUGH_MEMORY: u32 = 8;
 
-/// Tells that a growth was refused, and whose it was. That is right only where the run refuses one on purpose, as
-/// `bench/refused_tests` does: it sets REFUSE, and wants exactly one such line of each run.
+/// Whether growths are refused on purpose, as `bench/refused_tests` does: it sets REFUSE.
+pub fn is_refusing(rt: &impl Host) -> bool {
+    let mut number = [0; 20];
+    rt.var("REFUSE", &mut number).is_ok()
+}
+
+/// Tells that a growth was refused, and whose it was. That is right only in a run that refuses one on purpose:
+/// `bench/refused_tests` wants exactly one such line of it.
 pub fn tell_refused(rt: &impl Host, whose: &str) {
-    assert!(rt;
-        var(rt, "REFUSE").is_ok(),
-        "out of memory with ample memory: {whose}"
-    );
+    assert!(rt; is_refusing(rt), "out of memory with ample memory: {whose}");
     assert!(rt; println!(rt; "refused: {whose}").is_ok());
 }
 

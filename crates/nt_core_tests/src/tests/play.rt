@@ -1,6 +1,8 @@
 //! The walk over the steps of a scenario. A step that fails is told with what the scenario shows, and with its number, from 1.
 use crate::tests::calls::{answer_of, are_ended};
-use crate::tests::memory::{Host, answer_at_once, answer_to, let_go, open};
+use crate::tests::memory::{
+    Host, answer_at_once, answer_to, copy_at_last, is_refusing, let_go, open,
+};
 use crate::tests::script::{Answer, Ask, Ended, Scenario, Step};
 use nt_core::Core;
 use nt_status::{Moment, Refusal};
@@ -161,6 +163,72 @@ fn play(rt: &impl Host, scenario: &Scenario) -> Result<(), Refusal> {
 pub fn play_all(rt: &impl Host, scenarios: &[Scenario]) -> Result<(), Fail> {
     for scenario in scenarios {
         play(rt, scenario)?;
+    }
+    Ok(())
+}
+
+/// Takes each of these steps in the one dispatcher and then in the other, after so many that were taken already.
+fn take_steps_in_both(
+    rt: &impl Host,
+    core: &mut Core,
+    copy: &mut Core,
+    shows: &'static str,
+    taken: usize,
+    steps: &[Step],
+) {
+    let mut number = taken;
+    for step in steps {
+        number = number.saturating_add(1);
+        let place = Place {
+            shows,
+            step: number,
+        };
+        take_step(rt, core, *step, place);
+        take_step(rt, copy, *step, place);
+    }
+}
+
+/// Makes a copy, and takes the steps after so many in both, which go on alike.
+fn go_on_in_both(
+    rt: &impl Host,
+    core: &mut Core,
+    scenario: &Scenario,
+    taken: usize,
+) -> Result<(), Refusal> {
+    let steps = scenario.steps.get(taken..).unwrap_or(&[]);
+    let mut copy = copy_at_last(rt, core)?;
+    take_steps_in_both(rt, core, &mut copy, scenario.shows, taken, steps);
+    let_go(copy);
+    Ok(())
+}
+
+/// Takes the steps of the scenario from a new dispatcher on, those after so many in a copy too.
+fn play_in_both_after(rt: &impl Host, scenario: &Scenario, taken: usize) -> Result<(), Refusal> {
+    let mut core = open(rt, scenario.threads)?;
+    let steps = scenario.steps.get(..taken).unwrap_or(&[]);
+    take_steps(rt, &mut core, scenario.shows, steps);
+    let went_on = go_on_in_both(rt, &mut core, scenario, taken);
+    let_go(core);
+    went_on
+}
+
+/// Plays these scenarios in turn, each with a copy made before each step in turn, and at its end. Where growths are refused the
+/// copy is made half way alone, since each growth is then one more run.
+pub fn play_all_in_both(rt: &impl Host, scenarios: &[Scenario]) -> Result<(), Fail> {
+    for scenario in scenarios {
+        play_in_both(rt, scenario)?;
+    }
+    Ok(())
+}
+
+/// The same for one scenario.
+fn play_in_both(rt: &impl Host, scenario: &Scenario) -> Result<(), Refusal> {
+    let steps = scenario.steps.len();
+    if is_refusing(rt) {
+        return play_in_both_after(rt, scenario, steps / 2);
+    }
+    for taken in 0..=steps {
+        play_in_both_after(rt, scenario, taken)?;
     }
     Ok(())
 }

@@ -1,8 +1,9 @@
-//! Growths of memory that are refused: an opening is made again, and a creation that is refused stands in the history, where the
-//! same creation, made again, succeeds. `bench/refused_tests` refuses each allocation in turn.
+//! Growths of memory that are refused: an opening is made again; a creation that is refused stands in the journal, where the same
+//! creation, made again, succeeds; and a part that is refused is taken at the next try, with all its entries.
+//! `bench/refused_tests` refuses each allocation in turn.
 ghost use Rattle.std.specs.Prelude.{◌≡◌, ◌+◌, ◌≤◌, vec_len, vec_capacity, IfOk};
 
-use crate::front::told::{count_of, let_go};
+use crate::front::told::{Span, let_go};
 use crate::refused::{Host, tell_refused};
 use nt_core::{Act, Reply};
 use nt_front::{Blank, Front, Held, Named, Pass, Receipt, open, prepare};
@@ -25,12 +26,15 @@ fn prepared(rt: &(impl Host + Wait)) -> Result<Blank, Refusal>
     }
 }
 
-/// The entries and results of a creation, and of the one after it where the first found no memory.
+/// The results of a creation, and of the one after it where the first found no memory; then of a part that is taken, in the same way.
 #[derive(Clone, Copy, Default)]
 struct Created {
     refused: bool,
     is_right: bool,
-    entries: usize,
+    /// Whether the part was refused at first.
+    unparted: bool,
+    part: Span,
+    history: Span,
 }
 
 /// Whether the event was created under this entry.
@@ -51,7 +55,36 @@ fn create<N: Named>(rt: &impl Wait, front: &Front<N>, pass: &mut Pass<N>, create
     };
 }
 
-/// Has the first thread create an event, and puts all passes among the holds.
+/// Which entries the next part of the journal has.
+fn part_of<N: Named>(
+    rt: &impl Wait,
+    front: &Front<N>,
+    pass: &mut Pass<N>,
+) -> Result<Span, Refusal> {
+    let part = front.rotate(rt, pass)?;
+    let span = Span::of_part(&part);
+    drop(part);
+    Ok(span)
+}
+
+/// Takes a part of the journal, and does so again where memory was refused.
+fn take_part<N: Named>(
+    rt: &impl Wait,
+    front: &Front<N>,
+    pass: &mut Pass<N>,
+    created: &mut Created,
+) {
+    let mut answer = part_of(rt, front, pass);
+    if answer == Err(Refusal::Memory) {
+        created.unparted = true;
+        answer = part_of(rt, front, pass);
+    }
+    if let Ok(span) = answer {
+        created.part = span;
+    }
+}
+
+/// Has the first thread create an event and take a part, and puts all passes among the holds.
 fn create_by<N: Named>(
     rt: &impl Wait,
     front: &Front<N>,
@@ -65,12 +98,13 @@ fn create_by<N: Named>(
     while let Some(mut pass) = passes.pop() {
         if pass.thread().get() == 0 {
             create(rt, front, &mut pass, created);
+            take_part(rt, front, &mut pass, created);
         }
         holds.push_reserved(Held::Pass(pass));
     }
 }
 
-/// Opens the front, creates an event, and counts what the history has.
+/// Opens the front, creates an event, takes a part, and tells what the history has.
 fn create_on<N: Named>(rt: &impl Wait, alloc: Global, blank: Blank) -> Result<Created, Refusal>
     requires { (blank ≡ N.front) × (blank.threads ≡ 2) }
 {
@@ -102,7 +136,7 @@ fn create_with<N: Named>(
     }
 }
 
-/// Has the first thread create an event, and ends the front.
+/// Has the first thread create an event and take a part, and ends the front.
 fn create_and_finish<N: Named>(
     rt: &impl Wait,
     front: Front<N>,
@@ -114,7 +148,9 @@ fn create_and_finish<N: Named>(
     let mut created = Created::default();
     create_by(rt, &front, &mut passes, &mut holds, &mut created);
     passes.destroy_empty();
-    created.entries = count_of(front.finish(holds));
+    let history = front.finish(holds);
+    created.history = Span::of_history(&history);
+    drop(history);
     created
 }
 
@@ -139,12 +175,21 @@ fn create_at_last(rt: &(impl Host + Wait)) -> Result<Created, Refusal> {
 }
 
 #[test]
-fn a_refused_creation_stands_in_the_history(rt: HostRuntime) -> Result<(), Fail> {
+fn a_refused_creation_stands_in_the_journal(rt: HostRuntime) -> Result<(), Fail> {
     let created = create_at_last(&rt)?;
     if created.refused {
         tell_refused(&rt, "a call");
     }
+    if created.unparted {
+        tell_refused(&rt, "a part");
+    }
     assert!(rt; created.is_right);
-    assert_eq!(rt; created.entries, 1 + usize::from(created.refused));
+    let entries = 1 + u64::from(created.refused);
+    assert_eq!(rt; created.part, Span { first: 1, entries });
+    let rest = Span {
+        first: 1 + entries,
+        entries: 0,
+    };
+    assert_eq!(rt; created.history, rest);
     Ok(())
 }

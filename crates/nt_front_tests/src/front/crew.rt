@@ -2,9 +2,10 @@
 ghost use Rattle.std.specs.Prelude.{◌≡◌, ◌+◌, ◌<◌, ◌≤◌, [], vec_len, vec_capacity, IfOk};
 
 use crate::front::jobs::{Job, work};
-use crate::front::replay::first_difference;
+use crate::front::parts::Parts;
+use crate::front::seen::{Seen, look_at};
 use crate::front::steps::Creation;
-use crate::front::told::{Entries, Told, let_go};
+use crate::front::told::{Told, let_go};
 use nt_core::Reply;
 use nt_front::{Blank, Carried, Front, Held, History, Named, Pass, open};
 use nt_status::{Handle, Refusal, ThreadId};
@@ -32,6 +33,8 @@ pub struct Crew {
     pub ticks: u64,
     /// From which the calls of those that roam are drawn.
     pub seed: u64,
+    /// The parts of the journal that the threads take.
+    pub parts: Parts,
 }
 
 impl Crew {
@@ -62,23 +65,6 @@ impl<N: Named> Promise<Back<N>> for Nothing {
     ghost use Rattle.std.specs.Prelude.{◌≡◌};
 
     ghost kept_by = { λ p r. p ≡ p };
-}
-
-/// What became of a crew.
-#[derive(Clone, Copy, Default, PartialEq, Eq, Debug)]
-pub struct Seen {
-    /// How many entries the history has.
-    pub entries: usize,
-    /// The calls and ticks that were written, and the grants that were given, as the threads were told of them.
-    pub calls: Entries,
-    pub grants: Entries,
-    /// Threads that were told of other entries than the history has of them.
-    pub differ: u64,
-    /// Threads whose wait still pends at the end.
-    pub sleeping: u64,
-    pub lost: u64,
-    /// The number of the first entry that a fresh dispatcher answers otherwise; 0 where there is none.
-    pub difference: usize,
 }
 
 /// A thread of the crew does its job.
@@ -189,28 +175,6 @@ fn carry<N: Named>(
     }
     passes.destroy_empty();
     carriers
-}
-
-/// Looks at what the threads were told, beside what the history has of them, and makes its calls again.
-fn look_at(
-    alloc: Global,
-    history: &History,
-    told: &[(ThreadId, Told)],
-    mut seen: Seen,
-) -> Result<Seen, Refusal> {
-    seen.entries = history.entries.len();
-    for (thread, told) in told {
-        seen.calls.join(told.calls);
-        seen.grants.join(told.grants);
-        seen.lost = seen.lost.wrapping_add(told.lost);
-        let written = Told::by_history(history.entries.as_slice(), *thread);
-        let is_same = written.calls == told.calls
-            && written.grants == told.grants
-            && written.codes == told.codes;
-        seen.differ = seen.differ.wrapping_add(u64::from(!is_same));
-    }
-    seen.difference = first_difference(alloc, history)?;
-    Ok(seen)
 }
 
 /// Puts the holds of all threads together, and ends the front.
@@ -337,7 +301,12 @@ fn seen_of<N: Named + Send + Sync, R: Threads + Wait + Clock + Sync>(
     let mut seen = Seen::default();
     let carriers = carry(passes, carriers);
     let history = run(rt, front, carriers, back, holds, crew, &mut told, &mut seen);
-    look_at(crew.alloc, &history, told.as_slice(), seen)
+    let parts = crew.parts.taken(rt);
+    let looked = look_at(crew, parts.as_slice(), &history, told.as_slice(), seen);
+    drop(parts);
+    drop(history);
+    drop(told);
+    looked
 }
 
 /// Opens the front, has the crew do its jobs, and looks at all that is left.

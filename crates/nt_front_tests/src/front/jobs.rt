@@ -1,9 +1,11 @@
 //! What the threads of a crew do.
 use crate::front::crew::Crew;
-use crate::front::steps::{Draws, INFINITE, objects};
+use crate::front::plan::{lead, toil};
+use crate::front::roams::roam;
+use crate::front::steps::{INFINITE, objects};
 use crate::front::told::Told;
 use nt_core::{Act, WaitCall};
-use nt_front::{Begun, Exited, Front, Held, Named, Pass, Polled, Sleeper};
+use nt_front::{Begun, Front, Held, Named, Pass, Polled, Sleeper};
 use nt_status::{Handle, Moment};
 use std::sync::Wait;
 use std::sync::atomic::Ordering;
@@ -29,6 +31,10 @@ pub enum Job {
     SetWhenAwaited { event: u32, turns: u32 },
     /// The same, and sets it again.
     SetTwice { event: u32, turns: u32 },
+    /// Leads the workers of the plan.
+    Lead,
+    /// Works by the plan, so many rounds.
+    Toil { rounds: u32 },
 }
 
 /// How a thread waits for its grant.
@@ -87,6 +93,8 @@ pub fn work<N: Named, R: Wait + Clock>(
             times,
             told,
         )),
+        Job::Lead => lead(rt, front, crew, pass, told),
+        Job::Toil { rounds } => toil(rt, front, crew, pass, rounds, told),
         Job::Poll { event, polls } => poll(rt, front, crew, pass, Handle::new(event), polls, told),
         Job::SetWhenAwaited { event, turns } => {
             set_when_awaited(rt, front, crew, &mut pass, Handle::new(event), turns, told);
@@ -107,7 +115,13 @@ pub fn work<N: Named, R: Wait + Clock>(
 }
 
 /// Makes a call that never pends.
-fn call<N: Named>(rt: &impl Wait, front: &Front<N>, pass: &mut Pass<N>, act: Act, told: &mut Told) {
+pub fn call<N: Named>(
+    rt: &impl Wait,
+    front: &Front<N>,
+    pass: &mut Pass<N>,
+    act: Act,
+    told: &mut Told,
+) {
     match front.call(rt, pass, act) {
         Ok(receipt) => told.called(&receipt),
         Err(_) => told.lost(),
@@ -115,7 +129,7 @@ fn call<N: Named>(rt: &impl Wait, front: &Front<N>, pass: &mut Pass<N>, act: Act
 }
 
 /// Begins a wait and waits for its end. Where the polls are used up the thread still sleeps.
-fn wait<N: Named>(
+pub fn wait<N: Named>(
     rt: &impl Wait,
     front: &Front<N>,
     crew: &Crew,
@@ -170,7 +184,7 @@ fn poll_for<N: Named>(
 }
 
 /// Waits asleep for one object.
-fn wait_for<N: Named>(
+pub fn wait_for<N: Named>(
     rt: &impl Wait,
     front: &Front<N>,
     crew: &Crew,
@@ -196,72 +210,6 @@ fn wait_for<N: Named>(
             let (pass, receipt) = front.sleep(rt, sleeper);
             told.granted(&receipt);
             pass
-        }
-    }
-}
-
-/// Makes so many calls of all sorts, and then ends the thread.
-fn roam<N: Named>(
-    rt: &impl Wait,
-    front: &Front<N>,
-    crew: &Crew,
-    pass: Pass<N>,
-    calls: u32,
-    manner: Manner,
-    told: &mut Told,
-) -> Held<N> {
-    let mut draws = Draws::new(
-        crew.seed
-            .wrapping_mul(256)
-            .wrapping_add(u64::from(pass.thread().get())),
-    );
-    let mut held = Held::Pass(pass);
-    for _ in 0..calls {
-        held = step(rt, front, crew, held, &mut draws, manner, told);
-    }
-    crew.roaming.fetch_sub(1, Ordering::SeqCst);
-    end(rt, front, held, told)
-}
-
-/// Makes one call.
-fn step<N: Named>(
-    rt: &impl Wait,
-    front: &Front<N>,
-    crew: &Crew,
-    held: Held<N>,
-    draws: &mut Draws,
-    manner: Manner,
-    told: &mut Told,
-) -> Held<N> {
-    let Held::Pass(mut pass) = held else {
-        return held;
-    };
-    if !draws.waits() {
-        call(rt, front, &mut pass, draws.act(), told);
-        return Held::Pass(pass);
-    }
-    match draws.wait(crew.alloc) {
-        Ok(asked) => wait(rt, front, crew, pass, asked, manner, told),
-        Err(_) => {
-            told.lost();
-            Held::Pass(pass)
-        }
-    }
-}
-
-/// Ends the thread.
-fn end<N: Named>(rt: &impl Wait, front: &Front<N>, held: Held<N>, told: &mut Told) -> Held<N> {
-    let Held::Pass(pass) = held else {
-        return held;
-    };
-    match front.exit(rt, pass) {
-        Exited::Ended(ended, receipt) => {
-            told.called(&receipt);
-            Held::Ended(ended)
-        }
-        Exited::NoRoom(pass) => {
-            told.lost();
-            Held::Pass(pass)
         }
     }
 }

@@ -1,25 +1,82 @@
-//! A history is made again on a fresh dispatcher, call by call.
+//! A journal is made again, call by call.
 use nt_core::Core;
-use nt_front::History;
+use nt_front::{Entry, History, Part};
 use nt_replay::{Unreplayed, replay};
 use nt_status::Refusal;
 use std::alloc::Global;
 
-/// The number of the first entry whose result or grant is another on a fresh dispatcher; 0 where all are the same.
-pub fn first_difference(alloc: Global, history: &History) -> Result<usize, Refusal> {
-    match Core::new(alloc, history.threads) {
-        Ok(base) => Ok(number_of(replay(base, history.entries.as_slice()))),
-        Err(refused) => Err(refused),
+/// A dispatcher that made the calls of all entries before this number.
+#[derive(Drop)]
+struct Follower {
+    core: Core,
+    next: u64,
+}
+
+impl Follower {
+    /// Makes the calls of the next entries too, as does a copy of the dispatcher that they begin at. Answers the number of the first
+    /// entry that one of them does not give, or that is missing.
+    fn follow(self, first: u64, base: &Core, entries: &[Entry]) -> Result<Follower, u64> {
+        match follows(self.next, first, base, entries) {
+            Ok(()) => self.go_on(first, entries),
+            Err(number) => {
+                drop(self);
+                Err(number)
+            }
+        }
+    }
+
+    /// Makes the calls of these entries too.
+    fn go_on(self, first: u64, entries: &[Entry]) -> Result<Follower, u64> {
+        let Follower { core, .. } = self;
+        let core = made_again(core, first, entries)?;
+        let next = first.wrapping_add(entries.len() as u64);
+        Ok(Follower { core, next })
     }
 }
 
-/// The number of the entry at which a replay stopped.
-fn number_of(replayed: Result<Core, Unreplayed>) -> usize {
-    match replayed {
-        Ok(core) => {
-            drop(core);
-            0
+/// Whether these entries are those from number `next` on, and a copy of the dispatcher that they begin at gives them. Else the number of
+/// the first that it does not give, or that is missing.
+fn follows(next: u64, first: u64, base: &Core, entries: &[Entry]) -> Result<(), u64> {
+    if first != next {
+        return Err(next);
+    }
+    match base.copy() {
+        Ok(copy) => {
+            drop(made_again(copy, first, entries)?);
+            Ok(())
         }
-        Err(Unreplayed::Differs(place) | Unreplayed::Memory(place)) => place.wrapping_add(1),
+        Err(_) => Err(first),
+    }
+}
+
+/// The dispatcher after the calls of these entries, which are numbered from `first` on.
+fn made_again(core: Core, first: u64, entries: &[Entry]) -> Result<Core, u64> {
+    match replay(core, entries) {
+        Ok(core) => Ok(core),
+        Err(Unreplayed::Differs(place) | Unreplayed::Memory(place)) => {
+            Err(first.wrapping_add(place as u64))
+        }
+    }
+}
+
+/// The number of the first entry of these parts and the history that a fresh dispatcher answers otherwise, or a copy of the part's
+/// base does, or that is missing; 0 where there is none.
+pub fn first_difference(
+    alloc: Global,
+    threads: u32,
+    parts: &[Part],
+    history: &History,
+) -> Result<u64, Refusal> {
+    let core = Core::new(alloc, threads)?;
+    let mut follower = Follower { core, next: 1 };
+    for part in parts {
+        match follower.follow(part.first, &part.base, part.entries.as_slice()) {
+            Ok(further) => follower = further,
+            Err(number) => return Ok(number),
+        }
+    }
+    match follower.follow(history.first, &history.base, history.entries.as_slice()) {
+        Ok(_) => Ok(0),
+        Err(number) => Ok(number),
     }
 }

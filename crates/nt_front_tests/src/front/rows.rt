@@ -1,7 +1,7 @@
 //! Short histories, entry by entry.
-use crate::front::crew::Seen;
 use crate::front::jobs::Job;
-use crate::front::runs::{Roll, man_all};
+use crate::front::runs::{NEVER, Roll, man_all};
+use crate::front::seen::Seen;
 use crate::front::steps::Creation;
 use crate::front::told::{Entries, let_go};
 use crate::refused::is_refusing;
@@ -21,6 +21,7 @@ const fn hand_over(room: usize, jobs: &'static [Job]) -> Roll {
         jobs,
         roaming: 0,
         room,
+        every: NEVER,
     }
 }
 
@@ -67,6 +68,7 @@ fn room_is_kept_for_each_pending_wait(rt: HostRuntime) -> Result<(), Fail> {
     assert_eq!(rt;
         seen,
         Seen {
+            parts: 0,
             entries: 2,
             calls: Entries { count: 2, sum: 3 },
             grants: Entries { count: 0, sum: 0 },
@@ -99,6 +101,7 @@ fn a_poll_finds_the_grant(rt: HostRuntime) -> Result<(), Fail> {
     assert_eq!(rt;
         seen,
         Seen {
+            parts: 0,
             entries: 4,
             calls: Entries { count: 3, sum: 6 },
             grants: Entries { count: 1, sum: 4 },

@@ -1,7 +1,10 @@
 //! Crews at work: nobody is left asleep, each thread is told exactly what the history has of it, and a fresh dispatcher answers
 //! each call of the history as it was answered.
-use crate::front::crew::{Crew, Seen, man};
+use crate::front::crew::{Crew, man};
 use crate::front::jobs::{Job, Manner};
+use crate::front::parts::Parts;
+use crate::front::plan;
+use crate::front::seen::Seen;
 use crate::front::steps::{CREATIONS, Creation, ROAMERS};
 use crate::front::told::Entries;
 use crate::refused::is_refusing;
@@ -27,7 +30,12 @@ pub struct Roll {
     pub roaming: u64,
     /// The room of the journal, in entries.
     pub room: usize,
+    /// How many entries make a part of it due, for those that roam.
+    pub every: u64,
 }
+
+/// No part of the journal is ever due.
+pub const NEVER: u64 = u64::MAX;
 
 /// Two threads hand over to one another 200,000 times, each asleep while it waits.
 const PAIR: Roll = Roll {
@@ -47,6 +55,7 @@ const PAIR: Roll = Roll {
     ],
     roaming: 0,
     room: 700_000,
+    every: NEVER,
 };
 
 /// 64 threads at one mutex.
@@ -59,6 +68,7 @@ const LOCKERS: Roll = Roll {
     }],
     roaming: 0,
     room: 100_000,
+    every: NEVER,
 };
 
 const ASLEEP: Job = Job::Roam {
@@ -87,6 +97,40 @@ const ROAM: Roll = Roll {
     ],
     roaming: 7,
     room: 1_000_000,
+    every: NEVER,
+};
+
+/// How many calls each of seven threads makes, of more than 100,000.
+const MANY: u32 = 14_286;
+
+/// Seven threads of 8 make 100,002 calls of all sorts over a journal of 400 entries, of which whoever comes takes a part for each 100.
+const ROTATE: Roll = Roll {
+    threads: ROAMERS,
+    creations: CREATIONS,
+    jobs: &[
+        Job::Tick,
+        Job::Roam {
+            calls: MANY,
+            manner: Manner::Polling(u32::MAX),
+        },
+        Job::Roam {
+            calls: MANY,
+            manner: Manner::Asleep,
+        },
+    ],
+    roaming: 7,
+    room: 400,
+    every: 100,
+};
+
+/// The plan of two workers and three rounds; the thread that leads them takes a part of the journal once they may begin.
+const PLAN: Roll = Roll {
+    threads: plan::THREADS,
+    creations: plan::CREATIONS,
+    jobs: &[Job::Lead, Job::Toil { rounds: 3 }],
+    roaming: 0,
+    room: 100,
+    every: NEVER,
 };
 
 /// One thread keeps its wait open by polls until the other sets the event.
@@ -105,6 +149,7 @@ const HELD: Roll = Roll {
     ],
     roaming: 0,
     room: 8,
+    every: NEVER,
 };
 
 /// Has this crew work on a new front.
@@ -124,6 +169,7 @@ pub fn man_all<R: Threads + Wait + Clock + Sync>(
         awaited: AtomicBool::new(false),
         ticks: 400_000,
         seed,
+        parts: Parts::new(alloc, roll.every),
     };
     man::<Brand, _>(rt, blank, &crew)
 }
@@ -188,6 +234,7 @@ fn hold_until_answered(rt: HostRuntime) -> Result<(), Fail> {
     assert_eq!(rt;
         seen,
         Seen {
+            parts: 0,
             entries: 4,
             calls: Entries { count: 3, sum: 6 },
             grants: Entries { count: 1, sum: 4 },
@@ -196,6 +243,37 @@ fn hold_until_answered(rt: HostRuntime) -> Result<(), Fail> {
             lost: 0,
             difference: 0,
         }
+    );
+    Ok(())
+}
+
+/// All parts and the history, in their order, are what a fresh dispatcher does.
+#[test]
+fn chain(rt: HostRuntime) -> Result<(), Fail> {
+    if is_refusing(&rt) {
+        return Ok(());
+    }
+    let seen = man_all(&rt, rt.alloc(), PLAN, 0)?;
+    assert_whole(&rt, &seen);
+    // three creations, the set, the wait and the end of the first thread; of each other a wait for the start, three calls a round, and its end
+    assert_eq!(rt;
+        (seen.parts, seen.calls.count),
+        (1, 6 + 2 * (1 + 3 * 3 + 1))
+    );
+    Ok(())
+}
+
+/// Whoever comes takes the next part; no call finds the journal full.
+#[test]
+fn parts_follow_one_another(rt: HostRuntime) -> Result<(), Fail> {
+    if is_refusing(&rt) {
+        return Ok(());
+    }
+    let seen = man_all(&rt, rt.alloc(), ROTATE, 0)?;
+    assert_whole(&rt, &seen);
+    assert!(rt;
+        seen.calls.count >= 100_000 && seen.parts >= 250,
+        "{seen:?}"
     );
     Ok(())
 }

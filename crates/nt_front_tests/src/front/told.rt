@@ -1,6 +1,6 @@
-//! What a thread was told, and the same read off the history.
+//! What a thread was told, and the same read off the journal.
 use nt_core::Reply;
-use nt_front::{Blank, Entry, History, Receipt};
+use nt_front::{Blank, Entry, History, Part, Receipt};
 use nt_status::{Status, ThreadId};
 
 /// Drops a front that was never opened.
@@ -9,6 +9,29 @@ pub fn let_go(_blank: Blank) {}
 /// How many entries the history has.
 pub fn count_of(history: History) -> usize {
     history.entries.len()
+}
+
+/// The number of the first entry, and how many there are.
+#[derive(Clone, Copy, Default, PartialEq, Eq, Debug)]
+pub struct Span {
+    pub first: u64,
+    pub entries: u64,
+}
+
+impl Span {
+    pub fn of_part(part: &Part) -> Span {
+        Span {
+            first: part.first,
+            entries: part.entries.len() as u64,
+        }
+    }
+
+    pub fn of_history(history: &History) -> Span {
+        Span {
+            first: history.first,
+            entries: history.entries.len() as u64,
+        }
+    }
 }
 
 /// How many entries of one thread, and the sum of their numbers: two threads that were told of different entries differ in one.
@@ -39,16 +62,20 @@ pub struct Told {
     pub grants: Entries,
     /// The sum of the codes of the statuses that it was granted.
     pub codes: u64,
+    /// The number of the entry that it was last told of.
+    pub last: u64,
     /// Calls that found no room in the journal, and growths of the thread's own that were refused: none of a test that is well.
     pub lost: u64,
 }
 
 impl Told {
     pub fn called(&mut self, receipt: &Receipt) {
+        self.last = receipt.entry;
         self.calls.add(receipt.entry);
     }
 
     pub fn granted(&mut self, receipt: &Receipt) {
+        self.last = receipt.entry;
         match &receipt.result {
             Ok(Reply::Status(status)) => self.grant(receipt.entry, *status),
             _ => self.lost(),
@@ -64,13 +91,11 @@ impl Told {
         self.lost = self.lost.wrapping_add(1);
     }
 
-    /// What the history says of this thread.
-    pub fn by_history(entries: &[Entry], thread: ThreadId) -> Told {
-        let mut told = Told::default();
+    /// Adds what these entries, numbered from `first` on, say of this thread.
+    pub fn read_all(&mut self, thread: ThreadId, first: u64, entries: &[Entry]) {
         for i in 0..entries.len() {
-            told.read(thread, &entries[i], (i as u64).wrapping_add(1));
+            self.read(thread, &entries[i], first.wrapping_add(i as u64));
         }
-        told
     }
 
     fn read(&mut self, thread: ThreadId, entry: &Entry, number: u64) {

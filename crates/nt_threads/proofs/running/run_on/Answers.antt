@@ -1,17 +1,30 @@
-use Rattle.std.proofs.Common.{ℕ, subst}
+use Rattle.std.proofs.Common.{◌≡◌, ℕ, true, rules, subst}
+use Rattle.nt_core.specs.State.{State, opening}
 use Rattle.nt_core.specs.Dispatcher.{state}
-use Rattle.nt_front.specs.Runs.{IsRun}
+use Rattle.nt_mail.specs.Entries.{Each}
+use Rattle.nt_front.specs.Held.{IsAccounted}
+use Rattle.nt_front.specs.Runs.{IsRunFrom, LeadTo}
+use Rattle.nt_front.proofs.Since.{base_opens}
 use Rattle.nt_threads.proofs.Planned.{plan_told}
 use Rattle.nt_threads.proofs.running.run_on.Goals as goal
 
 pub returns-clause-comes : goal.returns-clause-comes
-returns-clause-comes g c =
-    let ran = c.finish.ensures.run in
-    let es = c.finish.result.entries.items in
-    record { core = ran.0; lawful = ran.1; run = subst (λ (n : ℕ). IsRun n es (state ran.0)) c.finish.ensures.threads ran.2 }
+returns-clause-comes g c whole =
+    let n = g.N.Named.front.threads in
+    let base = state c.finish-history.result.base in
+    let first : c.finish-history.result.first ≡ 1 = search rules in
+    let led = c.finish-history.ensures.base in
+    let opened : base ≡ opening n = base_opens n led.0 base (subst (λ (f : ℕ). LeadTo n f led.0 base) first led.1) in
+    let ran = c.finish-history.ensures.run in
+    record { core = ran.0; lawful = ran.1; run = subst (λ (s : State). IsRunFrom s c.finish-history.result.entries.items (state ran.0)) opened ran.2 }
 
 pub returns-clause-whole : goal.returns-clause-whole
 returns-clause-whole g c whole =
-    let done = c.drive_on-holds.ensures.whole whole in
-    plan_told c.finish.result.entries.items c.drive_on-holds.result.0.items c.args.passes.items g.N.Named.front.threads c.args.rounds done.0 c.requires.passes.0 c.requires.passes.1
-    c.finish.ensures.told c.drive_on-holds.ensures.threads done.1
+    let now = (state c.finish-history.result.base).now in
+    let es = c.finish-history.result.entries.items in
+    let holds = c.drive_on-holds.result.0.items in
+    let first : c.finish-history.result.first ≡ 1 = search rules in
+    let driven : c.drive_on-holds.result.1 ≡ true = search rules in
+    let done = c.drive_on-holds.ensures.whole driven in
+    let told = subst (λ (f : ℕ). Each (IsAccounted f now es) holds) first c.finish-history.ensures.told in
+    plan_told now es holds c.args.passes.items g.N.Named.front.threads c.args.rounds done.0 c.requires.passes.0 c.requires.passes.1 told c.drive_on-holds.ensures.threads done.1

@@ -1,35 +1,35 @@
-use Rattle.std.proofs.Common.{refl, w32, w64}
-use mir.Val.{to_z, of_z}
-use Rattle.std.proofs.lemmas.List.{length-set}
-use Rattle.std.specs.Prelude.{None}
-use Rattle.nt_objects.specs.Object.{armed_with}
-use Rattle.nt_core.specs.declared.call.Act.{Act}
-use Rattle.nt_core.specs.declared.call.Call.{Call}
-use Rattle.nt_core.specs.declared.call.Reply.{Reply}
-use Rattle.nt_core.specs.State.{object_at}
-use Rattle.nt_core.specs.Dispatcher.{state}
-use Rattle.nt_core.proofs.Lengths.{room_kept, length_apc_taken, length_timer_set}
-use Rattle.nt_core.proofs.Arming.{asked}
+use Rattle.std.proofs.Common.{rules}
 use Rattle.nt_core.proofs.machine.Machine.act.Goals as goal
 
-pub returns-in_ok-queue_apc-in-QueueApc-clause-room : goal.returns-in_ok-queue_apc-in-QueueApc-clause-room
-returns-in_ok-queue_apc-in-QueueApc-clause-room c =
-    let old = c.args.self.now in
-    room_kept old c.queue_apc.new.self c.args.thread (Call.Act (Act.QueueApc c.in-QueueApc.target c.in-QueueApc.routine c.in-QueueApc.arg)) Reply.Done _ c.in_ok-queue_apc-in-QueueApc.ensures.ok (refl) c.requires.room
+pub returns-in-CreateEvent-clause-made : goal.returns-in-CreateEvent-clause-made
+returns-in-CreateEvent-clause-made c = rw c.in-CreateEvent.is (c.create_event.ensures.made c.args.thread c.requires.free)
 
-pub returns-in-NextApc-clause-room : goal.returns-in-NextApc-clause-room
-returns-in-NextApc-clause-room c =
-    let old = c.args.self.now in
-    room_kept old c.next_apc.new.self c.args.thread (Call.Act (Act.NextApc)) (Reply.Apc c.next_apc.result) _ c.next_apc.ensures (length_apc_taken (state old) c.args.thread) c.requires.room
+pub returns-in-CreateTimer-clause-made : goal.returns-in-CreateTimer-clause-made
+returns-in-CreateTimer-clause-made c = rw c.in-CreateTimer.is (c.create_timer.ensures.made c.args.thread c.requires.free)
 
-pub returns-in-CancelTimer-clause-room : goal.returns-in-CancelTimer-clause-room
-returns-in-CancelTimer-clause-room c =
-    let old = c.args.self.now in
-    room_kept old c.cancel_timer.new.self c.args.thread (Call.Act (Act.CancelTimer c.in-CancelTimer.timer)) Reply.Done _ c.cancel_timer.ensures (length-set old.objects c.in-CancelTimer.timer (armed_with None (object_at old.objects c.in-CancelTimer.timer))) c.requires.room
+pub returns-in-SetEvent-clause-made : goal.returns-in-SetEvent-clause-made
+returns-in-SetEvent-clause-made c = rw c.in-SetEvent.is (c.set_event.ensures c.args.thread c.requires.free)
 
-pub returns-in_ok-set_timer-in-SetTimer-clause-room : goal.returns-in_ok-set_timer-in-SetTimer-clause-room
-returns-in_ok-set_timer-in-SetTimer-clause-room c =
-    let old = c.args.self.now in
-    let due = to_z w64 (of_z w64 c.in-SetTimer.due) in
-    let period = to_z w32 (of_z w32 c.in-SetTimer.period) in
-    room_kept old c.set_timer.new.self c.args.thread (Call.Act (Act.SetTimer c.in-SetTimer.timer due period c.in-SetTimer.routine)) Reply.Done _ c.in_ok-set_timer-in-SetTimer.ensures.ok (length_timer_set (state old) c.in-SetTimer.timer (asked old.now c.args.thread due period c.in-SetTimer.routine)) c.requires.room
+pub returns-in-ResetEvent-clause-made : goal.returns-in-ResetEvent-clause-made
+returns-in-ResetEvent-clause-made c = rw c.in-ResetEvent.is (c.reset_event.ensures c.args.thread c.requires.free)
+
+pub returns-in-PulseEvent-clause-made : goal.returns-in-PulseEvent-clause-made
+returns-in-PulseEvent-clause-made c = rw c.in-PulseEvent.is (c.pulse_event.ensures c.args.thread c.requires.free)
+
+pub returns-in-CancelTimer-clause-made : goal.returns-in-CancelTimer-clause-made
+returns-in-CancelTimer-clause-made c = rw c.in-CancelTimer.is (c.cancel_timer.ensures c.args.thread c.requires.free)
+
+pub returns-in-QueueApc-clause-made : goal.returns-in-QueueApc-clause-made
+returns-in-QueueApc-clause-made c = rw c.in-QueueApc.is (c.queue_apc.ensures c.args.thread c.requires.free)
+
+pub returns-in-Duplicate-clause-made : goal.returns-in-Duplicate-clause-made
+returns-in-Duplicate-clause-made c = rw c.in-Duplicate.is (c.duplicate.ensures.made c.args.thread c.requires.free)
+
+pub returns-in-Close-clause-made : goal.returns-in-Close-clause-made
+returns-in-Close-clause-made c = rw c.in-Close.is (c.close.ensures.made c.args.thread c.requires.free)
+
+pub returns-in-CreateSemaphore-clause-made : goal.returns-in-CreateSemaphore-clause-made
+returns-in-CreateSemaphore-clause-made c = let made = c.create_semaphore.ensures.made c.args.thread c.requires.free in search (rules, made)
+
+pub returns-in-ReleaseSemaphore-clause-made : goal.returns-in-ReleaseSemaphore-clause-made
+returns-in-ReleaseSemaphore-clause-made c = let made = c.release_semaphore.ensures c.args.thread c.requires.free in search (rules, made)

@@ -1,20 +1,40 @@
-use Rattle.std.proofs.Common.{ap, ◌∙◌, set, None}
+use Rattle.std.proofs.Common.{ℕ, ap, ◌∙◌, set, subst, None}
+use Rattle.std.specs.Prelude.{Ok}
 use Rattle.nt_objects.specs.declared.object.Object.{Object}
-use Rattle.nt_objects.specs.Object.{owner_of, armed_with, due_of}
+use Rattle.nt_objects.specs.Object.{is_timer, owner_of, armed_with, due_of}
 use Rattle.nt_core.specs.State.{object_at}
 use Rattle.nt_core.specs.Dispatcher.{Dispatcher}
+use Rattle.nt_core.specs.declared.call.Act.{Act}
+use Rattle.nt_core.specs.declared.call.Call.{Call}
+use Rattle.nt_core.specs.declared.call.Reply.{Reply}
+use Rattle.nt_core.specs.Naming.{act_named}
+use Rattle.nt_core.specs.Rights.{act_denied}
+use Rattle.nt_core.specs.Accepts.{IsMade}
 use Rattle.nt_core.proofs.Owned.{owner_armed}
 use Rattle.nt_core.proofs.Timing.{cancel_accepted}
+use Rattle.nt_core.proofs.Making.{refused_with, accepted_made, kind_free}
 use Rattle.nt_core.proofs.machine.Machine.cancel_timer.Goals as goal
+
+pub returns-in_err-timer : goal.returns-in_err-timer
+returns-in_err-timer c t free =
+    let old = c.args.self.now in
+    let act = Act.CancelTimer c.args.timer in
+    refused_with old t (act_denied old.handles act) (Call.Act (act_named old.handles act)) c.in_err-timer.field-0.0 c.from_residual.result c.from_residual.ensures.1 c.requires.fresh free c.in_err-timer.ensures
 
 pub put_timer-requires-clause-owner : goal.put_timer-requires-clause-owner
 put_timer-requires-clause-owner c = ap owner_of c.cancel.ensures ∙ (owner_armed None c.object-object.result ∙ ap owner_of c.object-object.ensures)
 
 pub returns : goal.returns
-returns c =
+returns c t free =
+    let old = c.args.self.now in
     let mid = c.withdraw.new.self in
-    let h = c.args.timer in
-    cancel_accepted c.args.self.now c.put_timer.new.self c.args.thread c.args.timer c.requires.fresh c.requires.kind
+    let new = c.put_timer.new.self in
+    let act = Act.CancelTimer c.args.timer in
+    let timer = c.in_ok-timer.timer in
+    let judged = c.in_ok-timer.ensures in
+    let accepted = cancel_accepted old new t timer c.requires.fresh (kind_free is_timer old.objects (act_denied old.handles act) timer judged.1)
     (c.put_timer.ensures
-    ∙ (ap (λ (o : Object). record mid { objects = set mid.objects h o; alarms = set mid.alarms h (due_of o) }) (c.cancel.ensures ∙ ap (armed_with None) c.object-object.ensures)
-    ∙ ap (λ (d : Dispatcher). record d { objects = set d.objects h (armed_with None (object_at d.objects h)); alarms = set d.alarms h (due_of (armed_with None (object_at d.objects h))) }) c.withdraw.ensures))
+    ∙ (ap (λ (o : Object). record mid { objects = set mid.objects timer o; alarms = set mid.alarms timer (due_of o) }) (c.cancel.ensures ∙ ap (armed_with None) c.object-object.ensures)
+    ∙ ap (λ (d : Dispatcher). record d { objects = set d.objects timer (armed_with None (object_at d.objects timer)); alarms = set d.alarms timer (due_of (armed_with None (object_at d.objects timer))) }) c.withdraw.ensures)) in
+    subst (λ (h : ℕ). IsMade old new t (act_denied old.handles act) (Call.Act (Act.CancelTimer h)) (Ok Reply.Done)) judged.0
+    (accepted_made old new t (act_denied old.handles act) (Call.Act (Act.CancelTimer timer)) Reply.Done free judged.1 accepted)

@@ -1,28 +1,31 @@
-use Rattle.std.proofs.Common.{true, ◌≡◌, length, refl, ap, ◌∙◌, subst}
+use Rattle.std.proofs.Common.{◌≡◌, ℕ, false, true, refl, ap, ◌∙◌, subst}
+use Rattle.nt_status.specs.Flags.{only_known, mutex_bits}
+use Rattle.nt_status.specs.declared.refusal.Refusal.TheVariants.{InvalidParameter}
 use Rattle.nt_objects.specs.declared.object.Object.{Object}
-use Rattle.nt_objects.specs.Object.{mutex_of, owned_by, IsLawfulObject}
+use Rattle.nt_objects.specs.Object.{mutex_of, IsLawfulObject, owned_by}
 use Rattle.nt_core.specs.declared.call.Act.{Act}
 use Rattle.nt_core.specs.declared.call.Call.{Call}
-use Rattle.nt_core.specs.declared.call.Reply.{Reply}
-use Rattle.nt_core.specs.Dispatcher.{with_created}
-use Rattle.nt_core.specs.Accepts.{Accepts}
 use Rattle.nt_core.proofs.Owned.{new_owner}
-use Rattle.nt_core.proofs.Accepting.{ok_both}
-use Rattle.nt_core.proofs.Replacing.{created_accepted, mutex_undue, mutex_no_thread, mutex_lives}
+use Rattle.nt_core.proofs.Replacing.{mutex_undue, mutex_no_thread, mutex_lives}
+use Rattle.nt_core.proofs.Making.{refused_made, unlawful_creation, unknown_bits, created_made, created_as}
 use Rattle.nt_core.proofs.machine.Machine.create_mutex.Goals as goal
 
-pub returns-clause-ok : goal.returns-clause-ok
-returns-clause-ok c =
+pub returns-in_default-clause-made : goal.returns-in_default-clause-made
+returns-in_default-clause-made c =
     let old = c.args.self.now in
+    refused_made old c.args.thread false (Call.Act (Act.CreateMutex c.args.flags)) InvalidParameter c.requires.fresh c.requires.free
+    (unlawful_creation old.handles (only_known mutex_bits c.args.flags) (unknown_bits (only_known mutex_bits c.args.flags) (λ known. c.in_default.ensures.known.1 known)))
+
+pub returns-clause-made : goal.returns-clause-made
+returns-clause-made c =
+    let old = c.args.self.now in
+    let new = c.create.new.self in
+    let o = mutex_of c.args.flags c.args.thread in
     let made = c.new_mutex.ensures in
-    ok_both
-    (λ handle. handle ≡ length old.handles)
-    (c.create.new.self ≡ with_created old c.new_mutex.result c.create.new.self.owned)
-    (λ handle. Accepts old c.create.new.self c.args.thread (Call.Act (Act.CreateMutex c.args.flags)) (Reply.Handle handle))
-    (λ handle is becomes. created_accepted old c.create.new.self c.args.thread (mutex_of c.args.flags c.args.thread) c.create.new.self.owned (Call.Act (Act.CreateMutex c.args.flags)) handle c.requires.fresh c.requires.few
-    (subst IsLawfulObject made.mutex made.lawful) (mutex_no_thread c.args.flags c.args.thread) (mutex_lives c.args.flags c.args.thread) (mutex_undue c.args.flags c.args.thread) refl (λ s. refl) (λ s. refl) is
-    (becomes ∙ ap (λ (o : Object). with_created old o c.create.new.self.owned) made.mutex))
-    c.create.result c.create.ensures.handle c.create.ensures.ok
+    let is_o : c.new_mutex.result ≡ o = made.mutex ∙ ap (λ (flags : ℕ). mutex_of flags c.args.thread) c.in-Some.ensures.value in
+    created_made old new c.args.thread o new.owned (Act.CreateMutex c.args.flags) (only_known mutex_bits c.args.flags) c.create.result c.requires.fresh c.requires.free refl (c.in-Some.ensures.known.0 refl) refl
+    (subst IsLawfulObject is_o made.lawful) (mutex_no_thread c.args.flags c.args.thread) (mutex_lives c.args.flags c.args.thread) (mutex_undue c.args.flags c.args.thread) refl (λ s. refl) (λ s. refl)
+    c.create.ensures.few c.create.ensures.handle (created_as c.create.result old new c.new_mutex.result o is_o c.create.ensures.ok) c.create.ensures.refused c.create.ensures.err
 
 pub create-requires-clause-owner : goal.create-requires-clause-owner
-create-requires-clause-owner c t owns = new_owner c.args.flags c.args.thread t c.args.self.now.threads c.requires.known (subst (λ (o : Object). owned_by o t ≡ true) c.new_mutex.ensures.mutex owns)
+create-requires-clause-owner c t owns = new_owner c.in-Some.flags c.args.thread t c.args.self.now.threads c.requires.known (subst (λ (o : Object). owned_by o t ≡ true) (c.new_mutex.ensures.mutex) owns)

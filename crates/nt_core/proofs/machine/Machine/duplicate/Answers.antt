@@ -1,22 +1,43 @@
-use Rattle.std.proofs.Common.{◌≡◌, ◌++◌, ◌∷◌, [], length, Some, ap, ◌∙◌}
+use Rattle.std.proofs.Common.{◌≡◌, ◌<◌, ℕ, false, length, ◌++◌, ◌∷◌, [], refl, Some, sym, ap, ◌∙◌, subst}
+use Rattle.std.specs.Prelude.{Ok}
 use Rattle.nt_core.specs.declared.call.Act.{Act}
 use Rattle.nt_core.specs.declared.call.Call.{Call}
 use Rattle.nt_core.specs.declared.call.Reply.{Reply}
-use Rattle.nt_core.specs.Dispatcher.{state}
-use Rattle.nt_core.specs.Accepts.{Accepts}
-use Rattle.nt_core.proofs.Accepting.{ok_both}
+use Rattle.nt_core.specs.Naming.{act_named}
+use Rattle.nt_core.specs.Rights.{act_denied}
+use Rattle.nt_core.specs.Accepts.{IsMade}
+use Rattle.nt_objects.specs.Object.{is_gone}
+use Rattle.nt_core.specs.State.{object_at}
+use Rattle.nt_core.proofs.Closing.{named_living}
 use Rattle.nt_core.proofs.Replacing.{duplicate_free, duplicated_accepted}
+use Rattle.nt_core.proofs.Making.{refused_with, unmade_with, accepted_made}
 use Rattle.nt_core.proofs.machine.Machine.duplicate.Goals as goal
 
-pub returns-clause-ok : goal.returns-clause-ok
-returns-clause-ok c =
+pub returns-in_err-object-clause-made : goal.returns-in_err-object-clause-made
+returns-in_err-object-clause-made c t free =
+    let old = c.args.self.now in
+    let act = Act.Duplicate c.args.handle c.args.access in
+    refused_with old t (act_denied old.handles act) (Call.Act (act_named old.handles act)) c.in_err-object.field-0.0 c.from_residual.result c.from_residual.ensures.1 c.requires.fresh free c.in_err-object.ensures
+
+pub returns-in_err-open-clause-made : goal.returns-in_err-open-clause-made
+returns-in_err-open-clause-made c t free =
     let old = c.args.self.now in
     let new = c.open.new.self in
-    let free = duplicate_free (state old) c.args.thread c.args.object c.args.access c.requires.free in
-    ok_both
-    (λ handle. handle ≡ length old.handles)
-    (new ≡ record old { handles = old.handles ++ Some (record { object = c.args.object; access = c.in-Some.access }) ∷ [] })
-    (λ handle. Accepts old new c.args.thread (Call.Act (Act.Duplicate c.args.object c.args.access)) (Reply.Handle handle))
-    (λ handle is becomes. duplicated_accepted old new c.args.thread c.args.object c.args.access handle c.requires.fresh free.2 free.0 (c.requires.living free.0) is
-    (becomes ∙ ap (λ access. record old { handles = old.handles ++ Some (record { object = c.args.object; access = access }) ∷ [] }) c.in-Some.ensures.value))
-    c.open.result c.open.ensures.handle c.open.ensures.ok
+    let act = Act.Duplicate c.args.handle c.args.access in
+    let judged = c.in_ok-object.ensures in
+    subst (λ (h : ℕ). IsMade old new t (act_denied old.handles act) (Call.Act (Act.Duplicate h c.args.access)) c.from_residual-in_err-open.result) judged.0
+    (unmade_with old new t (act_denied old.handles act) (Call.Act (Act.Duplicate c.in_ok-object.object c.args.access)) c.from_residual-in_err-open.result c.from_residual-in_err-open.ensures.1 c.requires.fresh free judged.1 refl c.in_err-open.ensures.err)
+
+pub returns-clause-made : goal.returns-clause-made
+returns-clause-made c t free =
+    let old = c.args.self.now in
+    let new = c.open.new.self in
+    let act = Act.Duplicate c.args.handle c.args.access in
+    let object = c.in_ok-object.object in
+    let judged = c.in_ok-object.ensures in
+    let may = duplicate_free old.handles old.objects (act_denied old.handles act) object c.args.access judged.1 in
+    let living = subst (λ (h : ℕ). h < length old.objects → is_gone (object_at old.objects h) ≡ false) (sym judged.0) (λ known. named_living old c.args.handle c.requires.fresh.steady.sound known) in
+    let accepted = duplicated_accepted old new t object c.args.access c.in_ok-open.field-0 c.requires.fresh may.2 may.0 (living may.0) c.in_ok-open.ensures.handle
+    (c.in_ok-open.ensures.ok ∙ ap (λ (access : ℕ). record old { handles = old.handles ++ Some (record { object = object; access = access }) ∷ [] }) c.in-Some.ensures.value) in
+    subst (λ (h : ℕ). IsMade old new t (act_denied old.handles act) (Call.Act (Act.Duplicate h c.args.access)) (Ok (Reply.Handle c.in_ok-open.field-0))) judged.0
+    (accepted_made old new t (act_denied old.handles act) (Call.Act (Act.Duplicate object c.args.access)) (Reply.Handle c.in_ok-open.field-0) free judged.1 accepted)

@@ -1,18 +1,16 @@
-use Rattle.std.proofs.Common.{◌≡◌, ◌≤◌, ℕ, None, false, length, vec_capacity, arith, sym, ap, ◌∙◌, subst}
+use Rattle.std.proofs.Common.{◌≡◌, ◌≤◌, ℕ, None, false, length, vec_capacity, arith, sym, ap, subst}
 use Rattle.std.specs.FinMap.{get}
 use Rattle.nt_objects.specs.Object.{has_ended}
 use Rattle.nt_core.specs.declared.call.Call.{Call}
-use Rattle.nt_core.specs.declared.call.Act.{Act}
-use Rattle.nt_core.specs.Naming.{act_named, wait_named, call_named}
+use Rattle.nt_core.specs.Calls.{act_creates}
+use Rattle.nt_core.specs.Naming.{wait_named, call_named}
 use Rattle.nt_core.specs.Rights.{wait_denied, is_denied}
 use Rattle.nt_core.specs.State.{State, object_at}
-use Rattle.nt_core.specs.Accepts.{DuplicatesLiving}
-use Rattle.nt_core.specs.Dispatcher.{Dispatcher, state}
+use Rattle.nt_core.specs.Dispatcher.{state}
 use Rattle.nt_core.specs.Steps.{Made}
 use Rattle.nt_core.proofs.Accepting.{free_caller}
-use Rattle.nt_core.proofs.Closing.{duplicates_living}
 use Rattle.nt_core.proofs.Judging.{made_told}
-use Rattle.nt_core.proofs.Lengths.{room_tried, length_wait_change}
+use Rattle.nt_core.proofs.Lengths.{room_tried, length_wait_change, length_made, room_act}
 use Rattle.nt_core.proofs.machine.Machine.make.Goals as goal
 
 pub exit-requires-clause-idle : goal.exit-requires-clause-idle
@@ -44,8 +42,23 @@ returns-in-Wait-clause-room c =
     let before : length d.objects ≤ vec_capacity c.args.changed.now = omega (arith, same, room) in
     room_tried d c.wait.new.self c.new-thread.result (Call.Wait (wait_named d.handles c.in-Wait.wait)) c.wait.result _ c.wait.ensures.ok c.wait.ensures.err (length_wait_change (state d) (wait_named d.handles c.in-Wait.wait)) before
 
-pub judge_act-requires-clause-living : goal.judge_act-requires-clause-living
-judge_act-requires-clause-living c =
+pub act-requires-clause-idle : goal.act-requires-clause-idle
+act-requires-clause-idle c =
     let d = c.tell_anew.new.self in
-    let named : c.name_act-act.result ≡ act_named d.handles c.in-Act.act = c.name_act-act.ensures ∙ ap (λ (x : Dispatcher). act_named x.handles c.in-Act.act) c.self.view_is in
-    subst (λ (act : Act). DuplicatesLiving d.objects act) (sym named) (duplicates_living d c.in-Act.act c.tell_anew.ensures.fresh.steady.sound)
+    let caller = free_caller (state d) c.args.who Call.Exit (c.in_default.ensures.free false Call.Exit) in
+    subst (λ (t : ℕ). get d.table.pending t ≡ None) (sym c.new-thread.ensures) caller.2
+
+pub act-requires-clause-runs : goal.act-requires-clause-runs
+act-requires-clause-runs c =
+    let d = c.tell_anew.new.self in
+    let caller = free_caller (state d) c.args.who Call.Exit (c.in_default.ensures.free false Call.Exit) in
+    subst (λ (t : ℕ). has_ended (object_at d.objects t) ≡ false) (sym c.new-thread.ensures) caller.1
+
+pub returns-in-Act-clause-room : goal.returns-in-Act-clause-room
+returns-in-Act-clause-room c =
+    let d = c.tell_anew.new.self in
+    let new = c.act.new.self in
+    let same : length d.objects ≡ length c.args.self.now.objects = ap (λ (s : State). length s.objects) c.tell_anew.ensures.state in
+    let room = c.requires.room in
+    let before : length d.objects ≤ vec_capacity c.args.changed.now = omega (arith, same, room) in
+    room_act (act_creates c.in-Act.act) (length d.objects) (length new.objects) (vec_capacity c.args.changed.now) (vec_capacity c.act.new.changed) c.act.ensures.room (λ none. length_made d new c.new-thread.result c.in-Act.act c.act.result c.act.ensures.made none) (λ none. ap (λ v. vec_capacity v) (c.act.ensures.rest none)) before

@@ -1,14 +1,14 @@
-use Rattle.std.proofs.Common.{◌≡◌, ℕ, List, length, ap, sym, subst, false, ◌∙◌, [], refl}
+use Rattle.std.proofs.Common.{◌≡◌, ℕ, List, length, ap, false, ◌∙◌, [], refl}
 use Rattle.std.proofs.lemmas.List.{length-replicate}
 use Rattle.std.specs.Prelude.{slice_index_or}
 use Rattle.nt_waits.specs.Waits.{queue_of}
+use Rattle.nt_objects.specs.declared.object.Object.TheVariants.{Thread}
 use Rattle.nt_objects.specs.Handles.{own_handles, full_access}
-use Rattle.nt_core.specs.State.{State, opening}
+use Rattle.nt_core.specs.State.{opening, object_at}
 use Rattle.nt_core.specs.Dispatcher.{state, dispatcher_of}
 use Rattle.nt_core.proofs.Visiting.{state_same}
-use Rattle.nt_core.specs.Living.{LivesWhileKept}
-use Rattle.nt_core.proofs.Accepting.{opening_steady}
-use Rattle.nt_core.proofs.Keepers.{opening_living}
+use Rattle.nt_core.proofs.Accepting.{object_at-replicate, opening_steady}
+use Rattle.nt_core.proofs.Lives.{opening_living}
 use Rattle.nt_core.proofs.machine.Machine.new.Goals as goal
 
 pub returns-clause-steady : goal.returns-clause-steady
@@ -29,6 +29,6 @@ returns-clause-opening c =
 pub returns-clause-living : goal.returns-clause-living
 returns-clause-living c =
     let d = dispatcher_of c.args.threads c.in_ok-handles.handles.opened c.in_ok-objects.objects.items c.in_ok-objects.objects.owned c.new-waits.result c.in_ok-apcs.apcs c.in_ok-handing.handing.items 0 c.in_ok-grants.grants.items c.in_ok-alarms.alarms c.in_ok-leaving.leaving in
-    let handles = c.in_ok-handles.ensures ∙ ap (λ a. own_handles c.args.threads a) (c.full_access.ensures ∙ ap (λ o. full_access o) c.new_thread.ensures) in
-    let queues : (h : ℕ) → queue_of c.new-waits.result h ≡ [] = λ h. ap (λ (qs : List (List ℕ)). slice_index_or qs h []) c.new-waits.ensures.queues in
-    subst (λ (s : State). LivesWhileKept s) (sym (state_same (state d) (opening c.args.threads) refl handles c.in_ok-objects.ensures.items c.new-waits.ensures.pending queues c.in_ok-apcs.ensures.queues c.in_ok-handing.ensures refl)) (opening_living c.args.threads)
+    let running : (o : ℕ) → object_at d.objects o ≡ Thread false = λ o. ap (λ os. object_at os o) c.in_ok-objects.ensures.items ∙ object_at-replicate c.args.threads o in
+    let count : length d.objects ≡ d.threads = ap (λ os. length os) c.in_ok-objects.ensures.items ∙ length-replicate c.args.threads (Thread false) in
+    opening_living d (returns-clause-steady c).sound count running

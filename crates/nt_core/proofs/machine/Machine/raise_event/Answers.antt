@@ -1,40 +1,37 @@
-use Rattle.std.proofs.Common.{◌≡◌, true, false, sym, ap, ◌∙◌, subst}
-use Rattle.nt_objects.specs.declared.object.Object.{Object}
-use Rattle.nt_objects.specs.Object.{with_set, signaled}
+use Rattle.std.proofs.Common.{true, ap}
+use Rattle.nt_objects.specs.Object.{with_set}
 use Rattle.nt_core.specs.State.{object_at}
-use Rattle.nt_core.specs.Dispatcher.{state}
-use Rattle.nt_core.specs.Change.{at}
-use Rattle.nt_core.specs.Lawful.{MayReplace}
-use Rattle.nt_core.specs.Accepts.{IsServedAfter}
+use Rattle.nt_core.specs.Dispatcher.{Dispatcher}
 use Rattle.nt_core.proofs.Changing.{known_event}
-use Rattle.nt_core.proofs.Replacing.{set_may_replace, set_differs, raised_idle}
+use Rattle.nt_core.proofs.Replacing.{set_may_replace}
+use Rattle.nt_core.proofs.Exchanging.{exchanged_alone, exchanged_sound, exchanged_fit, exchanged_needed, exchanged_few, exchanged_served, exchanged_prepared, raised_differs, raised_already}
 use Rattle.nt_core.proofs.machine.Machine.raise_event.Goals as goal
 
-pub object-object-requires : goal.object-object-requires
-object-object-requires c = known_event c.args.self.now.objects c.args.event c.requires.kind
+pub set-requires-clause-known : goal.set-requires-clause-known
+set-requires-clause-known c = known_event c.args.self.now.objects c.args.event c.requires.kind
 
-pub replace-requires-clause-differs : goal.replace-requires-clause-differs
-replace-requires-clause-differs c = λ e.
-    let o = object_at c.args.self.now.objects c.args.event in
-    let becomes : c.set.new.self ≡ with_set true o = c.set.ensures ∙ ap (λ (x : Object). with_set true x) c.object-object.ensures in
-    let unset : signaled o c.args.thread ≡ false = ap (λ (x : Object). signaled x c.args.thread) (sym c.object-object.ensures) ∙ (sym c.signaled_for.ensures ∙ c.if-not-signaled_for.true) in
-    set_differs o c.args.thread c.requires.kind unset (sym becomes ∙ e)
+pub serve_one-requires-clause-sound : goal.serve_one-requires-clause-sound
+serve_one-requires-clause-sound c = exchanged_sound c.args.self.now c.set.new.self c.args.event (with_set true (object_at c.args.self.now.objects c.args.event)) c.requires.fresh (set_may_replace true (object_at c.args.self.now.objects c.args.event) c.requires.kind) (exchanged_alone c.args.self.now c.set.new.self c.args.event (with_set true (object_at c.args.self.now.objects c.args.event)) c.set.ensures.becomes)
 
-pub replace-requires-clause-may : goal.replace-requires-clause-may
-replace-requires-clause-may c =
-    let o = object_at c.args.self.now.objects c.args.event in
-    let becomes : c.set.new.self ≡ with_set true o = c.set.ensures ∙ ap (λ (x : Object). with_set true x) c.object-object.ensures in
-    subst (λ (x : Object). MayReplace o x) (sym becomes) (set_may_replace true o c.requires.kind)
+pub serve_one-requires-clause-local : goal.serve_one-requires-clause-local
+serve_one-requires-clause-local c = exchanged_fit c.args.self.now c.set.new.self c.args.event (with_set true (object_at c.args.self.now.objects c.args.event)) c.requires.fresh (exchanged_alone c.args.self.now c.set.new.self c.args.event (with_set true (object_at c.args.self.now.objects c.args.event)) c.set.ensures.becomes)
 
-pub returns-then-not-signaled_for-clause-served : goal.returns-then-not-signaled_for-clause-served
-returns-then-not-signaled_for-clause-served c =
-    let d = c.args.self.now in
-    let becomes : c.set.new.self ≡ with_set true (object_at d.objects c.args.event) = c.set.ensures ∙ ap (λ (x : Object). with_set true x) c.object-object.ensures in
-    subst (λ (x : Object). IsServedAfter d (at (state d) c.args.event (λ _. x)) c.replace.new.self) becomes c.replace.ensures.served
+pub serve_one-requires-clause-needed : goal.serve_one-requires-clause-needed
+serve_one-requires-clause-needed c = exchanged_needed c.args.self.now c.set.new.self c.args.event (with_set true (object_at c.args.self.now.objects c.args.event)) c.requires.fresh (set_may_replace true (object_at c.args.self.now.objects c.args.event) c.requires.kind) (exchanged_alone c.args.self.now c.set.new.self c.args.event (with_set true (object_at c.args.self.now.objects c.args.event)) c.set.ensures.becomes)
 
-pub returns-else-not-signaled_for-clause-served : goal.returns-else-not-signaled_for-clause-served
-returns-else-not-signaled_for-clause-served c =
-    let d = c.args.self.now in
-    let o = object_at d.objects c.args.event in
-    let was : signaled o c.args.thread ≡ true = ap (λ (x : Object). signaled x c.args.thread) (sym c.object-object.ensures) ∙ (sym c.signaled_for.ensures ∙ c.if-not-signaled_for.false) in
-    raised_idle d c.args.thread c.args.event c.requires.fresh c.requires.kind was
+pub serve_one-requires-clause-countable : goal.serve_one-requires-clause-countable
+serve_one-requires-clause-countable c = exchanged_few c.args.self.now c.set.new.self c.args.event (with_set true (object_at c.args.self.now.objects c.args.event)) c.requires.fresh (exchanged_alone c.args.self.now c.set.new.self c.args.event (with_set true (object_at c.args.self.now.objects c.args.event)) c.set.ensures.becomes)
+
+pub returns-then-set-clause-served : goal.returns-then-set-clause-served
+returns-then-set-clause-served c =
+    exchanged_served c.args.self.now c.set.new.self c.serve_one.new.self c.args.event (with_set true (object_at c.args.self.now.objects c.args.event)) (known_event c.args.self.now.objects c.args.event c.requires.kind) (raised_differs (object_at c.args.self.now.objects c.args.event) c.set.result c.requires.kind (λ t. c.set.ensures.answer t) c.if-set.true) (exchanged_alone c.args.self.now c.set.new.self c.args.event (with_set true (object_at c.args.self.now.objects c.args.event)) c.set.ensures.becomes)
+    c.serve_one.ensures.served c.serve_one.ensures.sound c.serve_one.ensures.most c.serve_one.ensures.least
+
+pub returns-then-set-clause-prepared : goal.returns-then-set-clause-prepared
+returns-then-set-clause-prepared c = exchanged_prepared c.args.self.now c.set.new.self c.serve_one.new.self c.args.event (with_set true (object_at c.args.self.now.objects c.args.event)) (exchanged_alone c.args.self.now c.set.new.self c.args.event (with_set true (object_at c.args.self.now.objects c.args.event)) c.set.ensures.becomes) c.serve_one.ensures.prepared
+
+pub returns-else-set-clause-served : goal.returns-else-set-clause-served
+returns-else-set-clause-served c = raised_already c.args.self.now c.set.new.self c.args.event c.set.result c.requires.kind (λ t. c.set.ensures.answer t) c.if-set.false c.set.ensures.becomes c.requires.fresh
+
+pub returns-else-set-clause-prepared : goal.returns-else-set-clause-prepared
+returns-else-set-clause-prepared c = ap (λ (x : Dispatcher). x.table.prepared) c.set.ensures.becomes

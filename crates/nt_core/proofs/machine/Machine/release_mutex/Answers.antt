@@ -1,24 +1,34 @@
-use Rattle.std.proofs.Common.{◌≡◌, refl, sym, ap, ◌∙◌, subst}
-use Rattle.nt_objects.specs.declared.object.Object.{Object}
-use Rattle.nt_objects.specs.Object.{unlocked, IsLawfulObject}
-use Rattle.nt_core.specs.State.{object_at}
-use Rattle.nt_core.specs.Dispatcher.{state}
-use Rattle.nt_core.specs.Change.{at}
+use Rattle.std.proofs.Common.{ℕ, false, refl, subst}
+use Rattle.std.specs.Prelude.{Ok}
 use Rattle.nt_core.specs.declared.call.Act.{Act}
 use Rattle.nt_core.specs.declared.call.Call.{Call}
 use Rattle.nt_core.specs.declared.call.Reply.{Reply}
-use Rattle.nt_core.specs.Accepts.{IsServedAfter}
-use Rattle.nt_core.proofs.Replacing.{unlocked_may_replace, replaced_accepted}
+use Rattle.nt_core.specs.Naming.{act_named}
+use Rattle.nt_core.specs.Rights.{act_denied}
+use Rattle.nt_core.specs.Accepts.{IsMade}
+use Rattle.nt_objects.specs.Object.{unlocked}
+use Rattle.nt_core.specs.State.{object_at}
+use Rattle.nt_core.proofs.Replacing.{replaced_accepted}
+use Rattle.nt_core.proofs.Exchanging.{may_unlock}
+use Rattle.nt_core.proofs.Making.{refused_with, accepted_made, unlock_free}
 use Rattle.nt_core.proofs.machine.Machine.release_mutex.Goals as goal
+
+pub returns-in_err-mutex : goal.returns-in_err-mutex
+returns-in_err-mutex c =
+    let old = c.args.self.now in
+    let act = Act.ReleaseMutex c.args.mutex in
+    refused_with old c.args.thread (act_denied old.handles act) (Call.Act (act_named old.handles act)) c.in_err-mutex.field-0.0 c.from_residual.result c.from_residual.ensures.1 c.requires.fresh c.requires.free c.in_err-mutex.ensures
+
+pub give_back-requires-clause-owner : goal.give_back-requires-clause-owner
+give_back-requires-clause-owner c = unlock_free c.args.self.now.objects c.args.thread c.in_ok-mutex.mutex c.in_ok-mutex.ensures.1
 
 pub returns : goal.returns
 returns c =
     let old = c.args.self.now in
-    let o = object_at old.objects c.args.mutex in
-    let made = c.in-Ok.ensures in
-    let becomes : c.release_mutex.new.self ≡ unlocked o = made.ok ∙ ap unlocked c.object-object.ensures in
-    let before : IsLawfulObject o = c.requires.fresh.steady.sound.objects c.args.mutex in
-    let lawful : IsLawfulObject (unlocked o) = subst IsLawfulObject becomes (made.lawful (subst IsLawfulObject (sym c.object-object.ensures) before)) in
-    let after : IsServedAfter old (at (state old) c.args.mutex (λ _. unlocked o)) c.replace.new.self = subst (λ (x : Object). IsServedAfter old (at (state old) c.args.mutex (λ _. x)) c.replace.new.self) becomes c.replace.ensures.served in
-    replaced_accepted old c.replace.new.self c.args.thread c.args.mutex (unlocked o) (Call.Act (Act.ReleaseMutex c.args.mutex)) Reply.Done c.requires.fresh
-    (unlocked_may_replace o c.args.thread c.requires.owner before lawful) refl refl refl after
+    let new = c.give_back.new.self in
+    let mutex = c.in_ok-mutex.mutex in
+    let judged = c.in_ok-mutex.ensures in
+    let owner = unlock_free old.objects c.args.thread mutex judged.1 in
+    let accepted = replaced_accepted old new c.args.thread mutex (unlocked (object_at old.objects mutex)) (Call.Act (Act.ReleaseMutex mutex)) Reply.Done c.requires.fresh (may_unlock old mutex c.args.thread c.requires.fresh owner) refl refl refl c.give_back.ensures.served in
+    subst (λ (h : ℕ). IsMade old new c.args.thread false (Call.Act (Act.ReleaseMutex h)) (Ok Reply.Done)) judged.0
+    (accepted_made old new c.args.thread false (Call.Act (Act.ReleaseMutex mutex)) Reply.Done c.requires.free judged.1 accepted)

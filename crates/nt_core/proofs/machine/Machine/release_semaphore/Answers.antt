@@ -1,41 +1,43 @@
-use Rattle.std.proofs.Common.{◌≡◌, refl, sym, ap, ◌∙◌, subst}
-use Rattle.std.specs.Prelude.{ℤ}
-use Rattle.std.proofs.Common.{w32, rules}
-use mir.Val.{to_z, of_z}
-use Rattle.std.proofs.lemmas.Int.{to_z-of_z}
-use Rattle.nt_objects.specs.declared.object.Object.{Object}
-use Rattle.nt_objects.specs.Object.{released, count_of, IsLawfulObject}
-use Rattle.nt_core.specs.State.{object_at}
-use Rattle.nt_core.specs.Dispatcher.{state}
-use Rattle.nt_core.specs.Change.{at}
+use Rattle.std.proofs.Common.{◌≡◌, ℕ, refl, sym, ◌∙◌, subst, w32, rules}
+use Rattle.std.specs.Prelude.{Ok}
 use Rattle.nt_core.specs.declared.call.Act.{Act}
 use Rattle.nt_core.specs.declared.call.Call.{Call}
 use Rattle.nt_core.specs.declared.call.Reply.{Reply}
-use Rattle.nt_core.specs.Lawful.{MayReplace}
-use Rattle.nt_core.specs.Accepts.{IsServedAfter, Accepts}
-use Rattle.nt_core.proofs.Replacing.{released_may_replace, replaced_accepted}
+use Rattle.nt_core.specs.Naming.{act_named}
+use Rattle.nt_core.specs.Rights.{act_denied}
+use Rattle.nt_core.specs.Accepts.{IsMade}
+use Rattle.std.specs.Prelude.{ℤ}
+use mir.Val.{to_z, of_z}
+use Rattle.std.proofs.lemmas.Int.{to_z-of_z}
+use Rattle.nt_objects.specs.Object.{released, count_of}
+use Rattle.nt_core.specs.State.{object_at}
+use Rattle.nt_core.specs.Accepts.{Accepts}
+use Rattle.nt_core.proofs.Replacing.{replaced_accepted}
+use Rattle.nt_core.proofs.Exchanging.{may_count_more}
+use Rattle.nt_core.proofs.Making.{refused_with, accepted_made, release_free}
 use Rattle.nt_core.proofs.machine.Machine.release_semaphore.Goals as goal
 
-pub returns : goal.returns
-returns c =
+pub returns-in_err-semaphore : goal.returns-in_err-semaphore
+returns-in_err-semaphore c t free =
     let old = c.args.self.now in
-    let o = object_at old.objects c.args.semaphore in
-    let made = c.in-Ok.ensures in
-    let count : to_z w32 (of_z w32 c.args.count) ≡ c.args.count = to_z-of_z w32 c.args.count c.ranges.count in
-    let becomes : c.release_semaphore.new.self ≡ released c.args.count o = made.ok ∙ (ap (λ (z : ℤ). released z c.object-object.result) count ∙ ap (λ (x : Object). released c.args.count x) c.object-object.ensures) in
-    let lawful : IsLawfulObject (released c.args.count o) = subst IsLawfulObject becomes (made.lawful (subst IsLawfulObject (sym c.object-object.ensures) (c.requires.fresh.steady.sound.objects c.args.semaphore))) in
-    let after : IsServedAfter old (at (state old) c.args.semaphore (λ _. released c.args.count o)) c.replace.new.self = subst (λ (x : Object). IsServedAfter old (at (state old) c.args.semaphore (λ _. x)) c.replace.new.self) becomes c.replace.ensures.served in
-    let previous : c.in-Ok.previous ≡ count_of o = made.previous ∙ ap count_of c.object-object.ensures in
-    let reading : to_z w32 (of_z w32 c.in-Ok.previous) ≡ c.in-Ok.previous = (let k = c.release_semaphore.type_inv in let m = c.in-Ok.is in to_z-of_z w32 c.in-Ok.previous (search (rules, k))) in
-    subst (λ (z : ℤ). Accepts old c.replace.new.self c.args.thread (Call.Act (Act.ReleaseSemaphore c.args.semaphore c.args.count)) (Reply.Previous z)) (sym (reading ∙ previous))
-    (replaced_accepted old c.replace.new.self c.args.thread c.args.semaphore (released c.args.count o) (Call.Act (Act.ReleaseSemaphore c.args.semaphore c.args.count)) (Reply.Previous (count_of o)) c.requires.fresh
-    (released_may_replace c.args.count o c.requires.kind lawful) refl refl refl after)
+    let counted : to_z w32 (of_z w32 c.args.count) ≡ c.args.count = to_z-of_z w32 c.args.count c.ranges.count in
+    let act = Act.ReleaseSemaphore c.args.semaphore c.args.count in
+    refused_with old t (act_denied old.handles act) (Call.Act (act_named old.handles act)) c.in_err-semaphore.field-0.0 c.from_residual.result c.from_residual.ensures.1 c.requires.fresh free (rw counted at c.in_err-semaphore.ensures)
 
-pub replace-requires-clause-may : goal.replace-requires-clause-may
-replace-requires-clause-may c =
-    let o = object_at c.args.self.now.objects c.args.semaphore in
-    let made = c.in-Ok.ensures in
-    let count : to_z w32 (of_z w32 c.args.count) ≡ c.args.count = to_z-of_z w32 c.args.count c.ranges.count in
-    let becomes : c.release_semaphore.new.self ≡ released c.args.count o = made.ok ∙ (ap (λ (z : ℤ). released z c.object-object.result) count ∙ ap (λ (x : Object). released c.args.count x) c.object-object.ensures) in
-    let lawful : IsLawfulObject (released c.args.count o) = subst IsLawfulObject becomes (made.lawful (subst IsLawfulObject (sym c.object-object.ensures) (c.requires.fresh.steady.sound.objects c.args.semaphore))) in
-    subst (λ (x : Object). MayReplace o x) (sym becomes) (released_may_replace c.args.count o c.requires.kind lawful)
+pub returns : goal.returns
+returns c t free =
+    let old = c.args.self.now in
+    let new = c.raise_count.new.self in
+    let counted : to_z w32 (of_z w32 c.args.count) ≡ c.args.count = to_z-of_z w32 c.args.count c.ranges.count in
+    let act = Act.ReleaseSemaphore c.args.semaphore c.args.count in
+    let semaphore = c.in_ok-semaphore.semaphore in
+    let judged = (rw counted at c.in_ok-semaphore.ensures) in
+    let o = object_at old.objects semaphore in
+    let may = release_free old.objects (act_denied old.handles act) semaphore c.args.count judged.1 in
+    let more = may_count_more old semaphore c.args.count c.requires.fresh may.0 may.1 may.2 in
+    let told = replaced_accepted old new t semaphore (released c.args.count o) (Call.Act (Act.ReleaseSemaphore semaphore c.args.count)) (Reply.Previous (count_of o)) c.requires.fresh more refl refl refl (rw counted at c.raise_count.ensures.served) in
+    let previous : c.raise_count.result ≡ count_of o = c.raise_count.ensures.previous in
+    let reading : to_z w32 (of_z w32 c.raise_count.result) ≡ c.raise_count.result = (let k = c.raise_count.type_inv in to_z-of_z w32 c.raise_count.result (search (rules, k))) in
+    let accepted = subst (λ (z : ℤ). Accepts old new t (Call.Act (Act.ReleaseSemaphore semaphore c.args.count)) (Reply.Previous z)) (sym (reading ∙ previous)) told in
+    subst (λ (h : ℕ). IsMade old new t (act_denied old.handles act) (Call.Act (Act.ReleaseSemaphore h c.args.count)) (Ok (Reply.Previous (to_z w32 (of_z w32 c.raise_count.result))))) judged.0
+    (accepted_made old new t (act_denied old.handles act) (Call.Act (Act.ReleaseSemaphore semaphore c.args.count)) (Reply.Previous (to_z w32 (of_z w32 c.raise_count.result))) free judged.1 accepted)

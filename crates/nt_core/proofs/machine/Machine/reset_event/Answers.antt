@@ -1,13 +1,32 @@
-use Rattle.std.proofs.Common.{sym, subst}
-use Rattle.nt_core.specs.Dispatcher.{Dispatcher}
+use Rattle.std.proofs.Common.{ℕ, sym, subst}
 use Rattle.nt_core.specs.declared.call.Act.{Act}
 use Rattle.nt_core.specs.declared.call.Call.{Call}
 use Rattle.nt_core.specs.declared.call.Reply.{Reply}
+use Rattle.std.specs.Prelude.{Ok}
+use Rattle.nt_core.specs.Naming.{act_named}
+use Rattle.nt_core.specs.Rights.{act_denied}
+use Rattle.nt_core.specs.Accepts.{IsMade}
+use Rattle.nt_objects.specs.Object.{is_event}
+use Rattle.nt_core.specs.Dispatcher.{Dispatcher}
 use Rattle.nt_core.specs.Accepts.{Accepts}
 use Rattle.nt_core.proofs.Replacing.{reset_accepted}
+use Rattle.nt_core.proofs.Making.{refused_with, accepted_made, kind_free}
 use Rattle.nt_core.proofs.machine.Machine.reset_event.Goals as goal
 
+pub returns-in_err-event : goal.returns-in_err-event
+returns-in_err-event c t free =
+    let old = c.args.self.now in
+    let act = Act.ResetEvent c.args.event in
+    refused_with old t (act_denied old.handles act) (Call.Act (act_named old.handles act)) c.in_err-event.field-0.0 c.from_residual.result c.from_residual.ensures.1 c.requires.fresh free c.in_err-event.ensures
+
 pub returns : goal.returns
-returns c =
-    subst (λ (x : Dispatcher). Accepts c.args.self.now x c.args.thread (Call.Act (Act.ResetEvent c.args.event)) Reply.Done) (sym c.unset_event.ensures)
-    (reset_accepted c.args.self.now c.args.thread c.args.event c.requires.fresh c.requires.kind)
+returns c t free =
+    let old = c.args.self.now in
+    let new = c.unset.new.self in
+    let act = Act.ResetEvent c.args.event in
+    let event = c.in_ok-event.event in
+    let judged = c.in_ok-event.ensures in
+    let accepted = subst (λ (d : Dispatcher). Accepts old d t (Call.Act (Act.ResetEvent event)) Reply.Done) (sym c.unset.ensures)
+    (reset_accepted old t event c.requires.fresh (kind_free is_event old.objects (act_denied old.handles (Act.ResetEvent c.args.event)) event judged.1)) in
+    subst (λ (h : ℕ). IsMade old new t (act_denied old.handles act) (Call.Act (Act.ResetEvent h)) (Ok Reply.Done)) judged.0
+    (accepted_made old new t (act_denied old.handles act) (Call.Act (Act.ResetEvent event)) Reply.Done free judged.1 accepted)

@@ -1,5 +1,4 @@
 use Rattle.std.proofs.Common.{ℕ, ◌<◌, ◌+◌, ◌-◌, length, arith, subst, sym, ap, ◌∙◌, refl, Option, Some, ◌≡◌, false, List}
-use Rattle.std.specs.Prelude.{slice_get}
 use Rattle.nt_waits.specs.Waits.{IsMember, next_after}
 use Rattle.nt_core.specs.Dispatcher.{Dispatcher, state}
 use Rattle.nt_core.specs.Serving.{is_ready}
@@ -15,15 +14,14 @@ here c = subst (λ (at : Option ℕ). IsAt c.args.handle c.args.self.now c.loop-
 
 pub loop-next-init : goal.loop-next-init
 loop-next-init c = (
-  at_first c.args.handle c.args.self.now c.first_on-next.result c.requires.sound
-      (c.first_on-next.ensures.first ∙ ap (λ (d : Dispatcher). slice_get ((state d).queues c.args.handle) 0) c.self.view_is),
+  at_first c.args.handle c.args.self.now (Some c.args.first) c.requires.sound (sym c.requires.first),
   refl,
   c.requires.needed,
 )
 
 pub next_on-next-requires : goal.next_on-next-requires
 next_on-next-requires c =
-    subst (λ (d : Dispatcher). IsMember ((state d).queues c.args.handle) c.in-Some.thread) (sym c.self-in-Some.view_is)
+    subst (λ (d : Dispatcher). IsMember ((state d).queues c.args.handle) c.in-Some.thread) (sym c.self.view_is)
     (at_member c.args.handle c.args.self.now c.loop-next.self c.in-Some.thread (here (goal.at.next_on-next-requires c).In-Some))
 
 pub visit-requires-clause-pends : goal.visit-requires-clause-pends
@@ -42,7 +40,18 @@ loop-next-preserved c = (
       (here (goal.at.loop-next-preserved c).In-Some)
       c.visit.ensures.visited
       c.visit.ensures.sound
-      (c.next_on-next.ensures ∙ ap (λ (d : Dispatcher). next_after c.in-Some.thread ((state d).queues c.args.handle)) c.self-in-Some.view_is),
+      (c.next_on-next.ensures ∙ ap (λ (d : Dispatcher). next_after c.in-Some.thread ((state d).queues c.args.handle)) c.self.view_is),
+  c.visit.ensures.prepared ∙ c.loop-next.invariant.1,
+  by_visited c.args.handle c.loop-next.self c.visit.new.self c.in-Some.thread c.visit.ensures.visited c.loop-next.invariant.2,
+)
+
+pub loop-next-preserved-else-not-is_ready : goal.loop-next-preserved-else-not-is_ready
+loop-next-preserved-else-not-is_ready c = (
+  subst (λ (at : Option ℕ). IsAt c.args.handle c.args.self.now c.visit.new.self at) c.in-Some-next.is (at_next c.args.handle c.args.self.now c.loop-next.self c.visit.new.self c.in-Some.thread c.next_on-next.result
+      (here (goal.at.loop-next-preserved-else-not-is_ready c).In-Some)
+      c.visit.ensures.visited
+      c.visit.ensures.sound
+      (c.next_on-next.ensures ∙ ap (λ (d : Dispatcher). next_after c.in-Some.thread ((state d).queues c.args.handle)) c.self.view_is)),
   c.visit.ensures.prepared ∙ c.loop-next.invariant.1,
   by_visited c.args.handle c.loop-next.self c.visit.new.self c.in-Some.thread c.visit.ensures.visited c.loop-next.invariant.2,
 )
@@ -61,7 +70,13 @@ returns-clause-visits c =
 -- nothing that is left fits
 pub returns-then-not-is_ready-clause-visits : goal.returns-then-not-is_ready-clause-visits
 returns-then-not-is_ready-clause-visits c =
-    let unready : is_ready c.loop-next.self.objects c.in-Some.thread c.args.handle ≡ false =
-    ap (λ (d : Dispatcher). is_ready d.objects c.in-Some.thread c.args.handle) (sym c.self-in-Some.view_is)
-    ∙ (ap (λ (os : List Object). is_ready os c.in-Some.thread c.args.handle) (sym c.as_slice.ensures) ∙ (sym c.is_ready.ensures ∙ c.if-not-is_ready.true)) in
-    at_stop c.args.handle c.args.self.now c.loop-next.self c.loop-next.next c.loop-next.invariant.0 (by_none c.args.handle (state c.loop-next.self) c.in-Some.thread c.loop-next.invariant.2 unready)
+    let unready : is_ready c.visit.new.self.objects c.in-Some-next.after c.args.handle ≡ false =
+    ap (λ (d : Dispatcher). is_ready d.objects c.in-Some-next.after c.args.handle) (sym c.self-in-Some.view_is)
+    ∙ (ap (λ (os : List Object). is_ready os c.in-Some-next.after c.args.handle) (sym c.as_slice.ensures) ∙ (sym c.is_ready.ensures ∙ c.if-not-is_ready.true)) in
+    let at = at_next c.args.handle c.args.self.now c.loop-next.self c.visit.new.self c.in-Some.thread c.next_on-next.result
+    (here (goal.at.returns-then-not-is_ready-clause-visits c).In-Some)
+    c.visit.ensures.visited
+    c.visit.ensures.sound
+    (c.next_on-next.ensures ∙ ap (λ (d : Dispatcher). next_after c.in-Some.thread ((state d).queues c.args.handle)) c.self.view_is) in
+    let by = by_visited c.args.handle c.loop-next.self c.visit.new.self c.in-Some.thread c.visit.ensures.visited c.loop-next.invariant.2 in
+    at_stop c.args.handle c.args.self.now c.visit.new.self c.next_on-next.result at (by_none c.args.handle (state c.visit.new.self) c.in-Some-next.after by unready)

@@ -2,13 +2,14 @@ use Rattle.std.proofs.Common.{◌≡◌, ◌+◌, ◌≤◌, ◌<◌, ◌^◌, �
 use Rattle.std.specs.FinMap as map
 use Rattle.std.specs.Vec.{vec_capacity}
 use Rattle.nt_owners.specs.Objects.{Objects}
-use Rattle.nt_waits.specs.declared.wait.Wait.{Wait}
-use Rattle.nt_waits.specs.Waits.{Waits, queue_of, others}
+use Rattle.nt_waits.specs.Waits.{Waits, IsMember, queue_of, others}
 use Rattle.nt_core.specs.Dispatcher.{Dispatcher, dispatcher_of}
 use Rattle.nt_core.specs.Serving.{IsTried, CanTake, wait_for}
 use Rattle.nt_core.specs.Visits.{IsVisited}
-use Rattle.nt_core.specs.Lawful.{IsSound, MarksAgreeBut}
-use Rattle.nt_core.proofs.Visiting.{visit_granted, visit_unmarked, same_wait, visit_passed, can_take, counted, room_for}
+use Rattle.nt_core.specs.Lawful.{IsSound, MarksAgreeBut, LetsGoBut}
+use Rattle.nt_core.proofs.Marking.{member_named}
+use Rattle.nt_core.proofs.LettingGo.{let_go_agree}
+use Rattle.nt_core.proofs.Visiting.{visit_granted, visit_unmarked, visit_passed, can_take, counted, room_for}
 use Rattle.nt_core.proofs.machine.Machine.visit.Goals as goal
 
 pub try_wait-requires-clause-few : goal.try_wait-requires-clause-few
@@ -86,81 +87,75 @@ push_reserved-requires c =
     omega (arith, room, capacity, c.self.inside.grants.ok.0)
 
 pub let_go-requires : goal.let_go-requires
-let_go-requires c =
+let_go-requires c o member =
     let d = dispatcher_of c.self.inside.threads c.self.inside.handles.opened c.self.inside.objects.items c.self.inside.objects.owned c.self.inside.waits c.self.inside.apcs c.self.inside.handing.items c.self.inside.moment c.self.inside.grants.items c.self.inside.alarms c.self.inside.leaving in
     let sound : IsSound d = subst IsSound (sym c.self.view_is) c.requires.sound in
-    let small : d.table.looked + 1 < 2 ^ 64 = subst (λ (x : Dispatcher). x.table.looked + 1 < 2 ^ 64) (sym c.self.view_is) c.requires.countable in
-    let objects = c.try_wait.new.objects.items in
-    let owned = c.try_wait.new.objects.owned in
-    let table = c.end-ended.new.self in
-    let grants = c.push_reserved.new.self.items in
-    let left = c.get.follows.holds-at-none in
-    let handles = c.as_slice-handles.ensures in
-    let tried : IsTried c.self.inside.objects.items c.try_wait.new.objects.items c.args.thread c.in-Some.wait.now (Some c.in-Some-try_wait.status) =
-    (subst (λ (hs : List ℕ). IsTried c.self.inside.objects.items c.try_wait.new.objects.items c.args.thread (wait_for hs c.in-Some.wait.now.all) (Some c.in-Some-try_wait.status)) handles c.in-Some-try_wait.ensures.tried) in
-    let queues : (h : ℕ) → queue_of table h ≡ others c.args.thread (queue_of d.table h) = λ h. c.end-ended.ensures.queues h ∙ ap (λ (v : Waits). others c.args.thread (queue_of v h)) left in
-    let same : c.in-Some.wait.now ≡ c.end-ended.result = same_wait c.in-Some.wait.now c.end-ended.result (c.in-Some.ensures.value ∙ (sym (ap (λ (v : Waits). map.get v.pending c.args.thread) left) ∙ c.end-ended.ensures.wait)) in
-    subst (λ (k : ℕ). MarksAgreeBut c.as_slice.result.now (record d { objects = objects; owned = owned; table = table; handing = set d.handing k false; grants = grants })) (sym c.get-2.ensures)
-    (subst (λ (hs : List ℕ). MarksAgreeBut hs (record d { objects = objects; owned = owned; table = table; handing = set d.handing c.args.thread false; grants = grants })) (ap (λ (w : Wait). w.handles) same ∙ sym c.as_slice.ensures)
-    (visit_unmarked d c.args.thread c.in-Some-try_wait.status c.in-Some.wait.now objects owned table grants sound c.in-Some.ensures.value tried queues))
+    let own = sound.waits c.args.thread c.in-Some.wait.now (sym c.in-Some.ensures.value) in
+    let known = (own.named o (member_named c.in-Some.wait.now o (subst (λ (hs : List ℕ). IsMember hs o) c.as_slice-handles.ensures member))).0 in
+    let count = sound.marks.count in
+    omega (arith, known, count)
 
 pub returns-clause-visited : goal.returns-clause-visited
 returns-clause-visited c =
     let d = dispatcher_of c.self.inside.threads c.self.inside.handles.opened c.self.inside.objects.items c.self.inside.objects.owned c.self.inside.waits c.self.inside.apcs c.self.inside.handing.items c.self.inside.moment c.self.inside.grants.items c.self.inside.alarms c.self.inside.leaving in
     let sound : IsSound d = subst IsSound (sym c.self.view_is) c.requires.sound in
     let small : d.table.looked + 1 < 2 ^ 64 = subst (λ (x : Dispatcher). x.table.looked + 1 < 2 ^ 64) (sym c.self.view_is) c.requires.countable in
+    let wait = c.in-Some.wait.now in
     let objects = c.try_wait.new.objects.items in
     let owned = c.try_wait.new.objects.owned in
-    let table = c.end-ended.new.self in
+    let table = c.end_in_place.new.self in
     let grants = c.push_reserved.new.self.items in
+    let leaving = c.let_go.new.leaving in
     let left = c.get.follows.holds-at-none in
-    let handles = c.as_slice-handles.ensures in
-    let tried : IsTried c.self.inside.objects.items c.try_wait.new.objects.items c.args.thread c.in-Some.wait.now (Some c.in-Some-try_wait.status) =
-    (subst (λ (hs : List ℕ). IsTried c.self.inside.objects.items c.try_wait.new.objects.items c.args.thread (wait_for hs c.in-Some.wait.now.all) (Some c.in-Some-try_wait.status)) handles c.in-Some-try_wait.ensures.tried) in
-    let queues : (h : ℕ) → queue_of table h ≡ others c.args.thread (queue_of d.table h) = λ h. c.end-ended.ensures.queues h ∙ ap (λ (v : Waits). others c.args.thread (queue_of v h)) left in
-    let leaving = c.let_go.new.self.leaving in
-    let is : c.let_go.new.self ≡ record d { objects = objects; owned = owned; table = table; handing = set d.handing c.args.thread false; grants = grants; leaving = leaving } =
-    c.let_go.ensures.rest ∙ ap (λ (k : ℕ). record d { objects = objects; owned = owned; table = table; handing = set d.handing k false; grants = grants; leaving = leaving }) c.get-2.ensures in
-    let result = visit_granted d c.args.thread c.in-Some-try_wait.status c.in-Some.wait.now objects owned table grants leaving sound c.in-Some.ensures.value
+    let tried : IsTried c.self.inside.objects.items objects c.args.thread wait (Some c.in-Some-try_wait.status) =
+    subst (λ (hs : List ℕ). IsTried c.self.inside.objects.items objects c.args.thread (wait_for hs wait.all) (Some c.in-Some-try_wait.status)) c.as_slice-handles.ensures c.in-Some-try_wait.ensures.tried in
+    let queues : (h : ℕ) → queue_of table h ≡ others c.args.thread (queue_of d.table h) = λ h. c.end_in_place.ensures.queues h ∙ ap (λ (v : Waits). others c.args.thread (queue_of v h)) left in
+    let unmarked : MarksAgreeBut wait.handles (record d { objects = objects; owned = owned; table = table; handing = set d.handing c.args.thread false; grants = grants }) =
+    visit_unmarked d c.args.thread c.in-Some-try_wait.status wait objects owned table grants sound c.in-Some.ensures.value tried queues in
+    let lets : LetsGoBut [] d.handles wait.handles d.leaving leaving = subst (λ (hs : List ℕ). LetsGoBut [] d.handles hs d.leaving leaving) c.as_slice-handles.ensures c.let_go.ensures in
+    let new : Dispatcher = record d { objects = objects; owned = owned; table = table; handing = set d.handing c.args.thread false; grants = grants; leaving = leaving } in
+    let result : IsVisited d new c.args.thread × IsSound new = visit_granted d c.args.thread c.in-Some-try_wait.status wait objects owned table grants leaving sound c.in-Some.ensures.value
     tried
-    (c.end-ended.ensures.pending ∙ ap (λ (v : Waits). map.remove v.pending c.args.thread) left)
+    (c.end_in_place.ensures.pending ∙ ap (λ (v : Waits). map.remove v.pending c.args.thread) left)
     queues
-    (c.end-ended.ensures.looked ∙ (ap (λ (v : Waits). v.looked) left ∙ counted d.table.looked small))
-    c.end-ended.ensures.agrees
+    (c.end_in_place.ensures.looked ∙ (ap (λ (v : Waits). v.looked) left ∙ counted d.table.looked small))
+    c.end_in_place.ensures.agrees
     c.push_reserved.ensures.items
-    (subst (λ (x : Dispatcher). MarksAgreeBut [] x) is c.let_go.ensures.marks) in
-    subst (λ (x : Dispatcher). IsVisited c.args.self.now x c.args.thread) (sym is)
-    (subst (λ (x : Dispatcher). IsVisited x (record d { objects = objects; owned = owned; table = table; handing = set d.handing c.args.thread false; grants = grants; leaving = leaving }) c.args.thread) c.self.view_is result.0)
+    (let_go_agree (record d { objects = objects; owned = owned; table = table; handing = set d.handing c.args.thread false; grants = grants }) wait.handles leaving unmarked lets) in
+    subst (λ (k : ℕ). IsVisited c.args.self.now (record d { objects = objects; owned = owned; table = table; handing = set d.handing k false; grants = grants; leaving = leaving }) c.args.thread) (sym c.get-2.ensures)
+    (subst (λ (x : Dispatcher). IsVisited x new c.args.thread) c.self.view_is result.0)
 
 pub returns-clause-sound : goal.returns-clause-sound
 returns-clause-sound c =
     let d = dispatcher_of c.self.inside.threads c.self.inside.handles.opened c.self.inside.objects.items c.self.inside.objects.owned c.self.inside.waits c.self.inside.apcs c.self.inside.handing.items c.self.inside.moment c.self.inside.grants.items c.self.inside.alarms c.self.inside.leaving in
     let sound : IsSound d = subst IsSound (sym c.self.view_is) c.requires.sound in
     let small : d.table.looked + 1 < 2 ^ 64 = subst (λ (x : Dispatcher). x.table.looked + 1 < 2 ^ 64) (sym c.self.view_is) c.requires.countable in
+    let wait = c.in-Some.wait.now in
     let objects = c.try_wait.new.objects.items in
     let owned = c.try_wait.new.objects.owned in
-    let table = c.end-ended.new.self in
+    let table = c.end_in_place.new.self in
     let grants = c.push_reserved.new.self.items in
+    let leaving = c.let_go.new.leaving in
     let left = c.get.follows.holds-at-none in
-    let handles = c.as_slice-handles.ensures in
-    let tried : IsTried c.self.inside.objects.items c.try_wait.new.objects.items c.args.thread c.in-Some.wait.now (Some c.in-Some-try_wait.status) =
-    (subst (λ (hs : List ℕ). IsTried c.self.inside.objects.items c.try_wait.new.objects.items c.args.thread (wait_for hs c.in-Some.wait.now.all) (Some c.in-Some-try_wait.status)) handles c.in-Some-try_wait.ensures.tried) in
-    let queues : (h : ℕ) → queue_of table h ≡ others c.args.thread (queue_of d.table h) = λ h. c.end-ended.ensures.queues h ∙ ap (λ (v : Waits). others c.args.thread (queue_of v h)) left in
-    let leaving = c.let_go.new.self.leaving in
-    let is : c.let_go.new.self ≡ record d { objects = objects; owned = owned; table = table; handing = set d.handing c.args.thread false; grants = grants; leaving = leaving } =
-    c.let_go.ensures.rest ∙ ap (λ (k : ℕ). record d { objects = objects; owned = owned; table = table; handing = set d.handing k false; grants = grants; leaving = leaving }) c.get-2.ensures in
-    let result = visit_granted d c.args.thread c.in-Some-try_wait.status c.in-Some.wait.now objects owned table grants leaving sound c.in-Some.ensures.value
+    let tried : IsTried c.self.inside.objects.items objects c.args.thread wait (Some c.in-Some-try_wait.status) =
+    subst (λ (hs : List ℕ). IsTried c.self.inside.objects.items objects c.args.thread (wait_for hs wait.all) (Some c.in-Some-try_wait.status)) c.as_slice-handles.ensures c.in-Some-try_wait.ensures.tried in
+    let queues : (h : ℕ) → queue_of table h ≡ others c.args.thread (queue_of d.table h) = λ h. c.end_in_place.ensures.queues h ∙ ap (λ (v : Waits). others c.args.thread (queue_of v h)) left in
+    let unmarked : MarksAgreeBut wait.handles (record d { objects = objects; owned = owned; table = table; handing = set d.handing c.args.thread false; grants = grants }) =
+    visit_unmarked d c.args.thread c.in-Some-try_wait.status wait objects owned table grants sound c.in-Some.ensures.value tried queues in
+    let lets : LetsGoBut [] d.handles wait.handles d.leaving leaving = subst (λ (hs : List ℕ). LetsGoBut [] d.handles hs d.leaving leaving) c.as_slice-handles.ensures c.let_go.ensures in
+    let new : Dispatcher = record d { objects = objects; owned = owned; table = table; handing = set d.handing c.args.thread false; grants = grants; leaving = leaving } in
+    let result : IsVisited d new c.args.thread × IsSound new = visit_granted d c.args.thread c.in-Some-try_wait.status wait objects owned table grants leaving sound c.in-Some.ensures.value
     tried
-    (c.end-ended.ensures.pending ∙ ap (λ (v : Waits). map.remove v.pending c.args.thread) left)
+    (c.end_in_place.ensures.pending ∙ ap (λ (v : Waits). map.remove v.pending c.args.thread) left)
     queues
-    (c.end-ended.ensures.looked ∙ (ap (λ (v : Waits). v.looked) left ∙ counted d.table.looked small))
-    c.end-ended.ensures.agrees
+    (c.end_in_place.ensures.looked ∙ (ap (λ (v : Waits). v.looked) left ∙ counted d.table.looked small))
+    c.end_in_place.ensures.agrees
     c.push_reserved.ensures.items
-    (subst (λ (x : Dispatcher). MarksAgreeBut [] x) is c.let_go.ensures.marks) in
-    subst IsSound (sym is) result.1
+    (let_go_agree (record d { objects = objects; owned = owned; table = table; handing = set d.handing c.args.thread false; grants = grants }) wait.handles leaving unmarked lets) in
+    subst (λ (k : ℕ). IsSound (record d { objects = objects; owned = owned; table = table; handing = set d.handing k false; grants = grants; leaving = leaving })) (sym c.get-2.ensures) result.1
 
 pub returns-in_default-try_wait-clause-prepared : goal.returns-in_default-try_wait-clause-prepared
 returns-in_default-try_wait-clause-prepared c = ap (λ (v : Waits). v.prepared) c.get.follows.holds-at-none ∙ ap (λ (x : Dispatcher). x.table.prepared) c.self.view_is
 
 pub returns-clause-prepared : goal.returns-clause-prepared
-returns-clause-prepared c = ap (λ (x : Dispatcher). x.table.prepared) c.let_go.ensures.rest ∙ (c.end-ended.ensures.prepared ∙ (ap (λ (v : Waits). v.prepared) c.get.follows.holds-at-none ∙ ap (λ (x : Dispatcher). x.table.prepared) c.self.view_is))
+returns-clause-prepared c = c.end_in_place.ensures.prepared ∙ (ap (λ (v : Waits). v.prepared) c.get.follows.holds-at-none ∙ ap (λ (x : Dispatcher). x.table.prepared) c.self.view_is)

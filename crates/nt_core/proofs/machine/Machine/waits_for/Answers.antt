@@ -1,5 +1,5 @@
 -- no thread with this number waits, since there is none
-use Rattle.std.proofs.Common.{◌≡◌, ◌≤◌, Option, None, Some, sym, ap, refl, ◌∙◌, arith, false}
+use Rattle.std.proofs.Common.{◌≡◌, ◌≤◌, Option, None, Some, sym, ap, refl, arith, false}
 use Rattle.std.proofs.lemmas.Bool.{false≢true}
 use Rattle.std.specs.Prelude.{is_some}
 use Rattle.std.specs.FinMap as map

@@ -1,19 +1,24 @@
-use Rattle.std.proofs.Common.{sym, ap, ◌∙◌}
+use Rattle.std.proofs.Common.{◌≡◌, [], length, sym, ap, ◌∙◌, arith}
 use Rattle.std.specs.Prelude.{List}
 use Rattle.nt_core.specs.Dispatcher.{state}
 use Rattle.nt_mail.specs.declared.entry.Entry.{Entry}
 use Rattle.nt_mail.specs.Entries.{accepted}
+use Rattle.nt_mail.specs.Seats.{Dispatcher}
 use Rattle.nt_front.proofs.Journals.{stands_at_first, agree_at_first}
 use Rattle.nt_front.proofs.book.Book.new.Goals as goal
 
 pub invariant_of-result : goal.invariant_of-result
-invariant_of-result g c = record {
-  stands = stands_at_first c.args.core c.args.threads c.args.room c.args.journal.items c.requires.core.0 c.requires.core.1 c.requires.journal.0;
-  agree = agree_at_first c.args.threads c.args.journal.items (state c.args.core) c.requires.core.0 c.requires.journal.0;
-  places = c.requires.journal.1;
-  numbers = c.requires.journal.2;
-  seat = c.requires.dispatcher ∙ ap (λ (es : List Entry). record { table = g.N.Named.front.table; written = es; published = accepted es }) (sym c.requires.journal.0);
-  words = c.requires.front.0;
-  threads = c.requires.front.1;
-  room = c.requires.front.2;
-}
+invariant_of-result g c =
+    let none : c.args.dispatcher.written ≡ [] = ap (λ (d : Dispatcher). d.written) c.requires.dispatcher in
+    let unwritten = ap length none in
+    let empty = ap length c.requires.journal.0 in record {
+      stands = stands_at_first c.args.core c.args.base c.args.threads c.args.room c.args.dispatcher.written c.args.journal.items c.requires.core.0 c.requires.core.1 c.requires.base none c.requires.journal.0;
+      agree = agree_at_first c.args.threads c.args.dispatcher.written (state c.args.core) c.requires.core.0 none;
+      places = c.requires.journal.1;
+      next = omega (arith, unwritten, empty);
+      numbers = omega (arith, empty);
+      seat = c.requires.dispatcher ∙ ap (λ (es : List Entry). record { table = g.N.Named.front.table; written = es; published = accepted es }) (sym none);
+      words = c.requires.front.0;
+      threads = c.requires.front.1;
+      room = c.requires.front.2;
+    }

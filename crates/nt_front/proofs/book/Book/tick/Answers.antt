@@ -1,4 +1,4 @@
-use Rattle.std.proofs.Common.{◌≡◌, ◌+◌, ◌-◌, ℕ, List, ◌∷◌, [], ◌++◌, length, rules, arith, subst, sym, ap, ◌∙◌}
+use Rattle.std.proofs.Common.{◌≡◌, ◌+◌, ◌-◌, ℕ, List, ◌∷◌, [], ◌++◌, length, length-append, map, rules, arith, subst, sym, ap, ◌∙◌}
 use Rattle.atomic_table.specs.Seated.{TableId}
 use Rattle.nt_core.specs.declared.call.Grant.{Grant}
 use Rattle.nt_core.specs.State.{pends}
@@ -10,22 +10,22 @@ use Rattle.nt_mail.specs.declared.knowledge.Asked.{Asked}
 use Rattle.nt_mail.specs.declared.knowledge.Knowledge.{Knowledge}
 use Rattle.nt_mail.specs.Entries.{accepted, accepted_if}
 use Rattle.nt_mail.specs.Seats.{Dispatcher, Seated}
-use Rattle.nt_front.specs.Runs.{Agree, AreArmed, entries_of}
+use Rattle.nt_front.specs.Runs.{Agree, AreArmed, entries_of, granted}
 use Rattle.nt_front.specs.Holds.{floor_of, moment_if, with_tick, AreNumbered}
-use Rattle.nt_front.proofs.Journals.{below, stands_after, tick_sends, agree_after_tick, accepted-step, journal_is, last_is}
+use Rattle.nt_front.proofs.Journals.{below, stands_after, tick_sends, agree_after_tick, accepted-step, journal_is, written_count, last_is, room_left}
 use Rattle.nt_front.proofs.Floors.{fewer_calls, floor_ticks, calls_made, numbered_made, made_tick}
 use Rattle.std.specs.Prelude.{max}
 use Rattle.nt_front.proofs.book.Book.tick.Goals as goal
 
 pub overflow_add-caller : goal.overflow_add-caller
 overflow_add-caller g c =
-    let fewer = fewer_calls c.caller.inside.seat.known (c.len-place.result + 1) c.caller.invariant.numbered (omega arith) c.tell.ensures.earlier in
+    let fewer = fewer_calls c.caller.inside.seat.known (c.self.inside.first + c.len-place.result) c.caller.invariant.numbered (omega arith) c.tell.ensures.earlier in
     let count = c.caller.invariant.calls in
     omega (arith, fewer, count)
 
 pub send-requires-clause-armed : goal.send-requires-clause-armed
 send-requires-clause-armed g c =
-    let es = c.self.inside.journal.items in
+    let es = c.self.inside.dispatcher.written in
     let n = c.self.inside.threads in
     let old = state c.self.inside.core in
     let done = c.tick-result.ensures in
@@ -35,12 +35,16 @@ send-requires-clause-armed g c =
     let words = ap (λ (t : TableId). t.words) c.requires.mail in
     let count : c.args.mail.now.words - 1 ≡ n = omega (arith, words, c.self.invariant.words) in
     let known = below c.self.inside.core n c.self.invariant.stands.lawful c.self.invariant.agree.threads in
-    subst (λ (x : ℕ × List Entry × List Grant). AreArmed x.0 x.1 x.2) (λ i. (sym count i, sym c.push_reserved.ensures.items i, sym c.grants.ensures i))
+    let e = Ticked c.thread-by.result c.args.moment c.tick-result.result in
+    let here : c.len-place.result ≡ length c.self.inside.journal.items = search rules in
+    let entry : c.index.result.now ≡ e = last_is c.self.inside.journal.items e c.push_reserved.new.self.items c.len-place.result c.index.result.now c.index.ensures c.push_reserved.ensures.items here in
+    let told : c.tell.new.dispatcher.written ≡ es ++ e ∷ [] = ap (λ (d : Dispatcher). d.written) c.tell.ensures.written ∙ ap (λ (x : Entry). es ++ x ∷ []) entry in
+    subst (λ (x : ℕ × List Entry × List Grant). AreArmed x.0 x.1 x.2) (λ i. (sym count i, sym told i, sym c.grants.ensures i))
     (tick_sends n es old c.thread-by.result c.args.moment c.tick-result.result grants new c.is_waiting-armed.result c.self.invariant.agree known done.waits (done.moves c.thread-by.result) waited)
 
 pub invariant_of-self : goal.invariant_of-self
 invariant_of-self g c =
-    let es = c.self.inside.journal.items in
+    let es = c.self.inside.dispatcher.written in
     let n = c.self.inside.threads in
     let old = state c.self.inside.core in
     let done = c.tick-result.ensures in
@@ -54,25 +58,44 @@ invariant_of-self g c =
     let known = below c.self.inside.core n c.self.invariant.stands.lawful c.self.invariant.agree.threads in
     let turn = Ticks by c.args.moment result grants in
     let e = Ticked by c.args.moment result in
+    let held = c.self.inside.journal.items in
     let next = c.send.new.journal.items in
-    let grown : next ≡ es ++ entries_of turn = journal_is es c.push_reserved.new.self.items next e grants c.grants.result.now c.push_reserved.ensures.items c.send.ensures.journal c.grants.ensures in
-    let sent = c.send.ensures.written ∙ ap (λ (d : Dispatcher). record d { written = next }) (c.tell.ensures.written ∙ ap (λ (d : Dispatcher). record d { written = d.written ++ c.index.result.now ∷ [] }) c.self.invariant.seat) in
+    let grown : next ≡ held ++ entries_of turn = journal_is held c.push_reserved.new.self.items next e grants c.grants.result.now c.push_reserved.ensures.items c.send.ensures.journal c.grants.ensures in
+    let here : c.len-place.result ≡ length held = search rules in
+    let entry : c.index.result.now ≡ e = last_is held e c.push_reserved.new.self.items c.len-place.result c.index.result.now c.index.ensures c.push_reserved.ensures.items here in
+    let told : c.tell.new.dispatcher.written ≡ es ++ e ∷ [] = ap (λ (d : Dispatcher). d.written) c.tell.ensures.written ∙ ap (λ (x : Entry). es ++ x ∷ []) entry in
+    let more = c.send.new.dispatcher.written in
+    let longer : more ≡ es ++ entries_of turn = journal_is es c.tell.new.dispatcher.written more e grants c.grants.result.now told (ap (λ (d : Dispatcher). d.written) c.send.ensures.written) c.grants.ensures in
+    let sent = c.send.ensures.written ∙ ap (λ (d : Dispatcher). record d { written = d.written ++ map granted c.grants.result.now }) (c.tell.ensures.written ∙ ap (λ (d : Dispatcher). record d { written = d.written ++ c.index.result.now ∷ [] }) c.self.invariant.seat) in
     let kept = c.publish.ensures ∙ ap (λ (d : Dispatcher). record d { published = d.published ++ accepted_if c.args.moment result }) sent in
-    let now = ap accepted grown ∙ accepted-step es e grants in record {
-      stands = stands_after c.self.inside.core after es next c.self.inside.room turn c.self.invariant.stands done.lawful moved.threads done.ticked grown;
-      agree = subst (λ l. Agree n l new) (sym grown) (agree_after_tick n es old by c.args.moment result grants new c.is_waiting-armed.result c.self.invariant.agree known done.waits moved done.moment waited);
+    let written = ap (λ (d : Dispatcher). d.written) kept in
+    let last = ap (λ (d : Dispatcher). d.written) c.publish.ensures ∙ longer in
+    let now = ap accepted last ∙ accepted-step es e grants in
+    let one = ap length grown in
+    let two = ap length last in
+    let three = length-append held (entries_of turn) in
+    let four = length-append es (entries_of turn) in
+    let before = c.self.invariant.next in
+    let free = room_left c.len-place.result c.self.inside.room (c.self.inside.first + c.len-place.result) c.pending.result c.is_full.result c.is_full.ensures c.if-is_full.false in
+    let count = written_count held next e grants grown in
+    let place = c.len-place.ensures in
+    let pending = c.pending.ensures in
+    let most = done.few in record {
+      stands = stands_after c.self.inside.core after c.self.inside.base es c.publish.new.dispatcher.written c.self.inside.first held next c.self.inside.room turn c.self.invariant.stands done.lawful moved.threads done.ticked grown last;
+      agree = subst (λ l. Agree n l new) (sym last) (agree_after_tick n es old by c.args.moment result grants new c.is_waiting-armed.result c.self.invariant.agree known done.waits moved done.moment waited);
       threads = c.self.invariant.threads;
       room = c.self.invariant.room;
       places = omega (arith, c.self.invariant.places, c.push_reserved.ensures.capacity, c.send.ensures.capacity);
-      numbers = c.self.invariant.numbers;
-      seat = kept ∙ (λ i. record { table = g.N.Named.front.table; written = next; published = sym now i });
+      next = omega (arith, one, two, three, four, before);
+      numbers = omega (arith, count, free.1, place, pending, most);
+      seat = kept ∙ (λ i. record { table = g.N.Named.front.table; written = sym written i; published = sym now i });
       words = c.self.invariant.words;
     }
 
 pub invariant_of-caller : goal.invariant_of-caller
 invariant_of-caller g c =
     let known = c.caller.inside.seat.known in
-    let number = c.len-place.result + 1 in
+    let number = c.self.inside.first + c.len-place.result in
     let moment = c.args.moment in
     let result = c.tick-result.result in
     let es = c.self.inside.journal.items in

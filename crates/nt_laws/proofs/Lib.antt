@@ -1,0 +1,13 @@
+mod Unique
+mod OneWay
+mod Takes
+mod Acting
+mod Turns
+mod Giving
+mod Owing
+mod Setting
+mod Lasting
+mod CallKinds
+mod Numbers
+mod Standing
+mod Keepers

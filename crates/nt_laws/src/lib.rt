@@ -1,0 +1,40 @@
+//! The laws of the dispatcher: what its definitions come to, said of every run in the subject's own words.
+//!
+//! `nt_core` says what one call and one tick do (`Called`, `Ticked`). A **run** is calls and ticks, each with its result and its
+//! grants, that lead from the opening to a state (`Run`), and a **part** of a run leads from one state to a later one (`Turns`).
+//! What a `Core` was asked and answered since it was new is a run, and so are the calls of a script; the history of a front is a run,
+//! or the last part of one where parts were handed out before. So the laws hold of all of these.
+//!
+//! A **law** is a statement on all runs that follows from the definitions and names no code and no machine. A reader has to believe none:
+//! the definitions are what is believed, and the laws show that they mean what one would expect. What a thread took is read off
+//! what it was told, replies and grants (`takes`), so a law would not hold of a status that tells the wrong object.
+//!
+//! ```text
+//!    the state, and the calls --> what is granted, and to whom      nothing is left to choose
+//!    what was given           --> what was taken                    no more is handed out
+//!    the handles before       --> the handles after                 a number, or a right, never comes back
+//!    what keeps an object     --> what lives                        neither more nor less
+//! ```
+//!
+//! | Law | It says |
+//! |---|---|
+//! | `serves_one_way` | which waits a change ends, with which statuses, is a function of the state and of the queues of what changed |
+//! | `runs_one_way` | results, grants and states are a function of the calls and ticks, and of which calls found no memory |
+//! | `semaphores_give_what_they_have` | a semaphore's count and its takings make up what it was given |
+//! | `one_owner` | a thread holds a mutex as deep as it owes releases of it, and no two threads owe any |
+//! | `one_set_one_wait` | an auto-reset event is taken no more often than it is set |
+//! | `handles_stay` | a handle names one object with the same rights, and nothing once it was closed |
+//! | `rights_never_grow` | a right that no handle of an object has any more never comes back |
+//! | `objects_live_while_kept` | an object lives exactly while a handle, a pending wait or a running thread keeps it |
+//!
+//! A statement is proved only where a contract names it. So each law is the contract of a function that takes nothing and does
+//! nothing: whoever calls it has the law in its own proof, as `nt_replay` and `nt_script` have `runs_one_way`, and pays nothing when
+//! the program runs.
+#![tactic(auto)]
+
+mod laws;
+
+pub use laws::{
+    handles_stay, objects_live_while_kept, one_owner, one_set_one_wait, rights_never_grow,
+    runs_one_way, semaphores_give_what_they_have, serves_one_way,
+};

@@ -1,4 +1,0 @@
-use Rattle.nt_threads.proofs.running.report_of.Given as goal
-
-abbrev pub ghosts-run : goal.ghosts-run
-ghosts-run g a = record { front = a.blank }
