@@ -9,6 +9,7 @@
 #include "nt.h"
 
 #include <errno.h>
+#include <limits.h>
 #include <linux/futex.h>
 #include <pthread.h>
 #include <sched.h>
@@ -31,6 +32,9 @@
 enum {
     NO_HANDLE = 0xFFFFFF, /* a number that no handle has */
     MOST_LOOKS = 40,      /* at a word, before sleeping: as long as falling asleep and waking take */
+    WAITS_PER_TRY = 1024, /* of so many waits, those of all threads, */
+    TRIES = 4,            /* so many try again whether looks help, one after another, so that peers try together, */
+    TIMES_OF_A_TRY = 8,   /* and look so much longer, since the peer may have to be woken first */
     MOMENTS_PER_SECOND = 10000000,
     NANOSECONDS_PER_MOMENT = 100
 };
@@ -59,6 +63,7 @@ struct seat {
     LPVOID parameter;
     pthread_t thread;        /* where CreateThread made it */
     struct seat *left_next;  /* under the lock: who left before it and is not joined */
+    uint32_t looks;          /* how often it looks at its word before it sleeps: 0 where that was in vain of late */
     uint32_t wakes;          /* how many threads its call has told something while they slept: it wakes them, */
     uint32_t woken[NT_MAXIMUM_THREADS]; /* once the lock is given back */
 };
@@ -75,10 +80,11 @@ static struct nt DISPATCHER;
 static struct seat SEATS[NT_MAXIMUM_THREADS];
 static uint32_t SEATED;
 static struct seat *LEFT; /* threads of CreateThread that have left and are not joined */
-static uint32_t HANDED; /* the first number that was not handed out yet */
 
-static _Thread_local struct seat *SEAT;
-static _Thread_local DWORD LAST_ERROR;
+/* A thread finds its own with no call, also where this is a shared library. */
+#define HERE __attribute__((tls_model("initial-exec")))
+static _Thread_local struct seat *SEAT HERE;
+static _Thread_local DWORD LAST_ERROR HERE;
 
 /* ---- Words that threads sleep on. */
 
@@ -251,6 +257,7 @@ void GetSystemTimeAsFileTime(LPFILETIME now)
 
 /* Under the lock. */
 static struct seat *SLEEPERS;    /* those whose waits pend, the last to begin first */
+static uint32_t BEGUN;           /* how many waits have begun to pend */
 static struct seat *KEEPER;      /* the one of them that keeps the time, */
 static uint64_t KEPT_TO = NEVER; /* to this moment; 0 while it is awake, and NEVER where nobody does */
 static bool TIMED;               /* a call has named a time since nothing was due */
@@ -320,19 +327,21 @@ __attribute__((noinline)) static void have_time_kept(struct seat *caller)
     tell(caller, KEEPER, IS_CALLED);
 }
 
-/* The same as `note`, where there is one: it is in the caller's seat. */
+/* The same as `note`, where there is one: it is in the caller's seat. The keeper may be among them. */
 __attribute__((noinline)) static void note_all(struct seat *caller)
 {
     size_t index = 0;
     do
         wake_up(caller, &SEATS[caller->grant.thread], caller->grant.status);
     while (nt_grant(&DISPATCHER, ++index, &caller->grant) == 0);
+    have_time_kept(caller);
 }
 
-/* Tells, under the lock, those whose waits the last call or tick ended. No thread's wait ends twice before the lock is given back. */
+/* Tells, under the lock, those whose waits the last call or tick ended: none where none pends. No thread's wait ends twice before the
+ * lock is given back. */
 static inline void note(struct seat *caller)
 {
-    if (nt_grant(&DISPATCHER, 0, &caller->grant) == 0)
+    if (SLEEPERS != NULL && nt_grant(&DISPATCHER, 0, &caller->grant) == 0)
         note_all(caller);
 }
 
@@ -363,8 +372,6 @@ __attribute__((noinline)) static void wake_all(struct seat *caller)
 /* Gives the lock back, and wakes whom the call told something. */
 static inline void unlock_and_wake(struct seat *caller)
 {
-    if (TIMED && KEEPER == NULL)
-        have_time_kept(caller);
     give_lock();
     if (caller->wakes > 0)
         wake_all(caller);
@@ -389,23 +396,28 @@ static uint64_t time_to_keep(const struct seat *seat)
     return KEPT_TO;
 }
 
-/* Looks at the caller's word so many times, and then sleeps to this moment at the longest, until the caller is told something. Answers
- * whether its wait was granted. */
-static bool sleep_to(struct seat *seat, uint64_t moment, uint32_t looks)
+/* Looks at the caller's word so often, before it sleeps; the next time half as often where it was in vain. */
+static void look(struct seat *seat, uint32_t looks)
+{
+    for (uint32_t i = 0; i < looks; i++) {
+        if (atomic_load_explicit(&seat->word, memory_order_acquire) != IS_AWAKE) {
+            seat->looks = LOOKS;
+            return;
+        }
+        rest();
+    }
+    seat->looks /= 2;
+}
+
+/* Sleeps to this moment at the longest, until the caller is told something. Answers whether its wait was granted. */
+static bool sleep_to(struct seat *seat, uint64_t moment)
 {
     const uint64_t time = START + moment;
     const struct timespec until = {
         .tv_sec = (time_t)(time / MOMENTS_PER_SECOND),
         .tv_nsec = (long)(time % MOMENTS_PER_SECOND) * NANOSECONDS_PER_MOMENT,
     };
-    uint32_t seen;
-    for (uint32_t i = 0; i < looks; i++) {
-        seen = atomic_load_explicit(&seat->word, memory_order_acquire);
-        if (seen != IS_AWAKE)
-            return seen == IS_GRANTED;
-        rest();
-    }
-    seen = IS_AWAKE;
+    uint32_t seen = IS_AWAKE;
     if (atomic_compare_exchange_strong_explicit(&seat->word, &seen, IS_ASLEEP, memory_order_acquire, memory_order_acquire))
         do {
             if (moment != NEVER && present() >= moment)
@@ -437,14 +449,12 @@ static uint64_t keep_time(struct seat *seat)
 __attribute__((noinline)) static DWORD sleep_until_granted(struct seat *seat)
 {
     fall_asleep(seat);
-    /* Where more waits pend, the processor may be wanted by who ends this one. */
-    uint32_t looks = seat->earlier == NULL ? LOOKS : 0;
+    const uint32_t looks = BEGUN++ % WAITS_PER_TRY < TRIES ? LOOKS * TIMES_OF_A_TRY : seat->looks;
     uint64_t moment = time_to_keep(seat);
     unlock_and_wake(seat);
-    while (!sleep_to(seat, moment, looks)) {
+    look(seat, looks);
+    while (!sleep_to(seat, moment))
         moment = keep_time(seat);
-        looks = 0;
-    }
     return seat->status;
 }
 
@@ -457,6 +467,7 @@ static struct seat *take_seat(void)
         return NULL;
     struct seat *seat = &SEATS[SEATED];
     seat->number = SEATED++;
+    seat->looks = LOOKS;
     return seat;
 }
 
@@ -570,13 +581,6 @@ static HANDLE handle_of(uint32_t number)
     return (HANDLE)(((uintptr_t)number + 1) * 4);
 }
 
-/* Hands out, under the lock, the number that a call answered. Numbers rise by one. */
-static void hand_out(uint32_t refused, const struct nt_reply *reply)
-{
-    if (refused == 0)
-        HANDED = reply->number + 1;
-}
-
 /* From now on, under the lock, the handle with this number names nothing. It is refused only where it named nothing before. */
 static uint32_t close_number(uint32_t caller, uint32_t number)
 {
@@ -584,15 +588,14 @@ static uint32_t close_number(uint32_t caller, uint32_t number)
     return nt_close_handle(&DISPATCHER, caller, number, &reply);
 }
 
-/* The number of a handle, under the lock; NO_HANDLE where it was never handed out. */
+/* The number of a handle; NO_HANDLE where that is none. (What is no multiple of 4 is turned to a number that no handle has.) */
 static inline uint32_t number_of(const struct seat *caller, HANDLE handle)
 {
     const uintptr_t value = (uintptr_t)handle;
-    if (handle == CURRENT_THREAD)
-        return caller->number;
-    if (value % 4 != 0 || value / 4 <= NT_MAXIMUM_THREADS || value / 4 > HANDED)
-        return NO_HANDLE;
-    return (uint32_t)(value / 4 - 1);
+    const uintptr_t number = (value >> 2 | value << (sizeof value * CHAR_BIT - 2)) - 1;
+    if (number - NT_MAXIMUM_THREADS < NT_MAXIMUM_HANDLES - NT_MAXIMUM_THREADS)
+        return (uint32_t)number;
+    return handle == CURRENT_THREAD ? caller->number : NO_HANDLE;
 }
 
 /* ---- A call: the caller joins and takes the lock, makes the call, and gives the lock back. */
@@ -627,7 +630,6 @@ static HANDLE finish_creation(struct seat *seat, uint32_t refused, struct nt_rep
         refused = nt_duplicate(&DISPATCHER, seat->number, first, rights, reply);
         close_number(seat->number, first);
     }
-    hand_out(refused, reply);
     if (!finish(seat, refused))
         return NULL;
     LAST_ERROR = ERROR_SUCCESS;
@@ -969,7 +971,7 @@ DWORD WaitForSingleObjectEx(HANDLE object, DWORD ms, BOOL alertable)
         return WAIT_FAILED;
     const uint32_t number = number_of(seat, object);
     begin_timed(seat, ms);
-    return finish_wait(seat, nt_wait(&DISPATCHER, seat->number, &number, 1, false, ms, alertable != FALSE, &seat->reply));
+    return finish_wait(seat, nt_wait_object(&DISPATCHER, seat->number, number, ms, alertable != FALSE, &seat->reply));
 }
 
 DWORD WaitForSingleObject(HANDLE object, DWORD ms)
@@ -1012,10 +1014,7 @@ static uint32_t seat_thread(const struct seat *caller, struct seat **seat, struc
     *seat = take_seat();
     if (*seat == NULL)
         return ERROR_NO_SYSTEM_RESOURCES;
-    const uint32_t refused
-        = nt_duplicate(&DISPATCHER, caller->number, (*seat)->number, SYNCHRONIZE | THREAD_SET_CONTEXT, reply);
-    hand_out(refused, reply);
-    return refused;
+    return nt_duplicate(&DISPATCHER, caller->number, (*seat)->number, SYNCHRONIZE | THREAD_SET_CONTEXT, reply);
 }
 
 HANDLE CreateThread(LPSECURITY_ATTRIBUTES attributes, SIZE_T stack, LPTHREAD_START_ROUTINE start, LPVOID parameter, DWORD flags,
@@ -1123,7 +1122,6 @@ BOOL DuplicateHandle(HANDLE from, HANDLE handle, HANDLE to, LPHANDLE duplicate, 
                                      : nt_duplicate(&DISPATCHER, caller, number, access & known, &reply);
     if (refused == 0 && (options & DUPLICATE_CLOSE_SOURCE) != 0 && handle != CURRENT_THREAD)
         close_number(caller, number);
-    hand_out(refused, &reply);
     if (!finish(seat, refused))
         return FALSE;
     if (duplicate != NULL)

@@ -83,6 +83,7 @@ static void without_dispatcher(void)
     REFUSED(nt_close_handle(&nt, 0, 0, &reply), 6);
     REFUSED(nt_exit(&nt, 0, &reply), 6);
     REFUSED(nt_wait(&nt, 0, &handle, 1, false, 0, false, &reply), 6);
+    REFUSED(nt_wait_object(&nt, 0, handle, 0, false, &reply), 6);
     REFUSED(nt_sleep(&nt, 0, 0, false, &reply), 6);
     REFUSED(nt_swap(&nt, 0, 0, 0, 0, false, &reply), 6);
     IS(nt_tick(&nt, 0), 6);
@@ -145,7 +146,7 @@ static void events(void)
     size_t waits = 99;
     bool waiting = false;
     TELLS(nt_wait(&nt, 0, &event, 1, false, NT_INFINITE, false, &reply), NT_PENDED, 0);
-    TELLS(nt_wait(&nt, 1, &event, 1, false, NT_INFINITE, false, &reply), NT_PENDED, 0);
+    TELLS(nt_wait_object(&nt, 1, event, NT_INFINITE, false, &reply), NT_PENDED, 0);
     IS(nt_pending(&nt, &waits), 0);
     IS(waits, 2);
     IS(nt_is_waiting(&nt, 0, &waiting), 0);
@@ -163,6 +164,8 @@ static void events(void)
     GRANTS(0, 1, NT_WAIT_OBJECT_0);
     NO_GRANT(1);
     TELLS(nt_wait(&nt, 0, &event, 1, false, 0, false, &reply), NT_STATUS, NT_WAIT_TIMEOUT);
+    TELLS(nt_wait_object(&nt, 0, event, 0, false, &reply), NT_STATUS, NT_WAIT_TIMEOUT);
+    TELLS(nt_wait_object(&nt, 0, 5, 0, false, &reply), NT_STATUS, NT_WAIT_OBJECT_0);
     TELLS(nt_reset_event(&nt, 0, 5, &reply), NT_DONE, 0);
     REFUSED(nt_set_event(&nt, 0, 6, &reply), 6);
     REFUSED(nt_reset_event(&nt, 0, 6, &reply), 6);
@@ -231,6 +234,8 @@ static void lists_of_handles(void)
     REFUSED(nt_wait(&nt, 0, handles, SIZE_MAX, false, 0, false, &reply), 87);
     REFUSED(nt_wait(&nt, 0, handles, 2, true, 0, false, &reply), 87);
     REFUSED(nt_wait(&nt, 0, &unknown, 1, false, 0, false, &reply), 6);
+    REFUSED(nt_wait_object(&nt, 0, unknown, 0, false, &reply), 6);
+    REFUSED(nt_wait_object(&nt, 4, unknown, 0, false, &reply), NT_ERROR_UNKNOWN_THREAD);
     REFUSED(nt_wait(&nt, 4, NULL, 0, false, 0, false, &reply), NT_ERROR_UNKNOWN_THREAD);
 }
 
@@ -322,6 +327,7 @@ static void apcs_and_rights(void)
     REFUSED(nt_duplicate(&nt, 0, 11, 0, &reply), 6);
     REFUSED(nt_set_event(&nt, 0, rightless, &reply), 5);
     REFUSED(nt_wait(&nt, 0, &rightless, 1, false, 0, false, &reply), 5);
+    REFUSED(nt_wait_object(&nt, 0, rightless, 0, false, &reply), 5);
     TELLS(nt_close_handle(&nt, 0, rightless, &reply), NT_DONE, 0);
     REFUSED(nt_close_handle(&nt, 0, rightless, &reply), 6);
     REFUSED(nt_set_event(&nt, 0, rightless, &reply), 6);

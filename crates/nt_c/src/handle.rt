@@ -15,6 +15,7 @@ pub struct Nt {
 
 impl Nt {
     /// Makes the call of this thread.
+    #[inline(always)]
     pub(crate) fn ask(&mut self, who: u32, call: &Call) -> Result<Reply, Refusal>
         requires fit { IsFit self.old }
         ensures fit { IsFit self.new }

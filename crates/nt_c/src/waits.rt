@@ -1,4 +1,5 @@
 //! Waits.
+ghost use Rattle.std.specs.Prelude.{◌∷◌, [], false};
 ghost use Rattle.nt_core.specs.declared.call.WaitCall.{WaitCall};
 ghost use Rattle.nt_c.specs.Asks.{IsFit, WaitsWith, WaitsForObjects};
 
@@ -6,7 +7,8 @@ use crate::handle::Nt;
 use crate::numbers::NO_DISPATCHER;
 use crate::reply::{NtReply, tell};
 use nt_core::{Call, WaitCall};
-use nt_status::Handle;
+use nt_status::{Handle, Handles};
+use std::alloc::Global;
 
 /// WaitForMultipleObjectsEx: for any of the objects, or for all. The timeout is in milliseconds, 0xFFFFFFFF for INFINITE.
 #[unsafe(no_mangle)]
@@ -28,6 +30,30 @@ pub extern "C" fn nt_wait_objects(
     }
     let driver = nt.cell.driver_mut();
     tell(driver.wait_objects(who, handles, all, alertable, ms), out)
+}
+
+/// WaitForSingleObjectEx. The timeout is in milliseconds, 0xFFFFFFFF for INFINITE.
+#[unsafe(no_mangle)]
+pub extern "C" fn nt_wait_object(
+    alloc: Global,
+    nt: &mut Nt,
+    who: u32,
+    handle: u32,
+    ms: u32,
+    alertable: bool,
+    out: &mut NtReply,
+) -> u32
+    requires fit { IsFit nt.old }
+    ensures fit { IsFit nt.new }
+    ensures answers { WaitsForObjects nt.old who (WaitCall.Objects false alertable ms (handle ∷ [])) result out.old out.new nt.new }
+{
+    let wait = WaitCall::Objects {
+        handles: Handles::from_one(alloc, Handle::new(handle)),
+        all: false,
+        ms,
+        alertable,
+    };
+    tell(nt.ask(who, &Call::Wait(wait)), out)
 }
 
 /// SleepEx. The interval is in milliseconds, 0xFFFFFFFF for INFINITE.

@@ -1,5 +1,6 @@
 -- A flush keeps what a run wrote, and is counted where it fails.
-use Rattle.std.proofs.Common.{◌≡◌, ◌<◌, ◌+◌, ◌-◌, ◌^◌, ◌∙◌, ℕ, Bool, true, false, List, Option, ◌++◌, Result, Ok, Err, inl, inr, refl, ap, arith}
+use Rattle.std.proofs.Common.{◌≡◌, ◌<◌, ◌+◌, ◌-◌, ◌^◌, ◌∙◌, ℕ, Bool, true, false, List, Option, ◌++◌, Result, Ok, Err, inl, inr, refl, ap, sym, subst, arith}
+use Rattle.std.specs.Prelude.{IfOk, IfErr}
 use Rattle.std.specs.Io.KnownBytes.{Keeps}
 use Rattle.std.proofs.KnownBytes.{Appends-kept}
 use Rattle.nt_devices.specs.Device.{Counts, HandsOn, one_more}
@@ -47,16 +48,26 @@ flushed written mid written' handed (Err e) room same counts hands = inr (counts
 
 -- ---- what is answered
 
-pub done : (left left' held mid held' : Option (List ℕ)) (read read' written before written' : ℕ) (handed : Bool) (summary : Summary)
+done : (left left' held mid held' : Option (List ℕ)) (read read' written before written' : ℕ) (handed : Bool) (summary : Summary)
     → Answers left left' held mid (Ok summary) → CountsFailures read read' written before (Ok summary) → Keeps mid held' → written' ≡ before → handed ≡ true
     → Outcome left left' held held' written written' handed (Ok summary) × CountsReads read read' (Ok summary)
 done left left' held mid held' read read' written before written' handed summary answers counts kept same hands = ((still_done left left' held mid held' summary answers kept, same ∙ counts.1, hands), counts.0)
 
-pub not_handed_on : (left left' held mid held' : Option (List ℕ)) (read read' written before written' : ℕ) (handed : Bool) (summary : Summary) (line : ℕ) → written < 2 ^ 64 - 1
+not_handed_on : (left left' held mid held' : Option (List ℕ)) (read read' written before written' : ℕ) (handed : Bool) (summary : Summary) (line : ℕ) → written < 2 ^ 64 - 1
     → Answers left left' held mid (Ok summary) → CountsFailures read read' written before (Ok summary) → Keeps mid held' → written' ≡ one_more before → handed ≡ false → line ≡ summary.lines + 1
     → Outcome left left' held held' written written' handed (Err (Write line)) × CountsReads read read' (Err (Write line))
 not_handed_on left left' held mid held' read read' written before written' handed summary line room answers counts kept more hands is =
     ((more ∙ ap one_more counts.1 ∙ one_more_is written room, inr (summary, still_done left left' held mid held' summary answers kept, is, hands)), counts.0)
+
+pub ended : (left left' held mid held' : Option (List ℕ)) (read read' written before written' : ℕ) (handed : Bool) (summary : Summary) (result : Result Summary RunFault) → written < 2 ^ 64 - 1
+    → Answers left left' held mid (Ok summary) → CountsFailures read read' written before (Ok summary) → Keeps mid held'
+    → IfOk result (λ told. (told ≡ summary) × (written' ≡ before) × (handed ≡ true)) → IfErr result (λ fault. (fault ≡ Write (summary.lines + 1)) × (written' ≡ one_more before) × (handed ≡ false))
+    → Outcome left left' held held' written written' handed result × CountsReads read read' result
+ended left left' held mid held' read read' written before written' handed summary (Ok told) room answers counts kept ok err =
+    subst (λ s. Outcome left left' held held' written written' handed (Ok s) × CountsReads read read' (Ok s)) (sym ok.0) (done left left' held mid held' read read' written before written' handed summary answers counts kept ok.1 ok.2)
+ended left left' held mid held' read read' written before written' handed summary (Err fault) room answers counts kept ok err =
+    subst (λ f. Outcome left left' held held' written written' handed (Err f) × CountsReads read read' (Err f)) (sym err.0)
+    (not_handed_on left left' held mid held' read read' written before written' handed summary (summary.lines + 1) room answers counts kept err.1 err.2 refl)
 
 pub write_failed : (left left' held held' : Option (List ℕ)) (read read' written written' : ℕ) (handed : Bool) (line : ℕ) → Answers left left' held held' (Err (Write line)) → CountsFailures {X = Summary} read read' written written' (Err (Write line))
     → Outcome left left' held held' written written' handed (Err (Write line)) × CountsReads read read' (Err (Write line))

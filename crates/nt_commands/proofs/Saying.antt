@@ -1,11 +1,13 @@
 -- Pieces that are written one after another.
-use Rattle.std.proofs.Common.{◌≡◌, ℕ, ◌+◌, ◌<◌, ◌∙◌, ap, sym, subst, arith, inl, inr, List, [], ◌∷◌, ◌++◌, length, take, length-append, zero-add, suc, Option, Result, Ok, Err, append_assoc, codes}
+use Rattle.std.proofs.Common.{◌≡◌, ◌⊎◌, ℕ, Bool, ◌+◌, ◌<◌, ◌∙◌, ap, sym, subst, arith, inl, inr, List, [], ◌∷◌, ◌++◌, length, take, length-append, zero-add, suc, Option, Result, Ok, Err, append_assoc, codes}
 use Rattle.std.specs.Fmt.{decimal}
 use Rattle.std.specs.Io.KnownBytes.{Appends}
 use Rattle.std.proofs.KnownBytes.{Appends-trans}
 use Rattle.std.proofs.lemmas.List.{take-append-le}
 use Rattle.nt_devices.specs.Device.{AppendsPart, Writes, one_more}
+use Rattle.nt_threads.specs.Reports.{IsReport}
 use Rattle.nt_commands.specs.Ending.{Says, message_of}
+use Rattle.nt_commands.specs.Telling.{EndsWell, EndsUnwritten, EndsSilent, TellsLines}
 use Rattle.nt_script.specs.Message.{line_number, reason_of}
 use Rattle.nt_script.specs.declared.fault.RunFault.{RunFault}
 
@@ -46,3 +48,11 @@ message_pieces fault line reason p q =
     ap (λ (n : ℕ). (codes "ntrun: line " ++ decimal n) ++ (codes ": " ++ (reason ++ (10 ∷ [])))) p
     ∙ ap (λ (r : List ℕ). (codes "ntrun: line " ++ decimal (line_number fault)) ++ (codes ": " ++ (r ++ (10 ∷ [])))) q
     ∙ ap (λ (l : List ℕ). codes "ntrun: line " ++ l) (sym (append_assoc (decimal (line_number fault)) (codes ": " ++ reason_of fault) (10 ∷ [])))
+
+-- the lines of a run were handed on, or they were not
+pub told : (workers rounds : ℕ) (lines : List ℕ) (held held' : Option (List ℕ)) (written written' : ℕ) (handed : Bool) (shown shown' : Option (List ℕ)) (failed failed' status : ℕ)
+    → IsReport workers rounds lines → TellsLines lines held held' written written' handed shown shown' failed failed' status
+    → EndsWell workers rounds held held' written written' handed shown shown' failed failed' status
+    ⊎ (EndsUnwritten workers rounds held held' written written' shown shown' failed failed' status ⊎ EndsSilent workers rounds held held' written written' shown shown' failed failed' status)
+told workers rounds lines held held' written written' handed shown shown' failed failed' status report (inl is) = inl ((lines, report, is.0), is.1, is.2, is.3, is.4, is.5)
+told workers rounds lines held held' written written' handed shown shown' failed failed' status report (inr is) = inr (inl ((lines, report, is.0), is.1, is.2, is.3))

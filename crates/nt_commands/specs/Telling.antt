@@ -15,6 +15,13 @@ abbrev pub Hands : {X E : Type 0} → (held held' : Option (List ℕ)) → (writ
 Hands held held' written written' handed bytes (Ok x) = Appends held held' bytes × (written' ≡ written) × (handed ≡ true)
 Hands held held' written written' handed bytes (Err e) = (AppendsPart held held' bytes ⊎ Appends held held' bytes) × (written' ≡ one_more written)
 
+-- These lines were handed on, and nothing was said; or they were not, and that is said.
+abbrev pub TellsLines : List ℕ → (held held' : Option (List ℕ)) → (written written' : ℕ) → Bool → (shown shown' : Option (List ℕ)) → (failed failed' status : ℕ) → Type 0
+TellsLines lines held held' written written' handed shown shown' failed failed' status =
+    (Appends held held' lines × (written' ≡ written) × (handed ≡ true) × Keeps shown shown' × (failed' ≡ failed) × (status ≡ 0))
+    ⊎ ((AppendsPart held held' lines ⊎ Appends held held' lines)
+    × (written' ≡ one_more written) × Says shown shown' failed failed' (with_feed (codes "ntrun: write failed")) × (status ≡ 1))
+
 -- The lines of a run were handed on, and nothing was said.
 abbrev pub EndsWell : (workers rounds : ℕ) → (held held' : Option (List ℕ)) → (written written' : ℕ) → Bool → (shown shown' : Option (List ℕ)) → (failed failed' status : ℕ) → Type 0
 EndsWell workers rounds held held' written written' handed shown shown' failed failed' status =

@@ -1,7 +1,10 @@
 //! Running a script between a reader and two writers.
 
-ghost use Rattle.std.specs.Prelude.{◌≡◌, ◌-◌, ◌<◌, ◌^◌, Err};
-ghost use Rattle.nt_commands.specs.Ending.{CountsReads, FileEnds, Outcome, ScriptEnds, status_of};
+ghost use Rattle.std.specs.Prelude.{◌≡◌, ◌-◌, ◌+◌, ◌<◌, ◌^◌, true, false, Err, IfOk, IfErr};
+ghost use Rattle.std.specs.Io.KnownBytes.{Keeps};
+ghost use Rattle.nt_devices.specs.Device.{one_more};
+ghost use Rattle.nt_script.specs.declared.fault.RunFault.TheVariants.{Write};
+ghost use Rattle.nt_commands.specs.Ending.{CountsReads, FileEnds, IsFlushed, Outcome, ScriptEnds, status_of};
 
 use crate::errors::{say, tell};
 use nt_devices::{Counted, Sink, Source};
@@ -60,18 +63,37 @@ fn run_and_flush<R: Source, W: Sink>(
     ensures { Outcome (R.remaining reader.old) (R.remaining reader.new) (W.contents writer.old) (W.contents writer.new) (W.failed writer.old) (W.failed writer.new) (W.handed_on writer.new) result × CountsReads (R.failed reader.old) (R.failed reader.new) result }
 {
     match run(alloc, reader, writer) {
-        Ok(summary) => match writer.flush_counted() {
-            Ok(()) => Ok(summary),
-            Err(_) => Err(RunFault::Write {
-                line: summary.lines + 1,
-            }),
-        },
+        Ok(summary) => hand_on(summary, writer),
         Err(RunFault::Write { line }) => Err(RunFault::Write { line }),
         Err(fault) => {
-            let _ = writer.flush_counted();
+            try_to_hand_on(writer);
             Err(fault)
         }
     }
+}
+
+/// Hands on what the writer holds back of a script that was run to its end.
+fn hand_on<W: Sink>(summary: Summary, writer: &mut W) -> Result<Summary, RunFault>
+    requires lines { summary.lines < 2 ^ 64 - 1 }
+    ensures kept { Keeps (W.contents writer.old) (W.contents writer.new) }
+    ensures ok { IfOk result (λ told. (told ≡ summary) × (W.failed writer.new ≡ W.failed writer.old) × (W.handed_on writer.new ≡ true)) }
+    ensures err { IfErr result (λ fault. (fault ≡ Write (summary.lines + 1)) × (W.failed writer.new ≡ one_more (W.failed writer.old)) × (W.handed_on writer.new ≡ false)) }
+{
+    match writer.flush_counted() {
+        Ok(()) => Ok(summary),
+        Err(_) => Err(RunFault::Write {
+            line: summary.lines + 1,
+        }),
+    }
+}
+
+/// Tries to hand on what the writer holds back of a script that has a fault, which is what is told then.
+fn try_to_hand_on<W: Sink>(writer: &mut W)
+    requires { W.failed writer.old < 2 ^ 64 - 1 }
+    ensures kept { Keeps (W.contents writer.old) (W.contents writer.new) }
+    ensures flushed { IsFlushed (W.failed writer.old) (W.failed writer.new) (W.handed_on writer.new) }
+{
+    let _ = writer.flush_counted();
 }
 
 /// The exit status of a run that was not done.

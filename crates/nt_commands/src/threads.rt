@@ -1,7 +1,7 @@
 //! Running the plan of threads before two writers.
 
 ghost use Rattle.std.specs.Prelude.{◌≡◌, ◌≤◌, ◌&&◌, nat_le};
-ghost use Rattle.nt_commands.specs.Telling.{Hands, ThreadsEnd};
+ghost use Rattle.nt_commands.specs.Telling.{Hands, TellsLines, ThreadsEnd};
 ghost use Rattle.nt_commands.specs.CommandLine.{are_lawful};
 
 use crate::errors::{OUT_OF_MEMORY, USAGE, say};
@@ -31,15 +31,23 @@ pub fn threads_over<R: Threads + Wait + Sync, W: Sink, E: Sink>(
         return say(errors, USAGE, 2);
     }
     match report_of(rt, alloc, workers, rounds) {
-        Ok(lines) => match hand(writer, lines.as_slice()) {
-            Ok(()) => 0,
-            Err(_) => say(errors, WRITE_FAILED, 1),
-        },
+        Ok(lines) => tell_lines(lines.as_slice(), writer, errors),
         Err(_) => say(errors, OUT_OF_MEMORY, 1),
     }
 }
 
 const WRITE_FAILED: &str = "ntrun: write failed";
+
+/// Writes the lines and hands them on, and answers the exit status. Why it is not 0 is said on `errors`.
+fn tell_lines<W: Sink, E: Sink>(lines: &[u8], writer: &mut W, errors: &mut E) -> u8
+    ensures { TellsLines lines.now (W.contents writer.old) (W.contents writer.new) (W.failed writer.old) (W.failed writer.new) (W.handed_on writer.new)
+        (E.contents errors.old) (E.contents errors.new) (E.failed errors.old) (E.failed errors.new) result }
+{
+    match hand(writer, lines) {
+        Ok(()) => 0,
+        Err(_) => say(errors, WRITE_FAILED, 1),
+    }
+}
 
 /// Whether there may be so many workers and rounds.
 fn are_lawful(workers: u32, rounds: u32) -> bool

@@ -14,17 +14,17 @@ use Rattle.nt_core.specs.declared.call.Call.{Call}
 use Rattle.nt_core.specs.declared.call.Reply.{Reply}
 use Rattle.nt_core.specs.declared.call.Grant.{Grant}
 use Rattle.nt_core.specs.Calls.{timeout_of, act_creates}
-use Rattle.nt_core.specs.Naming.{act_named}
+use Rattle.nt_core.specs.Naming.{act_named, wait_named}
 use Rattle.nt_core.specs.State.{State, object_at, with_handing, pending_too}
 use Rattle.nt_core.specs.Dispatcher.{Dispatcher, state}
 use Rattle.nt_core.specs.Serving.{fits, status, least, take_at, take_each, objects_taken, taken_by, granted, Grants, late_status, is_sleep}
 use Rattle.nt_core.specs.declared.call.WaitCall.{WaitCall}
 use Rattle.nt_core.specs.Change.{change, wait_change, signal, may_take, apc_taken, armed_anew, timer_set, expired_as, expired, all_expired}
 use Rattle.nt_core.specs.Steps.{begun, wait_of, after_serving, answered, Step, MomentPasses, MomentsPass, Ticked}
-use Rattle.std.specs.Prelude.{Option, Some, None, Result, Ok, Err, IfOk, OnErr}
+use Rattle.std.specs.Prelude.{Option, Some, None, Result, Ok, Err}
 use Rattle.nt_status.specs.declared.refusal.Refusal.{Refusal}
 use Rattle.nt_objects.specs.declared.object.Armed.{Armed}
-use Rattle.nt_core.specs.Accepts.{Accepts, IsActMade}
+use Rattle.nt_core.specs.Accepts.{Accepts, IsActMade, IsWaitMade}
 use Rattle.nt_core.proofs.Remaining.{same_count}
 use Rattle.nt_core.proofs.Arming.{asked}
 use Rattle.nt_core.proofs.Alerting.{over_objects}
@@ -118,10 +118,6 @@ tick_length old new m (Err r) grants has = ap (λ (s : State). length s.objects)
 
 -- ---- what the table of calls needs
 
-pub room_tried : (old new : Dispatcher) (t : ℕ) (call : Call) (result : Result Reply Refusal) (room : ℕ) → IfOk result (λ reply. Accepts old new t call reply) → OnErr result (new ≡ old) → length (change (state old) t call).objects ≡ length old.objects → length old.objects ≤ room → length new.objects ≤ room
-room_tried old new t call (Ok reply) room ok err same before = room_kept old new t call reply room ok same before
-room_tried old new t call (Err r) room ok err same before = let len : length new.objects ≡ length old.objects = ap (λ (d : Dispatcher). length d.objects) err in omega (arith, len, before)
-
 pub length_apc_taken : (s : State) (t : ℕ) → length (apc_taken s t).objects ≡ length s.objects
 length_apc_taken s t = go (may_take s t)
   where
@@ -187,6 +183,13 @@ length_made old new t act (Ok reply) made none =
     step_length (state old) (state new) t (Call.Act (act_named old.handles act)) reply new.grants made.made.1
     ∙ length_act_change (state old) t (act_named old.handles act) (creates_named old.handles act none)
 length_made old new t act (Err r) made none = ap (λ (s : State). length s.objects) made.made.2
+
+-- a waiting call creates nothing
+pub length_waited : (old new : Dispatcher) (t : ℕ) (wait : WaitCall) (result : Result Reply Refusal) → IsWaitMade old new t wait result → length new.objects ≡ length old.objects
+length_waited old new t wait (Ok reply) made =
+    step_length (state old) (state new) t (Call.Wait (wait_named old.handles wait)) reply new.grants made.made.1
+    ∙ length_wait_change (state old) (wait_named old.handles wait)
+length_waited old new t wait (Err r) made = ap (λ (s : State). length s.objects) made.made.2
 
 -- what creates makes room, and what creates nothing needs none
 pub room_act : (creates : Bool) (before after room new_room : ℕ) → (creates ≡ true → after ≤ new_room) → (creates ≡ false → after ≡ before) → (creates ≡ false → new_room ≡ room) → before ≤ room → after ≤ new_room

@@ -60,6 +60,11 @@ pub unmade_with : (old new : Dispatcher) (t : ℕ) (denied : Bool) (call : Call)
 unmade_with old new t denied call (Ok reply) told fresh free none grown same = absurd told
 unmade_with old new t denied call (Err r) told fresh free none grown same = unmade old new t denied call r fresh free none grown told same
 
+-- no cause of its own refuses it, and it is a step of the machine, or memory is refused and nothing changed
+pub tried_made : (old new : Dispatcher) (t : ℕ) (denied : Bool) (call : Call) (result : Result Reply Refusal) → IsFresh old → IsFree (state old) t → first_of_causes (call_causes (state old) t denied call) ≡ None → IfOk result (λ reply. Accepts old new t call reply) → OnErr result (IsTrue (grows (state old) t call)) → IfErr result (λ r. r ≡ Memory) → OnErr result (new ≡ old) → IsMade old new t denied call result
+tried_made old new t denied call (Ok reply) fresh free none accepts grown memory same = accepted_made old new t denied call reply free none accepts
+tried_made old new t denied call (Err r) fresh free none accepts grown memory same = unmade old new t denied call r fresh free none grown memory same
+
 -- ---- what no cause says of an object
 
 not_false : (b : Bool) → not b ≡ false → b ≡ true

@@ -6,6 +6,7 @@ use Rattle.nt_status.specs.Status.{io_completion_code, timeout_code}
 use Rattle.nt_status.specs.declared.refusal.Refusal.{Refusal}
 use Rattle.nt_core.specs.declared.call.Act.{Act}
 use Rattle.nt_core.specs.declared.call.Call.{Call}
+use Rattle.nt_core.specs.declared.call.WaitCall.{WaitCall}
 use Rattle.nt_core.specs.declared.call.Reply.{Reply}
 use Rattle.nt_core.specs.declared.call.Grant.{Grant}
 use Rattle.nt_core.specs.Rising.{AreRising}
@@ -17,10 +18,10 @@ use Rattle.nt_waits.specs.Waits.{IsMember}
 use Rattle.nt_core.specs.State.{State, object_at, wait_over}
 use Rattle.nt_core.specs.Serving.{IsChanged, sequence, sleeps, Serve, IsAlerted, Alert, ending, TimeOut, IsLate}
 use Rattle.nt_core.specs.Change.{change, all_expired, exited, IsTimerDue}
-use Rattle.nt_core.specs.Naming.{object_named, lacks, act_named}
-use Rattle.nt_core.specs.Rights.{act_denied}
-use Rattle.nt_core.specs.Refusals.{Cause, first_of_causes, call_causes, refusal}
-use Rattle.nt_core.specs.Steps.{Step, MomentPasses, Made}
+use Rattle.nt_core.specs.Naming.{object_named, lacks, act_named, wait_named}
+use Rattle.nt_core.specs.Rights.{act_denied, wait_denied}
+use Rattle.nt_core.specs.Refusals.{Cause, first_of_causes, call_causes, refusal, would_pend}
+use Rattle.nt_core.specs.Steps.{Step, MomentPasses, Made, begun, wait_of}
 use Rattle.nt_core.specs.Dispatcher.{Dispatcher, state}
 use Rattle.nt_core.specs.Due.{due_weight, total_weight}
 use Rattle.nt_core.specs.Lawful.{IsSound, IsSteady}
@@ -133,6 +134,14 @@ pub record IsFresh (d : Dispatcher) : Type 0 where
   pub no_grants : d.grants ≡ []
   pub untested : d.table.looked ≡ 0
 
+-- a wait for these objects has begun, and this is its reply
+abbrev pub HasBegun : State → State → ℕ → List ℕ → Bool → Bool → ℕ → Reply → Type 0
+HasBegun old new t handles all alertable ms reply = (reply, new) ≡ begun old t (wait_of old.now (WaitCall.Objects all alertable ms handles)) ms
+
+-- a wait for these objects does not end at once
+abbrev pub begins_pending : State → ℕ → List ℕ → Bool → Bool → ℕ → Bool
+begins_pending s t handles all alertable ms = would_pend s t (wait_of s.now (WaitCall.Objects all alertable ms handles)) ms
+
 -- the call is a step of the machine, local, and leaves the dispatcher steady
 pub record Accepts (old new : Dispatcher) (t : ℕ) (call : Call) (reply : Reply) : Type 0 where
   pub step : Step (state old) t call reply new.grants (state new)
@@ -153,6 +162,10 @@ pub record IsMade (old new : Dispatcher) (t : ℕ) (denied : Bool) (call : Call)
 -- an act is made on the object that its handle names, or refused
 abbrev pub IsActMade : Dispatcher → Dispatcher → ℕ → Act → Result Reply Refusal → Type 0
 IsActMade old new t act result = IsMade old new t (act_denied old.handles act) (Call.Act (act_named old.handles act)) result
+
+-- a waiting call is made on the objects that its handles name, or refused
+abbrev pub IsWaitMade : Dispatcher → Dispatcher → ℕ → WaitCall → Result Reply Refusal → Type 0
+IsWaitMade old new t wait result = IsMade old new t (wait_denied old.handles old.objects wait) (Call.Wait (wait_named old.handles wait)) result
 
 -- the number of the object that a handle names, or the first cause that holds of it, and of whether the handle lacks these rights
 abbrev pub IsJudged : Dispatcher → ℕ → ℕ → (Bool → ℕ → List Cause) → Result ℕ Refusal → Type 0

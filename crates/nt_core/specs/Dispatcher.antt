@@ -2,6 +2,7 @@
 use Rattle.std.specs.Prelude.{ℕ, Bool, List, [], ◌∷◌, ◌++◌, length, Option, Some, None}
 use Rattle.nt_waits.specs.declared.wait.Wait.{Wait}
 use Rattle.nt_waits.specs.Waits.{Waits, queue_of}
+use Rattle.nt_apc.specs.declared.apc.Queued.{Queued}
 use Rattle.nt_apc.specs.Queues.{Apcs}
 use Rattle.nt_objects.specs.declared.object.Object.{Object}
 use Rattle.nt_objects.specs.declared.handles.Opened.{Opened}
@@ -45,6 +46,10 @@ state d = record {
 -- the dispatcher with another prepared wait, or none
 abbrev pub with_prepared : Dispatcher → Option (ℕ × Wait) → Dispatcher
 with_prepared d prepared = record d { table = record d.table { prepared = prepared } }
+
+-- the dispatcher with other queues of APCs, and the places of timers as they were
+abbrev pub with_queues : Dispatcher → List (List Queued) → Dispatcher
+with_queues d queues = record d { apcs = record d.apcs { queues = queues } }
 
 -- one object more, last, with a handle and no alarm; it may stand in its owner's list
 abbrev pub with_created : Dispatcher → Object → List (List ℕ) → Dispatcher

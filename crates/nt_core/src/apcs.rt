@@ -6,16 +6,39 @@ ghost use Rattle.nt_apc.specs.Queues.{pushed, taken, oldest, apc_of, queue_of};
 ghost use Rattle.nt_core.specs.Change.{may_take};
 ghost use Rattle.std.specs.FinMap as map;
 ghost use Rattle.nt_core.specs.State.{pends, wait_over};
-ghost use Rattle.nt_core.specs.Dispatcher.{state};
+ghost use Rattle.nt_core.specs.Dispatcher.{state, with_queues};
 ghost use Rattle.nt_core.specs.Serving.{IsAlerted, ending};
 ghost use Rattle.nt_core.specs.Lawful.{IsSound};
-ghost use Rattle.nt_core.specs.Accepts.{IsFresh, IsFree, IsRoused, IsAlertedAfter, IsActMade, Accepts};
+ghost use Rattle.nt_core.specs.Accepts.{IsFresh, IsFree, IsRoused, IsAlertedAfter, IsActMade, Accepts, IsJudged};
+ghost use Rattle.nt_core.specs.Refusals.{first_of_causes, apc_causes};
+ghost use Rattle.nt_status.specs.Access.{set_context};
 
 use crate::call::{Grant, Reply};
+use crate::handles::{SET_CONTEXT, named, opened};
+use crate::judge::judged;
 use crate::machine::Machine;
 use nt_apc::Apc;
+use nt_objects::Object;
 use nt_status::{Handle, OptionalMoment, Refusal, Status, ThreadId};
 use std::alloc::AllocError;
+
+/// The refusal of an APC for the thread whose object has this handle.
+fn apc_refusal(objects: &[Object], denied: bool, thread: Handle) -> Option<Refusal>
+    ensures { result ≡ first_of_causes (apc_causes objects.now denied thread) }
+{
+    match named(objects, thread) {
+        Some(object) if object.is_thread() => {
+            if denied {
+                Some(Refusal::AccessDenied)
+            } else if object.has_ended() {
+                Some(Refusal::ThreadGone)
+            } else {
+                None
+            }
+        }
+        _ => Some(Refusal::InvalidHandle),
+    }
+}
 
 impl Machine {
     /// Where this thread's wait pends, is alertable and an APC is queued for it, ends the wait. The caller knows that no
@@ -59,10 +82,19 @@ impl Machine {
         self.let_go(ended.handles.as_slice());
     }
 
+    /// The object of the running thread that the handle names, for an APC.
+    pub(crate) fn running_thread(&self, handle: Handle) -> Result<Handle, Refusal>
+        ensures { IsJudged self.now handle set_context (apc_causes self.now.objects) result }
+    {
+        let (thread, denied) = opened(&self.handles, handle, SET_CONTEXT);
+        judged(thread, apc_refusal(self.objects.as_slice(), denied, thread))
+    }
+
     /// Queues an APC that no timer queues. Where memory is refused nothing changes.
     fn post(&mut self, target: ThreadId, routine: u64, arg: u64) -> Result<(), AllocError>
         requires { target < length self.old.apcs.queues }
-        ensures ok { OnOk result (self.new ≡ record self.old { apcs = record self.old.apcs { queues = pushed self.old.apcs.queues target (record { apc = record { routine = routine; arg = arg; at = None }; timer = None }) } }) }
+        ensures ok { OnOk result (self.new ≡ with_queues self.old (pushed self.old.apcs.queues target
+            (record { apc = record { routine = routine; arg = arg; at = None }; timer = None }))) }
         ensures err { OnErr result (self.new ≡ self.old) }
     {
         let apc = Apc {
@@ -82,7 +114,8 @@ impl Machine {
         arg: u64,
     ) -> Result<Reply, Refusal>
         requires fresh { IsFresh self.old }
-        ensures { (t : ℕ) → IsFree (state self.old) t → IsActMade self.old self.new t (Act.QueueApc target routine arg) result }
+        ensures { (t : ℕ) → IsFree (state self.old) t
+            → IsActMade self.old self.new t (Act.QueueApc target routine arg) result }
     {
         let target = self.running_thread(target)?;
         let target = ThreadId::new(target.get() as u16);
@@ -104,7 +137,7 @@ impl Machine {
     fn take_apc(&mut self, thread: ThreadId) -> Option<Apc>
         requires { thread < length self.old.apcs.queues }
         ensures oldest { result ≡ apc_of (oldest (queue_of self.old.apcs.queues thread)) }
-        ensures taken { self.new ≡ record self.old { apcs = record self.old.apcs { queues = taken self.old.apcs.queues thread } } }
+        ensures taken { self.new ≡ with_queues self.old (taken self.old.apcs.queues thread) }
     {
         self.apcs.next(thread)
     }

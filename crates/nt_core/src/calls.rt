@@ -18,6 +18,7 @@ use nt_status::{Handle, Refusal, ThreadId};
 
 impl Machine {
     /// An act, made or refused by its own causes.
+    #[inline(always)]
     fn act(
         &mut self,
         thread: ThreadId,
@@ -68,6 +69,7 @@ impl Machine {
 
     /// Makes the call of this thread, or refuses it, and ends no object. `numbers` is for the objects that a wait names; `changed`
     /// is for lists of objects, and has room for each.
+    #[inline(always)]
     fn make(
         &mut self,
         who: u32,
@@ -78,9 +80,11 @@ impl Machine {
         requires few { 64 ≤ vec_capacity numbers.old }
         requires steady { IsSteady self.old }
         requires room { length self.old.objects ≤ vec_capacity changed.old }
-        ensures made { Made (state self.old) who (is_denied (state self.old) call.now) (call_named self.old.handles call.now) result self.new.grants (state self.new) }
+        ensures made { Made (state self.old) who (is_denied (state self.old) call.now)
+            (call_named self.old.handles call.now) result self.new.grants (state self.new) }
         ensures steady { IsSteady self.new }
-        ensures local { OnOk result (IsLocal (state self.old) who (call_named self.old.handles call.now) self.new.table.looked self.new.grants) }
+        ensures local { OnOk result (IsLocal (state self.old) who
+            (call_named self.old.handles call.now) self.new.table.looked self.new.grants) }
         ensures untested { OnErr result (self.new.table.looked ≡ 0) }
         ensures few { 64 ≤ vec_capacity numbers.new }
         ensures room { length self.new.objects ≤ vec_capacity changed.new }
@@ -102,6 +106,7 @@ impl Machine {
 
     /// Makes the call of this thread, or refuses it, and ends the objects that nothing keeps any more. `numbers` is for the objects
     /// that a wait names; `changed` is for lists of objects, and has room for each.
+    #[inline(always)]
     pub fn call(
         &mut self,
         who: u32,
@@ -116,7 +121,8 @@ impl Machine {
         ensures called { Called (state self.old) who call.now result self.new.grants (state self.new) }
         ensures steady { IsSteady self.new }
         ensures living { LivesWhileKept (state self.new) }
-        ensures local { OnOk result (IsLocal (state self.old) who (call_named self.old.handles call.now) self.new.table.looked self.new.grants) }
+        ensures local { OnOk result (IsLocal (state self.old) who
+            (call_named self.old.handles call.now) self.new.table.looked self.new.grants) }
         ensures untested { OnErr result (self.new.table.looked ≡ 0) }
         ensures few { 64 ≤ vec_capacity numbers.new }
         ensures room { length self.new.objects ≤ vec_capacity changed.new }

@@ -44,7 +44,8 @@ impl Model for Core {
 
     ghost use Rattle.std.specs.Prelude.{length, ◌≡◌, ◌≤◌, vec_capacity};
 
-    ghost invariant = { λ c. IsLawful c.machine × (length c.machine.objects ≤ vec_capacity c.changed) × (length c.alerted ≡ 256) × (64 ≤ vec_capacity c.numbers) };
+    ghost invariant = { λ c. IsLawful c.machine × (length c.machine.objects ≤ vec_capacity c.changed)
+        × (length c.alerted ≡ 256) × (64 ≤ vec_capacity c.numbers) };
 }
 
 impl Core {
@@ -52,9 +53,11 @@ impl Core {
     ///
     /// Refused with 87 unless there are 1 to 256 threads, and with 8 where memory is refused.
     pub fn new(alloc: Global, threads: u32) -> Result<Core, Refusal>
-        ensures ok { IfOk result (λ core. (1 ≤ threads) × (threads ≤ 256) × (state core ≡ opening threads) × (core.grants ≡ [])) }
+        ensures ok { IfOk result (λ core. (1 ≤ threads) × (threads ≤ 256) × (state core ≡ opening threads)
+            × (core.grants ≡ [])) }
         ensures lawful { IfOk result (λ core. IsLawful core) }
-        ensures err { IfErr result (λ r. MatchBool (nat_le 1 threads && nat_le threads 256) (r ≡ Memory) (r ≡ InvalidParameter)) }
+        ensures err { IfErr result (λ r.
+            MatchBool (nat_le 1 threads && nat_le threads 256) (r ≡ Memory) (r ≡ InvalidParameter)) }
     {
         if threads == 0 || threads > 256 {
             return Err(Refusal::InvalidParameter);
@@ -74,10 +77,12 @@ impl Core {
 
     /// Makes the call of this thread, and answers its reply or why it is refused. The pending waits that it ends are in
     /// `grants`, no more than pended before it. A refused call changes nothing.
+    #[inline(always)]
     pub fn call(&mut self, who: u32, call: &Call) -> Result<Reply, Refusal>
         ensures called { Called (state self.old) who call.now result self.new.grants (state self.new) }
         ensures lawful { IsLawful self.new }
-        ensures local { OnOk result (IsLocal (state self.old) who (call_named self.old.handles call.now) self.new.table.looked self.new.grants) }
+        ensures local { OnOk result (IsLocal (state self.old) who
+            (call_named self.old.handles call.now) self.new.table.looked self.new.grants) }
         ensures most { length self.new.grants ≤ map.len (state self.old).waits }
         ensures few { length self.new.grants + map.len (state self.new).waits ≤ map.len (state self.old).waits + 1 }
         ensures moves { Moves (state self.old) who (pended result) self.new.grants (state self.new) }

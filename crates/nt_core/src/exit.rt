@@ -31,8 +31,10 @@ impl Machine {
     /// Frees and marks each mutex that the thread owns, and adds it to the list.
     fn abandon_all(&mut self, thread: ThreadId, changed: &mut Vec<Handle>)
         requires room { vec_len changed.old + length self.old.objects ≤ vec_capacity changed.old }
-        ensures abandoned { self.new ≡ record self.old { objects = map (abandoned_by thread) self.old.objects; owned = self.new.owned } }
-        ensures listed { Lists (λ m. owned_by (object_at self.old.objects m) thread ≡ true) changed.old.items changed.new.items }
+        ensures abandoned { self.new ≡ record self.old
+            { objects = map (abandoned_by thread) self.old.objects; owned = self.new.owned } }
+        ensures listed { Lists (λ m. owned_by (object_at self.old.objects m) thread ≡ true) changed.old.items
+            changed.new.items }
         ensures capacity { vec_capacity changed.new ≡ vec_capacity changed.old }
     {
         self.objects.abandon_all(thread, changed);
@@ -43,9 +45,11 @@ impl Machine {
         requires sound { IsSound self.now }
         requires known { thread < self.now.threads }
         requires once { AreOnce changed.old.items }
-        requires others { (h : ℕ) → IsMember changed.old.items h → (h < length self.now.objects) × (is_timer (object_at self.now.objects h) ≡ false) }
+        requires others { (h : ℕ) → IsMember changed.old.items h → (h < length self.now.objects)
+            × (is_timer (object_at self.now.objects h) ≡ false) }
         requires room { length self.now.objects ≤ vec_capacity changed.old }
-        ensures listed { Lists (λ h. setter_of (object_at self.now.objects h) ≡ Some thread) changed.old.items changed.new.items }
+        ensures listed { Lists (λ h. setter_of (object_at self.now.objects h) ≡ Some thread) changed.old.items
+            changed.new.items }
         ensures capacity { vec_capacity changed.new ≡ vec_capacity changed.old }
     {
         for timer in self.apcs.timers_of(thread) {
@@ -76,7 +80,8 @@ impl Machine {
         requires known { thread < self.old.threads }
         requires runs { has_ended (object_at self.old.objects thread) ≡ false }
         requires unset { (h : ℕ) → setter_of (object_at self.old.objects h) ≢ Some thread }
-        ensures ended { state self.new ≡ record (state self.old) { objects = slice_set self.old.objects thread (Thread true); apcs = cleared self.old.apcs.queues thread } }
+        ensures ended { state self.new ≡ record (state self.old)
+            { objects = slice_set self.old.objects thread (Thread true); apcs = cleared self.old.apcs.queues thread } }
         ensures sound { IsSound self.new }
         ensures grants { self.new.grants ≡ self.old.grants }
         ensures table { self.new.table ≡ self.old.table }

@@ -26,6 +26,7 @@ mod judge;
 mod machine;
 // Waits: how they begin, are tried, and are served.
 mod serving;
+mod wait_refusal;
 mod waiting;
 // The calls by their objects.
 mod apcs;

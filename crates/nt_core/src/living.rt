@@ -10,9 +10,9 @@ ghost use Rattle.nt_core.specs.Lawful.{IsSound, IsSteady, MarksAgreeBut, LetsGoB
 ghost use Rattle.nt_core.specs.Living.{is_forgotten, gone, living, Ends, LivesWhileKept};
 ghost use Rattle.nt_core.specs.Accepts.{IsFresh, IsFree, IsActMade};
 ghost use Rattle.nt_core.specs.declared.call.Act.{Act};
+ghost use Rattle.nt_core.specs.Refusals.{first_of_causes, close_causes};
 
 use crate::call::Reply;
-use crate::judge::close_refusal;
 use crate::machine::Machine;
 use nt_alarms::Marks;
 use nt_objects::{HandleTable, Object};
@@ -34,6 +34,16 @@ pub(crate) fn let_go(handles: &HandleTable, leaving: &mut Marks, ended: &[Handle
         if handles.count(*object) == 0 {
             leaving.set(object.get() as usize);
         }
+    }
+}
+
+/// The refusal of closing this handle.
+fn close_refusal(handles: &HandleTable, handle: Handle) -> Option<Refusal>
+    ensures { result ≡ first_of_causes (close_causes handles.now.opened handle) }
+{
+    match handles.get(handle) {
+        Some(_opened) => None,
+        None => Some(Refusal::InvalidHandle),
     }
 }
 
@@ -128,10 +138,12 @@ impl Machine {
     }
 
     /// An object that has a mark is gone where nothing keeps it any more, and has no mark then.
+    #[inline(never)]
     fn end_marked(&mut self, object: Handle)
         requires sound { IsSound self.old }
         requires known { object < length self.old.leaving }
-        ensures becomes { state self.new ≡ (if is_forgotten (state self.old) object then gone (state self.old) object else state self.old) }
+        ensures becomes { state self.new ≡
+            (if is_forgotten (state self.old) object then gone (state self.old) object else state self.old) }
         ensures sound { IsSound self.new }
         ensures leaving { self.new.leaving ≡ slice_set self.old.leaving object None }
         ensures grants { self.new.grants ≡ self.old.grants }
@@ -144,6 +156,7 @@ impl Machine {
     }
 
     /// Ends each object that nothing keeps any more, and looks at none that has no mark.
+    #[inline(always)]
     pub(crate) fn end_forgotten(&mut self)
         requires steady { IsSteady self.old }
         ensures ends { Ends (state self.old) (state self.new) }

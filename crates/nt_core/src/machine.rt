@@ -57,9 +57,11 @@ impl Model for Machine {
 
     ghost coded = { Prim.hlevel (codes, waits_code) };
 
-    ghost view = { λ m. dispatcher_of m.threads m.handles.opened m.objects.items m.objects.owned m.waits m.apcs m.handing.items m.moment m.grants.items m.alarms m.leaving };
+    ghost view = { λ m. dispatcher_of m.threads m.handles.opened m.objects.items m.objects.owned m.waits m.apcs
+        m.handing.items m.moment m.grants.items m.alarms m.leaving };
 
-    ghost invariant = { λ m. (m.threads ≤ 256) × (m.threads ≤ vec_capacity m.grants) × (length m.objects.owned ≡ m.threads) };
+    ghost invariant = { λ m. (m.threads ≤ 256) × (m.threads ≤ vec_capacity m.grants)
+        × (length m.objects.owned ≡ m.threads) };
 }
 
 impl Machine {
@@ -153,7 +155,8 @@ impl Machine {
         requires first { self.old.grants ≡ [] }
         requires anew { self.old.table.looked ≡ 0 }
         requires countable { length (sequence (state self.old) changed.now) < 2 ^ 64 }
-        ensures served { Serve (sequence (state self.old) changed.now) (state self.old) self.new.grants (state self.new) }
+        ensures served { Serve (sequence (state self.old) changed.now) (state self.old) self.new.grants
+            (state self.new) }
         ensures prepared { self.new.table.prepared ≡ self.old.table.prepared }
         ensures sound { IsSound self.new }
         ensures most { self.new.table.looked ≤ length (sequence (state self.old) changed.now) }
@@ -211,7 +214,8 @@ impl Machine {
         requires first { self.old.grants ≡ [] }
         requires anew { self.old.table.looked ≡ 0 }
         requires countable { length (sequence (state self.old) (handle ∷ [])) < 2 ^ 64 }
-        ensures served { Serve (sequence (state self.old) (handle ∷ [])) (state self.old) self.new.grants (state self.new) }
+        ensures served { Serve (sequence (state self.old) (handle ∷ [])) (state self.old) self.new.grants
+            (state self.new) }
         ensures prepared { self.new.table.prepared ≡ self.old.table.prepared }
         ensures sound { IsSound self.new }
         ensures most { self.new.table.looked ≤ length (sequence (state self.old) (handle ∷ [])) }

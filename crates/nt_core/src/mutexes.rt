@@ -4,13 +4,32 @@ ghost use Rattle.nt_objects.specs.Object.{owned_by, unlocked};
 ghost use Rattle.nt_core.specs.State.{object_at, with_object};
 ghost use Rattle.nt_core.specs.Change.{at};
 ghost use Rattle.nt_core.specs.Dispatcher.{state};
-ghost use Rattle.nt_core.specs.Accepts.{IsFresh, IsFree, IsServedAfter, IsActMade};
+ghost use Rattle.nt_core.specs.Accepts.{IsFresh, IsFree, IsServedAfter, IsActMade, IsJudged};
 ghost use Rattle.nt_core.specs.declared.call.Act.{Act};
+ghost use Rattle.nt_core.specs.Refusals.{first_of_causes, unlock_causes};
 
 use crate::call::Reply;
+use crate::handles::{named, object_named};
+use crate::judge::judged;
 use crate::machine::Machine;
 use nt_objects::Object;
 use nt_status::{Handle, MutexFlags, Refusal, ThreadId};
+
+/// The refusal of a release of the mutex at this handle.
+fn unlock_refusal(objects: &[Object], thread: ThreadId, mutex: Handle) -> Option<Refusal>
+    ensures { result ≡ first_of_causes (unlock_causes objects.now thread mutex) }
+{
+    match named(objects, mutex) {
+        Some(object) if object.is_mutex() => {
+            if object.is_owned_by(thread) {
+                None
+            } else {
+                Some(Refusal::NotOwner)
+            }
+        }
+        _ => Some(Refusal::InvalidHandle),
+    }
+}
 
 impl Machine {
     /// CreateMutex.
@@ -33,11 +52,23 @@ impl Machine {
         self.create(Object::new_mutex(flags, thread), changed)
     }
 
+    /// The mutex that the handle names, for its release by this thread, which needs no right.
+    pub(crate) fn mutex(&self, thread: ThreadId, handle: Handle) -> Result<Handle, Refusal>
+        ensures { IsJudged self.now handle 0 (λ _ h. unlock_causes self.now.objects thread h) result }
+    {
+        let mutex = object_named(&self.handles, handle);
+        judged(
+            mutex,
+            unlock_refusal(self.objects.as_slice(), thread, mutex),
+        )
+    }
+
     /// The mutex is held one level less deep from now on, and free after the last.
     fn unlock(&mut self, thread: ThreadId, mutex: Handle)
         requires known { mutex < length self.old.objects }
         requires owner { IsTrue (owned_by (object_at self.old.objects mutex) thread) }
-        ensures { self.new ≡ record self.old { objects = with_object self.old.objects mutex unlocked; owned = self.new.owned } }
+        ensures { self.new ≡ record self.old
+            { objects = with_object self.old.objects mutex unlocked; owned = self.new.owned } }
     {
         let Ok(_released) = self.objects.unlock(mutex, thread) else {
             unreachable!()
@@ -56,6 +87,7 @@ impl Machine {
     }
 
     /// ReleaseMutex.
+    #[inline(always)]
     pub(crate) fn release_mutex(
         &mut self,
         thread: ThreadId,

@@ -3,18 +3,19 @@ ghost use Rattle.std.specs.Prelude.{◌≡◌, ◌<◌, ◌≤◌, ℕ, vec_capa
 ghost use Rattle.nt_status.specs.declared.refusal.Refusal.TheVariants.{HandleLimit, Memory};
 ghost use Rattle.nt_objects.specs.Object.{owner_of, owned_by};
 ghost use Rattle.nt_core.specs.State.{object_at};
-ghost use Rattle.nt_core.specs.Refusals.{is_full};
+ghost use Rattle.nt_core.specs.Refusals.{is_full, first_of_causes, duplicate_causes};
 ghost use Rattle.nt_core.specs.Dispatcher.{state, with_created};
 ghost use Rattle.nt_core.specs.Lawful.{HandlesAgree};
-ghost use Rattle.nt_core.specs.Accepts.{IsFresh, IsFree, IsActMade};
+ghost use Rattle.nt_core.specs.Accepts.{IsFresh, IsFree, IsActMade, IsJudged};
 ghost use Rattle.nt_core.specs.declared.call.Act.{Act};
 ghost use Rattle.nt_core.specs.declared.call.Reply.{Reply};
 
 use crate::call::Reply;
-use crate::judge::HANDLE_LIMIT;
+use crate::handles::opened;
+use crate::judge::{HANDLE_LIMIT, is_unknown, judged};
 use crate::machine::Machine;
 use nt_alarms::{Alarms, Marks};
-use nt_objects::{Object, Opened};
+use nt_objects::{HandleTable, Object, Opened};
 use nt_status::{Access, Handle, Refusal};
 use std::alloc::{AllocError, Global};
 
@@ -40,6 +41,27 @@ pub fn no_marks(alloc: Global, count: usize) -> Result<Marks, AllocError>
     Ok(marks)
 }
 
+/// The refusal of one handle more for this object, with these rights.
+fn duplicate_refusal(
+    handles: &HandleTable,
+    objects: &[Object],
+    denied: bool,
+    object: Handle,
+    access: u32,
+) -> Option<Refusal>
+    ensures { result ≡ first_of_causes (duplicate_causes handles.now.opened objects.now denied object access) }
+{
+    if is_unknown(objects, object) {
+        Some(Refusal::InvalidHandle)
+    } else if denied || Access::from_bits(access).is_none() {
+        Some(Refusal::AccessDenied)
+    } else if handles.len() >= HANDLE_LIMIT {
+        Some(Refusal::HandleLimit)
+    } else {
+        None
+    }
+}
+
 impl Machine {
     /// Adds an object with a handle that has all rights of its kind, and answers the handle, unless no handle number is left or
     /// memory is refused: then nothing changes. `changed` gets room for one handle more, so that later calls can list every object
@@ -55,7 +77,8 @@ impl Machine {
         ensures few { OnOk result (is_full self.old.handles ≡ false) }
         ensures handle { IfOk result (λ reply. reply ≡ Reply.Handle (length self.old.handles)) }
         ensures ok { OnOk result (self.new ≡ with_created self.old object self.new.owned) }
-        ensures refused { IfErr result (λ cause. MatchBool (is_full self.old.handles) (cause ≡ HandleLimit) (cause ≡ Memory)) }
+        ensures refused { IfErr result (λ cause.
+            MatchBool (is_full self.old.handles) (cause ≡ HandleLimit) (cause ≡ Memory)) }
         ensures err { OnErr result (self.new ≡ self.old) }
         ensures room { length self.new.objects ≤ vec_capacity changed.new }
     {
@@ -89,10 +112,24 @@ impl Machine {
         Ok(self.handles.add(Opened { object, access }))
     }
 
+    /// The object that the handle names, for one handle more with these rights.
+    pub(crate) fn object_to_share(&self, handle: Handle, access: u32) -> Result<Handle, Refusal>
+        ensures { IsJudged self.now handle access
+            (λ denied h. duplicate_causes self.now.handles self.now.objects denied h access) result }
+    {
+        let (object, denied) = opened(&self.handles, handle, access);
+        let objects = self.objects.as_slice();
+        judged(
+            object,
+            duplicate_refusal(&self.handles, objects, denied, object, access),
+        )
+    }
+
     /// DuplicateHandle: one handle more for this object, with these rights. Where memory is refused nothing changes.
     pub(crate) fn duplicate(&mut self, handle: Handle, access: u32) -> Result<Reply, Refusal>
         requires fresh { IsFresh self.old }
-        ensures made { (t : ℕ) → IsFree (state self.old) t → IsActMade self.old self.new t (Act.Duplicate handle access) result }
+        ensures made { (t : ℕ) → IsFree (state self.old) t
+            → IsActMade self.old self.new t (Act.Duplicate handle access) result }
         ensures room { self.new.objects ≡ self.old.objects }
     {
         let object = self.object_to_share(handle, access)?;
@@ -108,7 +145,8 @@ impl Machine {
         requires few { is_full self.old.handles ≡ false }
         requires known { object < length self.old.objects }
         ensures handle { IfOk result (λ handle. handle ≡ length self.old.handles) }
-        ensures ok { OnOk result (self.new ≡ record self.old { handles = self.old.handles ++ Some (record { object = object; access = access }) ∷ [] }) }
+        ensures ok { OnOk result (self.new ≡
+            record self.old { handles = self.old.handles ++ Some (record { object = object; access = access }) ∷ [] }) }
         ensures err { OnErr result (self.new ≡ self.old) }
     {
         self.handles.make_room()?;

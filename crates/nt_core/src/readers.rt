@@ -54,7 +54,8 @@ impl Core {
     /// The next moment up to `up_to` at which a timer is due or a wait's deadline comes, counted in 100 ns; none where nothing is due
     /// by then. A driver that ticks no later than this misses nothing.
     pub fn due(&self, up_to: Moment) -> Option<Moment>
-        ensures { MatchOption result (NothingDue (state self.now) up_to) (λ moment. IsNextMoment (state self.now) up_to moment) }
+        ensures { MatchOption result (NothingDue (state self.now) up_to)
+            (λ moment. IsNextMoment (state self.now) up_to moment) }
     {
         match self.machine.next_moment(up_to) {
             Some(moment) => Moment::new(moment),

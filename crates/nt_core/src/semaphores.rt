@@ -4,13 +4,42 @@ ghost use Rattle.nt_objects.specs.Object.{is_semaphore, count_of, overflows, rel
 ghost use Rattle.nt_core.specs.State.{object_at, with_object};
 ghost use Rattle.nt_core.specs.Change.{at};
 ghost use Rattle.nt_core.specs.Dispatcher.{state};
-ghost use Rattle.nt_core.specs.Accepts.{IsFresh, IsFree, IsServedAfter, IsActMade};
+ghost use Rattle.nt_core.specs.Accepts.{IsFresh, IsFree, IsServedAfter, IsActMade, IsJudged};
 ghost use Rattle.nt_core.specs.declared.call.Act.{Act};
+ghost use Rattle.nt_core.specs.Refusals.{first_of_causes, release_causes};
+ghost use Rattle.nt_status.specs.Access.{modify_state};
 
 use crate::call::Reply;
+use crate::handles::{MODIFY_STATE, named, opened};
+use crate::judge::judged;
 use crate::machine::Machine;
 use nt_objects::Object;
 use nt_status::{Handle, Refusal};
+
+/// The refusal of a release of the semaphore at this handle.
+fn release_refusal(
+    objects: &[Object],
+    denied: bool,
+    semaphore: Handle,
+    count: i32,
+) -> Option<Refusal>
+    ensures { result ≡ first_of_causes (release_causes objects.now denied semaphore count) }
+{
+    match named(objects, semaphore) {
+        Some(object) if object.is_semaphore() => {
+            if denied {
+                Some(Refusal::AccessDenied)
+            } else if count <= 0 {
+                Some(Refusal::InvalidParameter)
+            } else if object.overflows(count) {
+                Some(Refusal::TooManyPosts)
+            } else {
+                None
+            }
+        }
+        _ => Some(Refusal::InvalidHandle),
+    }
+}
 
 impl Machine {
     /// CreateSemaphore.
@@ -22,7 +51,8 @@ impl Machine {
     ) -> Result<Reply, Refusal>
         requires fresh { IsFresh self.old }
         requires room { length self.old.objects ≤ vec_capacity changed.old }
-        ensures made { (t : ℕ) → IsFree (state self.old) t → IsActMade self.old self.new t (Act.CreateSemaphore initial maximum) result }
+        ensures made { (t : ℕ) → IsFree (state self.old) t
+            → IsActMade self.old self.new t (Act.CreateSemaphore initial maximum) result }
         ensures room { length self.new.objects ≤ vec_capacity changed.new }
     {
         let Ok(semaphore) = Object::new_semaphore(initial, maximum) else {
@@ -31,13 +61,26 @@ impl Machine {
         self.create(semaphore, changed)
     }
 
+    /// The semaphore that the handle names, for a release by this count.
+    pub(crate) fn semaphore(&self, handle: Handle, count: i32) -> Result<Handle, Refusal>
+        ensures { IsJudged self.now handle modify_state
+            (λ denied h. release_causes self.now.objects denied h count) result }
+    {
+        let (semaphore, denied) = opened(&self.handles, handle, MODIFY_STATE);
+        judged(
+            semaphore,
+            release_refusal(self.objects.as_slice(), denied, semaphore, count),
+        )
+    }
+
     /// The semaphore counts so many more from now on; answers its count before.
     fn count(&mut self, semaphore: Handle, count: i32) -> i32
         requires known { semaphore < length self.old.objects }
         requires kind { IsTrue (is_semaphore (object_at self.old.objects semaphore)) }
         requires positive { pos 0 <ℤ count }
         requires within { overflows count (object_at self.old.objects semaphore) ≡ false }
-        ensures becomes { self.new ≡ record self.old { objects = with_object self.old.objects semaphore (released count) } }
+        ensures becomes { self.new ≡ record self.old
+            { objects = with_object self.old.objects semaphore (released count) } }
         ensures previous { result ≡ count_of (object_at self.old.objects semaphore) }
     {
         let Ok(previous) = self.objects.release(semaphore, count) else {
@@ -68,7 +111,8 @@ impl Machine {
         count: i32,
     ) -> Result<Reply, Refusal>
         requires fresh { IsFresh self.old }
-        ensures { (t : ℕ) → IsFree (state self.old) t → IsActMade self.old self.new t (Act.ReleaseSemaphore semaphore count) result }
+        ensures { (t : ℕ) → IsFree (state self.old) t
+            → IsActMade self.old self.new t (Act.ReleaseSemaphore semaphore count) result }
     {
         let semaphore = self.semaphore(semaphore, count)?;
         Ok(Reply::Previous(self.raise_count(semaphore, count)))

@@ -97,7 +97,8 @@ fn take_each(objects: &mut ObjectTable, thread: ThreadId, handles: &[Handle])
 fn try_one(objects: &mut ObjectTable, thread: ThreadId, handle: Handle) -> Option<Status>
     requires room { CanTake objects.old.items thread (handle ∷ []) }
     requires known { thread < length objects.old.owned }
-    ensures tried { (all : Bool) → IsTried objects.old.items objects.new.items thread (wait_for (handle ∷ []) all) result }
+    ensures tried { (all : Bool) → IsTried objects.old.items objects.new.items thread
+        (wait_for (handle ∷ []) all) result }
     ensures none { IfNone result (objects.new ≡ objects.old) }
     ensures threads { length objects.new.owned ≡ length objects.old.owned }
 {
@@ -145,7 +146,7 @@ fn try_all(objects: &mut ObjectTable, thread: ThreadId, handles: &[Handle]) -> O
 }
 
 /// Where the objects satisfy a wait for any or all of these handles, takes what it takes of them, and answers its status.
-#[inline(never)]
+#[inline(always)]
 pub fn try_wait(
     objects: &mut ObjectTable,
     thread: ThreadId,

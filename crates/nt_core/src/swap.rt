@@ -1,5 +1,5 @@
 //! SignalObjectAndWait: one object is signaled, the others are served, and then the caller waits.
-ghost use Rattle.std.specs.Prelude.{◌≡◌, ◌≢◌, ◌∷◌, ◌+◌, ◌<◌, [], false, None, Some, IfOk, IfErr, OnOk, OnErr, IsSome, IsTrue, length, pos, not, ◌==◌};
+ghost use Rattle.std.specs.Prelude.{◌≡◌, ◌≢◌, ◌∷◌, ◌+◌, ◌<◌, [], false, None, Some, IfOk, IfErr, OnOk, OnErr, IsSome, IsTrue, length, pos, not, ◌==◌, ◌||◌};
 ghost use Rattle.std.specs.Option.{ForSome};
 ghost use Rattle.std.specs.FinMap as map;
 ghost use Rattle.nt_status.specs.declared.refusal.Refusal.TheVariants.{Memory};
@@ -8,19 +8,90 @@ ghost use Rattle.nt_waits.specs.declared.wait.Wait.{Wait};
 ghost use Rattle.nt_core.specs.State.{object_at, deadline_after, pending_too};
 ghost use Rattle.nt_core.specs.Dispatcher.{state, with_prepared};
 ghost use Rattle.nt_core.specs.Change.{at, signal};
-ghost use Rattle.nt_core.specs.Refusals.{may_signal, is_foreign, refusal};
+ghost use Rattle.nt_core.specs.Refusals.{may_signal, is_foreign, refusal, first_of_causes, swap_causes};
 ghost use Rattle.nt_core.specs.Lawful.{IsSoundWait, IsSound};
-ghost use Rattle.nt_core.specs.Accepts.{IsFresh, IsServedAfter, Accepts};
+ghost use Rattle.nt_core.specs.Accepts.{IsFresh, IsServedAfter, Accepts, IsFree, IsWaitMade};
 ghost use Rattle.nt_core.specs.declared.call.Call.{Call};
 ghost use Rattle.nt_core.specs.declared.call.WaitCall.{WaitCall};
+ghost use Rattle.nt_core.specs.Naming.{lacks};
+ghost use Rattle.nt_core.specs.Rights.{signal_denied};
 
 use crate::call::Reply;
+use crate::handles::{MODIFY_STATE, SYNCHRONIZE, lacks, named, object_named};
+use crate::judge::is_unknown;
 use crate::machine::Machine;
+use crate::wait_refusal::is_at_limit;
 use crate::waiting::deadline_after;
+use nt_objects::{HandleTable, Object};
 use nt_status::{Handle, Handles, Refusal, ThreadId};
 use nt_waits::Wait;
 
+/// The refusal of a swap that signals one object and waits for the other, both as they are before it.
+fn swap_refusal(
+    objects: &[Object],
+    thread: ThreadId,
+    denied: bool,
+    signal: Handle,
+    object: Handle,
+) -> Option<Refusal>
+    ensures { result ≡ first_of_causes (swap_causes objects.now thread denied signal object) }
+{
+    let signaled = match named(objects, signal) {
+        Some(signaled) => *signaled,
+        None => return Some(Refusal::InvalidHandle),
+    };
+    let is_mutex = signaled.is_mutex();
+    if !(signaled.is_event() || signaled.is_semaphore() || is_mutex) {
+        Some(Refusal::InvalidHandle)
+    } else if is_unknown(objects, object) {
+        Some(Refusal::InvalidHandle)
+    } else if denied {
+        Some(Refusal::AccessDenied)
+    } else if is_mutex && !signaled.is_owned_by(thread) {
+        Some(Refusal::NotOwner)
+    } else if signaled.overflows(1) {
+        Some(Refusal::TooManyPosts)
+    } else if is_at_limit(objects, thread, object) {
+        Some(Refusal::RecursionLimit)
+    } else {
+        None
+    }
+}
+
+/// Whether the handle that a swap signals lacks the right for that: to release a mutex none is needed.
+fn signal_denied(handles: &HandleTable, objects: &[Object], signal: Handle) -> bool
+    ensures { result ≡ signal_denied handles.now.opened objects.now signal }
+{
+    let is_mutex = match named(objects, object_named(handles, signal)) {
+        Some(object) => object.is_mutex(),
+        None => false,
+    };
+    !is_mutex && lacks(handles, signal, MODIFY_STATE)
+}
+
 impl Machine {
+    /// Whether a handle of a swap lacks a right that the swap needs.
+    pub(crate) fn is_swap_denied(&self, signal: Handle, object: Handle) -> bool
+        ensures { result ≡ (signal_denied self.now.handles self.now.objects signal
+            || lacks 0x00100000 self.now.handles object) }
+    {
+        signal_denied(&self.handles, self.objects.as_slice(), signal)
+            || lacks(&self.handles, object, SYNCHRONIZE)
+    }
+
+    /// The refusal of a swap of the objects with these numbers by its own causes.
+    fn refusal_of_swap(
+        &self,
+        thread: ThreadId,
+        denied: bool,
+        signal: Handle,
+        object: Handle,
+    ) -> Option<Refusal>
+        ensures { result ≡ first_of_causes (swap_causes self.now.objects thread denied signal object) }
+    {
+        swap_refusal(self.objects.as_slice(), thread, denied, signal, object)
+    }
+
     /// Signals the object, and serves the waits that name it: an event is set, a semaphore counts one more, a mutex is held one
     /// level less deep.
     fn signal(&mut self, thread: ThreadId, handle: Handle)
@@ -49,7 +120,17 @@ impl Machine {
         ms: u32,
         alertable: bool,
     ) -> Result<(), Refusal>
-        ensures ready { OnOk result (ms ≢ 0 → self.new.table.prepared ≡ Some (thread, record { handles = object ∷ []; all = false; alertable = alertable; deadline = deadline_after self.old.now ms })) }
+        ensures ready { OnOk result (ms ≢ 0
+            → self.new.table.prepared ≡ Some (
+              thread,
+              record {
+                handles = object ∷ [];
+                all = false;
+                alertable = alertable;
+                deadline = deadline_after
+                    self.old.now ms;
+              },
+            )) }
         ensures kept { self.new ≡ with_prepared self.old self.new.table.prepared }
         ensures grows { OnErr result (IsTrue (not (ms == 0))) }
         ensures memory { IfErr result (λ refusal. refusal ≡ Memory) }
@@ -92,7 +173,7 @@ impl Machine {
 
     /// SignalObjectAndWait: signals one object, serves the others, and begins the caller's wait for the other object. All memory
     /// comes first, so where it is refused nothing changes.
-    pub(crate) fn swap(
+    fn swap(
         &mut self,
         thread: ThreadId,
         signal: Handle,
@@ -101,9 +182,11 @@ impl Machine {
         alertable: bool,
     ) -> Result<Reply, Refusal>
         requires fresh { IsFresh self.old }
-        requires free { refusal (state self.old) thread false (Call.Wait (WaitCall.Swap signal object ms alertable)) ≡ None }
+        requires free { refusal (state self.old) thread false (Call.Wait (WaitCall.Swap signal object ms alertable)) ≡
+            None }
         requires living { object < length self.old.objects → is_gone (object_at self.old.objects object) ≡ false }
-        ensures ok { IfOk result (λ reply. Accepts self.old self.new thread (Call.Wait (WaitCall.Swap signal object ms alertable)) reply) }
+        ensures ok { IfOk result (λ reply.
+            Accepts self.old self.new thread (Call.Wait (WaitCall.Swap signal object ms alertable)) reply) }
         ensures prepared { OnOk result (self.new.table.prepared ≡ None) }
         ensures grows { OnErr result (IsTrue (not (ms == 0))) }
         ensures memory { IfErr result (λ refusal. refusal ≡ Memory) }
@@ -117,5 +200,27 @@ impl Machine {
         }
         self.pend_prepared();
         Ok(Reply::Pended)
+    }
+
+    /// A swap of the objects that these handles name, made or refused by its own causes.
+    pub(crate) fn signal_and_wait(
+        &mut self,
+        thread: ThreadId,
+        signal: Handle,
+        object: Handle,
+        ms: u32,
+        alertable: bool,
+    ) -> Result<Reply, Refusal>
+        requires fresh { IsFresh self.old }
+        requires caller { IsFree (state self.old) thread }
+        ensures { IsWaitMade self.old self.new thread (WaitCall.Swap signal object ms alertable) result }
+    {
+        let denied = self.is_swap_denied(signal, object);
+        let signaled = object_named(&self.handles, signal);
+        let awaited = object_named(&self.handles, object);
+        match self.refusal_of_swap(thread, denied, signaled, awaited) {
+            Some(refusal) => Err(refusal),
+            None => self.swap(thread, signaled, awaited, ms, alertable),
+        }
     }
 }

@@ -84,7 +84,8 @@ impl Machine {
         requires served { IsServed (state self.old) }
         requires calm { (t : ℕ) → IsAlerted (state self.old) t → ⊥ }
         requires next { IsNextMoment (state self.old) m u }
-        requires countable { self.old.table.looked + due_weight (λ h. length ((state self.old).queues h)) m 0 self.old.objects < 2 ^ 64 }
+        requires countable { self.old.table.looked + due_weight
+            (λ h. length ((state self.old).queues h)) m 0 self.old.objects < 2 ^ 64 }
         requires room { length self.old.objects ≤ vec_capacity changed.old }
         requires marks { length alerted.old ≡ 256 }
         ensures passed { IsPassedAfter self.old m u self.new }
@@ -102,7 +103,8 @@ impl Machine {
         requires sound { IsSound self.old }
         requires pends { IsTrue (pends (state self.old) thread) }
         ensures over { state self.new ≡ wait_over (state self.old) thread false }
-        ensures grants { self.new.grants ≡ self.old.grants ++ ending (late_status (sleeps (map.get self.old.table.pending thread))) thread ∷ [] }
+        ensures grants { self.new.grants ≡ self.old.grants
+            ++ ending (late_status (sleeps (map.get self.old.table.pending thread))) thread ∷ [] }
         ensures looked { self.new.table.looked ≡ self.old.table.looked }
         ensures sound { IsSound self.new }
     {

@@ -4,15 +4,19 @@ ghost use Rattle.nt_objects.specs.Object.{is_timer, has_ended, due_of, owner_of}
 ghost use Rattle.nt_apc.specs.Queues.{withdrawn, place_of};
 ghost use Rattle.nt_core.specs.State.{object_at};
 ghost use Rattle.nt_core.specs.Change.{notified, expired, armed_anew, due_moment, routine_for};
-ghost use Rattle.nt_core.specs.Dispatcher.{state};
+ghost use Rattle.nt_core.specs.Dispatcher.{state, with_queues};
 ghost use Rattle.std.specs.FinMap as map;
 ghost use Rattle.nt_core.specs.Lawful.{IsSound};
-ghost use Rattle.nt_core.specs.Accepts.{IsFresh, IsFree, IsPromised, IsActMade, Accepts};
+ghost use Rattle.nt_core.specs.Accepts.{IsFresh, IsFree, IsPromised, IsActMade, Accepts, IsJudged};
 ghost use Rattle.nt_core.specs.declared.call.Act.{Act};
 ghost use Rattle.nt_core.specs.declared.call.Call.{Call};
 ghost use Rattle.nt_core.specs.declared.call.Reply.{Reply};
+ghost use Rattle.nt_core.specs.Refusals.{first_of_causes, arm_causes, is_no, kind_causes};
+ghost use Rattle.nt_status.specs.Access.{modify_state};
 
 use crate::call::Reply;
+use crate::handles::{MODIFY_STATE, named, opened};
+use crate::judge::{judged, kind_refusal};
 use crate::machine::Machine;
 use nt_apc::Apc;
 use nt_objects::{Armed, Object, Routine};
@@ -42,6 +46,31 @@ fn routine_for(thread: ThreadId, routine: Option<(u64, u64)>) -> Option<Routine>
     })
 }
 
+/// Whether the handle names no timer.
+fn is_no_timer(objects: &[Object], handle: Handle) -> bool
+    ensures { result ≡ is_no is_timer objects.now handle }
+{
+    match named(objects, handle) {
+        Some(object) => !object.is_timer(),
+        None => true,
+    }
+}
+
+/// The refusal of setting the timer at this handle.
+fn arm_refusal(objects: &[Object], denied: bool, timer: Handle, period: i32) -> Option<Refusal>
+    ensures { result ≡ first_of_causes (arm_causes objects.now denied timer period) }
+{
+    if is_no_timer(objects, timer) {
+        Some(Refusal::InvalidHandle)
+    } else if denied {
+        Some(Refusal::AccessDenied)
+    } else if period < 0 {
+        Some(Refusal::InvalidParameter)
+    } else {
+        None
+    }
+}
+
 impl Machine {
     /// CreateWaitableTimer.
     pub(crate) fn create_timer(
@@ -51,7 +80,8 @@ impl Machine {
     ) -> Result<Reply, Refusal>
         requires fresh { IsFresh self.old }
         requires room { length self.old.objects ≤ vec_capacity changed.old }
-        ensures made { (t : ℕ) → IsFree (state self.old) t → IsActMade self.old self.new t (Act.CreateTimer flags) result }
+        ensures made { (t : ℕ) → IsFree (state self.old) t
+            → IsActMade self.old self.new t (Act.CreateTimer flags) result }
         ensures room { length self.new.objects ≤ vec_capacity changed.new }
     {
         let Some(flags) = TimerFlags::from_bits(flags) else {
@@ -60,12 +90,36 @@ impl Machine {
         self.create(Object::new_timer(flags), changed)
     }
 
+    /// The timer that the handle names, to be armed with this period.
+    pub(crate) fn timer_to_arm(&self, handle: Handle, period: i32) -> Result<Handle, Refusal>
+        ensures { IsJudged self.now handle modify_state
+            (λ denied h. arm_causes self.now.objects denied h period) result }
+    {
+        let (timer, denied) = opened(&self.handles, handle, MODIFY_STATE);
+        judged(
+            timer,
+            arm_refusal(self.objects.as_slice(), denied, timer, period),
+        )
+    }
+
+    /// The timer that the handle names, to be cancelled.
+    pub(crate) fn timer_to_cancel(&self, handle: Handle) -> Result<Handle, Refusal>
+        ensures { IsJudged self.now handle modify_state (kind_causes is_timer self.now.objects) result }
+    {
+        let (timer, denied) = opened(&self.handles, handle, MODIFY_STATE);
+        let is_other = is_no_timer(self.objects.as_slice(), timer);
+        judged(timer, kind_refusal(is_other, denied))
+    }
+
     /// Puts the timer in its place, and its alarm at its due moment.
     pub(crate) fn put_timer(&mut self, timer: Handle, object: Object)
         requires known { timer < length self.old.objects }
         requires clock { timer < length self.old.alarms }
         requires owner { owner_of object ≡ owner_of (object_at self.old.objects timer) }
-        ensures { self.new ≡ record self.old { objects = slice_set self.old.objects timer object; alarms = slice_set self.old.alarms timer (due_of object) } }
+        ensures { self.new ≡ record self.old {
+          objects = slice_set self.old.objects timer object;
+          alarms = slice_set self.old.alarms timer (due_of object);
+        } }
     {
         let place = timer.get() as usize;
         match object.due() {
@@ -77,7 +131,7 @@ impl Machine {
 
     /// Withdraws the timer's queued APC, if there is one.
     fn withdraw(&mut self, timer: Handle)
-        ensures { self.new ≡ record self.old { apcs = record self.old.apcs { queues = withdrawn self.old.apcs.queues timer } } }
+        ensures { self.new ≡ with_queues self.old (withdrawn self.old.apcs.queues timer) }
     {
         if let Some(thread) = self.apcs.place_of(timer) {
             self.apcs.withdraw(thread, timer);
@@ -87,7 +141,7 @@ impl Machine {
     /// Queues the APC of a timer that expires, unless one of its is queued already.
     fn notify(&mut self, timer: Handle, due: Moment, routine: Option<Routine>)
         requires { IfSome routine (λ r. place_of self.old.apcs.places timer ≡ Some r.thread) }
-        ensures { self.new ≡ record self.old { apcs = record self.old.apcs { queues = notified self.old.apcs.queues timer due routine } } }
+        ensures { self.new ≡ with_queues self.old (notified self.old.apcs.queues timer due routine) }
     {
         let Some(routine) = routine else {
             return;
@@ -141,7 +195,8 @@ impl Machine {
     fn arm(&mut self, timer: Handle, armed: Armed) -> Result<(), AllocError>
         requires sound { IsSound self.old }
         requires kind { IsTrue (is_timer (object_at self.old.objects timer)) }
-        requires runs { IfSome armed.routine (λ r. (r.thread < self.old.threads) × (has_ended (object_at self.old.objects r.thread) ≡ false)) }
+        requires runs { IfSome armed.routine
+            (λ r. (r.thread < self.old.threads) × (has_ended (object_at self.old.objects r.thread) ≡ false)) }
         ensures armed { OnOk result (state self.new ≡ armed_anew (state self.old) timer armed) }
         ensures sound { OnOk result (IsSound self.new) }
         ensures grants { OnOk result (self.new.grants ≡ self.old.grants) }
@@ -173,7 +228,8 @@ impl Machine {
         requires runs { has_ended (object_at self.old.objects thread) ≡ false }
         requires kind { IsTrue (is_timer (object_at self.old.objects timer)) }
         requires period { pos 0 ≤ℤ period }
-        ensures ok { OnOk result (Accepts self.old self.new thread (Call.Act (Act.SetTimer timer due period routine)) Reply.Done) }
+        ensures ok { OnOk result (Accepts self.old self.new thread
+            (Call.Act (Act.SetTimer timer due period routine)) Reply.Done) }
         ensures needs { OnErr result (IsTrue (is_some routine)) }
         ensures err { OnErr result (self.new ≡ self.old) }
     {

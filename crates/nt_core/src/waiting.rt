@@ -1,26 +1,19 @@
 //! How a thread's own wait begins.
-ghost use Rattle.std.specs.Prelude.{◌≡◌, ◌≢◌, ◌&&◌, ◌+◌, ◌<◌, [], None, true, false, OnOk, OnErr, IfOk, IfErr, is_some, IfSome, IfNone, IsTrue, length, map, slice_set, vec_capacity, ◌≤◌, Bool, Option, ℕ};
+ghost use Rattle.std.specs.Prelude.{◌≡◌, ◌≢◌, ◌&&◌, ◌+◌, ◌<◌, [], None, false, OnOk, OnErr, IfOk, IfErr, is_some, IfSome, IfNone, IsTrue, length, slice_set, vec_capacity, ◌≤◌};
 ghost use Rattle.std.specs.Option.{OnSome};
-ghost use Rattle.std.specs.List.{list_any};
 ghost use Rattle.std.specs.FinMap as fin;
 ghost use Rattle.nt_status.specs.declared.refusal.Refusal.TheVariants.{Memory};
-ghost use Rattle.nt_objects.specs.Object.{is_gone};
 ghost use Rattle.nt_apc.specs.Queues.{has_apc};
 ghost use Rattle.nt_waits.specs.Waits as waits;
-ghost use Rattle.nt_core.specs.State.{object_at, deadline_after, pending_too};
-ghost use Rattle.nt_core.specs.Naming.{object_named, lacks, wait_named};
-ghost use Rattle.nt_core.specs.Rights.{wait_denied};
+ghost use Rattle.nt_core.specs.State.{deadline_after, pending_too};
 ghost use Rattle.nt_core.specs.Dispatcher.{state};
 ghost use Rattle.nt_core.specs.Serving.{late_status, wait_for, fits, status, taken_by};
-ghost use Rattle.nt_core.specs.Steps.{begun, wait_of};
-ghost use Rattle.nt_core.specs.Refusals.{refusal, IsRefusal, would_pend};
-ghost use Rattle.nt_core.specs.declared.call.Call.{Call};
 ghost use Rattle.nt_core.specs.declared.call.WaitCall.{WaitCall};
 ghost use Rattle.nt_core.specs.Lawful.{IsSoundWait, IsSound, IsSteady};
-ghost use Rattle.nt_core.specs.Accepts.{IsFresh, IsFree, Accepts};
+ghost use Rattle.nt_core.specs.declared.call.Reply.{Reply};
+ghost use Rattle.nt_core.specs.Accepts.{IsFresh, IsFree, HasBegun, begins_pending, IsWaitMade};
 
 use crate::call::{Reply, WaitCall};
-use crate::handles::object_named;
 use crate::machine::Machine;
 use crate::serving::try_wait;
 use nt_status::{Handle, Moment, Refusal, Status, ThreadId};
@@ -65,7 +58,8 @@ impl Machine {
         requires able { IsSoundWait self.old.threads self.old.objects thread (waits.wait_for handles.now all about) }
         requires room { length self.old.grants + fin.len self.old.table.pending < self.old.threads }
         requires sound { IsSound self.old }
-        ensures state { OnOk result (state self.new ≡ pending_too (state self.old) thread (waits.wait_for handles.now all about)) }
+        ensures state { OnOk result
+            (state self.new ≡ pending_too (state self.old) thread (waits.wait_for handles.now all about)) }
         ensures sound { IsSound self.new }
         ensures grants { self.new.grants ≡ self.old.grants }
         ensures looked { self.new.table.looked ≡ self.old.table.looked }
@@ -128,8 +122,10 @@ impl Machine {
         requires idle { fin.get self.old.table.pending thread ≡ None }
         requires able { IsSoundWait self.old.threads self.old.objects thread (wait_for handles.now all) }
         requires steady { IsSteady self.old }
-        ensures begun { IfSome result (λ code. (deadline : Option ℕ) → (Reply.Status code, state self.new) ≡ begun (state self.old) thread (record { handles = handles.now; all = all; alertable = alertable; deadline = deadline }) ms) }
-        ensures pends { IfNone result ((fits self.old.objects thread (wait_for handles.now all) ≡ false) × ((alertable && has_apc self.old.apcs.queues thread) ≡ false) × (ms ≢ 0)) }
+        ensures begun { IfSome result (λ code.
+            HasBegun (state self.old) (state self.new) thread handles.now all alertable ms (Reply.Status code)) }
+        ensures pends { IfNone result ((fits self.old.objects thread (wait_for handles.now all) ≡ false)
+            × ((alertable && has_apc self.old.apcs.queues thread) ≡ false) × (ms ≢ 0)) }
         ensures steady { IsSteady self.new }
         ensures grants { self.new.grants ≡ self.old.grants }
         ensures table { self.new.table ≡ self.old.table }
@@ -164,11 +160,12 @@ impl Machine {
         requires able { IsSoundWait self.old.threads self.old.objects thread (wait_for handles.now all) }
         requires room { length self.old.grants + fin.len self.old.table.pending < self.old.threads }
         requires steady { IsSteady self.old }
-        ensures begun { IfOk result (λ reply. (reply, state self.new) ≡ begun (state self.old) thread (record { handles = handles.now; all = all; alertable = alertable; deadline = deadline_after self.old.now ms }) ms) }
+        ensures begun { IfOk result (λ reply.
+            HasBegun (state self.old) (state self.new) thread handles.now all alertable ms reply) }
         ensures steady { IsSteady self.new }
         ensures grants { self.new.grants ≡ self.old.grants }
         ensures looked { self.new.table.looked ≡ self.old.table.looked }
-        ensures grows { OnErr result (IsTrue (would_pend (state self.old) thread (record { handles = handles.now; all = all; alertable = alertable; deadline = deadline_after self.old.now ms }) ms)) }
+        ensures grows { OnErr result (IsTrue (begins_pending (state self.old) thread handles.now all alertable ms)) }
         ensures memory { IfErr result (λ refusal. refusal ≡ Memory) }
         ensures err { OnErr result (self.new ≡ self.old) }
     {
@@ -184,6 +181,7 @@ impl Machine {
     }
 
     /// The caller's wait for the objects that these handles name, begun or refused by its own causes.
+    #[inline(always)]
     fn wait_for(
         &mut self,
         thread: ThreadId,
@@ -196,10 +194,7 @@ impl Machine {
         requires few { 64 ≤ vec_capacity numbers.old }
         requires fresh { IsFresh self.old }
         requires caller { IsFree (state self.old) thread }
-        ensures free { OnOk result (refusal (state self.old) thread (list_any (lacks 0x00100000 self.old.handles) these.now) (Call.Wait (WaitCall.Objects all alertable ms (map (object_named self.old.handles) these.now))) ≡ None) }
-        ensures ok { IfOk result (λ reply. Accepts self.old self.new thread (Call.Wait (WaitCall.Objects all alertable ms (map (object_named self.old.handles) these.now))) reply) }
-        ensures refused { IfErr result (λ cause. IsRefusal (state self.old) thread (list_any (lacks 0x00100000 self.old.handles) these.now) (Call.Wait (WaitCall.Objects all alertable ms (map (object_named self.old.handles) these.now))) cause) }
-        ensures err { OnErr result (self.new ≡ self.old) }
+        ensures made { IsWaitMade self.old self.new thread (WaitCall.Objects all alertable ms these.now) result }
         ensures few { 64 ≤ vec_capacity numbers.new }
     {
         match self.refusal_of_wait(thread, these, numbers) {
@@ -208,31 +203,8 @@ impl Machine {
         }
     }
 
-    /// A swap of the objects with these numbers, made or refused by its own causes.
-    fn judge_swap(
-        &mut self,
-        thread: ThreadId,
-        denied: bool,
-        signal: Handle,
-        object: Handle,
-        ms: u32,
-        alertable: bool,
-    ) -> Result<Reply, Refusal>
-        requires fresh { IsFresh self.old }
-        requires living { object < length self.old.objects → is_gone (object_at self.old.objects object) ≡ false }
-        requires caller { IsFree (state self.old) thread }
-        ensures free { OnOk result (refusal (state self.old) thread denied (Call.Wait (WaitCall.Swap signal object ms alertable)) ≡ None) }
-        ensures ok { IfOk result (λ reply. Accepts self.old self.new thread (Call.Wait (WaitCall.Swap signal object ms alertable)) reply) }
-        ensures refused { IfErr result (λ cause. IsRefusal (state self.old) thread denied (Call.Wait (WaitCall.Swap signal object ms alertable)) cause) }
-        ensures err { OnErr result (self.new ≡ self.old) }
-    {
-        match self.refusal_of_swap(thread, denied, signal, object) {
-            Some(refusal) => Err(refusal),
-            None => self.swap(thread, signal, object, ms, alertable),
-        }
-    }
-
     /// A waiting call, begun or refused by its own causes.
+    #[inline(always)]
     pub(crate) fn wait(
         &mut self,
         thread: ThreadId,
@@ -242,10 +214,7 @@ impl Machine {
         requires few { 64 ≤ vec_capacity numbers.old }
         requires fresh { IsFresh self.old }
         requires caller { IsFree (state self.old) thread }
-        ensures free { OnOk result (refusal (state self.old) thread (wait_denied self.old.handles self.old.objects call.now) (Call.Wait (wait_named self.old.handles call.now)) ≡ None) }
-        ensures ok { IfOk result (λ reply. Accepts self.old self.new thread (Call.Wait (wait_named self.old.handles call.now)) reply) }
-        ensures refused { IfErr result (λ cause. IsRefusal (state self.old) thread (wait_denied self.old.handles self.old.objects call.now) (Call.Wait (wait_named self.old.handles call.now)) cause) }
-        ensures err { OnErr result (self.new ≡ self.old) }
+        ensures made { IsWaitMade self.old self.new thread call.now result }
         ensures few { 64 ≤ vec_capacity numbers.new }
     {
         match call {
@@ -267,12 +236,7 @@ impl Machine {
                 object,
                 ms,
                 alertable,
-            } => {
-                let denied = self.is_swap_denied(*signal, *object);
-                let signal = object_named(&self.handles, *signal);
-                let object = object_named(&self.handles, *object);
-                self.judge_swap(thread, denied, signal, object, *ms, *alertable)
-            }
+            } => self.signal_and_wait(thread, *signal, *object, *ms, *alertable),
         }
     }
 }

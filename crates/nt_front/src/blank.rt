@@ -70,14 +70,11 @@ pub fn open<N: Named>(alloc: Global, blank: Blank) -> Result<(Front<N>, Vec<Pass
     match make_rest(alloc, &blank) {
         Ok(made) => Ok(put_together(blank, made)),
         Err(refused) => {
-            let_go(blank);
+            drop(blank);
             Err(refused)
         }
     }
 }
-
-/// Drops a front that was never opened.
-fn let_go(_blank: Blank) {}
 
 /// Puts the front together. Each thread gets its pass.
 fn put_together<N: Named>(blank: Blank, made: Made<N>) -> (Front<N>, Vec<Pass<N>>)

@@ -172,15 +172,25 @@ impl<N: Named> Book<N> {
     {
         let (journal, base) = self.anew()?;
         mail.look(&mut self.dispatcher, &mut caller.seat);
+        Ok(self.hand_out(journal, base))
+    }
+
+    /// Puts this journal and this base in the places of the old ones, and hands those out.
+    fn hand_out(&mut self, journal: Vec<Entry>, base: Core) -> Part
+        requires journal { (journal.items ≡ []) × (self.old.room ≤ vec_capacity journal) }
+        requires base { base ≡ self.old.core }
+        ensures part { HandsOut self.old result self.new }
+        ensures stands { Stands self.new }
+    {
         let first = self.first;
         let entries = mem::replace(&mut self.journal, journal);
         let base = mem::replace(&mut self.base, base);
         self.first = first + entries.len() as u64;
-        Ok(Part {
+        Part {
             first,
             base,
             entries,
-        })
+        }
     }
 
     /// An empty journal of the full room, and a copy of the dispatcher.
@@ -288,7 +298,7 @@ impl<N: Named> Book<N> {
             dispatcher,
             of: _,
         } = self;
-        let_go(core);
+        drop(core);
         let history = History {
             first,
             base,
@@ -298,16 +308,14 @@ impl<N: Named> Book<N> {
     }
 }
 
-/// Drops the dispatcher.
-fn let_go(_core: Core) {}
-
 /// There is no place, or no number, for one entry and one more for each pending wait.
 #[inline(always)]
 fn is_full(entries: usize, room: usize, next: u64, pending: usize) -> bool
+    requires { next ≤ 2 ^ 54 }
     ensures { (result ≡ true) ↔ (min (room - entries) (2 ^ 54 - next) < 1 + pending) }
 {
     let places = room.saturating_sub(entries) as u64;
-    let numbers = NUMBERS.saturating_sub(next);
+    let numbers = NUMBERS - next;
     places.min(numbers) <= pending as u64
 }
 

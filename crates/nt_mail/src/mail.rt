@@ -61,6 +61,7 @@ impl Mail {
         ensures rest { all.new ≡ record all.old { parts = rest_of all.old.parts } }
     {
         let seat = self.table.shared.split_seat::<Apart>(&mut all.seat);
+        let thread = usize::from(thread.get());
         ThreadSeat { thread, seat }
     }
 

@@ -36,12 +36,13 @@ impl DispatcherSeat {
 /// The seat of one thread, which knows the thread's calls, its grants, and the words and moments that it read.
 #[derive(Drop)]
 pub struct ThreadSeat {
-    pub(crate) thread: ThreadId,
+    /// The thread's number, in a whole word, as which it is moved.
+    pub(crate) thread: usize,
     pub(crate) seat: Place,
 }
 
 impl Model for ThreadSeat {
-    ghost use Rattle.std.specs.Prelude.{◌≡◌, ◌<◌, ◌+◌, []};
+    ghost use Rattle.std.specs.Prelude.{◌≡◌, ◌<◌, ◌+◌, ◌^◌, []};
     ghost use Rattle.nt_mail.specs.Seats.{Seated, known_in};
     ghost use Rattle.nt_mail.specs.Views.{holder};
 
@@ -49,7 +50,7 @@ impl Model for ThreadSeat {
 
     ghost view = { λ s. record { table = s.seat.table_id; known = known_in s.seat.me.0 } };
 
-    ghost invariant = { λ s. (s.seat.me ≡ (holder (known_in s.seat.me.0), [])) × ((known_in s.seat.me.0).thread ≡ s.thread) × (s.thread + 1 < s.seat.table_id.words) };
+    ghost invariant = { λ s. (s.seat.me ≡ (holder (known_in s.seat.me.0), [])) × ((known_in s.seat.me.0).thread ≡ s.thread) × (s.thread + 1 < s.seat.table_id.words) × (s.thread < 2 ^ 16) };
 }
 
 impl ThreadSeat {
@@ -57,7 +58,7 @@ impl ThreadSeat {
     pub fn thread(&self) -> ThreadId
         ensures { result ≡ self.now.known.thread }
     {
-        self.thread
+        ThreadId::new(self.thread as u16)
     }
 }
 

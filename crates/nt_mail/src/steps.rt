@@ -107,6 +107,7 @@ impl Mail {
         requires number { (number ≡ length dispatcher.old.written + 1) × (number < 2 ^ 54) }
         ensures { dispatcher.new ≡ record dispatcher.old { written = dispatcher.old.written ++ Granted thread status ∷ [] } }
     {
+        let thread = usize::from(thread.get());
         store_grant::<Brand>(&self.table, &mut dispatcher.seat, thread, status, number);
     }
 
@@ -182,12 +183,13 @@ impl Mail {
 fn store_call<W: Writing>(
     table: &Letters,
     seat: &mut Place,
-    thread: ThreadId,
+    thread: usize,
     entry: &Entry,
     number: u64,
     armed: bool,
 )
     requires table { (seat.old.table_id ≡ table.now.shared.table_id) × (thread + 1 < seat.old.table_id.words) }
+    requires thread { thread < 2 ^ 16 }
     requires entry { (entry.now ≡ W.entry) × IsOwn thread entry.now }
     requires view { seat.old.me ≡ (keeper seat.old.me.0.written seat.old.me.0.published (known_in seat.old.me.0 ∷ []), []) }
     requires caller { (known_in seat.old.me.0).thread ≡ thread }
@@ -205,11 +207,12 @@ fn store_call<W: Writing>(
 fn store_grant<W: Writing>(
     table: &Letters,
     seat: &mut Place,
-    thread: ThreadId,
+    thread: usize,
     status: Status,
     number: u64,
 )
     requires table { (seat.old.table_id ≡ table.now.shared.table_id) × (thread + 1 < seat.old.table_id.words) }
+    requires thread { thread < 2 ^ 16 }
     requires entry { W.entry ≡ Granted thread status }
     requires view { seat.old.me ≡ (keeper seat.old.me.0.written seat.old.me.0.published [], []) }
     requires armed { is_armed thread seat.old.me.0.written ≡ true }
@@ -233,10 +236,11 @@ fn load_all(table: &Letters, seat: &mut Place)
 }
 
 // The place of the thread's word. The moment's is the first.
-fn word_of(thread: ThreadId) -> usize
+fn word_of(thread: usize) -> usize
+    requires { thread < 2 ^ 16 }
     ensures { result ≡ thread + 1 }
 {
-    usize::from(thread.get()) + 1
+    thread + 1
 }
 
 // The word that a call or tick leaves.

@@ -66,7 +66,30 @@ impl Handles {
     }
 
     /// These handles, in this order.
+    #[inline(always)]
     pub fn from_slice(alloc: Global, handles: &[Handle]) -> Result<Self, AllocError>
+        ensures { IfOk result (λ these. these ≡ handles.now) }
+    {
+        // Most lists have one, which is written here, without a call.
+        match handles {
+            [handle] => Ok(Handles::from_one(alloc, *handle)),
+            _ => Handles::from_many(alloc, handles),
+        }
+    }
+
+    /// This handle alone. It takes no memory.
+    #[inline(always)]
+    pub fn from_one(alloc: Global, handle: Handle) -> Self
+        ensures { result ≡ handle ∷ [] }
+    {
+        let mut items = SmallVec::new(alloc);
+        items.push_reserved(handle);
+        Handles { items }
+    }
+
+    /// The same as `from_slice`, for any number of handles.
+    #[inline(never)]
+    fn from_many(alloc: Global, handles: &[Handle]) -> Result<Self, AllocError>
         ensures { IfOk result (λ these. these ≡ handles.now) }
     {
         Ok(Handles {

@@ -1,13 +1,8 @@
-use Rattle.std.proofs.Common.{◌+◌, refl}
-use Rattle.nt_commands.proofs.Flushed.{done, not_handed_on}
+use Rattle.nt_commands.proofs.Flushed.{ended}
 use Rattle.nt_commands.proofs.script.run_and_flush.Goals as goal
 
-pub returns-in-Ok-flush_counted : goal.returns-in-Ok-flush_counted
-returns-in-Ok-flush_counted g c =
-    let ended = c.in-Ok-flush_counted.ensures in
-    done _ (g.R.Read.remaining c.run.new.reader) _ _ _ _ _ _ _ _ _ c.in-Ok.summary c.in-Ok.ensures.answers c.in-Ok.ensures.failures c.flush_counted.ensures.bytes ended.counted ended.handed
-
-pub returns-in-Err-flush_counted : goal.returns-in-Err-flush_counted
-returns-in-Err-flush_counted g c =
-    let ended = c.in-Err-flush_counted.ensures in
-    not_handed_on _ (g.R.Read.remaining c.run.new.reader) _ _ _ _ _ _ _ _ _ c.in-Ok.summary (c.in-Ok.summary.lines + 1) c.requires.write_failures c.in-Ok.ensures.answers c.in-Ok.ensures.failures c.flush_counted.ensures.bytes ended.counted ended.handed refl
+pub returns-in-Ok : goal.returns-in-Ok
+returns-in-Ok g c =
+    let given = c.in-Ok.ensures in
+    let after = c.hand_on.ensures in
+    ended _ (g.R.Read.remaining c.run.new.reader) _ _ _ _ _ _ _ _ _ c.in-Ok.summary c.hand_on.result c.requires.write_failures given.answers given.failures after.kept after.ok after.err

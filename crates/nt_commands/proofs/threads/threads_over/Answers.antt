@@ -1,7 +1,8 @@
-use Rattle.std.proofs.Common.{rules, ◌≡◌, false, inl, inr, refl, sym, subst}
+use Rattle.std.proofs.Common.{rules, ◌≡◌, false, inr, refl, sym, subst}
 use Rattle.std.proofs.KnownBytes.{Keeps-refl}
 use Rattle.nt_threads.specs.Reports.{IsReport}
 use Rattle.nt_commands.specs.CommandLine.{are_lawful}
+use Rattle.nt_commands.proofs.Saying.{told}
 use Rattle.nt_commands.proofs.threads.threads_over.Goals as goal
 
 pub returns-then-not-are_lawful : goal.returns-then-not-are_lawful
@@ -12,5 +13,4 @@ returns-then-not-are_lawful g c =
 pub returns-in-Ok : goal.returns-in-Ok
 returns-in-Ok g c =
     let report = subst (IsReport c.args.workers c.args.rounds) (sym c.as_slice.ensures.value) c.in-Ok.ensures in
-    let said = c.say-in-Err-hand.ensures in
-    record { either = inr (inl ((c.as_slice.result.now, report, c.in-Err-hand.ensures.0), c.in-Err-hand.ensures.1, said.said, said.status)) }
+    record { either = told _ _ c.as_slice.result.now _ _ _ _ _ _ _ _ _ _ report c.tell_lines.ensures }

@@ -9,8 +9,7 @@ use Rattle.nt_core.specs.State.{State, object_at}
 use Rattle.nt_core.specs.Dispatcher.{state}
 use Rattle.nt_core.specs.Steps.{Made}
 use Rattle.nt_core.proofs.Accepting.{free_caller}
-use Rattle.nt_core.proofs.Judging.{made_told}
-use Rattle.nt_core.proofs.Lengths.{room_tried, length_wait_change, length_made, room_act}
+use Rattle.nt_core.proofs.Lengths.{length_waited, length_made, room_act}
 use Rattle.nt_core.proofs.machine.Machine.make.Goals as goal
 
 pub exit-requires-clause-idle : goal.exit-requires-clause-idle
@@ -29,18 +28,18 @@ pub returns-in-Wait-clause-made : goal.returns-in-Wait-clause-made
 returns-in-Wait-clause-made c =
     let d = c.tell_anew.new.self in
     let new = c.wait.new.self in
-    let made = made_told d new c.new-thread.result (wait_denied d.handles d.objects c.in-Wait.wait) (Call.Wait (wait_named d.handles c.in-Wait.wait)) c.wait.result c.tell_anew.ensures.fresh.no_grants c.wait.ensures.free c.wait.ensures.ok c.wait.ensures.refused c.wait.ensures.err in
-    let by = subst (λ (t : ℕ). Made (state d) t (wait_denied d.handles d.objects c.in-Wait.wait) (Call.Wait (wait_named d.handles c.in-Wait.wait)) c.wait.result new.grants (state new)) c.new-thread.ensures made in
+    let by = subst (λ (t : ℕ). Made (state d) t (wait_denied d.handles d.objects c.in-Wait.wait) (Call.Wait (wait_named d.handles c.in-Wait.wait)) c.wait.result new.grants (state new)) c.new-thread.ensures c.wait.ensures.made.made in
     let from = subst (λ (s : State). Made s c.args.who (wait_denied s.handles s.objects c.in-Wait.wait) (Call.Wait (wait_named s.handles c.in-Wait.wait)) c.wait.result new.grants (state new)) c.tell_anew.ensures.state by in
     subst (λ (call : Call). Made (state c.args.self.now) c.args.who (is_denied (state c.args.self.now) call) (call_named c.args.self.now.handles call) c.wait.result new.grants (state new)) (sym c.in-Wait.is) from
 
 pub returns-in-Wait-clause-room : goal.returns-in-Wait-clause-room
 returns-in-Wait-clause-room c =
     let d = c.tell_anew.new.self in
+    let new = c.wait.new.self in
     let same : length d.objects ≡ length c.args.self.now.objects = ap (λ (s : State). length s.objects) c.tell_anew.ensures.state in
+    let waited : length new.objects ≡ length d.objects = length_waited d new c.new-thread.result c.in-Wait.wait c.wait.result c.wait.ensures.made in
     let room = c.requires.room in
-    let before : length d.objects ≤ vec_capacity c.args.changed.now = omega (arith, same, room) in
-    room_tried d c.wait.new.self c.new-thread.result (Call.Wait (wait_named d.handles c.in-Wait.wait)) c.wait.result _ c.wait.ensures.ok c.wait.ensures.err (length_wait_change (state d) (wait_named d.handles c.in-Wait.wait)) before
+    omega (arith, waited, same, room)
 
 pub act-requires-clause-idle : goal.act-requires-clause-idle
 act-requires-clause-idle c =

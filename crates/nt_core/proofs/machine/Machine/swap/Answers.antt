@@ -58,7 +58,7 @@ returns-in-Some-clause-ok c =
     let call = Call.Wait (WaitCall.Swap c.args.signal c.args.object c.args.ms c.args.alertable) in
     let w = wait_of calm.now (WaitCall.Swap c.args.signal c.args.object c.args.ms c.args.alertable) in
     let accepted = swap_accepted mid calm c.args.thread c.args.signal c.args.object c.args.ms c.args.alertable (fresh here) (free here) (living here) c.signal.ensures.served new (Reply.Status c.in-Some.status)
-    c.end_at_once.ensures.grants (ap (λ v. v.looked) c.end_at_once.ensures.table) (steady_prepared ended None c.end_at_once.ensures.steady) (c.in-Some.ensures.begun w.deadline) in
+    c.end_at_once.ensures.grants (ap (λ v. v.looked) c.end_at_once.ensures.table) (steady_prepared ended None c.end_at_once.ensures.steady) c.in-Some.ensures.begun in
     let from_old : Accepts old new c.args.thread call (Reply.Status c.in-Some.status) = accepts_prepared old new mid.table.prepared c.args.thread call (Reply.Status c.in-Some.status) (subst (λ (d : Dispatcher). Accepts d new c.args.thread call (Reply.Status c.in-Some.status)) c.prepare.ensures.kept accepted) in
     subst (λ (d : Dispatcher). Accepts old d c.args.thread call (Reply.Status c.in-Some.status)) (sym c.forget_prepared.ensures) from_old
 

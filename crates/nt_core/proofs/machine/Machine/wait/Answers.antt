@@ -1,20 +1,14 @@
-use Rattle.std.proofs.Common.{◌∙◌, ◌<◌, ℕ, ◌≡◌, [], length, arith, sym, ap, subst, refl, false, None}
+use Rattle.std.proofs.Common.{◌≡◌, [], length, arith, sym, ap, subst, refl, false}
 use Rattle.nt_core.specs.declared.call.Call.{Call}
 use Rattle.nt_core.specs.declared.call.WaitCall.{WaitCall}
-use Rattle.nt_objects.specs.Object.{is_gone}
-use Rattle.nt_core.specs.Naming.{object_named, wait_named}
-use Rattle.nt_core.specs.Rights.{wait_denied}
-use Rattle.nt_core.specs.State.{object_at, deadline_after}
-use Rattle.nt_core.specs.Dispatcher.{Dispatcher, state}
+use Rattle.nt_core.specs.State.{deadline_after}
+use Rattle.nt_core.specs.Dispatcher.{state}
 use Rattle.nt_core.specs.Serving.{wait_for}
-use Rattle.nt_core.specs.Refusals.{refusal, IsRefusal}
 use Rattle.nt_core.specs.Steps.{begun}
-use Rattle.nt_core.specs.Accepts.{Accepts}
-use Rattle.std.specs.Prelude.{OnOk, IfErr}
+use Rattle.nt_core.specs.Accepts.{Accepts, IsWaitMade}
 use Rattle.nt_core.proofs.Accepting.{ok_then, free_caller, sound_sleep, wait_accepted}
 use Rattle.nt_core.proofs.Beginning.{room_to_begin}
-use Rattle.nt_core.proofs.Closing.{named_living}
-use Rattle.nt_core.proofs.Judging.{tried_refused, tried_free}
+use Rattle.nt_core.proofs.Making.{tried_made}
 use Rattle.nt_core.proofs.machine.Machine.wait.Goals as goal
 
 pub begin_wait-requires-clause-idle : goal.begin_wait-requires-clause-idle
@@ -39,34 +33,18 @@ begin_wait-requires-clause-room c =
     let first : length d.grants ≡ 0 = ap (λ gs. length gs) c.requires.fresh.no_grants in
     omega (arith, room, first)
 
-pub returns-in-Sleep-clause-free : goal.returns-in-Sleep-clause-free
-returns-in-Sleep-clause-free c =
-    let s = state c.args.self.now in
-    subst (λ (w : WaitCall). OnOk c.begin_wait.result (refusal s c.args.thread (wait_denied s.handles s.objects w) (Call.Wait (wait_named s.handles w)) ≡ None)) (sym c.in-Sleep.is)
-    (tried_free c.begin_wait.result (c.requires.caller false (Call.Wait (WaitCall.Sleep c.in-Sleep.ms c.in-Sleep.alertable))))
-
-pub returns-in-Sleep-clause-ok : goal.returns-in-Sleep-clause-ok
-returns-in-Sleep-clause-ok c =
+pub returns-in-Sleep-clause-made : goal.returns-in-Sleep-clause-made
+returns-in-Sleep-clause-made c =
     let old = c.args.self.now in
     let new = c.begin_wait.new.self in
+    let t = c.args.thread in
     let began = c.begin_wait.ensures in
-    ok_then
-    (λ reply. (reply, state new) ≡ begun (state old) c.args.thread (record { handles = []; all = false; alertable = c.in-Sleep.alertable; deadline = deadline_after old.now c.in-Sleep.ms }) c.in-Sleep.ms)
-    (λ reply. Accepts old new c.args.thread (Call.Wait (wait_named c.args.self.now.handles c.args.call.now)) reply)
-    (λ reply begins.
-    subst (λ (w : WaitCall). Accepts old new c.args.thread (Call.Wait (wait_named old.handles w)) reply) (sym c.in-Sleep.is)
-    (wait_accepted old new c.args.thread (WaitCall.Sleep c.in-Sleep.ms c.in-Sleep.alertable) reply c.requires.fresh began.grants began.looked began.steady refl begins))
-    c.begin_wait.result began.begun
-
-pub returns-in-Sleep-clause-refused : goal.returns-in-Sleep-clause-refused
-returns-in-Sleep-clause-refused c =
-    let s = state c.args.self.now in
-    let call = Call.Wait (WaitCall.Sleep c.in-Sleep.ms c.in-Sleep.alertable) in
-    subst (λ (w : WaitCall). IfErr c.begin_wait.result (λ cause. IsRefusal s c.args.thread (wait_denied s.handles s.objects w) (Call.Wait (wait_named s.handles w)) cause)) (sym c.in-Sleep.is)
-    (tried_refused s c.args.thread false call c.begin_wait.result (c.requires.caller false call) c.begin_wait.ensures.grows c.begin_wait.ensures.memory)
-
-pub judge_swap-requires-clause-living : goal.judge_swap-requires-clause-living
-judge_swap-requires-clause-living c =
-    let d = c.args.self.now in
-    let named : c.object_named-object.result ≡ object_named d.handles c.in-Swap.object = c.object_named-object.ensures ∙ ap (λ (x : Dispatcher). object_named x.handles c.in-Swap.object) c.self.view_is in
-    subst (λ (k : ℕ). k < length d.objects → is_gone (object_at d.objects k) ≡ false) (sym named) (named_living d c.in-Swap.object c.requires.fresh.steady.sound)
+    let asked = WaitCall.Sleep c.in-Sleep.ms c.in-Sleep.alertable in
+    subst (λ (w : WaitCall). IsWaitMade old new t w c.begin_wait.result) (sym c.in-Sleep.is)
+    (tried_made old new t false (Call.Wait asked) c.begin_wait.result c.requires.fresh c.requires.caller refl
+    (ok_then
+    (λ reply. (reply, state new) ≡ begun (state old) t (record { handles = []; all = false; alertable = c.in-Sleep.alertable; deadline = deadline_after old.now c.in-Sleep.ms }) c.in-Sleep.ms)
+    (λ reply. Accepts old new t (Call.Wait asked) reply)
+    (λ reply begins. wait_accepted old new t asked reply c.requires.fresh began.grants began.looked began.steady refl begins)
+    c.begin_wait.result began.begun)
+    began.grows began.memory began.err)

@@ -15,7 +15,8 @@ use Rattle.std.specs.Prelude.{IsTrue, OnErr}
 use Rattle.nt_core.proofs.Accepting.{ok_then, free_caller, sound_objects, wait_accepted}
 use Rattle.nt_core.proofs.Beginning.{room_to_begin}
 use Rattle.nt_core.proofs.Closing.{all_living}
-use Rattle.nt_core.proofs.Judging.{is_refusal, tried_refused, tried_free, undenied}
+use Rattle.nt_core.proofs.Judging.{undenied}
+use Rattle.nt_core.proofs.Making.{refused_made, tried_made}
 use Rattle.nt_core.proofs.machine.Machine.wait_for.Goals as goal
 
 pub begin_wait-requires-clause-idle : goal.begin_wait-requires-clause-idle
@@ -41,35 +42,28 @@ begin_wait-requires-clause-room c =
     let first : length d.grants ≡ 0 = ap (λ gs. length gs) c.requires.fresh.no_grants in
     omega (arith, room, first)
 
-pub returns-in-Some-clause-refused : goal.returns-in-Some-clause-refused
-returns-in-Some-clause-refused c =
-    let call = Call.Wait (WaitCall.Objects c.args.all c.args.alertable c.args.ms (map (object_named c.args.self.now.handles) c.args.these.now)) in
-    is_refusal (state c.args.self.now) c.args.thread (list_any (lacks 0x00100000 c.args.self.now.handles) c.args.these.now) call c.in-Some.refusal (c.requires.caller (list_any (lacks 0x00100000 c.args.self.now.handles) c.args.these.now) call ∙ (sym c.refusal_of_wait.ensures.refusal ∙ c.in-Some.is))
+pub returns-in-Some-clause-made : goal.returns-in-Some-clause-made
+returns-in-Some-clause-made c =
+    let old = c.args.self.now in
+    let call = Call.Wait (WaitCall.Objects c.args.all c.args.alertable c.args.ms (map (object_named old.handles) c.args.these.now)) in
+    refused_made old c.args.thread (list_any (lacks 0x00100000 old.handles) c.args.these.now) call c.in-Some.refusal c.requires.fresh c.requires.caller (sym c.refusal_of_wait.ensures.refusal ∙ c.in-Some.is)
 
-pub returns-in-None-clause-free : goal.returns-in-None-clause-free
-returns-in-None-clause-free c =
-    let call = Call.Wait (WaitCall.Objects c.args.all c.args.alertable c.args.ms (map (object_named c.args.self.now.handles) c.args.these.now)) in
-    tried_free c.begin_wait.result (c.requires.caller (list_any (lacks 0x00100000 c.args.self.now.handles) c.args.these.now) call ∙ (sym c.refusal_of_wait.ensures.refusal ∙ c.in-None.is))
-
-pub returns-in-None-clause-ok : goal.returns-in-None-clause-ok
-returns-in-None-clause-ok c =
+pub returns-in-None-clause-made : goal.returns-in-None-clause-made
+returns-in-None-clause-made c =
     let old = c.args.self.now in
     let new = c.begin_wait.new.self in
+    let t = c.args.thread in
     let began = c.begin_wait.ensures in
     let named = map (object_named old.handles) c.args.these.now in
-    ok_then
-    (λ reply. (reply, state new) ≡ begun (state old) c.args.thread (record { handles = c.as_slice.result.now; all = c.args.all; alertable = c.args.alertable; deadline = deadline_after old.now c.args.ms }) c.args.ms)
-    (λ reply. Accepts old new c.args.thread (Call.Wait (WaitCall.Objects c.args.all c.args.alertable c.args.ms named)) reply)
+    let asked = WaitCall.Objects c.args.all c.args.alertable c.args.ms named in
+    let same : c.as_slice.result.now ≡ named = c.as_slice.ensures.value ∙ c.in-None.ensures.named in
+    tried_made old new t (list_any (lacks 0x00100000 old.handles) c.args.these.now) (Call.Wait asked) c.begin_wait.result c.requires.fresh c.requires.caller (sym c.refusal_of_wait.ensures.refusal ∙ c.in-None.is)
+    (ok_then
+    (λ reply. (reply, state new) ≡ begun (state old) t (record { handles = c.as_slice.result.now; all = c.args.all; alertable = c.args.alertable; deadline = deadline_after old.now c.args.ms }) c.args.ms)
+    (λ reply. Accepts old new t (Call.Wait asked) reply)
     (λ reply begins.
-    wait_accepted old new c.args.thread (WaitCall.Objects c.args.all c.args.alertable c.args.ms named) reply c.requires.fresh began.grants began.looked began.steady refl
-    (begins ∙ ap (λ (hs : List ℕ). begun (state old) c.args.thread (record { handles = hs; all = c.args.all; alertable = c.args.alertable; deadline = deadline_after old.now c.args.ms }) c.args.ms) (c.as_slice.ensures.value ∙ c.in-None.ensures.named)))
-    c.begin_wait.result began.begun
-
-pub returns-in-None-clause-refused : goal.returns-in-None-clause-refused
-returns-in-None-clause-refused c =
-    let s = state c.args.self.now in
-    let named = map (object_named s.handles) c.args.these.now in
-    let call = Call.Wait (WaitCall.Objects c.args.all c.args.alertable c.args.ms named) in
-    tried_refused s c.args.thread (list_any (lacks 0x00100000 c.args.self.now.handles) c.args.these.now) call c.begin_wait.result (c.requires.caller (list_any (lacks 0x00100000 c.args.self.now.handles) c.args.these.now) call ∙ (sym c.refusal_of_wait.ensures.refusal ∙ c.in-None.is))
-    (subst (λ (hs : List ℕ). OnErr c.begin_wait.result (IsTrue (grows s c.args.thread (Call.Wait (WaitCall.Objects c.args.all c.args.alertable c.args.ms hs))))) (c.as_slice.ensures.value ∙ c.in-None.ensures.named) c.begin_wait.ensures.grows)
-    c.begin_wait.ensures.memory
+    wait_accepted old new t asked reply c.requires.fresh began.grants began.looked began.steady refl
+    (begins ∙ ap (λ (hs : List ℕ). begun (state old) t (record { handles = hs; all = c.args.all; alertable = c.args.alertable; deadline = deadline_after old.now c.args.ms }) c.args.ms) same))
+    c.begin_wait.result began.begun)
+    (subst (λ (hs : List ℕ). OnErr c.begin_wait.result (IsTrue (grows (state old) t (Call.Wait (WaitCall.Objects c.args.all c.args.alertable c.args.ms hs))))) same began.grows)
+    began.memory began.err
