@@ -636,9 +636,11 @@ static HANDLE finish_creation(struct seat *seat, uint32_t refused, struct nt_rep
     return handle_of(reply->number);
 }
 
-/* ---- Events. */
+/* A call of the dispatcher that makes an object by its flags. */
+typedef uint32_t creation(struct nt *nt, uint32_t who, uint32_t flags, struct nt_reply *reply);
 
-static HANDLE create_event(const void *name, DWORD flags, DWORD access)
+/* Makes an object without a name, whose handle has at most the rights `full`, where the rights `access` are asked for. */
+static HANDLE create(creation *make, const void *name, DWORD flags, DWORD full, DWORD access)
 {
     struct nt_reply reply;
     if (name != NULL) {
@@ -648,8 +650,15 @@ static HANDLE create_event(const void *name, DWORD flags, DWORD access)
     struct seat *seat = begin();
     if (seat == NULL)
         return NULL;
-    const uint32_t refused = nt_create_event(&DISPATCHER, seat->number, flags, &reply);
-    return finish_creation(seat, refused, &reply, SYNCHRONIZE | EVENT_MODIFY_STATE, access);
+    const uint32_t refused = make(&DISPATCHER, seat->number, flags, &reply);
+    return finish_creation(seat, refused, &reply, full, access);
+}
+
+/* ---- Events. */
+
+static HANDLE create_event(const void *name, DWORD flags, DWORD access)
+{
+    return create(nt_create_event, name, flags, SYNCHRONIZE | EVENT_MODIFY_STATE, access);
 }
 
 HANDLE CreateEventExA(LPSECURITY_ATTRIBUTES attributes, LPCSTR name, DWORD flags, DWORD access)
@@ -751,16 +760,7 @@ BOOL ReleaseSemaphore(HANDLE semaphore, LONG count, LPLONG previous)
 
 static HANDLE create_mutex(const void *name, DWORD flags, DWORD access)
 {
-    struct nt_reply reply;
-    if (name != NULL) {
-        fail(ERROR_NOT_SUPPORTED);
-        return NULL;
-    }
-    struct seat *seat = begin();
-    if (seat == NULL)
-        return NULL;
-    const uint32_t refused = nt_create_mutex(&DISPATCHER, seat->number, flags, &reply);
-    return finish_creation(seat, refused, &reply, SYNCHRONIZE, access);
+    return create(nt_create_mutex, name, flags, SYNCHRONIZE, access);
 }
 
 HANDLE CreateMutexExA(LPSECURITY_ATTRIBUTES attributes, LPCSTR name, DWORD flags, DWORD access)
@@ -795,16 +795,7 @@ BOOL ReleaseMutex(HANDLE mutex)
 
 static HANDLE create_timer(const void *name, DWORD flags, DWORD access)
 {
-    struct nt_reply reply;
-    if (name != NULL) {
-        fail(ERROR_NOT_SUPPORTED);
-        return NULL;
-    }
-    struct seat *seat = begin();
-    if (seat == NULL)
-        return NULL;
-    const uint32_t refused = nt_create_timer(&DISPATCHER, seat->number, flags, &reply);
-    return finish_creation(seat, refused, &reply, SYNCHRONIZE | TIMER_MODIFY_STATE, access);
+    return create(nt_create_timer, name, flags, SYNCHRONIZE | TIMER_MODIFY_STATE, access);
 }
 
 HANDLE CreateWaitableTimerExA(LPSECURITY_ATTRIBUTES attributes, LPCSTR name, DWORD flags, DWORD access)
