@@ -31,10 +31,11 @@
 
 enum {
     NO_HANDLE = 0xFFFFFF, /* a number that no handle has */
-    MOST_LOOKS = 40,      /* at a word, before sleeping: as long as falling asleep and waking take */
-    WAITS_PER_TRY = 1024, /* of so many waits, those of all threads, */
-    TRIES = 4,            /* so many try again whether looks help, one after another, so that peers try together, */
-    TIMES_OF_A_TRY = 8,   /* and look so much longer, since the peer may have to be woken first */
+    LOOKS_AT_LOCK = 40,      /* before a thread sleeps on the lock: about as long as falling asleep and waking take */
+    LOOKS_AT_WORD = 1000,    /* before it sleeps on its own word: longer than a thread that sleeps takes to wake, .. */
+    MOMENTS_OF_LOOKS = 1000, /* .. and shorter than this */
+    WAITS_PER_TRY = 4096,    /* of so many waits, those of all threads, .. */
+    TRIES = 2,               /* .. so many try again whether looks help */
     MOMENTS_PER_SECOND = 10000000,
     NANOSECONDS_PER_MOMENT = 100
 };
@@ -72,7 +73,7 @@ static pthread_once_t OPENED = PTHREAD_ONCE_INIT;
 static uint32_t OPENING_REFUSED;
 static pthread_key_t LEAVING;
 static pid_t PROCESS;
-static uint32_t LOOKS; /* how often a thread looks at a word before it sleeps on it */
+static bool LOOKS;     /* threads look at a word before they sleep on it: there are several processors */
 static uint64_t START; /* the dispatcher's moment 0, on the monotonic clock */
 
 /* Under the lock. */
@@ -130,7 +131,7 @@ static inline bool is_alone(void)
 /* Takes the lock where it was not free at once: looks at it for a while, and then sleeps on it. */
 __attribute__((noinline, cold)) static void wait_for_lock(void)
 {
-    for (uint32_t i = 0; i < LOOKS; i++) {
+    for (uint32_t i = 0; LOOKS && i < LOOKS_AT_LOCK; i++) {
         uint32_t seen = atomic_load_explicit(&LOCK, memory_order_relaxed);
         if (seen == WANTED)
             break;
@@ -396,12 +397,21 @@ static uint64_t time_to_keep(const struct seat *seat)
     return KEPT_TO;
 }
 
+/* How often the caller, which is to sleep to this moment at the longest, looks at its word first: not at all where the moment is near. */
+static uint32_t looks_before(const struct seat *seat, uint64_t moment)
+{
+    const bool tries = LOOKS && BEGUN++ % WAITS_PER_TRY < TRIES;
+    if (moment != NEVER && moment < present() + MOMENTS_OF_LOOKS)
+        return 0;
+    return tries ? LOOKS_AT_WORD : seat->looks;
+}
+
 /* Looks at the caller's word so often, before it sleeps; the next time half as often where it was in vain. */
 static void look(struct seat *seat, uint32_t looks)
 {
     for (uint32_t i = 0; i < looks; i++) {
         if (atomic_load_explicit(&seat->word, memory_order_acquire) != IS_AWAKE) {
-            seat->looks = LOOKS;
+            seat->looks = LOOKS_AT_WORD;
             return;
         }
         rest();
@@ -449,10 +459,11 @@ static uint64_t keep_time(struct seat *seat)
 __attribute__((noinline)) static DWORD sleep_until_granted(struct seat *seat)
 {
     fall_asleep(seat);
-    const uint32_t looks = BEGUN++ % WAITS_PER_TRY < TRIES ? LOOKS * TIMES_OF_A_TRY : seat->looks;
     uint64_t moment = time_to_keep(seat);
+    const uint32_t looks = looks_before(seat, moment);
     unlock_and_wake(seat);
-    look(seat, looks);
+    if (looks > 0)
+        look(seat, looks);
     while (!sleep_to(seat, moment))
         moment = keep_time(seat);
     return seat->status;
@@ -467,7 +478,7 @@ static struct seat *take_seat(void)
         return NULL;
     struct seat *seat = &SEATS[SEATED];
     seat->number = SEATED++;
-    seat->looks = LOOKS;
+    seat->looks = LOOKS ? LOOKS_AT_WORD : 0;
     return seat;
 }
 
@@ -488,7 +499,7 @@ static void leave(void *unused)
 
 static void open_dispatcher(void)
 {
-    LOOKS = sysconf(_SC_NPROCESSORS_ONLN) > 1 ? MOST_LOOKS : 0;
+    LOOKS = sysconf(_SC_NPROCESSORS_ONLN) > 1;
     PROCESS = getpid();
     START = monotonic();
     DISPATCHER.room = aligned_alloc(16, (nt_room() + 15) / 16 * 16);

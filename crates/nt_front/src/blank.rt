@@ -9,7 +9,7 @@ ghost use Rattle.nt_front.specs.Holds.{new_threads};
 
 use crate::book::Book;
 use crate::front::Front;
-use crate::hold::{Hold, Pass};
+use crate::hold::{Hold, LOOKS, Pass};
 use crate::named::Named;
 use crate::wake::Bells;
 use nt_core::Core;
@@ -179,6 +179,7 @@ fn hand_out<N: Named>(mail: &Mail, seats: &mut JoinedSeats, threads: u16, passes
             seat,
             floor: Moment::ZERO,
             calls: 0,
+            looks: LOOKS,
             of: PhantomData,
         };
         passes.push_reserved(Pass { hold });

@@ -225,14 +225,6 @@ impl<N: Named> Book<N> {
         self.core.grants().is_empty()
     }
 
-    /// How many waits pend.
-    #[inline(always)]
-    pub(crate) fn pending(&self) -> usize
-        ensures { result ≡ map.len (state self.now.core).waits }
-    {
-        self.core.pending()
-    }
-
     /// A mark for each thread whose wait the last call or tick ended; none where it ended no wait.
     pub(crate) fn ended(&self) -> Option<Marks>
         ensures none { IfNone result (self.now.core.grants ≡ []) }

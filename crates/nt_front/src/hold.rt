@@ -8,12 +8,23 @@ use nt_mail::ThreadSeat;
 use nt_status::{Moment, ThreadId};
 use std::marker::{Model, PhantomData};
 
+/// How often a thread looks for its grant before it sleeps, where looks help: longer than a thread takes to wake that sleeps.
+pub(crate) const LOOKS: u32 = 1000;
+
+/// Of so many calls of a thread ..
+const CALLS_PER_TRY: u64 = 4096;
+
+/// .. so many, where they wait, try again whether looks help. Two, since a thread's waits may be every other call.
+const TRIES: u64 = 2;
+
 /// What every hold has: the thread's seat, the greatest moment that the thread knows, and how many calls and ticks it made.
 ///
 /// Contracts see it, and each hold, as what the thread knows.
 pub struct Hold<N: Named> {
     pub(crate) floor: Moment,
     pub(crate) calls: u64,
+    /// How often it looks for its next grant before it sleeps. Contracts don't see it.
+    pub(crate) looks: u32,
     /// Last: it has a number of two bytes, and what stands before it is moved in whole words.
     pub(crate) seat: ThreadSeat,
     pub(crate) of: PhantomData<N>,
@@ -45,6 +56,22 @@ impl<N: Named> Hold<N> {
         self.calls
     }
 
+    /// How often the thread looks for a grant before it sleeps: not at all where that was in vain of late.
+    pub(crate) fn looks(&self) -> u32 {
+        if self.calls % CALLS_PER_TRY < TRIES {
+            LOOKS
+        } else {
+            self.looks
+        }
+    }
+
+    /// Notes whether a wait was granted while the thread looked: where it was not, the thread looks half as often for the next.
+    pub(crate) fn note_looks(&mut self, helped: bool)
+        ensures { self.new ≡ self.old }
+    {
+        self.looks = if helped { LOOKS } else { self.looks / 2 };
+    }
+
     /// The thread's seat alone.
     pub(crate) fn into_seat(self) -> ThreadSeat
         ensures { result ≡ seated N.front.table self }
@@ -53,6 +80,7 @@ impl<N: Named> Hold<N> {
             seat,
             floor: _,
             calls: _,
+            looks: _,
             of: _,
         } = self;
         seat

@@ -24,9 +24,6 @@ pub enum Waited<N: Named> {
     NoRoom(Pass<N>),
 }
 
-/// How often a thread looks for its grant before it sleeps, where no other wait pends: about as long as falling asleep and waking take.
-const LOOKS: u32 = 40;
-
 impl<N: Named> Front<N> {
     /// Begins a wait and, where it pends, waits until it is granted and takes the grant. Where the journal is full the wait is dropped.
     #[inline(always)]
@@ -39,10 +36,9 @@ impl<N: Named> Front<N> {
             return Waited::NoRoom(Pass { hold });
         };
         if has_pended(&begun.result) {
-            let looks = if book.pending() == 1 { LOOKS } else { 0 };
             // Whom the signal of a swap granted is woken before this thread sleeps.
             self.leave(book);
-            let (pass, granted) = self.sleep_after(rt, Sleeper { hold }, looks);
+            let (pass, granted) = self.sleep(rt, Sleeper { hold });
             return Waited::Granted(pass, begun, granted);
         }
         self.leave(book);
@@ -50,26 +46,22 @@ impl<N: Named> Front<N> {
     }
 
     /// Waits until the thread's wait is granted, and takes the grant. It never waits for the lock.
+    #[inline(never)]
+    #[tactic(auto, using(crate::proofs::Polling::same_still))]
     pub fn sleep(&self, rt: &impl Wait, sleeper: Sleeper<N>) -> (Pass<N>, Receipt)
         ensures { IsGiven sleeper result.1.entry result.1.result result.0 }
     {
-        self.sleep_after(rt, sleeper, 0)
-    }
-
-    /// The same, after it has looked for the grant so many times.
-    #[inline(never)]
-    #[tactic(auto, using(crate::proofs::Polling::same_still))]
-    fn sleep_after(&self, rt: &impl Wait, sleeper: Sleeper<N>, looks: u32) -> (Pass<N>, Receipt)
-        ensures { IsGiven sleeper result.1.entry result.1.result result.0 }
-    {
         let bell = self.bells.of(sleeper.thread());
-        let mut looks = looks;
+        let mut looks = sleeper.hold.looks();
         let mut sleeper = sleeper;
         for _ in rt.forever() {
             // A grant is sent before its bell rings: one that the poll does not find rings after this.
             let rings = rings_of(bell);
             match self.poll(sleeper) {
-                Polled::Ready(pass, receipt) => return (pass, receipt),
+                Polled::Ready(mut pass, receipt) => {
+                    pass.hold.note_looks(looks > 0);
+                    return (pass, receipt);
+                }
                 Polled::Still(still) => sleeper = still,
             }
             if looks > 0 {

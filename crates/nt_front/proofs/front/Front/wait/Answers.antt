@@ -4,8 +4,8 @@ use Rattle.nt_core.specs.declared.call.Call.{Call}
 use Rattle.nt_front.proofs.Floors.{waits_after, free_after}
 use Rattle.nt_front.proofs.front.Front.wait.Goals as goal
 
-pub invariant_of-sleep_after : goal.invariant_of-sleep_after
-invariant_of-sleep_after g c =
+pub invariant_of-sleep : goal.invariant_of-sleep
+invariant_of-sleep g c =
     subst IsWaiting (sym c.in-Ok.ensures.made)
     (waits_after c.pass.inside.hold c.in-Ok.begun.entry (Call.Wait c.args.wait) c.in-Ok.begun.result (sym c.has_pended.ensures ∙ c.if-has_pended.true) c.pass.invariant c.in-Ok.ensures.earlier)
 
