@@ -302,10 +302,6 @@ tick_rises n es s m (Err cause) new published a come is = tt
 pub below : (d : Dispatcher) (n : ℕ) → IsLawful d → d.threads ≡ n → AreBelow n (state d)
 below d n lawful same t pending = let known = who_waits d t lawful pending in omega (arith, known, same)
 
--- the last entry is replaced
-pub set_last : (es : List Entry) (e new : Entry) (all : List Entry) (place : ℕ) → all ≡ es ++ e ∷ [] → place ≡ length es → slice_set all place new ≡ es ++ new ∷ []
-set_last es e new all place is here = ap (λ (l : List Entry). slice_set l place new) is ∙ (ap (λ n. slice_set (es ++ e ∷ []) n new) here ∙ set-append_seam es e [] new)
-
 -- the last entry is read
 pub last_is : (es : List Entry) (e : Entry) (all : List Entry) (place : ℕ) (x : Entry) → x ≡ get_or all place x → all ≡ es ++ e ∷ [] → place ≡ length es → x ≡ e
 last_is es e all place x value is here = value ∙ (ap (λ (l : List Entry). get_or l place x) is ∙ (ap (λ n. get_or (es ++ e ∷ []) n x) here ∙ get_or-append_seam es e [] x))

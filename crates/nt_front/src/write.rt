@@ -12,7 +12,7 @@ use nt_core::{Call, Core, Grant, Reply};
 use nt_mail::{DispatcherSeat, Entry, Mail, ThreadSeat};
 use nt_status::{Moment, Refusal, ThreadId};
 
-/// Moves the call into the journal, carries it out where it lies, and writes its result beside it.
+/// Carries the call out, and writes it with its result.
 #[inline(always)]
 pub(crate) fn write_call(
     core: &mut Core,
@@ -25,17 +25,10 @@ pub(crate) fn write_call(
     ensures journal { journal.new.items ≡ journal.old.items ++ Called who call result ∷ [] }
     ensures room { (vec_len journal.new ≡ vec_len journal.old + 1) × (vec_capacity journal.new ≡ vec_capacity journal.old) }
 {
-    let place = journal.len();
-    journal.push_reserved(Entry::Called {
-        who,
-        call,
-        result: Err(Refusal::JournalFull),
-    });
-    let Entry::Called { who, call, result } = &mut journal[place] else {
-        unreachable!()
-    };
-    *result = core.call(u32::from(who.get()), call);
-    *result
+    let result = core.call(u32::from(who.get()), &call);
+    let told = result;
+    journal.push_reserved(Entry::Called { who, call, result });
+    told
 }
 
 /// Tells the thread of its entry, and whether a wait of it is pending.

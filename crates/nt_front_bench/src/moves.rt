@@ -25,6 +25,7 @@ pub fn nanos_since(clock: &impl Clock, began: Option<Instant>) -> u128 {
 }
 
 /// Makes a call that never pends, and expects that it is accepted.
+#[inline(always)]
 pub fn call<N: Named, R: Wait>(
     rt: &R,
     front: &Front<N>,
@@ -39,6 +40,7 @@ pub fn call<N: Named, R: Wait>(
 }
 
 /// A wait for all or any of these objects.
+#[inline(always)]
 pub fn objects(alloc: Global, handles: &[Handle], all: bool, ms: u32) -> Option<WaitCall> {
     let handles = Handles::from_slice(alloc, handles).ok()?;
     Some(WaitCall::Objects {
@@ -50,6 +52,7 @@ pub fn objects(alloc: Global, handles: &[Handle], all: bool, ms: u32) -> Option<
 }
 
 /// Waits for the object until it is granted.
+#[inline(always)]
 pub fn wait_for<N: Named, R: Wait>(
     rt: &R,
     alloc: Global,
@@ -68,6 +71,7 @@ pub fn wait_for<N: Named, R: Wait>(
 }
 
 /// Waits until the wait has ended.
+#[inline(always)]
 pub fn wait<N: Named, R: Wait>(
     rt: &R,
     front: &Front<N>,
@@ -93,6 +97,7 @@ pub fn wait<N: Named, R: Wait>(
 }
 
 /// Waits with timeout 0, and expects this status.
+#[inline(always)]
 pub fn try_wait<N: Named, R: Wait>(
     rt: &R,
     alloc: Global,

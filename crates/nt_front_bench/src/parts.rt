@@ -33,31 +33,24 @@ fn core_rounds(core: &mut Core, alloc: Global, rounds: u32, told: &mut Told) -> 
     Ok(())
 }
 
-/// Writes the call into the journal, and carries it out where it lies.
+/// Carries the call out, and writes it with its result.
+#[inline(always)]
 fn write(
     core: &mut Core,
     journal: &mut Vec<Entry>,
     call: Call,
 ) -> Result<Result<Reply, Refusal>, Fault> {
-    let place = journal.len();
+    let result = core.call(0, &call);
+    let told = result;
     let entry = Entry::Called {
         who: ThreadId::new(0),
         call,
-        result: Err(Refusal::JournalFull),
-    };
-    if journal.push(entry).is_err() {
-        return Err(Fault::Memory);
-    }
-    let Entry::Called {
-        who: _,
-        call,
         result,
-    } = &mut journal[place]
-    else {
-        return Err(Fault::Wrong);
     };
-    *result = core.call(0, call);
-    Ok(*result)
+    match journal.push(entry) {
+        Ok(()) => Ok(told),
+        Err(_) => Err(Fault::Memory),
+    }
 }
 
 fn written_rounds(
