@@ -32,10 +32,10 @@
 enum {
     NO_HANDLE = 0xFFFFFF, /* a number that no handle has */
     LOOKS_AT_LOCK = 40,      /* before a thread sleeps on the lock: about as long as falling asleep and waking take */
-    LOOKS_AT_WORD = 1000,    /* before it sleeps on its own word: longer than a thread that sleeps takes to wake, .. */
-    MOMENTS_OF_LOOKS = 1000, /* .. and shorter than this */
-    WAITS_PER_TRY = 4096,    /* of so many waits, those of all threads, .. */
-    TRIES = 2,               /* .. so many try again whether looks help */
+    LOOKS_AT_WORD = 1000,    /* before it sleeps on its own word: longer than a thread that sleeps takes to wake */
+    MOMENTS_OF_LOOKS = 1000, /* what so many looks take at the most, in units of 100 ns */
+    WAITS_PER_TRY = 4096,    /* once in so many waits, those of all threads together, */
+    TRIES = 2,               /* this many of them try again whether looks help */
     MOMENTS_PER_SECOND = 10000000,
     NANOSECONDS_PER_MOMENT = 100
 };

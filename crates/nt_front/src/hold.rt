@@ -11,10 +11,10 @@ use std::marker::{Model, PhantomData};
 /// How often a thread looks for its grant before it sleeps, where looks help: longer than a thread takes to wake that sleeps.
 pub(crate) const LOOKS: u32 = 1000;
 
-/// Of so many calls of a thread ..
+/// Once in so many of its calls a thread tries again whether looks help.
 const CALLS_PER_TRY: u64 = 4096;
 
-/// .. so many, where they wait, try again whether looks help. Two, since a thread's waits may be every other call.
+/// A try is so many calls, of which those that wait look: two, since a thread's waits may be every other call.
 const TRIES: u64 = 2;
 
 /// What every hold has: the thread's seat, the greatest moment that the thread knows, and how many calls and ticks it made.
