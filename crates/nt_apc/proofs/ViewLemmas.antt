@@ -1,5 +1,5 @@
 -- The queues and the threads of places, as callers see them.
-use Rattle.std.proofs.Common.{◌≤◌, ◌+◌, ◌++◌, take, zero, suc, replicate, arith, ◌≡◌, ◌≢◌, ℕ, ◌<◌, Bool, true, false, not, ◌==◌, List, [], ◌∷◌, length, map, slice_index_or, slice_set, Option, Some, None, refl, sym, ◌∙◌, ap, subst, inl, inr}
+use Rattle.std.proofs.Common.{◌≤◌, ◌+◌, ◌++◌, take, zero, suc, replicate, arith, ◌≡◌, ◌≢◌, ℕ, ◌<◌, true, false, not, ◌==◌, List, [], ◌∷◌, length, map, slice_index_or, slice_set, Option, Some, None, refl, sym, ◌∙◌, ap, subst, inl, inr}
 use Rattle.std.proofs.lemmas.Bool.{cases_eq, cases_Bool, ne_eqb}
 use Rattle.std.proofs.lemmas.List.Folds.{list_any_at, list_any_none}
 use Rattle.std.proofs.lemmas.List.{get_or-map as get_or-map_within, get_or-set_same, get_or-set_other, map-set, set-get_or, get_or_default, length-map, length-set, same_lists, map-append, take_more, take_all}
@@ -7,14 +7,13 @@ use Rattle.std.proofs.Math.ListN.{get_or-map}
 use Rattle.std.specs.Prelude.{slice_get, Contains, AllPairs}
 use Rattle.std.specs.List.{list_any}
 use Rattle.std.proofs.lemmas.Option.{slice_get_within, slice_get-get_or}
-use Rattle.std.proofs.Math.Seq.{map-set_same}
 use Rattle.nt_apc.specs.declared.apc.Queued.{Queued}
 use Rattle.nt_apc.specs.declared.place.Place.{Place}
 use Rattle.nt_apc.specs.Queues.{KeepsPlaces, queue_of, place_of, has_from, is_queued, without_from, withdrawn, withdrawn_at}
 use Rattle.nt_apc.proofs.SoundLemmas.{place_known, place_of_thread, some_same, sound_same}
 use Rattle.nt_apc.proofs.QueueLemmas.{without_from-none}
 use Rattle.nt_apc.specs.Inbox.{Contents}
-use Rattle.nt_apc.specs.Place.{inbox_at, timer_at, place_at, thread_of, queues_in, threads_in, flagged, reindexed, marked, moved_to, IsSound, timers_in, KeepsSound}
+use Rattle.nt_apc.specs.Place.{inbox_at, timer_at, place_at, thread_of, queues_in, threads_in, IsSound, timers_in, KeepsSound}
 
 pub queue_of-queues_in : (inboxes : List Contents) (t : ℕ) → queue_of (queues_in inboxes) t ≡ (inbox_at inboxes t).queue
 queue_of-queues_in inboxes t = get_or-map (λ (inbox : Contents). inbox.queue) inboxes t (record { queue = []; timers = []; room = 0 })
@@ -34,20 +33,6 @@ queues_in-set_by inboxes t inbox f is =
 -- one inbox keeps its queue
 pub queues_in-set_same : (inboxes : List Contents) (t : ℕ) (inbox : Contents) → inbox.queue ≡ (inbox_at inboxes t).queue → queues_in (slice_set inboxes t inbox) ≡ queues_in inboxes
 queues_in-set_same inboxes t inbox is = queues_in-set_by inboxes t inbox (λ queue. queue) is ∙ set-get_or (queues_in inboxes) t []
-
-thread_of-flagged : (queued : Bool) (o : Option Place) → thread_of (flagged queued o) ≡ thread_of o
-thread_of-flagged queued None = refl
-thread_of-flagged queued (Some place) = refl
-
-thread_of-reindexed : (index : ℕ) (o : Option Place) → thread_of (reindexed index o) ≡ thread_of o
-thread_of-reindexed index None = refl
-thread_of-reindexed index (Some place) = refl
-
-pub threads_in-marked : (places : List (Option Place)) (m : ℕ) (queued : Bool) → threads_in (marked places m queued) ≡ threads_in places
-threads_in-marked places m queued = map-set_same thread_of places m (flagged queued (place_at places m)) None (thread_of-flagged queued (place_at places m))
-
-pub threads_in-moved_to : (places : List (Option Place)) (m index : ℕ) → threads_in (moved_to places m index) ≡ threads_in places
-threads_in-moved_to places m index = map-set_same thread_of places m (reindexed index (place_at places m)) None (thread_of-reindexed index (place_at places m))
 
 -- an inbox that is read
 pub read_at : (inboxes : List Contents) (t at : ℕ) (default : Contents) → at ≡ t → t < length inboxes → slice_index_or inboxes at default ≡ inbox_at inboxes t

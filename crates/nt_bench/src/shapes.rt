@@ -2,12 +2,9 @@
 
 use crate::turns::Turn;
 use nt_core::{Act, Call, WaitCall};
-use nt_status::{Handle, Handles};
+use nt_status::{Handle, Handles, INFINITE};
 use std::alloc::{AllocError, Global};
 use std::ops::Range;
-
-/// INFINITE.
-const INFINITE: u32 = 0xFFFF_FFFF;
 
 /// So many threads, the calls that make the objects, and a round, which leaves everything as it was before it.
 #[derive(Drop)]

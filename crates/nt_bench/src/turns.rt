@@ -49,11 +49,20 @@ fn make(core: &mut Core, turn: &Turn) -> Result<u64, Refusal> {
     Ok(core.grants().len() as u64)
 }
 
-/// Makes the calls in turn, and answers how many pending waits they ended.
-fn make_all(core: &mut Core, turns: &[Turn]) -> Result<u64, Refusal> {
+/// Makes so many calls, in turn and over and over, and answers how many pending waits they ended.
+fn make_in_turn(core: &mut Core, turns: &[Turn], calls: u64) -> Result<u64, Refusal> {
     let mut grants = 0_u64;
-    for turn in turns {
+    let mut place = 0_usize;
+    for _ in 0..calls {
+        let Some(turn) = turns.get(place) else {
+            return Ok(grants);
+        };
         grants = grants.wrapping_add(make(core, turn)?);
+        place = if place + 1 < turns.len() {
+            place + 1
+        } else {
+            0
+        };
     }
     Ok(grants)
 }
@@ -68,24 +77,17 @@ pub struct Stage<'a> {
 impl<'a> Stage<'a> {
     pub fn open(alloc: Global, shape: &'a Shape) -> Result<Self, Fault> {
         let mut core = Core::new(alloc, shape.threads)?;
-        make_all(&mut core, shape.prepare.as_slice())?;
+        make_in_turn(&mut core, &shape.prepare, shape.prepare.len() as u64)?;
         Ok(Stage {
             core,
             round: shape.round.as_slice(),
         })
     }
 
-    fn run_once(&mut self) -> Result<u64, Refusal> {
-        make_all(&mut self.core, self.round)
-    }
-
     /// Makes the round so many times.
     pub fn run(&mut self, rounds: u64) -> Result<Counts, Refusal> {
-        let mut grants = 0_u64;
-        for _ in 0..rounds {
-            grants = grants.wrapping_add(self.run_once()?);
-        }
         let calls = rounds.wrapping_mul(self.round.len() as u64);
+        let grants = make_in_turn(&mut self.core, self.round, calls)?;
         Ok(Counts { calls, grants })
     }
 }

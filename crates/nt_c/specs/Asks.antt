@@ -1,5 +1,5 @@
 -- What a call through C's handle does.
-use Rattle.std.specs.Prelude.{◌≡◌, ℕ, ◌≤◌, ◌⊎◌, ◌^◌, Bool, Option, None, Some, MatchOption, slice_get, MatchBool, nat_le, ◌&&◌, [], length, pos, is_some, true, false}
+use Rattle.std.specs.Prelude.{◌≡◌, ℕ, ◌≤◌, ◌⊎◌, Bool, Option, None, Some, MatchOption, slice_get, MatchBool, nat_le, ◌&&◌, [], length, pos, is_some, true, false}
 use Rattle.std.specs.FinMap as map
 use Rattle.nt_c.specs.declared.grants.NtGrant.{NtGrant}
 use Rattle.nt_c.specs.declared.handle.Nt.{Nt}
@@ -7,6 +7,7 @@ use Rattle.nt_c.specs.declared.pending.NtPendingWait.{NtPendingWait}
 use Rattle.nt_c.specs.declared.reply.NtReply.{NtReply}
 use Rattle.std.specs.declared.result.Result.{Result}
 use Rattle.std.specs.declared.result.Result.TheVariants.{Ok, Err}
+use Rattle.nt_status.specs.declared.limits.TheConstants.{MAX_MOMENT, MAX_THREADS}
 use Rattle.nt_status.specs.Refusal.{number_of}
 use Rattle.nt_status.specs.declared.refusal.Refusal.{Refusal}
 use Rattle.nt_status.specs.declared.refusal.Refusal.TheVariants.{InvalidHandle, Memory}
@@ -97,10 +98,10 @@ abbrev pub TickAsked : Option Dispatcher → ℕ → Result Reply Refusal → Op
 TickAsked None m result new = (result ≡ Err InvalidHandle) × (new ≡ None)
 TickAsked (Some old) m result new = (core : Dispatcher) × (new ≡ Some core) × Ticked (state old) m result core.grants (state core) × IsLawful core
 
--- a tick of which C sees the number; no moment is above 2^62
+-- a tick of which C sees the number; no moment is above the greatest
 abbrev pub Ticks : Nt → ℕ → ℕ → Nt → Type 0
 Ticks old m number new =
-    MatchBool (nat_le m (2 ^ 62))
+    MatchBool (nat_le m MAX_MOMENT)
     ((result : Result Reply Refusal) × TickAsked old.cell.core m result new.cell.core × (number ≡ error_of result))
     ((number ≡ 87) × (new ≡ old))
 
@@ -169,22 +170,22 @@ abbrev IsDueTold : Dispatcher → ℕ → ℕ → ℕ → ℕ → Type 0
 IsDueTold core m number before after =
     ((number ≡ 0) × IsNextMoment (state core) m after) ⊎ (Untold ℕ 259 number before after × NothingDue (state core) m)
 
--- the same through a handle; no moment is above 2^62
+-- the same through a handle; no moment is above the greatest
 abbrev pub ReadsDue : ℕ → Nt → ℕ → ℕ → ℕ → Type 0
 ReadsDue m nt number before after =
-    MatchBool (nat_le m (2 ^ 62))
+    MatchBool (nat_le m MAX_MOMENT)
     (MatchOption nt.cell.core (Untold ℕ 6 number before after) (λ core. IsDueTold core m number before after))
     (Untold ℕ 87 number before after)
 
 -- ---- dispatchers come and go
 
--- a dispatcher for so many threads is opened where there is none; refused with 87 where there is one or the count is not 1 to 256,
--- and with 8 where memory is refused
+-- a dispatcher for so many threads is opened where there is none; refused with 87 where there is one, and for no thread
+-- or too many, and with 8 where memory is refused
 abbrev pub Opens : Option Dispatcher → ℕ → ℕ → Option Dispatcher → Type 0
 Opens (Some old) threads number new = (number ≡ 87) × (new ≡ Some old)
 Opens None threads number new =
-    ((core : Dispatcher) × (new ≡ Some core) × (number ≡ 0) × (1 ≤ threads) × (threads ≤ 256) × (state core ≡ opening threads) × (core.grants ≡ []))
-    ⊎ ((new ≡ None) × MatchBool (nat_le 1 threads && nat_le threads 256) (number ≡ 8) (number ≡ 87))
+    ((core : Dispatcher) × (new ≡ Some core) × (number ≡ 0) × (1 ≤ threads) × (threads ≤ MAX_THREADS) × (state core ≡ opening threads) × (core.grants ≡ []))
+    ⊎ ((new ≡ None) × MatchBool (nat_le 1 threads && nat_le threads MAX_THREADS) (number ≡ 8) (number ≡ 87))
 
 -- an equal dispatcher comes to where there was none; refused with 6 where there is nothing to copy, with 87 where there is one
 -- already, and with 8 where memory is refused

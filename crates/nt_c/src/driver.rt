@@ -9,12 +9,9 @@ ghost use Rattle.nt_c.specs.Asks.{WaitsOrKeeps};
 ghost use Rattle.nt_c.specs.Kinds.{IsForObjects};
 
 use nt_core::{Call, Core, Reply, WaitCall};
-use nt_status::{Handle, Handles, Refusal};
+use nt_status::{Handle, Handles, MAX_THREADS, MAX_WAIT_OBJECTS, Refusal};
 use std::alloc::{AllocError, Global};
 use std::marker::Model;
-
-/// How many handles a wait can name.
-const MOST_HANDLES: usize = 64;
 
 /// A dispatcher, and the last wait for objects that was asked of it from C.
 #[derive(Drop)]
@@ -43,7 +40,7 @@ impl Model for Driver {
 fn blank(alloc: Global) -> Result<Call, AllocError>
     ensures { IfOk result (λ wait. IsForObjects wait) }
 {
-    let handles = Handles::with_capacity(alloc, MOST_HANDLES)?;
+    let handles = Handles::with_capacity(alloc, MAX_WAIT_OBJECTS)?;
     Ok(Call::Wait(WaitCall::Objects {
         all: false,
         alertable: false,
@@ -99,13 +96,15 @@ fn write(
 impl Driver {
     /// A dispatcher whose threads run and wait for nothing.
     ///
-    /// Refused with 87 unless there are 1 to 256 threads, and with 8 where memory is refused.
+    /// Refused with 87 unless there are 1 to `MAX_THREADS` threads, and with 8 where memory is refused.
     pub fn new(alloc: Global, threads: u32) -> Result<Driver, Refusal>
-        ensures ok { IfOk result (λ d. (1 ≤ threads) × (threads ≤ 256) × (state d ≡ opening threads) × (d.grants ≡ [])) }
-        ensures err { IfErr result (λ r. MatchBool (nat_le 1 threads && nat_le threads 256) (r ≡ Memory) (r ≡ InvalidParameter)) }
+        ensures ok { IfOk result (λ d. (1 ≤ threads) × (threads ≤ MAX_THREADS) × (state d ≡ opening threads)
+            × (d.grants ≡ [])) }
+        ensures err { IfErr result (λ r.
+            MatchBool (nat_le 1 threads && nat_le threads MAX_THREADS) (r ≡ Memory) (r ≡ InvalidParameter)) }
     {
         // `Core::new` refuses them too; here it comes before the list's memory.
-        if threads == 0 || threads > 256 {
+        if threads == 0 || threads > MAX_THREADS {
             return Err(Refusal::InvalidParameter);
         }
         let wait = blank(alloc)?;

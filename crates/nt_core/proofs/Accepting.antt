@@ -7,11 +7,13 @@ use Rattle.std.specs.Ordering.{nat_cmp}
 use Rattle.std.proofs.lemmas.Bool.{false≢true}
 use Rattle.std.proofs.lemmas.List.{append-nil, length-replicate}
 use Rattle.nt_waits.specs.declared.wait.Wait.{Wait}
-use Rattle.nt_waits.specs.Waits.{Waits, Agrees, IsMember, Names}
+use Rattle.nt_status.specs.Lists.{IsMember}
+use Rattle.nt_waits.specs.Waits.{Waits, Agrees, Names}
 use Rattle.nt_objects.specs.declared.object.Object.{Object}
 use Rattle.nt_objects.specs.declared.object.Object.TheVariants.{Thread}
 use Rattle.nt_objects.specs.Object.{due_of, setter_of, is_thread, taken, IsLawfulObject}
 use Rattle.nt_alarms.specs.Alarms.{alarm_at}
+use Rattle.nt_status.specs.declared.limits.TheConstants.{MAX_THREADS, MAX_WAIT_OBJECTS}
 use Rattle.nt_core.specs.declared.call.Call.{Call}
 use Rattle.nt_core.specs.declared.call.Reply.{Reply}
 use Rattle.nt_core.specs.declared.call.Grant.{Grant}
@@ -28,7 +30,7 @@ use Rattle.nt_core.proofs.Handling.{handles_along, own_agree}
 use Rattle.nt_core.proofs.Marking.{marks_along, marks_opening, named_member}
 use Rattle.nt_core.specs.Accepts.{is_by_objects, IsFresh, IsServedAfter, Accepts}
 use Rattle.std.proofs.Common.{◌||◌, is_some, ◌==◌, nat_lt}
-use Rattle.std.specs.Prelude.{nat_le, nat_eq, Result, Ok, Err, IfOk, OnOk}
+use Rattle.std.specs.Prelude.{nat_le, nat_eq, Result, Ok, Err, IfOk}
 use Rattle.std.specs.List.{list_any, IsDistinct, AllByRecursion}
 use Rattle.std.proofs.lemmas.Bool.Decides.{nat_tests}
 use Rattle.nt_status.specs.declared.refusal.Refusal.{Refusal}
@@ -50,10 +52,6 @@ use Rattle.nt_core.proofs.Keeping.{same_reading, due_taken}
 pub ok_then : {A E : Type 0} (P Q : A → Type 0) → ((a : A) → P a → Q a) → (r : Result A E) → IfOk r P → IfOk r Q
 ok_then P Q then (Ok a) h = then a h
 ok_then P Q then (Err e) h = tt
-
-pub ok_both : {A E : Type 0} (P : A → Type 0) (Q : Type 0) (R : A → Type 0) → ((a : A) → P a → Q → R a) → (r : Result A E) → IfOk r P → OnOk r Q → IfOk r R
-ok_both P Q R then (Ok a) p q = then a p q
-ok_both P Q R then (Err e) p q = tt
 
 -- the first cause does not hold, nor do the others
 pub next_causes : (b : Bool) (r : Refusal) (cs : List Cause) → first_of_causes ((b, r) ∷ cs) ≡ None → (b ≡ false) × (first_of_causes cs ≡ None)
@@ -159,7 +157,7 @@ quiet_alarms zero h = refl
 quiet_alarms (suc n) zero = refl
 quiet_alarms (suc n) (suc h) = quiet_alarms n h
 
-pub opening_steady : (d : Dispatcher) → d.threads ≤ 256 → d.handles ≡ own_handles d.threads (full_access (Thread false)) → d.objects ≡ replicate d.threads (Thread false) → d.table.pending ≡ fin.empty → Agrees d.table.pending d.table.queues → length d.handing ≡ d.threads → length d.apcs.queues ≡ d.threads → d.grants ≡ [] → d.alarms ≡ replicate d.threads None → d.leaving ≡ replicate d.threads None → IsSteady d
+pub opening_steady : (d : Dispatcher) → d.threads ≤ MAX_THREADS → d.handles ≡ own_handles d.threads (full_access (Thread false)) → d.objects ≡ replicate d.threads (Thread false) → d.table.pending ≡ fin.empty → Agrees d.table.pending d.table.queues → length d.handing ≡ d.threads → length d.apcs.queues ≡ d.threads → d.grants ≡ [] → d.alarms ≡ replicate d.threads None → d.leaving ≡ replicate d.threads None → IsSteady d
 opening_steady d few handles objects waits agrees hands inboxes grants alarms leaving = record {
   sound = record {
     few = few;
@@ -306,11 +304,11 @@ pub sound_objects : (s : State) (t : ℕ) (handles : List ℕ) (all alertable : 
 sound_objects s t handles all alertable ms alive none =
     let caller = free_caller s t (Call.Wait (WaitCall.Objects all alertable ms handles)) none in
     let own = own_causes s t (Call.Wait (WaitCall.Objects all alertable ms handles)) none in
-    let first = next_causes (length handles == 0 || nat_lt 64 (length handles)) InvalidParameter ((list_any (is_unknown s.objects) handles, InvalidHandle) ∷ (has_twice handles, InvalidParameter) ∷ (list_any (is_at_limit s.objects t) handles, RecursionLimit) ∷ []) own in
+    let first = next_causes (length handles == 0 || nat_lt MAX_WAIT_OBJECTS (length handles)) InvalidParameter ((list_any (is_unknown s.objects) handles, InvalidHandle) ∷ (has_twice handles, InvalidParameter) ∷ (list_any (is_at_limit s.objects t) handles, RecursionLimit) ∷ []) own in
     let second = next_causes (list_any (is_unknown s.objects) handles) InvalidHandle ((has_twice handles, InvalidParameter) ∷ (list_any (is_at_limit s.objects t) handles, RecursionLimit) ∷ []) first.1 in
     let third = next_causes (has_twice handles) InvalidParameter ((list_any (is_at_limit s.objects t) handles, RecursionLimit) ∷ []) second.1 in
     let fourth = next_causes (list_any (is_at_limit s.objects t) handles) RecursionLimit [] third.1 in
-    let few = (or_false (length handles == 0) (nat_lt 64 (length handles)) first.0).1 in
+    let few = (or_false (length handles == 0) (nat_lt MAX_WAIT_OBJECTS (length handles)) first.0).1 in
     let known : (h : ℕ) → Names (wait_for handles all) h → h < length s.objects = λ h names. let known = all_unless_any (is_unknown s.objects) handles second.0 names.0 names.1 in subst (λ (k : ℕ). k < length s.objects) names.2 (grind (arith, nat_tests, known)) in
     record {
       known = caller.0;

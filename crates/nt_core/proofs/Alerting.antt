@@ -9,11 +9,11 @@ use Rattle.std.proofs.lemmas.Bool.{cases_eq, false≢true}
 use Rattle.std.proofs.lemmas.List.{get_or-set_other, length-set, append-nil}
 use Rattle.nt_status.specs.Status.{io_completion_code}
 use Rattle.nt_waits.specs.declared.wait.Wait.{Wait}
-use Rattle.nt_waits.specs.Waits.{Waits, queue_of, others, Agrees, IsMember}
+use Rattle.nt_status.specs.Lists.{IsMember}
+use Rattle.nt_waits.specs.Waits.{Waits, queue_of, others, Agrees}
 use Rattle.nt_apc.specs.declared.apc.Queued.{Queued}
 use Rattle.nt_apc.specs.Queues.{queue_of as inbox_of, has_apc, pushed, taken, oldest, apc_of, without_oldest}
-use Rattle.std.proofs.Math.Nat.{lt_of_not-le}
-use Rattle.nt_objects.specs.Object.{due_of, is_thread}
+use Rattle.nt_objects.specs.Object.{due_of}
 use Rattle.nt_core.specs.declared.call.Call.{Call}
 use Rattle.nt_core.specs.declared.call.Act.{Act}
 use Rattle.nt_core.specs.declared.call.Reply.{Reply}
@@ -255,10 +255,6 @@ queued_accepted old new t h routine arg fresh sound after = record {
 
     served : IsServed (state mid)
     served = fresh.steady.settled.served
-
--- a thread's object stands at the thread's number
-pub thread_known : (d : Dispatcher) (h : ℕ) → IsSound d → h < length d.objects → is_thread (object_at d.objects h) ≡ true → h < d.threads
-thread_known d h sound known is = lt_of_not-le (λ beyond. false≢true (sym (sound.none_else h beyond known) ∙ is))
 
 -- ---- an APC is taken
 

@@ -17,7 +17,7 @@ use Rattle.nt_core.specs.State.{State, Pending, names, pending_too}
 use Rattle.nt_core.specs.Dispatcher.{Dispatcher, state}
 use Rattle.nt_core.specs.Lawful.{IsSoundWait, IsSound}
 use Rattle.std.proofs.lemmas.List.{length-set}
-use Rattle.nt_status.specs.Status.{infinite}
+use Rattle.nt_status.specs.declared.limits.TheConstants.{INFINITE}
 use Rattle.nt_apc.specs.Queues.{has_apc}
 use Rattle.nt_objects.specs.declared.object.Object.{Object}
 use Rattle.nt_objects.specs.Object.{due_of, units}
@@ -201,7 +201,7 @@ begun_pends s t w ms unfit quiet later = rw (unfit, quiet, not_zero ms later) re
 
 -- a deadline lies ahead where the timeout is not 0
 ahead : (now ms v : ℕ) → ms ≢ 0 → deadline_after now ms ≡ Some v → now < v
-ahead now ms v later e = go (ms == infinite) e
+ahead now ms v later e = go (ms == INFINITE) e
   where
     go : (b : Bool) → (if b then None else Some (now + units ms)) ≡ Some v → now < v
     go true h = (cc)

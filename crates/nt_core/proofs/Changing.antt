@@ -5,7 +5,8 @@ use Rattle.std.specs.FinMap as fin
 use Rattle.std.proofs.lemmas.Bool.{cases_eq, false≢true}
 use Rattle.std.proofs.lemmas.List.{get_or-set_other, length-set}
 use Rattle.nt_waits.specs.declared.wait.Wait.{Wait}
-use Rattle.nt_waits.specs.Waits.{IsMember}
+use Rattle.nt_status.specs.Lists.{IsMember}
+use Rattle.nt_status.proofs.Lists.{member_of_first, member_of_last}
 use Rattle.nt_objects.specs.declared.object.Object.{Object}
 use Rattle.nt_objects.specs.declared.object.Object.TheVariants.{Event, Semaphore, Mutex, Timer, Thread, Gone}
 use Rattle.nt_objects.specs.Object.{signaled, is_event, is_thread, is_gone, has_ended, has_room, owned_by, due_of, setter_of, IsLawfulObject}
@@ -120,17 +121,8 @@ fits_same old new t w alike = rw (alike.0, alike.1) refl
 
 in_sequence : (s : State) (changed : List ℕ) (h t : ℕ) → IsMember changed h → IsMember (s.queues h) t → IsMember (sequence s changed) t
 in_sequence s [] h t named member = absurd named
-in_sequence s (k ∷ ks) h t (inl here) member = before (s.queues k) (flat_map s.queues ks) (subst (λ (i : ℕ). IsMember (s.queues i) t) (sym here) member)
-  where
-    before : (xs ys : List ℕ) → IsMember xs t → IsMember (xs ++ ys) t
-    before [] ys m = absurd m
-    before (x ∷ xs) ys (inl e) = inl e
-    before (x ∷ xs) ys (inr m) = inr (before xs ys m)
-in_sequence s (k ∷ ks) h t (inr later) member = after (s.queues k) (flat_map s.queues ks) (in_sequence s ks h t later member)
-  where
-    after : (xs ys : List ℕ) → IsMember ys t → IsMember (xs ++ ys) t
-    after [] ys m = m
-    after (x ∷ xs) ys m = inr (after xs ys m)
+in_sequence s (k ∷ ks) h t (inl here) member = member_of_first (s.queues k) (flat_map s.queues ks) t (subst (λ (i : ℕ). IsMember (s.queues i) t) (sym here) member)
+in_sequence s (k ∷ ks) h t (inr later) member = member_of_last (s.queues k) (flat_map s.queues ks) t (in_sequence s ks h t later member)
 
 -- before the change no wait fitted: so one that fits now names a changed object, and stands in the sequence
 pub fit_only_in : (changed : List ℕ) (old : Dispatcher) (objects : List Object) → IsSound old → IsServed (state old) → ChangedOnlyAt changed old.objects objects → FitOnlyIn (sequence (state old) changed) (state (record old { objects = objects }))

@@ -8,7 +8,7 @@ use Rattle.nt_status.specs.declared.refusal.Refusal.TheVariants.{InvalidHandle}
 use Rattle.nt_objects.specs.declared.handles.Opened.{Opened}
 use Rattle.nt_objects.specs.Handles.{opened_at, count_named, names}
 use Rattle.nt_objects.specs.Object.{is_gone}
-use Rattle.nt_waits.specs.Waits.{IsMember}
+use Rattle.nt_status.specs.Lists.{IsMember}
 use Rattle.nt_alarms.specs.Alarms.{alarm_at}
 use Rattle.nt_core.specs.declared.call.Call.{Call}
 use Rattle.nt_core.specs.declared.call.Act.{Act}

@@ -7,30 +7,28 @@ use Rattle.std.proofs.lemmas.Bool.{false≢true}
 use Rattle.std.proofs.lemmas.Bool.Decides.{nat_tests}
 use Rattle.nt_status.specs.Status.{io_completion_code}
 use Rattle.nt_waits.specs.declared.wait.Wait.{Wait}
-use Rattle.nt_waits.specs.Waits.{IsMember}
+use Rattle.nt_status.specs.Lists.{IsMember}
 use Rattle.nt_objects.specs.declared.object.Object.{Object}
 use Rattle.nt_objects.specs.Object.{due_of}
-use Rattle.nt_apc.specs.declared.apc.Queued.{Queued}
-use Rattle.nt_apc.specs.Queues.{has_apc}
 use Rattle.nt_core.specs.declared.call.Grant.{Grant}
 use Rattle.nt_core.specs.declared.call.Reply.{Reply}
 use Rattle.nt_core.specs.Rising.{IsRising, AreRising}
 use Rattle.nt_core.specs.State.{State, Pending, object_at, waits_over}
 use Rattle.nt_core.specs.Dispatcher.{Dispatcher, state}
 use Rattle.nt_core.specs.Due.{is_up_to, due_weight, total_weight}
-use Rattle.nt_core.specs.Serving.{satisfied, sequence, IsServed, IsAlerted, ending, late_status, sleeps}
+use Rattle.nt_core.specs.Serving.{satisfied, sequence, IsServed, ending, late_status, sleeps}
 use Rattle.nt_core.specs.Change.{all_expired}
 use Rattle.nt_core.specs.Steps.{IsAwaited, IsNextMoment, NothingDue, MomentPasses, MomentsPass, Ticked}
 use Rattle.nt_core.specs.Living.{Ends}
 use Rattle.nt_core.specs.Lawful.{IsSound, IsSteady}
 use Rattle.nt_core.specs.Accepts.{IsFresh, IsPassedAfter, IsDueBy, is_by_objects, ended_by_objects, IsTickLocal}
 use Rattle.nt_core.proofs.Accepting.{IsCalm}
-use Rattle.nt_core.proofs.Alerting.{over_pending, over_objects, over_apcs}
+use Rattle.nt_core.proofs.Alerting.{over_pending, over_objects}
 use Rattle.nt_core.proofs.Replacing.{queue_few}
-use Rattle.nt_core.proofs.Lengths.{length_passed}
 use Rattle.nt_core.proofs.Ticking.{Passed, Passed-then, Passed-end}
 use Rattle.nt_core.proofs.Marking.{marks_along}
 use Rattle.nt_core.proofs.Moments.{Grants_pending, Grants_len, over_len, Grants_queues, over_queues, queues_expired, waits_expired, due_weight_less, due_weight_bound, sequence_weight}
+use Rattle.nt_core.proofs.Rousing.{still_alerted}
 
 -- how many wait blocks stand in the queue of a handle
 abbrev pub blocks_in : State → ℕ → ℕ
@@ -46,7 +44,6 @@ pub record TickSoFar (old now : Dispatcher) (m : ℕ) : Type 0 where
   pub kept : (t : ℕ) (w : Wait) → fin.get (state now).waits t ≡ Some w → fin.get (state old).waits t ≡ Some w
   pub most : now.table.looked + due_weight (blocks_in (state now)) m 0 now.objects ≤ due_weight (blocks_in (state old)) m 0 old.objects
   pub least : length (filter (ended_by_objects (state old)) now.grants) ≤ now.table.looked
-  pub count : length now.objects ≡ length old.objects
 
 pub tick_first : (d : Dispatcher) (m : ℕ) → IsFresh d → TickSoFar d d m
 tick_first d m fresh = record {
@@ -58,7 +55,6 @@ tick_first d m fresh = record {
   kept = λ t w pends. pends;
   most = let none = fresh.untested in omega (arith, none);
   least = subst (λ (gs : List Grant). length (filter (ended_by_objects (state d)) gs) ≤ d.table.looked) (sym fresh.no_grants) (omega arith);
-  count = refl;
 }
 
 -- what is left to test fits the counter
@@ -80,11 +76,6 @@ served_over s ts may served x = go (fin.get (waits_over s ts may).waits x) refl
     go (Some w) e =
         let before = over_pending s ts may x w e in
         ap (λ os. satisfied os x (Some w)) (over_objects s ts may) ∙ (ap (λ o. satisfied s.objects x o) (sym before.0) ∙ served x)
-
-still_alerted : (s : State) (ts : List ℕ) (may : Bool) (x : ℕ) → IsAlerted (waits_over s ts may) x → IsAlerted s x × (IsMember ts x → ⊥)
-still_alerted s ts may x alerted =
-    let before = over_pending s ts may x alerted.0 alerted.1 in
-    ((alerted.0, before.0, subst (λ (qs : List (List Queued)). ((alerted.0).alertable && has_apc qs x) ≡ true) (over_apcs s ts may) alerted.2), before.1)
 
 passed_served : (old new : State) (m u : ℕ) (gs : List Grant) → MomentPasses old m u gs new → IsServed new
 passed_served old new m u gs passes =
@@ -194,7 +185,6 @@ tick_next old now new m u far next after =
           let c = far.least in
           let d = after.least in
           omega (arith, all, a, b, c, d);
-      count = length_passed (state now) (state new) m u after.here passes ∙ far.count;
     }
 
 -- how much is left to happen: timers that are due and waits that pend

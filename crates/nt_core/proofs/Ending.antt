@@ -8,7 +8,8 @@ use Rattle.std.proofs.Math.Seq.{drop-append_seam}
 use Rattle.std.proofs.lemmas.Bool.{false≢true}
 use Rattle.std.proofs.lemmas.List.{length-set, length-map}
 use Rattle.nt_waits.specs.declared.wait.Wait.{Wait}
-use Rattle.nt_waits.specs.Waits.{IsMember, AreOnce}
+use Rattle.nt_status.specs.Lists.{IsMember, AreOnce, Lists}
+use Rattle.nt_status.proofs.Lists.{member_append_cases, member_of_first, member_of_last, once_append, once_push, few_below}
 use Rattle.nt_objects.specs.declared.object.Object.{Object}
 use Rattle.nt_objects.specs.declared.object.Object.TheVariants.{Event, Semaphore, Mutex, Timer, Thread, Gone}
 use Rattle.nt_objects.specs.Object.{is_timer, is_thread, is_gone, has_ended, owned_by, due_of, setter_of, abandoned_by, unset_by, IsLawfulObject}
@@ -16,7 +17,7 @@ use Rattle.nt_apc.specs.Queues.{Apcs, place_of, given_up, cleared}
 use Rattle.nt_apc.specs.declared.apc.Queued.{Queued}
 use Rattle.nt_core.specs.State.{State, object_at}
 use Rattle.nt_core.specs.Dispatcher.{Dispatcher, state}
-use Rattle.nt_core.specs.Rising.{Lists, IsRising, AreRising}
+use Rattle.nt_core.specs.Rising.{AreRising}
 use Rattle.nt_core.specs.Serving.{IsChanged, sequence, Serve}
 use Rattle.nt_core.specs.Change.{exited}
 use Rattle.nt_core.specs.Visits.{FitOnlyIn}
@@ -30,8 +31,9 @@ use Rattle.nt_core.proofs.Lives.{not_gone}
 use Rattle.nt_core.proofs.Marking.{marks_ending}
 use Rattle.nt_core.proofs.Changing.{ChangedOnlyAt, object_at-set_other, reading_set, property_set, limit_set, fit_only_in}
 use Rattle.nt_core.proofs.Accepting.{accepted, settled_after}
-use Rattle.nt_core.proofs.Replacing.{once_few, queue_few, known_mutex}
-use Rattle.nt_core.proofs.Listing.{same_no, member_of_append, member_first, member_last, once_append, once_more, sorted_rising}
+use Rattle.nt_core.proofs.Replacing.{queue_few, known_mutex}
+use Rattle.nt_core.proofs.Listing.{same_no, sorted_rising}
+use Rattle.nt_core.proofs.Passing.{rising_once}
 use Rattle.nt_core.proofs.Leaving.{setter_timer}
 use Rattle.nt_core.proofs.Exiting.{left, mapped_at, mapped_twice, stopped_objects, unset_all, abandoned_setter, freed_mutex, IsAltered, objects_left, altered_or_same, altered_changed, runs_before, due_exited, calm_exited}
 
@@ -205,10 +207,10 @@ setter_before old t h sound = ap setter_of (mapped_at (abandoned_by t) refl old.
 
 -- what is listed with the thread's own handle is exactly what its end alters
 listed_altered : (old : Dispatcher) (t : ℕ) (mutexes all : List ℕ) → IsSound old → AreGathered old t mutexes all → (h : ℕ) → IsMember (all ++ t ∷ []) h ↔ IsAltered old.objects t h
-listed_altered old t mutexes all sound listed h = (λ m. to (member_of_append all (t ∷ []) h m), λ altered. from altered)
+listed_altered old t mutexes all sound listed h = (λ m. to (member_append_cases all (t ∷ []) h m), λ altered. from altered)
   where
     split : IsMember all h → IsMember mutexes h ⊎ IsMember listed.timers.more h
-    split m = member_of_append mutexes listed.timers.more h (subst (λ (xs : List ℕ). IsMember xs h) listed.timers.longer m)
+    split m = member_append_cases mutexes listed.timers.more h (subst (λ (xs : List ℕ). IsMember xs h) listed.timers.longer m)
 
     among : IsMember mutexes h ⊎ IsMember listed.timers.more h → IsAltered old.objects t h
     among (inl m) = inl (owned_member old.objects t mutexes listed.owned h m)
@@ -220,16 +222,16 @@ listed_altered old t mutexes all sound listed h = (λ m. to (member_of_append al
     to (inr (inr never)) = absurd never
 
     first : IsMember mutexes h → IsMember (all ++ t ∷ []) h
-    first m = member_first all (t ∷ []) h (subst (λ (xs : List ℕ). IsMember xs h) (sym listed.timers.longer) (member_first mutexes listed.timers.more h m))
+    first m = member_of_first all (t ∷ []) h (subst (λ (xs : List ℕ). IsMember xs h) (sym listed.timers.longer) (member_of_first mutexes listed.timers.more h m))
 
     from : IsAltered old.objects t h → IsMember (all ++ t ∷ []) h
     from (inl owned) = first (subst (λ (xs : List ℕ). IsMember xs h) (sym listed.owned.longer) ((listed.owned.exactly h).1 owned))
-    from (inr (inl sets)) = member_first all (t ∷ []) h (subst (λ (xs : List ℕ). IsMember xs h) (sym listed.timers.longer) (member_last mutexes listed.timers.more h ((listed.timers.exactly h).1 (setter_before old t h sound ∙ sets))))
-    from (inr (inr own)) = member_last all (t ∷ []) h (inl own)
+    from (inr (inl sets)) = member_of_first all (t ∷ []) h (subst (λ (xs : List ℕ). IsMember xs h) (sym listed.timers.longer) (member_of_last mutexes listed.timers.more h ((listed.timers.exactly h).1 (setter_before old t h sound ∙ sets))))
+    from (inr (inr own)) = member_of_last all (t ∷ []) h (inl own)
 
 listed_once : (old : Dispatcher) (t : ℕ) (mutexes all : List ℕ) → IsSound old → t < old.threads → has_ended (object_at old.objects t) ≡ false → AreGathered old t mutexes all → AreOnce (all ++ t ∷ [])
 listed_once old t mutexes all sound known runs listed =
-    once_more all t (subst (λ (xs : List ℕ). AreOnce xs) (sym listed.timers.longer) (once_append mutexes listed.timers.more (mutexes_once old.objects t mutexes listed.owned) listed.timers.once apart)) own
+    once_push all t (subst (λ (xs : List ℕ). AreOnce xs) (sym listed.timers.longer) (once_append mutexes listed.timers.more (mutexes_once old.objects t mutexes listed.owned) listed.timers.once apart)) own
   where
     running : object_at old.objects t ≡ Thread false
     running = runs_before old t sound known runs
@@ -245,12 +247,12 @@ listed_once old t mutexes all sound known runs listed =
     among (inr m) = no_setter (sym (ap setter_of running) ∙ (sym (setter_before old t t sound) ∙ (listed.timers.exactly t).0 m))
 
     own : IsMember all t → ⊥
-    own m = among (member_of_append mutexes listed.timers.more t (subst (λ (xs : List ℕ). IsMember xs t) listed.timers.longer m))
+    own m = among (member_append_cases mutexes listed.timers.more t (subst (λ (xs : List ℕ). IsMember xs t) listed.timers.longer m))
 
 -- there is room for the thread's own handle too
 pub own_room : (old : Dispatcher) (t : ℕ) (mutexes all : List ℕ) → IsSound old → t < old.threads → has_ended (object_at old.objects t) ≡ false → AreGathered old t mutexes all → length all + 1 ≤ length old.objects
 own_room old t mutexes all sound known runs listed =
-    let few = once_few (length old.objects) (all ++ t ∷ []) (listed_once old t mutexes all sound known runs listed) (λ h m. (altered_changed old t h sound known runs ((listed_altered old t mutexes all sound listed h).0 m)).0) in
+    let few = few_below (length old.objects) (all ++ t ∷ []) (listed_once old t mutexes all sound known runs listed) (λ h m. (altered_changed old t h sound known runs ((listed_altered old t mutexes all sound listed h).0 m)).0) in
     let one = length-append all (t ∷ []) in
     omega (arith, few, one)
 
@@ -279,10 +281,6 @@ exited_fit old t handles steady known runs changed = fit_only_in handles old (ob
       | inr same ↦ inl same
     ]
 
-rising_once : (xs : List ℕ) → IsRising xs → AreOnce xs
-rising_once [] rising = tt
-rising_once (x ∷ xs) rising = (λ m. let less = rising.0 x m in absurd (omega (arith, less)), rising_once xs rising.1)
-
 sequence_few : (s : State) (handles : List ℕ) → ((h : ℕ) → length (s.queues h) ≤ 256) → length (sequence s handles) ≤ 256 * length handles
 sequence_few s [] few = omega arith
 sequence_few s (h ∷ handles) few =
@@ -293,7 +291,7 @@ sequence_few s (h ∷ handles) few =
 
 pub exited_few : (old : Dispatcher) (t : ℕ) (handles : List ℕ) → IsSound old → AreRising (IsChanged old.objects (objects_left old.objects t)) handles → length (sequence (exited (state old) t) handles) < 2 ^ 64
 exited_few old t handles sound changed =
-    let few = once_few (length old.objects) handles (rising_once handles changed.rising) (λ h m. ((changed.exactly h).0 m).0) in
+    let few = few_below (length old.objects) handles (rising_once handles changed.rising) (λ h m. ((changed.exactly h).0 m).0) in
     let most = sequence_few (exited (state old) t) handles (λ h. queue_few old h sound) in
     let limit = sound.handles.few in
     omega (arith, few, most, limit)

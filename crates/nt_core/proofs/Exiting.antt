@@ -2,8 +2,9 @@
 use Rattle.std.proofs.Common.{◌≡◌, ◌≢◌, ◌<◌, ◌==◌, ◌&&◌, not, ℕ, zero, suc, Bool, true, false, cond, List, [], ◌∷◌, length, set, refl, sym, ap, ◌∙◌, subst, arith, Option, Some, None, inl, inr, ◌⊎◌, map}
 use Rattle.std.specs.Prelude.{◌↔◌, option_map}
 use Rattle.std.proofs.lemmas.Bool.{cases_eq, false≢true}
-use Rattle.std.proofs.lemmas.List.{length-set, length-map}
-use Rattle.nt_waits.specs.Waits.{IsMember}
+use Rattle.std.proofs.lemmas.List.{length-map}
+use Rattle.nt_status.specs.Lists.{IsMember}
+use Rattle.nt_status.proofs.Lists.{member_or_not}
 use Rattle.nt_objects.specs.declared.object.Object.{Object}
 use Rattle.nt_objects.specs.declared.object.Object.TheVariants.{Event, Semaphore, Mutex, Timer, Thread, Gone}
 use Rattle.nt_objects.specs.declared.object.Routine.{Routine}
@@ -25,7 +26,7 @@ use Rattle.nt_core.proofs.Lives.{not_gone}
 use Rattle.nt_core.proofs.Marking.{marks_same}
 use Rattle.nt_core.proofs.Replacing.{known_mutex}
 use Rattle.nt_core.proofs.Timing.{and_kept}
-use Rattle.nt_core.proofs.Listing.{same_yes, same_no, member_or_not}
+use Rattle.nt_core.proofs.Listing.{same_yes, same_no}
 use Rattle.nt_core.proofs.Leaving.{stopped_unset, set_timer_known}
 
 -- what is left of an object once thread t has ended
@@ -200,9 +201,6 @@ own_left os t known = let len = length-map os (left t) in object_at-set_same (ma
 
 other_left : (os : List Object) (t h : ℕ) → h ≢ t → object_at (objects_left os t) h ≡ left t (object_at os h)
 other_left os t h differs = object_at-set_other (map (left t) os) t h (Thread true) differs ∙ mapped_at (left t) refl os h
-
-pub length_left : (os : List Object) (t : ℕ) → length (objects_left os t) ≡ length os
-length_left os t = length-set (map (left t) os) t (Thread true) ∙ length-map os (left t)
 
 unowned_left : (t : ℕ) (o : Object) → owned_by o t ≡ false → abandoned_by t o ≡ o
 unowned_left t (Event manual was) none = refl

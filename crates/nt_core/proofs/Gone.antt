@@ -2,19 +2,19 @@
 use Rattle.std.proofs.Common.{◌≡◌, ◌≢◌, ℕ, ◌<◌, ◌++◌, Bool, true, false, cond, List, [], ◌∷◌, refl, sym, ap, ◌∙◌, subst, arith, Option, Some, None, inl, inr, ◌⊎◌}
 use Rattle.std.specs.Prelude.{slice_set}
 use Rattle.std.proofs.lemmas.Bool.{cases_eq}
-use Rattle.nt_waits.specs.Waits.{IsMember}
+use Rattle.nt_status.specs.Lists.{IsMember}
+use Rattle.nt_status.proofs.Lists.{member_or_not, member_push_cases}
 use Rattle.nt_alarms.specs.Alarms.{alarm_at, NoneAt, IsLowestAt}
 use Rattle.nt_core.specs.Rising.{IsRising}
 use Rattle.nt_core.specs.State.{State}
 use Rattle.nt_core.specs.Dispatcher.{Dispatcher, state}
 use Rattle.nt_core.specs.Living.{is_forgotten, gone, all_gone, Ends, LivesWhileKept}
 use Rattle.nt_core.specs.Lawful.{IsSound, IsSteady}
-use Rattle.nt_core.proofs.Listing.{member_or_not}
 use Rattle.nt_core.proofs.Lives.{forgotten_as, still_forgotten, all_living}
 use Rattle.nt_core.proofs.Remaining.{stays}
 use Rattle.nt_core.proofs.Rousing.{cleared_other, cleared_here, lowest_least}
 use Rattle.nt_core.proofs.Settling.{ends_settled}
-use Rattle.nt_core.proofs.Ticking.{member_append, rising_append}
+use Rattle.nt_core.proofs.Ticking.{rising_append}
 
 gone_append : (s : State) (os : List ℕ) (o : ℕ) → all_gone s (os ++ o ∷ []) ≡ gone (all_gone s os) o
 gone_append s [] o = refl
@@ -66,12 +66,12 @@ gone_next old now new t far lowest becomes leaving sound grants table = go (is_f
         record {
           objects = far.objects ++ t ∷ [];
           rising = rising_append far.objects t far.rising (far.above t lowest.here);
-          forgotten = λ x m. elim (member_append far.objects t x m) [
+          forgotten = λ x m. elim (member_push_cases far.objects t x m) [
             | inl earlier ↦ far.forgotten x earlier
             | inr last ↦ subst (λ (k : ℕ). is_forgotten (state old) k ≡ true) last before.0
           ];
           over = next ∙ (ap (λ (s : State). gone s t) far.over ∙ sym (gone_append (state old) far.objects t));
-          above = λ x mark y m. after x mark (cases_eq x t) y (member_append far.objects t y m);
+          above = λ x mark y m. after x mark (cases_eq x t) y (member_push_cases far.objects t y m);
           sound = sound;
           grants = grants ∙ far.grants;
           table = table ∙ far.table;

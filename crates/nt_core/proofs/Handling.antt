@@ -1,9 +1,9 @@
 -- Handles name objects that there are.
 use Rattle.std.proofs.Common.{◌≡◌, ℕ, zero, suc, ◌+◌, ◌<◌, ◌≤◌, List, [], ◌∷◌, ◌++◌, length, length-append, refl, sym, ap, ◌∙◌, subst, arith, Option, Some, None, inl, inr, ◌⊎◌}
+use Rattle.nt_status.specs.declared.limits.TheConstants.{MAX_HANDLES, MAX_THREADS}
 use Rattle.nt_objects.specs.declared.handles.Opened.{Opened}
 use Rattle.nt_objects.specs.Handles.{opened_at, own_handles}
 use Rattle.nt_core.specs.Naming.{object_in}
-use Rattle.nt_core.specs.Refusals.{handle_limit}
 use Rattle.nt_core.specs.Lawful.{HandlesAgree}
 
 -- as many objects as before
@@ -18,7 +18,7 @@ opened_longer (x ∷ hs) new opened zero is = inl is
 opened_longer (x ∷ hs) new opened (suc h) is = opened_longer hs new opened h is
 
 -- one handle more, for an object that there is
-pub handles_opened : (n : ℕ) (handles : List (Option Opened)) (object access : ℕ) → length handles < handle_limit → object < n → HandlesAgree n handles → HandlesAgree n (handles ++ Some (record { object = object; access = access }) ∷ [])
+pub handles_opened : (n : ℕ) (handles : List (Option Opened)) (object access : ℕ) → length handles < MAX_HANDLES → object < n → HandlesAgree n handles → HandlesAgree n (handles ++ Some (record { object = object; access = access }) ∷ [])
 handles_opened n handles object access room known agree =
     let new : Opened = record { object = object; access = access } in
     let len : length (handles ++ Some new ∷ []) ≡ length handles + 1 = length-append handles (Some new ∷ []) in
@@ -33,7 +33,7 @@ handles_opened n handles object access room known agree =
     }
 
 -- one object more, with a handle
-pub handles_created : (m : ℕ) (handles : List (Option Opened)) (n access : ℕ) → length handles < handle_limit → HandlesAgree n handles → m ≡ n + 1 → HandlesAgree m (handles ++ Some (record { object = n; access = access }) ∷ [])
+pub handles_created : (m : ℕ) (handles : List (Option Opened)) (n access : ℕ) → length handles < MAX_HANDLES → HandlesAgree n handles → m ≡ n + 1 → HandlesAgree m (handles ++ Some (record { object = n; access = access }) ∷ [])
 handles_created m handles n access room agree longer =
     let new : Opened = record { object = n; access = access } in
     let len : length (handles ++ Some new ∷ []) ≡ length handles + 1 = length-append handles (Some new ∷ []) in
@@ -56,6 +56,6 @@ none_opened zero opened is = let e : None ≡ Some opened = is in (cc)
 none_opened (suc h) opened is = let e : None ≡ Some opened = is in (cc)
 
 -- at first each object is a thread's, and has a handle
-pub own_agree : (n access : ℕ) → n ≤ 256 → HandlesAgree n (own_handles n access)
+pub own_agree : (n access : ℕ) → n ≤ MAX_THREADS → HandlesAgree n (own_handles n access)
 own_agree zero access few = record { few = omega arith; enough = omega arith; named = λ h opened is. none_opened h opened is }
 own_agree (suc n) access few = handles_created (suc n) (own_handles n access) n access (let count = own_count n access in omega (arith, few, count)) (own_agree n access (omega (arith, few))) (omega arith)

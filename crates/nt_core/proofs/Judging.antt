@@ -3,6 +3,7 @@ use Rattle.std.proofs.Common.{◌≡◌, ℕ, Bool, true, false, refl, sym, subs
 use Rattle.std.specs.Prelude.{IsTrue, MatchOption}
 use Rattle.nt_status.specs.declared.refusal.Refusal.{Refusal}
 use Rattle.nt_status.specs.declared.refusal.Refusal.TheVariants.{Memory}
+use Rattle.nt_status.specs.declared.limits.TheConstants.{MAX_WAIT_OBJECTS}
 use Rattle.nt_core.specs.declared.call.Call.{Call}
 use Rattle.nt_core.specs.State.{State}
 use Rattle.std.proofs.Common.{[]}
@@ -15,7 +16,7 @@ use Rattle.nt_objects.specs.Object.{is_event, is_semaphore, is_timer, is_thread,
 use Rattle.nt_core.specs.declared.call.Act.{Act}
 use Rattle.nt_core.specs.declared.call.WaitCall.{WaitCall}
 use Rattle.nt_core.specs.State.{object_at, pends}
-use Rattle.nt_core.specs.Refusals.{Cause, first_of_causes, wait_limit, is_no, is_unknown, is_full, has_twice, is_at_limit, is_foreign, may_signal}
+use Rattle.nt_core.specs.Refusals.{Cause, first_of_causes, is_no, is_unknown, is_full, has_twice, is_at_limit, is_foreign, may_signal}
 use Rattle.nt_core.proofs.Accepting.{next_causes}
 use Rattle.nt_core.specs.Refusals.{refusal, grows, IsRefusal}
 
@@ -62,7 +63,7 @@ undenied s who true (Call.Act Act.NextApc) none = none
 undenied s who true (Call.Act (Act.Close h)) none = none
 undenied s who true (Call.Wait (WaitCall.Sleep ms alertable)) none = none
 undenied s who true (Call.Wait (WaitCall.Objects all alertable ms named)) none =
-    first_there (callers s who ((length named == 0 || nat_lt wait_limit (length named), InvalidParameter) ∷ (list_any (is_unknown s.objects) named, InvalidHandle) ∷ []))
+    first_there (callers s who ((length named == 0 || nat_lt MAX_WAIT_OBJECTS (length named), InvalidParameter) ∷ (list_any (is_unknown s.objects) named, InvalidHandle) ∷ []))
     ((has_twice named, InvalidParameter) ∷ (list_any (is_at_limit s.objects who) named, RecursionLimit) ∷ []) AccessDenied none
 undenied s who true (Call.Wait (WaitCall.Swap h object ms alertable)) none =
     first_there (callers s who ((is_no may_signal s.objects h, InvalidHandle) ∷ (is_unknown s.objects object, InvalidHandle) ∷ []))

@@ -3,20 +3,19 @@ use Rattle.std.proofs.Common.{◌≡◌, ◌≢◌, ◌<◌, ◌≤◌, ◌+◌,
 use Rattle.std.specs.Prelude.{AllPairs, Contains, ◌↔◌}
 use Rattle.std.proofs.lemmas.Bool.{cases_eq, false≢true}
 use Rattle.std.proofs.lemmas.List.{append-nil, length-set}
-use Rattle.nt_waits.specs.Waits.{IsMember, AreOnce}
+use Rattle.nt_status.specs.Lists.{IsMember, AreOnce, Lists}
+use Rattle.nt_status.proofs.Lists.{member_append_cases, member_of_first, member_of_last, member_or_not, once_append, once_push, few_below}
 use Rattle.nt_objects.specs.declared.object.Object.{Object}
 use Rattle.nt_objects.specs.declared.object.Object.TheVariants.{Event, Semaphore, Mutex, Timer, Thread, Gone}
 use Rattle.nt_objects.specs.Object.{is_timer, setter_of, due_of, armed_with}
 use Rattle.nt_apc.specs.Queues.{place_of}
 use Rattle.nt_core.specs.State.{object_at}
 use Rattle.nt_core.specs.Dispatcher.{Dispatcher}
-use Rattle.nt_core.specs.Rising.{Lists}
 use Rattle.nt_core.specs.Lawful.{IsSound}
 use Rattle.nt_core.specs.Accepts.{IsStoppedAfter}
 use Rattle.nt_core.proofs.Changing.{object_at-set_same, object_at-set_other}
-use Rattle.nt_core.proofs.Replacing.{once_few}
 use Rattle.nt_core.proofs.Timing.{known_timer, retimed_sound}
-use Rattle.nt_core.proofs.Listing.{member_of_append, member_first, member_last, member_or_not, contained, next_apart, one_more, once_append, once_more}
+use Rattle.nt_core.proofs.Listing.{contained, next_apart, one_more}
 
 -- ---- timers are listed
 
@@ -52,21 +51,21 @@ pub listed_next : (os : List Object) (t : ℕ) (timers : List ℕ) (i h : ℕ) (
 listed_next os t timers i h before now apart below is sets far = record {
   more = far.more ++ h ∷ [];
   longer = ap (λ xs. xs ++ h ∷ []) far.longer ∙ append_assoc before far.more (h ∷ []);
-  once = once_more far.more h far.once (λ m. next_apart timers i h apart below is ((far.exactly h).0 m).0);
-  exactly = λ x. (λ m. to x (member_of_append far.more (h ∷ []) x m), λ has. from x (member_of_append (take i timers) (h ∷ []) x (subst (λ (xs : List ℕ). IsMember xs x) more has.0)) has.1);
+  once = once_push far.more h far.once (λ m. next_apart timers i h apart below is ((far.exactly h).0 m).0);
+  exactly = λ x. (λ m. to x (member_append_cases far.more (h ∷ []) x m), λ has. from x (member_append_cases (take i timers) (h ∷ []) x (subst (λ (xs : List ℕ). IsMember xs x) more has.0)) has.1);
 }
   where
     more : take (i + 1) timers ≡ take i timers ++ h ∷ []
     more = one_more timers i h below is
 
     to : (x : ℕ) → IsMember far.more x ⊎ IsMember (h ∷ []) x → IsMember (take (i + 1) timers) x × IsSetBy os t x
-    to x (inl m) = let has = (far.exactly x).0 m in (subst (λ (xs : List ℕ). IsMember xs x) (sym more) (member_first (take i timers) (h ∷ []) x has.0), has.1)
-    to x (inr (inl e)) = (subst (λ (xs : List ℕ). IsMember xs x) (sym more) (member_last (take i timers) (h ∷ []) x (inl e)), subst (λ (k : ℕ). IsSetBy os t k) e sets)
+    to x (inl m) = let has = (far.exactly x).0 m in (subst (λ (xs : List ℕ). IsMember xs x) (sym more) (member_of_first (take i timers) (h ∷ []) x has.0), has.1)
+    to x (inr (inl e)) = (subst (λ (xs : List ℕ). IsMember xs x) (sym more) (member_of_last (take i timers) (h ∷ []) x (inl e)), subst (λ (k : ℕ). IsSetBy os t k) e sets)
     to x (inr (inr none)) = absurd none
 
     from : (x : ℕ) → IsMember (take i timers) x ⊎ IsMember (h ∷ []) x → IsSetBy os t x → IsMember (far.more ++ h ∷ []) x
-    from x (inl m) own = member_first far.more (h ∷ []) x ((far.exactly x).1 (m, own))
-    from x (inr last) own = member_last far.more (h ∷ []) x last
+    from x (inl m) own = member_of_first far.more (h ∷ []) x ((far.exactly x).1 (m, own))
+    from x (inr last) own = member_of_last far.more (h ∷ []) x last
 
 -- the next timer is not the thread's
 pub listed_not : (os : List Object) (t : ℕ) (timers : List ℕ) (i h : ℕ) (before now : List ℕ) → i < length timers → h ≡ get_or timers i h → (IsSetBy os t h → ⊥) → ListedSoFar os t timers i before now → ListedSoFar os t timers (i + 1) before now
@@ -75,8 +74,8 @@ listed_not os t timers i h before now below is none far = record {
   longer = far.longer;
   once = far.once;
   exactly = λ x. (
-    λ m. let has = (far.exactly x).0 m in (subst (λ (xs : List ℕ). IsMember xs x) (sym more) (member_first (take i timers) (h ∷ []) x has.0), has.1),
-    λ has. from x (member_of_append (take i timers) (h ∷ []) x (subst (λ (xs : List ℕ). IsMember xs x) more has.0)) has.1,
+    λ m. let has = (far.exactly x).0 m in (subst (λ (xs : List ℕ). IsMember xs x) (sym more) (member_of_first (take i timers) (h ∷ []) x has.0), has.1),
+    λ has. from x (member_append_cases (take i timers) (h ∷ []) x (subst (λ (xs : List ℕ). IsMember xs x) more has.0)) has.1,
   );
 }
   where
@@ -93,7 +92,7 @@ pub listed_room : (os : List Object) (t : ℕ) (timers : List ℕ) (i h : ℕ) (
 listed_room os t timers i h before now apart below is sets stand far =
     let next = listed_next os t timers i h before now apart below is sets far in
     let all : AreOnce (before ++ next.more) = once_append before next.more stand.once next.once (λ x a b. clash x a ((next.exactly x).0 b).1) in
-    let few = once_few (length os) (before ++ next.more) all (λ x m. known x (member_of_append before next.more x m)) in
+    let few = few_below (length os) (before ++ next.more) all (λ x m. known x (member_append_cases before next.more x m)) in
     let long : length (now ++ h ∷ []) ≡ length (before ++ next.more) = ap (λ xs. length xs) next.longer in
     let one = length-append now (h ∷ []) in
     omega (arith, few, long, one)
@@ -168,11 +167,11 @@ stopped_next old now new timers i h below is known far becomes =
       count = length-set now.objects h (armed_with None (object_at now.objects h)) ∙ far.count;
       stopped = λ x m. elim (cases_eq x h) [
         | inl same ↦ here x same
-        | inr differs ↦ object_at-set_other now.objects h x (armed_with None (object_at now.objects h)) differs ∙ before x differs (member_of_append (take i timers) (h ∷ []) x m)
+        | inr differs ↦ object_at-set_other now.objects h x (armed_with None (object_at now.objects h)) differs ∙ before x differs (member_append_cases (take i timers) (h ∷ []) x m)
       ];
       others = λ x none.
-          object_at-set_other now.objects h x (armed_with None (object_at now.objects h)) (λ same. none (member_last (take i timers) (h ∷ []) x (inl (sym same))))
-          ∙ far.others x (λ m. none (member_first (take i timers) (h ∷ []) x m));
+          object_at-set_other now.objects h x (armed_with None (object_at now.objects h)) (λ same. none (member_of_last (take i timers) (h ∷ []) x (inl (sym same))))
+          ∙ far.others x (λ m. none (member_of_first (take i timers) (h ∷ []) x m));
     }))
   where
     before : (x : ℕ) → x ≢ h → IsMember (take i timers) x ⊎ ((h ≡ x) ⊎ ⊥) → object_at now.objects x ≡ armed_with None (object_at old.objects x)

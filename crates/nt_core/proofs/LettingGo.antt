@@ -1,7 +1,7 @@
 -- Marks for what a wait that ended named.
 use Rattle.std.proofs.Common.{◌≡◌, ◌<◌, ℕ, zero, suc, true, false, Option, length, [], List, ◌∷◌, set, refl, sym, ap, ◌∙◌, subst, arith, Some, None, inl, inr}
 use Rattle.std.specs.Prelude.{nat_lt, drop}
-use Rattle.nt_waits.specs.Waits.{IsMember}
+use Rattle.nt_status.specs.Lists.{IsMember}
 use Rattle.std.proofs.lemmas.Bool.{cases_eq, false≢true}
 use Rattle.std.proofs.lemmas.Bool.Decides.{nat_tests}
 use Rattle.std.proofs.lemmas.List.{length-set, get_or-set_same, get_or-set_other}

@@ -8,7 +8,8 @@ use Rattle.nt_objects.specs.declared.object.Object.{Object}
 use Rattle.nt_objects.specs.declared.object.Object.TheVariants.{Event, Semaphore, Mutex, Timer, Thread, Gone}
 use Rattle.nt_objects.specs.Handles.{opened_at, count_named, names}
 use Rattle.nt_objects.specs.Object.{has_ended, is_gone}
-use Rattle.nt_waits.specs.Waits.{IsMember, queue_of}
+use Rattle.nt_status.specs.Lists.{IsMember}
+use Rattle.nt_waits.specs.Waits.{queue_of}
 use Rattle.nt_core.specs.State.{State, object_at}
 use Rattle.nt_core.specs.Dispatcher.{Dispatcher, state}
 use Rattle.nt_core.specs.Living.{is_opened, is_awaited, runs, is_kept, lives, is_forgotten, all_gone, Ends, LivesWhileKept}

@@ -1,5 +1,5 @@
 -- Which objects have a mark.
-use Rattle.std.proofs.Common.{◌≡◌, ◌≢◌, ℕ, zero, suc, ◌<◌, ◌==◌, Bool, true, false, not, ◌&&◌, ◌||◌, cond, List, [], ◌∷◌, ◌++◌, length, length-append, get_or, set, refl, sym, ap, ◌∙◌, subst, arith, Option, Some, None, inl, inr, ◌⊎◌}
+use Rattle.std.proofs.Common.{◌≡◌, ◌≢◌, ℕ, zero, suc, ◌<◌, Bool, true, false, not, ◌&&◌, ◌||◌, List, [], ◌∷◌, ◌++◌, length, length-append, set, refl, sym, ap, ◌∙◌, subst, arith, Option, Some, None, inl, inr, ◌⊎◌}
 use Rattle.std.specs.Prelude.{nat_lt, replicate}
 use Rattle.std.specs.FinMap.{get}
 use Rattle.std.proofs.lemmas.Bool.{cases_eq, false≢true}
@@ -11,22 +11,20 @@ use Rattle.nt_objects.specs.declared.object.Object.TheVariants.{Thread}
 use Rattle.nt_objects.specs.Handles.{opened_at, count_named, full_access}
 use Rattle.nt_objects.specs.Object.{has_ended, is_gone}
 use Rattle.nt_waits.specs.declared.wait.Wait.{Wait}
-use Rattle.nt_waits.specs.Waits.{IsMember, Names, Waits, queue_of, others}
+use Rattle.nt_status.specs.Lists.{IsMember}
+use Rattle.nt_status.proofs.Lists.{member_or_not, member_place, member_at}
+use Rattle.nt_waits.specs.Waits.{Names, Waits, queue_of, others}
 use Rattle.nt_alarms.specs.Alarms.{alarm_at}
 use Rattle.nt_apc.specs.Queues.{Apcs}
+use Rattle.nt_waits.proofs.OthersLemmas.{others_absent}
 use Rattle.nt_core.specs.State.{State, object_at}
 use Rattle.nt_core.specs.Dispatcher.{Dispatcher, state, with_created}
 use Rattle.nt_core.specs.Living.{is_opened, is_awaited, runs, is_kept, lives, is_forgotten}
 use Rattle.nt_core.specs.Lawful.{IsSound, HandlesAgree, MarksAgreeBut}
-use Rattle.nt_core.proofs.Listing.{member_or_not}
 use Rattle.nt_core.proofs.Handling.{opened_longer}
 use Rattle.nt_core.proofs.Lives.{IsForgotten, parts, whole, counted_opened}
 
 -- ---- what is forgotten
-
--- the tests of an object
-forgotten_of : Bool → Bool → Bool → Bool → Bool → Bool
-forgotten_of known is_gone opened awaited running = (known && not is_gone) && not (opened || (awaited || running))
 
 -- where all that the tests read is the same, so is the answer
 pub forgotten_same : (s r : State) (o : ℕ) → length r.objects ≡ length s.objects → is_gone (object_at r.objects o) ≡ is_gone (object_at s.objects o) → has_ended (object_at r.objects o) ≡ has_ended (object_at s.objects o) → r.threads ≡ s.threads → nat_lt 0 (count_named r.handles o) ≡ nat_lt 0 (count_named s.handles o) → length (r.queues o) ≡ length (s.queues o) → is_forgotten r o ≡ is_forgotten s o
@@ -104,9 +102,6 @@ marks_begun old table more marks = marks_from old new [] refl refl refl (λ o. r
 count_more : (hs : List (Option Opened)) (new : Opened) (o : ℕ) → count_named (hs ++ Some new ∷ []) o ≡ 0 → count_named hs o ≡ 0
 count_more [] new o none = refl
 count_more (h ∷ hs) new o none = let rest : count_named (hs ++ Some new ∷ []) o ≡ 0 = omega (arith, none) in let here : count_named hs o ≡ 0 = count_more hs new o rest in omega (arith, none, here)
-
-not_opened : (s : State) (o : ℕ) → is_opened s o ≡ false → count_named s.handles o ≡ 0
-not_opened s o is = grind (arith, nat_tests, is)
 
 still_unopened : (hs : List (Option Opened)) (new : Opened) (o : ℕ) → nat_lt 0 (count_named (hs ++ Some new ∷ []) o) ≡ false → nat_lt 0 (count_named hs o) ≡ false
 still_unopened hs new o is =
@@ -190,28 +185,11 @@ marks_created d o owned agree alive marks = record {
 
 -- ---- a wait ends
 
-others_absent : (t : ℕ) (queue : List ℕ) → (IsMember queue t → ⊥) → others t queue ≡ queue
-others_absent t [] absent = refl
-others_absent t (first ∷ queue) absent =
-    let differs : first ≢ t = λ e. absent (inl e) in
-    let test : (first == t) ≡ false = grind (arith, nat_tests, differs) in
-    ap (λ b. cond b (others t queue) (first ∷ others t queue)) test ∙ ap (λ q. first ∷ q) (others_absent t queue (λ m. absent (inr m)))
-
 pub named_member : (hs : List ℕ) (w : Wait) (o : ℕ) → w.handles ≡ hs → Names w o → IsMember hs o
-named_member hs w o is named = at hs named.0 (subst (λ (xs : List ℕ). named.0 < length xs) is named.1) (ap (λ (xs : List ℕ). get_or xs named.0 0) (sym is) ∙ named.2)
-  where
-    at : (xs : List ℕ) (j : ℕ) → j < length xs → get_or xs j 0 ≡ o → IsMember xs o
-    at [] j below e = absurd (omega (arith, below))
-    at (x ∷ xs) zero below e = inl e
-    at (x ∷ xs) (suc j) below e = inr (at xs j (omega (arith, below)) e)
+named_member hs w o is named = subst (λ (xs : List ℕ). IsMember xs o) is (member_at w.handles named.0 0 o named.1 named.2)
 
 pub member_named : (w : Wait) (o : ℕ) → IsMember w.handles o → Names w o
-member_named w o m = at w.handles m
-  where
-    at : (xs : List ℕ) → IsMember xs o → (j : ℕ) × (j < length xs) × (get_or xs j 0 ≡ o)
-    at [] m = absurd m
-    at (x ∷ xs) (inl e) = (0, omega arith, e)
-    at (x ∷ xs) (inr m) = let rest = at xs m in (suc rest.0, let below = rest.1 in omega (arith, below), rest.2)
+member_named w o m = let place = member_place w.handles o m in (place.0, place.1, place.2 0)
 
 -- the wait of thread t is over, and perhaps it took objects: what it named may lack its mark
 pub marks_ended : (old new : Dispatcher) (t : ℕ) (w : Wait) → IsSound old → get old.table.pending t ≡ Some w → new.threads ≡ old.threads → new.handles ≡ old.handles → new.leaving ≡ old.leaving → ((o : ℕ) → queue_of new.table o ≡ others t (queue_of old.table o)) → length new.objects ≡ length old.objects → ((o : ℕ) → is_gone (object_at new.objects o) ≡ is_gone (object_at old.objects o)) → ((o : ℕ) → has_ended (object_at new.objects o) ≡ has_ended (object_at old.objects o)) → MarksAgreeBut w.handles new

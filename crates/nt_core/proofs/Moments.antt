@@ -5,7 +5,9 @@ use Rattle.std.specs.List.{flat_map}
 use Rattle.std.specs.FinMap as fin
 use Rattle.std.specs.Cmp.{nat_cmp_total}
 use Rattle.nt_waits.specs.declared.wait.Wait.{Wait}
-use Rattle.nt_waits.specs.Waits.{Waits, IsMember, others, queue_of}
+use Rattle.nt_status.specs.Lists.{IsMember}
+use Rattle.nt_status.proofs.Lists.{member_or_not}
+use Rattle.nt_waits.specs.Waits.{Waits, others, queue_of}
 use Rattle.nt_objects.specs.declared.object.Object.{Object}
 use Rattle.nt_objects.specs.declared.object.Armed.{Armed}
 use Rattle.nt_objects.specs.Object.{due_of, setting_of}
@@ -29,7 +31,6 @@ use Rattle.nt_core.proofs.Alerting.{over_pending, over_objects}
 use Rattle.nt_core.proofs.Lengths.{Grants_length}
 use Rattle.nt_waits.specs.Deadlines.{NoneEarlier}
 use Rattle.nt_core.proofs.Ticking.{late_of}
-use Rattle.nt_core.proofs.Passing.{among}
 
 -- ---- what expiry and grants leave
 
@@ -151,7 +152,7 @@ same_sequence old new timers table = ap (λ (v : Waits). flat_map (λ h. queue_o
 pub expired_fit : (old new : Dispatcher) (m u : ℕ) (timers : List ℕ) (marks : List (Option ℕ)) → IsSound old → IsServed (state old) → IsExpiredAfter old m u new timers marks → FitOnlyIn (sequence (state new) timers) (state new)
 expired_fit old new m u timers marks sound served after =
     subst (λ (v : Waits). FitOnlyIn (flat_map (λ h. queue_of v h) timers) (state (record new { table = v }))) (sym after.table)
-    (fit_only_in timers old new.objects sound served (λ h known. in_or_same h (among timers h)))
+    (fit_only_in timers old new.objects sound served (λ h known. in_or_same h (member_or_not timers h)))
   where
     in_or_same : (h : ℕ) → IsMember timers h ⊎ (IsMember timers h → ⊥) → (object_at new.objects h ≡ object_at old.objects h) ⊎ IsMember timers h
     in_or_same h (inl member) = inr member

@@ -4,7 +4,8 @@ use Rattle.std.specs.Prelude.{nat_le}
 use Rattle.std.proofs.lemmas.Bool.{cases_eq, false≢true}
 use Rattle.std.proofs.lemmas.Bool.Decides.{nat_tests}
 use Rattle.std.proofs.lemmas.List.{length-set}
-use Rattle.nt_waits.specs.Waits.{IsMember}
+use Rattle.nt_status.specs.Lists.{IsMember, AreOnce}
+use Rattle.nt_status.proofs.Lists.{few_below, member_or_not, member_push_cases, member_of_first, member_of_last}
 use Rattle.nt_objects.specs.declared.object.Object.{Object}
 use Rattle.nt_objects.specs.declared.object.Object.TheVariants.{Timer}
 use Rattle.nt_objects.specs.declared.object.Armed.{Armed}
@@ -23,7 +24,7 @@ use Rattle.nt_core.specs.Accepts.{IsExpiredAfter}
 use Rattle.nt_core.proofs.Changing.{object_at-set_same, object_at-set_other}
 use Rattle.nt_core.proofs.Accepting.{IsCalm}
 use Rattle.nt_core.proofs.Arming.{expired_one, setting_parts, due_setting, later_rung, has_notified, rung}
-use Rattle.nt_core.proofs.Ticking.{member_append, rising_append}
+use Rattle.nt_core.proofs.Ticking.{rising_append}
 use Rattle.nt_core.proofs.Timing.{known_timer, and_kept}
 
 -- ---- the timers of one moment, one after another
@@ -44,13 +45,12 @@ pub record ExpiredSoFar (old now : Dispatcher) (m u : ℕ) (timers : List ℕ) (
   pub known : (h : ℕ) → IsMember timers h → h < length old.objects
   pub fewer : (weight : ℕ → ℕ) → due_weight weight m 0 now.objects + total_weight weight timers ≡ due_weight weight m 0 old.objects
   pub count : length now.objects ≡ length old.objects
-  pub marks_count : length marks ≡ 256
   pub grants : now.grants ≡ old.grants
   pub table : now.table ≡ old.table
   pub sound : IsSound now
 
-pub expired_none : (d : Dispatcher) (m u : ℕ) (marks : List (Option ℕ)) → IsSound d → IsCalm (state d) → NoneBefore d.alarms u → length marks ≡ 256 → ExpiredSoFar d d m u [] marks
-expired_none d m u marks sound calm before count = record {
+pub expired_none : (d : Dispatcher) (m u : ℕ) (marks : List (Option ℕ)) → IsSound d → IsCalm (state d) → NoneBefore d.alarms u → ExpiredSoFar d d m u [] marks
+expired_none d m u marks sound calm before = record {
   rising = tt;
   due = λ h member. absurd member;
   expired = refl;
@@ -61,7 +61,6 @@ expired_none d m u marks sound calm before count = record {
   known = λ h member. absurd member;
   fewer = λ weight. omega arith;
   count = refl;
-  marks_count = count;
   grants = refl;
   table = refl;
   sound = sound;
@@ -77,17 +76,10 @@ alarm_known (a ∷ alarms) (suc h) u is = let rest = alarm_known alarms h u is i
 pub lowest_due : (d : Dispatcher) (u h : ℕ) → IsSound d → IsLowestAt d.alarms u h → due_of (object_at d.objects h) ≡ Some u
 lowest_due d u h sound lowest = sym (sound.timers.alarm h) ∙ lowest.here
 
--- a rising list of handles below n has room in n places
-above_all : (n : ℕ) (xs : List ℕ) (low : ℕ) → IsRising xs → ((x : ℕ) → IsMember xs x → low ≤ x) → ((x : ℕ) → IsMember xs x → x < n) → low ≤ n → length xs + low ≤ n
-above_all n [] low rising above below le = omega (arith, le)
-above_all n (x ∷ xs) low rising above below le =
-    let first = above x (inl refl) in
-    let last = below x (inl refl) in
-    let rest = above_all n xs (x + 1) rising.1 (λ y member. let lt = rising.0 y member in omega (arith, lt)) (λ y member. below y (inr member)) (omega (arith, last)) in
-    omega (arith, rest, first)
-
-pub rising_few : (n : ℕ) (xs : List ℕ) → IsRising xs → ((x : ℕ) → IsMember xs x → x < n) → length xs ≤ n
-rising_few n xs rising below = let all = above_all n xs 0 rising (λ x member. omega arith) below (omega arith) in omega (arith, all)
+-- a rising list has no number twice
+pub rising_once : (xs : List ℕ) → IsRising xs → AreOnce xs
+rising_once [] rising = tt
+rising_once (x ∷ xs) rising = (λ member. let less = rising.0 x member in absurd (omega (arith, less)), rising_once xs rising.1)
 
 -- ---- the weights of the timers that are due
 
@@ -128,10 +120,9 @@ setter_parts o manual was armed is r has = ap setter_of is ∙ ap (λ (routine :
 pub record IsMarked (marks new : List (Option ℕ)) (setter : Option ℕ) : Type 0 where
   pub kept : (t : ℕ) → alarm_at marks t ≡ Some 0 → alarm_at new t ≡ Some 0
   pub own : (t : ℕ) → setter ≡ Some t → alarm_at new t ≡ Some 0
-  pub count : length new ≡ length marks
 
 pub marked_none : (marks : List (Option ℕ)) → IsMarked marks marks None
-marked_none marks = record { kept = λ t is. is; own = λ t e. no t e; count = refl }
+marked_none marks = record { kept = λ t is. is; own = λ t e. no t e }
   where
     no : {P : Type 0} (t : ℕ) → None ≡ Some t → P
     no t e = (cc)
@@ -148,11 +139,10 @@ set_kept (a ∷ marks) zero (suc k) is = is
 set_kept (a ∷ marks) (suc t) zero is = is
 set_kept (a ∷ marks) (suc t) (suc k) is = set_kept marks t k is
 
-pub marked_some : (marks : List (Option ℕ)) (t : ℕ) → t < length marks → length (set marks t (Some 0)) ≡ length marks → IsMarked marks (set marks t (Some 0)) (Some t)
-marked_some marks t below len = record {
+pub marked_some : (marks : List (Option ℕ)) (t : ℕ) → t < length marks → IsMarked marks (set marks t (Some 0)) (Some t)
+marked_some marks t below = record {
   kept = λ k is. set_kept marks t k is;
   own = λ k e. let same : t ≡ k = some_same k e in subst (λ (j : ℕ). alarm_at (set marks t (Some 0)) j ≡ Some 0) same (set_mark marks t below);
-  count = len;
 }
   where
     some_same : (k : ℕ) → Some t ≡ Some k → t ≡ k
@@ -187,19 +177,19 @@ expired_next old now new m u h timers marks marked le far lowest mark becomes gr
     let later : (v : ℕ) → due_of (object_at new.objects h) ≡ Some v → m < v = λ v is. later_rung m own.1 armed past v (sym (ap due_of here) ∙ is) in
     record {
       rising = rising_append timers h far.rising (far.above h due);
-      due = λ k member. elim (member_append timers h k member) [
+      due = λ k member. elim (member_push_cases timers h k member) [
         | inl before ↦ far.due k before
         | inr last ↦ subst (λ (j : ℕ). IsTimerDue (state old) u j) last (sym (ap due_of (far.others h out)) ∙ due)
       ];
       expired = becomes ∙ (ap (λ (s : State). expired m s h) far.expired ∙ sym (all_expired_append m (state old) timers h));
-      others = λ k outside. elsewhere k (λ same. outside (in_last timers k h same)) ∙ far.others k (λ member. outside (in_first timers k h member));
-      above = λ k is j member. above_more k is j (member_append timers h j member) (cases_eq k h) later elsewhere due;
+      others = λ k outside. elsewhere k (λ same. outside (member_of_last timers (h ∷ []) k (inl (sym same)))) ∙ far.others k (λ member. outside (member_of_first timers (h ∷ []) k member));
+      above = λ k is j member. above_more k is j (member_push_cases timers h j member) (cases_eq k h) later elsewhere due;
       none_before = λ k v is. before k v (sym (sound.timers.alarm k) ∙ is) (cases_eq k h) later elsewhere;
       marked = λ t alerted. elim (alerted_before m (state now) h u t due (subst (λ (s : State). IsAlerted s t) becomes alerted)) [
         | inl setter ↦ mark.own t setter
         | inr before ↦ mark.kept t (far.marked t before)
       ];
-      known = λ k member. elim (member_append timers h k member) [
+      known = λ k member. elim (member_push_cases timers h k member) [
         | inl before ↦ far.known k before
         | inr last ↦ let same = far.count in omega (arith, same, known, last)
       ];
@@ -211,21 +201,11 @@ expired_next old now new m u h timers marks marked le far lowest mark becomes gr
           let here : weight (0 + h) ≡ weight h = ap weight (omega arith) in
           omega (arith, less, same, more, before, here);
       count = count ∙ far.count;
-      marks_count = mark.count ∙ far.marks_count;
       grants = grants ∙ far.grants;
       table = table ∙ far.table;
       sound = sound;
     }
   where
-    in_first : (xs : List ℕ) (k j : ℕ) → IsMember xs k → IsMember (xs ++ j ∷ []) k
-    in_first [] k j member = absurd member
-    in_first (x ∷ xs) k j (inl e) = inl e
-    in_first (x ∷ xs) k j (inr member) = inr (in_first xs k j member)
-
-    in_last : (xs : List ℕ) (k j : ℕ) → k ≡ j → IsMember (xs ++ j ∷ []) k
-    in_last [] k j same = inl (sym same)
-    in_last (x ∷ xs) k j same = inr (in_last xs k j same)
-
     above_more : (k : ℕ) → IsTimerDue (state new) u k → (j : ℕ) → IsMember timers j ⊎ (h ≡ j) → (k ≡ h) ⊎ (k ≢ h) → ((v : ℕ) → due_of (object_at new.objects h) ≡ Some v → m < v) → ((i : ℕ) → i ≢ h → object_at new.objects i ≡ object_at now.objects i) → due_of (object_at now.objects h) ≡ Some u → j < k
     above_more k is j member (inl same) later elsewhere due = let lt = later u (ap (λ (i : ℕ). due_of (object_at new.objects i)) (sym same) ∙ is) in absurd (omega (arith, lt, le))
     above_more k is j (inl member) (inr other) later elsewhere due = far.above k (sym (ap due_of (elsewhere k other)) ∙ is) j member
@@ -245,20 +225,10 @@ expired_next old now new m u h timers marks marked le far lowest mark becomes gr
     before k v is (inl same) later elsewhere = let lt = later v (ap (λ (i : ℕ). due_of (object_at new.objects i)) (sym same) ∙ is) in omega (arith, lt, le)
     before k v is (inr other) later elsewhere = far.none_before k v (far.sound.timers.alarm k ∙ (sym (ap due_of (elsewhere k other)) ∙ is))
 
--- whether a number is in a list
-pub among : (xs : List ℕ) (h : ℕ) → IsMember xs h ⊎ (IsMember xs h → ⊥)
-among [] h = inr (λ member. member)
-among (x ∷ xs) h = go (cases_eq x h) (among xs h)
-  where
-    go : (x ≡ h) ⊎ (x ≢ h) → IsMember xs h ⊎ (IsMember xs h → ⊥) → IsMember (x ∷ xs) h ⊎ (IsMember (x ∷ xs) h → ⊥)
-    go (inl same) rest = inl (inl same)
-    go (inr other) (inl member) = inl (inr member)
-    go (inr other) (inr out) = inr (λ member. elim member [ inl same ↦ other same | inr later ↦ out later ])
-
 -- none is due then any more
 pub expired_end : (old now : Dispatcher) (m u : ℕ) (timers : List ℕ) (marks : List (Option ℕ)) → ExpiredSoFar old now m u timers marks → NoneAt now.alarms u → IsExpiredAfter old m u now timers marks
 expired_end old now m u timers marks far none = record {
-  due = record { rising = far.rising; exactly = λ h. (λ member. far.due h member, λ due. listed h due (among timers h)) };
+  due = record { rising = far.rising; exactly = λ h. (λ member. far.due h member, λ due. listed h due (member_or_not timers h)) };
   expired = far.expired;
   marked = far.marked;
   grants = far.grants;
@@ -278,7 +248,7 @@ room_more old now m u h timers marks far lowest =
     let known = alarm_known now.alarms h u lowest.here in
     let clocks = far.sound.timers.count in
     let count = far.count in
-    let few = rising_few (length old.objects) (timers ++ h ∷ []) (rising_append timers h far.rising (far.above h due)) (λ x member. elim (member_append timers h x member) [
+    let few = few_below (length old.objects) (timers ++ h ∷ []) (rising_once (timers ++ h ∷ []) (rising_append timers h far.rising (far.above h due))) (λ x member. elim (member_push_cases timers h x member) [
       | inl before ↦ far.known x before
       | inr last ↦ omega (arith, last, known, clocks, count)
     ]) in
@@ -288,12 +258,12 @@ room_more old now m u h timers marks far lowest =
 pub setter_known : (d : Dispatcher) (h t : ℕ) → IsSound d → setter_of (object_at d.objects h) ≡ Some t → t < 256
 setter_known d h t sound sets = let known = (sound.timers.runs h t sets).0 in let few = sound.few in omega (arith, known, few)
 
-pub setter_marked : (d : Dispatcher) (h t place : ℕ) (marks marked : List (Option ℕ)) → IsSound d → length marks ≡ 256 → setter_of (object_at d.objects h) ≡ Some t → place ≡ t → marked ≡ set marks place (Some 0) → IsMarked marks marked (setter_of (object_at d.objects h))
-setter_marked d h t place marks marked sound count sets same is =
+pub setter_marked : (d : Dispatcher) (h t : ℕ) (marks marked : List (Option ℕ)) → IsSound d → length marked ≡ 256 → setter_of (object_at d.objects h) ≡ Some t → marked ≡ set marks t (Some 0) → IsMarked marks marked (setter_of (object_at d.objects h))
+setter_marked d h t marks marked sound count sets is =
     let known = setter_known d h t sound sets in
-    let marked_is : marked ≡ set marks t (Some 0) = is ∙ ap (λ (k : ℕ). set marks k (Some 0)) same in
+    let same : length marks ≡ 256 = sym (length-set marks t (Some 0)) ∙ (ap (λ xs. length xs) (sym is) ∙ count) in
     subst (λ (o : Option ℕ). IsMarked marks marked o) (sym sets)
-    (subst (λ (xs : List (Option ℕ)). IsMarked marks xs (Some t)) (sym marked_is) (marked_some marks t (omega (arith, known, count)) (length-set marks t (Some 0))))
+    (subst (λ (xs : List (Option ℕ)). IsMarked marks xs (Some t)) (sym is) (marked_some marks t (omega (arith, known, same))))
 
 pub setter_unmarked : (d : Dispatcher) (h : ℕ) (marks marked : List (Option ℕ)) → setter_of (object_at d.objects h) ≡ None → marked ≡ marks → IsMarked marks marked (setter_of (object_at d.objects h))
 setter_unmarked d h marks marked none same =

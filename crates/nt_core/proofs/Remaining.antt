@@ -7,7 +7,7 @@ use Rattle.std.proofs.lemmas.List.{length-set, get_or-set_other}
 use Rattle.nt_objects.specs.declared.object.Object.{Object}
 use Rattle.nt_objects.specs.declared.object.Object.TheVariants.{Thread, Gone}
 use Rattle.nt_objects.specs.Object.{has_ended, is_gone}
-use Rattle.nt_waits.specs.Waits.{IsMember}
+use Rattle.nt_status.specs.Lists.{IsMember}
 use Rattle.nt_objects.specs.declared.handles.Opened.{Opened}
 use Rattle.nt_objects.specs.Handles.{opened_at, count_named}
 use Rattle.nt_core.specs.State.{State, object_at}

@@ -1,13 +1,13 @@
 -- Calls that exchange one object, and serve the waits on it.
-use Rattle.std.proofs.Common.{◌≡◌, ◌≢◌, ◌<◌, ◌≤◌, ◌^◌, ℕ, zero, suc, ◌+◌, Bool, true, false, ◌&&◌, List, [], ◌∷◌, ◌++◌, length, set, refl, sym, ap, ◌∙◌, subst, arith, inl, inr, ◌⊎◌, Some, None, Option}
-use Rattle.std.proofs.lemmas.Bool.{cases_eq, false≢true}
+use Rattle.std.proofs.Common.{◌≡◌, ◌≢◌, ◌<◌, ◌≤◌, ◌^◌, ℕ, zero, suc, Bool, true, false, ◌&&◌, List, [], ◌∷◌, ◌++◌, length, set, refl, sym, ap, ◌∙◌, subst, arith, inl, inr, ◌⊎◌, Some, None, Option}
+use Rattle.std.proofs.lemmas.Bool.{false≢true}
 use Rattle.std.proofs.lemmas.List.{append-nil}
 use Rattle.std.proofs.lemmas.Bool.Decides.{nat_tests}
 use Rattle.std.proofs.Common.{◌==◌}
-use Rattle.nt_waits.specs.Waits.{IsMember, AreOnce, others}
+use Rattle.nt_status.proofs.Lists.{few_below}
 use Rattle.nt_objects.specs.declared.object.Object.{Object}
 use Rattle.nt_objects.specs.declared.object.Object.TheVariants.{Event, Semaphore, Mutex, Timer, Thread, Gone}
-use Rattle.nt_objects.specs.Object.{signaled, taken, is_thread, is_gone, is_event, is_semaphore, is_mutex, owned_by, count_of, depth_of, depth_limit, mutex_of, with_set, released, unlocked, due_of, IsLawfulObject}
+use Rattle.nt_objects.specs.Object.{signaled, taken, is_thread, is_gone, is_event, is_semaphore, owned_by, count_of, depth_of, depth_limit, mutex_of, with_set, released, unlocked, due_of, IsLawfulObject}
 use Rattle.std.specs.Prelude.{◌||◌, ℤ, pos, ◌+ℤ◌, ◌<ℤ◌, nat_le, nat_lt, if◌then◌else◌}
 use Rattle.nt_status.specs.Flags.{has_flag, mutex_initial_owner}
 use Rattle.std.proofs.lemmas.Int.{ints}
@@ -35,41 +35,12 @@ use Rattle.nt_core.specs.Lawful.{IsSound, IsSteady, MayReplace}
 use Rattle.nt_core.specs.Accepts.{IsFresh, IsServedAfter, Accepts}
 use Rattle.nt_core.proofs.Changing.{ChangedOnlyAt, one_changed, same_changed, fit_only_in, changed_at_one, sound_replaced, served_fewer, due_replaced, none_created, sound_created, served_unchanged, object_at-append, due_kept, known_event, known_object, set_as_before, object_at-set_same}
 use Rattle.nt_core.proofs.Accepting.{accepted, settled_after, reading_taken_by, next_causes}
-use Rattle.nt_core.proofs.Walks.{others-IsMember, AreOnce-others}
 
 -- ---- a queue holds each thread once at most
 
-length-others : (t : ℕ) (q : List ℕ) → AreOnce q → length q ≤ length (others t q) + 1
-length-others t [] once = omega arith
-length-others t (x ∷ q) once = elim (cases_eq x t) [
-  | inl same ↦ rw (is_same x t same) (let here : length q ≤ length (others t q) = absent t q (λ m. once.0 (subst (λ (y : ℕ). IsMember q y) (sym same) m)) in omega (arith, here))
-  | inr other ↦ rw (is_other x t other) (let rest = length-others t q once.1 in omega (arith, rest))
-]
-  where
-    is_same : (a b : ℕ) → a ≡ b → (a == b) ≡ true
-    is_same a b e = grind (arith, nat_tests, e)
-
-    is_other : (a b : ℕ) → a ≢ b → (a == b) ≡ false
-    is_other a b e = grind (arith, nat_tests, e)
-
-    absent : (t : ℕ) (q : List ℕ) → (IsMember q t → ⊥) → length q ≤ length (others t q)
-    absent t [] none = omega arith
-    absent t (x ∷ q) none = rw (is_other x t (λ e. none (inl e))) (let rest = absent t q (λ m. none (inr m)) in omega (arith, rest))
-
-pub once_few : (n : ℕ) (q : List ℕ) → AreOnce q → ((u : ℕ) → IsMember q u → u < n) → length q ≤ n
-once_few zero [] once below = omega arith
-once_few zero (x ∷ q) once below = let lt = below x (inl refl) in absurd (omega (arith, lt))
-once_few (suc n) q once below =
-    let fewer = length-others n q once in
-    let rest = once_few n (others n q) (AreOnce-others n q once) smaller in
-    omega (arith, fewer, rest)
-  where
-    smaller : (u : ℕ) → IsMember (others n q) u → u < n
-    smaller u m = let parts = others-IsMember n u q m in let lt = below u parts.0 in let differs = parts.1 in omega (arith, lt, differs)
-
 pub queue_few : (d : Dispatcher) (h : ℕ) → IsSound d → length ((state d).queues h) ≤ 256
 queue_few d h sound =
-    let few = once_few d.threads ((state d).queues h) (sound.blocks.once h) (λ u m. let own = sound.blocks.named u h m in (sound.waits u own.0 own.1).known) in
+    let few = few_below d.threads ((state d).queues h) (sound.blocks.once h) (λ u m. let own = sound.blocks.named u h m in (sound.waits u own.0 own.1).known) in
     let all = sound.few in
     omega (arith, few, all)
 
@@ -384,14 +355,6 @@ owned_is_no_thread o t owns e = false≢true (sym (ap (λ x. owned_by x t) e) �
 
 pub known_mutex : (os : List Object) (h t : ℕ) → owned_by (object_at os h) t ≡ true → h < length os
 known_mutex os h t owns = known_object os h (owned_is_no_thread (object_at os h) t owns)
-
-pub owned_is_mutex : (o : Object) (t : ℕ) → owned_by o t ≡ true → is_mutex o ≡ true
-owned_is_mutex (Event manual was) t owns = owns
-owned_is_mutex (Semaphore count maximum) t owns = owns
-owned_is_mutex (Mutex owner depth abandoned) t owns = refl
-owned_is_mutex (Timer manual was armed) t owns = owns
-owned_is_mutex (Thread ended) t owns = owns
-owned_is_mutex Gone t owns = owns
 
 pub unlocked_may_replace : (o : Object) (t : ℕ) → owned_by o t ≡ true → IsLawfulObject o → IsLawfulObject (unlocked o) → MayReplace o (unlocked o)
 unlocked_may_replace (Event manual was) t owns lawful after = absurd (false≢true owns)

@@ -1,13 +1,14 @@
 -- Alerts of threads with a mark, one after another.
-use Rattle.std.proofs.Common.{◌≡◌, ◌≢◌, ◌<◌, ◌≤◌, ℕ, zero, suc, ◌+◌, Bool, true, false, ◌&&◌, List, [], ◌∷◌, ◌++◌, length, set, map, refl, sym, ap, ◌∙◌, subst, arith, Option, Some, None, inl, inr, ◌⊎◌, append_assoc}
+use Rattle.std.proofs.Common.{◌≡◌, ◌≢◌, ◌<◌, ◌≤◌, ℕ, zero, suc, ◌+◌, Bool, true, false, ◌&&◌, List, [], ◌∷◌, ◌++◌, set, map, refl, sym, ap, ◌∙◌, subst, arith, Option, Some, None, inl, inr, ◌⊎◌, append_assoc}
 use Rattle.std.specs.Prelude.{nat_le}
 use Rattle.std.specs.FinMap as fin
 use Rattle.std.proofs.lemmas.Bool.{cases_eq}
 use Rattle.std.proofs.lemmas.Bool.Decides.{nat_tests}
-use Rattle.std.proofs.lemmas.List.{append-nil, length-set}
+use Rattle.std.proofs.lemmas.List.{append-nil}
 use Rattle.nt_status.specs.Status.{io_completion_code}
 use Rattle.nt_waits.specs.declared.wait.Wait.{Wait}
-use Rattle.nt_waits.specs.Waits.{IsMember}
+use Rattle.nt_status.specs.Lists.{IsMember}
+use Rattle.nt_status.proofs.Lists.{member_push_cases}
 use Rattle.nt_alarms.specs.Alarms.{alarm_at, NoneAt, IsLowestAt}
 use Rattle.nt_apc.specs.declared.apc.Queued.{Queued}
 use Rattle.nt_apc.specs.Queues.{has_apc}
@@ -18,7 +19,7 @@ use Rattle.nt_core.specs.Serving.{IsAlerted, ending}
 use Rattle.nt_core.specs.Lawful.{IsSound}
 use Rattle.nt_core.specs.Accepts.{IsRoused, IsAlertedAfter}
 use Rattle.nt_core.proofs.Alerting.{over_pending, over_apcs}
-use Rattle.nt_core.proofs.Ticking.{member_append, rising_append, over_append, map_append, gone_member}
+use Rattle.nt_core.proofs.Ticking.{rising_append, over_append, map_append, gone_member}
 
 -- how many marks there are
 abbrev pub marks_left : List (Option ℕ) → ℕ
@@ -55,11 +56,10 @@ pub record AlertedSoFar (old now : Dispatcher) (marks : List (Option ℕ)) : Typ
   pub above : (x : ℕ) → alarm_at marks x ≡ Some 0 → (y : ℕ) → IsMember threads y → y < x
   pub marked : (x : ℕ) → IsAlerted (state now) x → alarm_at marks x ≡ Some 0
   pub looked : now.table.looked ≡ old.table.looked
-  pub count : length marks ≡ 256
   pub sound : IsSound now
 
-pub alerted_none : (d : Dispatcher) (marks : List (Option ℕ)) → IsSound d → ((t : ℕ) → IsAlerted (state d) t → alarm_at marks t ≡ Some 0) → length marks ≡ 256 → AlertedSoFar d d marks
-alerted_none d marks sound marked count = record {
+pub alerted_none : (d : Dispatcher) (marks : List (Option ℕ)) → IsSound d → ((t : ℕ) → IsAlerted (state d) t → alarm_at marks t ≡ Some 0) → AlertedSoFar d d marks
+alerted_none d marks sound marked = record {
   threads = [];
   rising = tt;
   alerted = λ x m. absurd m;
@@ -68,15 +68,14 @@ alerted_none d marks sound marked count = record {
   above = λ x is y m. absurd m;
   marked = marked;
   looked = refl;
-  count = count;
   sound = sound;
 }
 
 -- who is to be alerted after waits are over was before, and is none of those threads
-still_alerted : (s : State) (ts : List ℕ) (x : ℕ) → IsAlerted (waits_over s ts true) x → IsAlerted s x × (IsMember ts x → ⊥)
-still_alerted s ts x alerted =
-    let before = over_pending s ts true x alerted.0 alerted.1 in
-    ((alerted.0, before.0, subst (λ (qs : List (List Queued)). ((alerted.0).alertable && has_apc qs x) ≡ true) (over_apcs s ts true) alerted.2), before.1)
+pub still_alerted : (s : State) (ts : List ℕ) (may : Bool) (x : ℕ) → IsAlerted (waits_over s ts may) x → IsAlerted s x × (IsMember ts x → ⊥)
+still_alerted s ts may x alerted =
+    let before = over_pending s ts may x alerted.0 alerted.1 in
+    ((alerted.0, before.0, subst (λ (qs : List (List Queued)). ((alerted.0).alertable && has_apc qs x) ≡ true) (over_apcs s ts may) alerted.2), before.1)
 
 pub lowest_least : (marks : List (Option ℕ)) (t x : ℕ) → IsLowestAt marks 0 t → alarm_at marks x ≡ Some 0 → t ≤ x
 lowest_least marks t x lowest is = go (nat_le t x) refl
@@ -87,22 +86,21 @@ lowest_least marks t x lowest is = go (nat_le t x) refl
 
 pub alerted_next : (old now new : Dispatcher) (marks : List (Option ℕ)) (t : ℕ) → AlertedSoFar old now marks → IsLowestAt marks 0 t → IsRoused now new t → IsSound new → AlertedSoFar old new (set marks t None)
 alerted_next old now new marks t far lowest (inl roused) sound =
-    let before = still_alerted (state old) far.threads t (subst (λ (s : State). IsAlerted s t) far.over roused.0) in
+    let before = still_alerted (state old) far.threads true t (subst (λ (s : State). IsAlerted s t) far.over roused.0) in
     record {
       threads = far.threads ++ t ∷ [];
       rising = rising_append far.threads t far.rising (far.above t lowest.here);
-      alerted = λ x m. elim (member_append far.threads t x m) [
+      alerted = λ x m. elim (member_push_cases far.threads t x m) [
         | inl earlier ↦ far.alerted x earlier
         | inr last ↦ subst (λ (k : ℕ). IsAlerted (state old) k) last before.0
       ];
       grants = roused.2 ∙ (ap (λ gs. gs ++ ending io_completion_code t ∷ []) far.grants ∙ (append_assoc old.grants (map (ending io_completion_code) far.threads) (ending io_completion_code t ∷ []) ∙ ap (λ gs. old.grants ++ gs) (sym (map_append (ending io_completion_code) far.threads t))));
       over = roused.1 ∙ (ap (λ (s : State). wait_over s t true) far.over ∙ sym (over_append (state old) far.threads t true));
-      above = λ x is y m. after x is (cases_eq x t) y (member_append far.threads t y m);
+      above = λ x is y m. after x is (cases_eq x t) y (member_push_cases far.threads t y m);
       marked = λ x alerted.
-          let still = still_alerted (state now) (t ∷ []) x (subst (λ (s : State). IsAlerted s x) roused.1 alerted) in
+          let still = still_alerted (state now) (t ∷ []) true x (subst (λ (s : State). IsAlerted s x) roused.1 alerted) in
           cleared_other marks t x (λ e. still.1 (inl (sym e))) ∙ far.marked x still.0;
       looked = roused.3 ∙ far.looked;
-      count = length-set marks t None ∙ far.count;
       sound = sound;
     }
   where
@@ -125,7 +123,6 @@ alerted_next old now new marks t far lowest (inr idle) sound = subst (λ (d : Di
     | inr other ↦ cleared_other marks t x other ∙ far.marked x alerted
   ];
   looked = far.looked;
-  count = length-set marks t None ∙ far.count;
   sound = far.sound;
 })
   where

@@ -1,5 +1,5 @@
 -- Why a walk may stop: once the object that changed is signaled for nobody, no wait fits.
-use Rattle.std.proofs.Common.{◌≡◌, ◌≢◌, ℕ, zero, suc, Bool, true, false, cond, List, [], ◌∷◌, ◌++◌, length-append, refl, sym, ap, ◌∙◌, subst, arith, Option, Some, None, inl, inr}
+use Rattle.std.proofs.Common.{◌≡◌, ◌≢◌, ◌≤◌, ◌<◌, ◌+◌, ◌^◌, length, ℕ, zero, suc, Bool, true, false, cond, List, [], ◌∷◌, ◌++◌, length-append, refl, sym, ap, ◌∙◌, subst, arith, Option, Some, None, inl, inr}
 use Rattle.std.specs.List.{find}
 use Rattle.std.specs.Prelude.{slice_index, ◌==◌, slice_set}
 use Rattle.std.specs.FinMap as map
@@ -152,3 +152,19 @@ at_stop h old now at a served = subst (λ (q : List ℕ). Visits q old now) (sym
 pub one_served : (old new : Dispatcher) (h : ℕ) → old.grants ≡ [] → FitOnlyIn (sequence (state old) (h ∷ [])) (state old) → Visits ((state old).queues h) old new → Serve (sequence (state old) (h ∷ [])) (state old) new.grants (state new)
 one_served old new h first local visits =
     all_served (sequence (state old) (h ∷ [])) old new first local (subst (λ (q : List ℕ). Visits q old new) (sym (append-nil ((state old).queues h))) visits)
+
+-- the waits on one object are those in its queue
+one_queue : (d : Dispatcher) (h : ℕ) → length (sequence (state d) (h ∷ [])) ≡ length ((state d).queues h)
+one_queue d h = ap (λ q. length q) (append-nil ((state d).queues h))
+
+pub one_countable : (d : Dispatcher) (h : ℕ) → d.table.looked ≡ 0 → length (sequence (state d) (h ∷ [])) < 2 ^ 64 → d.table.looked + length ((state d).queues h) < 2 ^ 64
+one_countable d h none few = let same = one_queue d h in omega (arith, none, same, few)
+
+pub one_most : (old new : Dispatcher) (h : ℕ) → old.table.looked ≡ 0 → Visits ((state old).queues h) old new → new.table.looked ≤ length (sequence (state old) (h ∷ []))
+one_most old new h none visits = let most = visits.most in let same = one_queue old h in omega (arith, most, none, same)
+
+pub one_least : (old new : Dispatcher) (h : ℕ) → old.grants ≡ [] → old.table.looked ≡ 0 → Visits ((state old).queues h) old new → length new.grants ≤ new.table.looked
+one_least old new h first none visits =
+    let same : length new.grants ≡ length visits.ended = ap (λ gs. length gs) (visits.grants ∙ ap (λ gs. gs ++ visits.ended) first) in
+    let least = visits.least in
+    omega (arith, same, least, none)

@@ -6,7 +6,8 @@ use Rattle.std.proofs.lemmas.List.{append-nil}
 use Rattle.std.specs.Prelude.{nat_le}
 use Rattle.std.proofs.lemmas.Bool.Decides.{nat_tests}
 use Rattle.nt_waits.specs.declared.wait.Wait.{Wait}
-use Rattle.nt_waits.specs.Waits.{IsMember}
+use Rattle.nt_status.specs.Lists.{IsMember}
+use Rattle.nt_status.proofs.Lists.{member_place, member_push_cases}
 use Rattle.nt_waits.specs.Deadlines.{deadline_in, deadline_of, NoneEarlier, NoneWithDeadline, IsEarliestDeadline, IsFirstWithDeadline, NoDeadline}
 use Rattle.nt_core.specs.declared.call.Grant.{Grant}
 use Rattle.nt_core.specs.Rising.{IsRising}
@@ -108,31 +109,9 @@ pub record LateSoFar (old now : Dispatcher) (u : ℕ) : Type 0 where
   pub count : fin.len now.table.pending + length threads ≡ fin.len old.table.pending
   pub sound : IsSound now
 
-pub late_none : (d : Dispatcher) (u : ℕ) → IsSound d → LateSoFar d d u
-late_none d u sound = record {
-  threads = [];
-  rising = tt;
-  late = λ x m. absurd m;
-  grants = sym (append-nil d.grants);
-  over = refl;
-  above = λ x late y m. absurd m;
-  looked = refl;
-  count = omega arith;
-  sound = sound;
-}
-
-pub member_append : (xs : List ℕ) (t x : ℕ) → IsMember (xs ++ t ∷ []) x → IsMember xs x ⊎ (t ≡ x)
-member_append [] t x (inl same) = inr same
-member_append [] t x (inr m) = absurd m
-member_append (y ∷ xs) t x (inl same) = inl (inl same)
-member_append (y ∷ xs) t x (inr m) = elim (member_append xs t x m) [
-  | inl before ↦ inl (inr before)
-  | inr last ↦ inr last
-]
-
 pub rising_append : (xs : List ℕ) (t : ℕ) → IsRising xs → ((y : ℕ) → IsMember xs y → y < t) → IsRising (xs ++ t ∷ [])
 rising_append [] t rising below = (λ y m. absurd m, tt)
-rising_append (x ∷ xs) t rising below = (λ y m. after y (member_append xs t y m), rising_append xs t rising.1 (λ y m. below y (inr m)))
+rising_append (x ∷ xs) t rising below = (λ y m. after y (member_push_cases xs t y m), rising_append xs t rising.1 (λ y m. below y (inr m)))
   where
     after : (y : ℕ) → IsMember xs y ⊎ (t ≡ y) → x < y
     after y (inl m) = rising.0 y m
@@ -160,7 +139,7 @@ late_next old now new u t far first over grants looked sound =
     record {
       threads = far.threads ++ t ∷ [];
       rising = rising_append far.threads t far.rising (far.above t here);
-      late = λ x m. elim (member_append far.threads t x m) [
+      late = λ x m. elim (member_push_cases far.threads t x m) [
         | inl earlier ↦ far.late x earlier
         | inr last ↦ subst (λ (k : ℕ). IsLate (state old) u k) last (here.0, before.0, here.2)
       ];
@@ -171,7 +150,7 @@ late_next old now new u t far first over grants looked sound =
           let differs : x ≢ t = λ e. still.1 (inl (sym e)) in
           let lates : IsLate (state now) u x = (late.0, still.0, late.2) in
           let least : t ≤ x = not_below first x (deadline_late (state now) u x lates) in
-          elim (member_append far.threads t y m) [
+          elim (member_push_cases far.threads t y m) [
             | inl earlier ↦ far.above x lates y earlier
             | inr last ↦ subst (λ (k : ℕ). k < x) last (omega (arith, least, differs))
           ];
@@ -222,11 +201,7 @@ late_end old now u far none = record {
         absurd (none x (ap deadline_in e ∙ (ap (λ (w : Wait). w.deadline) same ∙ late.2)))
 
     some : (x : ℕ) → IsMember far.threads x → fin.len now.table.pending + length far.threads ≡ fin.len old.table.pending → fin.len now.table.pending < fin.len old.table.pending
-    some x m count = let longer = nonempty x far.threads m in omega (arith, longer, count)
-      where
-        nonempty : (x : ℕ) (ts : List ℕ) → IsMember ts x → 0 < length ts
-        nonempty x [] m = absurd m
-        nonempty x (t ∷ ts) m = omega arith
+    some x m count = let longer = (member_place far.threads x m).1 in omega (arith, longer, count)
 
 pub none_earlier_kept : (old now : Dispatcher) (u : ℕ) → LateSoFar old now u → NoneEarlier old.table.pending u → NoneEarlier now.table.pending u
 none_earlier_kept old now u far none t v has =

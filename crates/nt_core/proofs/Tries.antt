@@ -1,6 +1,6 @@
 -- What was tried, from what each way of waiting does.
-use Rattle.std.proofs.Common.{◌≡◌, ◌≢◌, ℕ, zero, suc, ◌++◌, ◌<◌, true, false, eqb, List, [], ◌∷◌, length, get_or, refl, sym, ap, ◌∙◌, Some}
-use Rattle.std.specs.List.{list_any, list_all, IsDistinct}
+use Rattle.std.proofs.Common.{◌≡◌, ◌≢◌, ℕ, zero, suc, ◌++◌, ◌<◌, true, false, List, [], ◌∷◌, length, get_or, refl, sym, ap, ◌∙◌, Some}
+use Rattle.std.specs.List.{list_any, IsDistinct}
 use Rattle.std.specs.Prelude.{nat_eq}
 use Rattle.std.proofs.lemmas.Bool.{eq-eqb, false≢true}
 use Rattle.std.proofs.lemmas.Map.Keys.{apart_from_distinct}
@@ -12,9 +12,6 @@ use Rattle.nt_core.specs.Serving.{is_ready, has_mark, least, status, status_at, 
 
 pub tried_any : (old new : List Object) (t : ℕ) (w : Wait) (ended : ℕ) → w.all ≡ false → list_any (is_ready old t) w.handles ≡ true → ended ≡ status_at (has_mark old (get_or w.handles (least old t w) 0)) (least old t w) → new ≡ take_at old t (get_or w.handles (least old t w) 0) → IsTried old new t w (Some ended)
 tried_any old new t w ended any ready status taken = (rw any ready, status ∙ rw any refl, taken ∙ rw any refl)
-
-pub tried_all : (old new : List Object) (t : ℕ) (w : Wait) (ended : ℕ) → w.all ≡ true → eqb (length w.handles) 0 ≡ false → list_all (is_ready old t) w.handles ≡ true → ended ≡ status_at (list_any (has_mark old) w.handles) 0 → new ≡ take_each old t w.handles → IsTried old new t w (Some ended)
-tried_all old new t w ended all some ready status taken = (rw (all, some, ready) refl, status ∙ rw all refl, taken ∙ rw all refl)
 
 -- ---- taking one after another
 

@@ -1,5 +1,5 @@
 -- Visits one after another.
-use Rattle.std.proofs.Common.{◌≡◌, ◌≢◌, ℕ, suc, ◌+◌, ◌≤◌, ◌<◌, Bool, true, false, eqb, List, [], ◌∷◌, ◌++◌, length, length-append, get_or, take, append_assoc, refl, sym, ap, ◌∙◌, subst, arith, Option, Some, None, is_some, inl, inr, ◌⊎◌}
+use Rattle.std.proofs.Common.{◌≡◌, ◌≢◌, ℕ, suc, ◌+◌, ◌≤◌, ◌<◌, Bool, true, false, eqb, List, [], ◌∷◌, ◌++◌, length, length-append, get_or, take, append_assoc, refl, sym, ap, ◌∙◌, subst, arith, Option, Some, None, is_some, inl, inr}
 use Rattle.std.specs.List.{find, filter}
 use Rattle.std.specs.Prelude.{slice_get}
 use Rattle.std.specs.Ordering.{nat_cmp, eq_by_cmp}
@@ -11,7 +11,10 @@ use Rattle.std.proofs.lemmas.List.Folds.{length-flat_map-take}
 use Rattle.std.proofs.lemmas.Grind.{flat_map-append}
 use Rattle.std.proofs.lemmas.Bool.Decides.{nat_tests}
 use Rattle.nt_waits.specs.declared.wait.Wait.{Wait}
-use Rattle.nt_waits.specs.Waits.{IsMember, AreOnce, others, next_after, Agrees}
+use Rattle.nt_status.specs.Lists.{IsMember, AreOnce}
+use Rattle.nt_status.proofs.Lists.{member_of_last}
+use Rattle.nt_waits.specs.Waits.{others, next_after, Agrees}
+use Rattle.nt_waits.proofs.OthersLemmas.{others_absent}
 use Rattle.nt_core.specs.declared.call.Grant.{Grant}
 use Rattle.nt_core.specs.State.{State, Pending, pends}
 use Rattle.nt_core.specs.Dispatcher.{Dispatcher, state}
@@ -108,34 +111,6 @@ others_pend s t w (x ∷ q) all = elim (cases_eq x t) [
   | inr differs ↦ rw (eqb_other x t differs, ap is_some (get_other s.waits t x differs), all x (inl refl)) (ap (λ ys. x ∷ ys) (others_pend s t w q (λ u m. all u (inr m))))
 ]
 
-pub IsMember-others : (t u : ℕ) (q : List ℕ) → u ≢ t → IsMember q u → IsMember (others t q) u
-IsMember-others t u [] differs member = absurd member
-IsMember-others t u (x ∷ q) differs (inl here) =
-    let other : x ≢ t = λ e. differs (sym here ∙ e) in
-    rw (eqb_other x t other) (inl here)
-IsMember-others t u (x ∷ q) differs (inr later) = elim (cases_eq x t) [
-  | inl same ↦ rw (eqb_same x t same) (IsMember-others t u q differs later)
-  | inr other ↦ rw (eqb_other x t other) (inr (IsMember-others t u q differs later))
-]
-
-pub others-IsMember : (t u : ℕ) (q : List ℕ) → IsMember (others t q) u → IsMember q u × (u ≢ t)
-others-IsMember t u [] member = absurd member
-others-IsMember t u (x ∷ q) member = elim (cases_eq x t) [
-  | inl same ↦ let m : IsMember (others t q) u = rw (eqb_same x t same) at member in let rest = others-IsMember t u q m in (inr rest.0, rest.1)
-  | inr other ↦ let m : (x ≡ u) ⊎ IsMember (others t q) u = rw (eqb_other x t other) at member in first (others-IsMember t u q) m other
-]
-  where
-    first : (IsMember (others t q) u → IsMember q u × (u ≢ t)) → (x ≡ u) ⊎ IsMember (others t q) u → x ≢ t → IsMember (x ∷ q) u × (u ≢ t)
-    first go (inl here) other = (inl here, λ e. other (here ∙ e))
-    first go (inr there) other = let rest = go there in (inr rest.0, rest.1)
-
-pub AreOnce-others : (t : ℕ) (q : List ℕ) → AreOnce q → AreOnce (others t q)
-AreOnce-others t [] once = tt
-AreOnce-others t (x ∷ q) once = elim (cases_eq x t) [
-  | inl same ↦ rw (eqb_same x t same) (AreOnce-others t q once.1)
-  | inr other ↦ rw (eqb_other x t other) ((λ m. once.0 (others-IsMember t x q m).0), AreOnce-others t q once.1)
-]
-
 -- ---- one visit
 
 -- who stands in a queue pends
@@ -194,24 +169,16 @@ no_rest : (rest : List ℕ) → None ≡ slice_get rest 0 → rest ≡ []
 no_rest [] e = refl
 no_rest (x ∷ more) e = let h : None ≡ Some x = e in (cc)
 
-member_split : (kept rest : List ℕ) (t : ℕ) → IsMember (kept ++ t ∷ rest) t
-member_split [] rest t = inl refl
-member_split (x ∷ kept) rest t = inr (member_split kept rest t)
-
-others_absent : (t : ℕ) (q : List ℕ) → (IsMember q t → ⊥) → others t q ≡ q
-others_absent t [] absent = refl
-others_absent t (x ∷ q) absent = rw (eqb_other x t (λ e. absent (inl e))) (ap (λ ys. x ∷ ys) (others_absent t q (λ m. absent (inr m))))
-
 others_split : (kept rest : List ℕ) (t : ℕ) → AreOnce (kept ++ t ∷ rest) → others t (kept ++ t ∷ rest) ≡ kept ++ rest
 others_split [] rest t once = rw (eqb_same t t refl) (others_absent t rest once.0)
 others_split (x ∷ kept) rest t once =
-    let differs : x ≢ t = λ e. once.0 (subst (λ y. IsMember (kept ++ t ∷ rest) y) (sym e) (member_split kept rest t)) in
+    let differs : x ≢ t = λ e. once.0 (subst (λ y. IsMember (kept ++ t ∷ rest) y) (sym e) (member_of_last kept (t ∷ rest) t (inl refl))) in
     rw (eqb_other x t differs) (ap (λ ys. x ∷ ys) (others_split kept rest t once.1))
 
 next_split : (kept rest : List ℕ) (t : ℕ) → AreOnce (kept ++ t ∷ rest) → next_after t (kept ++ t ∷ rest) ≡ slice_get rest 0
 next_split [] rest t once = rw (eqb_same t t refl) refl
 next_split (x ∷ kept) rest t once =
-    let differs : x ≢ t = λ e. once.0 (subst (λ y. IsMember (kept ++ t ∷ rest) y) (sym e) (member_split kept rest t)) in
+    let differs : x ≢ t = λ e. once.0 (subst (λ y. IsMember (kept ++ t ∷ rest) y) (sym e) (member_of_last kept (t ∷ rest) t (inl refl))) in
     rw (eqb_other x t differs) (next_split kept rest t once.1)
 
 -- the walk over the queue of h that began at `old` has visited some threads, and comes to `at` next
@@ -246,7 +213,7 @@ at_end h old now a =
 pub at_member : (h : ℕ) (old now : Dispatcher) (t : ℕ) → IsAt h old now (Some t) → IsMember ((state now).queues h) t
 at_member h old now t a =
     let more = rest_of a.rest t a.next in
-    subst (λ (q : List ℕ). IsMember q t) (sym (a.left ∙ ap (λ r. a.kept ++ r) more.1)) (member_split a.kept more.0 t)
+    subst (λ (q : List ℕ). IsMember q t) (sym (a.left ∙ ap (λ r. a.kept ++ r) more.1)) (member_of_last a.kept (t ∷ more.0) t (inl refl))
 
 -- one look at least is left
 pub at_countable : (h : ℕ) (old now : Dispatcher) (t : ℕ) → IsAt h old now (Some t) → now.table.looked + 1 ≤ old.table.looked + length ((state old).queues h)

@@ -14,7 +14,7 @@ use Rattle.nt_objects.specs.Object.{armed_with}
 use Rattle.nt_objects.specs.declared.object.Routine.{Routine}
 use Rattle.nt_alarms.specs.Alarms.{alarm_at}
 use Rattle.nt_apc.specs.Queues.{withdrawn, place_of}
-use Rattle.nt_waits.specs.Waits.{IsMember}
+use Rattle.nt_status.specs.Lists.{IsMember}
 use Rattle.nt_core.specs.State.{State, object_at, wait_over}
 use Rattle.nt_core.specs.Serving.{IsChanged, sequence, sleeps, Serve, IsAlerted, Alert, ending, TimeOut, IsLate}
 use Rattle.nt_core.specs.Change.{change, all_expired, exited, IsTimerDue}

@@ -5,23 +5,6 @@ use Rattle.nt_core.specs.declared.call.Act.{Act}
 use Rattle.nt_core.specs.declared.call.WaitCall.{WaitCall}
 use Rattle.nt_core.specs.State.{deadline_after}
 
--- the acts that create an object
-abbrev pub act_creates : Act → Bool
-act_creates (Act.CreateEvent flags) = true
-act_creates (Act.CreateSemaphore initial maximum) = true
-act_creates (Act.CreateMutex flags) = true
-act_creates (Act.CreateTimer flags) = true
-act_creates _ = false
-
--- the acts that signal an object, or take its signal back
-abbrev pub act_signals : Act → Bool
-act_signals (Act.SetEvent h) = true
-act_signals (Act.ResetEvent h) = true
-act_signals (Act.PulseEvent h) = true
-act_signals (Act.ReleaseSemaphore h n) = true
-act_signals (Act.ReleaseMutex h) = true
-act_signals _ = false
-
 -- the acts that may want memory: creations, duplicates, queued APCs, and timers set with a routine, whose APC gets a place
 abbrev pub act_grows : Act → Bool
 act_grows (Act.CreateEvent flags) = true

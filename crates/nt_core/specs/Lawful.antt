@@ -3,19 +3,21 @@ use Rattle.std.specs.declared.option.Option.{Option}
 use Rattle.std.specs.Prelude.{◌≡◌, ℕ, ◌<◌, ◌≤◌, ◌+◌, ◌⊎◌, true, false, not, ◌&&◌, List, [], length, Some, nat_eq}
 use Rattle.std.specs.FinMap as map
 use Rattle.std.specs.FinMap.{get}
+use Rattle.nt_status.specs.declared.limits.TheConstants.{MAX_HANDLES, MAX_THREADS, MAX_WAIT_OBJECTS}
 use Rattle.nt_objects.specs.declared.object.Object.{Object}
 use Rattle.nt_objects.specs.declared.handles.Opened.{Opened}
 use Rattle.nt_objects.specs.Handles.{opened_at, count_named}
 use Rattle.nt_owners.specs.Objects.{OwnersAgree}
 use Rattle.nt_objects.specs.Object.{IsLawfulObject, owned_by, has_room, has_ended, is_thread, is_gone, due_of, setter_of}
 use Rattle.nt_waits.specs.declared.wait.Wait.{Wait}
-use Rattle.nt_waits.specs.Waits.{IsMember, Names, Agrees}
+use Rattle.nt_status.specs.Lists.{IsMember}
+use Rattle.nt_waits.specs.Waits.{Names, Agrees}
 use Rattle.std.specs.List.{IsDistinct}
 use Rattle.nt_alarms.specs.Alarms.{alarm_at}
 use Rattle.nt_apc.specs.Queues.{place_of}
 use Rattle.nt_core.specs.State.{State, object_at}
 use Rattle.nt_core.specs.Serving.{IsServed, IsAlerted}
-use Rattle.nt_core.specs.Refusals.{is_at_limit, wait_limit, handle_limit}
+use Rattle.nt_core.specs.Refusals.{is_at_limit}
 use Rattle.nt_core.specs.Steps.{NothingDue}
 use Rattle.nt_core.specs.Dispatcher.{Dispatcher, state}
 use Rattle.nt_core.specs.Living.{is_forgotten, LivesWhileKept}
@@ -30,7 +32,7 @@ pub record IsSettled (s : State) : Type 0 where
 pub record IsSoundWait (threads : ℕ) (objects : List Object) (t : ℕ) (w : Wait) : Type 0 where
   pub known : t < threads
   pub runs : has_ended (object_at objects t) ≡ false
-  pub few : length w.handles ≤ wait_limit
+  pub few : length w.handles ≤ MAX_WAIT_OBJECTS
   pub apart : IsDistinct nat_eq w.handles
   pub named : (h : ℕ) → Names w h → (h < length objects) × (is_at_limit objects t h ≡ false)
   pub living : (h : ℕ) → Names w h → is_gone (object_at objects h) ≡ false
@@ -45,7 +47,7 @@ pub record TimersAgree (threads : ℕ) (objects : List Object) (alarms places : 
 
 -- handles name objects that there are, of which there are so many: each was created with a handle
 pub record HandlesAgree (count : ℕ) (handles : List (Option Opened)) : Type 0 where
-  pub few : length handles ≤ handle_limit
+  pub few : length handles ≤ MAX_HANDLES
   pub enough : count ≤ length handles
   pub named : (h : ℕ) (opened : Opened) → opened_at handles h ≡ Some opened → opened.object < count
 
@@ -64,7 +66,7 @@ pub record LetsGoBut (left : List ℕ) (handles : List (Option Opened)) (ended :
 
 -- what holds also between a change and the serving after it
 pub record IsSound (d : Dispatcher) : Type 0 where
-  pub few : d.threads ≤ 256
+  pub few : d.threads ≤ MAX_THREADS
   pub waits : (t : ℕ) (w : Wait) → get (state d).waits t ≡ Some w → IsSoundWait d.threads d.objects t w
   -- wait blocks and pending waits name each other exactly
   pub blocks : Agrees d.table.pending d.table.queues

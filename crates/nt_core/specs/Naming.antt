@@ -1,5 +1,6 @@
 -- What the handles of a call name. From there on all speaks of objects by their own numbers.
 use Rattle.std.specs.Prelude.{ℕ, Bool, not, List, map, Option, Some, None}
+use Rattle.nt_status.specs.declared.limits.TheConstants.{MAX_HANDLES}
 use Rattle.nt_status.specs.Flags.{has_flag}
 use Rattle.nt_objects.specs.declared.handles.Opened.{Opened}
 use Rattle.nt_objects.specs.Handles.{opened_at}
@@ -9,7 +10,7 @@ use Rattle.nt_core.specs.declared.call.WaitCall.{WaitCall}
 
 -- a number that no object has, since the numbers of objects are below it
 abbrev pub no_object : ℕ
-no_object = 65536
+no_object = MAX_HANDLES
 
 -- the number of the object that is opened, and one that no object has where none is
 abbrev pub object_in : Option Opened → ℕ

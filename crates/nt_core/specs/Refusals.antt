@@ -3,6 +3,7 @@ use Rattle.std.specs.Prelude.{◌≡◌, ℕ, ℤ, pos, Bool, false, not, ◌&&�
 use Rattle.std.specs.List.{list_any}
 use Rattle.std.specs.declared.option.Option.{Option}
 use Rattle.std.specs.declared.option.Option.TheVariants.{None, Some}
+use Rattle.nt_status.specs.declared.limits.TheConstants.{MAX_HANDLES, MAX_WAIT_OBJECTS}
 use Rattle.nt_status.specs.Flags.{only_known, event_bits, mutex_bits, timer_bits}
 use Rattle.nt_status.specs.Access.{access_bits}
 use Rattle.nt_status.specs.declared.refusal.Refusal.{Refusal}
@@ -28,17 +29,9 @@ abbrev pub first_of_causes : List Cause → Option Refusal
 first_of_causes [] = None
 first_of_causes (c ∷ cs) = if c.0 then Some c.1 else first_of_causes cs
 
--- handle numbers are below this
-abbrev pub handle_limit : ℕ
-handle_limit = 65536
-
--- MAXIMUM_WAIT_OBJECTS, the most handles that a wait names
-abbrev pub wait_limit : ℕ
-wait_limit = 64
-
 -- no handle number is left
 abbrev pub is_full : List (Option Opened) → Bool
-is_full handles = nat_le handle_limit (length handles)
+is_full handles = nat_le MAX_HANDLES (length handles)
 
 -- no object has this number
 abbrev pub is_unknown : List Object → ℕ → Bool
@@ -109,7 +102,7 @@ close_causes handles h = (is_none (opened_at handles h), InvalidHandle) ∷ []
 -- two handles of one object name it twice
 abbrev pub objects_causes : List Object → ℕ → Bool → List ℕ → List Cause
 objects_causes objects t denied named =
-    (length named == 0 || nat_lt wait_limit (length named), InvalidParameter)
+    (length named == 0 || nat_lt MAX_WAIT_OBJECTS (length named), InvalidParameter)
     ∷ (list_any (is_unknown objects) named, InvalidHandle)
     ∷ (denied, AccessDenied)
     ∷ (has_twice named, InvalidParameter)

@@ -5,7 +5,7 @@ use Rattle.std.specs.Ordering.{nat_cmp}
 use Rattle.std.specs.FinMap.{FinMap, empty, get, insert, remove}
 use Rattle.std.specs.declared.option.Option.{Option}
 use Rattle.std.specs.declared.option.Option.TheVariants.{None, Some}
-use Rattle.nt_status.specs.Status.{infinite}
+use Rattle.nt_status.specs.declared.limits.TheConstants.{INFINITE}
 use Rattle.nt_objects.specs.Object.{units}
 use Rattle.nt_objects.specs.declared.object.Object.{Object}
 use Rattle.nt_objects.specs.declared.object.Object.TheVariants.{Thread}
@@ -89,4 +89,4 @@ waits_over s (t ∷ ts) may = waits_over (wait_over s t may) ts may
 
 -- the deadline of a wait that begins now with a timeout of ms milliseconds
 abbrev pub deadline_after : ℕ → ℕ → Option ℕ
-deadline_after now ms = if ms == infinite then None else Some (now + units ms)
+deadline_after now ms = if ms == INFINITE then None else Some (now + units ms)

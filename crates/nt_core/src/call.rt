@@ -51,7 +51,7 @@ pub enum Act {
     NextApc,
 }
 
-/// A call that may pend. Timeouts are in milliseconds; 0xFFFFFFFF is INFINITE.
+/// A call that may pend. Timeouts are in milliseconds; `INFINITE` has no deadline.
 #[derive(Drop)]
 pub enum WaitCall {
     /// WaitForMultipleObjectsEx: for any of the objects, or for all.

@@ -1,8 +1,7 @@
 //! The table of calls: each is made, or refused, by the function for it.
-ghost use Rattle.std.specs.Prelude.{◌≡◌, ◌≤◌, ◌<◌, false, vec_capacity, length, None, OnOk, OnErr, IsTrue};
+ghost use Rattle.std.specs.Prelude.{◌≡◌, ◌<◌, false, None, OnOk, OnErr};
 ghost use Rattle.std.specs.FinMap as fin;
 ghost use Rattle.nt_objects.specs.Object.{has_ended};
-ghost use Rattle.nt_core.specs.Calls.{act_creates};
 ghost use Rattle.nt_core.specs.Dispatcher.{state};
 ghost use Rattle.nt_core.specs.State.{object_at};
 ghost use Rattle.nt_core.specs.Naming.{call_named};
@@ -13,35 +12,26 @@ ghost use Rattle.nt_core.specs.Living.{LivesWhileKept};
 ghost use Rattle.nt_core.specs.Accepts.{IsFresh, IsFree, IsLocal, IsActMade};
 
 use crate::call::{Act, Call, Reply};
+use crate::handle_list::{ChangedObjects, NamedObjects};
 use crate::machine::Machine;
-use nt_status::{Handle, Refusal, ThreadId};
+use nt_status::{Refusal, ThreadId};
 
 impl Machine {
     /// An act, made or refused by its own causes.
     #[inline(always)]
-    fn act(
-        &mut self,
-        thread: ThreadId,
-        act: &Act,
-        changed: &mut Vec<Handle>,
-    ) -> Result<Reply, Refusal>
+    fn act(&mut self, thread: ThreadId, act: &Act) -> Result<Reply, Refusal>
         requires fresh { IsFresh self.old }
         requires free { IsFree (state self.old) thread }
         requires idle { fin.get self.old.table.pending thread ≡ None }
         requires known { thread < self.old.threads }
         requires runs { has_ended (object_at self.old.objects thread) ≡ false }
-        requires room { length self.old.objects ≤ vec_capacity changed.old }
-        ensures made { IsActMade self.old self.new thread act.now result }
-        ensures room { IsTrue (act_creates act.now) → length self.new.objects ≤ vec_capacity changed.new }
-        ensures rest { act_creates act.now ≡ false → changed.new ≡ changed.old }
+        ensures { IsActMade self.old self.new thread act.now result }
     {
         match *act {
-            Act::CreateEvent(flags) => self.create_event(flags, changed),
-            Act::CreateSemaphore { initial, maximum } => {
-                self.create_semaphore(initial, maximum, changed)
-            }
-            Act::CreateMutex(flags) => self.create_mutex(thread, flags, changed),
-            Act::CreateTimer(flags) => self.create_timer(flags, changed),
+            Act::CreateEvent(flags) => self.create_event(flags),
+            Act::CreateSemaphore { initial, maximum } => { self.create_semaphore(initial, maximum) }
+            Act::CreateMutex(flags) => self.create_mutex(thread, flags),
+            Act::CreateTimer(flags) => self.create_timer(flags),
             Act::SetEvent(event) => self.set_event(event),
             Act::ResetEvent(event) => self.reset_event(event),
             Act::PulseEvent(event) => self.pulse_event(event),
@@ -67,27 +57,23 @@ impl Machine {
         }
     }
 
-    /// Makes the call of this thread, or refuses it, and ends no object. `numbers` is for the objects that a wait names; `changed`
-    /// is for lists of objects, and has room for each.
+    /// Makes the call of this thread, or refuses it, and ends no object. `numbers` is for the objects that a wait names, `changed`
+    /// for those that an end of a thread changes.
     #[inline(always)]
     fn make(
         &mut self,
         who: u32,
         call: &Call,
-        numbers: &mut Vec<Handle>,
-        changed: &mut Vec<Handle>,
+        numbers: &mut NamedObjects,
+        changed: &mut ChangedObjects,
     ) -> Result<Reply, Refusal>
-        requires few { 64 ≤ vec_capacity numbers.old }
         requires steady { IsSteady self.old }
-        requires room { length self.old.objects ≤ vec_capacity changed.old }
         ensures made { Made (state self.old) who (is_denied (state self.old) call.now)
             (call_named self.old.handles call.now) result self.new.grants (state self.new) }
         ensures steady { IsSteady self.new }
         ensures local { OnOk result (IsLocal (state self.old) who
             (call_named self.old.handles call.now) self.new.table.looked self.new.grants) }
         ensures untested { OnErr result (self.new.table.looked ≡ 0) }
-        ensures few { 64 ≤ vec_capacity numbers.new }
-        ensures room { length self.new.objects ≤ vec_capacity changed.new }
     {
         self.tell_anew();
         if let Some(refusal) = self.caller_refusal(who) {
@@ -95,7 +81,7 @@ impl Machine {
         }
         let thread = ThreadId::new(who as u16);
         match call {
-            Call::Act(act) => self.act(thread, act, changed),
+            Call::Act(act) => self.act(thread, act),
             Call::Wait(wait) => self.wait(thread, wait, numbers),
             Call::Exit => {
                 self.exit(thread, changed);
@@ -104,28 +90,23 @@ impl Machine {
         }
     }
 
-    /// Makes the call of this thread, or refuses it, and ends the objects that nothing keeps any more. `numbers` is for the objects
-    /// that a wait names; `changed` is for lists of objects, and has room for each.
+    /// Makes the call of this thread, or refuses it, and ends the objects that nothing keeps any more.
     #[inline(always)]
     pub fn call(
         &mut self,
         who: u32,
         call: &Call,
-        numbers: &mut Vec<Handle>,
-        changed: &mut Vec<Handle>,
+        numbers: &mut NamedObjects,
+        changed: &mut ChangedObjects,
     ) -> Result<Reply, Refusal>
-        requires few { 64 ≤ vec_capacity numbers.old }
         requires steady { IsSteady self.old }
         requires living { LivesWhileKept (state self.old) }
-        requires room { length self.old.objects ≤ vec_capacity changed.old }
         ensures called { Called (state self.old) who call.now result self.new.grants (state self.new) }
         ensures steady { IsSteady self.new }
         ensures living { LivesWhileKept (state self.new) }
         ensures local { OnOk result (IsLocal (state self.old) who
             (call_named self.old.handles call.now) self.new.table.looked self.new.grants) }
         ensures untested { OnErr result (self.new.table.looked ≡ 0) }
-        ensures few { 64 ≤ vec_capacity numbers.new }
-        ensures room { length self.new.objects ≤ vec_capacity changed.new }
     {
         let reply = self.make(who, call, numbers, changed)?;
         self.end_forgotten();

@@ -10,11 +10,12 @@ ghost use Rattle.nt_core.specs.Lawful.{IsLawful};
 ghost use Rattle.nt_core.specs.Accepts.{IsLocal, IsTickLocal};
 ghost use Rattle.nt_core.specs.Moves.{Moves, IsMomentAfter, pended, is_wait};
 
+use crate::alerted::AlertedThreads;
 use crate::call::{Call, Grant, Reply};
+use crate::handle_list::{ChangedObjects, NamedObjects};
+use crate::living::count_living;
 use crate::machine::Machine;
-use crate::objects::quiet_alarms;
-use nt_alarms::Alarms;
-use nt_status::{Handle, Moment, Refusal};
+use nt_status::{MAX_THREADS, Moment, Refusal};
 use std::alloc::Global;
 use std::marker::Model;
 
@@ -22,16 +23,17 @@ use std::marker::Model;
 #[derive(Drop)]
 pub struct Core {
     pub(crate) machine: Machine,
-    /// Room for the numbers of the objects that a wait names.
-    numbers: Vec<Handle>,
-    /// Room to list every object, so that a call that changes many needs no memory for it.
-    changed: Vec<Handle>,
-    /// A place for each thread that there can be, to mark those that a moment of a tick alerts.
-    alerted: Alarms,
+    /// For the numbers of the objects that a wait names.
+    numbers: NamedObjects,
+    /// For the objects that a call or a moment of a tick changes.
+    changed: ChangedObjects,
+    /// For the threads that a moment of a tick alerts.
+    alerted: AlertedThreads,
 }
 
 impl Model for Core {
     ghost use Rattle.std.specs.Coded.{codes};
+    ghost use Rattle.nt_status.specs.declared.limits.TheConstants.{MAX_THREADS};
     ghost use Rattle.nt_waits.specs.Waits.{waits_code};
     ghost use Rattle.nt_core.specs.Dispatcher.{Dispatcher};
     ghost use Rattle.nt_core.specs.Lawful.{IsLawful};
@@ -42,31 +44,28 @@ impl Model for Core {
 
     ghost view = { λ c. c.machine };
 
-    ghost use Rattle.std.specs.Prelude.{length, ◌≡◌, ◌≤◌, vec_capacity};
-
-    ghost invariant = { λ c. IsLawful c.machine × (length c.machine.objects ≤ vec_capacity c.changed)
-        × (length c.alerted ≡ 256) × (64 ≤ vec_capacity c.numbers) };
+    ghost invariant = { λ c. IsLawful c.machine };
 }
 
 impl Core {
     /// A dispatcher whose threads run and wait for nothing.
     ///
-    /// Refused with 87 unless there are 1 to 256 threads, and with 8 where memory is refused.
+    /// Refused with 87 unless there are 1 to `MAX_THREADS` threads, and with 8 where memory is refused.
     pub fn new(alloc: Global, threads: u32) -> Result<Core, Refusal>
-        ensures ok { IfOk result (λ core. (1 ≤ threads) × (threads ≤ 256) × (state core ≡ opening threads)
+        ensures ok { IfOk result (λ core. (1 ≤ threads) × (threads ≤ MAX_THREADS) × (state core ≡ opening threads)
             × (core.grants ≡ [])) }
         ensures lawful { IfOk result (λ core. IsLawful core) }
         ensures err { IfErr result (λ r.
-            MatchBool (nat_le 1 threads && nat_le threads 256) (r ≡ Memory) (r ≡ InvalidParameter)) }
+            MatchBool (nat_le 1 threads && nat_le threads MAX_THREADS) (r ≡ Memory) (r ≡ InvalidParameter)) }
     {
-        if threads == 0 || threads > 256 {
+        if threads == 0 || threads > MAX_THREADS {
             return Err(Refusal::InvalidParameter);
         }
-        let numbers = Vec::with_capacity(alloc, 64)?;
-        let changed = Vec::with_capacity(alloc, threads as usize)?;
-        let alerted = quiet_alarms(alloc, 256)?;
+        let numbers = NamedObjects::new(alloc)?;
+        let changed = ChangedObjects::new(alloc)?;
+        let alerted = AlertedThreads::new(alloc)?;
         let machine = Machine::new(alloc, threads)?;
-        machine.agree();
+        machine.objects.agree();
         Ok(Core {
             machine,
             numbers,
@@ -93,7 +92,8 @@ impl Core {
         let result = self
             .machine
             .call(who, call, &mut self.numbers, &mut self.changed);
-        self.machine.agree();
+        let machine = &self.machine;
+        machine.objects.agree();
         result
     }
 
@@ -112,7 +112,8 @@ impl Core {
         ensures untested { OnErr result (self.new.table.looked ≡ 0) }
     {
         let result = self.machine.tick(m, &mut self.changed, &mut self.alerted);
-        self.machine.agree();
+        let machine = &self.machine;
+        machine.objects.agree();
         result
     }
 
@@ -120,21 +121,21 @@ impl Core {
     pub fn now(&self) -> Moment
         ensures { result ≡ (state self.now).now }
     {
-        self.machine.moment()
+        self.machine.moment
     }
 
     /// The pending waits that the last call or tick ended, in the order in which they ended.
     pub fn grants(&self) -> &[Grant]
         ensures { result.now ≡ self.now.grants }
     {
-        self.machine.grants()
+        self.machine.grants.as_slice()
     }
 
     /// How many waits pend.
     pub fn pending(&self) -> usize
         ensures { result ≡ map.len (state self.now).waits }
     {
-        self.machine.pending()
+        self.machine.waits.pending()
     }
 
     /// How many objects live: those that a handle or a pending wait names, and the threads that run. It walks the list of all
@@ -142,21 +143,21 @@ impl Core {
     pub fn living(&self) -> usize
         ensures { result ≡ living (state self.now) }
     {
-        self.machine.living()
+        count_living(self.machine.objects.as_slice())
     }
 
     /// Whether the wait of this thread pends. A number that no thread has waits for nothing.
     pub fn is_waiting(&self, thread: u32) -> bool
         ensures { result ≡ pends (state self.now) thread }
     {
-        self.machine.is_waiting(thread)
+        self.waits_for(thread).is_some()
     }
 
     /// How many pending waits the last call tested: at most those on objects that it changed.
     pub fn tested(&self) -> u64
         ensures { result ≡ self.now.table.looked }
     {
-        self.machine.tested()
+        self.machine.waits.looked()
     }
 
     /// An equal dispatcher in memory of its own, as a point to come back to. Each goes its own way from then on.
@@ -166,10 +167,10 @@ impl Core {
         ensures value { IfOk result (λ copied. copied ≡ self.now) }
         ensures memory { IfErr result (λ refusal. refusal ≡ Memory) }
     {
-        let alloc = *self.changed.allocator();
-        let numbers = Vec::with_capacity(alloc, 64)?;
-        let changed = Vec::with_capacity(alloc, self.machine.objects.as_slice().len())?;
-        let alerted = quiet_alarms(alloc, 256)?;
+        let alloc = *self.changed.handles.allocator();
+        let numbers = NamedObjects::new(alloc)?;
+        let changed = ChangedObjects::new(alloc)?;
+        let alerted = AlertedThreads::new(alloc)?;
         let machine = self.machine.copy()?;
         Ok(Core {
             machine,

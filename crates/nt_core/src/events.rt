@@ -1,48 +1,31 @@
 //! Calls on events.
-ghost use Rattle.std.specs.Prelude.{◌≡◌, ◌≤◌, ◌<◌, ℕ, vec_capacity, length, true, false, not, IsTrue};
+ghost use Rattle.std.specs.Prelude.{◌≡◌, ◌<◌, ℕ, length, true, false, not, IsTrue};
 ghost use Rattle.nt_objects.specs.Object.{is_event, signaled, with_set};
 ghost use Rattle.nt_core.specs.State.{object_at, with_object};
 ghost use Rattle.nt_core.specs.Change.{at};
 ghost use Rattle.nt_core.specs.Dispatcher.{state};
 ghost use Rattle.nt_core.specs.Accepts.{IsFresh, IsFree, IsServedAfter, IsActMade, IsJudged};
 ghost use Rattle.nt_core.specs.declared.call.Act.{Act};
-ghost use Rattle.nt_core.specs.Refusals.{is_no, kind_causes};
+ghost use Rattle.nt_core.specs.Refusals.{kind_causes};
 ghost use Rattle.nt_status.specs.Access.{modify_state};
 
 use crate::call::Reply;
-use crate::handles::{MODIFY_STATE, named, opened};
-use crate::judge::{judged, kind_refusal};
+use crate::handles::{MODIFY_STATE, opened};
 use crate::machine::Machine;
 use nt_objects::Object;
 use nt_status::{EventFlags, Handle, Refusal};
 
-/// Whether no event has this number.
-fn is_no_event(objects: &[Object], event: Handle) -> bool
-    ensures { result ≡ is_no is_event objects.now event }
-{
-    match named(objects, event) {
-        Some(object) => !object.is_event(),
-        None => true,
-    }
-}
-
 impl Machine {
     /// CreateEvent.
-    pub(crate) fn create_event(
-        &mut self,
-        flags: u32,
-        changed: &mut Vec<Handle>,
-    ) -> Result<Reply, Refusal>
+    pub(crate) fn create_event(&mut self, flags: u32) -> Result<Reply, Refusal>
         requires fresh { IsFresh self.old }
-        requires room { length self.old.objects ≤ vec_capacity changed.old }
-        ensures made { (t : ℕ) → IsFree (state self.old) t
+        ensures { (t : ℕ) → IsFree (state self.old) t
             → IsActMade self.old self.new t (Act.CreateEvent flags) result }
-        ensures room { length self.new.objects ≤ vec_capacity changed.new }
     {
         let Some(flags) = EventFlags::from_bits(flags) else {
             return Err(Refusal::InvalidParameter);
         };
-        self.create(Object::new_event(flags), changed)
+        self.create(Object::new_event(flags))
     }
 
     /// The event that the handle names, for a call that changes it.
@@ -50,8 +33,16 @@ impl Machine {
         ensures { IsJudged self.now handle modify_state (kind_causes is_event self.now.objects) result }
     {
         let (event, denied) = opened(&self.handles, handle, MODIFY_STATE);
-        let is_other = is_no_event(self.objects.as_slice(), event);
-        judged(event, kind_refusal(is_other, denied))
+        match self.objects.as_slice().get(event.get() as usize) {
+            Some(object) if object.is_event() => {
+                if denied {
+                    Err(Refusal::AccessDenied)
+                } else {
+                    Ok(event)
+                }
+            }
+            _ => Err(Refusal::InvalidHandle),
+        }
     }
 
     /// The event is set from now on; answers whether it was not before.

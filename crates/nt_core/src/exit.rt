@@ -1,18 +1,19 @@
 //! A thread ends.
-ghost use Rattle.std.specs.Prelude.{◌≡◌, ◌≢◌, ◌<◌, ◌≤◌, ◌+◌, ◌↔◌, ℕ, None, Some, true, false, length, map, slice_set, vec_len, vec_capacity, IsTrue};
+ghost use Rattle.std.specs.Prelude.{◌≡◌, ◌≢◌, ◌<◌, ◌≤◌, ◌+◌, ◌↔◌, ℕ, None, Some, true, false, length, map, slice_set, IsTrue};
 ghost use Rattle.std.specs.FinMap as fin;
+ghost use Rattle.nt_status.specs.declared.limits.TheConstants.{MAX_HANDLES};
 ghost use Rattle.nt_objects.specs.declared.object.Object.TheVariants.{Thread};
 ghost use Rattle.nt_objects.specs.Object.{is_timer, has_ended, owned_by, setter_of, abandoned_by};
-ghost use Rattle.nt_waits.specs.Waits.{IsMember, AreOnce};
+ghost use Rattle.nt_status.specs.Lists.{IsMember, AreOnce, Lists};
 ghost use Rattle.nt_apc.specs.Queues.{cleared};
 ghost use Rattle.nt_core.specs.State.{object_at};
 ghost use Rattle.nt_core.specs.Dispatcher.{state};
-ghost use Rattle.nt_core.specs.Rising.{Lists};
 ghost use Rattle.nt_core.specs.Lawful.{IsSound};
 ghost use Rattle.nt_core.specs.Accepts.{IsFresh, IsStoppedAfter, IsExitedAfter, Accepts};
 ghost use Rattle.nt_core.specs.declared.call.Call.{Call};
 ghost use Rattle.nt_core.specs.declared.call.Reply.{Reply};
 
+use crate::handle_list::ChangedObjects;
 use crate::machine::Machine;
 use nt_objects::Object;
 use nt_status::{Handle, ThreadId};
@@ -29,32 +30,27 @@ fn is_set_by(objects: &[Object], thread: ThreadId, handle: Handle) -> bool
 
 impl Machine {
     /// Frees and marks each mutex that the thread owns, and adds it to the list.
-    fn abandon_all(&mut self, thread: ThreadId, changed: &mut Vec<Handle>)
-        requires room { vec_len changed.old + length self.old.objects ≤ vec_capacity changed.old }
+    fn abandon_all(&mut self, thread: ThreadId, changed: &mut ChangedObjects)
+        requires room { length changed.old + length self.old.objects ≤ MAX_HANDLES }
         ensures abandoned { self.new ≡ record self.old
             { objects = map (abandoned_by thread) self.old.objects; owned = self.new.owned } }
-        ensures listed { Lists (λ m. owned_by (object_at self.old.objects m) thread ≡ true) changed.old.items
-            changed.new.items }
-        ensures capacity { vec_capacity changed.new ≡ vec_capacity changed.old }
+        ensures listed { Lists (λ m. owned_by (object_at self.old.objects m) thread ≡ true) changed.old changed.new }
     {
-        self.objects.abandon_all(thread, changed);
+        self.objects.abandon_all(thread, &mut changed.handles);
     }
 
     /// Adds each timer that the thread armed with a routine to the list, on which no timer stands.
-    fn list_timers(&self, thread: ThreadId, changed: &mut Vec<Handle>)
+    fn list_timers(&self, thread: ThreadId, changed: &mut ChangedObjects)
         requires sound { IsSound self.now }
         requires known { thread < self.now.threads }
-        requires once { AreOnce changed.old.items }
-        requires others { (h : ℕ) → IsMember changed.old.items h → (h < length self.now.objects)
+        requires once { AreOnce changed.old }
+        requires others { (h : ℕ) → IsMember changed.old h → (h < length self.now.objects)
             × (is_timer (object_at self.now.objects h) ≡ false) }
-        requires room { length self.now.objects ≤ vec_capacity changed.old }
-        ensures listed { Lists (λ h. setter_of (object_at self.now.objects h) ≡ Some thread) changed.old.items
-            changed.new.items }
-        ensures capacity { vec_capacity changed.new ≡ vec_capacity changed.old }
+        ensures { Lists (λ h. setter_of (object_at self.now.objects h) ≡ Some thread) changed.old changed.new }
     {
         for timer in self.apcs.timers_of(thread) {
             if is_set_by(self.objects.as_slice(), thread, *timer) {
-                changed.push_reserved(*timer);
+                changed.push(*timer);
             }
         }
     }
@@ -95,36 +91,32 @@ impl Machine {
     }
 
     /// The thread ends, and the objects that this changes are listed, by rising handle.
-    fn leave(&mut self, thread: ThreadId, changed: &mut Vec<Handle>)
+    fn leave(&mut self, thread: ThreadId, changed: &mut ChangedObjects)
         requires sound { IsSound self.old }
         requires idle { fin.get self.old.table.pending thread ≡ None }
         requires known { thread < self.old.threads }
         requires runs { has_ended (object_at self.old.objects thread) ≡ false }
-        requires room { length self.old.objects ≤ vec_capacity changed.old }
-        ensures left { IsExitedAfter self.old thread self.new changed.new.items }
+        ensures left { IsExitedAfter self.old thread self.new changed.new }
         ensures sound { IsSound self.new }
-        ensures capacity { vec_capacity changed.new ≡ vec_capacity changed.old }
     {
         changed.clear();
         self.abandon_all(thread, changed);
-        let mutexes = changed.len();
+        let mutexes = changed.as_slice().len();
         self.list_timers(thread, changed);
-        self.stop_all(&changed[mutexes..]);
+        self.stop_all(&changed.as_slice()[mutexes..]);
         self.end_own(thread);
-        changed.push_reserved(Handle::new(thread.get() as u32));
-        changed.sort_unstable();
+        changed.push(Handle::new(thread.get() as u32));
+        changed.handles.sort_unstable();
     }
 
     /// The thread ends: the mutexes that it owns are free and marked, the timers that it armed with a routine stop, its APCs are
     /// gone, its object is signaled, and the waits that name what changed are served.
-    pub(crate) fn exit(&mut self, thread: ThreadId, changed: &mut Vec<Handle>)
+    pub(crate) fn exit(&mut self, thread: ThreadId, changed: &mut ChangedObjects)
         requires fresh { IsFresh self.old }
         requires idle { fin.get self.old.table.pending thread ≡ None }
         requires known { thread < self.old.threads }
         requires runs { has_ended (object_at self.old.objects thread) ≡ false }
-        requires room { length self.old.objects ≤ vec_capacity changed.old }
-        ensures exits { Accepts self.old self.new thread Call.Exit Reply.Done }
-        ensures room { length self.new.objects ≤ vec_capacity changed.new }
+        ensures { Accepts self.old self.new thread Call.Exit Reply.Done }
     {
         self.leave(thread, changed);
         self.serve(changed.as_slice());

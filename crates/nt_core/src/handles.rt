@@ -1,16 +1,18 @@
 //! What the handles of a call name.
-ghost use Rattle.std.specs.Prelude.{◌≡◌, ◌≤◌, ◌||◌, false, length, nat_lt, is_some, map, slice_get, vec_capacity, IfNone};
+ghost use Rattle.std.specs.Prelude.{◌≡◌, ◌≤◌, ◌||◌, false, length, nat_lt, is_some, map, slice_get, IfNone};
 ghost use Rattle.std.specs.List.{list_any};
 ghost use Rattle.std.specs.Option.{option_copied};
+ghost use Rattle.nt_status.specs.declared.limits.TheConstants.{MAX_WAIT_OBJECTS};
 ghost use Rattle.nt_objects.specs.declared.object.Object.TheVariants.{Thread};
 ghost use Rattle.nt_core.specs.State.{object_at};
 ghost use Rattle.nt_core.specs.Naming.{object_named, lacks};
 
+use crate::handle_list::NamedObjects;
 use nt_objects::{HandleTable, Object};
-use nt_status::Handle;
+use nt_status::{Handle, MAX_HANDLES};
 
 /// A number that no object has: the numbers of objects are below it.
-const NO_OBJECT: u32 = 65536;
+const NO_OBJECT: u32 = MAX_HANDLES as u32;
 
 /// SYNCHRONIZE.
 pub const SYNCHRONIZE: u32 = 0x0010_0000;
@@ -31,18 +33,8 @@ pub fn object_named(handles: &HandleTable, handle: Handle) -> Handle
     }
 }
 
-/// Whether the handle has not each of these rights.
-pub fn lacks(handles: &HandleTable, handle: Handle, access: u32) -> bool
-    ensures { result ≡ lacks access handles.now.opened handle }
-{
-    let held = match handles.get(handle) {
-        Some(opened) => opened.access.bits(),
-        None => 0,
-    };
-    held & access != access
-}
-
-/// What the handle names: the number of its object, and one that no object has where it names none; and whether it lacks one of these rights.
+/// What the handle names: the number of its object, and one that no object has where it names none. Answers also whether the
+/// handle lacks one of these rights.
 pub fn opened(handles: &HandleTable, handle: Handle, access: u32) -> (Handle, bool)
     ensures object { result.0 ≡ object_named handles.now.opened handle }
     ensures denied { result.1 ≡ lacks access handles.now.opened handle }
@@ -55,11 +47,10 @@ pub fn opened(handles: &HandleTable, handle: Handle, access: u32) -> (Handle, bo
 }
 
 /// The numbers of the objects that the handles name, in this order. Answers whether one of the handles may not be waited for.
-pub fn name_all(handles: &HandleTable, these: &[Handle], named: &mut Vec<Handle>) -> bool
-    requires { length these.now ≤ vec_capacity named.old }
+pub fn name_all(handles: &HandleTable, these: &[Handle], named: &mut NamedObjects) -> bool
+    requires { length these.now ≤ MAX_WAIT_OBJECTS }
     ensures denied { result ≡ list_any (lacks 0x00100000 handles.now.opened) these.now }
-    ensures items { named.new.items ≡ map (object_named handles.now.opened) these.now }
-    ensures capacity { vec_capacity named.new ≡ vec_capacity named.old }
+    ensures items { named.new ≡ map (object_named handles.now.opened) these.now }
 {
     named.clear();
     let mut denied = false;
@@ -68,7 +59,7 @@ pub fn name_all(handles: &HandleTable, these: &[Handle], named: &mut Vec<Handle>
             Some(opened) => (opened.object, opened.access.bits()),
             None => (Handle::new(NO_OBJECT), 0),
         };
-        named.push_reserved(object);
+        named.push(object);
         denied = denied || held & SYNCHRONIZE != SYNCHRONIZE;
     }
     denied

@@ -20,7 +20,9 @@ mod call;
 mod dispatcher;
 mod readers;
 // The parts, and the way of a call through them.
+mod alerted;
 mod calls;
+mod handle_list;
 mod handles;
 mod judge;
 mod machine;

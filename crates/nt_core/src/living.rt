@@ -3,7 +3,7 @@ ghost use Rattle.std.specs.Prelude.{◌≡◌, ◌≢◌, ◌<◌, [], ℕ, None
 ghost use Rattle.std.specs.Option.{ForSome};
 ghost use Rattle.nt_objects.specs.Object.{is_gone};
 ghost use Rattle.nt_objects.specs.Handles.{opened_at};
-ghost use Rattle.nt_waits.specs.Waits.{IsMember};
+ghost use Rattle.nt_status.specs.Lists.{IsMember};
 ghost use Rattle.nt_apc.specs.Queues.{withdrawn, place_of};
 ghost use Rattle.nt_core.specs.Dispatcher.{state};
 ghost use Rattle.nt_core.specs.Lawful.{IsSound, IsSteady, MarksAgreeBut, LetsGoBut};
@@ -19,7 +19,7 @@ use nt_objects::{HandleTable, Object};
 use nt_status::{Handle, Refusal};
 
 /// How many of the objects are not gone.
-fn count_living(objects: &[Object]) -> usize
+pub(crate) fn count_living(objects: &[Object]) -> usize
     ensures { result ≡ count_by (λ o. not (is_gone o)) objects.now }
 {
     objects.iter().filter(|object| !object.is_gone()).count()
@@ -81,8 +81,7 @@ impl Machine {
     /// CloseHandle: the handle names nothing any more, and what it named may be kept by nothing.
     pub(crate) fn close(&mut self, handle: Handle) -> Result<Reply, Refusal>
         requires fresh { IsFresh self.old }
-        ensures made { (t : ℕ) → IsFree (state self.old) t → IsActMade self.old self.new t (Act.Close handle) result }
-        ensures room { self.new.objects ≡ self.old.objects }
+        ensures { (t : ℕ) → IsFree (state self.old) t → IsActMade self.old self.new t (Act.Close handle) result }
     {
         if let Some(refusal) = close_refusal(&self.handles, handle) {
             return Err(refusal);
@@ -168,12 +167,5 @@ impl Machine {
         while let Some(place) = self.leaving.first() {
             self.end_marked(Handle::new(place as u32));
         }
-    }
-
-    /// How many objects live. It walks the list of the objects.
-    pub(crate) fn living(&self) -> usize
-        ensures { result ≡ living (state self.now) }
-    {
-        count_living(self.objects.as_slice())
     }
 }

@@ -1,8 +1,7 @@
 //! The parts of a dispatcher, and the serving of pending waits.
-ghost use Rattle.std.specs.Prelude.{◌≡◌, ◌+◌, ◌≤◌, ◌<◌, ◌^◌, ℕ, [], ◌∷◌, length, replicate, slice_get, false, IsTrue, IfOk, IfErr};
+ghost use Rattle.std.specs.Prelude.{◌≡◌, ◌+◌, ◌≤◌, ◌<◌, ◌^◌, [], ◌∷◌, length, replicate, slice_get, false, IsTrue, IfOk, IfErr};
 ghost use Rattle.std.specs.FinMap as map;
 ghost use Rattle.nt_status.specs.declared.refusal.Refusal.TheVariants.{Memory};
-ghost use Rattle.nt_owners.specs.Objects.{OwnersAgree};
 ghost use Rattle.nt_core.specs.State.{pends, opening};
 ghost use Rattle.nt_core.specs.Dispatcher.{state};
 ghost use Rattle.nt_core.specs.Serving.{sequence, Serve};
@@ -19,7 +18,7 @@ use nt_alarms::{Alarms, Marks};
 use nt_apc::ApcQueues;
 use nt_objects::{HandleTable, Object};
 use nt_owners::ObjectTable;
-use nt_status::{Handle, Moment, Refusal, ThreadId};
+use nt_status::{Handle, MAX_THREADS, Moment, Refusal, ThreadId};
 use nt_waits::WaitTable;
 use std::alloc::{AllocError, Global};
 use std::marker::Model;
@@ -49,6 +48,7 @@ pub struct Machine {
 
 impl Model for Machine {
     ghost use Rattle.std.specs.Prelude.{◌≡◌, ◌≤◌, length, vec_capacity};
+    ghost use Rattle.nt_status.specs.declared.limits.TheConstants.{MAX_THREADS};
     ghost use Rattle.nt_core.specs.Dispatcher.{Dispatcher, dispatcher_of};
     ghost use Rattle.nt_waits.specs.Waits.{waits_code};
     ghost use Rattle.std.specs.Coded.{codes};
@@ -60,14 +60,14 @@ impl Model for Machine {
     ghost view = { λ m. dispatcher_of m.threads m.handles.opened m.objects.items m.objects.owned m.waits m.apcs
         m.handing.items m.moment m.grants.items m.alarms m.leaving };
 
-    ghost invariant = { λ m. (m.threads ≤ 256) × (m.threads ≤ vec_capacity m.grants)
+    ghost invariant = { λ m. (m.threads ≤ MAX_THREADS) × (m.threads ≤ vec_capacity m.grants)
         × (length m.objects.owned ≡ m.threads) };
 }
 
 impl Machine {
     /// Running threads that wait for nothing.
     pub fn new(alloc: Global, threads: u32) -> Result<Self, Refusal>
-        requires { threads ≤ 256 }
+        requires { threads ≤ MAX_THREADS }
         ensures opening { IfOk result (λ m. state m ≡ opening threads) }
         ensures grants { IfOk result (λ m. m.grants ≡ []) }
         ensures steady { IfOk result (λ m. IsSteady m) }
@@ -189,23 +189,8 @@ impl Machine {
         }
     }
 
-    /// Does as `serve_first`, and sees first whether any wait is on this handle: mostly there is none.
-    #[inline(always)]
-    fn serve_any(&mut self, handle: Handle)
-        requires sound { IsSound self.old }
-        requires needed { FitOnlyBy handle (state self.old) }
-        requires countable { self.old.table.looked + length ((state self.old).queues handle) < 2 ^ 64 }
-        ensures visits { Visits ((state self.old).queues handle) self.old self.new }
-        ensures prepared { self.new.table.prepared ≡ self.old.table.prepared }
-        ensures sound { IsSound self.new }
-    {
-        if let Some(first) = self.waits.first_on(handle) {
-            self.serve_first(handle, first);
-        }
-    }
-
-    /// Grants what fits after the object at this handle alone changed. The caller knows that a wait that fits names it, and needs
-    /// it.
+    /// Grants what fits after the object at this handle alone changed: mostly no wait is on it. The caller knows that a wait that
+    /// fits names it, and needs it.
     #[inline(always)]
     pub(crate) fn serve_one(&mut self, handle: Handle)
         requires sound { IsSound self.old }
@@ -221,7 +206,9 @@ impl Machine {
         ensures most { self.new.table.looked ≤ length (sequence (state self.old) (handle ∷ [])) }
         ensures least { length self.new.grants ≤ self.new.table.looked }
     {
-        self.serve_any(handle);
+        if let Some(first) = self.waits.first_on(handle) {
+            self.serve_first(handle, first);
+        }
     }
 }
 
@@ -234,38 +221,5 @@ impl Machine {
     {
         self.grants.clear();
         self.waits.look_anew();
-    }
-
-    /// The owners' lists agree with the objects, now as ever; there is nothing to do for it.
-    pub fn agree(&self)
-        ensures { OwnersAgree self.now.objects self.now.owned }
-    {
-        self.objects.agree();
-    }
-
-    pub fn grants(&self) -> &[Grant]
-        ensures { result.now ≡ self.now.grants }
-    {
-        self.grants.as_slice()
-    }
-
-    pub fn pending(&self) -> usize
-        ensures { result ≡ map.len (state self.now).waits }
-    {
-        self.waits.pending()
-    }
-
-    /// How many pending waits the last call tested.
-    pub fn tested(&self) -> u64
-        ensures { result ≡ self.now.table.looked }
-    {
-        self.waits.looked()
-    }
-
-    pub fn is_waiting(&self, thread: u32) -> bool
-        requires { IsSteady self.now }
-        ensures { result ≡ pends (state self.now) thread }
-    {
-        thread < self.threads && self.waits.about(ThreadId::new(thread as u16)).is_some()
     }
 }

@@ -1,5 +1,5 @@
 //! Calls on mutexes.
-ghost use Rattle.std.specs.Prelude.{◌≡◌, ◌≤◌, ◌<◌, vec_capacity, length, IsTrue};
+ghost use Rattle.std.specs.Prelude.{◌≡◌, ◌<◌, length, IsTrue};
 ghost use Rattle.nt_objects.specs.Object.{owned_by, unlocked};
 ghost use Rattle.nt_core.specs.State.{object_at, with_object};
 ghost use Rattle.nt_core.specs.Change.{at};
@@ -33,23 +33,16 @@ fn unlock_refusal(objects: &[Object], thread: ThreadId, mutex: Handle) -> Option
 
 impl Machine {
     /// CreateMutex.
-    pub(crate) fn create_mutex(
-        &mut self,
-        thread: ThreadId,
-        flags: u32,
-        changed: &mut Vec<Handle>,
-    ) -> Result<Reply, Refusal>
+    pub(crate) fn create_mutex(&mut self, thread: ThreadId, flags: u32) -> Result<Reply, Refusal>
         requires fresh { IsFresh self.old }
         requires free { IsFree (state self.old) thread }
-        requires room { length self.old.objects ≤ vec_capacity changed.old }
         requires known { thread < self.old.threads }
-        ensures made { IsActMade self.old self.new thread (Act.CreateMutex flags) result }
-        ensures room { length self.new.objects ≤ vec_capacity changed.new }
+        ensures { IsActMade self.old self.new thread (Act.CreateMutex flags) result }
     {
         let Some(flags) = MutexFlags::from_bits(flags) else {
             return Err(Refusal::InvalidParameter);
         };
-        self.create(Object::new_mutex(flags, thread), changed)
+        self.create(Object::new_mutex(flags, thread))
     }
 
     /// The mutex that the handle names, for its release by this thread, which needs no right.

@@ -1,5 +1,5 @@
 //! The list of objects, and the creation of more.
-ghost use Rattle.std.specs.Prelude.{◌≡◌, ◌<◌, ◌≤◌, ℕ, vec_capacity, None, ◌∷◌, ◌++◌, [], true, false, Some, replicate, IfOk, IfErr, OnOk, OnErr, MatchBool, length, slice_set};
+ghost use Rattle.std.specs.Prelude.{◌≡◌, ◌<◌, ℕ, None, ◌∷◌, ◌++◌, [], true, false, Some, replicate, IfOk, IfErr, OnOk, OnErr, MatchBool, length, slice_set};
 ghost use Rattle.nt_status.specs.declared.refusal.Refusal.TheVariants.{HandleLimit, Memory};
 ghost use Rattle.nt_objects.specs.Object.{owner_of, owned_by};
 ghost use Rattle.nt_core.specs.State.{object_at};
@@ -12,11 +12,11 @@ ghost use Rattle.nt_core.specs.declared.call.Reply.{Reply};
 
 use crate::call::Reply;
 use crate::handles::opened;
-use crate::judge::{HANDLE_LIMIT, is_unknown, judged};
+use crate::judge::{is_unknown, judged};
 use crate::machine::Machine;
 use nt_alarms::{Alarms, Marks};
 use nt_objects::{HandleTable, Object, Opened};
-use nt_status::{Access, Handle, Refusal};
+use nt_status::{Access, Handle, MAX_HANDLES, Refusal};
 use std::alloc::{AllocError, Global};
 
 /// A place for each object's alarm, with no alarm.
@@ -55,7 +55,7 @@ fn duplicate_refusal(
         Some(Refusal::InvalidHandle)
     } else if denied || Access::from_bits(access).is_none() {
         Some(Refusal::AccessDenied)
-    } else if handles.len() >= HANDLE_LIMIT {
+    } else if handles.len() >= MAX_HANDLES {
         Some(Refusal::HandleLimit)
     } else {
         None
@@ -64,15 +64,9 @@ fn duplicate_refusal(
 
 impl Machine {
     /// Adds an object with a handle that has all rights of its kind, and answers the handle, unless no handle number is left or
-    /// memory is refused: then nothing changes. `changed` gets room for one handle more, so that later calls can list every object
-    /// without memory.
-    pub(crate) fn create(
-        &mut self,
-        object: Object,
-        changed: &mut Vec<Handle>,
-    ) -> Result<Reply, Refusal>
+    /// memory is refused: then nothing changes.
+    pub(crate) fn create(&mut self, object: Object) -> Result<Reply, Refusal>
         requires agree { HandlesAgree (length self.old.objects) self.old.handles }
-        requires room { length self.old.objects ≤ vec_capacity changed.old }
         requires owner { (t : ℕ) → owned_by object t ≡ true → t < self.old.threads }
         ensures few { OnOk result (is_full self.old.handles ≡ false) }
         ensures handle { IfOk result (λ reply. reply ≡ Reply.Handle (length self.old.handles)) }
@@ -80,30 +74,25 @@ impl Machine {
         ensures refused { IfErr result (λ cause.
             MatchBool (is_full self.old.handles) (cause ≡ HandleLimit) (cause ≡ Memory)) }
         ensures err { OnErr result (self.new ≡ self.old) }
-        ensures room { length self.new.objects ≤ vec_capacity changed.new }
     {
-        if self.handles.len() >= HANDLE_LIMIT {
+        if self.handles.len() >= MAX_HANDLES {
             return Err(Refusal::HandleLimit);
         }
-        Ok(Reply::Handle(self.add(object, changed)?))
+        Ok(Reply::Handle(self.add(object)?))
     }
 
     /// Adds an object with a handle that has all rights of its kind, and answers the handle. Where memory is refused nothing
     /// changes.
-    fn add(&mut self, object: Object, changed: &mut Vec<Handle>) -> Result<Handle, AllocError>
+    fn add(&mut self, object: Object) -> Result<Handle, AllocError>
         requires agree { HandlesAgree (length self.old.objects) self.old.handles }
         requires few { is_full self.old.handles ≡ false }
-        requires room { length self.old.objects ≤ vec_capacity changed.old }
         requires owner { (t : ℕ) → owned_by object t ≡ true → t < self.old.threads }
         ensures handle { IfOk result (λ handle. handle ≡ length self.old.handles) }
         ensures ok { OnOk result (self.new ≡ with_created self.old object self.new.owned) }
         ensures err { OnErr result (self.new ≡ self.old) }
-        ensures room { length self.new.objects ≤ vec_capacity changed.new }
     {
         let count = self.objects.as_slice().len();
         let access = object.full_access();
-        changed.clear();
-        changed.reserve(count + 1)?;
         self.objects.make_room()?;
         self.handles.make_room()?;
         self.alarms.add_with(&mut self.leaving)?;
@@ -128,9 +117,8 @@ impl Machine {
     /// DuplicateHandle: one handle more for this object, with these rights. Where memory is refused nothing changes.
     pub(crate) fn duplicate(&mut self, handle: Handle, access: u32) -> Result<Reply, Refusal>
         requires fresh { IsFresh self.old }
-        ensures made { (t : ℕ) → IsFree (state self.old) t
+        ensures { (t : ℕ) → IsFree (state self.old) t
             → IsActMade self.old self.new t (Act.Duplicate handle access) result }
-        ensures room { self.new.objects ≡ self.old.objects }
     {
         let object = self.object_to_share(handle, access)?;
         let Some(access) = Access::from_bits(access) else {

@@ -3,29 +3,14 @@ ghost use Rattle.std.specs.Prelude.{◌≡◌, MatchOption, slice_get};
 ghost use Rattle.std.specs.Option.{option_copied};
 ghost use Rattle.std.specs.FinMap as map;
 ghost use Rattle.nt_core.specs.Dispatcher.{state};
-ghost use Rattle.nt_core.specs.Lawful.{IsSteady};
 ghost use Rattle.nt_core.specs.Naming.{object_named};
 ghost use Rattle.nt_core.specs.Steps.{IsNextMoment, NothingDue};
 
 use crate::dispatcher::Core;
 use crate::handles::{named, object_named};
-use crate::machine::Machine;
 use nt_objects::Object;
 use nt_status::{Handle, Moment, ThreadId};
 use nt_waits::Wait;
-
-impl Machine {
-    /// The thread's pending wait.
-    fn waits_for(&self, thread: u32) -> Option<&Wait>
-        requires { IsSteady self.now }
-        ensures { option_copied result ≡ map.get (state self.now).waits thread }
-    {
-        if self.threads <= thread {
-            return None;
-        }
-        self.waits.peek(ThreadId::new(thread as u16))
-    }
-}
 
 impl Core {
     /// How many threads there are, those that have ended among them.
@@ -48,7 +33,10 @@ impl Core {
     pub fn waits_for(&self, thread: u32) -> Option<&Wait>
         ensures { option_copied result ≡ map.get (state self.now).waits thread }
     {
-        self.machine.waits_for(thread)
+        if self.machine.threads <= thread {
+            return None;
+        }
+        self.machine.waits.peek(ThreadId::new(thread as u16))
     }
 
     /// The next moment up to `up_to` at which a timer is due or a wait's deadline comes, counted in 100 ns; none where nothing is due

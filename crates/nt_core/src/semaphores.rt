@@ -1,5 +1,5 @@
 //! Calls on semaphores.
-ghost use Rattle.std.specs.Prelude.{◌≡◌, ◌≤◌, ◌<◌, ℕ, vec_capacity, length, pos, ◌<ℤ◌, false, IsTrue};
+ghost use Rattle.std.specs.Prelude.{◌≡◌, ◌<◌, ℕ, length, pos, ◌<ℤ◌, false, IsTrue};
 ghost use Rattle.nt_objects.specs.Object.{is_semaphore, count_of, overflows, released};
 ghost use Rattle.nt_core.specs.State.{object_at, with_object};
 ghost use Rattle.nt_core.specs.Change.{at};
@@ -43,22 +43,15 @@ fn release_refusal(
 
 impl Machine {
     /// CreateSemaphore.
-    pub(crate) fn create_semaphore(
-        &mut self,
-        initial: i32,
-        maximum: i32,
-        changed: &mut Vec<Handle>,
-    ) -> Result<Reply, Refusal>
+    pub(crate) fn create_semaphore(&mut self, initial: i32, maximum: i32) -> Result<Reply, Refusal>
         requires fresh { IsFresh self.old }
-        requires room { length self.old.objects ≤ vec_capacity changed.old }
-        ensures made { (t : ℕ) → IsFree (state self.old) t
+        ensures { (t : ℕ) → IsFree (state self.old) t
             → IsActMade self.old self.new t (Act.CreateSemaphore initial maximum) result }
-        ensures room { length self.new.objects ≤ vec_capacity changed.new }
     {
         let Ok(semaphore) = Object::new_semaphore(initial, maximum) else {
             return Err(Refusal::InvalidParameter);
         };
-        self.create(semaphore, changed)
+        self.create(semaphore)
     }
 
     /// The semaphore that the handle names, for a release by this count.

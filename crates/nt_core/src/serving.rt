@@ -1,14 +1,15 @@
-ghost use Rattle.std.specs.Prelude.{◌≡◌, ◌≤◌, ◌<◌, ℕ, Bool, [], ◌∷◌, IsTrue, IfNone, None, true, false, length};
+ghost use Rattle.std.specs.Prelude.{◌≡◌, ◌≤◌, ◌<◌, IsTrue, IfNone, None, true, false, length};
 ghost use Rattle.std.specs.List.{position, list_all, list_any};
 ghost use Rattle.std.specs.List.{IsDistinct};
 ghost use Rattle.std.specs.Prelude.{nat_eq};
-ghost use Rattle.nt_objects.specs.Object.{has_room};
+ghost use Rattle.nt_objects.specs.declared.object.Object.{Object};
+ghost use Rattle.nt_objects.specs.Object.{has_room, is_abandoned, TellsAbandoned};
 ghost use Rattle.nt_core.specs.State.{object_at};
 ghost use Rattle.nt_core.specs.Serving.{is_ready, has_mark, status_at, take_at, take_each, wait_for, CanTake, IsTried};
 
-use nt_objects::Object;
+use nt_objects::{Object, Taken};
 use nt_owners::ObjectTable;
-use nt_status::{Handle, Status, ThreadId};
+use nt_status::{Handle, MAX_WAIT_OBJECTS, Status, ThreadId};
 
 /// Whether the object at this handle is signaled for the thread. A number that no object has is not.
 pub fn is_ready(objects: &[Object], thread: ThreadId, handle: Handle) -> bool
@@ -55,27 +56,29 @@ fn have_mark(objects: &[Object], handles: &[Handle]) -> bool
     handles.iter().any(|handle| has_mark(objects, *handle))
 }
 
-fn status_at(marked: bool, place: u32) -> Status
+/// How a wait ends that took the object at this place of it.
+fn status_of(taken: Taken, place: u32) -> Status
     requires { place ≤ 63 }
-    ensures { result ≡ status_at marked place }
+    ensures { (object : Object) → TellsAbandoned taken object → result ≡ status_at (is_abandoned object) place }
 {
-    if marked {
-        Status::abandoned(place)
-    } else {
-        Status::object(place)
+    match taken {
+        Taken::Plain => Status::object(place),
+        Taken::Abandoned => Status::abandoned(place),
     }
 }
 
-/// The thread takes the object at this handle.
+/// The thread takes the object at this handle, which stands at this place of its wait. Answers how the wait ends.
 #[inline(always)]
-fn take_at(objects: &mut ObjectTable, thread: ThreadId, handle: Handle)
+fn take_at(objects: &mut ObjectTable, thread: ThreadId, handle: Handle, place: u32) -> Status
+    requires few { place ≤ 63 }
     requires ready { IsTrue (is_ready objects.old.items thread handle) }
     requires room { IsTrue (has_room (object_at objects.old.items handle)) }
     requires known { thread < length objects.old.owned }
     ensures items { objects.new.items ≡ take_at objects.old.items thread handle }
+    ensures status { result ≡ status_at (has_mark objects.old.items handle) place }
     ensures threads { length objects.new.owned ≡ length objects.old.owned }
 {
-    let _taken = objects.take(handle, thread);
+    status_of(objects.take(handle, thread), place)
 }
 
 /// The thread takes the objects at these handles.
@@ -88,32 +91,14 @@ fn take_each(objects: &mut ObjectTable, thread: ThreadId, handles: &[Handle])
     ensures threads { length objects.new.owned ≡ length objects.old.owned }
 {
     for handle in handles {
-        take_at(objects, thread, *handle);
+        let _status = take_at(objects, thread, *handle, 0);
     }
-}
-
-/// Where the object satisfies a wait for it alone, takes it, and answers the status.
-#[inline(always)]
-fn try_one(objects: &mut ObjectTable, thread: ThreadId, handle: Handle) -> Option<Status>
-    requires room { CanTake objects.old.items thread (handle ∷ []) }
-    requires known { thread < length objects.old.owned }
-    ensures tried { (all : Bool) → IsTried objects.old.items objects.new.items thread
-        (wait_for (handle ∷ []) all) result }
-    ensures none { IfNone result (objects.new ≡ objects.old) }
-    ensures threads { length objects.new.owned ≡ length objects.old.owned }
-{
-    if !is_ready(objects.as_slice(), thread, handle) {
-        return None;
-    }
-    let marked = has_mark(objects.as_slice(), handle);
-    take_at(objects, thread, handle);
-    Some(status_at(marked, 0))
 }
 
 /// Where the objects satisfy a wait for any of these handles, takes the object at the least, and answers the status.
 #[inline(never)]
 fn try_any(objects: &mut ObjectTable, thread: ThreadId, handles: &[Handle]) -> Option<Status>
-    requires few { length handles.now ≤ 64 }
+    requires few { length handles.now ≤ MAX_WAIT_OBJECTS }
     requires room { CanTake objects.old.items thread handles.now }
     requires known { thread < length objects.old.owned }
     ensures tried { IsTried objects.old.items objects.new.items thread (wait_for handles.now false) result }
@@ -122,9 +107,7 @@ fn try_any(objects: &mut ObjectTable, thread: ThreadId, handles: &[Handle]) -> O
 {
     let place = ready_place(objects.as_slice(), thread, handles)?;
     let handle = handles[place];
-    let marked = has_mark(objects.as_slice(), handle);
-    take_at(objects, thread, handle);
-    Some(status_at(marked, place as u32))
+    Some(take_at(objects, thread, handle, place as u32))
 }
 
 /// Where the objects satisfy a wait for all these handles, takes them, and answers the status.
@@ -142,7 +125,11 @@ fn try_all(objects: &mut ObjectTable, thread: ThreadId, handles: &[Handle]) -> O
     }
     let marked = have_mark(objects.as_slice(), handles);
     take_each(objects, thread, handles);
-    Some(status_at(marked, 0))
+    Some(if marked {
+        Status::abandoned(0)
+    } else {
+        Status::object(0)
+    })
 }
 
 /// Where the objects satisfy a wait for any or all of these handles, takes what it takes of them, and answers its status.
@@ -153,7 +140,7 @@ pub fn try_wait(
     handles: &[Handle],
     all: bool,
 ) -> Option<Status>
-    requires few { length handles.now ≤ 64 }
+    requires few { length handles.now ≤ MAX_WAIT_OBJECTS }
     requires apart { IsDistinct nat_eq handles.now }
     requires room { CanTake objects.old.items thread handles.now }
     requires known { thread < length objects.old.owned }
@@ -162,7 +149,7 @@ pub fn try_wait(
     ensures threads { length objects.new.owned ≡ length objects.old.owned }
 {
     match handles {
-        [handle] => try_one(objects, thread, *handle),
+        [handle] => Some(status_of(objects.try_take(*handle, thread)?, 0)),
         _ if all => try_all(objects, thread, handles),
         _ => try_any(objects, thread, handles),
     }

@@ -1,9 +1,9 @@
 //! SignalObjectAndWait: one object is signaled, the others are served, and then the caller waits.
-ghost use Rattle.std.specs.Prelude.{◌≡◌, ◌≢◌, ◌∷◌, ◌+◌, ◌<◌, [], false, None, Some, IfOk, IfErr, OnOk, OnErr, IsSome, IsTrue, length, pos, not, ◌==◌, ◌||◌};
+ghost use Rattle.std.specs.Prelude.{◌≡◌, ◌≢◌, ◌∷◌, ◌+◌, ◌<◌, [], false, None, Some, IfOk, IfErr, OnOk, OnErr, IsSome, IsTrue, length, pos, not, ◌==◌, ◌||◌, ◌&&◌};
 ghost use Rattle.std.specs.Option.{ForSome};
 ghost use Rattle.std.specs.FinMap as map;
 ghost use Rattle.nt_status.specs.declared.refusal.Refusal.TheVariants.{Memory};
-ghost use Rattle.nt_objects.specs.Object.{overflows, is_gone};
+ghost use Rattle.nt_objects.specs.Object.{overflows, is_gone, is_mutex};
 ghost use Rattle.nt_waits.specs.declared.wait.Wait.{Wait};
 ghost use Rattle.nt_core.specs.State.{object_at, deadline_after, pending_too};
 ghost use Rattle.nt_core.specs.Dispatcher.{state, with_prepared};
@@ -13,16 +13,14 @@ ghost use Rattle.nt_core.specs.Lawful.{IsSoundWait, IsSound};
 ghost use Rattle.nt_core.specs.Accepts.{IsFresh, IsServedAfter, Accepts, IsFree, IsWaitMade};
 ghost use Rattle.nt_core.specs.declared.call.Call.{Call};
 ghost use Rattle.nt_core.specs.declared.call.WaitCall.{WaitCall};
-ghost use Rattle.nt_core.specs.Naming.{lacks};
-ghost use Rattle.nt_core.specs.Rights.{signal_denied};
 
 use crate::call::Reply;
-use crate::handles::{MODIFY_STATE, SYNCHRONIZE, lacks, named, object_named};
+use crate::handles::{MODIFY_STATE, SYNCHRONIZE, named, opened};
 use crate::judge::is_unknown;
 use crate::machine::Machine;
 use crate::wait_refusal::is_at_limit;
 use crate::waiting::deadline_after;
-use nt_objects::{HandleTable, Object};
+use nt_objects::Object;
 use nt_status::{Handle, Handles, Refusal, ThreadId};
 use nt_waits::Wait;
 
@@ -58,40 +56,18 @@ fn swap_refusal(
     }
 }
 
-/// Whether the handle that a swap signals lacks the right for that: to release a mutex none is needed.
-fn signal_denied(handles: &HandleTable, objects: &[Object], signal: Handle) -> bool
-    ensures { result ≡ signal_denied handles.now.opened objects.now signal }
+/// Whether a right is lacking that a swap needs: to release a mutex needs none.
+fn is_denied(objects: &[Object], signaled: Handle, no_signal: bool, no_wait: bool) -> bool
+    ensures { result ≡ (not (is_mutex (object_at objects.now signaled)) && no_signal || no_wait) }
 {
-    let is_mutex = match named(objects, object_named(handles, signal)) {
+    let is_mutex = match named(objects, signaled) {
         Some(object) => object.is_mutex(),
         None => false,
     };
-    !is_mutex && lacks(handles, signal, MODIFY_STATE)
+    !is_mutex && no_signal || no_wait
 }
 
 impl Machine {
-    /// Whether a handle of a swap lacks a right that the swap needs.
-    pub(crate) fn is_swap_denied(&self, signal: Handle, object: Handle) -> bool
-        ensures { result ≡ (signal_denied self.now.handles self.now.objects signal
-            || lacks 0x00100000 self.now.handles object) }
-    {
-        signal_denied(&self.handles, self.objects.as_slice(), signal)
-            || lacks(&self.handles, object, SYNCHRONIZE)
-    }
-
-    /// The refusal of a swap of the objects with these numbers by its own causes.
-    fn refusal_of_swap(
-        &self,
-        thread: ThreadId,
-        denied: bool,
-        signal: Handle,
-        object: Handle,
-    ) -> Option<Refusal>
-        ensures { result ≡ first_of_causes (swap_causes self.now.objects thread denied signal object) }
-    {
-        swap_refusal(self.objects.as_slice(), thread, denied, signal, object)
-    }
-
     /// Signals the object, and serves the waits that name it: an event is set, a semaphore counts one more, a mutex is held one
     /// level less deep.
     fn signal(&mut self, thread: ThreadId, handle: Handle)
@@ -215,10 +191,11 @@ impl Machine {
         requires caller { IsFree (state self.old) thread }
         ensures { IsWaitMade self.old self.new thread (WaitCall.Swap signal object ms alertable) result }
     {
-        let denied = self.is_swap_denied(signal, object);
-        let signaled = object_named(&self.handles, signal);
-        let awaited = object_named(&self.handles, object);
-        match self.refusal_of_swap(thread, denied, signaled, awaited) {
+        let (signaled, no_signal) = opened(&self.handles, signal, MODIFY_STATE);
+        let (awaited, no_wait) = opened(&self.handles, object, SYNCHRONIZE);
+        let objects = self.objects.as_slice();
+        let denied = is_denied(objects, signaled, no_signal, no_wait);
+        match swap_refusal(objects, thread, denied, signaled, awaited) {
             Some(refusal) => Err(refusal),
             None => self.swap(thread, signaled, awaited, ms, alertable),
         }

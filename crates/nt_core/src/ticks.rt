@@ -1,5 +1,5 @@
 //! Ticks: moments pass, and the waits end whose deadlines come.
-ghost use Rattle.std.specs.Prelude.{◌≡◌, ◌≤◌, ◌<◌, ◌+◌, ◌*◌, ◌^◌, ℕ, ◌∷◌, ◌++◌, [], false, Some, length, vec_capacity, IsTrue, MatchOption, OnOk, OnErr};
+ghost use Rattle.std.specs.Prelude.{◌≡◌, ◌≤◌, ◌<◌, ◌+◌, ◌^◌, ℕ, ◌∷◌, ◌++◌, [], false, Some, length, IsTrue, MatchOption, OnOk, OnErr};
 ghost use Rattle.nt_alarms.specs.Alarms.{alarm_at, NoneBefore};
 ghost use Rattle.nt_core.specs.Due.{earlier, due_weight};
 ghost use Rattle.std.specs.FinMap as map;
@@ -12,10 +12,11 @@ ghost use Rattle.nt_core.specs.Lawful.{IsSound, IsSteady};
 ghost use Rattle.nt_core.specs.Living.{LivesWhileKept};
 ghost use Rattle.nt_core.specs.Accepts.{IsTimedOutAfter, IsAlertedAfter, IsExpiredAfter, IsPassedAfter, IsTickLocal};
 
+use crate::alerted::AlertedThreads;
 use crate::call::{Grant, Reply};
+use crate::handle_list::ChangedObjects;
 use crate::machine::Machine;
 use crate::waiting::late_status;
-use nt_alarms::Alarms;
 use nt_status::{Handle, Moment, Refusal, ThreadId};
 
 /// The earlier of two moments.
@@ -40,57 +41,59 @@ impl Machine {
     }
 
     /// Expires the timers that are due at moment `u` of a tick to `m`, lists them, and marks the threads whose APCs they queue.
-    fn expire_all(&mut self, u: u64, m: Moment, changed: &mut Vec<Handle>, alerted: &mut Alarms)
+    fn expire_all(
+        &mut self,
+        u: u64,
+        m: Moment,
+        changed: &mut ChangedObjects,
+        alerted: &mut AlertedThreads,
+    )
         requires sound { IsSound self.old }
         requires calm { (t : ℕ) → IsAlerted (state self.old) t → ⊥ }
         requires within { u ≤ m }
         requires earliest { NoneBefore self.old.alarms u }
-        requires room { length self.old.objects ≤ vec_capacity changed.old }
-        requires marks { length alerted.old ≡ 256 }
-        ensures expired { IsExpiredAfter self.old m u self.new changed.new.items alerted.new }
+        ensures expired { IsExpiredAfter self.old m u self.new changed.new alerted.new }
         ensures sound { IsSound self.new }
-        ensures room { vec_capacity changed.new ≡ vec_capacity changed.old }
-        ensures marks { length alerted.new ≡ 256 }
     {
         changed.clear();
         while let Some(place) = self.alarms.first_at(u) {
             let timer = Handle::new(place as u32);
             if let Some(thread) = self.object(timer).setter() {
-                alerted.set(thread.get() as usize, 0);
+                alerted.mark(thread);
             }
             self.expire(timer, m);
-            changed.push_reserved(timer);
+            changed.push(timer);
         }
     }
 
     /// Ends the waits of the threads with a mark that are to be alerted, by rising thread number. All that are have one.
-    fn alert_all(&mut self, alerted: &mut Alarms)
+    fn alert_all(&mut self, alerted: &mut AlertedThreads)
         requires sound { IsSound self.old }
         requires marked { (t : ℕ) → IsAlerted (state self.old) t → alarm_at alerted.old t ≡ Some 0 }
-        requires marks { length alerted.old ≡ 256 }
         ensures alerted { IsAlertedAfter self.old self.new }
         ensures sound { IsSound self.new }
-        ensures marks { length alerted.new ≡ 256 }
     {
-        while let Some(place) = alerted.first_at(0) {
-            alerted.clear(place);
-            self.rouse(ThreadId::new(place as u16));
+        while let Some(thread) = alerted.first() {
+            alerted.unmark(thread);
+            self.rouse(thread);
         }
     }
 
     /// What happens at moment `u` of a tick to `m`: timers expire, waits are served, alerted and timed out.
-    fn pass(&mut self, u: u64, m: Moment, changed: &mut Vec<Handle>, alerted: &mut Alarms)
+    fn pass(
+        &mut self,
+        u: u64,
+        m: Moment,
+        changed: &mut ChangedObjects,
+        alerted: &mut AlertedThreads,
+    )
         requires sound { IsSound self.old }
         requires served { IsServed (state self.old) }
         requires calm { (t : ℕ) → IsAlerted (state self.old) t → ⊥ }
         requires next { IsNextMoment (state self.old) m u }
         requires countable { self.old.table.looked + due_weight
             (λ h. length ((state self.old).queues h)) m 0 self.old.objects < 2 ^ 64 }
-        requires room { length self.old.objects ≤ vec_capacity changed.old }
-        requires marks { length alerted.old ≡ 256 }
-        ensures passed { IsPassedAfter self.old m u self.new }
-        ensures room { vec_capacity changed.new ≡ vec_capacity changed.old }
-        ensures marks { length alerted.new ≡ 256 }
+        ensures { IsPassedAfter self.old m u self.new }
     {
         self.expire_all(u, m, changed, alerted);
         self.serve_all(changed.as_slice());
@@ -127,24 +130,20 @@ impl Machine {
         }
     }
 
-    /// Lets all moments up to `m` pass. `changed` has room for each object, and `alerted` a place for each thread that there can be.
+    /// Lets all moments up to `m` pass.
     pub fn tick(
         &mut self,
         m: Moment,
-        changed: &mut Vec<Handle>,
-        alerted: &mut Alarms,
+        changed: &mut ChangedObjects,
+        alerted: &mut AlertedThreads,
     ) -> Result<Reply, Refusal>
         requires steady { IsSteady self.old }
         requires living { LivesWhileKept (state self.old) }
-        requires room { length self.old.objects ≤ vec_capacity changed.old }
-        requires marks { length alerted.old ≡ 256 }
         ensures ticked { Ticked (state self.old) m result self.new.grants (state self.new) }
         ensures steady { IsSteady self.new }
         ensures living { LivesWhileKept (state self.new) }
         ensures local { OnOk result (IsTickLocal (state self.old) m self.new.table.looked self.new.grants) }
         ensures untested { OnErr result (self.new.table.looked ≡ 0) }
-        ensures room { length self.new.objects ≤ vec_capacity changed.new }
-        ensures marks { length alerted.new ≡ 256 }
     {
         self.tell_anew();
         let (asked, present) = (m.get(), self.moment.get());
@@ -157,11 +156,5 @@ impl Machine {
         self.moment = m;
         self.end_forgotten();
         Ok(Reply::Done)
-    }
-
-    pub fn moment(&self) -> Moment
-        ensures { result ≡ (state self.now).now }
-    {
-        self.moment
     }
 }

@@ -1,5 +1,5 @@
 //! Calls on timers, and their expiry.
-ghost use Rattle.std.specs.Prelude.{◌≡◌, ◌≤◌, ◌<◌, pos, ◌≤ℤ◌, false, ℕ, length, slice_set, vec_capacity, is_some, None, Some, IfOk, IfSome, IsSomeAnd, IsTrue, OnOk, OnErr};
+ghost use Rattle.std.specs.Prelude.{◌≡◌, ◌≤◌, ◌<◌, pos, ◌≤ℤ◌, false, ℕ, length, slice_set, is_some, None, Some, IfSome, IsSomeAnd, IsTrue, OnOk, OnErr};
 ghost use Rattle.nt_objects.specs.Object.{is_timer, has_ended, due_of, owner_of};
 ghost use Rattle.nt_apc.specs.Queues.{withdrawn, place_of};
 ghost use Rattle.nt_core.specs.State.{object_at};
@@ -16,7 +16,7 @@ ghost use Rattle.nt_status.specs.Access.{modify_state};
 
 use crate::call::Reply;
 use crate::handles::{MODIFY_STATE, named, opened};
-use crate::judge::{judged, kind_refusal};
+use crate::judge::judged;
 use crate::machine::Machine;
 use nt_apc::Apc;
 use nt_objects::{Armed, Object, Routine};
@@ -73,21 +73,15 @@ fn arm_refusal(objects: &[Object], denied: bool, timer: Handle, period: i32) -> 
 
 impl Machine {
     /// CreateWaitableTimer.
-    pub(crate) fn create_timer(
-        &mut self,
-        flags: u32,
-        changed: &mut Vec<Handle>,
-    ) -> Result<Reply, Refusal>
+    pub(crate) fn create_timer(&mut self, flags: u32) -> Result<Reply, Refusal>
         requires fresh { IsFresh self.old }
-        requires room { length self.old.objects ≤ vec_capacity changed.old }
-        ensures made { (t : ℕ) → IsFree (state self.old) t
+        ensures { (t : ℕ) → IsFree (state self.old) t
             → IsActMade self.old self.new t (Act.CreateTimer flags) result }
-        ensures room { length self.new.objects ≤ vec_capacity changed.new }
     {
         let Some(flags) = TimerFlags::from_bits(flags) else {
             return Err(Refusal::InvalidParameter);
         };
-        self.create(Object::new_timer(flags), changed)
+        self.create(Object::new_timer(flags))
     }
 
     /// The timer that the handle names, to be armed with this period.
@@ -107,8 +101,16 @@ impl Machine {
         ensures { IsJudged self.now handle modify_state (kind_causes is_timer self.now.objects) result }
     {
         let (timer, denied) = opened(&self.handles, handle, MODIFY_STATE);
-        let is_other = is_no_timer(self.objects.as_slice(), timer);
-        judged(timer, kind_refusal(is_other, denied))
+        match self.objects.as_slice().get(timer.get() as usize) {
+            Some(object) if object.is_timer() => {
+                if denied {
+                    Err(Refusal::AccessDenied)
+                } else {
+                    Ok(timer)
+                }
+            }
+            _ => Err(Refusal::InvalidHandle),
+        }
     }
 
     /// Puts the timer in its place, and its alarm at its due moment.

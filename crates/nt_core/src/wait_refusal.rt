@@ -1,17 +1,12 @@
 //! Whether a wait for objects is refused, and by which cause.
-ghost use Rattle.std.specs.Prelude.{ℕ, ◌≡◌, ◌==◌, ◌≤◌, [], ◌∷◌, true, false, map, vec_capacity, IfNone};
+ghost use Rattle.std.specs.Prelude.{ℕ, ◌≡◌, ◌==◌, ◌≤◌, [], ◌∷◌, true, false};
 ghost use Rattle.std.specs.List.{list_any};
-ghost use Rattle.nt_core.specs.Naming.{object_named, lacks};
 ghost use Rattle.nt_core.specs.Refusals.{first_of_causes, objects_causes, is_unknown, has_twice, is_at_limit};
 
-use crate::handles::{SYNCHRONIZE, name_all, named, opened};
+use crate::handles::named;
 use crate::judge::is_unknown;
-use crate::machine::Machine;
 use nt_objects::Object;
-use nt_status::{Handle, Refusal, ThreadId};
-
-/// MAXIMUM_WAIT_OBJECTS: the most handles that a wait names.
-const WAIT_LIMIT: usize = 64;
+use nt_status::{Handle, MAX_WAIT_OBJECTS, Refusal, ThreadId};
 
 /// Whether one of the handles names nothing.
 fn has_unknown(objects: &[Object], handles: &[Handle]) -> bool
@@ -91,8 +86,8 @@ fn object_refusal(
     }
 }
 
-/// The refusal of a wait for the objects with these numbers.
-fn objects_refusal(
+/// The refusal of a wait for the objects with these numbers, none or several.
+fn list_refusal(
     objects: &[Object],
     thread: ThreadId,
     denied: bool,
@@ -100,7 +95,7 @@ fn objects_refusal(
 ) -> Option<Refusal>
     ensures { result ≡ first_of_causes (objects_causes objects.now thread denied numbers.now) }
 {
-    if numbers.is_empty() || numbers.len() > WAIT_LIMIT {
+    if numbers.is_empty() || numbers.len() > MAX_WAIT_OBJECTS {
         Some(Refusal::InvalidParameter)
     } else if has_unknown(objects, numbers) {
         Some(Refusal::InvalidHandle)
@@ -115,49 +110,18 @@ fn objects_refusal(
     }
 }
 
-impl Machine {
-    /// The refusal of a wait for this handle alone by its own causes, and the number of the object that it names.
-    fn refusal_of_one(
-        &self,
-        thread: ThreadId,
-        handle: Handle,
-        numbers: &mut Vec<Handle>,
-    ) -> Option<Refusal>
-        requires { 64 ≤ vec_capacity numbers.old }
-        ensures refusal { result ≡ first_of_causes
-            (objects_causes self.now.objects thread (lacks 0x00100000 self.now.handles handle)
-            (object_named self.now.handles handle ∷ [])) }
-        ensures named { numbers.new.items ≡ object_named self.now.handles handle ∷ [] }
-        ensures capacity { vec_capacity numbers.new ≡ vec_capacity numbers.old }
-    {
-        let (object, denied) = opened(&self.handles, handle, SYNCHRONIZE);
-        numbers.clear();
-        numbers.push_reserved(object);
-        object_refusal(self.objects.as_slice(), thread, denied, object)
-    }
-
-    /// The refusal of a wait for these handles by its own causes, and the numbers of the objects that they name where it has none.
-    #[inline(always)]
-    pub(crate) fn refusal_of_wait(
-        &self,
-        thread: ThreadId,
-        these: &[Handle],
-        numbers: &mut Vec<Handle>,
-    ) -> Option<Refusal>
-        requires { 64 ≤ vec_capacity numbers.old }
-        ensures refusal { result ≡ first_of_causes
-            (objects_causes self.now.objects thread (list_any (lacks 0x00100000 self.now.handles) these.now)
-            (map (object_named self.now.handles) these.now)) }
-        ensures named { IfNone result (numbers.new.items ≡ map (object_named self.now.handles) these.now) }
-        ensures capacity { vec_capacity numbers.new ≡ vec_capacity numbers.old }
-    {
-        if let [handle] = these {
-            return self.refusal_of_one(thread, *handle, numbers);
-        }
-        if these.len() > WAIT_LIMIT {
-            return Some(Refusal::InvalidParameter);
-        }
-        let denied = name_all(&self.handles, these, numbers);
-        objects_refusal(self.objects.as_slice(), thread, denied, numbers.as_slice())
+/// The refusal of a wait for the objects with these numbers by its own causes. Most waits name one.
+#[inline(always)]
+pub fn objects_refusal(
+    objects: &[Object],
+    thread: ThreadId,
+    denied: bool,
+    numbers: &[Handle],
+) -> Option<Refusal>
+    ensures { result ≡ first_of_causes (objects_causes objects.now thread denied numbers.now) }
+{
+    match numbers {
+        [object] => object_refusal(objects, thread, denied, *object),
+        _ => list_refusal(objects, thread, denied, numbers),
     }
 }

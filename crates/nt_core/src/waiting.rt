@@ -1,26 +1,29 @@
 //! How a thread's own wait begins.
-ghost use Rattle.std.specs.Prelude.{◌≡◌, ◌≢◌, ◌&&◌, ◌+◌, ◌<◌, [], None, false, OnOk, OnErr, IfOk, IfErr, is_some, IfSome, IfNone, IsTrue, length, slice_set, vec_capacity, ◌≤◌};
+ghost use Rattle.std.specs.Prelude.{ℕ, ◌≡◌, ◌≢◌, ◌&&◌, ◌+◌, ◌<◌, [], None, false, OnOk, OnErr, IfOk, IfErr, is_some, IfSome, IfNone, IsTrue, length, slice_set};
 ghost use Rattle.std.specs.Option.{OnSome};
 ghost use Rattle.std.specs.FinMap as fin;
 ghost use Rattle.nt_status.specs.declared.refusal.Refusal.TheVariants.{Memory};
+ghost use Rattle.nt_status.specs.Lists.{IsMember};
+ghost use Rattle.nt_objects.specs.Object.{is_gone};
 ghost use Rattle.nt_apc.specs.Queues.{has_apc};
 ghost use Rattle.nt_waits.specs.Waits as waits;
-ghost use Rattle.nt_core.specs.State.{deadline_after, pending_too};
+ghost use Rattle.nt_core.specs.State.{object_at, deadline_after, pending_too};
 ghost use Rattle.nt_core.specs.Dispatcher.{state};
 ghost use Rattle.nt_core.specs.Serving.{late_status, wait_for, fits, status, taken_by};
+ghost use Rattle.nt_core.specs.declared.call.Call.{Call};
 ghost use Rattle.nt_core.specs.declared.call.WaitCall.{WaitCall};
 ghost use Rattle.nt_core.specs.Lawful.{IsSoundWait, IsSound, IsSteady};
 ghost use Rattle.nt_core.specs.declared.call.Reply.{Reply};
-ghost use Rattle.nt_core.specs.Accepts.{IsFresh, IsFree, HasBegun, begins_pending, IsWaitMade};
+ghost use Rattle.nt_core.specs.Accepts.{IsFresh, IsFree, HasBegun, begins_pending, IsMade, IsWaitMade};
 
 use crate::call::{Reply, WaitCall};
+use crate::handle_list::NamedObjects;
+use crate::handles::{SYNCHRONIZE, name_all, opened};
 use crate::machine::Machine;
 use crate::serving::try_wait;
-use nt_status::{Handle, Moment, Refusal, Status, ThreadId};
+use crate::wait_refusal::objects_refusal;
+use nt_status::{Handle, INFINITE, MAX_WAIT_OBJECTS, Moment, Refusal, Status, ThreadId};
 use nt_waits::About;
-
-/// INFINITE: the timeout without a deadline.
-const INFINITE: u32 = 0xFFFF_FFFF;
 
 /// The deadline of a wait that begins at this moment with a timeout in milliseconds.
 pub(crate) fn deadline_after(now: Moment, ms: u32) -> Option<u64>
@@ -180,27 +183,53 @@ impl Machine {
         Ok(Reply::Pended)
     }
 
-    /// The caller's wait for the objects that these handles name, begun or refused by its own causes.
+    /// The caller's wait for the objects with these numbers, begun or refused by its own causes.
     #[inline(always)]
     fn wait_for(
+        &mut self,
+        thread: ThreadId,
+        denied: bool,
+        numbers: &[Handle],
+        all: bool,
+        ms: u32,
+        alertable: bool,
+    ) -> Result<Reply, Refusal>
+        requires fresh { IsFresh self.old }
+        requires caller { IsFree (state self.old) thread }
+        requires living { (h : ℕ) → IsMember numbers.now h → h < length self.old.objects
+            → is_gone (object_at self.old.objects h) ≡ false }
+        ensures { IsMade self.old self.new thread denied (Call.Wait (WaitCall.Objects all alertable ms numbers.now)) result }
+    {
+        match objects_refusal(self.objects.as_slice(), thread, denied, numbers) {
+            Some(refusal) => Err(refusal),
+            None => self.begin_wait(thread, numbers, all, ms, alertable),
+        }
+    }
+
+    /// The caller's wait for the objects that these handles name, begun or refused by its own causes.
+    #[inline(always)]
+    fn wait_for_objects(
         &mut self,
         thread: ThreadId,
         these: &[Handle],
         all: bool,
         ms: u32,
         alertable: bool,
-        numbers: &mut Vec<Handle>,
+        numbers: &mut NamedObjects,
     ) -> Result<Reply, Refusal>
-        requires few { 64 ≤ vec_capacity numbers.old }
         requires fresh { IsFresh self.old }
         requires caller { IsFree (state self.old) thread }
-        ensures made { IsWaitMade self.old self.new thread (WaitCall.Objects all alertable ms these.now) result }
-        ensures few { 64 ≤ vec_capacity numbers.new }
+        ensures { IsWaitMade self.old self.new thread (WaitCall.Objects all alertable ms these.now) result }
     {
-        match self.refusal_of_wait(thread, these, numbers) {
-            Some(refusal) => Err(refusal),
-            None => self.begin_wait(thread, numbers.as_slice(), all, ms, alertable),
+        if let [handle] = these {
+            let (object, denied) = opened(&self.handles, *handle, SYNCHRONIZE);
+            return self.wait_for(thread, denied, &[object], all, ms, alertable);
         }
+        if these.len() > MAX_WAIT_OBJECTS {
+            return Err(Refusal::InvalidParameter);
+        }
+        let denied = name_all(&self.handles, these, numbers);
+        self.wait_for(thread, denied, numbers.as_slice(), all, ms, alertable)
     }
 
     /// A waiting call, begun or refused by its own causes.
@@ -209,13 +238,11 @@ impl Machine {
         &mut self,
         thread: ThreadId,
         call: &WaitCall,
-        numbers: &mut Vec<Handle>,
+        numbers: &mut NamedObjects,
     ) -> Result<Reply, Refusal>
-        requires few { 64 ≤ vec_capacity numbers.old }
         requires fresh { IsFresh self.old }
         requires caller { IsFree (state self.old) thread }
-        ensures made { IsWaitMade self.old self.new thread call.now result }
-        ensures few { 64 ≤ vec_capacity numbers.new }
+        ensures { IsWaitMade self.old self.new thread call.now result }
     {
         match call {
             WaitCall::Objects {
@@ -223,7 +250,7 @@ impl Machine {
                 all,
                 ms,
                 alertable,
-            } => self.wait_for(thread, handles.as_slice(), *all, *ms, *alertable, numbers),
+            } => self.wait_for_objects(thread, handles.as_slice(), *all, *ms, *alertable, numbers),
             WaitCall::Sleep { ms, alertable } => self.begin_wait(
                 thread,
                 &[],

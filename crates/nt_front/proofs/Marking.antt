@@ -5,6 +5,7 @@ use Rattle.std.specs.Int.{bit_at}
 use Rattle.std.proofs.lemmas.Bool.{cases_eq}
 use Rattle.std.proofs.lemmas.Nat.Bits.{bit_at_set_same, bit_at_set_other, bit_at-lt, bit_at-zero}
 use Rattle.std.proofs.lemmas.List.{take_all, take_more}
+use Rattle.nt_status.specs.declared.limits.TheConstants.{MAX_THREADS}
 use Rattle.nt_core.specs.declared.call.Grant.{Grant}
 use Rattle.nt_core.specs.Moves.{one_if, granted_to}
 use Rattle.nt_front.specs.Marks.{mark_of, IsMarkedToo, AreMarks}
@@ -45,7 +46,7 @@ unfolding marked
 marks_thread blocks new n thread inside same is = record { each = λ t near. ap (mark_of t) is ∙ marked_too blocks n t inside ∙ ap (λ (x : ℕ). max (mark_of t blocks) (one_if (eqb x t))) same }
 
 -- a thread that has none
-pub marks_far : (blocks : List ℕ) (n : ℕ) → 256 ≤ n → IsMarkedToo blocks n blocks
+pub marks_far : (blocks : List ℕ) (n : ℕ) → MAX_THREADS ≤ n → IsMarkedToo blocks n blocks
 marks_far blocks n far = record { each = λ t near. (let none = ap one_if (ne_eqb n t (λ e. absurd (omega (arith, e)))) in omega (arith, none)) }
 
 none_at : (i : ℕ) → slice_index (replicate 4 0) i ≡ 0

@@ -1,6 +1,7 @@
 -- What contracts see of a book.
 use Rattle.std.specs.Prelude.{◌≡◌, ℕ, Bool, ◌+◌, ◌-◌, ◌<◌, ◌≤◌, ◌^◌, ◌&&◌, nat_le, min, List, [], ◌++◌, length, true, Result}
 use Rattle.std.specs.FinMap.{len}
+use Rattle.nt_status.specs.declared.limits.TheConstants.{MAX_THREADS}
 use Rattle.nt_status.specs.declared.refusal.Refusal.{Refusal}
 use Rattle.nt_core.specs.declared.call.Call.{Call}
 use Rattle.nt_core.specs.declared.call.Reply.{Reply}
@@ -108,7 +109,7 @@ pub record WasHandedOut (front : Prepared) (k : Knowledge) (part : Part) : Type 
 
 -- so many threads and so much room are lawful
 abbrev pub is_lawful_front : ℕ → ℕ → Bool
-is_lawful_front threads room = nat_le 1 threads && nat_le threads 256 && nat_le 1 room && nat_le room 1048576
+is_lawful_front threads room = nat_le 1 threads && nat_le threads MAX_THREADS && nat_le 1 room && nat_le room 1048576
 
 -- what a front without a name keeps: the seats of new threads, a dispatcher at its opening, and an empty journal with places for its room
 pub record IsBlank (b : Prepared) (all : Gathered) (core : Dispatcher) (journal : List Entry) (capacity : ℕ) : Type 0 where
@@ -118,7 +119,7 @@ pub record IsBlank (b : Prepared) (all : Gathered) (core : Dispatcher) (journal 
   pub lawful : IsLawful core
   pub empty : journal ≡ []
   pub places : b.room ≤ capacity
-  pub few : b.threads ≤ 256
+  pub few : b.threads ≤ MAX_THREADS
 
 -- what a book keeps: the headline, entries that agree with the state, the threads and the room of its front, places for that room,
 -- numbers for the entries, and a seat that knows all entries written

@@ -14,7 +14,7 @@ use crate::named::Named;
 use crate::wake::Bells;
 use nt_core::Core;
 use nt_mail::{Entry, JoinedSeats, Mail, Opened};
-use nt_status::{Moment, Refusal, ThreadId};
+use nt_status::{MAX_THREADS, Moment, Refusal, ThreadId};
 use std::alloc::Global;
 use std::marker::{Model, PhantomData};
 use std::sync::Mutex;
@@ -47,7 +47,8 @@ impl Model for Blank {
 
 /// Makes what a front for these threads needs, with this room in its journal.
 ///
-/// Refused with 87 unless there are 1 to 256 threads and room for 1 to 1048576 entries, and with 8 where memory is refused.
+/// Refused with 87 unless there are 1 to `MAX_THREADS` threads and room for 1 to 1048576 entries, and with 8 where memory is
+/// refused.
 pub fn prepare(alloc: Global, threads: u32, journal_room: usize) -> Result<Blank, Refusal>
     ensures ok { IfOk result (λ b. (b.threads ≡ threads) × (b.room ≡ journal_room)) }
     ensures err { IfErr result (λ r. MatchBool (is_lawful_front threads journal_room) (r ≡ Memory) (r ≡ InvalidParameter)) }
@@ -140,12 +141,12 @@ fn make_rest<N: Named>(alloc: Global, blank: &Blank) -> Result<Made<N>, Refusal>
 fn is_lawful(threads: u32, room: usize) -> bool
     ensures { result ≡ is_lawful_front threads room }
 {
-    1 <= threads && threads <= 256 && 1 <= room && room <= MOST_ENTRIES
+    1 <= threads && threads <= MAX_THREADS && 1 <= room && room <= MOST_ENTRIES
 }
 
 /// The parts of a front.
 fn parts(alloc: Global, threads: u32, room: usize) -> Result<Blank, Refusal>
-    requires { (1 ≤ threads) × (threads ≤ 256) }
+    requires { (1 ≤ threads) × (threads ≤ MAX_THREADS) }
     ensures ok { IfOk result (λ b. (b.threads ≡ threads) × (b.room ≡ room)) }
     ensures memory { IfErr result (λ r. r ≡ Memory) }
 {

@@ -4,7 +4,7 @@ ghost use Rattle.nt_status.specs.declared.refusal.Refusal.TheVariants.{Memory};
 ghost use Rattle.nt_front.specs.Marks.{IsMarkedToo, AreMarks};
 
 use nt_core::Grant;
-use nt_status::{Refusal, ThreadId};
+use nt_status::{MAX_THREADS, Refusal, ThreadId};
 use std::alloc::{AllocError, Global};
 use std::sync::{Condvar, Wait};
 use std::time::Duration;
@@ -32,7 +32,7 @@ impl Marks {
         ensures { IsMarkedToo self.old.0 thread self.new.0 }
     {
         let number = usize::from(thread.get());
-        if number < 256 {
+        if number < MAX_THREADS as usize {
             self.0[number / 64] |= 1 << (number % 64);
         }
     }

@@ -2,13 +2,10 @@
 use crate::told::Told;
 use nt_core::{Act, Reply, WaitCall};
 use nt_front::{Begun, Front, Named, Pass, Waited};
-use nt_status::{Handle, Handles, Status};
+use nt_status::{Handle, Handles, INFINITE, Status};
 use std::alloc::Global;
 use std::sync::Wait;
 use std::time::{Clock, Instant};
-
-/// INFINITE: a timeout that never passes.
-pub const INFINITE: u32 = 0xFFFF_FFFF;
 
 pub fn now(clock: &impl Clock) -> Option<Instant> {
     Instant::now(clock).ok()

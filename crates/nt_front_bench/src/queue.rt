@@ -1,11 +1,11 @@
 //! 64 threads wait for all of a common event and one of their own.
 use crate::alone::set_stage;
-use crate::moves::{INFINITE, call, nanos_since, now, objects};
+use crate::moves::{call, nanos_since, now, objects};
 use crate::shapes::Shape;
 use crate::told::Told;
 use nt_core::Act;
 use nt_front::{Begun, Carried, Front, Named, Pass, Polled, Sleeper};
-use nt_status::Handle;
+use nt_status::{Handle, INFINITE};
 use std::alloc::Global;
 use std::mem;
 use std::sync::Wait;

@@ -1,8 +1,8 @@
 //! What is timed. `bench/front.c` makes the same calls under the same names, but for those of `Rotate`: it has no parts.
 
-/// How many threads and how many untouched events a crowd has.
-pub const CROWD_THREADS: u32 = 256;
+use nt_status::MAX_THREADS;
 
+/// How many untouched events a crowd has. Its threads are the most that there may be.
 pub const CROWD_EVENTS: u32 = 10_000;
 
 /// What a round is.
@@ -168,7 +168,7 @@ impl Shape {
     /// How many threads the front has.
     pub fn threads(&self) -> u32 {
         if self.has_crowd {
-            return CROWD_THREADS;
+            return MAX_THREADS;
         }
         match self.kind {
             Kind::OneOf64 => 65,

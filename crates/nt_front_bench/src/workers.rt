@@ -1,11 +1,11 @@
 //! Workers take a mutex, release a semaphore and release the mutex, as `ntrun threads` has them do.
 ghost use Rattle.std.specs.Prelude.{◌≡◌, ◌+◌, ◌<◌, ◌≤◌, [], vec_len, vec_capacity};
 
-use crate::moves::{INFINITE, call, objects, wait, wait_for};
+use crate::moves::{call, objects, wait, wait_for};
 use crate::told::Told;
 use nt_core::Act;
 use nt_front::{Carried, Exited, Front, Held, History, Named, Pass};
-use nt_status::Handle;
+use nt_status::{Handle, INFINITE};
 use std::alloc::Global;
 use std::sync::Wait;
 use std::thread::{self, Promise, Scope, Threads};

@@ -15,13 +15,14 @@ use Rattle.nt_objects.specs.Handles.{opened_at}
 use Rattle.nt_objects.specs.Object.{is_gone, has_ended, setting_of, rearmed, event_of, mutex_of, timer_of, with_set, released, unlocked, armed_with, abandoned_by, unset_by, set_by}
 use Rattle.nt_apc.specs.Queues.{taken, withdrawn}
 use Rattle.nt_apc.specs.declared.apc.Queued.{Queued}
+use Rattle.nt_status.specs.declared.limits.TheConstants.{MAX_HANDLES}
 use Rattle.nt_core.specs.declared.call.Call.{Call}
 use Rattle.nt_core.specs.declared.call.Act.{Act}
 use Rattle.nt_core.specs.declared.call.WaitCall.{WaitCall}
 use Rattle.nt_core.specs.State.{State, object_at, pends, with_object, with_handing}
 use Rattle.nt_core.specs.Naming.{call_named, object_named, object_in, access_in, lacks, no_object}
 use Rattle.nt_core.specs.Rights.{is_denied}
-use Rattle.nt_core.specs.Refusals.{Cause, first_of_causes, call_causes, refusal, handle_limit, is_full, is_unknown}
+use Rattle.nt_core.specs.Refusals.{Cause, first_of_causes, call_causes, refusal, is_full, is_unknown}
 use Rattle.nt_core.specs.Change.{handle_closed, notified, expired_as, apc_taken, created, opened_too, signal, change, may_take, expired, armed_anew, timer_set, due_moment, routine_for, exited}
 use Rattle.nt_laws.specs.Laws.{call_closes}
 use Rattle.nt_core.proofs.Accepting.{next_causes, free_caller}
@@ -242,7 +243,7 @@ duplicated s t source access enough none = go (opened_at s.handles source) refl 
     go None named there may fits =
         let unknown : nat_le (length s.objects) no_object ≡ false = sym (ap (λ o. nat_le (length s.objects) (object_in o)) named) ∙ there in
         let more : no_object < length s.objects = grind (arith, nat_tests, unknown) in
-        let fewer : length s.handles < handle_limit = grind (arith, nat_tests, fits) in
+        let fewer : length s.handles < MAX_HANDLES = grind (arith, nat_tests, fits) in
         absurd (omega (arith, enough, more, fewer))
 
 -- ---- each call

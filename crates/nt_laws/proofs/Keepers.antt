@@ -11,11 +11,13 @@ use Rattle.nt_status.specs.Flags.{has_flag}
 use Rattle.nt_status.specs.Access.{synchronize}
 use Rattle.nt_status.specs.declared.refusal.Refusal.TheVariants.{AccessDenied, InvalidHandle, InvalidParameter, NotOwner, TooManyPosts, RecursionLimit}
 use Rattle.nt_waits.specs.declared.wait.Wait.{Wait}
-use Rattle.nt_waits.specs.Waits.{IsMember, Names}
+use Rattle.nt_status.specs.Lists.{IsMember}
+use Rattle.nt_waits.specs.Waits.{Names}
 use Rattle.nt_objects.specs.declared.object.Object.TheVariants.{Thread}
 use Rattle.nt_objects.specs.declared.handles.Opened.{Opened}
 use Rattle.nt_objects.specs.Handles.{opened_at, own_handles, full_access, count_named}
 use Rattle.nt_objects.specs.Object.{is_gone, has_ended, overflows}
+use Rattle.nt_status.specs.declared.limits.TheConstants.{MAX_WAIT_OBJECTS}
 use Rattle.nt_core.specs.declared.call.Call.{Call}
 use Rattle.nt_core.specs.declared.call.WaitCall.{WaitCall}
 use Rattle.nt_core.specs.declared.call.Reply.{Reply}
@@ -25,7 +27,7 @@ use Rattle.nt_core.specs.Rights.{is_denied, signal_denied}
 use Rattle.nt_core.specs.State.{State, opening, object_at, pending_too}
 use Rattle.nt_core.specs.Living.{is_opened, is_awaited, runs, is_kept, lives, LivesWhileKept, Ends}
 use Rattle.nt_laws.specs.Laws.{IsKept}
-use Rattle.nt_core.specs.Refusals.{Cause, refusal, wait_limit, has_twice, is_unknown, is_no, is_foreign, is_at_limit, may_signal}
+use Rattle.nt_core.specs.Refusals.{Cause, refusal, has_twice, is_unknown, is_no, is_foreign, is_at_limit, may_signal}
 use Rattle.nt_core.specs.Change.{change}
 use Rattle.nt_core.specs.Steps.{Made, wait_of}
 use Rattle.nt_core.specs.Runs.{Turn, Calls, Ticks, IsTurn, Turns, Run}
@@ -66,7 +68,7 @@ wait_living s t (WaitCall.Objects all alertable ms hs) sound none now o named =
     let objects : List ℕ = map (object_named s.handles) hs in
     let own = call_causes_none s t denied (Call.Wait (WaitCall.Objects all alertable ms objects)) none in
     let last : List Cause = (has_twice objects, InvalidParameter) ∷ (list_any (is_at_limit s.objects t) objects, RecursionLimit) ∷ [] in
-    let few = next_causes (length objects == 0 || nat_lt wait_limit (length objects)) InvalidParameter ((list_any (is_unknown s.objects) objects, InvalidHandle) ∷ (denied, AccessDenied) ∷ last) own in
+    let few = next_causes (length objects == 0 || nat_lt MAX_WAIT_OBJECTS (length objects)) InvalidParameter ((list_any (is_unknown s.objects) objects, InvalidHandle) ∷ (denied, AccessDenied) ∷ last) own in
     let known = next_causes (list_any (is_unknown s.objects) objects) InvalidHandle ((denied, AccessDenied) ∷ last) few.1 in
     let allowed = next_causes denied AccessDenied last known.1 in
     subst (λ k. is_living s.objects k ≡ true) named.2 (each_living s hs sound allowed.0 named.0 named.1)

@@ -6,7 +6,9 @@ use Rattle.std.specs.Cmp.{unsigned_tied, nat_cmp_total}
 use Rattle.std.specs.Ordering.{nat_cmp, eq_by_cmp}
 use Rattle.std.proofs.lemmas.Bool.Decides.{nat_tests}
 use Rattle.nt_waits.specs.declared.wait.Wait.{Wait}
-use Rattle.nt_waits.specs.Waits.{IsMember, Names}
+use Rattle.nt_status.specs.Lists.{IsMember}
+use Rattle.nt_status.proofs.Lists.{member_push_cases, member_of_first, member_of_last}
+use Rattle.nt_waits.specs.Waits.{Names}
 use Rattle.nt_objects.specs.declared.object.Object.{Object}
 use Rattle.nt_objects.specs.declared.handles.Opened.{Opened}
 use Rattle.nt_objects.specs.Handles.{opened_at}
@@ -14,8 +16,9 @@ use Rattle.nt_objects.specs.Object.{is_gone}
 use Rattle.nt_core.specs.declared.call.Call.{Call}
 use Rattle.nt_core.specs.State.{State, Pending, object_at, names, pending_no_more, pending_too}
 use Rattle.nt_core.specs.Change.{created, opened_too, handle_closed}
+use Rattle.nt_waits.proofs.OthersLemmas.{member_others, member_of_others}
 use Rattle.nt_core.proofs.Beginning.{get_inserted, names_yes, names_no}
-use Rattle.nt_core.proofs.Walks.{get_removed, get_other, IsMember-others, others-IsMember}
+use Rattle.nt_core.proofs.Walks.{get_removed, get_other}
 use Rattle.nt_core.proofs.Remaining.{both, turned}
 use Rattle.nt_laws.proofs.Lasting.{SameLife, Lasts}
 use Rattle.nt_laws.proofs.CallKinds.{IsCreated, IsDuplicated, IsSame, Kind}
@@ -92,9 +95,9 @@ stands_over s t sound = record {
   own = sound.own;
   listed = λ u o w is named.
       let before = get_removed s.waits t u w is in
-      IsMember-others t u (s.queues o) before.0 (sound.listed u o w before.1 named);
+      member_others t u (s.queues o) before.0 (sound.listed u o w before.1 named);
   pends = λ u o member.
-      let before = others-IsMember t u (s.queues o) member in
+      let before = member_of_others t u (s.queues o) member in
       let wait = sound.pends u o before.0 in
       (wait.0, get_other s.waits t u before.1 ∙ wait.1, wait.2);
   named = sound.named;
@@ -150,24 +153,6 @@ inserted_other waits t u w differs = get-insert nat_cmp_total waits t w u ∙ rw
     apart : eq_by_cmp nat_cmp u t ≡ false
     apart = unsigned_tied u t ∙ (grind (arith, nat_tests, differs))
 
-member_before : (xs more : List ℕ) (x : ℕ) → IsMember xs x → IsMember (xs ++ more) x
-member_before [] more x member = absurd member
-member_before (y ∷ xs) more x (inl here) = inl here
-member_before (y ∷ xs) more x (inr later) = inr (member_before xs more x later)
-
-member_last : (xs : List ℕ) (x : ℕ) → IsMember (xs ++ x ∷ []) x
-member_last [] x = inl refl
-member_last (y ∷ xs) x = inr (member_last xs x)
-
-member_either : (xs : List ℕ) (last x : ℕ) → IsMember (xs ++ last ∷ []) x → IsMember xs x ⊎ (last ≡ x)
-member_either [] last x (inl here) = inr here
-member_either [] last x (inr member) = absurd member
-member_either (y ∷ xs) last x (inl here) = inl (inl here)
-member_either (y ∷ xs) last x (inr later) = elim (member_either xs last x later) [
-  | inl before ↦ inl (inr before)
-  | inr here ↦ inr here
-]
-
 pub stands_pending : (s : State) (t : ℕ) (w : Wait) → Stands s → get s.waits t ≡ None → ((o : ℕ) → Names w o → is_living s.objects o ≡ true) → Stands (pending_too s t w)
 stands_pending s t w sound idle living = record {
   enough = sound.enough;
@@ -182,11 +167,11 @@ stands_pending s t w sound idle living = record {
 }
   where
     listed : (u o : ℕ) (v : Wait) → ((u ≡ t) × (w ≡ v)) ⊎ (get s.waits u ≡ Some v) → Names v o → (b : Bool) → names w o ≡ b → IsMember (cond (names w o) (s.queues o ++ t ∷ []) (s.queues o)) u
-    listed u o v (inl own) named true is = rw is (subst (λ k. IsMember (s.queues o ++ t ∷ []) k) (sym own.0) (member_last (s.queues o) t))
+    listed u o v (inl own) named true is = rw is (subst (λ k. IsMember (s.queues o ++ t ∷ []) k) (sym own.0) (member_of_last (s.queues o) (t ∷ []) t (inl refl)))
     listed u o v (inl own) named false is =
         let mine : Names w o = subst (λ (x : Wait). Names x o) (sym own.1) named in
         absurd (names_no w.handles o is mine.0 mine.1 mine.2)
-    listed u o v (inr before) named true is = rw is (member_before (s.queues o) (t ∷ []) u (sound.listed u o v before named))
+    listed u o v (inr before) named true is = rw is (member_of_first (s.queues o) (t ∷ []) u (sound.listed u o v before named))
     listed u o v (inr before) named false is = rw is (sound.listed u o v before named)
 
     waits_not : {P : Type 0} (v : Wait) → None ≡ Some v → P
@@ -200,7 +185,7 @@ stands_pending s t w sound idle living = record {
     pends : (u o : ℕ) (b : Bool) → names w o ≡ b → IsMember (cond (names w o) (s.queues o ++ t ∷ []) (s.queues o)) u → (v : Wait) × (get (insert s.waits t w) u ≡ Some v) × Names v o
     pends u o true is member =
         let there : IsMember (s.queues o ++ t ∷ []) u = rw is at member in
-        elim (member_either (s.queues o) t u there) [
+        elim (member_push_cases (s.queues o) t u there) [
           | inl before ↦ kept u o before
           | inr here ↦ (w, subst (λ k. get (insert s.waits t w) k ≡ Some w) here (inserted_here s.waits t w), names_yes w.handles o is)
         ]

@@ -16,6 +16,7 @@ use Rattle.nt_objects.specs.declared.object.Object.{Object}
 use Rattle.nt_objects.specs.declared.object.Object.TheVariants.{Event, Semaphore, Mutex, Timer, Thread, Gone}
 use Rattle.nt_objects.specs.Object.{is_gone, taken}
 use Rattle.nt_apc.specs.Queues.{has_apc}
+use Rattle.nt_status.specs.declared.limits.TheConstants.{MAX_WAIT_OBJECTS}
 use Rattle.nt_core.specs.declared.call.Call.{Call}
 use Rattle.nt_core.specs.declared.call.WaitCall.{WaitCall}
 use Rattle.nt_core.specs.declared.call.Reply.{Reply}
@@ -27,7 +28,7 @@ use Rattle.nt_core.specs.Serving.{fits, status, is_sleep, late_status, taken_by,
 use Rattle.nt_core.specs.Change.{change, expired, all_expired}
 use Rattle.nt_core.specs.Rights.{is_denied}
 use Rattle.nt_core.proofs.Judging.{undenied}
-use Rattle.nt_core.specs.Refusals.{Cause, refusal, wait_limit, has_twice, is_unknown, is_at_limit}
+use Rattle.nt_core.specs.Refusals.{Cause, refusal, has_twice, is_unknown, is_at_limit}
 use Rattle.nt_core.specs.Living.{all_gone, gone, Ends}
 use Rattle.nt_core.specs.Steps.{Step, Called, wait_of, begun, answered, after_serving, MomentPasses, MomentsPass, Ticked}
 use Rattle.nt_core.specs.Runs.{Turn, Calls, Ticks, IsTurn, Turns}
@@ -79,12 +80,12 @@ fair_call s t (WaitCall.Objects all alertable ms handles) now none =
     let own = own_causes s t (Call.Wait (WaitCall.Objects all alertable ms handles)) none in
     let last : List Cause = (list_any (is_at_limit s.objects t) handles, RecursionLimit) ∷ [] in
     let apart : List Cause = (has_twice handles, InvalidParameter) ∷ last in
-    let first = next_causes (length handles == 0 || nat_lt wait_limit (length handles)) InvalidParameter ((list_any (is_unknown s.objects) handles, InvalidHandle) ∷ apart) own in
+    let first = next_causes (length handles == 0 || nat_lt MAX_WAIT_OBJECTS (length handles)) InvalidParameter ((list_any (is_unknown s.objects) handles, InvalidHandle) ∷ apart) own in
     let known = next_causes (list_any (is_unknown s.objects) handles) InvalidHandle apart first.1 in
     let twice = next_causes (has_twice handles) InvalidParameter last known.1 in
     (few (length handles == 0) first.0, distinct_handles handles twice.0)
   where
-    few : (none : Bool) → (none || nat_lt wait_limit (length handles)) ≡ false → length handles ≤ wait_limit
+    few : (none : Bool) → (none || nat_lt MAX_WAIT_OBJECTS (length handles)) ≡ false → length handles ≤ MAX_WAIT_OBJECTS
     few true e = absurd (false≢true (sym e))
     few false e = grind (arith, nat_tests, e)
 fair_call s t (WaitCall.Sleep ms alertable) now none = (omega arith, distinct_handles [] refl)

@@ -1,12 +1,13 @@
 -- The threads' steps keep the rule.
 use Rattle.std.proofs.Common.{◌≡◌, ◌≢◌, ℕ, ◌+◌, ◌-◌, ◌/◌, ◌%◌, ◌<◌, ◌≤◌, List, [], ◌∷◌, ◌++◌, length, map, Bool, true, false, cond, eqb, eq-eqb, ne_eqb, refl, sym, ap, ◌∙◌, subst, ⊎_elim, arith, inl, length-set}
-use Rattle.std.specs.Prelude.{slice_index, slice_set, ◌^◌, nat_lt}
+use Rattle.std.specs.Prelude.{slice_index, slice_set, nat_lt}
 use Rattle.std.proofs.lemmas.List.{set-get_or}
 use mathlib.Core.Option.{some}
 use native.Mathlib.Decide.{ℕ_discrete}
 use lib.ListN.{get_elem?}
 use prog.Atomic.{either}
 use Rattle.atomic_table.specs.Table.{State, Me, Act, keeps, Valid, carried_after, Allows, stepped}
+use Rattle.nt_status.specs.declared.limits.TheConstants.{MAX_MOMENT}
 use Rattle.nt_core.specs.Moves.{one_if}
 use Rattle.nt_mail.specs.declared.entry.Entry.{Entry}
 use Rattle.nt_mail.specs.declared.knowledge.View.{View}
@@ -74,7 +75,7 @@ polls slots id k held s h sizes at fits64 =
       (refl, (own_word s.words h.0 h.1 k (h.2.counted k.thread) p, tt)),
     )
 
-pub reads : (slots id : ℕ) (k : Knowledge) (held : List (ℕ × Unit {0})) → Allows IsMail slots id (holder k, held) 0 (λ n. n) (λ n after. (after ≡ (with_parts (with_moment n) (holder k), held)) × Each (λ x. latest 0 x.moments ≤ n) (k ∷ []) × (n ≤ 2 ^ 62))
+pub reads : (slots id : ℕ) (k : Knowledge) (held : List (ℕ × Unit {0})) → Allows IsMail slots id (holder k, held) 0 (λ n. n) (λ n after. (after ≡ (with_parts (with_moment n) (holder k), held)) × Each (λ x. latest 0 x.moments ≤ n) (k ∷ []) × (n ≤ MAX_MOMENT))
 reads slots id k held s h sizes at fits64 =
     let n = slice_index s.words 0 in
     let p = (h.2.seats id (holder k) at).1.0 in
@@ -159,9 +160,9 @@ polls_as slots id place me is at =
     subst P (λ i. (sym is i, at i)) (polls slots id (known_in me.0) [])
 
 pub reads_as : (slots id : ℕ) (me : Me (Unit {0}) View) → me ≡ (holder (known_in me.0), [])
-    → Allows IsMail slots id me 0 (λ n. n) (λ n after. (after ≡ (with_parts (with_moment n) me.0, me.1)) × Each (λ x. latest 0 x.moments ≤ n) me.0.parts × (n ≤ 2 ^ 62))
+    → Allows IsMail slots id me 0 (λ n. n) (λ n after. (after ≡ (with_parts (with_moment n) me.0, me.1)) × Each (λ x. latest 0 x.moments ≤ n) me.0.parts × (n ≤ MAX_MOMENT))
 reads_as slots id me is =
-    let P : Me (Unit {0}) View → Type 0 = λ x. Allows IsMail slots id x 0 (λ n. n) (λ n after. (after ≡ (with_parts (with_moment n) x.0, x.1)) × Each (λ x. latest 0 x.moments ≤ n) x.0.parts × (n ≤ 2 ^ 62)) in
+    let P : Me (Unit {0}) View → Type 0 = λ x. Allows IsMail slots id x 0 (λ n. n) (λ n after. (after ≡ (with_parts (with_moment n) x.0, x.1)) × Each (λ x. latest 0 x.moments ≤ n) x.0.parts × (n ≤ MAX_MOMENT)) in
     subst P (sym is) (reads slots id (known_in me.0) [])
 
 pub takes_as : (slots id place old new : ℕ) (me : Me (Unit {0}) View) → me ≡ (holder (known_in me.0), []) → (known_in me.0).thread + 1 ≡ place → 2 ≤ old % 1024 → new ≡ idle_word (old / 1024)

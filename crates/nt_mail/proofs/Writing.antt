@@ -1,9 +1,10 @@
 -- The dispatcher's steps keep the rule.
 use Rattle.std.proofs.Common.{◌≡◌, ℕ, suc, ◌+◌, ◌≤◌, List, [], ◌∷◌, ◌++◌, length, Bool, true, false, refl, sym, ap, ◌∙◌, subst, arith, inl, inr, get_or-set_same, length-set}
-use Rattle.std.specs.Prelude.{slice_index, slice_set, ◌^◌, nat_lt}
+use Rattle.std.specs.Prelude.{slice_index, slice_set, nat_lt}
 use native.Mathlib.Decide.{ℕ_discrete}
 use Rattle.atomic_table.specs.Table.{Me, keeps, Allows}
 use Rattle.nt_status.specs.Status.{is_status_code}
+use Rattle.nt_status.specs.declared.limits.TheConstants.{MAX_MOMENT}
 use Rattle.nt_core.specs.Moves.{one_if}
 use Rattle.nt_mail.specs.declared.entry.Entry.{Entry}
 use Rattle.nt_mail.specs.declared.entry.Entry.TheVariants.{Granted}
@@ -181,7 +182,7 @@ parts_published words log ms m (k ∷ ks) le are =
       parts_published words log ms m ks le are.1,
     )
 
-pub publishes : (slots id : ℕ) (log : List Entry) (ms : List ℕ) (held : List (ℕ × Unit {0})) (m : ℕ) → latest 0 ms ≤ m → m ≤ 2 ^ 62
+pub publishes : (slots id : ℕ) (log : List Entry) (ms : List ℕ) (held : List (ℕ × Unit {0})) (m : ℕ) → latest 0 ms ≤ m → m ≤ MAX_MOMENT
     → Allows IsMail slots id (keeper log ms [], held) 0 (λ _. m) (λ _ after. after ≡ (with_published m (keeper log ms []), held))
 publishes slots id log ms held m le small s h sizes at fits64 =
     let v = keeper log ms [] in
@@ -233,7 +234,7 @@ grants_as slots id place t status number e me is same at armed known bits =
     let P : (Me (Unit {0}) View × Entry × ℕ × ℕ) → Type 0 = λ x. Allows IsMail slots id x.0 x.3 (λ _. x.2) (λ _ after. (after ≡ (with_entry x.1 x.0.0, x.0.1)) × Each (IsEarlier (suc (length x.0.0.written))) x.0.0.parts) in
     subst P (λ i. (sym is i, sym same i, sym bits i, at i)) (grants slots id me.0.written me.0.published [] t status known armed)
 
-pub publishes_as : (slots id m : ℕ) (me : Me (Unit {0}) View) → me ≡ (keeper me.0.written me.0.published [], []) → latest 0 me.0.published ≤ m → m ≤ 2 ^ 62
+pub publishes_as : (slots id m : ℕ) (me : Me (Unit {0}) View) → me ≡ (keeper me.0.written me.0.published [], []) → latest 0 me.0.published ≤ m → m ≤ MAX_MOMENT
     → Allows IsMail slots id me 0 (λ _. m) (λ _ after. after ≡ (with_published m me.0, me.1))
 publishes_as slots id m me is le small =
     let P : Me (Unit {0}) View → Type 0 = λ x. Allows IsMail slots id x 0 (λ _. m) (λ _ after. after ≡ (with_published m x.0, x.1)) in

@@ -1,9 +1,10 @@
 -- The rule of the mail: what holds of words, entries and views between any two steps.
-use Rattle.std.specs.Prelude.{◌≡◌, ◌==◌, ◌⊎◌, ℕ, suc, ◌+◌, ◌<◌, ◌≤◌, ◌^◌, slice_index, List, [], ◌∷◌, ◌++◌, length, Bool, true, false, nat_lt}
+use Rattle.std.specs.Prelude.{◌≡◌, ◌==◌, ◌⊎◌, ℕ, suc, ◌+◌, ◌<◌, ◌≤◌, slice_index, List, [], ◌∷◌, ◌++◌, length, Bool, true, false, nat_lt}
 use mathlib.Core.Option.{some}
 use lib.ListN.{get_elem?}
 use Rattle.atomic_table.specs.Table.{State}
 use Rattle.nt_status.specs.Status.{is_status_code}
+use Rattle.nt_status.specs.declared.limits.TheConstants.{MAX_MOMENT}
 use Rattle.nt_core.specs.Moves.{one_if}
 use Rattle.nt_mail.specs.declared.entry.Entry.{Entry}
 use Rattle.nt_mail.specs.declared.knowledge.Knowledge.{Knowledge}
@@ -101,7 +102,7 @@ pub record IsMailOf (words : List ℕ) (views : List View) (log : List Entry) (p
   pub counted : (t : ℕ) → IsCounted t log
   pub rising : NeverFall 0 published
   pub moment : slice_index words 0 ≡ latest 0 published
-  pub greatest : latest 0 published ≤ 2 ^ 62
+  pub greatest : latest 0 published ≤ MAX_MOMENT
   pub enough : 0 < length words
   -- one view is the dispatcher's, and each thread that has a word has its part in one view
   pub one_keeper : total keeping views ≡ 1

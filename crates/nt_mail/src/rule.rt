@@ -87,12 +87,14 @@ impl Play<(), View> for Publishes {
 pub(crate) struct Reads;
 
 impl Play<(), View> for Reads {
-    ghost use Rattle.std.specs.Prelude.{◌≡◌, ◌≤◌, ◌^◌};
+    ghost use Rattle.std.specs.Prelude.{◌≡◌, ◌≤◌};
+    ghost use Rattle.nt_status.specs.declared.limits.TheConstants.{MAX_MOMENT};
     ghost use Rattle.nt_mail.specs.Entries.{Each};
     ghost use Rattle.nt_mail.specs.Knowledge.{latest, with_moment};
     ghost use Rattle.nt_mail.specs.Views.{with_parts};
 
-    ghost then = { λ step before found after. (after ≡ (with_parts (with_moment found) before.0, before.1)) × Each (λ k. latest 0 k.moments ≤ found) before.0.parts × (found ≤ 2 ^ 62) };
+    ghost then = { λ step before found after. (after ≡ (with_parts (with_moment found) before.0, before.1))
+        × Each (λ k. latest 0 k.moments ≤ found) before.0.parts × (found ≤ MAX_MOMENT) };
 }
 
 /// The dispatcher reads the moment, and nothing changes. What the threads that are joined to it know is what was written.

@@ -1,5 +1,5 @@
 //! What each handle names.
-ghost use Rattle.std.specs.Prelude.{◌≡◌, ◌<◌, ◌≤◌, ◌+◌, ◌-◌, ◌++◌, ◌∷◌, ◌^◌, [], None, Some, length, slice_set, slice_index_or, vec_len, vec_capacity, IsSome, IfOk, OnOk, OnErr};
+ghost use Rattle.std.specs.Prelude.{◌≡◌, ◌<◌, ◌≤◌, ◌+◌, ◌-◌, ◌++◌, ◌∷◌, ◌^◌, [], None, Some, length, slice_set, slice_index_or, vec_len, vec_capacity, IsSome, IfOk, OnOk};
 ghost use Rattle.std.specs.Option.{ForSome};
 ghost use Rattle.nt_objects.specs.Handles.{opened_at, count_named, own_handles, IsCounted};
 

@@ -7,40 +7,12 @@ use Rattle.std.proofs.lemmas.List.{append-nil, append_assoc, length-append, get_
 use Rattle.nt_objects.specs.declared.object.Object.{Object}
 use Rattle.nt_objects.specs.declared.object.Object.TheVariants.{Event, Semaphore, Mutex, Timer, Thread, Gone}
 use Rattle.nt_objects.specs.Object.{owner_of, owned_by, abandoned_by}
-use Rattle.nt_owners.specs.Owned.{IsMember, AreOnce, list_of}
-use Rattle.nt_owners.specs.Objects.{object_at, OwnersAgree, AreListed}
-use Rattle.nt_owners.proofs.ListLemmas.{member_same, same_test, other_test, once_few}
+use Rattle.nt_status.specs.Lists.{IsMember, AreOnce, Lists}
+use Rattle.nt_status.proofs.Lists.{member_same, member_push_cases, member_of_first, member_of_last, once_push, few_below}
+use Rattle.nt_owners.specs.Owned.{list_of}
+use Rattle.nt_owners.specs.Objects.{object_at, OwnersAgree}
+use Rattle.nt_owners.proofs.ListLemmas.{same_test, other_test}
 use Rattle.nt_owners.proofs.PassLemmas.{owned_owner, owned_below, abandoned_free}
-
--- ---- a list with one number more
-
-member_snoc : (list : List ℕ) (m k : ℕ) → IsMember (list ++ m ∷ []) k → IsMember list k ⊎ (m ≡ k)
-member_snoc [] m k (inl same) = inr same
-member_snoc [] m k (inr none) = absurd none
-member_snoc (x ∷ list) m k (inl here) = inl (inl here)
-member_snoc (x ∷ list) m k (inr later) = elim (member_snoc list m k later) [
-  | inl within ↦ inl (inr within)
-  | inr last ↦ inr last
-]
-
-snoc_before : (list : List ℕ) (m k : ℕ) → IsMember list k → IsMember (list ++ m ∷ []) k
-snoc_before [] m k has = absurd has
-snoc_before (x ∷ list) m k (inl here) = inl here
-snoc_before (x ∷ list) m k (inr later) = inr (snoc_before list m k later)
-
-snoc_last : (list : List ℕ) (m : ℕ) → IsMember (list ++ m ∷ []) m
-snoc_last [] m = inl refl
-snoc_last (x ∷ list) m = inr (snoc_last list m)
-
-snoc_once : (list : List ℕ) (m : ℕ) → AreOnce list → (IsMember list m → ⊥) → AreOnce (list ++ m ∷ [])
-snoc_once [] m once absent = ((λ has. has), tt)
-snoc_once (x ∷ list) m once absent = (
-  (λ has. elim (member_snoc list m x has) [
-    | inl within ↦ once.0 within
-    | inr last ↦ absent (inl (sym last))
-  ]),
-  snoc_once list m once.1 (λ has. absent (inr has)),
-)
 
 -- ---- abandoning
 
@@ -87,9 +59,9 @@ pub one_listed : (old now : List Object) (t m : ℕ) (start listed : List ℕ) �
 one_listed old now t m start listed so_far owns = record {
   mutexes = so_far.mutexes ++ m ∷ [];
   appended = ap (λ (list : List ℕ). list ++ m ∷ []) so_far.appended ∙ append_assoc start so_far.mutexes (m ∷ []);
-  once = snoc_once so_far.mutexes m so_far.once (λ has. so_far.free m has owns);
+  once = once_push so_far.mutexes m so_far.once (λ has. so_far.free m has owns);
   exactly = λ k. ((λ has. (so_far.exactly k).0 (before k has)), λ was. after k was (cases_eq k m));
-  free = λ k has still. elim (member_snoc so_far.mutexes m k has) [
+  free = λ k has still. elim (member_push_cases so_far.mutexes m k has) [
     | inl within ↦ so_far.free k within (owned_before k (λ same. so_far.free m (member_same so_far.mutexes k m same within) owns) still)
     | inr last ↦ owns_no_more now t m owns (subst (λ (n : ℕ). Owns (abandoned_at now t m) t n) (sym last) still)
   ];
@@ -99,7 +71,7 @@ one_listed old now t m start listed so_far owns = record {
     owned_before k differs still = subst (λ (o : Object). IsTrue (owned_by o t)) (owns_elsewhere now t m k differs) still
 
     before : (k : ℕ) → IsMember (so_far.mutexes ++ m ∷ []) k ⊎ Owns (abandoned_at now t m) t k → IsMember so_far.mutexes k ⊎ Owns now t k
-    before k (inl listed) = elim (member_snoc so_far.mutexes m k listed) [
+    before k (inl listed) = elim (member_push_cases so_far.mutexes m k listed) [
       | inl within ↦ inl within
       | inr last ↦ inr (subst (λ (n : ℕ). Owns now t n) last owns)
     ]
@@ -109,9 +81,9 @@ one_listed old now t m start listed so_far owns = record {
     ]
 
     after : (k : ℕ) → Owns old t k → (k ≡ m) ⊎ (k ≢ m) → IsMember (so_far.mutexes ++ m ∷ []) k ⊎ Owns (abandoned_at now t m) t k
-    after k was (inl same) = inl (subst (λ (n : ℕ). IsMember (so_far.mutexes ++ m ∷ []) n) (sym same) (snoc_last so_far.mutexes m))
+    after k was (inl same) = inl (subst (λ (n : ℕ). IsMember (so_far.mutexes ++ m ∷ []) n) (sym same) (member_of_last so_far.mutexes (m ∷ []) m (inl refl)))
     after k was (inr differs) = elim ((so_far.exactly k).1 was) [
-      | inl within ↦ inl (snoc_before so_far.mutexes m k within)
+      | inl within ↦ inl (member_of_first so_far.mutexes (m ∷ []) k within)
       | inr owned ↦ inr (subst (λ (o : Object). IsTrue (owned_by o t)) (sym (owns_elsewhere now t m k differs)) owned)
     ]
 
@@ -120,21 +92,21 @@ pub few_listed : (old now : List Object) (t m : ℕ) (start listed : List ℕ) �
 few_listed old now t m start listed so_far owns =
     let more = so_far.mutexes ++ m ∷ [] in
     let below : (k : ℕ) → IsMember more k → k < length old = λ k has. owned_below old t k ((owned_owner (object_at old k) t).0 ((so_far.exactly k).0 (inside k has))) in
-    let few : length more ≤ length old = once_few (length old) more (snoc_once so_far.mutexes m so_far.once (λ has. so_far.free m has owns)) below in
+    let few : length more ≤ length old = few_below (length old) more (once_push so_far.mutexes m so_far.once (λ has. so_far.free m has owns)) below in
     let long : length more ≡ length so_far.mutexes + 1 = length-append so_far.mutexes (m ∷ []) in
     let all : length listed ≡ length start + length so_far.mutexes = ap (λ (list : List ℕ). length list) so_far.appended ∙ length-append start so_far.mutexes in
     omega (arith, few, long, all)
   where
     inside : (k : ℕ) → IsMember (so_far.mutexes ++ m ∷ []) k → IsMember so_far.mutexes k ⊎ Owns now t k
-    inside k has = elim (member_snoc so_far.mutexes m k has) [
+    inside k has = elim (member_push_cases so_far.mutexes m k has) [
       | inl within ↦ inl within
       | inr last ↦ inr (subst (λ (n : ℕ). Owns now t n) last owns)
     ]
 
-pub all_listed : (old now : List Object) (t : ℕ) (start listed : List ℕ) → ListedSoFar old now t start listed → ((m : ℕ) → Owns now t m → ⊥) → AreListed old t start listed
+pub all_listed : (old now : List Object) (t : ℕ) (start listed : List ℕ) → ListedSoFar old now t start listed → ((m : ℕ) → Owns now t m → ⊥) → Lists (λ m. IsTrue (owned_by (object_at old m) t)) start listed
 all_listed old now t start listed so_far none = record {
-  mutexes = so_far.mutexes;
-  appended = so_far.appended;
+  more = so_far.mutexes;
+  longer = so_far.appended;
   once = so_far.once;
   exactly = λ m. (
     (λ has. (so_far.exactly m).0 (inl has)),

@@ -2,10 +2,12 @@
 use Rattle.std.proofs.Common.{◌≡◌, ◌≢◌, ◌⊎◌, ◌≤◌, ℕ, zero, suc, List, [], ◌∷◌, length, Option, Some, None, refl, sym, ap, ◌∙◌, inl, inr, arith}
 use Rattle.std.proofs.lemmas.Bool.{cases_eq}
 use Rattle.std.proofs.lemmas.Option.{same_Some}
+use Rattle.nt_status.proofs.Lists.{member_same}
 use Rattle.nt_owners.specs.declared.links.Link.{Link}
-use Rattle.nt_owners.specs.Owned.{IsMember, AreOnce, without}
+use Rattle.nt_status.specs.Lists.{IsMember, AreOnce}
+use Rattle.nt_owners.specs.Owned.{without}
 use Rattle.nt_owners.specs.Links.{link_at, then_on, walk, IsChain}
-use Rattle.nt_owners.proofs.ListLemmas.{member_same, other_member, same_test, other_test}
+use Rattle.nt_owners.proofs.ListLemmas.{other_member, same_test, other_test}
 
 -- the walk finds the chain
 pub walk-chain : (links : List Link) (next : Option ℕ → Option ℕ) (previous : ℕ → Option ℕ) → ((m : ℕ) → next (Some m) ≡ (link_at links m).next) → (count : ℕ) (at : Option ℕ) (list : List ℕ) → IsChain next previous at list → length list ≤ count → walk links count (next at) ≡ list

@@ -1,12 +1,11 @@
 -- Lists in which no mutex stands twice.
-use Rattle.std.proofs.Common.{◌≡◌, ◌≢◌, ◌≤◌, ◌<◌, ◌+◌, ◌⊎◌, ℕ, set, zero, suc, true, false, eqb, List, [], ◌∷◌, length, refl, sym, ap, ◌∙◌, subst, inl, inr, arith}
+use Rattle.std.proofs.Common.{◌≡◌, ◌≢◌, ◌<◌, ℕ, set, true, false, eqb, List, [], ◌∷◌, length, sym, ap, ◌∙◌, subst, inl, inr, arith}
 use Rattle.std.proofs.lemmas.Bool.{cases_eq, cases_lt}
 use Rattle.std.proofs.lemmas.List.{get_or-set_same, get_or-set_other, get_or_past}
 use Rattle.std.proofs.lemmas.Bool.Decides.{nat_tests}
-use Rattle.nt_owners.specs.Owned.{IsMember, AreOnce, list_of, without}
-
-pub member_same : (list : List ℕ) (k m : ℕ) → k ≡ m → IsMember list k → IsMember list m
-member_same list k m e has = subst (λ n. IsMember list n) e has
+use Rattle.nt_status.specs.Lists.{IsMember, AreOnce}
+use Rattle.nt_status.proofs.Lists.{member_same}
+use Rattle.nt_owners.specs.Owned.{list_of, without}
 
 pub other_member : (first : ℕ) (list : List ℕ) (m : ℕ) → first ≢ m → IsMember (first ∷ list) m → IsMember list m
 other_member first list m differs (inl same) = absurd (differs same)
@@ -57,29 +56,7 @@ without_once m (x ∷ list) once = elim (cases_eq x m) [
   | inr differs ↦ rw (other_test x m differs) ((λ has. once.0 (without_member m x list has)), without_once m list once.1)
 ]
 
-length-without : (m : ℕ) (list : List ℕ) → length list ≤ length (without m list) + 1
-length-without m [] = omega arith
-length-without m (x ∷ list) = elim (cases_eq x m) [
-  | inl same ↦ rw (same_test x m same) (omega arith)
-  | inr differs ↦ rw (other_test x m differs) (let rest = length-without m list in omega (arith, rest))
-]
-
--- there are no more than n numbers below n
-pub once_few : (n : ℕ) (list : List ℕ) → AreOnce list → ((m : ℕ) → IsMember list m → m < n) → length list ≤ n
-once_few zero [] once below = omega arith
-once_few zero (x ∷ list) once below = let lt = below x (inl refl) in absurd (omega (arith, lt))
-once_few (suc n) list once below =
-    let fewer = length-without n list in
-    let rest = once_few n (without n list) (without_once n list once) smaller in
-    omega (arith, fewer, rest)
-  where
-    smaller : (m : ℕ) → IsMember (without n list) m → m < n
-    smaller m has =
-        let lt = below m (without_member n m list has) in
-        let differs : m ≢ n = λ e. without_itself n list once (member_same (without n list) m n e has) in
-        omega (arith, lt, differs)
-
--- ---- a mutex comes to one of several lists, or leaves it
+-- ---- a mutex leaves one of several lists
 
 module _ (lists : List (List ℕ)) (t h : ℕ) (known : t < length lists) where
   here : (list : List ℕ) → list_of (set lists t list) t ≡ list
@@ -90,29 +67,6 @@ module _ (lists : List (List ℕ)) (t h : ℕ) (known : t < length lists) where
 
   at_t : (list : List ℕ) (u : ℕ) → u ≡ t → list_of (set lists t list) u ≡ list
   at_t list u same = ap (λ v. list_of (set lists t list) v) same ∙ here list
-
-  pub added_member : (u m : ℕ) → IsMember (list_of (set lists t (h ∷ list_of lists t)) u) m → ((u ≡ t) × (m ≡ h)) ⊎ IsMember (list_of lists u) m
-  added_member u m has = elim (cases_eq u t) [
-    | inl same ↦ first_or same (subst (λ (list : List ℕ). IsMember list m) (at_t (h ∷ list_of lists t) u same) has)
-    | inr differs ↦ inr (subst (λ (list : List ℕ). IsMember list m) (elsewhere (h ∷ list_of lists t) u differs) has)
-  ]
-    where
-      first_or : u ≡ t → IsMember (h ∷ list_of lists t) m → ((u ≡ t) × (m ≡ h)) ⊎ IsMember (list_of lists u) m
-      first_or same (inl e) = inl (same, sym e)
-      first_or same (inr later) = inr (subst (λ (v : ℕ). IsMember (list_of lists v) m) (sym same) later)
-
-  pub member_added : (u m : ℕ) → ((u ≡ t) × (m ≡ h)) ⊎ IsMember (list_of lists u) m → IsMember (list_of (set lists t (h ∷ list_of lists t)) u) m
-  member_added u m (inl new) = subst (λ (list : List ℕ). IsMember list m) (sym (at_t (h ∷ list_of lists t) u new.0)) (inl (sym new.1))
-  member_added u m (inr old) = elim (cases_eq u t) [
-    | inl same ↦ subst (λ (list : List ℕ). IsMember list m) (sym (at_t (h ∷ list_of lists t) u same)) (inr (subst (λ (v : ℕ). IsMember (list_of lists v) m) same old))
-    | inr differs ↦ subst (λ (list : List ℕ). IsMember list m) (sym (elsewhere (h ∷ list_of lists t) u differs)) old
-  ]
-
-  pub added_once : (u : ℕ) → (IsMember (list_of lists t) h → ⊥) → AreOnce (list_of lists t) → AreOnce (list_of lists u) → AreOnce (list_of (set lists t (h ∷ list_of lists t)) u)
-  added_once u absent once others = elim (cases_eq u t) [
-    | inl same ↦ subst AreOnce (sym (at_t (h ∷ list_of lists t) u same)) (absent, once)
-    | inr differs ↦ subst AreOnce (sym (elsewhere (h ∷ list_of lists t) u differs)) others
-  ]
 
   pub removed_member : (u m : ℕ) → AreOnce (list_of lists t) → IsMember (list_of (set lists t (without h (list_of lists t))) u) m → IsMember (list_of lists u) m × (u ≡ t → m ≢ h)
   removed_member u m once has = elim (cases_eq u t) [

@@ -1,5 +1,5 @@
 -- A mutex passes from one owner's list to another's, and the lists agree with the objects still.
-use Rattle.std.proofs.Common.{◌≡◌, ◌≢◌, ◌≤◌, ◌<◌, ◌⊎◌, ℕ, set, true, false, List, [], ◌∷◌, ◌++◌, length, zero, suc, refl, sym, ap, ◌∙◌, subst, inl, inr, arith, Option, Some, None}
+use Rattle.std.proofs.Common.{◌≡◌, ◌≢◌, ◌<◌, ◌⊎◌, ℕ, set, true, false, List, [], ◌∷◌, ◌++◌, length, zero, suc, refl, sym, ap, ◌∙◌, subst, inl, inr, Option, Some, None}
 use Rattle.std.specs.Prelude.{◌↔◌, IsTrue, IfSome, slice_get}
 use Rattle.std.proofs.lemmas.Bool.{cases_eq, cases_lt, false≢true}
 use Rattle.std.proofs.lemmas.Option.{same_Some, none-some}
@@ -7,19 +7,14 @@ use Rattle.std.proofs.lemmas.List.{get_or-set_same, get_or-set_other, get_or_pas
 use Rattle.nt_objects.specs.declared.object.Object.{Object}
 use Rattle.nt_objects.specs.declared.object.Object.TheVariants.{Event, Semaphore, Mutex, Timer, Thread, Gone}
 use Rattle.nt_objects.specs.Object.{owner_of, owned_by, abandoned_by}
-use Rattle.nt_owners.specs.Owned.{IsMember, AreOnce, IsUnowned, list_of, after_first, added, removed}
+use Rattle.nt_status.specs.Lists.{IsMember, AreOnce}
+use Rattle.nt_status.proofs.Lists.{first_member}
+use Rattle.nt_owners.specs.Owned.{list_of, after_first, removed}
 use Rattle.nt_owners.specs.Objects.{object_at, OwnersAgree, IsPassed}
-use Rattle.nt_owners.proofs.SoundLemmas.{head_in, without_head}
-use Rattle.nt_owners.proofs.ListLemmas.{same_test, other_test, listed_known, added_member, member_added, added_once, removed_member, member_removed, removed_once}
+use Rattle.nt_owners.proofs.SoundLemmas.{without_head}
+use Rattle.nt_owners.proofs.ListLemmas.{same_test, other_test, listed_known, removed_member, member_removed, removed_once}
 
 -- ---- lists
-
-pub passed_nowhere : (lists : List (List ℕ)) (m : ℕ) (from to : Option ℕ) → ((t : ℕ) → IsMember (list_of lists t) m ↔ (from ≡ Some t)) → ((t : ℕ) → AreOnce (list_of lists t)) → from ≡ to → IsPassed lists lists m to
-passed_nowhere lists m from to itself once same = record {
-  itself = λ t. ((λ has. sym same ∙ (itself t).0 has), λ e. (itself t).1 (same ∙ e));
-  others = λ t k differs. ((λ has. has), λ has. has);
-  once = once;
-}
 
 pub removed_passed : (lists : List (List ℕ)) (t m : ℕ) → ((u : ℕ) → IsMember (list_of lists u) m ↔ (Some t ≡ Some u)) → ((u : ℕ) → AreOnce (list_of lists u)) → IsPassed lists (removed lists t m) m None
 removed_passed lists t m itself once =
@@ -29,35 +24,6 @@ removed_passed lists t m itself once =
       others = λ u k differs. ((λ has. (removed_member lists t m known u k (once t) has).0), λ has. member_removed lists t m known u k differs has);
       once = λ u. removed_once lists t m known u (once t) (once u);
     }
-
-pub added_passed : (lists : List (List ℕ)) (t m : ℕ) → t < length lists → IsUnowned lists m → ((u : ℕ) → AreOnce (list_of lists u)) → IsPassed lists (added lists t m) m (Some t)
-added_passed lists t m known unowned once = record {
-  itself = λ u. (
-    (λ has. elim (added_member lists t m known u m has) [
-      | inl new ↦ ap Some (sym new.0)
-      | inr old ↦ absurd (unowned u old)
-    ]),
-    λ e. member_added lists t m known u m (inl (same_Some u t (sym e), refl)),
-  );
-  others = λ u k differs. (
-    (λ has. elim (added_member lists t m known u k has) [
-      | inl new ↦ absurd (differs new.1)
-      | inr old ↦ old
-    ]),
-    λ has. member_added lists t m known u k (inr has),
-  );
-  once = λ u. added_once lists t m known u (unowned t) (once t) (once u);
-}
-
-pub passed_on : (a b c : List (List ℕ)) (m : ℕ) (via to : Option ℕ) → IsPassed a b m via → IsPassed b c m to → IsPassed a c m to
-passed_on a b c m via to first second = record {
-  itself = second.itself;
-  others = λ t k differs. ((λ has. (first.others t k differs).0 ((second.others t k differs).0 has)), λ has. (second.others t k differs).1 ((first.others t k differs).1 has));
-  once = second.once;
-}
-
-pub nowhere_unowned : (a b : List (List ℕ)) (m : ℕ) → IsPassed a b m None → IsUnowned b m
-nowhere_unowned a b m passed t has = none-some t ((passed.itself t).0 has)
 
 -- ---- objects
 
@@ -95,11 +61,6 @@ pub agree_put : (objects : List Object) (lists lists' : List (List ℕ)) (m : �
 agree_put objects lists lists' m o known agree passed =
     agree_passed objects (set objects m o) lists lists' m (owner_of o) agree passed (ap owner_of (get_or-set_same objects m o (Thread false) known)) (λ k differs. get_or-set_other objects m k o (Thread false) differs)
 
--- nobody owns what is not there
-pub past_unowned : (objects : List Object) (lists : List (List ℕ)) (m : ℕ) → length objects ≤ m → OwnersAgree objects lists → (t : ℕ) → IsMember (list_of lists t) m ↔ (None ≡ Some t)
-past_unowned objects lists m past agree t =
-    ((λ has. absurd (none-some t (ap owner_of (sym (get_or_past objects m (Thread false) past)) ∙ (agree_owner objects lists m agree t).0 has))), λ e. absurd (none-some t e))
-
 -- whoever is to own the object has a list
 pub owner_known : (o : Object) (n : ℕ) → ((t : ℕ) → owned_by o t ≡ true → t < n) → (t : ℕ) → owner_of o ≡ Some t → t < n
 owner_known (Mutex (Some owner) depth abandoned) n below t e = below t (same_test owner t (same_Some owner t e))
@@ -127,7 +88,7 @@ agree_added objects lists lists' o agree passed =
 -- ---- the mutex that came last leaves its owner's list
 
 pub first_owner : (objects : List Object) (lists : List (List ℕ)) (t m : ℕ) → OwnersAgree objects lists → slice_get (list_of lists t) 0 ≡ Some m → owner_of (object_at objects m) ≡ Some t
-first_owner objects lists t m agree is = (agree_owner objects lists m agree t).0 (head_in (list_of lists t) m is)
+first_owner objects lists t m agree is = (agree_owner objects lists m agree t).0 (first_member (list_of lists t) m is)
 
 pub owned_below : (objects : List Object) (t m : ℕ) → owner_of (object_at objects m) ≡ Some t → m < length objects
 owned_below objects t m owned = elim (cases_lt m (length objects)) [
@@ -162,14 +123,6 @@ agree_abandoned objects lists t m agree is =
     let after = set lists t (after_first (list_of lists t)) in
     agree_put objects lists after m (abandoned_by t (object_at objects m)) (owned_below objects t m owner) agree
     (subst (λ (to : Option ℕ). IsPassed lists after m to) (sym (abandoned_free (object_at objects m) t owner)) (popped_passed objects lists t m agree is))
-
-pub fewer_popped : (lists : List (List ℕ)) (t m : ℕ) → slice_get (list_of lists t) 0 ≡ Some m → length (list_of (set lists t (after_first (list_of lists t))) t) < length (list_of lists t)
-fewer_popped lists t m is =
-    subst (λ (list : List ℕ). length list < length (list_of lists t)) (sym (get_or-set_same lists t (after_first (list_of lists t)) [] (listed_known lists t m (head_in (list_of lists t) m is)))) (go (list_of lists t) is)
-  where
-    go : (list : List ℕ) → slice_get list 0 ≡ Some m → length (after_first list) < length list
-    go [] e = absurd (none-some m e)
-    go (x ∷ list) e = omega arith
 
 -- whoever is to own the object in the place of another has a list
 pub heir_known : (objects : List Object) (lists : List (List ℕ)) (m : ℕ) (o : Object) → OwnersAgree objects lists → ((t : ℕ) → owned_by o t ≡ true → (owned_by (object_at objects m) t ≡ true) ⊎ (t < length lists)) → (t : ℕ) → owner_of o ≡ Some t → t < length lists

@@ -4,10 +4,12 @@ use Rattle.std.proofs.lemmas.Bool.{cases_eq, cases_lt}
 use Rattle.std.proofs.lemmas.List.{get_or-set_same, get_or-set_other, length-set, length-map, ext_get_or, get_or_past}
 use Rattle.std.proofs.lemmas.Option.{same_Some, none-some}
 use Rattle.std.specs.Prelude.{slice_get}
+use Rattle.nt_status.proofs.Lists.{member_same, few_below}
 use Rattle.nt_owners.specs.declared.links.Link.{Link}
-use Rattle.nt_owners.specs.Owned.{Owned, IsMember, AreOnce, IsUnowned, list_of, without, after_first}
+use Rattle.nt_status.specs.Lists.{IsMember, AreOnce}
+use Rattle.nt_owners.specs.Owned.{Owned, IsUnowned, list_of, without, after_first}
 use Rattle.nt_owners.specs.Links.{alone, link_at, first_at, next_at, previous_at, with_first, with_next, with_previous, walk, list_in, lists_in, IsChain, IsListed, IsSound}
-use Rattle.nt_owners.proofs.ListLemmas.{member_same, same_test, without_member, without_once, once_few}
+use Rattle.nt_owners.proofs.ListLemmas.{same_test, without_member, without_once}
 use Rattle.nt_owners.proofs.ChainLemmas.{walk-chain, next_in, previous_in, chain_kept, chain_entered, chain_left}
 
 -- ---- the lists in the view are those that the links say
@@ -25,7 +27,7 @@ list-view firsts links t = at firsts t
     at (f ∷ fs) (suc u) = at fs u
 
 pub walked : (firsts : List (Option ℕ)) (links : List Link) (owned : ℕ → List ℕ) → IsListed firsts links owned → (t : ℕ) → list_in firsts links t ≡ owned t
-walked firsts links owned listed t = walk-chain links (next_at firsts links t) (previous_at links) (λ m. refl) (length links) None (owned t) (listed.chain t) (once_few (length links) (owned t) (listed.once t) (listed.below t))
+walked firsts links owned listed t = walk-chain links (next_at firsts links t) (previous_at links) (λ m. refl) (length links) None (owned t) (listed.chain t) (few_below (length links) (owned t) (listed.once t) (listed.below t))
 
 pub sound_of : (firsts : List (Option ℕ)) (links : List Link) (owned : ℕ → List ℕ) → IsListed firsts links owned → IsSound firsts links
 sound_of firsts links owned listed =
@@ -356,18 +358,10 @@ first-list firsts links t sound = head (list_in firsts links t) (sound.chain t) 
     head [] chain = chain
     head (m ∷ list) chain = chain.0
 
-pub head_in : (list : List ℕ) (m : ℕ) → slice_get list 0 ≡ Some m → IsMember list m
-head_in [] m e = absurd (none-some m e)
-head_in (x ∷ list) m e = inl (same_Some x m e)
-
 -- without the first of them, what stands after it is left
 pub without_head : (list : List ℕ) (m : ℕ) → slice_get list 0 ≡ Some m → without m list ≡ after_first list
 without_head [] m e = refl
 without_head (x ∷ list) m e = rw (same_test x m (same_Some x m e)) refl
-
-pub none_after : (list : List ℕ) → slice_get list 0 ≡ None → after_first list ≡ list
-none_after [] e = refl
-none_after (x ∷ list) e = absurd (none-some x (sym e))
 
 -- ---- nobody owns anything
 

@@ -1,7 +1,7 @@
 -- How the lists lie in the links. No public clause cites this module.
 use Rattle.std.specs.Prelude.{◌≡◌, ℕ, zero, suc, ◌<◌, List, [], ◌∷◌, map, length, slice_index_or, slice_set, Option, Some, None}
 use Rattle.nt_owners.specs.declared.links.Link.{Link}
-use Rattle.nt_owners.specs.Owned.{IsMember, AreOnce}
+use Rattle.nt_status.specs.Lists.{IsMember, AreOnce}
 
 -- the link of a mutex that stands alone
 abbrev pub alone : Link

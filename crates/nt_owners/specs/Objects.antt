@@ -1,9 +1,10 @@
 -- What callers see of `ObjectTable`.
-use Rattle.std.specs.Prelude.{◌≡◌, ◌≢◌, ◌↔◌, ℕ, false, IsTrue, Option, Some, List, ◌++◌, slice_index_or}
+use Rattle.std.specs.Prelude.{◌≡◌, ◌≢◌, ◌↔◌, ℕ, false, IsTrue, Option, Some, List, slice_index_or}
 use Rattle.nt_objects.specs.declared.object.Object.{Object}
 use Rattle.nt_objects.specs.declared.object.Object.TheVariants.{Thread}
 use Rattle.nt_objects.specs.Object.{owned_by}
-use Rattle.nt_owners.specs.Owned.{list_of, IsMember, AreOnce}
+use Rattle.nt_status.specs.Lists.{IsMember, AreOnce}
+use Rattle.nt_owners.specs.Owned.{list_of}
 
 -- the object at each handle, for each thread the mutexes that it owns, and how many objects there is room for
 pub record Objects : Type 0 where
@@ -25,10 +26,3 @@ pub record IsPassed (old new : List (List ℕ)) (mutex : ℕ) (to : Option ℕ) 
   pub itself : (t : ℕ) → IsMember (list_of new t) mutex ↔ (to ≡ Some t)
   pub others : (t m : ℕ) → m ≢ mutex → IsMember (list_of new t) m ↔ IsMember (list_of old t) m
   pub once : (t : ℕ) → AreOnce (list_of new t)
-
--- after those listed before come the mutexes that the thread owned, each once
-pub record AreListed (objects : List Object) (t : ℕ) (old new : List ℕ) : Type 0 where
-  pub mutexes : List ℕ
-  pub appended : new ≡ old ++ mutexes
-  pub once : AreOnce mutexes
-  pub exactly : (m : ℕ) → IsMember mutexes m ↔ IsTrue (owned_by (object_at objects m) t)

@@ -1,5 +1,6 @@
 -- What callers see of `Owners`.
-use Rattle.std.specs.Prelude.{◌≡◌, ◌⊎◌, ℕ, ◌==◌, List, [], ◌∷◌, if◌then◌else◌, slice_index_or, slice_set}
+use Rattle.std.specs.Prelude.{ℕ, ◌==◌, List, [], ◌∷◌, if◌then◌else◌, slice_index_or, slice_set}
+use Rattle.nt_status.specs.Lists.{IsMember}
 
 -- for each thread the mutexes that it owns, the one that came last first; each mutex below `room` may come to a list
 pub record Owned : Type 0 where
@@ -9,16 +10,6 @@ pub record Owned : Type 0 where
 -- the mutexes that a thread owns
 abbrev pub list_of : List (List ℕ) → ℕ → List ℕ
 list_of lists thread = slice_index_or lists thread []
-
--- the mutex stands in the list
-abbrev pub IsMember : List ℕ → ℕ → Type 0
-IsMember [] mutex = ⊥
-IsMember (first ∷ list) mutex = (first ≡ mutex) ⊎ IsMember list mutex
-
--- no mutex stands twice
-abbrev pub AreOnce : List ℕ → Type 0
-AreOnce [] = Unit {0}
-AreOnce (first ∷ list) = (IsMember list first → ⊥) × AreOnce list
 
 -- the mutex stands in no thread's list
 abbrev pub IsUnowned : List (List ℕ) → ℕ → Type 0

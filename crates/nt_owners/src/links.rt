@@ -1,7 +1,8 @@
 //! The links of mutexes, and the changes of one list.
 ghost use Rattle.std.specs.Prelude.{◌≡◌, ℕ, ◌<◌, ◌≤◌, ◌∷◌, None, IfOk, length, replicate, slice_set, vec_len, vec_capacity};
 ghost use Rattle.std.specs.Option.{ForSome};
-ghost use Rattle.nt_owners.specs.Owned.{IsMember, without};
+ghost use Rattle.nt_status.specs.Lists.{IsMember};
+ghost use Rattle.nt_owners.specs.Owned.{without};
 ghost use Rattle.nt_owners.specs.Links.{link_at, first_at, with_first, with_next, with_previous, list_in, lists_in, IsSound};
 
 use nt_status::{Handle, ThreadId};

@@ -1,5 +1,6 @@
 ghost use Rattle.std.specs.Prelude.{◌≡◌, ◌<◌, ◌≤◌, [], length, replicate, slice_get, slice_set, IfOk, OnOk, OnErr};
-ghost use Rattle.nt_owners.specs.Owned.{Owned, list_of, IsMember, IsUnowned, after_first, added, removed};
+ghost use Rattle.nt_status.specs.Lists.{IsMember};
+ghost use Rattle.nt_owners.specs.Owned.{Owned, list_of, IsUnowned, after_first, added, removed};
 
 use crate::links::{Link, add_links, enter, first_of, leave, no_firsts};
 use nt_status::{Handle, ThreadId};

@@ -1,13 +1,14 @@
 //! The objects by handle, with the lists of those that are owned.
-ghost use Rattle.std.specs.Prelude.{◌≡◌, ◌≢◌, ◌<◌, ◌≤◌, ◌⊎◌, ◌+◌, ◌↔◌, ◌++◌, ◌∷◌, ◌^◌, ℕ, [], true, false, None, Some, length, map, replicate, slice_get, slice_set, vec_len, vec_capacity, not, IsTrue, IsOk, IfOk, IfErr, IfSome, IfNone, OnOk, OnErr};
-ghost use Rattle.std.specs.Option.{ForSome};
+ghost use Rattle.std.specs.Prelude.{◌≡◌, ◌<◌, ◌≤◌, ◌⊎◌, ◌+◌, ◌↔◌, ◌++◌, ◌∷◌, ◌^◌, ℕ, [], true, false, None, Some, length, map, replicate, slice_set, vec_len, vec_capacity, not, IsTrue, IsOk, IfOk, IfErr, IfSome, IfNone, OnOk, OnErr, is_some};
+ghost use Rattle.std.specs.Option.{ForSome, OnSome};
 ghost use Rattle.nt_objects.specs.declared.object.Object.TheVariants.{Thread};
 ghost use Rattle.std.specs.Result.{result_err};
 ghost use Rattle.nt_objects.specs.Object.{is_event, is_semaphore, is_mutex, count_of, owner_of, owned_by, abandoned_by};
 ghost use Rattle.nt_objects.specs.Object.{signaled, taken, has_room, TellsAbandoned};
 ghost use Rattle.nt_objects.specs.Object.{with_set, released, release_refusal, unlocked};
-ghost use Rattle.nt_owners.specs.Owned.{list_of, IsMember, AreOnce, IsUnowned};
-ghost use Rattle.nt_owners.specs.Objects.{object_at, OwnersAgree, IsPassed, AreListed};
+ghost use Rattle.nt_status.specs.Lists.{IsMember, AreOnce, Lists};
+ghost use Rattle.nt_owners.specs.Owned.{list_of, IsUnowned};
+ghost use Rattle.nt_owners.specs.Objects.{object_at, OwnersAgree, IsPassed};
 
 use crate::owners::Owners;
 use nt_objects::{Armed, Object, Released, Routine, Taken};
@@ -116,7 +117,7 @@ fn abandon_each(
     requires room { vec_len listed.old + length objects.old ≤ vec_capacity listed.old }
     ensures agree { OwnersAgree objects.new owners.new.lists }
     ensures objects { objects.new ≡ map (abandoned_by thread) objects.old }
-    ensures listed { AreListed objects.old thread listed.old.items listed.new.items }
+    ensures listed { Lists (λ m. IsTrue (owned_by (object_at objects.old m) thread)) listed.old.items listed.new.items }
     ensures capacity { vec_capacity listed.new ≡ vec_capacity listed.old }
     ensures room { owners.new.room ≡ owners.old.room }
     ensures threads { length owners.new.lists ≡ length owners.old.lists }
@@ -269,8 +270,30 @@ impl ObjectTable {
         Ok(released)
     }
 
-    /// The thread takes the object at this handle, which is signaled for it, and learns what that tells. A mutex that was free joins
-    /// the thread's list.
+    /// Where the object at this handle is signaled for the thread, the thread takes it, and learns what that tells. A mutex that
+    /// was free joins the thread's list. An object that there is not is signaled for none.
+    #[inline(always)]
+    pub fn try_take(&mut self, handle: Handle, thread: ThreadId) -> Option<Taken>
+        requires room { signaled (object_at self.old.items handle) thread ≡ true
+            → IsTrue (has_room (object_at self.old.items handle)) }
+        requires thread { thread < length self.old.owned }
+        ensures signaled { is_some result ≡ signaled (object_at self.old.items handle) thread }
+        ensures items { OnSome result (self.new.items
+            ≡ slice_set self.old.items handle (taken (object_at self.old.items handle) thread)) }
+        ensures answer { IfSome result (λ told. TellsAbandoned told (object_at self.old.items handle)) }
+        ensures threads { length self.new.owned ≡ length self.old.owned }
+        ensures none { IfNone result (self.new ≡ self.old) }
+    {
+        let object = self.objects.get_mut(handle.get() as usize)?;
+        let joins = object.is_mutex() && object.owner().is_none();
+        let taken = object.try_take(thread)?;
+        if joins {
+            self.owners.add(thread, handle);
+        }
+        Some(taken)
+    }
+
+    /// The thread takes the object at this handle, which is signaled for it, and learns what that tells.
     #[inline(always)]
     pub fn take(&mut self, handle: Handle, thread: ThreadId) -> Taken
         requires known { handle < length self.old.items }
@@ -281,12 +304,9 @@ impl ObjectTable {
         ensures answer { TellsAbandoned result (object_at self.old.items handle) }
         ensures threads { length self.new.owned ≡ length self.old.owned }
     {
-        let object = &mut self.objects[handle.get() as usize];
-        let joins = object.is_mutex() && object.owner().is_none();
-        let taken = object.take_for(thread);
-        if joins {
-            self.owners.add(thread, handle);
-        }
+        let Some(taken) = self.try_take(handle, thread) else {
+            unreachable!()
+        };
         taken
     }
 
@@ -294,7 +314,7 @@ impl ObjectTable {
     pub fn abandon_all(&mut self, thread: ThreadId, listed: &mut Vec<Handle>)
         requires { vec_len listed.old + length self.old.items ≤ vec_capacity listed.old }
         ensures items { self.new.items ≡ map (abandoned_by thread) self.old.items }
-        ensures listed { AreListed self.old.items thread listed.old.items listed.new.items }
+        ensures listed { Lists (λ m. IsTrue (owned_by (object_at self.old.items m) thread)) listed.old.items listed.new.items }
         ensures capacity { vec_capacity listed.new ≡ vec_capacity listed.old }
         ensures threads { length self.new.owned ≡ length self.old.owned }
     {

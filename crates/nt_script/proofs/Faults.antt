@@ -1,7 +1,8 @@
 -- The fault at which the parser stops is the first one.
-use Rattle.std.proofs.Common.{◌≡◌, ℕ, ◌^◌, Bool, true, false, List, [], ◌∷◌, length, nat_le, Option, Some, None, Result, Ok, Err, refl, sym, ap, ◌∙◌, codes}
+use Rattle.std.proofs.Common.{◌≡◌, ℕ, Bool, true, false, List, [], ◌∷◌, length, nat_le, Option, Some, None, Result, Ok, Err, refl, sym, ap, ◌∙◌, codes}
 use Rattle.std.specs.List.{list_all}
 use Rattle.std.specs.Str.{bytes_eq}
+use Rattle.nt_status.specs.declared.limits.TheConstants.{MAX_MOMENT, MAX_THREADS}
 use Rattle.nt_lines.specs.Words.{text_of, words_of, is_plain, caller_of}
 use Rattle.nt_script.specs.Scope.{Scope}
 use Rattle.nt_script.specs.Keywords.{keyword_of}
@@ -107,7 +108,7 @@ caller_faults scope who (word ∷ words) = by (keyword_of word) refl
 
 tick : (scope : Scope) (words : Words) → fault_of (tick_at words) ≡ shape_fault scope (only (MomentPlace ∷ [])) words
 unfolding tick_at
-tick scope words = places_faults scope (options_fault []) (NumberPlace 0 (2 ^ 62) ∷ []) (λ values rest. end_at rest >>= λ ended. Ok (Tick values.0)) (λ values rest. ends _ rest) words
+tick scope words = places_faults scope (options_fault []) (NumberPlace 0 MAX_MOMENT ∷ []) (λ values rest. end_at rest >>= λ ended. Ok (Tick values.0)) (λ values rest. ends _ rest) words
 
 statement : (scope : Scope) (words : Words) → fault_of (statement_at scope words) ≡ words_fault scope words
 unfolding statement_at
@@ -125,7 +126,7 @@ opening [] = refl
 opening (first ∷ words) = by (is_word first (codes "threads")) refl
   where
     by : (b : Bool) → is_word first (codes "threads") ≡ b → fault_of (opening_at (first ∷ words)) ≡ opening_fault (first ∷ words)
-    by true e = rw e (places_faults (record { threads = 0; names = [] }) (options_fault []) (NumberPlace 1 256 ∷ []) (λ values rest. end_at rest >>= λ ended. Ok (Some values.0)) (λ values rest. ends _ rest) words)
+    by true e = rw e (places_faults (record { threads = 0; names = [] }) (options_fault []) (NumberPlace 1 MAX_THREADS ∷ []) (λ values rest. end_at rest >>= λ ended. Ok (Some values.0)) (λ values rest. ends _ rest) words)
     by false e = rw e refl
 
 -- ---- a whole line

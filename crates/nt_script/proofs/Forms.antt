@@ -1,8 +1,9 @@
 -- The parser reads a statement only where the words are that statement.
-use Rattle.std.proofs.Common.{◌≡◌, ℕ, ◌^◌, Bool, true, false, List, [], ◌∷◌, ◌++◌, length, nat_le, Option, Some, None, Result, Ok, Err, refl, ap, subst, ◌∙◌, codes}
+use Rattle.std.proofs.Common.{◌≡◌, ℕ, Bool, true, false, List, [], ◌∷◌, ◌++◌, length, nat_le, Option, Some, None, Result, Ok, Err, refl, ap, subst, ◌∙◌, codes}
 use Rattle.std.specs.List.{list_all}
 use Rattle.std.specs.Str.{bytes_eq}
 use Rattle.std.proofs.lemmas.Slice.Eq.{bytes_eq-Decides}
+use Rattle.nt_status.specs.declared.limits.TheConstants.{MAX_MOMENT, MAX_THREADS}
 use Rattle.nt_lines.specs.Words.{text_of, words_of, is_plain, caller_of}
 use Rattle.nt_script.specs.Scope.{Scope}
 use Rattle.nt_script.specs.Keywords.{creations, acts, other_calls, keyword_among, or_keyword, keyword_of}
@@ -109,16 +110,16 @@ statement_said scope (first ∷ words) st e = by (is_word first (codes "tick")) 
   where
     by : (b : Bool) (o : Option ℕ) → is_word first (codes "tick") ≡ b → caller_of first ≡ o → IsStatement scope st (first ∷ words)
     by true o is caller =
-        let said = number_said 0 (2 ^ 62) (λ moment. Tick moment) words st (rw is at e) in
+        let said = number_said 0 MAX_MOMENT (λ moment. Tick moment) words st (rw is at e) in
         (Moment said.number, said.made, (bytes_eq-true _ _ is, said.spells scope))
     by false None is caller = absurd (err_is st _ (rw caller at (rw is at e)))
     by false (Some who) is caller = caller_said scope who first words st caller (rw caller at (rw is at e))
 
 -- ---- before `threads`
 
-opened_by : (words : Words) (found : Option ℕ) → threads_at words ≡ Ok found → SaidNumber (Option ℕ) 1 256 (λ n. Some n) words found
+opened_by : (words : Words) (found : Option ℕ) → threads_at words ≡ Ok found → SaidNumber (Option ℕ) 1 MAX_THREADS (λ n. Some n) words found
 unfolding threads_at
-opened_by words found e = number_said 1 256 (λ n. Some n) words found e
+opened_by words found e = number_said 1 MAX_THREADS (λ n. Some n) words found e
 
 opening_said : (words : Words) (threads : ℕ) → opening_at words ≡ Ok (Some threads) → IsOpening threads words
 unfolding opening_at
@@ -129,7 +130,7 @@ opening_said (first ∷ words) threads e = by (is_word first (codes "threads")) 
     by true is =
         let opened = opened_by words (Some threads) (rw is at e) in
         let same : opened.number ≡ threads = let h : Some opened.number ≡ Some threads = opened.made in (cc) in
-        (bytes_eq-true _ _ is, subst (λ (n : ℕ). Spells (record { threads = 0; names = [] }) (Value (NumberPlace 1 256) n ∷ []) words) same (opened.spells (record { threads = 0; names = [] })))
+        (bytes_eq-true _ _ is, subst (λ (n : ℕ). Spells (record { threads = 0; names = [] }) (Value (NumberPlace 1 MAX_THREADS) n ∷ []) words) same (opened.spells (record { threads = 0; names = [] })))
     by false is = absurd (err_is (Some threads) ThreadsExpected (rw is at e))
 
 blank_said : (words : Words) → opening_at words ≡ Ok None → words ≡ []

@@ -7,7 +7,7 @@ use Rattle.std.specs.Fmt.{decimal, signed_decimal}
 use Rattle.std.proofs.lemmas.Bool.{le-leb, leb-true, ltb-true}
 use Rattle.std.proofs.lemmas.Fmt.{length-decimal-le}
 use Rattle.std.proofs.lemmas.Slice.Eq.{bytes_eq-Decides}
-use Rattle.nt_status.specs.Status.{infinite}
+use Rattle.nt_status.specs.declared.limits.TheConstants.{INFINITE}
 use Rattle.nt_lines.specs.Words.{is_digit, are_digits, is_name, is_name_byte, number_of, up_to}
 use Rattle.nt_script.specs.Plain.{plain_word}
 use Rattle.nt_script.specs.Scope.{Scope, bound_in}
@@ -118,25 +118,25 @@ no_inf word h = by (is_word word (codes "inf")) refl
     by false is = is
 
 time_read : (ms : ℕ) → ms < 2 ^ 32 → time_in (time_word ms) ≡ Some ms
-time_read ms small = by (ms == infinite) refl
+time_read ms small = by (ms == INFINITE) refl
   where
-    by : (b : Bool) → (ms == infinite) ≡ b → time_in (time_word ms) ≡ Some ms
-    by true is = let same : ms ≡ infinite = search (arith, is) in rw is (ap (λ (n : ℕ). Some n) (sym same))
+    by : (b : Bool) → (ms == INFINITE) ≡ b → time_in (time_word ms) ≡ Some ms
+    by true is = let same : ms ≡ INFINITE = search (arith, is) in rw is (ap (λ (n : ℕ). Some n) (sym same))
     by false is =
         let digits = (decimal_digits ms (omega (arith, small))).digits in
         rw is (rw (no_inf (decimal ms) digits) (number_in-decimal 0 (2 ^ 32 - 1) ms (omega arith) (omega (arith, small)) (omega (arith, small))))
 
 time_stands : (scope : Scope) (ms : ℕ) (word : List ℕ) → time_in word ≡ Some ms → StandsFor scope word (time_word ms)
-time_stands scope ms word e = by (is_word word (codes "inf")) (ms == infinite) refl refl
+time_stands scope ms word e = by (is_word word (codes "inf")) (ms == INFINITE) refl refl
   where
-    by : (b t : Bool) → is_word word (codes "inf") ≡ b → (ms == infinite) ≡ t → StandsFor scope word (time_word ms)
+    by : (b t : Bool) → is_word word (codes "inf") ≡ b → (ms == INFINITE) ≡ t → StandsFor scope word (time_word ms)
     by true t is at =
-        let same : Some infinite ≡ Some ms = rw is at e in
-        let inf : ms ≡ infinite = (cc) in
+        let same : Some INFINITE ≡ Some ms = rw is at e in
+        let inf : ms ≡ INFINITE = (cc) in
         let word_is : word ≡ codes "inf" = (bytes_eq-Decides word (codes "inf")).0 is in
         inl (ap plain_word word_is ∙ sym (ap time_word inf))
     by false true is at =
-        let inf : ms ≡ infinite = search (arith, at) in
+        let inf : ms ≡ INFINITE = search (arith, at) in
         let number : plain_word word ≡ decimal ms = plain_number 0 (2 ^ 32 - 1) ms word (rw is at e) in
         inr (inl (number ∙ ap decimal inf, rw at refl))
     by false false is at =
@@ -229,9 +229,9 @@ name_is_body [] h = absurd (cc)
 name_is_body (first ∷ others) h = record { bytes = weaker is_name_byte is_body name_body (first ∷ others) (name_is first others h).bytes; some = omega arith }
 
 time_body : (ms : ℕ) → ms < 2 ^ 32 → IsBody (time_word ms)
-time_body ms small = by (ms == infinite) refl
+time_body ms small = by (ms == INFINITE) refl
   where
-    by : (b : Bool) → (ms == infinite) ≡ b → IsBody (time_word ms)
+    by : (b : Bool) → (ms == INFINITE) ≡ b → IsBody (time_word ms)
     by true is = let inf : IsBody (codes "inf") = record { bytes = refl; some = omega arith } in rw is inf
     by false is = rw is (decimal_body ms (omega (arith, small)))
 

@@ -1,6 +1,7 @@
 -- The lines of a script: which words make which statement, and the first fault of words that make none.
 use Rattle.std.specs.Prelude.{◌≡◌, ℕ, ◌+◌, ◌^◌, nat_le, is_some, Bool, true, false, List, [], ◌∷◌, ◌++◌, length, Option, Some, None, if◌then◌else◌, codes}
 use Rattle.std.specs.List.{list_all}
+use Rattle.nt_status.specs.declared.limits.TheConstants.{MAX_THREADS}
 use Rattle.nt_core.specs.declared.call.Call.{Call}
 use Rattle.nt_core.specs.declared.call.Act.{Act}
 use Rattle.nt_core.specs.declared.call.WaitCall.{WaitCall}
@@ -221,7 +222,7 @@ IsStatement scope statement words = (line : Line) × (said_by line ≡ statement
 
 -- the words tell how many threads there are: threads N
 abbrev pub IsOpening : ℕ → List (List ℕ) → Type 0
-IsOpening threads words = Spells (record { threads = 0; names = [] }) (Word (codes "threads") ∷ Value (NumberPlace 1 256) threads ∷ []) words
+IsOpening threads words = Spells (record { threads = 0; names = [] }) (Word (codes "threads") ∷ Value (NumberPlace 1 MAX_THREADS) threads ∷ []) words
 
 -- ---- the first fault
 
@@ -280,7 +281,7 @@ words_fault scope (first ∷ words) =
 abbrev pub opening_fault : List (List ℕ) → Option ScriptFault
 opening_fault [] = None
 opening_fault (first ∷ words) =
-    if is_word first (codes "threads") then shape_fault (record { threads = 0; names = [] }) (only (NumberPlace 1 256 ∷ [])) words else Some ThreadsExpected
+    if is_word first (codes "threads") then shape_fault (record { threads = 0; names = [] }) (only (NumberPlace 1 MAX_THREADS ∷ [])) words else Some ThreadsExpected
 
 -- ---- a whole line
 

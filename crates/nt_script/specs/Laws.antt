@@ -2,7 +2,7 @@
 use Rattle.std.specs.Prelude.{◌≡◌, ℕ, ◌≤◌, ◌⊎◌, Bool, false, List, [], ◌∷◌, ◌++◌, length, Option, Some, codes}
 use Rattle.std.specs.List.{All}
 use Rattle.std.specs.Fmt.{decimal}
-use Rattle.nt_status.specs.Status.{infinite}
+use Rattle.nt_status.specs.declared.limits.TheConstants.{INFINITE}
 use Rattle.nt_core.specs.Runs.{Turn, Calls, Ticks}
 use Rattle.nt_laws.specs.Laws.{wants_memory}
 use Rattle.nt_lines.specs.Words.{words_of, text_of}
@@ -31,7 +31,7 @@ StatementsReadBack =
 abbrev pub StandsFor : Scope → List ℕ → List ℕ → Type 0
 StandsFor scope word text =
     (plain_word word ≡ text)
-    ⊎ ((plain_word word ≡ decimal infinite) × (text ≡ codes "inf"))
+    ⊎ ((plain_word word ≡ decimal INFINITE) × (text ≡ codes "inf"))
     ⊎ ((handle : ℕ) × (named_object scope word ≡ Some handle) × (text ≡ decimal handle))
 
 -- each word stands for the text in its place

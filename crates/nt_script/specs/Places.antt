@@ -1,7 +1,7 @@
 -- What one word of a script may say, and what must stand in a place of a line.
 use Rattle.std.specs.Prelude.{ℕ, ℤ, pos, neg_ℤ, ◌-◌, ◌^◌, ◌&&◌, ◌==◌, nat_lt, nat_le, is_some, not, option_map, drop, Bool, true, false, List, [], ◌∷◌, Option, Some, None, if◌then◌else◌, codes}
 use Rattle.std.specs.Str.{bytes_eq}
-use Rattle.nt_status.specs.Status.{infinite}
+use Rattle.nt_status.specs.declared.limits.TheConstants.{INFINITE, MAX_MOMENT}
 use Rattle.nt_lines.specs.Words.{is_digit, are_digits, number_of, caller_of, is_name, up_to}
 use Rattle.nt_script.specs.Scope.{Scope, bound_in}
 use Rattle.nt_script.specs.declared.fault.ScriptFault.{ScriptFault}
@@ -53,7 +53,7 @@ signed_in half word =
 
 -- milliseconds, or `inf`
 abbrev pub time_in : List ℕ → Option ℕ
-time_in word = if is_word word (codes "inf") then Some infinite else number_in 0 (2 ^ 32 - 1) word
+time_in word = if is_word word (codes "inf") then Some INFINITE else number_in 0 (2 ^ 32 - 1) word
 
 -- whether the wait is alertable
 abbrev pub mode_in : List ℕ → Option Bool
@@ -114,6 +114,6 @@ ValuePlace = NumberPlace 0 (2 ^ 64 - 1)
 abbrev pub AccessPlace : Place
 AccessPlace = NumberPlace 0 (2 ^ 32 - 1)
 
--- 2 ^ 62 is the greatest moment
+-- a moment
 abbrev pub MomentPlace : Place
-MomentPlace = NumberPlace 0 (2 ^ 62)
+MomentPlace = NumberPlace 0 MAX_MOMENT

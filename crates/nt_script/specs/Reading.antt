@@ -1,7 +1,8 @@
 -- How the parser reads a line, word by word from the left, up to the first fault.
-use Rattle.std.specs.Prelude.{◌≡◌, ℕ, ℤ, ◌^◌, ◌==◌, nat_le, Bool, true, false, List, [], ◌∷◌, length, Option, Some, None, Result, Ok, Err, if◌then◌else◌, codes}
+use Rattle.std.specs.Prelude.{◌≡◌, ℕ, ℤ, ◌==◌, nat_le, Bool, true, false, List, [], ◌∷◌, length, Option, Some, None, Result, Ok, Err, if◌then◌else◌, codes}
 use Rattle.std.specs.List.{list_all}
 use Rattle.std.specs.Str.{bytes_eq}
+use Rattle.nt_status.specs.declared.limits.TheConstants.{MAX_MOMENT, MAX_THREADS}
 use Rattle.nt_lines.specs.Words.{text_of, words_of, is_plain, caller_of}
 use Rattle.nt_script.specs.Scope.{Scope}
 use Rattle.nt_script.specs.Places.{Place, NamePlace, ObjectPlace, NumberPlace, SignedPlace, TimePlace, ModePlace, ValuePlace, ValueOf, value_in, blame, is_word, number_in, signed_in, free_name_in, object_in, time_in, mode_in}
@@ -138,7 +139,7 @@ routine_at words = both_at (record { threads = 0; names = [] }) ValuePlace Value
 -- tick M
 unfoldable pub tick_at : List (List ℕ) → Result Statement ScriptFault
 tick_at words = do
-  moment ← number_at 0 (2 ^ 62) words
+  moment ← number_at 0 MAX_MOMENT words
   ended ← end_at moment.1
   Ok (Tick moment.0)
 
@@ -159,7 +160,7 @@ statement_at scope (first ∷ words) = if is_word first (codes "tick") then tick
 
 unfoldable pub threads_at : List (List ℕ) → Result (Option ℕ) ScriptFault
 threads_at words = do
-  n ← number_at 1 256 words
+  n ← number_at 1 MAX_THREADS words
   ended ← end_at n.1
   Ok (Some n.0)
 

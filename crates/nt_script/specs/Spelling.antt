@@ -2,7 +2,7 @@
 use Rattle.std.specs.Prelude.{◌≡◌, ℕ, ℤ, pos, negsuc, ◌<◌, ◌≤◌, ◌^◌, ◌==◌, Bool, true, false, List, [], ◌∷◌, ◌++◌, map, Option, Some, None, if◌then◌else◌, codes}
 use Rattle.std.specs.List.{join_with_byte}
 use Rattle.std.specs.Fmt.{decimal, signed_decimal}
-use Rattle.nt_status.specs.Status.{infinite}
+use Rattle.nt_status.specs.declared.limits.TheConstants.{INFINITE}
 use Rattle.nt_status.specs.Flags.{has_flag, event_manual_reset, event_initial_set, mutex_initial_owner, timer_manual_reset}
 use Rattle.nt_core.specs.declared.call.Call.{Call}
 use Rattle.nt_core.specs.declared.call.Act.{Act}
@@ -23,7 +23,7 @@ caller_word who = codes "t" ++ decimal who
 
 -- milliseconds, or `inf`
 abbrev pub time_word : ℕ → List ℕ
-time_word ms = if ms == infinite then codes "inf" else decimal ms
+time_word ms = if ms == INFINITE then codes "inf" else decimal ms
 
 -- whether the wait is alertable, as a word
 abbrev pub mode_word : Bool → List ℕ

@@ -12,7 +12,7 @@ use crate::scope::Bindings;
 use crate::words::Words;
 use nt_core::{Act, Call};
 use nt_lines::caller_of;
-use nt_status::Moment;
+use nt_status::{MAX_MOMENT, MAX_THREADS, Moment};
 use std::alloc::{AllocError, Global};
 use std::marker::Model;
 
@@ -58,7 +58,7 @@ pub(crate) enum Statement {
 #[tactic(auto, unfolding(crate::specs::Reading::opening_at))]
 pub(crate) fn parse_opening(mut words: Words) -> Result<Option<u32>, ScriptFault>
     ensures exact { result ≡ opening_at words.entry }
-    ensures range { IfOk result (λ threads. IfSome threads (λ n. (0 < n) × (n ≤ 256))) }
+    ensures range { IfOk result (λ threads. IfSome threads (λ n. (0 < n) × (n ≤ MAX_THREADS))) }
 {
     match words.next() {
         Err(_) => Ok(None),
@@ -70,15 +70,12 @@ pub(crate) fn parse_opening(mut words: Words) -> Result<Option<u32>, ScriptFault
 #[tactic(auto, unfolding(crate::specs::Reading::threads_at))]
 fn threads(mut words: Words) -> Result<Option<u32>, ScriptFault>
     ensures exact { result ≡ threads_at words.entry }
-    ensures range { IfOk result (λ threads. IfSome threads (λ n. (0 < n) × (n ≤ 256))) }
+    ensures range { IfOk result (λ threads. IfSome threads (λ n. (0 < n) × (n ≤ MAX_THREADS))) }
 {
-    let count = words.number(1, 256)?;
+    let count = words.number(1, u64::from(MAX_THREADS))?;
     words.end()?;
     Ok(Some(count as u32))
 }
-
-/// The greatest moment.
-const MAX_MOMENT: u64 = 1 << 62;
 
 /// `tick M`
 #[tactic(auto, unfolding(crate::specs::Reading::tick_at))]

@@ -9,10 +9,7 @@ use crate::fault::ScriptFault;
 use crate::scope::Bindings;
 use crate::words::Words;
 use nt_lines::{are_digits, caller_of, name_of, number_of};
-use nt_status::Handle;
-
-/// The timeout that never comes.
-pub(crate) const INFINITE: u32 = u32::MAX;
+use nt_status::{Handle, INFINITE};
 
 impl<'a> Words<'a> {
     #[tactic(auto, unfolding(crate::specs::Reading::number_at))]

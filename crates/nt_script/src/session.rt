@@ -20,7 +20,7 @@ use crate::transcript::{MOST_BYTES, put_turn};
 use crate::words::{Words, plain_text};
 use nt_core::{Act, Call, Core, Reply};
 use nt_lines::put;
-use nt_status::{Handle, Moment, Refusal};
+use nt_status::{Handle, MAX_THREADS, Moment, Refusal};
 use std::alloc::{AllocError, Global};
 use std::mem;
 
@@ -49,7 +49,7 @@ pub(crate) fn handle_of(answer: &Result<Reply, Refusal>) -> Option<Handle>
 fn parse_opening_line(line: &[u8]) -> Result<Option<u32>, ScriptFault>
     requires { length line.now ≤ 4096 }
     ensures exact { result ≡ opening_of line.now }
-    ensures range { IfOk result (λ threads. IfSome threads (λ n. (0 < n) × (n ≤ 256))) }
+    ensures range { IfOk result (λ threads. IfSome threads (λ n. (0 < n) × (n ≤ MAX_THREADS))) }
 {
     parse_opening(Words::new(plain_text(line)?))
 }
@@ -58,7 +58,7 @@ fn parse_opening_line(line: &[u8]) -> Result<Option<u32>, ScriptFault>
 fn read_opening(line: &[u8]) -> Result<Option<u32>, LineFault>
     requires { length line.now ≤ 4096 }
     ensures reads { ReadsOpening line.now result }
-    ensures range { IfOk result (λ threads. IfSome threads (λ n. (0 < n) × (n ≤ 256))) }
+    ensures range { IfOk result (λ threads. IfSome threads (λ n. (0 < n) × (n ≤ MAX_THREADS))) }
 {
     match parse_opening_line(line) {
         Ok(threads) => Ok(threads),
@@ -82,7 +82,7 @@ impl Session {
     ghost use Rattle.nt_core.specs.Runs.{Calls, Ticks};
 
     fn new(alloc: Global, threads: u32) -> Result<Session, AllocError>
-        requires range { (0 < threads) × (threads ≤ 256) }
+        requires range { (0 < threads) × (threads ≤ MAX_THREADS) }
         ensures fresh { IfOk result (λ session. IsFresh (progress session)) }
         ensures scope { IfOk result (λ session. session.bindings.scope ≡ opened_scope threads) }
     {

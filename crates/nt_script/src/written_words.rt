@@ -10,11 +10,10 @@ ghost use Rattle.nt_script.specs.Spelling.{caller_word, time_word, mode_word, st
 ghost use Rattle.nt_script.specs.Written.{name_for, statement_for};
 ghost use Rattle.nt_script.specs.Writing.{has_words, flags_have_words, flag_text, wait_word, objects_text, room_of, AreHandles};
 
-use crate::places::INFINITE;
 use crate::text::{put_number, put_signed, put_signed64};
 use nt_core::{Act, Call, WaitCall};
 use nt_lines::put;
-use nt_status::{Handle, ThreadId};
+use nt_status::{Handle, INFINITE, ThreadId};
 
 // ---- words
 

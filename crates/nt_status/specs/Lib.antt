@@ -1,5 +1,6 @@
 pub mod Access
 pub mod Flags
+pub mod Lists
 pub mod Moment
 pub mod Refusal
 pub mod Status

@@ -1,5 +1,6 @@
--- The codes with which a wait ends, and the timeout that never comes (Win32 reference, the page of WaitForMultipleObjects).
+-- The codes with which a wait ends (Win32 reference, the page of WaitForMultipleObjects).
 use Rattle.std.specs.Prelude.{ℕ, ◌+◌, Bool, ◌&&◌, ◌||◌, nat_lt, nat_le, ◌==◌}
+use Rattle.nt_status.specs.declared.limits.TheConstants.{MAX_WAIT_OBJECTS}
 
 -- WAIT_OBJECT_0 and the index of the object
 abbrev pub object_code : ℕ → ℕ
@@ -21,10 +22,6 @@ timeout_code = 0x102
 abbrev pub slept_code : ℕ
 slept_code = 0
 
--- the codes that there are: an index below 64, 0x80 and such an index, WAIT_IO_COMPLETION, WAIT_TIMEOUT
+-- the codes that there are: an index of a wait, 0x80 and such an index, WAIT_IO_COMPLETION, WAIT_TIMEOUT
 abbrev pub is_status_code : ℕ → Bool
-is_status_code code = nat_lt code 64 || (nat_le 128 code && nat_lt code 192) || code == 192 || code == 258
-
--- INFINITE, the timeout without a deadline
-abbrev pub infinite : ℕ
-infinite = 0xFFFFFFFF
+is_status_code code = nat_lt code MAX_WAIT_OBJECTS || (nat_le 128 code && nat_lt code 192) || code == 192 || code == 258

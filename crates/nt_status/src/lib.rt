@@ -4,6 +4,7 @@
 mod access;
 mod event_flags;
 mod handles;
+mod limits;
 mod moment;
 mod mutex_flags;
 mod optional_moment;
@@ -15,6 +16,7 @@ mod timer_flags;
 pub use access::Access;
 pub use event_flags::EventFlags;
 pub use handles::{Handle, Handles};
+pub use limits::{INFINITE, MAX_HANDLES, MAX_MOMENT, MAX_THREADS, MAX_WAIT_OBJECTS};
 pub use moment::Moment;
 pub use mutex_flags::MutexFlags;
 pub use optional_moment::OptionalMoment;

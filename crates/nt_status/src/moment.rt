@@ -1,19 +1,21 @@
-ghost use Rattle.std.specs.Prelude.{◌≡◌, ◌≤◌, ◌^◌, ◌↔◌, IsSome, IfSome};
+ghost use Rattle.std.specs.Prelude.{◌≡◌, ◌≤◌, ◌↔◌, IsSome, IfSome};
 
+use crate::limits::MAX_MOMENT;
 use std::marker::Model;
 
-/// A moment, in units of 100 ns since the dispatcher's moment 0. The greatest is 2^62.
+/// A moment, in units of 100 ns since the dispatcher's moment 0. The greatest is `MAX_MOMENT`.
 #[derive(Clone, Copy, PartialEq, Eq, PartialOrd, Ord, Debug)]
 pub struct Moment(u64);
 
 impl Model for Moment {
-    ghost use Rattle.std.specs.Prelude.{ℕ, ◌≤◌, ◌^◌};
+    ghost use Rattle.std.specs.Prelude.{ℕ, ◌≤◌};
+    ghost use Rattle.nt_status.specs.declared.limits.TheConstants.{MAX_MOMENT};
 
     ghost Value = { ℕ };
 
     ghost view = { λ m. m.0 };
 
-    ghost invariant = { λ m. m.0 ≤ 2 ^ 62 };
+    ghost invariant = { λ m. m.0 ≤ MAX_MOMENT };
 
     ghost inverse = { λ n. record { 0 = n } };
 }
@@ -22,12 +24,12 @@ impl Moment {
     /// The dispatcher's moment 0.
     pub const ZERO: Moment = Moment(0);
 
-    /// The moment of this number, in units of 100 ns. None above 2^62.
+    /// The moment of this number, in units of 100 ns. None above `MAX_MOMENT`.
     pub fn new(value: u64) -> Option<Self>
-        ensures valid { IsSome result ↔ (value ≤ 2 ^ 62) }
+        ensures valid { IsSome result ↔ (value ≤ MAX_MOMENT) }
         ensures value { IfSome result (λ m. m ≡ value) }
     {
-        if value <= 1 << 62 {
+        if value <= MAX_MOMENT {
             Some(Moment(value))
         } else {
             None
@@ -37,7 +39,7 @@ impl Moment {
     /// In units of 100 ns.
     pub fn get(self) -> u64
         ensures value { result ≡ self }
-        ensures limit { result ≤ 2 ^ 62 }
+        ensures limit { result ≤ MAX_MOMENT }
     {
         self.0
     }

@@ -9,14 +9,15 @@ use std::marker::Model;
 pub struct OptionalMoment(u64);
 
 impl Model for OptionalMoment {
-    ghost use Rattle.std.specs.Prelude.{ℕ, ◌+◌, ◌≤◌, ◌^◌, Option};
+    ghost use Rattle.std.specs.Prelude.{ℕ, ◌+◌, ◌≤◌, Option};
+    ghost use Rattle.nt_status.specs.declared.limits.TheConstants.{MAX_MOMENT};
     ghost use Rattle.nt_status.specs.Moment.{one_below, one_above};
 
     ghost Value = { Option ℕ };
 
     ghost view = { λ m. one_below m.0 };
 
-    ghost invariant = { λ m. m.0 ≤ 2 ^ 62 + 1 };
+    ghost invariant = { λ m. m.0 ≤ MAX_MOMENT + 1 };
 
     ghost inverse = { λ m. record { 0 = one_above m } };
 }

@@ -1,10 +1,11 @@
 ghost use Rattle.std.specs.Prelude.{◌≡◌, ◌<◌, ◌↔◌, IsTrue, IsSome, IfSome};
 ghost use Rattle.nt_status.specs.Status.{object_code, abandoned_code, is_status_code};
 
+use crate::limits::MAX_WAIT_OBJECTS;
 use std::marker::Model;
 
-/// How a wait ended, seen as its code. It can be nothing but WAIT_OBJECT_0 or WAIT_ABANDONED_0 with an index below 64,
-/// WAIT_IO_COMPLETION or WAIT_TIMEOUT.
+/// How a wait ended, seen as its code. It can be nothing but WAIT_OBJECT_0 or WAIT_ABANDONED_0 with an index below
+/// `MAX_WAIT_OBJECTS`, WAIT_IO_COMPLETION or WAIT_TIMEOUT.
 #[derive(Clone, Copy, PartialEq, Eq, Debug)]
 pub struct Status(u32);
 
@@ -30,7 +31,7 @@ impl Status {
 
     /// WAIT_OBJECT_0 + `index`: the object at this index of the wait was taken.
     pub fn object(index: u32) -> Self
-        requires { index < 64 }
+        requires { index < MAX_WAIT_OBJECTS }
         ensures { result ≡ object_code index }
     {
         Status(index)
@@ -38,7 +39,7 @@ impl Status {
 
     /// WAIT_ABANDONED_0 + `index`: the same, and it is a mutex whose last owner ended while it held it.
     pub fn abandoned(index: u32) -> Self
-        requires { index < 64 }
+        requires { index < MAX_WAIT_OBJECTS }
         ensures { result ≡ abandoned_code index }
     {
         Status(0x80 + index)
@@ -49,7 +50,11 @@ impl Status {
         ensures known { IsSome result ↔ IsTrue (is_status_code code) }
         ensures value { IfSome result (λ status. status ≡ code) }
     {
-        if code < 64 || (0x80 <= code && code < 0xC0) || code == 0xC0 || code == 0x102 {
+        if code < MAX_WAIT_OBJECTS as u32
+            || (0x80 <= code && code < 0xC0)
+            || code == 0xC0
+            || code == 0x102
+        {
             Some(Status(code))
         } else {
             None

@@ -4,10 +4,12 @@ use Rattle.std.proofs.lemmas.Bool.{cases_eq}
 use Rattle.std.proofs.lemmas.Bool.Decides.{nat_tests}
 use Rattle.std.proofs.lemmas.List.{get_or_push, get_or_append_left, length_push}
 use Rattle.std.proofs.lemmas.Map.Keys.{IsDistinct-from_apart, apart_from_distinct}
-use Rattle.std.proofs.lemmas.Option.{none-some, same_Some}
+use Rattle.std.proofs.lemmas.Option.{none-some}
 use Rattle.std.specs.Prelude.{nat_eq, slice_get}
 use Rattle.std.specs.List.{IsDistinct}
-use Rattle.nt_waits.specs.Waits.{IsMember, next_after}
+use Rattle.nt_status.specs.Lists.{IsMember}
+use Rattle.nt_status.proofs.Lists.{first_member}
+use Rattle.nt_waits.specs.Waits.{next_after}
 
 other_test : (a b : ℕ) → a ≢ b → eqb a b ≡ false
 other_test a b e = grind (arith, nat_tests)
@@ -53,11 +55,7 @@ below_pushed handles number b = record {
   ]);
 }
 
--- who is first in a queue, or next, stands in it
-pub first_member : (queue : List ℕ) (u : ℕ) → slice_get queue 0 ≡ Some u → IsMember queue u
-first_member [] u e = absurd (none-some u e)
-first_member (first ∷ queue) u e = inl (same_Some first u e)
-
+-- who is next in a queue stands in it
 pub next_member : (t : ℕ) (queue : List ℕ) (u : ℕ) → next_after t queue ≡ Some u → IsMember queue u
 next_member t [] u = λ e. absurd (none-some u e)
 next_member t (first ∷ queue) u = elim (eqb first t) as (λ b. cond b (slice_get queue 0) (next_after t queue) ≡ Some u → IsMember (first ∷ queue) u) [

@@ -88,7 +88,7 @@ fn take_step(object: &mut Object, step: Step) -> bool {
 
 /// Whether the thread can take the object, and is told this.
 fn takes(object: &mut Object, thread: ThreadId, wanted: Taken) -> bool {
-    object.signaled_for(thread) && object.has_room() && object.take_for(thread) == wanted
+    object.has_room() && object.try_take(thread) == Some(wanted)
 }
 
 /// The same for a mutex.

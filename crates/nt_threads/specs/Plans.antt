@@ -1,5 +1,6 @@
 -- What the threads of the plan ask.
 use Rattle.std.specs.Prelude.{ℕ, ◌*◌, zero, suc, pos, length, map, List, [], ◌∷◌, ◌++◌, true, false}
+use Rattle.nt_status.specs.declared.limits.TheConstants.{INFINITE}
 use Rattle.nt_core.specs.declared.call.Act.{Act}
 use Rattle.nt_core.specs.declared.call.Call.{Call}
 use Rattle.nt_core.specs.declared.call.WaitCall.{WaitCall}
@@ -7,11 +8,11 @@ use Rattle.nt_threads.specs.declared.plan.Objects.{Objects}
 
 -- a wait for this object, without a deadline
 abbrev pub wait_for : ℕ → Call
-wait_for object = Call.Wait (WaitCall.Objects false false 4294967295 (object ∷ []))
+wait_for object = Call.Wait (WaitCall.Objects false false INFINITE (object ∷ []))
 
 -- a wait for all of these objects, without a deadline
 abbrev pub wait_for_all : List ℕ → Call
-wait_for_all objects = Call.Wait (WaitCall.Objects true false 4294967295 objects)
+wait_for_all objects = Call.Wait (WaitCall.Objects true false INFINITE objects)
 
 -- a round: the mutex is acquired, the semaphore is released by one, the mutex is released
 abbrev pub round_of : Objects → List Call

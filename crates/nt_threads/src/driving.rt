@@ -6,6 +6,7 @@ ghost use Rattle.nt_threads.specs.Plans.{carried_out, led};
 use crate::door::Door;
 use crate::plan::{Objects, Plan, Worked, create_all, lead, work};
 use nt_core::Act;
+use nt_status::MAX_THREADS;
 use std::alloc::Global;
 use std::snapshot::Snapshot;
 use std::sync::Wait;
@@ -50,7 +51,7 @@ pub fn drive<D: Door + Send, R: Threads + Wait + Sync>(
     rounds: u32,
 ) -> Driven<D>
     requires back { (back.items ≡ []) × (vec_len doors ≤ vec_capacity back) }
-    requires threads { vec_len doors ≤ 256 }
+    requires threads { vec_len doors ≤ MAX_THREADS }
     requires releases { vec_len doors * rounds < 2 ^ 31 }
     ensures threads { map D.thread_of result.doors.items ≡ map D.thread_of doors.items }
     ensures whole { result.whole ≡ true → (o : Objects) × (map D.made_of result.doors.items ≡ carried_out D.made_of o rounds doors.items) }

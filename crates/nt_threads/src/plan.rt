@@ -6,13 +6,10 @@ ghost use Rattle.nt_threads.specs.Plans.{creations, lead_of, rounds_of, round_of
 
 use crate::door::Door;
 use nt_core::{Act, Reply, WaitCall};
-use nt_status::{Handle, Handles, Refusal};
+use nt_status::{Handle, Handles, INFINITE, Refusal};
 use std::alloc::{AllocError, Global};
 use std::sync::Wait;
 use std::sync::atomic::{AtomicBool, Ordering};
-
-/// INFINITE.
-const INFINITE: u32 = 0xFFFF_FFFF;
 
 /// CREATE_EVENT_MANUAL_RESET.
 const MANUAL_RESET: u32 = 1;

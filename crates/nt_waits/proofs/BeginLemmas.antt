@@ -1,18 +1,19 @@
 -- The table after one thread's blocks were linked.
-use Rattle.std.proofs.Common.{◌≡◌, ◌≢◌, ◌<◌, ◌≤◌, ◌⊎◌, ℕ, List, [], ◌∷◌, ◌++◌, length, get_or, set, Option, Some, None, true, false, eqb, refl, sym, ap, ◌∙◌, inl, inr, arith, length-set}
-use Rattle.std.proofs.lemmas.Bool.{cases_eq, false≢true}
+use Rattle.std.proofs.Common.{◌≡◌, ◌≢◌, ◌<◌, ◌≤◌, ◌⊎◌, ℕ, List, [], ◌∷◌, ◌++◌, length, get_or, set, Option, Some, None, refl, sym, ap, ◌∙◌, inl, inr, arith, length-set}
+use Rattle.std.proofs.lemmas.Bool.{cases_eq}
 use Rattle.std.proofs.lemmas.List.{get_or-set_same, get_or-set_other, map-append, length-map}
 use Rattle.std.proofs.lemmas.Option.{same_Some, none-some}
-use Rattle.std.proofs.lemmas.Map.Steps.{length-le_from_distinct_below}
 use Rattle.std.specs.Prelude.{◌^◌, IsSome, nat_eq}
-use Rattle.std.specs.List.{IsDistinct as NoneTwice, AllByRecursion, list_any}
+use Rattle.std.specs.List.{IsDistinct as NoneTwice}
+use Rattle.nt_status.specs.declared.limits.TheConstants.{MAX_WAIT_OBJECTS}
 use Rattle.nt_waits.specs.declared.pending.Pending.{Pending}
 use Rattle.nt_waits.specs.Link.{Link, AreNumbersOnce}
 use Rattle.nt_waits.specs.Queues.{Lists, list_at}
 use Rattle.nt_waits.specs.Steps.{AreLinked}
 use Rattle.nt_waits.specs.Table.{HasLink, threads, slot_at, IsLinked, IsTable}
-use Rattle.nt_waits.specs.Waits.{IsMember, AreOnce, Names}
-use Rattle.nt_waits.proofs.ChainLemmas.{other_test}
+use Rattle.nt_status.specs.Lists.{IsMember, AreOnce}
+use Rattle.nt_status.proofs.Lists.{once_push, few_below}
+use Rattle.nt_waits.specs.Waits.{Names}
 use Rattle.nt_waits.proofs.TableLemmas.{link_of_member, find_place, slot_within}
 
 HasLink-before : (ls more : List Link) (link : Link) → HasLink ls link → HasLink (ls ++ more) link
@@ -30,39 +31,6 @@ HasLink-cases [] last link (inr later) = absurd later
 HasLink-cases (first ∷ ls) last link (inl here) = inl (inl here)
 HasLink-cases (first ∷ ls) last link (inr later) = elim (HasLink-cases ls last link later) [ inl before ↦ inl (inr before) | inr here ↦ inr here ]
 
-IsMember-cases : (queue : List ℕ) (last x : ℕ) → IsMember (queue ++ last ∷ []) x → IsMember queue x ⊎ (last ≡ x)
-IsMember-cases [] last x (inl here) = inr here
-IsMember-cases [] last x (inr later) = absurd later
-IsMember-cases (first ∷ queue) last x (inl here) = inl (inl here)
-IsMember-cases (first ∷ queue) last x (inr later) = elim (IsMember-cases queue last x later) [ inl before ↦ inl (inr before) | inr here ↦ inr here ]
-
-AreOnce-push : (queue : List ℕ) (last : ℕ) → (IsMember queue last → ⊥) → AreOnce queue → AreOnce (queue ++ last ∷ [])
-AreOnce-push [] last fresh once = (λ m. m, tt)
-AreOnce-push (first ∷ queue) last fresh once = (
-  λ m. elim (IsMember-cases queue last first m) [ inl before ↦ once.0 before | inr here ↦ fresh (inl (sym here)) ],
-  AreOnce-push queue last (λ m. fresh (inr m)) once.1,
-)
-
--- threads below n that stand once are at most n
-all_differ : (x : ℕ) (queue : List ℕ) → (IsMember queue x → ⊥) → AllByRecursion (λ y. eqb x y ≡ false) queue
-all_differ x [] fresh = tt
-all_differ x (first ∷ queue) fresh = (other_test x first (λ e. fresh (inl (sym e))), all_differ x queue (λ m. fresh (inr m)))
-
-none_twice : (queue : List ℕ) → AreOnce queue → NoneTwice eqb queue
-unfolding NoneTwice
-none_twice [] once = tt
-none_twice (first ∷ queue) once = (all_differ first queue once.0, none_twice queue once.1)
-
-member_from_any : (queue : List ℕ) (q : ℕ) → list_any (eqb q) queue ≡ true → IsMember queue q
-member_from_any [] q e = absurd (false≢true e)
-member_from_any (first ∷ queue) q e = elim (cases_eq first q) [
-  | inl same ↦ inl same
-  | inr differs ↦ inr (member_from_any queue q (rw (other_test q first (λ f. differs (sym f))) at e))
-]
-
-pub length-once : (queue : List ℕ) (n : ℕ) → AreOnce queue → ((x : ℕ) → IsMember queue x → x < n) → length queue ≤ n
-length-once queue n once below = length-le_from_distinct_below queue n (none_twice queue once) (λ q e. below q (member_from_any queue q e))
-
 -- no queue has more threads than there are places
 pub length-list : (queues : Lists) (slots : List (Option Pending)) → IsTable queues slots → (h : ℕ) → length (list_at queues h) < 2 ^ 32
 length-list queues slots table h =
@@ -71,7 +39,7 @@ length-list queues slots table h =
     let owner = table.owned h link.0 link.1 in
     let there : IsSome (slot_at slots x) = rw (← link.2, owner.1) refl in
     slot_within slots x there in
-    let few = length-once (threads (list_at queues h)) (length slots) (table.once h) below in
+    let few = few_below (length slots) (threads (list_at queues h)) (table.once h) below in
     let same = length-map (list_at queues h) (λ (l : Link). l.thread) in
     let small = table.small in
     omega (arith, few, same, small)
@@ -81,7 +49,7 @@ module _ (old new : Lists) (slots : List (Option Pending)) (thread : ℕ) (pendi
     (free : slot_at slots thread ≡ None)
     (within : thread < length slots)
     (same_length : length pending.numbers.items ≡ length pending.wait.handles)
-    (few : length pending.wait.handles ≤ 64)
+    (few : length pending.wait.handles ≤ MAX_WAIT_OBJECTS)
     (apart : NoneTwice nat_eq pending.wait.handles)
     (linked : AreLinked old new thread pending.wait.handles pending.numbers.items (length pending.wait.handles))
     (distinct : (h : ℕ) → AreNumbersOnce (list_at new h)) where
@@ -143,7 +111,7 @@ module _ (old new : Lists) (slots : List (Option Pending)) (thread : ℕ) (pendi
   once_now h = elim (queue_now h) [
     | inl named ↦
         let fresh : IsMember (threads (list_at old h)) thread → ⊥ = λ member. let link = link_of_member (list_at old h) thread member in owner_differs h link.0 link.1 link.2 in
-        rw (named.3, map-append (λ (l : Link). l.thread) (list_at old h) _) (AreOnce-push (threads (list_at old h)) thread fresh (table.once h))
+        rw (named.3, map-append (λ (l : Link). l.thread) (list_at old h) _) (once_push (threads (list_at old h)) thread (table.once h) fresh)
     | inr kept ↦ rw kept (table.once h)
   ]
 

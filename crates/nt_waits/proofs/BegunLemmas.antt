@@ -1,5 +1,6 @@
 -- What a table shows once a wait has begun.
 use Rattle.std.proofs.Common.{◌≡◌, ◌≢◌, ◌<◌, ◌≤◌, inl, inr, get_or, set, arith, subst, ◌+◌, ◌∷◌, ◌++◌, [], ℕ, List, length, map, Option, Some, None, refl, ap, sym, ◌∙◌}
+use Rattle.nt_status.specs.declared.limits.TheConstants.{MAX_WAIT_OBJECTS}
 use Rattle.nt_waits.specs.declared.wait.Wait.{Wait}
 use Rattle.nt_waits.specs.declared.pending.Pending.{Pending}
 use Rattle.nt_waits.specs.declared.prepared.Prepared.{Prepared}
@@ -75,7 +76,7 @@ module _ (old new : Lists) (t : ℕ) (wait : Wait) (slot : Option Pending) (fill
   pub filled_kept : (h : ℕ) → (Names wait h → ⊥) → list_at new h ≡ list_at old h
   filled_kept h outside = filled.4.others h (λ j below same. outside (j, below, same))
 
-  pub filled_table : (slots : List (Option Pending)) → IsTable old slots → slot_at slots t ≡ None → t < length slots → length wait.handles ≤ 64 → IsDistinct nat_eq wait.handles → ((h : ℕ) → AreNumbersOnce (list_at new h)) → IsTable new (set slots t slot)
+  pub filled_table : (slots : List (Option Pending)) → IsTable old slots → slot_at slots t ≡ None → t < length slots → length wait.handles ≤ MAX_WAIT_OBJECTS → IsDistinct nat_eq wait.handles → ((h : ℕ) → AreNumbersOnce (list_at new h)) → IsTable new (set slots t slot)
   filled_table slots table free within few apart distinct =
       let is = filled.2 in
       rw filled.1 (table_begun old new slots t filled.0 table free within (rw is filled.3) (rw is few) (rw is apart) (rw is filled.4) distinct)

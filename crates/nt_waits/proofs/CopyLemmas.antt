@@ -1,5 +1,5 @@
 -- A copy of the blocks, the ends and the places.
-use Rattle.std.proofs.Common.{◌≡◌, ℕ, Bool, true, false, List, [], ◌∷◌, length, get_or, map, Option, Some, None, refl, sym, ap, subst, ◌∙◌, inl, inr, arith}
+use Rattle.std.proofs.Common.{◌≡◌, ℕ, List, [], ◌∷◌, length, get_or, map, Option, Some, None, refl, sym, ap, subst, ◌∙◌, inl, inr, arith}
 use Rattle.std.proofs.lemmas.Bool.{cases_lt}
 use Rattle.std.proofs.lemmas.List.{get_or_past}
 use Rattle.std.proofs.lemmas.Option.{same_Some, none-some}
@@ -18,7 +18,7 @@ use Rattle.nt_waits.specs.Queues.{Lists}
 use Rattle.nt_waits.specs.Table.{slot_at, waits_of, IsLinked, IsTable}
 use Rattle.nt_waits.specs.Waits.{Names}
 use Rattle.nt_waits.specs.Pending.{IsCopy}
-use Rattle.nt_waits.specs.Slot.{IsSlotCopy, kept_where}
+use Rattle.nt_waits.specs.Slot.{IsSlotCopy}
 use Rattle.nt_waits.specs.Deadlines.{deadline_in}
 use Rattle.nt_waits.proofs.DeadlineLemmas.{AreAlarmed}
 use Rattle.nt_waits.proofs.ViewLemmas.{get-waits}
@@ -51,11 +51,6 @@ slots_cloned slots copy same t = elim (cases_lt t (length slots)) [
   | inl below ↦ AllZip-get_or IsSlotCopy slots copy t None None same below
   | inr past ↦ rw (get_or_past slots t None past) (get_or_past copy t None (omega (arith, length_all_zip IsSlotCopy slots copy same)))
 ]
-
--- a copy of a place shows a copy of what the place shows
-pub slot_cloned : (pends : Bool) (p q : Pending) → IsCopy p q → IsSlotCopy (kept_where pends p) (kept_where pends q)
-slot_cloned false p q is = refl
-slot_cloned true p q is = is
 
 module _ (old new : Lists) (slots copy : List (Option Pending))
     (lists : new.lists ≡ old.lists)

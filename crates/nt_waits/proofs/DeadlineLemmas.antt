@@ -1,8 +1,7 @@
 -- The alarms of threads, and the deadlines of their waits.
 use Rattle.std.proofs.Common.{◌≡◌, ◌≢◌, ◌<◌, ℕ, List, [], length, set, Option, Some, None, refl, sym, ap, ◌∙◌, inl, inr}
-use Rattle.std.proofs.lemmas.Bool.{cases_eq, cases_lt}
-use Rattle.std.proofs.lemmas.List.{get_or-set_same, get_or-set_other, get_or_past}
-use Rattle.std.proofs.lemmas.Option.{none-some}
+use Rattle.std.proofs.lemmas.Bool.{cases_eq}
+use Rattle.std.proofs.lemmas.List.{get_or-set_same, get_or-set_other}
 use Rattle.std.specs.Prelude.{MatchOption}
 use Rattle.std.specs.Option.{option_map}
 use Rattle.std.specs.Ordering.{nat_cmp}
@@ -46,13 +45,6 @@ pub alarmed_ended : (old new : List (Option ℕ)) (slots : List (Option Pending)
 alarmed_ended old new slots t alarmed within here others u = elim (cases_eq u t) [
   | inl same ↦ rw (same, here, get_or-set_same slots t None None within) refl
   | inr differs ↦ rw (others u differs, get_or-set_other slots t u None None differs) (alarmed u)
-]
-
--- a thread with an alarm has a place
-pub alarm_within : (deadlines : List (Option ℕ)) (slots : List (Option Pending)) (t moment : ℕ) → AreAlarmed deadlines slots → alarm_at deadlines t ≡ Some moment → t < length slots
-alarm_within deadlines slots t moment alarmed rings = elim (cases_lt t (length slots)) [
-  | inl below ↦ below
-  | inr past ↦ absurd (none-some moment (sym (alarmed t ∙ rw (get_or_past slots t None past) refl) ∙ rings))
 ]
 
 -- what the alarms say, said of the waits

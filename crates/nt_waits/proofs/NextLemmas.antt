@@ -7,7 +7,8 @@ use Rattle.nt_waits.specs.declared.pending.Pending.{Pending}
 use Rattle.nt_waits.specs.Link.{Link, AreNumbersOnce, thread_after}
 use Rattle.nt_waits.specs.Queues.{Lists, list_at}
 use Rattle.nt_waits.specs.Table.{HasLink, threads, slot_at, IsLinked, IsTable}
-use Rattle.nt_waits.specs.Waits.{IsMember, AreOnce, Names, next_after}
+use Rattle.nt_status.specs.Lists.{IsMember, AreOnce}
+use Rattle.nt_waits.specs.Waits.{Names, next_after}
 use Rattle.nt_waits.proofs.ChainLemmas.{same_test, other_test}
 use Rattle.nt_waits.proofs.ViewLemmas.{first_thread-threads}
 use Rattle.nt_waits.proofs.TableLemmas.{HasNumber-link, IsMember-link, link_of_member}

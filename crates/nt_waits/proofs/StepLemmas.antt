@@ -25,9 +25,6 @@ pub record UnlinkedSoFar (old new : Lists) (handles numbers : List ℕ) (count :
   pub capacity : new.capacity ≡ old.capacity
   pub handle_room : new.handle_room ≡ old.handle_room
 
-pub unlinked_none : (old : Lists) (handles numbers : List ℕ) → AreUnlinked old old handles numbers 0
-unlinked_none old handles numbers = record { done = λ j below. absurd (omega arith); others = λ handle outside. refl }
-
 module _ (old now new : Lists) (handles numbers : List ℕ) (i : ℕ)
     (apart : IsDistinct nat_eq handles)
     (within : i < length handles) where
@@ -65,9 +62,6 @@ pub record LinkedSoFar (old new : Lists) (thread : ℕ) (handles numbers : List 
   pub used : new.used ≡ old.used + count
   pub capacity : new.capacity ≡ old.capacity
   pub touched : new.touched ≡ old.touched
-
-pub linked_none : (old : Lists) (thread : ℕ) (handles numbers : List ℕ) → AreLinked old old thread handles numbers 0
-linked_none old thread handles numbers = record { done = λ j below. absurd (omega arith); others = λ handle outside. refl }
 
 module _ (old now new : Lists) (thread : ℕ) (handles numbers : List ℕ) (i number : ℕ)
     (apart : IsDistinct nat_eq handles)

@@ -1,5 +1,5 @@
 -- The table after the blocks of one thread were unlinked.
-use Rattle.std.proofs.Common.{◌≡◌, ◌≢◌, ◌<◌, ◌⊎◌, ℕ, zero, suc, List, [], ◌∷◌, length, get_or, set, Option, Some, None, true, false, cond, eqb, refl, sym, ap, ◌∙◌, inl, inr, arith, length-set}
+use Rattle.std.proofs.Common.{◌≡◌, ◌≢◌, ◌<◌, ◌⊎◌, ℕ, zero, suc, List, [], ◌∷◌, length, get_or, set, Option, Some, None, refl, sym, ap, ◌∙◌, inl, inr, arith, length-set}
 use Rattle.std.proofs.lemmas.Bool.{cases_lt, cases_eq, false≢true}
 use Rattle.std.proofs.lemmas.List.{get_or-set_same, get_or-set_other, get_or_past}
 use Rattle.std.proofs.lemmas.Option.{same_Some, none-some}
@@ -9,8 +9,11 @@ use Rattle.nt_waits.specs.Link.{Link, HasNumber, AreNumbersOnce, without}
 use Rattle.nt_waits.specs.Queues.{Lists, list_at}
 use Rattle.nt_waits.specs.Steps.{IsOutside, AreUnlinked}
 use Rattle.nt_waits.specs.Table.{HasLink, threads, slot_at, IsLinked, IsTable}
-use Rattle.nt_waits.specs.Waits.{others, IsMember, AreOnce}
+use Rattle.nt_status.specs.Lists.{IsMember, AreOnce}
+use Rattle.nt_status.proofs.Lists.{member_same}
+use Rattle.nt_waits.specs.Waits.{others}
 use Rattle.nt_waits.proofs.ChainLemmas.{same_test, other_test}
+use Rattle.nt_waits.proofs.OthersLemmas.{others_absent, once_others}
 
 pub HasNumber-link : (ls : List Link) (link : Link) → HasLink ls link → HasNumber ls link.number
 HasNumber-link [] link has = absurd has
@@ -26,9 +29,6 @@ pub link_of_member : (ls : List Link) (thread : ℕ) → IsMember (threads ls) t
 link_of_member [] thread member = absurd member
 link_of_member (first ∷ ls) thread (inl here) = (first, inl refl, here)
 link_of_member (first ∷ ls) thread (inr later) = let found = link_of_member ls thread later in (found.0, inr found.1, found.2)
-
-pub IsMember-same : (queue : List ℕ) (a b : ℕ) → a ≡ b → IsMember queue a → IsMember queue b
-IsMember-same queue a b e member = rw (← e) member
 
 -- a link that stays is an old one, and not the one that was taken out
 pub HasLink-without : (number : ℕ) (ls : List Link) (link : Link) → AreNumbersOnce ls → HasLink (without number ls) link → HasLink ls link × (link.number ≢ number)
@@ -49,36 +49,17 @@ HasLink-stays number (first ∷ ls) link differs has = elim (cases_eq first.numb
   | inr apart ↦ rw (other_test first.number number apart) (elim has [ inl here ↦ inl here | inr later ↦ inr (HasLink-stays number ls link differs later) ])
 ]
 
--- a thread that does not stand in the queue
-pub others_absent : (thread : ℕ) (queue : List ℕ) → (IsMember queue thread → ⊥) → others thread queue ≡ queue
-others_absent thread [] absent = refl
-others_absent thread (first ∷ queue) absent = rw (other_test first thread (λ e. absent (inl e))) (ap (λ q. first ∷ q) (others_absent thread queue (λ m. absent (inr m))))
-
 -- without its block, a thread is out of the queue, and the others keep their order
 pub threads-without : (number thread : ℕ) (ls : List Link) → HasLink ls (record { number = number; thread = thread }) → AreNumbersOnce ls → AreOnce (threads ls) → threads (without number ls) ≡ others thread (threads ls)
 threads-without number thread [] has distinct once = absurd has
 threads-without number thread (first ∷ ls) (inl here) distinct once =
     let same : first.thread ≡ thread = ap (λ l. l.thread) here in
-    rw (same_test first.number number (ap (λ l. l.number) here), same_test first.thread thread same) (sym (others_absent thread (threads ls) (λ m. once.0 (IsMember-same (threads ls) thread first.thread (sym same) m))))
+    rw (same_test first.number number (ap (λ l. l.number) here), same_test first.thread thread same) (sym (others_absent thread (threads ls) (λ m. once.0 (member_same (threads ls) thread first.thread (sym same) m))))
 threads-without number thread (first ∷ ls) (inr later) distinct once =
     let link : Link = record { number = number; thread = thread } in
     let apart : first.number ≢ number = λ e. distinct.0 (rw e (HasNumber-link ls link later)) in
-    let differs : first.thread ≢ thread = λ e. once.0 (IsMember-same (threads ls) thread first.thread (sym e) (IsMember-link ls link later)) in
+    let differs : first.thread ≢ thread = λ e. once.0 (member_same (threads ls) thread first.thread (sym e) (IsMember-link ls link later)) in
     rw (other_test first.number number apart, other_test first.thread thread differs) (ap (λ q. first.thread ∷ q) (threads-without number thread ls later distinct.1 once.1))
-
-IsMember-others : (thread : ℕ) (queue : List ℕ) (x : ℕ) → IsMember (others thread queue) x → IsMember queue x
-IsMember-others thread [] x = λ m. m
-IsMember-others thread (first ∷ queue) x = elim (eqb first thread) as (λ b. IsMember (cond b (others thread queue) (first ∷ others thread queue)) x → IsMember (first ∷ queue) x) [
-  | true ↦ λ m. inr (IsMember-others thread queue x m)
-  | false ↦ λ m. elim m [ inl here ↦ inl here | inr later ↦ inr (IsMember-others thread queue x later) ]
-]
-
-AreOnce-others : (thread : ℕ) (queue : List ℕ) → AreOnce queue → AreOnce (others thread queue)
-AreOnce-others thread [] once = tt
-AreOnce-others thread (first ∷ queue) once = elim (eqb first thread) as (λ b. AreOnce (cond b (others thread queue) (first ∷ others thread queue))) [
-  | true ↦ AreOnce-others thread queue once.1
-  | false ↦ (λ m. once.0 (IsMember-others thread queue first m), AreOnce-others thread queue once.1)
-]
 
 -- two links with one number, or of one thread, are one
 link_of_number : (ls : List Link) (a b : Link) → AreNumbersOnce ls → HasLink ls a → HasLink ls b → a.number ≡ b.number → a ≡ b
@@ -190,6 +171,6 @@ module _ (old new : Lists) (slots : List (Option Pending)) (thread : ℕ) (pendi
         let owner = table.owned h link still.0 in
         (owner.0, get_or-set_other slots thread link.thread None None still.1 ∙ owner.1, owner.2);
     distinct = distinct;
-    once = λ h. rw (threads_ended h) (AreOnce-others thread (threads (list_at old h)) (table.once h));
+    once = λ h. rw (threads_ended h) (once_others thread (threads (list_at old h)) (table.once h));
     small = let same = length-set slots thread None in let small = table.small in omega (arith, same, small);
   }

@@ -2,6 +2,7 @@
 use Rattle.std.specs.Prelude.{◌≡◌, ℕ, ◌<◌, ◌≤◌, length, Option, IsSome, slice_index, nat_eq}
 use Rattle.std.specs.List.{IsDistinct}
 use Rattle.std.specs.Option.{option_map}
+use Rattle.nt_status.specs.declared.limits.TheConstants.{MAX_WAIT_OBJECTS}
 use Rattle.nt_waits.specs.declared.wait.Wait.{Wait}
 use Rattle.nt_waits.specs.declared.prepared.Prepared.{Prepared}
 use Rattle.nt_waits.specs.Queues.{Lists, HasRoomFor}
@@ -12,7 +13,7 @@ shown prepared = option_map (λ p. (p.thread, p.wait)) prepared
 
 -- the wait can begin with no allocation: its blocks, its handles, its thread and its deadline have room
 pub record IsReady (queues : Lists) (places alarms : ℕ) (p : Prepared) : Type 0 where
-  pub few : length p.wait.handles ≤ 64
+  pub few : length p.wait.handles ≤ MAX_WAIT_OBJECTS
   pub apart : IsDistinct nat_eq p.wait.handles
   pub blocks : HasRoomFor queues (length p.wait.handles)
   pub below : (j : ℕ) → j < length p.wait.handles → slice_index p.wait.handles j < p.handles

@@ -2,6 +2,7 @@
 use Rattle.std.specs.Prelude.{◌≡◌, ℕ, ◌+◌, ◌<◌, ◌≤◌, List, [], ◌∷◌, length, map as list_map, Option, Some, None, slice_index, slice_index_or, ◌⊎◌, nat_eq}
 use Rattle.std.specs.Ordering.{nat_cmp}
 use Rattle.std.specs.FinMap as map
+use Rattle.nt_status.specs.declared.limits.TheConstants.{MAX_WAIT_OBJECTS}
 use Rattle.nt_waits.specs.declared.wait.Wait.{Wait}
 use Rattle.nt_waits.specs.declared.pending.Pending.{Pending}
 use Rattle.nt_waits.specs.Link.{Link, AreNumbersOnce}
@@ -12,7 +13,8 @@ use Rattle.std.specs.List.{IsDistinct}
 use Rattle.std.specs.Option.{option_map, ForSome}
 use Rattle.nt_alarms.specs.Alarms.{alarm_at}
 use Rattle.nt_waits.specs.Deadlines.{deadline_in}
-use Rattle.nt_waits.specs.Waits.{AreOnce, Names}
+use Rattle.nt_status.specs.Lists.{AreOnce}
+use Rattle.nt_waits.specs.Waits.{Names}
 
 -- the link stands in the list
 abbrev pub HasLink : List Link → Link → Type 0
@@ -40,7 +42,7 @@ waits_of slots = map.from_entries (waits_from 0 slots)
 -- each handle of the wait has one block of the thread, under the number that the wait keeps
 pub record IsLinked (queues : Lists) (thread : ℕ) (pending : Pending) : Type 0 where
   pub same_length : length pending.numbers.items ≡ length pending.wait.handles
-  pub few : length pending.wait.handles ≤ 64
+  pub few : length pending.wait.handles ≤ MAX_WAIT_OBJECTS
   pub apart : IsDistinct nat_eq pending.wait.handles
   pub linked : (j : ℕ) → j < length pending.wait.handles → HasLink (list_at queues (slice_index pending.wait.handles j)) (record { number = slice_index pending.numbers.items j; thread = thread })
 

@@ -1,6 +1,7 @@
 -- What callers see of a `WaitTable`.
-use Rattle.std.specs.Prelude.{◌≡◌, ℕ, ◌+◌, ◌-◌, ◌*◌, ◌≤◌, ◌^◌, min, ◌<◌, Bool, ◌==◌, List, [], ◌∷◌, ◌++◌, length, if◌then◌else◌, Option, Some, None, slice_get, slice_index, slice_index_or, ◌⊎◌, refl}
+use Rattle.std.specs.Prelude.{◌≡◌, ℕ, ◌+◌, ◌-◌, ◌*◌, ◌≤◌, ◌^◌, min, ◌<◌, Bool, ◌==◌, List, [], ◌∷◌, ◌++◌, length, if◌then◌else◌, Option, Some, None, slice_get, slice_index, slice_index_or, refl}
 use Rattle.std.specs.Ordering.{nat_cmp}
+use Rattle.nt_status.specs.Lists.{IsMember, AreOnce}
 use Rattle.std.specs.FinMap as map
 use Rattle.std.specs.Coded.{Coded, code_by, coded×, coded_ℕ, coded_bool, coded_list, coded_option}
 use Rattle.nt_waits.specs.declared.wait.About.{About}
@@ -49,16 +50,6 @@ others thread (first ∷ queue) = if first == thread then others thread queue el
 abbrev pub next_after : ℕ → List ℕ → Option ℕ
 next_after thread [] = None
 next_after thread (first ∷ queue) = if first == thread then slice_get queue 0 else next_after thread queue
-
--- the thread stands in the queue
-abbrev pub IsMember : List ℕ → ℕ → Type 0
-IsMember [] thread = ⊥
-IsMember (first ∷ queue) thread = (first ≡ thread) ⊎ IsMember queue thread
-
--- no thread stands twice
-abbrev pub AreOnce : List ℕ → Type 0
-AreOnce [] = Unit {0}
-AreOnce (first ∷ queue) = (IsMember queue first → ⊥) × AreOnce queue
 
 -- the wait names the handle
 abbrev pub Names : Wait → ℕ → Type 0

@@ -1,5 +1,5 @@
 //! The queues of all handles, over blocks in a slab.
-ghost use Rattle.std.specs.Prelude.{◌≡◌, ℕ, ◌+◌, ◌<◌, ◌≤◌, ◌^◌, ◌++◌, ◌∷◌, [], length, slice_set, IfOk, OnOk, OnErr};
+ghost use Rattle.std.specs.Prelude.{◌≡◌, ℕ, ◌+◌, ◌<◌, ◌≤◌, ◌^◌, ◌++◌, ◌∷◌, [], length, slice_set, IfOk, OnOk};
 
 use crate::block::{Block, BlockNumber, Ends};
 use crate::chain::{add_ends, attach, detach, thread_in};

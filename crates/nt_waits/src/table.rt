@@ -1,5 +1,5 @@
 //! The pending waits of all threads.
-ghost use Rattle.std.specs.Prelude.{nat_eq, ◌≡◌, ℕ, ◌<◌, ◌≤◌, ◌*◌, ◌++◌, ◌∷◌, [], length, slice_get, IsSome, Some, None, IfOk, OnOk, OnErr, IfErr, MatchOption};
+ghost use Rattle.std.specs.Prelude.{nat_eq, ◌≡◌, ℕ, ◌<◌, ◌≤◌, ◌*◌, [], length, slice_get, IsSome, Some, None, IfOk, OnOk, OnErr, IfErr, MatchOption};
 ghost use Rattle.std.specs.List.{IsDistinct};
 ghost use Rattle.std.specs.FinMap as map;
 ghost use Rattle.std.specs.Option.{option_copied, option_map, ForSome};
@@ -14,7 +14,7 @@ use crate::slot::{Slot, blank_numbers};
 use crate::take::{end_wait, next_in, take_wait, wait_in};
 use crate::wait::{About, Wait, tell};
 use nt_alarms::Alarms;
-use nt_status::{Handle, Refusal, ThreadId};
+use nt_status::{Handle, MAX_WAIT_OBJECTS, Refusal, ThreadId};
 use std::alloc::{AllocError, Global};
 use std::marker::Model;
 
@@ -69,7 +69,8 @@ impl Model for WaitTable {
 impl WaitTable {
     ghost use Rattle.nt_waits.specs.Looking.{LeavesLooked};
     ghost use Rattle.nt_waits.specs.Deadlines.{NoDeadline, NoneEarlier, IsEarliestDeadline, NoneWithDeadline, IsFirstWithDeadline};
-    ghost use Rattle.nt_waits.specs.Waits.{Begins, wait_of, wait_for, queue_of, about_of, others, Agrees, IsTouched, Names, IsMember, next_after};
+    ghost use Rattle.nt_status.specs.Lists.{IsMember};
+    ghost use Rattle.nt_waits.specs.Waits.{Begins, wait_of, wait_for, queue_of, about_of, others, Agrees, IsTouched, next_after};
 
     /// A table with no wait.
     pub fn new(alloc: Global) -> Self
@@ -124,7 +125,7 @@ impl WaitTable {
     #[inline(always)]
     pub fn begin(&mut self, t: ThreadId, wait: Wait) -> Result<(), Refusal>
         requires free { wait_of self.old t ≡ None }
-        requires few { length wait.handles ≤ 64 }
+        requires few { length wait.handles ≤ MAX_WAIT_OBJECTS }
         requires distinct { IsDistinct nat_eq wait.handles }
         ensures begins { OnOk result (Begins self.old self.new t wait) }
         ensures agrees { Agrees self.new.pending self.new.queues }
@@ -144,7 +145,7 @@ impl WaitTable {
         about: About,
     ) -> Result<(), Refusal>
         requires free { wait_of self.old t ≡ None }
-        requires few { length handles.now ≤ 64 }
+        requires few { length handles.now ≤ MAX_WAIT_OBJECTS }
         requires distinct { IsDistinct nat_eq handles.now }
         ensures begins { OnOk result (Begins self.old self.new t (wait_for handles.now all about)) }
         ensures agrees { Agrees self.new.pending self.new.queues }
@@ -162,7 +163,7 @@ impl WaitTable {
     /// Makes all the room that the thread's wait needs, and keeps the wait until it begins. Until then waits may end, and the room
     /// stays. Refused only where memory is, and then nothing changes.
     pub fn prepare(&mut self, t: ThreadId, wait: Wait) -> Result<(), Refusal>
-        requires few { length wait.handles ≤ 64 }
+        requires few { length wait.handles ≤ MAX_WAIT_OBJECTS }
         requires distinct { IsDistinct nat_eq wait.handles }
         ensures ok { OnOk result (self.new ≡ record self.old { prepared = Some (t, wait) }) }
         ensures memory { IfErr result (λ refusal. refusal ≡ Refusal.Memory) }
@@ -319,10 +320,15 @@ impl WaitTable {
     }
 
     /// The thread whose wait on the handle began next after this thread's.
+    #[inline(always)]
     pub fn next_on(&self, handle: Handle, t: ThreadId) -> Option<ThreadId>
         requires { IsMember (queue_of self.now handle) t }
         ensures { result ≡ next_after t (queue_of self.now handle) }
     {
+        // Mostly one thread waits on it, and then its place among the handles of its wait need not be found.
+        if self.queues.count(handle) == 1 {
+            return None;
+        }
         next_in(&self.queues, &self.waits, handle, t)
     }
 

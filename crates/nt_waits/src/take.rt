@@ -5,7 +5,8 @@ ghost use Rattle.nt_waits.specs.Queues.{list_at};
 ghost use Rattle.std.specs.List.{position};
 ghost use Rattle.nt_waits.specs.Table.{threads, slot_at, IsTable};
 ghost use Rattle.nt_waits.specs.Ended.{IsEnded};
-ghost use Rattle.nt_waits.specs.Waits.{IsTouched, IsMember, next_after};
+ghost use Rattle.nt_status.specs.Lists.{IsMember};
+ghost use Rattle.nt_waits.specs.Waits.{IsTouched, next_after};
 
 use crate::pending::Pending;
 use crate::queues::Queues;

@@ -1,6 +1,7 @@
-use Rattle.std.proofs.Common.{◌≡◌, ◌≤◌, ◌^◌, ◌⊎◌, ℕ, sym, subst, refl, ap, ◌∙◌, inl, inr, arith}
+use Rattle.std.proofs.Common.{◌≡◌, ◌≤◌, ◌⊎◌, ℕ, sym, subst, refl, ap, ◌∙◌, inl, inr, arith}
 use Rattle.std.proofs.lemmas.Bool.Decides.{nat_tests}
 use Rattle.std.specs.Prelude.{Bool, true, nat_le, Option, Some, MatchBool, MatchOption}
+use Rattle.nt_status.specs.declared.limits.TheConstants.{MAX_MOMENT}
 use Rattle.nt_core.specs.Dispatcher.{Dispatcher, state}
 use Rattle.nt_core.specs.Steps.{IsNextMoment, NothingDue}
 use Rattle.nt_c.specs.declared.handle.Nt.{Nt}
@@ -17,9 +18,9 @@ abbrev TellsBy : Bool → Option Dispatcher → ℕ → ℕ → ℕ → ℕ → 
 TellsBy known held m number before after =
     MatchBool known (MatchOption held ((number ≡ 6) × (after ≡ before)) (λ core. Tells core m number before after)) ((number ≡ 87) × (after ≡ before))
 
-told : (nt : Nt) (core : Dispatcher) (m up_to number before after : ℕ) → nt.cell.core ≡ Some core → up_to ≡ m → m ≤ 2 ^ 62 → Tells core up_to number before after → ReadsDue m nt number before after
+told : (nt : Nt) (core : Dispatcher) (m up_to number before after : ℕ) → nt.cell.core ≡ Some core → up_to ≡ m → m ≤ MAX_MOMENT → Tells core up_to number before after → ReadsDue m nt number before after
 told nt core m up_to number before after held same known tells =
-    let test : nat_le m (2 ^ 62) ≡ true = grind (arith, nat_tests, known) in
+    let test : nat_le m MAX_MOMENT ≡ true = grind (arith, nat_tests, known) in
     subst (λ (b : Bool). TellsBy b nt.cell.core m number before after) (sym test)
     (subst (λ (o : Option Dispatcher). TellsBy true o m number before after) (sym held)
     (subst (λ (n : ℕ). Tells core n number before after) same tells))

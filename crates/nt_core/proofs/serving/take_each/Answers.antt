@@ -15,12 +15,12 @@ loop-handle-preserved c =
     let more : take_each c.args.objects.now.items c.args.thread (take (i + 1) hs) ≡ take_at (take_each c.args.objects.now.items c.args.thread (take i hs)) c.args.thread (get_or hs i 0) =
     ap (λ xs. take_each c.args.objects.now.items c.args.thread xs) (take_more hs i 0 lt) ∙ take_each_more c.args.objects.now.items c.args.thread (take i hs) (get_or hs i 0) in
     record {
-      taken = c.take_at.ensures.items ∙ (ap (λ os. take_at os c.args.thread h) c.loop-handle.invariant.taken ∙ (ap (λ k. take_at (take_each c.args.objects.now.items c.args.thread (take i hs)) c.args.thread k) item ∙ sym more));
+      taken = c.take_at-status.ensures.items ∙ (ap (λ os. take_at os c.args.thread h) c.loop-handle.invariant.taken ∙ (ap (λ k. take_at (take_each c.args.objects.now.items c.args.thread (take i hs)) c.args.thread k) item ∙ sym more));
       ready = λ j above below.
           let differs : get_or hs j 0 ≢ h = λ e. differ hs i j c.requires.apart (omega (arith, above)) below (sym (e ∙ item)) in
-          rw c.take_at.ensures.items (ready_other c.loop-handle.objects.items c.args.thread h (get_or hs j 0) differs ∙ c.loop-handle.invariant.ready j (omega (arith, above)) below);
+          rw c.take_at-status.ensures.items (ready_other c.loop-handle.objects.items c.args.thread h (get_or hs j 0) differs ∙ c.loop-handle.invariant.ready j (omega (arith, above)) below);
       room = λ j above below.
           let differs : get_or hs j 0 ≢ h = λ e. differ hs i j c.requires.apart (omega (arith, above)) below (sym (e ∙ item)) in
-          rw c.take_at.ensures.items (ap has_room (object_taken_other c.loop-handle.objects.items c.args.thread h (get_or hs j 0) differs) ∙ c.loop-handle.invariant.room j (omega (arith, above)) below);
-      threads = c.take_at.ensures.threads ∙ c.loop-handle.invariant.threads;
+          rw c.take_at-status.ensures.items (ap has_room (object_taken_other c.loop-handle.objects.items c.args.thread h (get_or hs j 0) differs) ∙ c.loop-handle.invariant.room j (omega (arith, above)) below);
+      threads = c.take_at-status.ensures.threads ∙ c.loop-handle.invariant.threads;
     }

@@ -27,6 +27,6 @@ pub returns-clause-tried : goal.returns-clause-tried
 returns-clause-tried c =
     let first = first_pass (is_ready c.args.objects.now.items c.args.thread) c.args.handles.now c.in_ok-place.place (sym (rw c.as_slice.ensures at c.ready_place.ensures) ∙ c.in_ok-place.was) in
     let item : c.index-handles-place.result ≡ get_or c.args.handles.now (position_or_len (is_ready c.args.objects.now.items c.args.thread) c.args.handles.now) 0 = item_at (is_ready c.args.objects.now.items c.args.thread) c.args.handles.now c.in_ok-place.place c.index-handles-place.result first c.index-handles-place.is in
-    tried_any c.args.objects.now.items c.take_at.new.objects.items c.args.thread (wait_for c.args.handles.now false) c.status_at.result refl first.any
-    (c.status_at.ensures ∙ (ap (λ m. status_at m c.in_ok-place.place) (rw c.as_slice-2.ensures at c.has_mark-marked.ensures ∙ ap (λ h. has_mark c.args.objects.now.items h) item) ∙ ap (λ i. status_at (has_mark c.args.objects.now.items (get_or c.args.handles.now (position_or_len (is_ready c.args.objects.now.items c.args.thread) c.args.handles.now) 0)) i) first.least))
+    tried_any c.args.objects.now.items c.take_at.new.objects.items c.args.thread (wait_for c.args.handles.now false) c.take_at.result refl first.any
+    (c.take_at.ensures.status ∙ (ap (λ h. status_at (has_mark c.args.objects.now.items h) c.in_ok-place.place) item ∙ ap (λ i. status_at (has_mark c.args.objects.now.items (get_or c.args.handles.now (position_or_len (is_ready c.args.objects.now.items c.args.thread) c.args.handles.now) 0)) i) first.least))
     (c.take_at.ensures.items ∙ ap (λ h. take_at c.args.objects.now.items c.args.thread h) item)

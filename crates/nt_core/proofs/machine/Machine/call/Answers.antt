@@ -1,4 +1,4 @@
-use Rattle.std.proofs.Common.{◌≡◌, List, length, Ok, sym, ap, ◌∙◌, subst, arith}
+use Rattle.std.proofs.Common.{List, Ok, sym, subst}
 use Rattle.nt_core.specs.declared.call.Grant.{Grant}
 use Rattle.nt_core.specs.Naming.{call_named}
 use Rattle.nt_core.specs.Rights.{is_denied}
@@ -6,7 +6,6 @@ use Rattle.nt_core.specs.State.{State}
 use Rattle.nt_core.specs.Dispatcher.{state}
 use Rattle.nt_core.specs.Living.{LivesWhileKept}
 use Rattle.nt_core.specs.Steps.{Made}
-use Rattle.nt_core.proofs.Remaining.{same_count}
 use Rattle.nt_core.proofs.machine.Machine.call.Goals as goal
 
 pub returns-in_err-reply-clause-living : goal.returns-in_err-reply-clause-living
@@ -18,10 +17,3 @@ returns-clause-called c =
     let left = state c.make.new.self in
     let made = subst (λ (gs : List Grant). Made (state old) c.args.who (is_denied (state old) c.args.call.now) (call_named old.handles c.args.call.now) (Ok c.in_ok-reply.reply) gs left) (sym c.end_forgotten.ensures.grants) c.in_ok-reply.ensures.made in
     (left, made, c.end_forgotten.ensures.ends)
-
-pub returns-clause-room : goal.returns-clause-room
-returns-clause-room c =
-    let ends = c.end_forgotten.ensures.ends in
-    let same : length c.end_forgotten.new.self.objects ≡ length c.make.new.self.objects = ap (λ (s : State). length s.objects) ends.leaves ∙ same_count (state c.make.new.self) ends.objects in
-    let room = c.in_ok-reply.ensures.room in
-    omega (arith, same, room)

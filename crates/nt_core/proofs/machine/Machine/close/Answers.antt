@@ -9,8 +9,8 @@ use Rattle.nt_core.proofs.Closing.{close_free, opened_of, closed_accepted}
 use Rattle.nt_core.proofs.Making.{refused_made, accepted_made}
 use Rattle.nt_core.proofs.machine.Machine.close.Goals as goal
 
-pub returns-in-Some-clause-made : goal.returns-in-Some-clause-made
-returns-in-Some-clause-made c t free =
+pub returns-in-Some : goal.returns-in-Some
+returns-in-Some c t free =
     refused_made c.args.self.now t false (Call.Act (Act.Close c.args.handle)) c.in-Some.refusal c.requires.fresh free (ap (λ (d : Dispatcher). first_of_causes (close_causes d.handles c.args.handle)) (sym c.self.view_is) ∙ (sym c.close_refusal.ensures ∙ c.in-Some.is))
 
 pub close_handle-object-requires : goal.close_handle-object-requires
@@ -27,8 +27,8 @@ mark-requires c =
     let same : length c.close_handle-object.new.self.leaving ≡ length old.leaving = ap (λ (d : Dispatcher). length d.leaving) c.close_handle-object.ensures.closed in
     omega (arith, object, known, count, same)
 
-pub returns-clause-made : goal.returns-clause-made
-returns-clause-made c t free =
+pub returns : goal.returns
+returns c t free =
     let old = c.args.self.now in
     let none = ap (λ (d : Dispatcher). first_of_causes (close_causes d.handles c.args.handle)) (sym c.self.view_is) ∙ (sym c.close_refusal.ensures ∙ c.in_default.is) in
     let there = opened_of (opened_at old.handles c.args.handle) (close_free old.handles c.args.handle none) in

@@ -7,14 +7,14 @@ use Rattle.nt_core.specs.declared.call.Call.{Call}
 use Rattle.nt_core.proofs.Making.{refused_made, unlawful_creation, unknown_bits, created_made, created_as}
 use Rattle.nt_core.proofs.machine.Machine.create_event.Goals as goal
 
-pub returns-in_default-clause-made : goal.returns-in_default-clause-made
-returns-in_default-clause-made c t free =
+pub returns-in_default : goal.returns-in_default
+returns-in_default c t free =
     let old = c.args.self.now in
     refused_made old t false (Call.Act (Act.CreateEvent c.args.flags)) InvalidParameter c.requires.fresh free
     (unlawful_creation old.handles (only_known event_bits c.args.flags) (unknown_bits (only_known event_bits c.args.flags) (λ known. c.in_default.ensures.known.1 known)))
 
-pub returns-clause-made : goal.returns-clause-made
-returns-clause-made c t free =
+pub returns : goal.returns
+returns c t free =
     let old = c.args.self.now in
     let new = c.create.new.self in
     let o = event_of c.args.flags in

@@ -10,14 +10,14 @@ use Rattle.nt_core.proofs.Replacing.{mutex_undue, mutex_no_thread, mutex_lives}
 use Rattle.nt_core.proofs.Making.{refused_made, unlawful_creation, unknown_bits, created_made, created_as}
 use Rattle.nt_core.proofs.machine.Machine.create_mutex.Goals as goal
 
-pub returns-in_default-clause-made : goal.returns-in_default-clause-made
-returns-in_default-clause-made c =
+pub returns-in_default : goal.returns-in_default
+returns-in_default c =
     let old = c.args.self.now in
     refused_made old c.args.thread false (Call.Act (Act.CreateMutex c.args.flags)) InvalidParameter c.requires.fresh c.requires.free
     (unlawful_creation old.handles (only_known mutex_bits c.args.flags) (unknown_bits (only_known mutex_bits c.args.flags) (λ known. c.in_default.ensures.known.1 known)))
 
-pub returns-clause-made : goal.returns-clause-made
-returns-clause-made c =
+pub returns : goal.returns
+returns c =
     let old = c.args.self.now in
     let new = c.create.new.self in
     let o = mutex_of c.args.flags c.args.thread in

@@ -10,8 +10,8 @@ use Rattle.nt_core.specs.declared.call.Call.{Call}
 use Rattle.nt_core.proofs.Making.{refused_made, unlawful_creation, unknown_bits, created_made, created_as}
 use Rattle.nt_core.proofs.machine.Machine.create_semaphore.Goals as goal
 
-pub returns-in_default-clause-made : goal.returns-in_default-clause-made
-returns-in_default-clause-made c t free =
+pub returns-in_default : goal.returns-in_default
+returns-in_default c t free =
     let old = c.args.self.now in
     let initial : to_z w32 (of_z w32 c.args.initial) ≡ c.args.initial = to_z-of_z w32 c.args.initial c.ranges.initial in
     let maximum : to_z w32 (of_z w32 c.args.maximum) ≡ c.args.maximum = to_z-of_z w32 c.args.maximum c.ranges.maximum in
@@ -19,8 +19,8 @@ returns-in_default-clause-made c t free =
     refused_made old t false (Call.Act (Act.CreateSemaphore c.args.initial c.args.maximum)) InvalidParameter c.requires.fresh free
     (unlawful_creation old.handles (may_count c.args.initial c.args.maximum) (unknown_bits (may_count c.args.initial c.args.maximum) (λ known. told.1 known)))
 
-pub returns-clause-made : goal.returns-clause-made
-returns-clause-made c t free =
+pub returns : goal.returns
+returns c t free =
     let old = c.args.self.now in
     let new = c.create.new.self in
     let o = Semaphore c.args.initial c.args.maximum in

@@ -13,14 +13,14 @@ use Rattle.nt_core.proofs.Replacing.{duplicate_free, duplicated_accepted}
 use Rattle.nt_core.proofs.Making.{refused_with, unmade_with, accepted_made}
 use Rattle.nt_core.proofs.machine.Machine.duplicate.Goals as goal
 
-pub returns-in_err-object-clause-made : goal.returns-in_err-object-clause-made
-returns-in_err-object-clause-made c t free =
+pub returns-in_err-object : goal.returns-in_err-object
+returns-in_err-object c t free =
     let old = c.args.self.now in
     let act = Act.Duplicate c.args.handle c.args.access in
     refused_with old t (act_denied old.handles act) (Call.Act (act_named old.handles act)) c.in_err-object.field-0.0 c.from_residual.result c.from_residual.ensures.1 c.requires.fresh free c.in_err-object.ensures
 
-pub returns-in_err-open-clause-made : goal.returns-in_err-open-clause-made
-returns-in_err-open-clause-made c t free =
+pub returns-in_err-open : goal.returns-in_err-open
+returns-in_err-open c t free =
     let old = c.args.self.now in
     let new = c.open.new.self in
     let act = Act.Duplicate c.args.handle c.args.access in
@@ -28,8 +28,8 @@ returns-in_err-open-clause-made c t free =
     subst (λ (h : ℕ). IsMade old new t (act_denied old.handles act) (Call.Act (Act.Duplicate h c.args.access)) c.from_residual-in_err-open.result) judged.0
     (unmade_with old new t (act_denied old.handles act) (Call.Act (Act.Duplicate c.in_ok-object.object c.args.access)) c.from_residual-in_err-open.result c.from_residual-in_err-open.ensures.1 c.requires.fresh free judged.1 refl c.in_err-open.ensures.err)
 
-pub returns-clause-made : goal.returns-clause-made
-returns-clause-made c t free =
+pub returns : goal.returns
+returns c t free =
     let old = c.args.self.now in
     let new = c.open.new.self in
     let act = Act.Duplicate c.args.handle c.args.access in

@@ -1,13 +1,10 @@
-use Rattle.std.proofs.Common.{◌≡◌, ◌-◌, length, vec_capacity}
+use Rattle.std.proofs.Common.{◌-◌, length}
 use Rattle.nt_core.proofs.Passing.{ExpiredSoFar}
 use Rattle.nt_core.proofs.machine.Machine.expire_all.Given as goal
 
 abbrev pub invariant-loop-place : goal.invariant-loop-place
-invariant-loop-place l = record {
-  far : ExpiredSoFar l.initial.self l.self l.m l.u l.changed.items l.alerted;
-  room : vec_capacity l.changed ≡ vec_capacity l.initial.changed;
-}
+invariant-loop-place l = ExpiredSoFar l.initial.self l.self l.m l.u l.changed l.alerted
 
 -- objects that are not listed
 abbrev pub decreases-loop-place : goal.decreases-loop-place
-decreases-loop-place l = length l.self.objects - length l.changed.items
+decreases-loop-place l = length l.self.objects - length l.changed

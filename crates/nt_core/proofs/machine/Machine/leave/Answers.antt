@@ -1,13 +1,13 @@
 use Rattle.std.proofs.Common.{◌≡◌, ◌<◌, ◌++◌, ◌∷◌, ℕ, List, [], true, false, Some, length, map, sym, ap, ◌∙◌, subst, arith}
 use Rattle.std.specs.List.Sorted.{IsPermutation}
-use Rattle.std.proofs.lemmas.List.{length-map}
 use Rattle.std.proofs.lemmas.List.Sorted.{IsNonDecreasingBy-from_sort}
 use Rattle.nt_objects.specs.declared.object.Object.{Object}
 use Rattle.nt_objects.specs.Object.{is_timer, has_ended, owned_by, setter_of, abandoned_by}
 use Rattle.std.specs.FinMap as fin
 use Rattle.nt_core.specs.State.{State, object_at}
 use Rattle.nt_core.specs.Dispatcher.{Dispatcher, state}
-use Rattle.nt_core.specs.Rising.{Lists, AreRising}
+use Rattle.nt_status.specs.Lists.{Lists}
+use Rattle.nt_core.specs.Rising.{AreRising}
 use Rattle.nt_core.specs.Serving.{IsChanged}
 use Rattle.nt_core.specs.Change.{exited}
 use Rattle.nt_core.specs.Lawful.{IsSound}
@@ -16,33 +16,31 @@ use Rattle.nt_core.proofs.Ending.{AreGathered, exited_state, stopped_own, none_s
 use Rattle.nt_core.proofs.machine.Machine.leave.Goals as goal
 
 pub abandon_all-requires : goal.abandon_all-requires
-abandon_all-requires c = let none = c.clear.ensures.len in let room = c.requires.room in let kept = c.clear.ensures.capacity in record { room = omega (arith, none, room, kept) }
+abandon_all-requires c =
+    let none = ap (λ (hs : List ℕ). length hs) c.clear.ensures in
+    let most = c.requires.sound.handles.few in
+    let enough = c.requires.sound.handles.enough in
+    record { room = omega (arith, none, most, enough) }
 
 pub list_timers-requires : goal.list_timers-requires
 list_timers-requires c =
     let old = c.args.self.now in
     let t = c.args.thread in
-    let owned : Lists (λ m. owned_by (object_at old.objects m) t ≡ true) [] c.abandon_all.new.changed.items = subst (λ (xs : List ℕ). Lists (λ m. owned_by (object_at old.objects m) t ≡ true) xs c.abandon_all.new.changed.items) c.clear.ensures.items c.abandon_all.ensures.listed in
+    let owned : Lists (λ m. owned_by (object_at old.objects m) t ≡ true) [] c.abandon_all.new.changed = subst (λ (xs : List ℕ). Lists (λ m. owned_by (object_at old.objects m) t ≡ true) xs c.abandon_all.new.changed) c.clear.ensures c.abandon_all.ensures.listed in
     let objects : c.abandon_all.new.self.objects ≡ map (abandoned_by t) old.objects = ap (λ (d : Dispatcher). d.objects) c.abandon_all.ensures.abandoned in
     let threads : c.abandon_all.new.self.threads ≡ old.threads = ap (λ (d : Dispatcher). d.threads) c.abandon_all.ensures.abandoned in
     record {
       sound = subst IsSound (sym c.abandon_all.ensures.abandoned) (abandoned_sound old t c.abandon_all.new.self.owned c.requires.sound);
       known = let known = c.requires.known in omega (arith, known, threads);
-      once = mutexes_once old.objects t c.abandon_all.new.changed.items owned;
-      others = λ h m. subst (λ (os : List Object). (h < length os) × (is_timer (object_at os h) ≡ false)) (sym objects) (mutexes_others old.objects t c.abandon_all.new.changed.items owned h m);
-      room =
-          let len : length c.abandon_all.new.self.objects ≡ length old.objects = ap (λ os. length os) objects ∙ length-map old.objects (abandoned_by t) in
-          let room = c.requires.room in
-          let cleared = c.clear.ensures.capacity in
-          let kept = c.abandon_all.ensures.capacity in
-          omega (arith, len, room, cleared, kept);
+      once = mutexes_once old.objects t c.abandon_all.new.changed owned;
+      others = λ h m. subst (λ (os : List Object). (h < length os) × (is_timer (object_at os h) ≡ false)) (sym objects) (mutexes_others old.objects t c.abandon_all.new.changed owned h m);
     }
 
 pub stop_all-requires-clause-kind : goal.stop_all-requires-clause-kind
 stop_all-requires-clause-kind c =
     let mutexes = c.abandon_all.new.changed in
-    let count : c.len-mutexes.result ≡ length mutexes.items = let len = c.len-mutexes.ensures in let ok = mutexes.ok.0 in omega (arith, len, ok) in
-    tail_timers c.abandon_all.new.self.objects c.args.thread mutexes.items c.list_timers.new.changed.items c.deref.result.now c.len-mutexes.result c.list_timers.ensures.listed c.deref.ensures.value count
+    let count : length c.as_slice-mutexes.result.now ≡ length mutexes = ap (λ (hs : List ℕ). length hs) c.as_slice-mutexes.ensures in
+    tail_timers c.abandon_all.new.self.objects c.args.thread mutexes c.list_timers.new.changed c.as_slice.result.now (length c.as_slice-mutexes.result.now) c.list_timers.ensures c.as_slice.ensures count
 
 pub stop_all-requires-clause-sound : goal.stop_all-requires-clause-sound
 stop_all-requires-clause-sound c = subst IsSound (sym c.abandon_all.ensures.abandoned) (abandoned_sound c.args.self.now c.args.thread c.abandon_all.new.self.owned c.requires.sound)
@@ -52,33 +50,31 @@ end_own-requires c =
     let mutexes = c.abandon_all.new.changed in
     let mid = c.abandon_all.new.self in
     let stopped = c.stop_all.new.self in
-    let count : c.len-mutexes.result ≡ length mutexes.items = let len = c.len-mutexes.ensures in let ok = mutexes.ok.0 in omega (arith, len, ok) in
-    let stops = tail_stopped mid stopped c.args.thread mutexes.items c.list_timers.new.changed.items c.deref.result.now c.len-mutexes.result c.list_timers.ensures.listed c.deref.ensures.value count c.stop_all.ensures.stopped in
+    let count : length c.as_slice-mutexes.result.now ≡ length mutexes = ap (λ (hs : List ℕ). length hs) c.as_slice-mutexes.ensures in
+    let stops = tail_stopped mid stopped c.args.thread mutexes c.list_timers.new.changed c.as_slice.result.now (length c.as_slice-mutexes.result.now) c.list_timers.ensures c.as_slice.ensures count c.stop_all.ensures.stopped in
     let rest : stopped ≡ record c.args.self.now { objects = stopped.objects; owned = mid.owned; alarms = stopped.alarms } =
     stops.rest ∙ ap (λ (d : Dispatcher). record d { objects = stopped.objects; alarms = stopped.alarms }) c.abandon_all.ensures.abandoned in
     record {
       sound = c.stop_all.ensures.sound;
       idle = ap (λ (d : Dispatcher). fin.get d.table.pending c.args.thread) rest ∙ c.requires.idle;
       known = let known = c.requires.known in let threads : stopped.threads ≡ c.args.self.now.threads = ap (λ (d : Dispatcher). d.threads) rest in omega (arith, known, threads);
-      runs = ap has_ended (stopped_own c.args.self.now mid stopped c.args.thread (c.list_timers.ensures.listed).more c.requires.sound c.requires.known c.requires.runs c.abandon_all.ensures.abandoned (c.list_timers.ensures.listed).exactly stops);
-      unset = none_set mid stopped c.args.thread (c.list_timers.ensures.listed).more (c.list_timers.ensures.listed).exactly stops;
+      runs = ap has_ended (stopped_own c.args.self.now mid stopped c.args.thread (c.list_timers.ensures).more c.requires.sound c.requires.known c.requires.runs c.abandon_all.ensures.abandoned (c.list_timers.ensures).exactly stops);
+      unset = none_set mid stopped c.args.thread (c.list_timers.ensures).more (c.list_timers.ensures).exactly stops;
     }
 
-pub push_reserved-requires : goal.push_reserved-requires
-push_reserved-requires c =
+pub push-requires : goal.push-requires
+push-requires c =
     let old = c.args.self.now in
     let t = c.args.thread in
     let mutexes = c.abandon_all.new.changed in
     let all = c.list_timers.new.changed in
-    let owned : Lists (λ m. owned_by (object_at old.objects m) t ≡ true) [] mutexes.items = subst (λ (xs : List ℕ). Lists (λ m. owned_by (object_at old.objects m) t ≡ true) xs mutexes.items) c.clear.ensures.items c.abandon_all.ensures.listed in
-    let timers : Lists (λ h. setter_of (object_at (map (abandoned_by t) old.objects) h) ≡ Some t) mutexes.items all.items = subst (λ (d : Dispatcher). Lists (λ h. setter_of (object_at d.objects h) ≡ Some t) mutexes.items all.items) c.abandon_all.ensures.abandoned c.list_timers.ensures.listed in
-    let listed : AreGathered old t mutexes.items all.items = record { owned = owned; timers = timers } in
-    let few = own_room old t mutexes.items all.items c.requires.sound c.requires.known c.requires.runs listed in
-    let room = c.requires.room in
-    let first = c.clear.ensures.capacity in
-    let second = c.abandon_all.ensures.capacity in
-    let third = c.list_timers.ensures.capacity in
-    omega (arith, few, room, first, second, third, all.ok.0)
+    let owned : Lists (λ m. owned_by (object_at old.objects m) t ≡ true) [] mutexes = subst (λ (xs : List ℕ). Lists (λ m. owned_by (object_at old.objects m) t ≡ true) xs mutexes) c.clear.ensures c.abandon_all.ensures.listed in
+    let timers : Lists (λ h. setter_of (object_at (map (abandoned_by t) old.objects) h) ≡ Some t) mutexes all = subst (λ (d : Dispatcher). Lists (λ h. setter_of (object_at d.objects h) ≡ Some t) mutexes all) c.abandon_all.ensures.abandoned c.list_timers.ensures in
+    let listed : AreGathered old t mutexes all = record { owned = owned; timers = timers } in
+    let few = own_room old t mutexes all c.requires.sound c.requires.known c.requires.runs listed in
+    let most = c.requires.sound.handles.few in
+    let enough = c.requires.sound.handles.enough in
+    omega (arith, few, most, enough)
 
 pub returns-clause-left : goal.returns-clause-left
 returns-clause-left c =
@@ -89,24 +85,21 @@ returns-clause-left c =
     let new = c.end_own.new.self in
     let mutexes = c.abandon_all.new.changed in
     let all = c.list_timers.new.changed in
-    let owned : Lists (λ m. owned_by (object_at old.objects m) t ≡ true) [] mutexes.items = subst (λ (xs : List ℕ). Lists (λ m. owned_by (object_at old.objects m) t ≡ true) xs mutexes.items) c.clear.ensures.items c.abandon_all.ensures.listed in
-    let timers : Lists (λ h. setter_of (object_at (map (abandoned_by t) old.objects) h) ≡ Some t) mutexes.items all.items = subst (λ (d : Dispatcher). Lists (λ h. setter_of (object_at d.objects h) ≡ Some t) mutexes.items all.items) c.abandon_all.ensures.abandoned c.list_timers.ensures.listed in
-    let listed : AreGathered old t mutexes.items all.items = record { owned = owned; timers = timers } in
-    let count : c.len-mutexes.result ≡ length mutexes.items = let len = c.len-mutexes.ensures in let ok = mutexes.ok.0 in omega (arith, len, ok) in
-    let stops = tail_stopped mid stopped t mutexes.items all.items c.deref.result.now c.len-mutexes.result c.list_timers.ensures.listed c.deref.ensures.value count c.stop_all.ensures.stopped in
-    let becomes : state new ≡ exited (state old) t = exited_state old mid stopped new t (c.list_timers.ensures.listed).more c.abandon_all.ensures.abandoned (c.list_timers.ensures.listed).exactly stops c.end_own.ensures.ended in
+    let owned : Lists (λ m. owned_by (object_at old.objects m) t ≡ true) [] mutexes = subst (λ (xs : List ℕ). Lists (λ m. owned_by (object_at old.objects m) t ≡ true) xs mutexes) c.clear.ensures c.abandon_all.ensures.listed in
+    let timers : Lists (λ h. setter_of (object_at (map (abandoned_by t) old.objects) h) ≡ Some t) mutexes all = subst (λ (d : Dispatcher). Lists (λ h. setter_of (object_at d.objects h) ≡ Some t) mutexes all) c.abandon_all.ensures.abandoned c.list_timers.ensures in
+    let listed : AreGathered old t mutexes all = record { owned = owned; timers = timers } in
+    let count : length c.as_slice-mutexes.result.now ≡ length mutexes = ap (λ (hs : List ℕ). length hs) c.as_slice-mutexes.ensures in
+    let stops = tail_stopped mid stopped t mutexes all c.as_slice.result.now (length c.as_slice-mutexes.result.now) c.list_timers.ensures c.as_slice.ensures count c.stop_all.ensures.stopped in
+    let becomes : state new ≡ exited (state old) t = exited_state old mid stopped new t (c.list_timers.ensures).more c.abandon_all.ensures.abandoned (c.list_timers.ensures).exactly stops c.end_own.ensures.ended in
     let objects : new.objects ≡ objects_left old.objects t = ap (λ (s : State). s.objects) becomes in
     let own : c.new.result ≡ t = c.new.ensures ∙ c.get.ensures in
-    let moved : IsPermutation (all.items ++ t ∷ []) c.sort_unstable.new.self.items = subst (λ (xs : List ℕ). IsPermutation xs c.sort_unstable.new.self.items) (c.push_reserved.ensures.items ∙ ap (λ (h : ℕ). all.items ++ h ∷ []) own) c.sort_unstable.ensures.permutation in
+    let moved : IsPermutation (all ++ t ∷ []) c.sort_unstable.new.self.items = subst (λ (xs : List ℕ). IsPermutation xs c.sort_unstable.new.self.items) (c.changed.view_is ∙ (c.push.ensures ∙ ap (λ (h : ℕ). all ++ h ∷ []) own)) c.sort_unstable.ensures.permutation in
     record {
       becomes = becomes;
-      changed = subst (λ (os : List Object). AreRising (IsChanged old.objects os) c.sort_unstable.new.self.items) (sym objects) (sorted_changed old t mutexes.items all.items c.sort_unstable.new.self.items c.requires.sound c.requires.known c.requires.runs listed moved (IsNonDecreasingBy-from_sort (λ x. x) c.sort_unstable.new.self.items c.sort_unstable.ensures.sorted));
+      changed = subst (λ (os : List Object). AreRising (IsChanged old.objects os) c.sort_unstable.new.self.items) (sym objects) (sorted_changed old t mutexes all c.sort_unstable.new.self.items c.requires.sound c.requires.known c.requires.runs listed moved (IsNonDecreasingBy-from_sort (λ x. x) c.sort_unstable.new.self.items c.sort_unstable.ensures.sorted));
       grants = c.end_own.ensures.grants ∙ (ap (λ (d : Dispatcher). d.grants) stops.rest ∙ ap (λ (d : Dispatcher). d.grants) c.abandon_all.ensures.abandoned);
       table = c.end_own.ensures.table ∙ (ap (λ (d : Dispatcher). d.table) stops.rest ∙ ap (λ (d : Dispatcher). d.table) c.abandon_all.ensures.abandoned);
     }
 
 pub returns-clause-sound : goal.returns-clause-sound
 returns-clause-sound c = c.end_own.ensures.sound
-
-pub returns-clause-capacity : goal.returns-clause-capacity
-returns-clause-capacity c = c.sort_unstable.ensures.capacity ∙ (c.push_reserved.ensures.capacity ∙ (c.list_timers.ensures.capacity ∙ (c.abandon_all.ensures.capacity ∙ c.clear.ensures.capacity)))

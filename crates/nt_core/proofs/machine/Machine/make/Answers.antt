@@ -1,15 +1,13 @@
-use Rattle.std.proofs.Common.{◌≡◌, ◌≤◌, ℕ, None, false, length, vec_capacity, arith, sym, ap, subst}
+use Rattle.std.proofs.Common.{◌≡◌, ℕ, None, false, sym, subst}
 use Rattle.std.specs.FinMap.{get}
 use Rattle.nt_objects.specs.Object.{has_ended}
 use Rattle.nt_core.specs.declared.call.Call.{Call}
-use Rattle.nt_core.specs.Calls.{act_creates}
 use Rattle.nt_core.specs.Naming.{wait_named, call_named}
 use Rattle.nt_core.specs.Rights.{wait_denied, is_denied}
 use Rattle.nt_core.specs.State.{State, object_at}
 use Rattle.nt_core.specs.Dispatcher.{state}
 use Rattle.nt_core.specs.Steps.{Made}
 use Rattle.nt_core.proofs.Accepting.{free_caller}
-use Rattle.nt_core.proofs.Lengths.{length_waited, length_made, room_act}
 use Rattle.nt_core.proofs.machine.Machine.make.Goals as goal
 
 pub exit-requires-clause-idle : goal.exit-requires-clause-idle
@@ -28,18 +26,9 @@ pub returns-in-Wait-clause-made : goal.returns-in-Wait-clause-made
 returns-in-Wait-clause-made c =
     let d = c.tell_anew.new.self in
     let new = c.wait.new.self in
-    let by = subst (λ (t : ℕ). Made (state d) t (wait_denied d.handles d.objects c.in-Wait.wait) (Call.Wait (wait_named d.handles c.in-Wait.wait)) c.wait.result new.grants (state new)) c.new-thread.ensures c.wait.ensures.made.made in
+    let by = subst (λ (t : ℕ). Made (state d) t (wait_denied d.handles d.objects c.in-Wait.wait) (Call.Wait (wait_named d.handles c.in-Wait.wait)) c.wait.result new.grants (state new)) c.new-thread.ensures c.wait.ensures.made in
     let from = subst (λ (s : State). Made s c.args.who (wait_denied s.handles s.objects c.in-Wait.wait) (Call.Wait (wait_named s.handles c.in-Wait.wait)) c.wait.result new.grants (state new)) c.tell_anew.ensures.state by in
     subst (λ (call : Call). Made (state c.args.self.now) c.args.who (is_denied (state c.args.self.now) call) (call_named c.args.self.now.handles call) c.wait.result new.grants (state new)) (sym c.in-Wait.is) from
-
-pub returns-in-Wait-clause-room : goal.returns-in-Wait-clause-room
-returns-in-Wait-clause-room c =
-    let d = c.tell_anew.new.self in
-    let new = c.wait.new.self in
-    let same : length d.objects ≡ length c.args.self.now.objects = ap (λ (s : State). length s.objects) c.tell_anew.ensures.state in
-    let waited : length new.objects ≡ length d.objects = length_waited d new c.new-thread.result c.in-Wait.wait c.wait.result c.wait.ensures.made in
-    let room = c.requires.room in
-    omega (arith, waited, same, room)
 
 pub act-requires-clause-idle : goal.act-requires-clause-idle
 act-requires-clause-idle c =
@@ -52,12 +41,3 @@ act-requires-clause-runs c =
     let d = c.tell_anew.new.self in
     let caller = free_caller (state d) c.args.who Call.Exit (c.in_default.ensures.free false Call.Exit) in
     subst (λ (t : ℕ). has_ended (object_at d.objects t) ≡ false) (sym c.new-thread.ensures) caller.1
-
-pub returns-in-Act-clause-room : goal.returns-in-Act-clause-room
-returns-in-Act-clause-room c =
-    let d = c.tell_anew.new.self in
-    let new = c.act.new.self in
-    let same : length d.objects ≡ length c.args.self.now.objects = ap (λ (s : State). length s.objects) c.tell_anew.ensures.state in
-    let room = c.requires.room in
-    let before : length d.objects ≤ vec_capacity c.args.changed.now = omega (arith, same, room) in
-    room_act (act_creates c.in-Act.act) (length d.objects) (length new.objects) (vec_capacity c.args.changed.now) (vec_capacity c.act.new.changed) c.act.ensures.room (λ none. length_made d new c.new-thread.result c.in-Act.act c.act.result c.act.ensures.made none) (λ none. ap (λ v. vec_capacity v) (c.act.ensures.rest none)) before

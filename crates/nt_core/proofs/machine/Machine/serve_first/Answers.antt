@@ -1,5 +1,6 @@
 use Rattle.std.proofs.Common.{ℕ, ◌<◌, ◌+◌, ◌-◌, length, arith, subst, sym, ap, ◌∙◌, refl, Option, Some, ◌≡◌, false, List}
-use Rattle.nt_waits.specs.Waits.{IsMember, next_after}
+use Rattle.nt_status.specs.Lists.{IsMember}
+use Rattle.nt_waits.specs.Waits.{next_after}
 use Rattle.nt_core.specs.Dispatcher.{Dispatcher, state}
 use Rattle.nt_core.specs.Serving.{is_ready}
 use Rattle.nt_objects.specs.declared.object.Object.{Object}

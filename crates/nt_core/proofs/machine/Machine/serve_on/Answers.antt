@@ -1,6 +1,7 @@
 use Rattle.std.proofs.Common.{ℕ, ◌<◌, ◌+◌, ◌-◌, length, arith, subst, sym, ap, ◌∙◌, refl, Option, Some}
 use Rattle.std.specs.Prelude.{slice_get}
-use Rattle.nt_waits.specs.Waits.{IsMember, next_after}
+use Rattle.nt_status.specs.Lists.{IsMember}
+use Rattle.nt_waits.specs.Waits.{next_after}
 use Rattle.nt_core.specs.Dispatcher.{Dispatcher, state}
 use Rattle.nt_core.proofs.Walks.{IsAt, at_first, at_next, at_end, at_member, at_countable, waiters_pend, looked_visited}
 use Rattle.nt_core.proofs.machine.Machine.serve_on.Goals as goal

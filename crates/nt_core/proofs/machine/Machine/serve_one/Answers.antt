@@ -1,31 +1,40 @@
-use Rattle.std.proofs.Common.{◌≡◌, ◌++◌, [], ◌∷◌, length, ap, ◌∙◌, arith}
-use Rattle.std.proofs.lemmas.List.{append-nil}
-use Rattle.nt_core.specs.Dispatcher.{state}
-use Rattle.nt_core.specs.Serving.{sequence}
-use Rattle.nt_core.proofs.Stopping.{one_served}
+use Rattle.std.proofs.Common.{None, sym, ap, ◌∙◌}
+use Rattle.std.specs.Prelude.{slice_get}
+use Rattle.nt_core.specs.Dispatcher.{Dispatcher, state}
+use Rattle.nt_core.proofs.Stopping.{one_served, one_most, one_least, one_countable}
+use Rattle.nt_core.proofs.Walks.{at_first, at_end}
 use Rattle.nt_core.proofs.machine.Machine.serve_one.Goals as goal
 
-pub serve_any-requires-clause-countable : goal.serve_any-requires-clause-countable
-serve_any-requires-clause-countable c =
-    let none = c.requires.anew in
-    let same : length (sequence (state c.args.self.now) (c.args.handle ∷ [])) ≡ length ((state c.args.self.now).queues c.args.handle) = ap (λ q. length q) (append-nil ((state c.args.self.now).queues c.args.handle)) in
-    let few = c.requires.countable in
-    omega (arith, none, same, few)
+pub serve_first-requires-clause-first : goal.serve_first-requires-clause-first
+serve_first-requires-clause-first c =
+    sym (ap (λ (d : Dispatcher). slice_get ((state d).queues c.args.handle) 0) c.self.view_is) ∙ (sym c.first_on.ensures.first ∙ c.in-Some.is)
 
-pub returns-clause-served : goal.returns-clause-served
-returns-clause-served c = one_served c.args.self.now c.serve_any.new.self c.args.handle c.requires.first c.requires.local c.serve_any.ensures.visits
+pub serve_first-requires-clause-countable : goal.serve_first-requires-clause-countable
+serve_first-requires-clause-countable c = one_countable c.args.self.now c.args.handle c.requires.anew c.requires.countable
 
-pub returns-clause-most : goal.returns-clause-most
-returns-clause-most c =
-    let most = c.serve_any.ensures.visits.most in
-    let none = c.requires.anew in
-    let same : length (sequence (state c.args.self.now) (c.args.handle ∷ [])) ≡ length ((state c.args.self.now).queues c.args.handle) = ap (λ q. length q) (append-nil ((state c.args.self.now).queues c.args.handle)) in
-    omega (arith, most, none, same)
+pub returns-in-Some-clause-served : goal.returns-in-Some-clause-served
+returns-in-Some-clause-served c = one_served c.args.self.now c.serve_first.new.self c.args.handle c.requires.first c.requires.local c.serve_first.ensures.visits
 
-pub returns-clause-least : goal.returns-clause-least
-returns-clause-least c =
-    let visits = c.serve_any.ensures.visits in
-    let same : length c.serve_any.new.self.grants ≡ length visits.ended = ap (λ gs. length gs) (visits.grants ∙ ap (λ gs. gs ++ visits.ended) c.requires.first) in
-    let least = visits.least in
-    let none = c.requires.anew in
-    omega (arith, same, least, none)
+pub returns-in-Some-clause-most : goal.returns-in-Some-clause-most
+returns-in-Some-clause-most c = one_most c.args.self.now c.serve_first.new.self c.args.handle c.requires.anew c.serve_first.ensures.visits
+
+pub returns-in-Some-clause-least : goal.returns-in-Some-clause-least
+returns-in-Some-clause-least c = one_least c.args.self.now c.serve_first.new.self c.args.handle c.requires.first c.requires.anew c.serve_first.ensures.visits
+
+pub returns-in_default-clause-served : goal.returns-in_default-clause-served
+returns-in_default-clause-served c =
+    let old = c.args.self.now in
+    let first = c.first_on.ensures.first ∙ ap (λ (d : Dispatcher). slice_get ((state d).queues c.args.handle) 0) c.self.view_is in
+    one_served old old c.args.handle c.requires.first c.requires.local (at_end c.args.handle old old (at_first c.args.handle old None c.requires.sound (sym c.in_default.is ∙ first)))
+
+pub returns-in_default-clause-most : goal.returns-in_default-clause-most
+returns-in_default-clause-most c =
+    let old = c.args.self.now in
+    let first = c.first_on.ensures.first ∙ ap (λ (d : Dispatcher). slice_get ((state d).queues c.args.handle) 0) c.self.view_is in
+    one_most old old c.args.handle c.requires.anew (at_end c.args.handle old old (at_first c.args.handle old None c.requires.sound (sym c.in_default.is ∙ first)))
+
+pub returns-in_default-clause-least : goal.returns-in_default-clause-least
+returns-in_default-clause-least c =
+    let old = c.args.self.now in
+    let first = c.first_on.ensures.first ∙ ap (λ (d : Dispatcher). slice_get ((state d).queues c.args.handle) 0) c.self.view_is in
+    one_least old old c.args.handle c.requires.first c.requires.anew (at_end c.args.handle old old (at_first c.args.handle old None c.requires.sound (sym c.in_default.is ∙ first)))

@@ -6,7 +6,7 @@ use Rattle.nt_core.specs.Lawful.{IsSound}
 use Rattle.nt_core.specs.Accepts.{IsStoppedAfter}
 use Rattle.nt_core.proofs.Owned.{owner_armed}
 use Rattle.nt_core.proofs.Timing.{known_timer}
-use Rattle.nt_core.proofs.Listing.{member_at}
+use Rattle.nt_status.proofs.Lists.{member_at}
 use Rattle.nt_core.proofs.Leaving.{stopped_none, stopped_timer, stopped_next, stopped_sound}
 use Rattle.nt_core.proofs.machine.Machine.stop_all.Goals as goal
 

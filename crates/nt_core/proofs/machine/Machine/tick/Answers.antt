@@ -1,4 +1,4 @@
-use Rattle.std.proofs.Common.{◌≡◌, ◌≤◌, ◌<◌, ℕ, List, length, refl, sym, ap, ◌∙◌, subst, arith}
+use Rattle.std.proofs.Common.{◌≡◌, ◌≤◌, ◌<◌, ℕ, List, sym, ap, ◌∙◌, subst, arith}
 use Rattle.std.specs.Prelude.{Ok}
 use Rattle.nt_core.specs.declared.call.Reply.{Reply}
 use Rattle.nt_core.specs.State.{State}
@@ -10,39 +10,25 @@ use Rattle.nt_core.specs.Living.{Ends, LivesWhileKept}
 use Rattle.nt_core.specs.Lawful.{IsSteady}
 use Rattle.nt_core.specs.Accepts.{IsTickLocal}
 use Rattle.nt_core.proofs.Coming.{left_to_come, left_smaller, tick_first, tick_next, tick_end, tick_ended, tick_countable}
-use Rattle.nt_core.proofs.Remaining.{same_count}
-use Rattle.nt_core.specs.contracts.machine.Machine.{the_view}
 use Rattle.nt_core.proofs.machine.Machine.tick.Goals as goal
 
 pub pass-requires-clause-countable : goal.pass-requires-clause-countable
-pass-requires-clause-countable c = tick_countable c.tell_anew.new.self c.loop-u.self c.args.m c.tell_anew.ensures.fresh.steady.sound c.loop-u.invariant.far
-
-pub pass-requires-clause-room : goal.pass-requires-clause-room
-pass-requires-clause-room c =
-    let count = c.loop-u.invariant.far.count in
-    let room = c.loop-u.invariant.room in
-    let enough = c.requires.room in
-    let same : length c.tell_anew.new.self.objects ≡ length c.args.self.now.objects = ap (λ (s : State). length s.objects) c.tell_anew.ensures.state in
-    omega (arith, count, room, enough, same)
+pass-requires-clause-countable c = tick_countable c.tell_anew.new.self c.loop-u.self c.args.m c.tell_anew.ensures.fresh.steady.sound c.loop-u.invariant
 
 pub loop-u-init : goal.loop-u-init
-loop-u-init c = record { far = tick_first c.tell_anew.new.self c.args.m c.tell_anew.ensures.fresh; room = refl; marks = c.requires.marks }
+loop-u-init c = tick_first c.tell_anew.new.self c.args.m c.tell_anew.ensures.fresh
 
 pub loop-u-smaller : goal.loop-u-smaller
 loop-u-smaller c =
-    let less : left_to_come c.args.m c.pass.new.self < left_to_come c.args.m c.loop-u.self = left_smaller c.loop-u.self c.pass.new.self c.args.m c.in-Some.u c.in-Some.ensures c.pass.ensures.passed in
+    let less : left_to_come c.args.m c.pass.new.self < left_to_come c.args.m c.loop-u.self = left_smaller c.loop-u.self c.pass.new.self c.args.m c.in-Some.u c.in-Some.ensures c.pass.ensures in
     less
 
 pub loop-u-preserved : goal.loop-u-preserved
-loop-u-preserved c = record {
-  far = tick_next c.tell_anew.new.self c.loop-u.self c.pass.new.self c.args.m c.in-Some.u c.loop-u.invariant.far c.in-Some.ensures c.pass.ensures.passed;
-  room = c.pass.ensures.room ∙ c.loop-u.invariant.room;
-  marks = c.pass.ensures.marks;
-}
+loop-u-preserved c = tick_next c.tell_anew.new.self c.loop-u.self c.pass.new.self c.args.m c.in-Some.u c.loop-u.invariant c.in-Some.ensures c.pass.ensures
 
 pub end_forgotten-requires : goal.end_forgotten-requires
 end_forgotten-requires c = record {
-  steady = subst (λ (x : Dispatcher). IsSteady (record x { now = c.args.m })) (sym c.self-2.view_is) (tick_end c.tell_anew.new.self c.loop-u.self c.args.m c.loop-u.invariant.far c.in_default.ensures).0;
+  steady = subst (λ (x : Dispatcher). IsSteady (record x { now = c.args.m })) (sym c.self-2.view_is) (tick_end c.tell_anew.new.self c.loop-u.self c.args.m c.loop-u.invariant c.in_default.ensures).0;
 }
 
 pub returns-then-asked-present-clause-living : goal.returns-then-asked-present-clause-living
@@ -56,7 +42,7 @@ returns-clause-ticked c =
     let q : c.self.inside.moment ≡ c.tell_anew.new.self.now = ap (λ (x : Dispatcher). x.now) c.self.view_is in
     let new = c.end_forgotten.new.self in
     subst (λ (s : State). Ticked s c.args.m (Ok Reply.Done) new.grants (state new)) c.tell_anew.ensures.state
-    (tick_ended c.tell_anew.new.self c.loop-u.self new c.args.m (omega (arith, h, k, p, q)) c.loop-u.invariant.far c.in_default.ensures
+    (tick_ended c.tell_anew.new.self c.loop-u.self new c.args.m (omega (arith, h, k, p, q)) c.loop-u.invariant c.in_default.ensures
     (subst (λ (x : Dispatcher). Ends (state (record x { now = c.args.m })) (state new)) c.self-2.view_is c.end_forgotten.ensures.ends)
     (c.end_forgotten.ensures.grants ∙ ap (λ (x : Dispatcher). x.grants) c.self-2.view_is))
 
@@ -68,15 +54,4 @@ returns-clause-local c =
     subst (λ (s : State). IsTickLocal s c.args.m new.table.looked new.grants) c.tell_anew.ensures.state
     (subst (λ (n : ℕ). IsTickLocal (state c.tell_anew.new.self) c.args.m n new.grants) (sym looked)
     (subst (λ (gs : List Grant). IsTickLocal (state c.tell_anew.new.self) c.args.m c.loop-u.self.table.looked gs) (sym grants)
-    (tick_end c.tell_anew.new.self c.loop-u.self c.args.m c.loop-u.invariant.far c.in_default.ensures).1))
-
-pub returns-clause-room : goal.returns-clause-room
-returns-clause-room c =
-    let count = c.loop-u.invariant.far.count in
-    let room = c.loop-u.invariant.room in
-    let enough = c.requires.room in
-    let same : length c.tell_anew.new.self.objects ≡ length c.args.self.now.objects = ap (λ (s : State). length s.objects) c.tell_anew.ensures.state in
-    let view : length (the_view c.self-2.inside).objects ≡ length c.loop-u.self.objects = ap (λ (x : Dispatcher). length x.objects) c.self-2.view_is in
-    let ends = c.end_forgotten.ensures.ends in
-    let ended : length c.end_forgotten.new.self.objects ≡ length (the_view c.self-2.inside).objects = ap (λ (s : State). length s.objects) ends.leaves ∙ same_count (state (record (the_view c.self-2.inside) { now = c.args.m })) ends.objects in
-    omega (arith, count, room, enough, same, view, ended)
+    (tick_end c.tell_anew.new.self c.loop-u.self c.args.m c.loop-u.invariant c.in_default.ensures).1))

@@ -1,13 +1,8 @@
 use Rattle.nt_core.proofs.Coming.{TickSoFar, left_to_come}
-use Rattle.std.proofs.Common.{◌≡◌, length, vec_capacity}
 use Rattle.nt_core.proofs.machine.Machine.tick.Given as goal
 
 abbrev pub invariant-loop-u : goal.invariant-loop-u
-invariant-loop-u l = record {
-  far : TickSoFar l.initial.self l.self l.m;
-  room : vec_capacity l.changed ≡ vec_capacity l.initial.changed;
-  marks : length l.alerted ≡ 256;
-}
+invariant-loop-u l = TickSoFar l.initial.self l.self l.m
 
 -- timers that are due and waits that pend
 abbrev pub decreases-loop-u : goal.decreases-loop-u

@@ -2,7 +2,8 @@ use Rattle.std.proofs.Common.{◌≡◌, ◌+◌, ◌≤◌, ◌<◌, ◌^◌, �
 use Rattle.std.specs.FinMap as map
 use Rattle.std.specs.Vec.{vec_capacity}
 use Rattle.nt_owners.specs.Objects.{Objects}
-use Rattle.nt_waits.specs.Waits.{Waits, IsMember, queue_of, others}
+use Rattle.nt_status.specs.Lists.{IsMember}
+use Rattle.nt_waits.specs.Waits.{Waits, queue_of, others}
 use Rattle.nt_core.specs.Dispatcher.{Dispatcher, dispatcher_of}
 use Rattle.nt_core.specs.Serving.{IsTried, CanTake, wait_for}
 use Rattle.nt_core.specs.Visits.{IsVisited}

@@ -33,8 +33,8 @@ begin_wait-requires-clause-room c =
     let first : length d.grants ≡ 0 = ap (λ gs. length gs) c.requires.fresh.no_grants in
     omega (arith, room, first)
 
-pub returns-in-Sleep-clause-made : goal.returns-in-Sleep-clause-made
-returns-in-Sleep-clause-made c =
+pub returns-in-Sleep : goal.returns-in-Sleep
+returns-in-Sleep c =
     let old = c.args.self.now in
     let new = c.begin_wait.new.self in
     let t = c.args.thread in

@@ -1,6 +1,7 @@
 use Rattle.std.proofs.Common.{sym, ◌∙◌}
 use Rattle.nt_waits.specs.Waits.{queue_of}
-use Rattle.nt_tests.proofs.Masks.{first_member, next_member}
+use Rattle.nt_status.proofs.Lists.{first_member}
+use Rattle.nt_tests.proofs.Masks.{next_member}
 use Rattle.nt_tests.proofs.waits.masks.is_queue.Goals as goal
 
 pub loop-t-init : goal.loop-t-init

@@ -1,5 +1,6 @@
 use Rattle.std.proofs.Common.{◌≡◌, ℕ, Some}
-use Rattle.nt_waits.specs.Waits.{IsMember, queue_of}
+use Rattle.nt_status.specs.Lists.{IsMember}
+use Rattle.nt_waits.specs.Waits.{queue_of}
 use Rattle.nt_tests.proofs.waits.masks.is_queue.Given as goal
 
 abbrev pub invariant-loop-t : goal.invariant-loop-t

@@ -1,0 +1,16 @@
+//! The most of each thing that there may be, and the timeout without a deadline.
+
+/// The most threads of a dispatcher. Their numbers are 0 to 255.
+pub const MAX_THREADS: u32 = 256;
+
+/// The most handles that a dispatcher gives in its life, so also the most objects. Their numbers are 0 to 65535.
+pub const MAX_HANDLES: usize = 65536;
+
+/// MAXIMUM_WAIT_OBJECTS: the most objects of one wait.
+pub const MAX_WAIT_OBJECTS: usize = 64;
+
+/// The greatest moment, in units of 100 ns since the dispatcher's moment 0. No tick is to a later one.
+pub const MAX_MOMENT: u64 = 1 << 62;
+
+/// INFINITE: the timeout without a deadline. Other timeouts are in milliseconds.
+pub const INFINITE: u32 = 0xFFFF_FFFF;
