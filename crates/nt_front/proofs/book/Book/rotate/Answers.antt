@@ -1,4 +1,4 @@
-use Rattle.std.proofs.Common.{List, ℕ, subst, ap, ◌∙◌}
+use Rattle.std.proofs.Common.{rules, List, ℕ, subst, ap, ◌∙◌}
 use Rattle.nt_mail.specs.declared.entry.Entry.{Entry}
 use Rattle.nt_mail.specs.declared.knowledge.Knowledge.{Knowledge}
 use Rattle.nt_mail.specs.Rule.{IsTold}
@@ -21,3 +21,6 @@ returns-clause-told g c =
       handed = subst (λ (l : List Entry). HandsOut (ledger inside.core inside.base l inside.first inside.journal.items inside.room) c.hand_out.result c.hand_out.new.self) (ap (λ (d : Dispatcher). d.written) c.look.ensures.same.0) c.hand_out.ensures.part;
       goes_on = c.hand_out.ensures.stands;
     }
+
+pub returns-clause-part : goal.returns-clause-part
+returns-clause-part g c = search rules

@@ -1,4 +1,4 @@
-use Rattle.std.proofs.Common.{subst, sym, ◌∙◌}
+use Rattle.std.proofs.Common.{rules, subst, sym, ◌∙◌}
 use Rattle.nt_mail.specs.Knowledge.{IsFree, IsWaiting}
 use Rattle.nt_core.specs.declared.call.Call.{Call}
 use Rattle.nt_front.proofs.Floors.{waits_after, free_after}
@@ -13,3 +13,6 @@ pub invariant_of-result-2 : goal.invariant_of-result-2
 invariant_of-result-2 g c =
     subst IsFree (sym c.in-Ok.ensures.made)
     (free_after c.pass.inside.hold c.in-Ok.begun.entry (Call.Wait c.args.wait) c.in-Ok.begun.result (sym c.has_pended.ensures ∙ c.if-has_pended.false) c.pass.invariant)
+
+pub returns-then-has_pended : goal.returns-then-has_pended
+returns-then-has_pended g c = search rules

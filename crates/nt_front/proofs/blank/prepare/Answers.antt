@@ -1,0 +1,4 @@
+use Rattle.nt_front.proofs.blank.prepare.Goals as goal
+
+pub returns-clause-ok : goal.returns-clause-ok
+returns-clause-ok c = c.parts.ensures.ok
