@@ -1,4 +1,4 @@
-ghost use Rattle.std.specs.Prelude.{◌≡◌, ◌<◌, ◌++◌, ◌∷◌, ◌==◌, [], length, slice_set, Some, None, OnOk, OnErr, IfOk, MatchOption};
+ghost use Rattle.std.specs.Prelude.{◌≡◌, ◌<◌, ◌++◌, ◌∷◌, ◌==◌, [], length, replicate, slice_set, Some, None, OnOk, OnErr, IfOk, MatchOption};
 
 use crate::marks::Marks;
 use crate::tree::{Alarm, first_below, mend};
@@ -39,6 +39,17 @@ impl Alarms {
             alarms: Vec::new(alloc),
             firsts: Vec::new(alloc),
         }
+    }
+
+    /// So many places, each with no alarm.
+    pub fn with_places(alloc: Global, count: usize) -> Result<Self, AllocError>
+        ensures { IfOk result (λ alarms. alarms ≡ replicate count None) }
+    {
+        let mut alarms = Alarms::new(alloc);
+        for _ in 0..count {
+            alarms.add()?;
+        }
+        Ok(alarms)
     }
 
     pub fn len(&self) -> usize

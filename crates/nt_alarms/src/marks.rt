@@ -50,6 +50,15 @@ impl Marks {
         }
     }
 
+    /// So many places, each with no mark.
+    pub fn with_places(alloc: Global, count: usize) -> Result<Self, AllocError>
+        ensures { IfOk result (λ marks. marks ≡ replicate count None) }
+    {
+        let mut marks = Marks::new(alloc);
+        marks.others = Alarms::with_places(alloc, count)?;
+        Ok(marks)
+    }
+
     /// Adds a place, last, with no mark.
     pub fn add(&mut self) -> Result<(), AllocError>
         ensures ok { OnOk result (self.new ≡ self.old ++ None ∷ []) }

@@ -1,6 +1,6 @@
 -- A signal, and the wait that begins after it.
 use Rattle.std.proofs.Common.{◌≡◌, ◌≢◌, ◌<◌, ℕ, zero, suc, ◌+◌, length-set, Bool, true, false, not, ◌&&◌, List, [], ◌∷◌, length, refl, sym, ap, ◌∙◌, subst, arith, Option, Some, None}
-use Rattle.std.specs.Prelude.{pos, nat_eq, slice_index, IsSome}
+use Rattle.std.specs.Prelude.{pos, slice_index, IsSome}
 use Rattle.std.specs.List.{IsDistinct}
 use Rattle.std.specs.FinMap as fin
 use Rattle.std.proofs.lemmas.Bool.{false≢true}
@@ -263,10 +263,6 @@ module _ (old calm : Dispatcher) (t h object ms : ℕ) (alertable : Bool)
 
 pub accepts_prepared : (old new : Dispatcher) (prepared : Option (ℕ × Wait)) (t : ℕ) (call : Call) (reply : Reply) → Accepts (with_prepared old prepared) new t call reply → Accepts old new t call reply
 accepts_prepared old new prepared t call reply accepts = record { step = accepts.step; steady = accepts.steady; local = accepts.local }
-
-pub distinct_one : (h : ℕ) → IsDistinct nat_eq (h ∷ [])
-unfolding IsDistinct
-distinct_one h = (tt, tt)
 
 pub some_of : (prepared : Option (ℕ × Wait)) → IsSome prepared → (p : ℕ × Wait) × (prepared ≡ Some p)
 some_of None there = absurd (false≢true there)

@@ -3,7 +3,6 @@ ghost use Rattle.std.specs.Prelude.{◌≡◌, ◌<◌, None, Some, length, repl
 ghost use Rattle.nt_alarms.specs.Alarms.{NoneAt, IsLowestAt};
 ghost use Rattle.nt_status.specs.declared.limits.TheConstants.{MAX_THREADS};
 
-use crate::objects::no_marks;
 use nt_alarms::Marks;
 use nt_status::{MAX_THREADS, ThreadId};
 use std::alloc::{AllocError, Global};
@@ -32,10 +31,11 @@ impl AlertedThreads {
         ensures { IfOk result (λ alerted. alerted ≡ replicate MAX_THREADS None) }
     {
         Ok(AlertedThreads {
-            marks: no_marks(alloc, MAX_THREADS as usize)?,
+            marks: Marks::with_places(alloc, MAX_THREADS as usize)?,
         })
     }
 
+    /// The thread has a mark from now on.
     pub fn mark(&mut self, thread: ThreadId)
         requires { thread < MAX_THREADS }
         ensures marked { self.new ≡ slice_set self.old thread (Some 0) }
@@ -44,6 +44,7 @@ impl AlertedThreads {
         self.marks.set(thread.get() as usize);
     }
 
+    /// The thread has no mark any more.
     pub fn unmark(&mut self, thread: ThreadId)
         requires { thread < length self.old }
         ensures { self.new ≡ slice_set self.old thread None }

@@ -12,9 +12,8 @@ ghost use Rattle.nt_core.specs.Living.{LivesWhileKept};
 ghost use Rattle.nt_core.specs.Accepts.{IsFresh, IsFree, IsLocal, IsActMade};
 
 use crate::call::{Act, Call, Reply};
-use crate::handle_list::{ChangedObjects, NamedObjects};
 use crate::machine::Machine;
-use nt_status::{Refusal, ThreadId};
+use nt_status::{ChangedObjects, NamedObjects, Refusal, ThreadId};
 
 impl Machine {
     /// An act, made or refused by its own causes.

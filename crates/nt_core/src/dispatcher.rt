@@ -12,10 +12,9 @@ ghost use Rattle.nt_core.specs.Moves.{Moves, IsMomentAfter, pended, is_wait};
 
 use crate::alerted::AlertedThreads;
 use crate::call::{Call, Grant, Reply};
-use crate::handle_list::{ChangedObjects, NamedObjects};
 use crate::living::count_living;
 use crate::machine::Machine;
-use nt_status::{MAX_THREADS, Moment, Refusal};
+use nt_status::{ChangedObjects, MAX_THREADS, Moment, NamedObjects, Refusal};
 use std::alloc::Global;
 use std::marker::Model;
 
@@ -167,7 +166,7 @@ impl Core {
         ensures value { IfOk result (λ copied. copied ≡ self.now) }
         ensures memory { IfErr result (λ refusal. refusal ≡ Memory) }
     {
-        let alloc = *self.changed.handles.allocator();
+        let alloc = *self.machine.grants.allocator();
         let numbers = NamedObjects::new(alloc)?;
         let changed = ChangedObjects::new(alloc)?;
         let alerted = AlertedThreads::new(alloc)?;

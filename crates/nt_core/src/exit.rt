@@ -13,10 +13,9 @@ ghost use Rattle.nt_core.specs.Accepts.{IsFresh, IsStoppedAfter, IsExitedAfter, 
 ghost use Rattle.nt_core.specs.declared.call.Call.{Call};
 ghost use Rattle.nt_core.specs.declared.call.Reply.{Reply};
 
-use crate::handle_list::ChangedObjects;
 use crate::machine::Machine;
 use nt_objects::Object;
-use nt_status::{Handle, ThreadId};
+use nt_status::{ChangedObjects, Handle, ThreadId};
 
 /// Whether the thread armed the timer at this handle with a routine.
 fn is_set_by(objects: &[Object], thread: ThreadId, handle: Handle) -> bool
@@ -36,7 +35,7 @@ impl Machine {
             { objects = map (abandoned_by thread) self.old.objects; owned = self.new.owned } }
         ensures listed { Lists (λ m. owned_by (object_at self.old.objects m) thread ≡ true) changed.old changed.new }
     {
-        self.objects.abandon_all(thread, &mut changed.handles);
+        self.objects.abandon_all(thread, changed);
     }
 
     /// Adds each timer that the thread armed with a routine to the list, on which no timer stands.
@@ -106,7 +105,7 @@ impl Machine {
         self.stop_all(&changed.as_slice()[mutexes..]);
         self.end_own(thread);
         changed.push(Handle::new(thread.get() as u32));
-        changed.handles.sort_unstable();
+        changed.sort();
     }
 
     /// The thread ends: the mutexes that it owns are free and marked, the timers that it armed with a routine stop, its APCs are

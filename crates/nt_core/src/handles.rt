@@ -7,9 +7,8 @@ ghost use Rattle.nt_objects.specs.declared.object.Object.TheVariants.{Thread};
 ghost use Rattle.nt_core.specs.State.{object_at};
 ghost use Rattle.nt_core.specs.Naming.{object_named, lacks};
 
-use crate::handle_list::NamedObjects;
 use nt_objects::{HandleTable, Object};
-use nt_status::{Handle, MAX_HANDLES};
+use nt_status::{Handle, MAX_HANDLES, NamedObjects};
 
 /// A number that no object has: the numbers of objects are below it.
 const NO_OBJECT: u32 = MAX_HANDLES as u32;

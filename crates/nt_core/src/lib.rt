@@ -22,7 +22,6 @@ mod readers;
 // The parts, and the way of a call through them.
 mod alerted;
 mod calls;
-mod handle_list;
 mod handles;
 mod judge;
 mod machine;

@@ -12,7 +12,6 @@ ghost use Rattle.nt_core.specs.Accepts.{IsFresh};
 
 use crate::call::Grant;
 use crate::living::let_go;
-use crate::objects::{no_marks, quiet_alarms};
 use crate::serving::{is_ready, try_wait};
 use nt_alarms::{Alarms, Marks};
 use nt_apc::ApcQueues;
@@ -78,8 +77,8 @@ impl Machine {
         let handing = none_handing(alloc, count)?;
         let grants = Vec::with_capacity(alloc, count)?;
         let apcs = ApcQueues::new(alloc, count)?;
-        let alarms = quiet_alarms(alloc, count)?;
-        let leaving = no_marks(alloc, count)?;
+        let alarms = Alarms::with_places(alloc, count)?;
+        let leaving = Marks::with_places(alloc, count)?;
         let handles = HandleTable::new(alloc, count, Object::new_thread().full_access())?;
         let objects = ObjectTable::new(alloc, count)?;
         let waits = WaitTable::new(alloc);

@@ -1,5 +1,5 @@
 //! The list of objects, and the creation of more.
-ghost use Rattle.std.specs.Prelude.{◌≡◌, ◌<◌, ℕ, None, ◌∷◌, ◌++◌, [], true, false, Some, replicate, IfOk, IfErr, OnOk, OnErr, MatchBool, length, slice_set};
+ghost use Rattle.std.specs.Prelude.{◌≡◌, ◌<◌, ℕ, None, ◌∷◌, ◌++◌, [], true, false, Some, IfOk, IfErr, OnOk, OnErr, MatchBool, length, slice_set};
 ghost use Rattle.nt_status.specs.declared.refusal.Refusal.TheVariants.{HandleLimit, Memory};
 ghost use Rattle.nt_objects.specs.Object.{owner_of, owned_by};
 ghost use Rattle.nt_core.specs.State.{object_at};
@@ -14,32 +14,9 @@ use crate::call::Reply;
 use crate::handles::opened;
 use crate::judge::{is_unknown, judged};
 use crate::machine::Machine;
-use nt_alarms::{Alarms, Marks};
 use nt_objects::{HandleTable, Object, Opened};
 use nt_status::{Access, Handle, MAX_HANDLES, Refusal};
-use std::alloc::{AllocError, Global};
-
-/// A place for each object's alarm, with no alarm.
-pub fn quiet_alarms(alloc: Global, count: usize) -> Result<Alarms, AllocError>
-    ensures { IfOk result (λ alarms. alarms ≡ replicate count None) }
-{
-    let mut alarms = Alarms::new(alloc);
-    for _ in 0..count {
-        alarms.add()?;
-    }
-    Ok(alarms)
-}
-
-/// A place for each object's mark, with no mark.
-pub fn no_marks(alloc: Global, count: usize) -> Result<Marks, AllocError>
-    ensures { IfOk result (λ marks. marks ≡ replicate count None) }
-{
-    let mut marks = Marks::new(alloc);
-    for _ in 0..count {
-        marks.add()?;
-    }
-    Ok(marks)
-}
+use std::alloc::AllocError;
 
 /// The refusal of one handle more for this object, with these rights.
 fn duplicate_refusal(

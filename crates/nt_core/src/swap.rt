@@ -21,8 +21,8 @@ use crate::machine::Machine;
 use crate::wait_refusal::is_at_limit;
 use crate::waiting::deadline_after;
 use nt_objects::Object;
-use nt_status::{Handle, Handles, Refusal, ThreadId};
-use nt_waits::Wait;
+use nt_status::{Handle, Refusal, ThreadId};
+use nt_waits::About;
 
 /// The refusal of a swap that signals one object and waits for the other, both as they are before it.
 fn swap_refusal(
@@ -115,13 +115,11 @@ impl Machine {
         if ms == 0 {
             return Ok(());
         }
-        let wait = Wait {
-            handles: Handles::from_slice(*self.grants.allocator(), &[object])?,
-            all: false,
+        let about = About {
             alertable,
             deadline: deadline_after(self.moment, ms),
         };
-        self.waits.prepare(thread, wait)
+        self.waits.prepare(thread, object, about)
     }
 
     /// The prepared wait did not pend.

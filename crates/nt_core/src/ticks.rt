@@ -14,10 +14,9 @@ ghost use Rattle.nt_core.specs.Accepts.{IsTimedOutAfter, IsAlertedAfter, IsExpir
 
 use crate::alerted::AlertedThreads;
 use crate::call::{Grant, Reply};
-use crate::handle_list::ChangedObjects;
 use crate::machine::Machine;
 use crate::waiting::late_status;
-use nt_status::{Handle, Moment, Refusal, ThreadId};
+use nt_status::{ChangedObjects, Handle, Moment, Refusal, ThreadId};
 
 /// The earlier of two moments.
 fn earlier(first: Option<u64>, second: Option<u64>) -> Option<u64>

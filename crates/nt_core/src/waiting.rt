@@ -17,12 +17,13 @@ ghost use Rattle.nt_core.specs.declared.call.Reply.{Reply};
 ghost use Rattle.nt_core.specs.Accepts.{IsFresh, IsFree, HasBegun, begins_pending, IsMade, IsWaitMade};
 
 use crate::call::{Reply, WaitCall};
-use crate::handle_list::NamedObjects;
 use crate::handles::{SYNCHRONIZE, name_all, opened};
 use crate::machine::Machine;
 use crate::serving::try_wait;
 use crate::wait_refusal::objects_refusal;
-use nt_status::{Handle, INFINITE, MAX_WAIT_OBJECTS, Moment, Refusal, Status, ThreadId};
+use nt_status::{
+    Handle, INFINITE, MAX_WAIT_OBJECTS, Moment, NamedObjects, Refusal, Status, ThreadId,
+};
 use nt_waits::About;
 
 /// The deadline of a wait that begins at this moment with a timeout in milliseconds.

@@ -7,12 +7,13 @@ ghost use Rattle.nt_objects.specs.Object.{is_event, is_semaphore, is_mutex, coun
 ghost use Rattle.nt_objects.specs.Object.{signaled, taken, has_room, TellsAbandoned};
 ghost use Rattle.nt_objects.specs.Object.{with_set, released, release_refusal, unlocked};
 ghost use Rattle.nt_status.specs.Lists.{IsMember, AreOnce, Lists};
+ghost use Rattle.nt_status.specs.declared.limits.TheConstants.{MAX_HANDLES};
 ghost use Rattle.nt_owners.specs.Owned.{list_of, IsUnowned};
 ghost use Rattle.nt_owners.specs.Objects.{object_at, OwnersAgree, IsPassed};
 
 use crate::owners::Owners;
 use nt_objects::{Armed, Object, Released, Routine, Taken};
-use nt_status::{Handle, Refusal, ThreadId};
+use nt_status::{ChangedObjects, Handle, Refusal, ThreadId};
 use std::alloc::{AllocError, Global};
 use std::marker::Model;
 
@@ -111,19 +112,18 @@ fn abandon_each(
     objects: &mut [Object],
     owners: &mut Owners,
     thread: ThreadId,
-    listed: &mut Vec<Handle>,
+    listed: &mut ChangedObjects,
 )
     requires agree { OwnersAgree objects.old owners.old.lists }
-    requires room { vec_len listed.old + length objects.old ≤ vec_capacity listed.old }
+    requires room { length listed.old + length objects.old ≤ MAX_HANDLES }
     ensures agree { OwnersAgree objects.new owners.new.lists }
     ensures objects { objects.new ≡ map (abandoned_by thread) objects.old }
-    ensures listed { Lists (λ m. IsTrue (owned_by (object_at objects.old m) thread)) listed.old.items listed.new.items }
-    ensures capacity { vec_capacity listed.new ≡ vec_capacity listed.old }
+    ensures listed { Lists (λ m. IsTrue (owned_by (object_at objects.old m) thread)) listed.old listed.new }
     ensures room { owners.new.room ≡ owners.old.room }
     ensures threads { length owners.new.lists ≡ length owners.old.lists }
 {
     while let Some(mutex) = abandon_first(objects, owners, thread) {
-        listed.push_reserved(mutex);
+        listed.push(mutex);
     }
 }
 
@@ -311,11 +311,10 @@ impl ObjectTable {
     }
 
     /// The thread ends: each mutex that it owns is free from now on, and marked, and listed.
-    pub fn abandon_all(&mut self, thread: ThreadId, listed: &mut Vec<Handle>)
-        requires { vec_len listed.old + length self.old.items ≤ vec_capacity listed.old }
+    pub fn abandon_all(&mut self, thread: ThreadId, listed: &mut ChangedObjects)
+        requires { length listed.old + length self.old.items ≤ MAX_HANDLES }
         ensures items { self.new.items ≡ map (abandoned_by thread) self.old.items }
-        ensures listed { Lists (λ m. IsTrue (owned_by (object_at self.old.items m) thread)) listed.old.items listed.new.items }
-        ensures capacity { vec_capacity listed.new ≡ vec_capacity listed.old }
+        ensures listed { Lists (λ m. IsTrue (owned_by (object_at self.old.items m) thread)) listed.old listed.new }
         ensures threads { length self.new.owned ≡ length self.old.owned }
     {
         abandon_each(&mut self.objects, &mut self.owners, thread, listed);

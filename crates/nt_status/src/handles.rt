@@ -131,6 +131,18 @@ impl Handles {
         Ok(())
     }
 
+    /// This handle alone in the place of those that it has. It takes no memory.
+    #[inline(always)]
+    pub fn put_one(&mut self, handle: Handle)
+        ensures { self.new ≡ handle ∷ [] }
+    {
+        if self.items.len() == 1 {
+            self.items.as_mut_slice()[0] = handle;
+        } else {
+            *self = Handles::from_one(*self.items.allocator(), handle);
+        }
+    }
+
     /// A new list of these handles in the place of its own. It stands apart, since mostly there are as many as before.
     #[inline(never)]
     fn replace(&mut self, handles: &[Handle]) -> Result<(), AllocError>

@@ -3,6 +3,7 @@
 
 mod access;
 mod event_flags;
+mod handle_list;
 mod handles;
 mod limits;
 mod moment;
@@ -15,6 +16,7 @@ mod timer_flags;
 
 pub use access::Access;
 pub use event_flags::EventFlags;
+pub use handle_list::{ChangedObjects, HandleList, NamedObjects};
 pub use handles::{Handle, Handles};
 pub use limits::{INFINITE, MAX_HANDLES, MAX_MOMENT, MAX_THREADS, MAX_WAIT_OBJECTS};
 pub use moment::Moment;

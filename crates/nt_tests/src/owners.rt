@@ -1,11 +1,11 @@
 //! Mutexes and their owners' lists.
 
-ghost use Rattle.std.specs.Prelude.{◌≡◌, ◌<◌, ◌≤◌, length, IfOk, OnOk, vec_len, vec_capacity};
+ghost use Rattle.std.specs.Prelude.{◌≡◌, ◌<◌, [], length, IfOk, OnOk};
 
 use crate::refused::{Host, tell_refused};
 use nt_objects::Object;
 use nt_owners::{ObjectTable, Owners};
-use nt_status::{Handle, MutexFlags, ThreadId};
+use nt_status::{ChangedObjects, Handle, MutexFlags, ThreadId};
 use std::alloc::AllocError;
 use std::test::Fail;
 
@@ -74,16 +74,15 @@ fn make_object_room(rt: &impl Host, table: &mut ObjectTable) -> Result<(), Alloc
     }
 }
 
-/// No handle, with room for eight. Where memory is refused, a second try goes on.
-fn room_for_handles(rt: &impl Host) -> Result<Vec<Handle>, AllocError>
-    ensures empty { IfOk result (λ handles. vec_len handles ≡ 0) }
-    ensures room { IfOk result (λ handles. 8 ≤ vec_capacity handles) }
+/// An empty list of handles. Where memory is refused, a second try goes on.
+fn no_handles(rt: &impl Host) -> Result<ChangedObjects, AllocError>
+    ensures { IfOk result (λ handles. handles ≡ []) }
 {
-    match Vec::with_capacity(rt.alloc(), 8) {
+    match ChangedObjects::new(rt.alloc()) {
         Ok(handles) => Ok(handles),
         Err(_) => {
             tell_refused(rt, "the handles");
-            Vec::with_capacity(rt.alloc(), 8)
+            ChangedObjects::new(rt.alloc())
         }
     }
 }
@@ -92,12 +91,11 @@ fn room_for_handles(rt: &impl Host) -> Result<Vec<Handle>, AllocError>
 fn leave_mutex(
     rt: &impl Host,
     table: &mut ObjectTable,
-    listed: &mut Vec<Handle>,
+    listed: &mut ChangedObjects,
 ) -> Result<bool, AllocError>
     requires objects { length table.old.items ≡ 2 }
     requires threads { length table.old.owned ≡ 2 }
-    requires empty { vec_len listed.old ≡ 0 }
-    requires room { 8 ≤ vec_capacity listed.old }
+    requires empty { listed.old ≡ [] }
 {
     let owner = ThreadId::new(1);
     make_object_room(rt, table)?;
@@ -120,7 +118,7 @@ fn check_left_mutex(rt: &impl Host, table: &mut ObjectTable) -> Result<(), Fail>
     requires objects { length table.old.items ≡ 2 }
     requires threads { length table.old.owned ≡ 2 }
 {
-    let mut listed = room_for_handles(rt)?;
+    let mut listed = no_handles(rt)?;
     let was_owned = leave_mutex(rt, table, &mut listed)?;
     assert!(rt; was_owned && is_left(table, listed.as_slice()));
     Ok(())

@@ -138,3 +138,8 @@ table_same old new slots slots' lists_same slots_same small table = record {
   once = λ h. rw (lists_same h) (table.once h);
   small = small;
 }
+
+-- one handle is named once
+pub one_once : (handle : ℕ) → NoneTwice nat_eq (handle ∷ [])
+unfolding NoneTwice
+one_once handle = (tt, tt)

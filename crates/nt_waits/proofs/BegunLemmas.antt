@@ -7,6 +7,7 @@ use Rattle.nt_waits.specs.declared.prepared.Prepared.{Prepared}
 use Rattle.nt_waits.specs.Queues.{Lists, OnlyGrows, list_at}
 use Rattle.nt_waits.specs.Prepared.{IsReady}
 use Rattle.nt_waits.specs.Link.{Link, AreNumbersOnce}
+use Rattle.nt_waits.specs.Begun.{IsBegun}
 use Rattle.nt_waits.specs.Slot.{IsFilled}
 use Rattle.std.proofs.lemmas.Bool.{cases_eq}
 use Rattle.std.proofs.lemmas.List.{get_or-set_same, get_or-set_other, map-append}
@@ -33,21 +34,16 @@ view_of queues slots looked prepared = record { pending = waits_of slots; queues
 pub slot_free : (queues : Lists) (slots : List (Option Pending)) (looked : ℕ) (prepared : Option (ℕ × Wait)) (shown : Waits) (t : ℕ) → view_of queues slots looked prepared ≡ shown → wait_of shown t ≡ None → slot_at slots t ≡ None
 slot_free queues slots looked prepared shown t is free = None-mapped (slot_at slots t) (sym (get-waits slots t) ∙ ap (λ v. wait_of v t) is ∙ free)
 
-module _ (queues queues' : Lists) (slots slots' : List (Option Pending)) (t : ℕ) (wait : Wait)
-    (placed : (p : Pending) × (slot_at slots' t ≡ Some p) × (p.wait ≡ wait))
-    (others : (u : ℕ) → u ≢ t → slot_at slots' u ≡ slot_at slots u) where
-  pub pending_begun : waits_of slots' ≡ finmap.insert (waits_of slots) t wait
-  pending_begun = waits-inserted slots slots' t wait placed.0 placed.1 placed.2 others
+module _ (queues queues' : Lists) (slots slots' : List (Option Pending)) (t : ℕ) (wait : Wait) (begun : IsBegun queues slots queues' slots' t wait) where
+  pending_begun : waits_of slots' ≡ finmap.insert (waits_of slots) t wait
+  pending_begun = let placed = begun.placed in waits-inserted slots slots' t wait placed.0 placed.1 placed.2 begun.others
 
-  pub begins : (looked : ℕ) (prepared : Option (ℕ × Wait))
-      → ((h : ℕ) → Names wait h → threads (list_at queues' h) ≡ threads (list_at queues h) ++ t ∷ [])
-      → ((h : ℕ) → (Names wait h → ⊥) → list_at queues' h ≡ list_at queues h)
-      → queues'.touched ≡ queues.touched
+  pub begins : (looked : ℕ) (prepared : Option (ℕ × Wait)) → queues'.touched ≡ queues.touched
       → Begins (view_of queues slots looked prepared) (view_of queues' slots' looked None) t wait
-  begins looked prepared joined kept touched = record {
+  begins looked prepared touched = record {
     pending = pending_begun;
-    joined = λ h named. get_or-threads queues'.lists h ∙ joined h named ∙ ap (λ (q : List ℕ). q ++ t ∷ []) (sym (get_or-threads queues.lists h));
-    queues_kept = λ h outside. get_or-threads queues'.lists h ∙ ap threads (kept h outside) ∙ sym (get_or-threads queues.lists h);
+    joined = λ h named. get_or-threads queues'.lists h ∙ begun.joined h named ∙ ap (λ (q : List ℕ). q ++ t ∷ []) (sym (get_or-threads queues.lists h));
+    queues_kept = λ h outside. get_or-threads queues'.lists h ∙ ap threads (begun.kept h outside) ∙ sym (get_or-threads queues.lists h);
     looked = refl;
     touched = touched;
     prepared = refl;
@@ -64,16 +60,16 @@ module _ (queues queues' : Lists) (slots slots' : List (Option Pending)) (t : �
   whole_begun count before mid after prepared whole free table reserved here elsewhere = record {
     table = table;
     counted = rw (pending_begun, len-begun (waits_of slots) t wait free) (ap (λ (n : ℕ). n + 1) whole.counted);
-    alarmed = alarmed_begun mid after slots slots' t wait placed.0 (λ u. reserved u ∙ whole.alarmed u) placed.1 placed.2 others here elsewhere;
+    alarmed = let placed = begun.placed in alarmed_begun mid after slots slots' t wait placed.0 (λ u. reserved u ∙ whole.alarmed u) placed.1 placed.2 begun.others here elsewhere;
     ready = none_ready queues' (length slots') (length after);
   }
 
 -- a wait stands last in the queue of each handle that it names, and the other queues are as they were
 module _ (old new : Lists) (t : ℕ) (wait : Wait) (slot : Option Pending) (filled : IsFilled old new t wait slot) where
-  pub filled_joined : (h : ℕ) → Names wait h → threads (list_at new h) ≡ threads (list_at old h) ++ t ∷ []
+  filled_joined : (h : ℕ) → Names wait h → threads (list_at new h) ≡ threads (list_at old h) ++ t ∷ []
   filled_joined h named = subst (λ (x : ℕ). threads (list_at new x) ≡ threads (list_at old x) ++ t ∷ []) named.2 (rw (filled.4.done named.0 named.1, map-append (λ (l : Link). l.thread) (list_at old (get_or wait.handles named.0 0)) _) refl)
 
-  pub filled_kept : (h : ℕ) → (Names wait h → ⊥) → list_at new h ≡ list_at old h
+  filled_kept : (h : ℕ) → (Names wait h → ⊥) → list_at new h ≡ list_at old h
   filled_kept h outside = filled.4.others h (λ j below same. outside (j, below, same))
 
   pub filled_table : (slots : List (Option Pending)) → IsTable old slots → slot_at slots t ≡ None → t < length slots → length wait.handles ≤ MAX_WAIT_OBJECTS → IsDistinct nat_eq wait.handles → ((h : ℕ) → AreNumbersOnce (list_at new h)) → IsTable new (set slots t slot)
@@ -81,8 +77,22 @@ module _ (old new : Lists) (t : ℕ) (wait : Wait) (slot : Option Pending) (fill
       let is = filled.2 in
       rw filled.1 (table_begun old new slots t filled.0 table free within (rw is filled.3) (rw is few) (rw is apart) (rw is filled.4) distinct)
 
-  pub filled_placed : (slots : List (Option Pending)) → t < length slots → (p : Pending) × (slot_at (set slots t slot) t ≡ Some p) × (p.wait ≡ wait)
-  filled_placed slots within = (filled.0, get_or-set_same slots t slot None within ∙ filled.1, filled.2)
+  pub filled_begun : (slots : List (Option Pending)) → t < length slots → IsBegun old slots new (set slots t slot) t wait
+  filled_begun slots within = record {
+    placed = (filled.0, get_or-set_same slots t slot None within ∙ filled.1, filled.2);
+    others = λ u differs. get_or-set_other slots t u slot None differs;
+    joined = filled_joined;
+    kept = filled_kept;
+  }
+
+-- room that is made before a wait begins is no change
+pub begun_before : (old mid new : Lists) (slots slots' after : List (Option Pending)) (t : ℕ) (wait : Wait) → OnlyGrows old mid → ((u : ℕ) → slot_at slots' u ≡ slot_at slots u) → IsBegun mid slots' new after t wait → IsBegun old slots new after t wait
+begun_before old mid new slots slots' after t wait grows same begun = record {
+  placed = begun.placed;
+  others = λ u differs. begun.others u differs ∙ same u;
+  joined = rw grows.lists at begun.joined;
+  kept = rw grows.lists at begun.kept;
+}
 
 -- an empty place that is written anew
 pub set_empty : (slots : List (Option Pending)) (t : ℕ) (slot : Option Pending) → t < length slots → slot_at slots t ≡ None → slot ≡ None → (u : ℕ) → slot_at (set slots t slot) u ≡ slot_at slots u

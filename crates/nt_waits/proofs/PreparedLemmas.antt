@@ -12,13 +12,9 @@ pub ready_kept : (old new : Lists) (places places' alarms alarms' : ℕ) → new
 ready_kept old new places places' alarms alarms' used capacity handle_room more_places more_alarms prepared ready p is =
     let before = ready p is in
     record {
-      few = before.few;
-      apart = before.apart;
-      blocks = let blocks = before.blocks in omega (arith, blocks, used, capacity);
-      below = before.below;
-      handles = let handles = before.handles in omega (arith, handles, handle_room);
+      block = let block = before.block in omega (arith, block, used, capacity);
+      handle = let handle = before.handle in omega (arith, handle, handle_room);
       place = let place = before.place in omega (arith, place, more_places);
-      numbers = before.numbers;
       alarm = λ some. let alarm = before.alarm some in omega (arith, alarm, more_alarms);
     }
 

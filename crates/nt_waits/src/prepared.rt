@@ -1,16 +1,11 @@
 //! A wait whose memory is there before it begins.
-use crate::block::BlockNumber;
-use crate::wait::Wait;
-use nt_status::ThreadId;
-use smallvec::SmallVec;
+use crate::wait::About;
+use nt_status::{Handle, ThreadId};
 
-/// A wait that can begin with no allocation.
-#[derive(Drop)]
+/// A wait for one handle that can begin with no allocation.
+#[derive(Clone, Copy)]
 pub struct Prepared {
     pub thread: ThreadId,
-    pub wait: Wait,
-    /// A place for the number of each block.
-    pub numbers: SmallVec<BlockNumber, 4>,
-    /// A number above each handle of the wait.
-    pub handles: usize,
+    pub handle: Handle,
+    pub about: About,
 }

@@ -1,5 +1,5 @@
 //! The place of one thread's wait, which is filled and emptied where it lies.
-ghost use Rattle.std.specs.Prelude.{nat_eq, ◌≡◌, ℕ, ◌<◌, ◌≤◌, ◌^◌, IfOk, IsSome, None, Some, OnOk, OnErr, length, slice_index};
+ghost use Rattle.std.specs.Prelude.{nat_eq, ◌≡◌, ℕ, ◌+◌, ◌<◌, ◌≤◌, ◌^◌, ◌∷◌, [], false, IfOk, IsSome, None, Some, OnOk, OnErr, length, slice_index};
 ghost use Rattle.std.specs.List.{IsDistinct};
 ghost use Rattle.std.specs.Option.{option_copied, option_map, ForSome};
 ghost use Rattle.nt_waits.specs.Link.{AreNumbersOnce};
@@ -79,11 +79,53 @@ fn remake_numbers(numbers: &mut SmallVec<BlockNumber, 4>, count: usize) -> Resul
     Ok(())
 }
 
+/// Makes the list one long. What the number is does not matter yet. It takes no memory.
+#[inline(always)]
+fn make_one_number(numbers: &mut SmallVec<BlockNumber, 4>)
+    ensures { length numbers.new.items ≡ 1 }
+{
+    if numbers.len() != 1 {
+        *numbers = SmallVec::new(*numbers.allocator());
+        numbers.push_reserved(BlockNumber::default());
+    }
+}
+
 /// A list of so many numbers. What they are does not matter yet.
-pub fn blank_numbers(alloc: Global, count: usize) -> Result<SmallVec<BlockNumber, 4>, AllocError>
+fn blank_numbers(alloc: Global, count: usize) -> Result<SmallVec<BlockNumber, 4>, AllocError>
     ensures { IfOk result (λ numbers. length numbers.items ≡ count) }
 {
     SmallVec::from_elem(alloc, BlockNumber::default(), count)
+}
+
+/// Puts a block of the thread at the end of the queue of each of its handles, all below `count`, which are written here already, and
+/// writes the rest of its wait.
+#[inline(always)]
+fn link(
+    pending: &mut Pending,
+    queues: &mut Queues,
+    t: ThreadId,
+    handles: &[Handle],
+    all: bool,
+    about: About,
+    count: usize,
+)
+    requires written { pending.old.wait.handles ≡ handles.now }
+    requires numbered { length pending.old.numbers.items ≡ length handles.now }
+    requires apart { IsDistinct nat_eq handles.now }
+    requires below { (j : ℕ) → j < length handles.now → slice_index handles.now j < count }
+    requires room { HasRoomFor queues.old (length handles.now) }
+    requires handle_room { count ≤ queues.old.handle_room }
+    requires numbers { (h : ℕ) → AreNumbersOnce (list_at queues.old h) }
+    requires countable { (h : ℕ) → length (list_at queues.old h) < 2 ^ 32 }
+    ensures filled { IsFilled queues.old queues.new t (wait_for handles.now all about) (Some pending.new) }
+    ensures distinct { (h : ℕ) → AreNumbersOnce (list_at queues.new h) }
+    ensures touched { queues.new.touched ≡ queues.old.touched }
+{
+    queues.add_handles(count);
+    link_all(queues, t, handles, pending.numbers.as_mut_slice());
+    pending.wait.all = all;
+    pending.wait.alertable = about.alertable;
+    pending.wait.deadline = about.deadline;
 }
 
 impl Slot {
@@ -98,14 +140,6 @@ impl Slot {
                 numbers: SmallVec::new(alloc),
             },
         }
-    }
-
-    /// This wait stands here from now on.
-    pub fn hold(&mut self, pending: Pending)
-        ensures { self.new ≡ Some pending }
-    {
-        self.pends = true;
-        self.pending = pending;
     }
 
     /// The wait with its blocks, if there is one.
@@ -147,13 +181,35 @@ impl Slot {
     {
         self.pending.wait.handles.copy_from(handles)?;
         make_numbers(&mut self.pending.numbers, handles.len())?;
-        queues.add_handles(count);
-        link_all(queues, t, handles, self.pending.numbers.as_mut_slice());
-        self.pending.wait.all = all;
-        self.pending.wait.alertable = about.alertable;
-        self.pending.wait.deadline = about.deadline;
+        link(&mut self.pending, queues, t, handles, all, about, count);
         self.pends = true;
         Ok(())
+    }
+
+    /// The thread's wait for this handle stands here from now on, with a block at the end of its queue. It takes no memory.
+    #[inline(always)]
+    pub fn fill_one(&mut self, queues: &mut Queues, t: ThreadId, handle: Handle, about: About)
+        requires free { self.old ≡ None }
+        requires room { HasRoomFor queues.old 1 }
+        requires handle_room { handle + 1 ≤ queues.old.handle_room }
+        requires numbers { (h : ℕ) → AreNumbersOnce (list_at queues.old h) }
+        requires countable { (h : ℕ) → length (list_at queues.old h) < 2 ^ 32 }
+        ensures filled { IsFilled queues.old queues.new t (wait_for (handle ∷ []) false about) self.new }
+        ensures distinct { (h : ℕ) → AreNumbersOnce (list_at queues.new h) }
+        ensures touched { queues.new.touched ≡ queues.old.touched }
+    {
+        self.pending.wait.handles.put_one(handle);
+        make_one_number(&mut self.pending.numbers);
+        link(
+            &mut self.pending,
+            queues,
+            t,
+            &[handle],
+            false,
+            about,
+            handle.get() as usize + 1,
+        );
+        self.pends = true;
     }
 
     /// Takes the blocks of its wait out of their queues. The place is empty then.

@@ -1,5 +1,5 @@
 //! The pending waits of all threads.
-ghost use Rattle.std.specs.Prelude.{nat_eq, ◌≡◌, ℕ, ◌<◌, ◌≤◌, ◌*◌, [], length, slice_get, IsSome, Some, None, IfOk, OnOk, OnErr, IfErr, MatchOption};
+ghost use Rattle.std.specs.Prelude.{nat_eq, ◌≡◌, ℕ, ◌<◌, ◌≤◌, ◌*◌, ◌∷◌, [], false, length, slice_get, IsSome, Some, None, IfOk, OnOk, OnErr, IfErr, MatchOption};
 ghost use Rattle.std.specs.List.{IsDistinct};
 ghost use Rattle.std.specs.FinMap as map;
 ghost use Rattle.std.specs.Option.{option_copied, option_map, ForSome};
@@ -7,26 +7,15 @@ ghost use Rattle.std.specs.Borrow.{sem};
 
 use crate::begin::{begin_ready, begin_wait, make_room};
 use crate::deadlines::{clear_alarm, reserve_alarm, set_alarm};
-use crate::place::handle_count;
 use crate::prepared::Prepared;
 use crate::queues::Queues;
-use crate::slot::{Slot, blank_numbers};
+use crate::slot::Slot;
 use crate::take::{end_wait, next_in, take_wait, wait_in};
 use crate::wait::{About, Wait, tell};
 use nt_alarms::Alarms;
 use nt_status::{Handle, MAX_WAIT_OBJECTS, Refusal, ThreadId};
 use std::alloc::{AllocError, Global};
 use std::marker::Model;
-
-/// No wait is prepared from now on.
-#[inline(always)]
-fn clear_prepared(prepared: &mut Option<Prepared>)
-    ensures { prepared.new ≡ None }
-{
-    if prepared.is_some() {
-        *prepared = None;
-    }
-}
 
 /// The pending waits, and for each handle the threads that wait on it, in the order in which their waits began.
 ///
@@ -112,11 +101,11 @@ impl WaitTable {
         ensures memory { IfErr result (λ refusal. refusal ≡ Refusal.Memory) }
     {
         let mut copied = self.copy_begun()?;
-        let Some(prepared) = &self.prepared else {
+        let Some(prepared) = self.prepared else {
             return Ok(copied);
         };
         // Room is not copied: the copy makes its own.
-        copied.prepare(prepared.thread, prepared.wait.clone()?)?;
+        copied.prepare(prepared.thread, prepared.handle, prepared.about)?;
         Ok(copied)
     }
 
@@ -156,29 +145,29 @@ impl WaitTable {
         begin_wait(&mut self.queues, &mut self.waits, t, handles, all, about)?;
         set_alarm(&mut self.deadlines, t, about.deadline);
         self.count += 1;
-        clear_prepared(&mut self.prepared);
+        self.prepared = None;
         Ok(())
     }
 
-    /// Makes all the room that the thread's wait needs, and keeps the wait until it begins. Until then waits may end, and the room
-    /// stays. Refused only where memory is, and then nothing changes.
-    pub fn prepare(&mut self, t: ThreadId, wait: Wait) -> Result<(), Refusal>
-        requires few { length wait.handles ≤ MAX_WAIT_OBJECTS }
-        requires distinct { IsDistinct nat_eq wait.handles }
-        ensures ok { OnOk result (self.new ≡ record self.old { prepared = Some (t, wait) }) }
+    /// Makes all the room that the thread's wait for this handle needs, and keeps in mind which it is. Until it begins waits may end,
+    /// and the room stays. Refused only where memory is, and then nothing changes.
+    pub fn prepare(&mut self, thread: ThreadId, handle: Handle, about: About) -> Result<(), Refusal>
+        ensures ok { OnOk result (self.new ≡ record self.old { prepared = Some (thread, wait_for (handle ∷ []) false about) }) }
         ensures memory { IfErr result (λ refusal. refusal ≡ Refusal.Memory) }
         ensures err { OnErr result (self.new ≡ self.old) }
     {
-        reserve_alarm(&mut self.deadlines, t, wait.deadline)?;
-        let named = wait.handles.as_slice();
-        let handles = handle_count(named);
-        make_room(&mut self.queues, &mut self.waits, t, named.len(), handles)?;
-        let numbers = blank_numbers(*self.waits.allocator(), named.len())?;
+        reserve_alarm(&mut self.deadlines, thread, about.deadline)?;
+        make_room(
+            &mut self.queues,
+            &mut self.waits,
+            thread,
+            1,
+            handle.get() as usize + 1,
+        )?;
         self.prepared = Some(Prepared {
-            thread: t,
-            wait,
-            numbers,
-            handles,
+            thread,
+            handle,
+            about,
         });
         Ok(())
     }
@@ -193,18 +182,16 @@ impl WaitTable {
         let Some(prepared) = self.prepared.take() else {
             unreachable!()
         };
-        let thread = prepared.thread;
-        let deadline = prepared.wait.deadline;
+        let Prepared { thread, about, .. } = prepared;
         let pending = self.count + 1;
         begin_ready(
             &mut self.queues,
             &mut self.waits,
             thread,
-            prepared.wait,
-            prepared.numbers,
-            prepared.handles,
+            prepared.handle,
+            about,
         );
-        set_alarm(&mut self.deadlines, thread, deadline);
+        set_alarm(&mut self.deadlines, thread, about.deadline);
         self.count = pending;
     }
 

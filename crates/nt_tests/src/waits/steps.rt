@@ -22,13 +22,23 @@ struct Waiting {
     before: &'static [u16],
 }
 
+/// A wait for one handle, alertable where that is handle 0, with its deadline; and the threads that wait before it is prepared, each
+/// on all 64 handles with the deadline 7.
+#[derive(Clone, Copy)]
+struct Prepared {
+    thread: u16,
+    handle: u32,
+    deadline: Option<u64>,
+    before: &'static [u16],
+}
+
 /// What is done to a table, or seen of it. Threads and handles stand as numbers.
 #[derive(Clone, Copy)]
 enum Step {
     Begin(Waiting),
-    Prepare(Waiting),
+    Prepare(Prepared),
     /// The wait is prepared, this other thread's wait ends, and then it begins.
-    BeginAfterEnd(Waiting, u16),
+    BeginAfterEnd(Prepared, u16),
     ForgetPrepared,
     End(u16),
     /// Exactly these threads wait on the handle, in this order.
@@ -62,9 +72,9 @@ fn shows_all(table: &WaitTable, waiting: &[u16]) -> bool {
 }
 
 /// Tells that the wait was refused, which changed nothing.
-fn check_refused(rt: &impl Host, table: &WaitTable, wait: Waiting, refusal: Refusal) {
+fn check_refused(rt: &impl Host, table: &WaitTable, thread: u16, before: &[u16], refusal: Refusal) {
     tell_refused(rt, "a wait");
-    let same = shows_all(table, wait.before) && table.about(ThreadId::new(wait.thread)).is_none();
+    let same = shows_all(table, before) && table.about(ThreadId::new(thread)).is_none();
     assert!(rt; same && refusal.number() == 8);
 }
 
@@ -74,24 +84,29 @@ fn begin_at_last(rt: &impl Host, table: &mut WaitTable, wait: Waiting) -> Result
     match begin(table, t, wait_at_last(rt, wait.mask, wait.deadline)?) {
         Ok(began) => Ok(began),
         Err(refusal) => {
-            check_refused(rt, table, wait, refusal);
+            check_refused(rt, table, wait.thread, wait.before, refusal);
             begin(table, t, wait_at_last(rt, wait.mask, wait.deadline)?)
         }
     }
 }
 
 /// Prepares the wait, a second time where memory is refused.
-fn prepare_at_last(rt: &impl Host, table: &mut WaitTable, wait: Waiting) -> Result<(), Refusal>
+fn prepare_at_last(rt: &impl Host, table: &mut WaitTable, wait: Prepared) -> Result<(), Refusal>
     ensures there { OnOk result (IsSome table.new.prepared) }
     ensures thread { OnOk result (ForSome table.new.prepared (λ p. p.0 ≡ wait.thread)) }
     ensures pending { table.new.pending ≡ table.old.pending }
 {
-    let t = ThreadId::new(wait.thread);
-    match table.prepare(t, wait_at_last(rt, wait.mask, wait.deadline)?) {
+    let thread = ThreadId::new(wait.thread);
+    let handle = Handle::new(wait.handle);
+    let about = About {
+        alertable: wait.handle == 0,
+        deadline: wait.deadline,
+    };
+    match table.prepare(thread, handle, about) {
         Ok(()) => Ok(()),
         Err(refusal) => {
-            check_refused(rt, table, wait, refusal);
-            table.prepare(t, wait_at_last(rt, wait.mask, wait.deadline)?)
+            check_refused(rt, table, wait.thread, wait.before, refusal);
+            table.prepare(thread, handle, about)
         }
     }
 }
@@ -100,7 +115,7 @@ fn prepare_at_last(rt: &impl Host, table: &mut WaitTable, wait: Waiting) -> Resu
 fn begin_after_end(
     rt: &impl Host,
     table: &mut WaitTable,
-    wait: Waiting,
+    wait: Prepared,
     other: u16,
 ) -> Result<bool, Refusal> {
     prepare_at_last(rt, table, wait)?;
@@ -212,6 +227,21 @@ const fn narrow(thread: u16, mask: u64, deadline: Option<u64>, before: &'static 
     }
 }
 
+/// A wait for one handle, after waits on all 64 handles.
+const fn single(
+    thread: u16,
+    handle: u32,
+    deadline: Option<u64>,
+    before: &'static [u16],
+) -> Prepared {
+    Prepared {
+        thread,
+        handle,
+        deadline,
+        before,
+    }
+}
+
 #[test]
 fn refused_growth_changes_nothing(rt: HostRuntime) -> Result<(), Fail> {
     let steps = [
@@ -265,13 +295,14 @@ fn prepared_wait_stands_last(rt: HostRuntime) -> Result<(), Fail> {
     let steps = [
         Step::Begin(wide(4, &[])),
         Step::Begin(wide(0, &[4])),
-        Step::BeginAfterEnd(narrow(9, 0b110, Some(5), &[4, 0]), 4),
+        Step::BeginAfterEnd(single(9, 1, Some(5), &[4, 0]), 4),
         Step::Queue(0, &[0]),
         Step::Queue(1, &[0, 9]),
-        Step::Queue(2, &[0, 9]),
+        Step::Queue(2, &[0]),
         Step::Earliest(Some((9, 5))),
         Step::Pending(2),
         Step::Looked(0),
+        Step::Get(9, Some((0b10, Some(5)))),
     ];
     play(&rt, &mut WaitTable::new(rt.alloc()), &steps)
 }
@@ -279,7 +310,7 @@ fn prepared_wait_stands_last(rt: HostRuntime) -> Result<(), Fail> {
 #[test]
 fn forgotten_wait_never_begins(rt: HostRuntime) -> Result<(), Fail> {
     let steps = [
-        Step::Prepare(narrow(3, 0b1, Some(5), &[])),
+        Step::Prepare(single(3, 0, Some(5), &[])),
         Step::Queues(&[]),
         Step::Pending(0),
         Step::Earliest(None),
@@ -295,8 +326,9 @@ fn forgotten_wait_never_begins(rt: HostRuntime) -> Result<(), Fail> {
 fn refused_preparation_changes_nothing(rt: HostRuntime) -> Result<(), Fail> {
     let steps = [
         Step::Begin(wide(2, &[])),
-        Step::BeginAfterEnd(wide(300, &[2]), 2),
-        Step::Queues(&[300]),
+        Step::BeginAfterEnd(single(300, 63, Some(7), &[2]), 2),
+        Step::Queue(62, &[]),
+        Step::Queue(63, &[300]),
         Step::Earliest(Some((300, 7))),
     ];
     play(&rt, &mut WaitTable::new(rt.alloc()), &steps)
@@ -310,12 +342,12 @@ fn begin_in_the_copy(rt: &impl Host, table: &mut WaitTable, copied: &mut WaitTab
     table.forget_prepared();
     assert!(rt; copied.about(t).is_none());
     copied.begin_prepared();
-    assert!(rt; are_queues(copied, &[t.get()]));
-    assert!(rt; are_queues(table, &[]));
+    assert!(rt; is_queue(copied, Handle::new(700), &[t.get()]));
+    assert!(rt; is_queue(table, Handle::new(700), &[]));
 }
 
 fn copy_the_prepared(rt: &impl Host, table: &mut WaitTable) -> Result<(), Fail> {
-    let wait = wide(1, &[]);
+    let wait = single(1, 700, Some(7), &[]);
     prepare_at_last(rt, table, wait)?;
     let mut copied = copy_at_last(rt, table)?;
     begin_in_the_copy(rt, table, &mut copied, ThreadId::new(wait.thread));

@@ -1,4 +1,4 @@
-use Rattle.std.proofs.Common.{◌≡◌, map, length, vec_capacity}
+use Rattle.std.proofs.Common.{◌≡◌, map, length}
 use Rattle.nt_objects.specs.Object.{abandoned_by}
 use Rattle.nt_owners.specs.Owned.{list_of}
 use Rattle.nt_owners.specs.Objects.{OwnersAgree}
@@ -9,8 +9,7 @@ abbrev pub invariant-loop-mutex : goal.invariant-loop-mutex
 invariant-loop-mutex l = record {
   agree : OwnersAgree l.objects l.owners.lists;
   all : map (abandoned_by l.thread) l.objects ≡ map (abandoned_by l.thread) l.initial.objects;
-  so_far : ListedSoFar l.initial.objects l.objects l.thread l.initial.listed.items l.listed.items;
-  capacity : vec_capacity l.listed ≡ vec_capacity l.initial.listed;
+  so_far : ListedSoFar l.initial.objects l.objects l.thread l.initial.listed l.listed;
   room : l.owners.room ≡ l.initial.owners.room;
   threads : length l.owners.lists ≡ length l.initial.owners.lists;
 }

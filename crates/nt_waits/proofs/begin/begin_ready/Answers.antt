@@ -1,7 +1,23 @@
-use Rattle.std.proofs.Common.{refl}
-use Rattle.nt_waits.proofs.BeginLemmas.{table_same}
+use Rattle.std.proofs.Common.{None, [], ◌∷◌, false, ◌∙◌, arith}
+use Rattle.std.proofs.lemmas.List.{get_or_read}
+use Rattle.nt_waits.specs.Waits.{wait_for}
+use Rattle.nt_waits.proofs.BeginLemmas.{length-list, one_once}
+use Rattle.nt_waits.proofs.BegunLemmas.{filled_begun, filled_table}
 use Rattle.nt_waits.proofs.begin.begin_ready.Goals as goal
 
-pub place_wait-requires-clause-table : goal.place_wait-requires-clause-table
-place_wait-requires-clause-table c =
-    table_same c.args.queues.now c.add_handles.new.self c.args.waits.now.items c.args.waits.now.items c.add_handles.ensures.kept (λ u. refl) c.requires.table.small c.requires.table
+-- what is borrowed is the thread's place, which is empty
+pub fill_one-requires-clause-free : goal.fill_one-requires-clause-free
+fill_one-requires-clause-free c =
+    get_or_read c.args.waits.now.items c.args.t c.index_mut.result.now c.requires.place (rw c.get.ensures at c.index_mut.ensures.value) None ∙ c.requires.free
+
+pub fill_one-requires-clause-countable : goal.fill_one-requires-clause-countable
+fill_one-requires-clause-countable c h = length-list c.args.queues.now c.args.waits.now.items c.requires.table h
+
+pub returns-clause-table : goal.returns-clause-table
+returns-clause-table c =
+    rw c.get.ensures (filled_table c.args.queues.now c.fill_one.new.queues c.args.t (wait_for (c.args.handle ∷ []) false c.args.about) c.fill_one.new.self c.fill_one.ensures.filled c.args.waits.now.items
+    c.requires.table c.requires.free c.requires.place (omega arith) (one_once c.args.handle) c.fill_one.ensures.distinct)
+
+pub returns-clause-begun : goal.returns-clause-begun
+returns-clause-begun c =
+    rw c.get.ensures (filled_begun c.args.queues.now c.fill_one.new.queues c.args.t (wait_for (c.args.handle ∷ []) false c.args.about) c.fill_one.new.self c.fill_one.ensures.filled c.args.waits.now.items c.requires.place)

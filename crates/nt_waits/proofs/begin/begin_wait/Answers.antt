@@ -1,9 +1,9 @@
 use Rattle.std.proofs.Common.{◌≡◌, ◌≤◌, None, length, set, refl, ◌∙◌, arith, length-set}
-use Rattle.std.proofs.lemmas.List.{get_or_read, get_or-set_other}
+use Rattle.std.proofs.lemmas.List.{get_or_read}
 use Rattle.nt_waits.specs.Table.{IsTable}
 use Rattle.nt_waits.specs.Waits.{wait_for}
 use Rattle.nt_waits.proofs.BeginLemmas.{length-list, table_same}
-use Rattle.nt_waits.proofs.BegunLemmas.{filled_joined, filled_kept, filled_table, filled_placed, set_empty, on_err}
+use Rattle.nt_waits.proofs.BegunLemmas.{begun_before, filled_begun, filled_table, set_empty, on_err}
 use Rattle.nt_waits.proofs.begin.begin_wait.Goals as goal
 use Rattle.nt_waits.proofs.begin.begin_wait.Goals.{After-make_room, After-index_mut}
 
@@ -49,15 +49,9 @@ returns-clause-table c =
     rw c.get.ensures (filled_table c.make_room.new.queues c.fill.new.queues c.args.t (wait_for c.args.handles.now c.args.all c.args.about) c.fill.new.self c.in_ok-fill.ensures.filled c.make_room.new.waits.items
     (roomy (goal.at.returns-clause-table c).After-make_room) (c.make_room.ensures.slots c.args.t ∙ c.requires.free) c.in_ok-make_room.ensures.place c.requires.few c.requires.distinct c.in_ok-fill.ensures.distinct)
 
-pub returns-clause-placed : goal.returns-clause-placed
-returns-clause-placed c =
-    rw c.get.ensures (filled_placed c.make_room.new.queues c.fill.new.queues c.args.t (wait_for c.args.handles.now c.args.all c.args.about) c.fill.new.self c.in_ok-fill.ensures.filled c.make_room.new.waits.items c.in_ok-make_room.ensures.place)
-
-pub returns-clause-others : goal.returns-clause-others
-returns-clause-others c u differs = rw c.get.ensures (get_or-set_other c.make_room.new.waits.items c.args.t u c.fill.new.self None differs ∙ c.make_room.ensures.slots u)
-
-pub returns-clause-joined : goal.returns-clause-joined
-returns-clause-joined c h named = rw c.make_room.ensures.queues.lists at (filled_joined c.make_room.new.queues c.fill.new.queues c.args.t (wait_for c.args.handles.now c.args.all c.args.about) c.fill.new.self c.in_ok-fill.ensures.filled h named)
-
-pub returns-clause-queues_kept : goal.returns-clause-queues_kept
-returns-clause-queues_kept c h outside = rw c.make_room.ensures.queues.lists at (filled_kept c.make_room.new.queues c.fill.new.queues c.args.t (wait_for c.args.handles.now c.args.all c.args.about) c.fill.new.self c.in_ok-fill.ensures.filled h outside)
+pub returns-clause-begun : goal.returns-clause-begun
+returns-clause-begun c =
+    let room = c.make_room.ensures in
+    let items = c.make_room.new.waits.items in
+    rw c.get.ensures (begun_before c.args.queues.now c.make_room.new.queues c.fill.new.queues c.args.waits.now.items items (set items c.args.t c.fill.new.self) c.args.t (wait_for c.args.handles.now c.args.all c.args.about) room.queues room.slots
+    (filled_begun c.make_room.new.queues c.fill.new.queues c.args.t (wait_for c.args.handles.now c.args.all c.args.about) c.fill.new.self c.in_ok-fill.ensures.filled items c.in_ok-make_room.ensures.place))

@@ -1,6 +1,5 @@
 use Rattle.std.proofs.Common.{◌≡◌, ◌<◌, ◌++◌, ◌∷◌, ℕ, List, [], true, false, Some, length, map, sym, ap, ◌∙◌, subst, arith}
 use Rattle.std.specs.List.Sorted.{IsPermutation}
-use Rattle.std.proofs.lemmas.List.Sorted.{IsNonDecreasingBy-from_sort}
 use Rattle.nt_objects.specs.declared.object.Object.{Object}
 use Rattle.nt_objects.specs.Object.{is_timer, has_ended, owned_by, setter_of, abandoned_by}
 use Rattle.std.specs.FinMap as fin
@@ -93,10 +92,10 @@ returns-clause-left c =
     let becomes : state new ≡ exited (state old) t = exited_state old mid stopped new t (c.list_timers.ensures).more c.abandon_all.ensures.abandoned (c.list_timers.ensures).exactly stops c.end_own.ensures.ended in
     let objects : new.objects ≡ objects_left old.objects t = ap (λ (s : State). s.objects) becomes in
     let own : c.new.result ≡ t = c.new.ensures ∙ c.get.ensures in
-    let moved : IsPermutation (all ++ t ∷ []) c.sort_unstable.new.self.items = subst (λ (xs : List ℕ). IsPermutation xs c.sort_unstable.new.self.items) (c.changed.view_is ∙ (c.push.ensures ∙ ap (λ (h : ℕ). all ++ h ∷ []) own)) c.sort_unstable.ensures.permutation in
+    let moved : IsPermutation (all ++ t ∷ []) c.sort.new.self = subst (λ (xs : List ℕ). IsPermutation xs c.sort.new.self) (c.push.ensures ∙ ap (λ (h : ℕ). all ++ h ∷ []) own) c.sort.ensures.same in
     record {
       becomes = becomes;
-      changed = subst (λ (os : List Object). AreRising (IsChanged old.objects os) c.sort_unstable.new.self.items) (sym objects) (sorted_changed old t mutexes all c.sort_unstable.new.self.items c.requires.sound c.requires.known c.requires.runs listed moved (IsNonDecreasingBy-from_sort (λ x. x) c.sort_unstable.new.self.items c.sort_unstable.ensures.sorted));
+      changed = subst (λ (os : List Object). AreRising (IsChanged old.objects os) c.sort.new.self) (sym objects) (sorted_changed old t mutexes all c.sort.new.self c.requires.sound c.requires.known c.requires.runs listed moved c.sort.ensures.rising);
       grants = c.end_own.ensures.grants ∙ (ap (λ (d : Dispatcher). d.grants) stops.rest ∙ ap (λ (d : Dispatcher). d.grants) c.abandon_all.ensures.abandoned);
       table = c.end_own.ensures.table ∙ (ap (λ (d : Dispatcher). d.table) stops.rest ∙ ap (λ (d : Dispatcher). d.table) c.abandon_all.ensures.abandoned);
     }

@@ -1,8 +1,8 @@
-use Rattle.std.proofs.Common.{◌≡◌, Some, arith, refl, ap, ◌∙◌}
+use Rattle.std.proofs.Common.{◌≡◌, [], ◌∷◌, false, Some, arith, refl, ap, ◌∙◌}
 use Rattle.nt_waits.specs.declared.prepared.Prepared.{Prepared}
 use Rattle.nt_waits.specs.Table.{IsWhole}
 use Rattle.nt_waits.specs.Prepared.{shown}
-use Rattle.nt_waits.specs.Waits.{Waits}
+use Rattle.nt_waits.specs.Waits.{Waits, wait_for}
 use Rattle.nt_waits.proofs.BegunLemmas.{view_of, view_same, whole_reserved, whole_prepared, on_err}
 use Rattle.nt_waits.proofs.table.WaitTable.prepare.Goals as goal
 use Rattle.nt_waits.proofs.table.WaitTable.prepare.Goals.{After-make_room}
@@ -22,25 +22,13 @@ roomy c =
 pub invariant_of-self-in_err-make_room : goal.invariant_of-self-in_err-make_room
 invariant_of-self-in_err-make_room c = roomy (goal.at.invariant_of-self-in_err-make_room c).After-make_room
 
-pub invariant_of-self-in_err-numbers : goal.invariant_of-self-in_err-numbers
-invariant_of-self-in_err-numbers c = roomy (goal.at.invariant_of-self-in_err-numbers c).After-make_room
-
 pub invariant_of-self-2 : goal.invariant_of-self-2
 invariant_of-self-2 c =
     let room = c.in_ok-make_room.ensures in
-    let p : Prepared = record { thread = c.args.t; wait = c.args.wait; numbers = c.in_ok-numbers.numbers; handles = c.handle_count-handles.result } in
+    let p : Prepared = record { thread = c.args.thread; handle = c.args.handle; about = c.args.about } in
     whole_prepared c.make_room.new.queues c.make_room.new.waits.items c.reserve_alarm.new.alarms c.self.inside.count c.self.inside.prepared p
     (roomy (goal.at.invariant_of-self-2 c).After-make_room)
-    (record {
-      few = c.requires.few;
-      apart = c.requires.distinct;
-      blocks = rw c.as_slice-named.ensures at room.blocks;
-      below = rw c.as_slice-named.ensures at c.handle_count-handles.ensures;
-      handles = room.handles;
-      place = room.place;
-      numbers = rw c.as_slice-named.ensures at c.in_ok-numbers.ensures;
-      alarm = c.in_ok-reserve_alarm.ensures.room;
-    })
+    (record { block = room.blocks; handle = rw c.get.ensures at room.handles; place = room.place; alarm = c.in_ok-reserve_alarm.ensures.room })
 
 -- and shows what it showed
 same : (c : After-make_room) → view_of c.make_room.new.queues c.make_room.new.waits.items c.self.inside.looked (shown c.self.inside.prepared) ≡ c.args.self.now
@@ -49,8 +37,5 @@ same c = view_same c.self.inside.queues c.make_room.new.queues c.self.inside.wai
 pub returns-in_err-make_room-clause-err : goal.returns-in_err-make_room-clause-err
 returns-in_err-make_room-clause-err c = on_err c.from_residual-in_err-make_room.result (same (goal.at.returns-in_err-make_room-clause-err c).After-make_room)
 
-pub returns-in_err-numbers-clause-err : goal.returns-in_err-numbers-clause-err
-returns-in_err-numbers-clause-err c = on_err c.from_residual-in_err-numbers.result (same (goal.at.returns-in_err-numbers-clause-err c).After-make_room)
-
 pub returns-clause-ok : goal.returns-clause-ok
-returns-clause-ok c = ap {B = Waits} (λ (v : Waits). record v { prepared = Some (c.args.t, c.args.wait) }) (same (goal.at.returns-clause-ok c).After-make_room)
+returns-clause-ok c = ap {B = Waits} (λ (v : Waits). record v { prepared = Some (c.args.thread, wait_for (c.args.handle ∷ []) false c.args.about) }) (same (goal.at.returns-clause-ok c).After-make_room)

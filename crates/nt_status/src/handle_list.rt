@@ -1,14 +1,16 @@
 //! Lists that have room for the most that they are ever to hold, so that filling one needs no memory.
 ghost use Rattle.std.specs.Prelude.{◌≡◌, ◌<◌, ◌++◌, ◌∷◌, [], length, IfOk};
+ghost use Rattle.std.specs.List.Sorted.{IsPermutation, IsNonDecreasing};
 
-use nt_status::{Handle, MAX_HANDLES, MAX_WAIT_OBJECTS};
+use crate::handles::Handle;
+use crate::limits::{MAX_HANDLES, MAX_WAIT_OBJECTS};
 use std::alloc::{AllocError, Global};
 use std::marker::Model;
 
 /// A list of handles, or of the numbers of objects, with room for so many.
 #[derive(Drop)]
 pub struct HandleList<const ROOM: usize> {
-    pub(crate) handles: Vec<Handle>,
+    handles: Vec<Handle>,
 }
 
 impl<const ROOM: usize> Model for HandleList<ROOM> {
@@ -31,12 +33,14 @@ impl<const ROOM: usize> HandleList<ROOM> {
         })
     }
 
+    /// The list is empty from now on. Its room stays.
     pub fn clear(&mut self)
         ensures { self.new ≡ [] }
     {
         self.handles.clear();
     }
 
+    /// One handle more, last, for which there is room. It takes no memory.
     pub fn push(&mut self, handle: Handle)
         requires { length self.old < ROOM }
         ensures { self.new ≡ self.old ++ handle ∷ [] }
@@ -44,6 +48,15 @@ impl<const ROOM: usize> HandleList<ROOM> {
         self.handles.push_reserved(handle);
     }
 
+    /// Puts the lowest first. It takes no memory.
+    pub fn sort(&mut self)
+        ensures same { IsPermutation self.old self.new }
+        ensures rising { IsNonDecreasing self.new }
+    {
+        self.handles.sort_unstable();
+    }
+
+    /// Its handles, in their order.
     pub fn as_slice(&self) -> &[Handle]
         ensures { result.now ≡ self.now }
     {
@@ -51,8 +64,8 @@ impl<const ROOM: usize> HandleList<ROOM> {
     }
 }
 
-/// The numbers of the objects that a wait names.
+/// The numbers of the objects that a wait names, at most as many as it may name.
 pub type NamedObjects = HandleList<MAX_WAIT_OBJECTS>;
 
-/// The objects that a call or a moment of a tick changed: at the most all that there can be.
+/// The numbers of the objects that a call, or a moment of a tick, changed: at most all that there can be.
 pub type ChangedObjects = HandleList<MAX_HANDLES>;

@@ -1,0 +1,14 @@
+-- What becomes of queues and places where a wait begins. No public clause cites this module.
+use Rattle.std.specs.Prelude.{◌≡◌, ◌≢◌, ℕ, List, [], ◌∷◌, ◌++◌, Option, Some}
+use Rattle.nt_waits.specs.declared.wait.Wait.{Wait}
+use Rattle.nt_waits.specs.declared.pending.Pending.{Pending}
+use Rattle.nt_waits.specs.Queues.{Lists, list_at}
+use Rattle.nt_waits.specs.Table.{threads, slot_at}
+use Rattle.nt_waits.specs.Waits.{Names}
+
+-- the wait stands in its thread's place, and the thread last in the queue of each handle that the wait names; the other places and queues are as they were
+pub record IsBegun (old : Lists) (slots : List (Option Pending)) (new : Lists) (slots' : List (Option Pending)) (thread : ℕ) (wait : Wait) : Type 0 where
+  pub placed : (p : Pending) × (slot_at slots' thread ≡ Some p) × (p.wait ≡ wait)
+  pub others : (t : ℕ) → t ≢ thread → slot_at slots' t ≡ slot_at slots t
+  pub joined : (handle : ℕ) → Names wait handle → threads (list_at new handle) ≡ threads (list_at old handle) ++ thread ∷ []
+  pub kept : (handle : ℕ) → (Names wait handle → ⊥) → list_at new handle ≡ list_at old handle
