@@ -214,7 +214,8 @@ pub fn wait_for<N: Named>(
     }
 }
 
-/// Lets the moment pass until nobody roams any more.
+/// Lets the moment pass until nobody roams any more. It takes parts too: where the others get no processor for a while, its ticks
+/// alone would fill the journal.
 fn tick<N: Named, R: Wait + Clock>(
     rt: &R,
     front: &Front<N>,
@@ -227,6 +228,7 @@ fn tick<N: Named, R: Wait + Clock>(
             return;
         }
         tick_to(rt, front, pass, number.wrapping_mul(10_000), told);
+        crew.parts.take_when_due(rt, front, pass, told);
         thread::sleep(rt, Duration::from_micros(20));
     }
     told.lost();
