@@ -12,15 +12,15 @@ use Rattle.nt_status.specs.Refusal.{number_of}
 use Rattle.nt_status.specs.declared.refusal.Refusal.{Refusal}
 use Rattle.nt_status.specs.declared.refusal.Refusal.TheVariants.{InvalidHandle, Memory}
 use Rattle.nt_waits.specs.declared.wait.Wait.{Wait}
-use Rattle.nt_core.specs.declared.call.Act.{Act}
-use Rattle.nt_core.specs.declared.call.Call.{Call}
-use Rattle.nt_core.specs.declared.call.Grant.{Grant}
-use Rattle.nt_core.specs.declared.call.Reply.{Reply}
-use Rattle.nt_core.specs.declared.call.WaitCall.{WaitCall}
+use Rattle.nt_calls.specs.declared.call.Act.{Act}
+use Rattle.nt_calls.specs.declared.call.Call.{Call}
+use Rattle.nt_calls.specs.declared.call.Grant.{Grant}
+use Rattle.nt_calls.specs.declared.call.Reply.{Reply}
+use Rattle.nt_calls.specs.declared.call.WaitCall.{WaitCall}
 use Rattle.nt_core.specs.Dispatcher.{Dispatcher, state}
 use Rattle.nt_core.specs.Lawful.{IsLawful}
-use Rattle.nt_core.specs.State.{opening, pends}
-use Rattle.nt_core.specs.Steps.{Called, Ticked, IsNextMoment, NothingDue}
+use Rattle.nt_calls.specs.State.{opening, pends}
+use Rattle.nt_calls.specs.Steps.{Called, Ticked, IsNextMoment, NothingDue}
 
 -- a handle says that it has a dispatcher exactly where it has one
 abbrev pub IsFit : Nt → Type 0

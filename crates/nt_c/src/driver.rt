@@ -1,10 +1,10 @@
 //! What lies in C's room.
 ghost use Rattle.std.specs.Prelude.{◌≡◌, ◌≤◌, ◌⊎◌, ◌&&◌, [], OnOk, OnErr, IfOk, IfErr, MatchBool, nat_le};
 ghost use Rattle.nt_status.specs.declared.refusal.Refusal.TheVariants.{InvalidParameter, Memory};
-ghost use Rattle.nt_core.specs.State.{opening};
+ghost use Rattle.nt_calls.specs.State.{opening};
 ghost use Rattle.nt_core.specs.Dispatcher.{state};
-ghost use Rattle.nt_core.specs.declared.call.Call.{Call};
-ghost use Rattle.nt_core.specs.declared.call.WaitCall.{WaitCall};
+ghost use Rattle.nt_calls.specs.declared.call.Call.{Call};
+ghost use Rattle.nt_calls.specs.declared.call.WaitCall.{WaitCall};
 ghost use Rattle.nt_c.specs.Asks.{WaitsOrKeeps};
 ghost use Rattle.nt_c.specs.Kinds.{IsForObjects};
 

@@ -1,5 +1,5 @@
 //! Events.
-ghost use Rattle.nt_core.specs.declared.call.Act.{Act};
+ghost use Rattle.nt_calls.specs.declared.call.Act.{Act};
 ghost use Rattle.nt_c.specs.Asks.{IsFit, Acts};
 
 use crate::handle::Nt;

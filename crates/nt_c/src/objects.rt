@@ -1,6 +1,6 @@
 //! Handles, and threads that end.
-ghost use Rattle.nt_core.specs.declared.call.Act.{Act};
-ghost use Rattle.nt_core.specs.declared.call.Call.{Call};
+ghost use Rattle.nt_calls.specs.declared.call.Act.{Act};
+ghost use Rattle.nt_calls.specs.declared.call.Call.{Call};
 ghost use Rattle.nt_c.specs.Asks.{IsFit, Acts, Answers};
 
 use crate::handle::Nt;

@@ -1,6 +1,6 @@
 //! Waitable timers.
 ghost use Rattle.std.specs.Prelude.{None, Some};
-ghost use Rattle.nt_core.specs.declared.call.Act.{Act};
+ghost use Rattle.nt_calls.specs.declared.call.Act.{Act};
 ghost use Rattle.nt_c.specs.Asks.{IsFit, Acts};
 
 use crate::handle::Nt;

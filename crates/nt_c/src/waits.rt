@@ -1,6 +1,6 @@
 //! Waits.
 ghost use Rattle.std.specs.Prelude.{◌∷◌, [], false};
-ghost use Rattle.nt_core.specs.declared.call.WaitCall.{WaitCall};
+ghost use Rattle.nt_calls.specs.declared.call.WaitCall.{WaitCall};
 ghost use Rattle.nt_c.specs.Asks.{IsFit, WaitsWith, WaitsForObjects};
 
 use crate::handle::Nt;

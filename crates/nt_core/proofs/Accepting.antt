@@ -14,15 +14,15 @@ use Rattle.nt_objects.specs.declared.object.Object.TheVariants.{Thread}
 use Rattle.nt_objects.specs.Object.{due_of, setter_of, is_thread, taken, IsLawfulObject}
 use Rattle.nt_alarms.specs.Alarms.{alarm_at}
 use Rattle.nt_status.specs.declared.limits.TheConstants.{MAX_THREADS, MAX_WAIT_OBJECTS}
-use Rattle.nt_core.specs.declared.call.Call.{Call}
-use Rattle.nt_core.specs.declared.call.Reply.{Reply}
-use Rattle.nt_core.specs.declared.call.Grant.{Grant}
-use Rattle.nt_core.specs.Rising.{AreRising}
-use Rattle.nt_core.specs.State.{State, object_at}
+use Rattle.nt_calls.specs.declared.call.Call.{Call}
+use Rattle.nt_calls.specs.declared.call.Reply.{Reply}
+use Rattle.nt_calls.specs.declared.call.Grant.{Grant}
+use Rattle.nt_calls.specs.Rising.{AreRising}
+use Rattle.nt_calls.specs.State.{State, object_at}
 use Rattle.nt_core.specs.Dispatcher.{Dispatcher, state}
-use Rattle.nt_core.specs.Serving.{satisfied, granted, take_at, take_each, objects_taken, least, IsChanged, Grants, Serve, IsAlerted, Alert}
-use Rattle.nt_core.specs.Change.{change}
-use Rattle.nt_core.specs.Steps.{IsAwaited, NothingDue, after_serving, answered}
+use Rattle.nt_calls.specs.Serving.{satisfied, granted, take_at, take_each, objects_taken, least, IsChanged, Grants, Serve, IsAlerted, Alert}
+use Rattle.nt_calls.specs.Change.{change}
+use Rattle.nt_calls.specs.Steps.{IsAwaited, NothingDue, after_serving, answered}
 use Rattle.nt_objects.specs.declared.handles.Opened.{Opened}
 use Rattle.nt_objects.specs.Handles.{own_handles, full_access}
 use Rattle.nt_core.specs.Lawful.{IsSettled, IsSteady, HandlesAgree}
@@ -36,13 +36,13 @@ use Rattle.std.proofs.lemmas.Bool.Decides.{nat_tests}
 use Rattle.nt_status.specs.declared.refusal.Refusal.{Refusal}
 use Rattle.nt_status.specs.declared.refusal.Refusal.TheVariants.{InvalidHandle, InvalidParameter, ThreadWaiting, ThreadEnded, UnknownThread, RecursionLimit}
 use Rattle.nt_objects.specs.Object.{has_ended, is_gone}
-use Rattle.nt_core.specs.declared.call.WaitCall.{WaitCall}
-use Rattle.nt_core.specs.Calls.{timeout_of}
-use Rattle.nt_core.specs.State.{pends}
-use Rattle.nt_core.specs.Serving.{wait_for}
-use Rattle.nt_core.specs.Change.{wait_change}
-use Rattle.nt_core.specs.Refusals.{Cause, first_of_causes, call_causes, refusal, has_twice, is_unknown, is_at_limit}
-use Rattle.nt_core.specs.Steps.{begun, wait_of}
+use Rattle.nt_calls.specs.declared.call.WaitCall.{WaitCall}
+use Rattle.nt_calls.specs.Calls.{timeout_of}
+use Rattle.nt_calls.specs.State.{pends}
+use Rattle.nt_calls.specs.Serving.{wait_for}
+use Rattle.nt_calls.specs.Change.{wait_change}
+use Rattle.nt_calls.specs.Refusals.{Cause, first_of_causes, call_causes, refusal, has_twice, is_unknown, is_at_limit}
+use Rattle.nt_calls.specs.Steps.{begun, wait_of}
 use Rattle.nt_core.specs.Lawful.{IsSoundWait}
 use Rattle.nt_core.proofs.Changing.{same_changed}
 use Rattle.nt_core.proofs.Walks.{get_removed}

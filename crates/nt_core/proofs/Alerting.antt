@@ -14,14 +14,14 @@ use Rattle.nt_waits.specs.Waits.{Waits, queue_of, others, Agrees}
 use Rattle.nt_apc.specs.declared.apc.Queued.{Queued}
 use Rattle.nt_apc.specs.Queues.{queue_of as inbox_of, has_apc, pushed, taken, oldest, apc_of, without_oldest}
 use Rattle.nt_objects.specs.Object.{due_of}
-use Rattle.nt_core.specs.declared.call.Call.{Call}
-use Rattle.nt_core.specs.declared.call.Act.{Act}
-use Rattle.nt_core.specs.declared.call.Reply.{Reply}
-use Rattle.nt_core.specs.declared.call.Grant.{Grant}
-use Rattle.nt_core.specs.State.{State, pends, wait_over, waits_over, object_at}
+use Rattle.nt_calls.specs.declared.call.Call.{Call}
+use Rattle.nt_calls.specs.declared.call.Act.{Act}
+use Rattle.nt_calls.specs.declared.call.Reply.{Reply}
+use Rattle.nt_calls.specs.declared.call.Grant.{Grant}
+use Rattle.nt_calls.specs.State.{State, pends, wait_over, waits_over, object_at}
 use Rattle.nt_core.specs.Dispatcher.{Dispatcher, state}
-use Rattle.nt_core.specs.Serving.{satisfied, IsServed, IsAlerted, Alert, ending}
-use Rattle.nt_core.specs.Steps.{NothingDue, IsAwaited}
+use Rattle.nt_calls.specs.Serving.{satisfied, IsServed, IsAlerted, Alert, ending}
+use Rattle.nt_calls.specs.Steps.{NothingDue, IsAwaited}
 use Rattle.nt_core.specs.Lawful.{IsSound, IsSettled, IsSteady, MarksAgreeBut}
 use Rattle.nt_core.specs.Accepts.{is_by_objects, IsRoused, IsAlertedAfter, IsFresh, Accepts}
 use Rattle.nt_core.proofs.Marking.{marks_along, marks_ended}
@@ -30,8 +30,8 @@ use Rattle.nt_core.proofs.Visiting.{state_same, len_removed}
 use Rattle.nt_core.proofs.Changing.{none_changed, same_changed}
 use Rattle.nt_core.proofs.Accepting.{IsCalm, accepted}
 use Rattle.nt_core.proofs.Replacing.{idle_served}
-use Rattle.nt_core.specs.Change.{change, may_take}
-use Rattle.nt_core.specs.Steps.{after_serving, answered}
+use Rattle.nt_calls.specs.Change.{change, may_take}
+use Rattle.nt_calls.specs.Steps.{after_serving, answered}
 use Rattle.std.specs.Prelude.{if◌then◌else◌}
 
 -- ---- one wait ends

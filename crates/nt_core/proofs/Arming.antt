@@ -13,18 +13,18 @@ use Rattle.nt_objects.specs.Object.{signaled, is_timer, has_ended, due_of, sette
 use Rattle.nt_apc.specs.declared.apc.Queued.{Queued}
 use Rattle.nt_apc.specs.Queues.{Apcs, has_apc, is_queued, is_at, pushed, withdrawn, place_of}
 use Rattle.nt_objects.proofs.Periods.{next_above-first}
-use Rattle.nt_core.specs.declared.call.Act.{Act}
-use Rattle.nt_core.specs.declared.call.Call.{Call}
-use Rattle.nt_core.specs.declared.call.Reply.{Reply}
-use Rattle.nt_core.specs.State.{State, object_at}
+use Rattle.nt_calls.specs.declared.call.Act.{Act}
+use Rattle.nt_calls.specs.declared.call.Call.{Call}
+use Rattle.nt_calls.specs.declared.call.Reply.{Reply}
+use Rattle.nt_calls.specs.State.{State, object_at}
 use Rattle.nt_core.specs.Dispatcher.{Dispatcher, state}
-use Rattle.nt_core.specs.Change.{notified, expired, expired_as, armed_anew, timer_set, due_moment, routine_for}
+use Rattle.nt_calls.specs.Change.{notified, expired, expired_as, armed_anew, timer_set, due_moment, routine_for}
 use Rattle.std.specs.Prelude.{ℤ, option_map, unsigned_abs}
 use Rattle.nt_waits.specs.Waits.{Waits}
 use Rattle.nt_waits.specs.declared.wait.Wait.{Wait}
-use Rattle.nt_core.specs.Serving.{is_ready, sequence, Serve}
-use Rattle.nt_core.specs.Change.{change}
-use Rattle.nt_core.specs.Steps.{NothingDue}
+use Rattle.nt_calls.specs.Serving.{is_ready, sequence, Serve}
+use Rattle.nt_calls.specs.Change.{change}
+use Rattle.nt_calls.specs.Steps.{NothingDue}
 use Rattle.nt_core.specs.Visits.{FitOnlyIn}
 use Rattle.nt_core.specs.Lawful.{IsSound, IsSteady, IsSettled}
 use Rattle.nt_core.specs.Accepts.{IsFresh, IsPromised, IsServedAfter, Accepts}

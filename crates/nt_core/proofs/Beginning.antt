@@ -12,8 +12,8 @@ use Rattle.std.proofs.lemmas.Bool.{false≢true, eqb-true, eq-eqb}
 use Rattle.std.proofs.lemmas.Bool.Decides.{nat_tests}
 use Rattle.nt_waits.specs.declared.wait.Wait.{Wait}
 use Rattle.nt_waits.specs.Waits.{Waits, queue_of, Agrees, Names}
-use Rattle.nt_core.specs.declared.call.Reply.{Reply}
-use Rattle.nt_core.specs.State.{State, Pending, names, pending_too}
+use Rattle.nt_calls.specs.declared.call.Reply.{Reply}
+use Rattle.nt_calls.specs.State.{State, Pending, names, pending_too}
 use Rattle.nt_core.specs.Dispatcher.{Dispatcher, state}
 use Rattle.nt_core.specs.Lawful.{IsSoundWait, IsSound}
 use Rattle.std.proofs.lemmas.List.{length-set}
@@ -21,9 +21,9 @@ use Rattle.nt_status.specs.declared.limits.TheConstants.{INFINITE}
 use Rattle.nt_apc.specs.Queues.{has_apc}
 use Rattle.nt_objects.specs.declared.object.Object.{Object}
 use Rattle.nt_objects.specs.Object.{due_of, units}
-use Rattle.nt_core.specs.State.{object_at, deadline_after}
-use Rattle.nt_core.specs.Serving.{fits, is_ready, satisfied, is_due, IsTried}
-use Rattle.nt_core.specs.Steps.{begun, IsAwaited}
+use Rattle.nt_calls.specs.State.{object_at, deadline_after}
+use Rattle.nt_calls.specs.Serving.{fits, is_ready, satisfied, is_due, IsTried}
+use Rattle.nt_calls.specs.Steps.{begun, IsAwaited}
 use Rattle.nt_core.specs.Lawful.{IsSettled, IsSteady}
 use Rattle.nt_core.proofs.Handling.{handles_along}
 use Rattle.nt_core.proofs.Taking.{unready_after}

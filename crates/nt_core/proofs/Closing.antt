@@ -10,16 +10,16 @@ use Rattle.nt_objects.specs.Handles.{opened_at, count_named, names}
 use Rattle.nt_objects.specs.Object.{is_gone}
 use Rattle.nt_status.specs.Lists.{IsMember}
 use Rattle.nt_alarms.specs.Alarms.{alarm_at}
-use Rattle.nt_core.specs.declared.call.Call.{Call}
-use Rattle.nt_core.specs.declared.call.Act.{Act}
-use Rattle.nt_core.specs.declared.call.Reply.{Reply}
-use Rattle.nt_core.specs.Change.{handle_closed}
-use Rattle.nt_core.specs.State.{object_at}
-use Rattle.nt_core.specs.Naming.{object_in, object_named}
+use Rattle.nt_calls.specs.declared.call.Call.{Call}
+use Rattle.nt_calls.specs.declared.call.Act.{Act}
+use Rattle.nt_calls.specs.declared.call.Reply.{Reply}
+use Rattle.nt_calls.specs.Change.{handle_closed}
+use Rattle.nt_calls.specs.State.{object_at}
+use Rattle.nt_calls.specs.Naming.{object_in, object_named}
 use Rattle.nt_core.specs.Dispatcher.{Dispatcher, state}
-use Rattle.nt_core.specs.Living.{is_forgotten}
+use Rattle.nt_calls.specs.Living.{is_forgotten}
 use Rattle.nt_core.specs.Lawful.{IsSound, IsSteady, HandlesAgree, MarksAgreeBut}
-use Rattle.nt_core.specs.Refusals.{first_of_causes, close_causes}
+use Rattle.nt_calls.specs.Refusals.{first_of_causes, close_causes}
 use Rattle.nt_core.specs.Accepts.{IsFresh, Accepts}
 use Rattle.nt_core.proofs.Accepting.{accepted, next_causes}
 use Rattle.nt_core.proofs.Changing.{same_changed}

@@ -10,16 +10,16 @@ use Rattle.nt_waits.specs.declared.wait.Wait.{Wait}
 use Rattle.nt_status.specs.Lists.{IsMember}
 use Rattle.nt_objects.specs.declared.object.Object.{Object}
 use Rattle.nt_objects.specs.Object.{due_of}
-use Rattle.nt_core.specs.declared.call.Grant.{Grant}
-use Rattle.nt_core.specs.declared.call.Reply.{Reply}
-use Rattle.nt_core.specs.Rising.{IsRising, AreRising}
-use Rattle.nt_core.specs.State.{State, Pending, object_at, waits_over}
+use Rattle.nt_calls.specs.declared.call.Grant.{Grant}
+use Rattle.nt_calls.specs.declared.call.Reply.{Reply}
+use Rattle.nt_calls.specs.Rising.{IsRising, AreRising}
+use Rattle.nt_calls.specs.State.{State, Pending, object_at, waits_over}
 use Rattle.nt_core.specs.Dispatcher.{Dispatcher, state}
 use Rattle.nt_core.specs.Due.{is_up_to, due_weight, total_weight}
-use Rattle.nt_core.specs.Serving.{satisfied, sequence, IsServed, ending, late_status, sleeps}
-use Rattle.nt_core.specs.Change.{all_expired}
-use Rattle.nt_core.specs.Steps.{IsAwaited, IsNextMoment, NothingDue, MomentPasses, MomentsPass, Ticked}
-use Rattle.nt_core.specs.Living.{Ends}
+use Rattle.nt_calls.specs.Serving.{satisfied, sequence, IsServed, ending, late_status, sleeps}
+use Rattle.nt_calls.specs.Change.{all_expired}
+use Rattle.nt_calls.specs.Steps.{IsAwaited, IsNextMoment, NothingDue, MomentPasses, MomentsPass, Ticked}
+use Rattle.nt_calls.specs.Living.{Ends}
 use Rattle.nt_core.specs.Lawful.{IsSound, IsSteady}
 use Rattle.nt_core.specs.Accepts.{IsFresh, IsPassedAfter, IsDueBy, is_by_objects, ended_by_objects, IsTickLocal}
 use Rattle.nt_core.proofs.Accepting.{IsCalm}

@@ -9,18 +9,18 @@ use Rattle.nt_status.specs.declared.refusal.Refusal.{Refusal}
 use Rattle.nt_waits.specs.declared.wait.Wait.{Wait}
 use Rattle.nt_status.specs.Lists.{IsMember}
 use Rattle.nt_apc.specs.Queues.{has_apc}
-use Rattle.nt_core.specs.declared.call.Act.{Act}
-use Rattle.nt_core.specs.declared.call.Call.{Call}
-use Rattle.nt_core.specs.declared.call.WaitCall.{WaitCall}
-use Rattle.nt_core.specs.declared.call.Grant.{Grant}
-use Rattle.nt_core.specs.declared.call.Reply.{Reply}
-use Rattle.nt_core.specs.Calls.{timeout_of}
-use Rattle.nt_core.specs.Naming.{call_named}
-use Rattle.nt_core.specs.Rising.{IsRising}
-use Rattle.nt_core.specs.State.{State, Pending, wait_over, waits_over}
-use Rattle.nt_core.specs.Serving.{fits, granted, Grants, Alert, TimeOut}
-use Rattle.nt_core.specs.Change.{change, may_take, expired, expired_as, all_expired}
-use Rattle.nt_core.specs.Steps.{Called, Step, Ticked, MomentPasses, MomentsPass, after_serving, answered, begun, wait_of}
+use Rattle.nt_calls.specs.declared.call.Act.{Act}
+use Rattle.nt_calls.specs.declared.call.Call.{Call}
+use Rattle.nt_calls.specs.declared.call.WaitCall.{WaitCall}
+use Rattle.nt_calls.specs.declared.call.Grant.{Grant}
+use Rattle.nt_calls.specs.declared.call.Reply.{Reply}
+use Rattle.nt_calls.specs.Calls.{timeout_of}
+use Rattle.nt_calls.specs.Naming.{call_named}
+use Rattle.nt_calls.specs.Rising.{IsRising}
+use Rattle.nt_calls.specs.State.{State, Pending, wait_over, waits_over}
+use Rattle.nt_calls.specs.Serving.{fits, granted, Grants, Alert, TimeOut}
+use Rattle.nt_calls.specs.Change.{change, may_take, expired, expired_as, all_expired}
+use Rattle.nt_calls.specs.Steps.{Called, Step, Ticked, MomentPasses, MomentsPass, after_serving, answered, begun, wait_of}
 use Rattle.nt_core.proofs.Remaining.{ends_waits}
 
 len_removed : (m : Pending) (t : ℕ) (w : Wait) → map.get m t ≡ Some w → map.len (map.remove m t) + 1 ≡ map.len m

@@ -15,9 +15,9 @@ use Rattle.nt_waits.specs.Waits.{Names, queue_of}
 use Rattle.nt_alarms.specs.Alarms.{alarm_at}
 use Rattle.nt_apc.specs.declared.apc.Queued.{Queued}
 use Rattle.nt_apc.specs.Queues.{Apcs, place_of, withdrawn}
-use Rattle.nt_core.specs.State.{State, object_at}
+use Rattle.nt_calls.specs.State.{State, object_at}
 use Rattle.nt_core.specs.Dispatcher.{Dispatcher, state}
-use Rattle.nt_core.specs.Living.{is_opened, is_awaited, runs, is_forgotten, gone}
+use Rattle.nt_calls.specs.Living.{is_opened, is_awaited, runs, is_forgotten, gone}
 use Rattle.nt_core.specs.Lawful.{IsSound}
 use Rattle.nt_core.proofs.Changing.{object_at-set_other, property_set, limit_set}
 use Rattle.nt_core.proofs.Handling.{handles_along}

@@ -15,16 +15,16 @@ use Rattle.nt_objects.specs.declared.object.Object.TheVariants.{Event, Semaphore
 use Rattle.nt_objects.specs.Object.{is_timer, is_thread, is_gone, has_ended, owned_by, due_of, setter_of, abandoned_by, unset_by, IsLawfulObject}
 use Rattle.nt_apc.specs.Queues.{Apcs, place_of, given_up, cleared}
 use Rattle.nt_apc.specs.declared.apc.Queued.{Queued}
-use Rattle.nt_core.specs.State.{State, object_at}
+use Rattle.nt_calls.specs.State.{State, object_at}
 use Rattle.nt_core.specs.Dispatcher.{Dispatcher, state}
-use Rattle.nt_core.specs.Rising.{AreRising}
-use Rattle.nt_core.specs.Serving.{IsChanged, sequence, Serve}
-use Rattle.nt_core.specs.Change.{exited}
+use Rattle.nt_calls.specs.Rising.{AreRising}
+use Rattle.nt_calls.specs.Serving.{IsChanged, sequence, Serve}
+use Rattle.nt_calls.specs.Change.{exited}
 use Rattle.nt_core.specs.Visits.{FitOnlyIn}
 use Rattle.nt_core.specs.Lawful.{IsSound, IsSteady}
 use Rattle.nt_core.specs.Accepts.{IsFresh, IsStoppedAfter, IsExitedAfter, Accepts}
-use Rattle.nt_core.specs.declared.call.Call.{Call}
-use Rattle.nt_core.specs.declared.call.Reply.{Reply}
+use Rattle.nt_calls.specs.declared.call.Call.{Call}
+use Rattle.nt_calls.specs.declared.call.Reply.{Reply}
 use Rattle.nt_core.proofs.Handling.{handles_along}
 use Rattle.nt_core.proofs.Keeping.{own_kept}
 use Rattle.nt_core.proofs.Lives.{not_gone}

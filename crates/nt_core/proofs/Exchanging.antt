@@ -7,10 +7,10 @@ use Rattle.std.proofs.lemmas.Bool.{false≢true}
 use Rattle.nt_objects.specs.declared.object.Object.{Object}
 use Rattle.nt_objects.specs.Object.{is_event, is_semaphore, owned_by, signaled, with_set, released, overflows, unlocked}
 use Rattle.nt_objects.proofs.Lawful.{lawful_released, lawful_unlocked}
-use Rattle.nt_core.specs.State.{object_at, with_object}
+use Rattle.nt_calls.specs.State.{object_at, with_object}
 use Rattle.nt_core.specs.Dispatcher.{Dispatcher, state}
-use Rattle.nt_core.specs.Change.{at}
-use Rattle.nt_core.specs.Serving.{sequence, Serve}
+use Rattle.nt_calls.specs.Change.{at}
+use Rattle.nt_calls.specs.Serving.{sequence, Serve}
 use Rattle.nt_core.specs.Visits.{FitOnlyBy, FitOnlyIn}
 use Rattle.nt_core.specs.Lawful.{IsSound, MayReplace}
 use Rattle.nt_core.specs.Accepts.{IsFresh, IsServedAfter}

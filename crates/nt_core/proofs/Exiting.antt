@@ -11,11 +11,11 @@ use Rattle.nt_objects.specs.declared.object.Routine.{Routine}
 use Rattle.nt_objects.specs.Object.{is_thread, is_gone, has_ended, has_room, owned_by, due_of, setter_of, armed_with, abandoned_by, unset_by, set_by, IsLawfulObject}
 use Rattle.nt_apc.specs.Queues.{has_apc, cleared}
 use Rattle.nt_apc.specs.declared.apc.Queued.{Queued}
-use Rattle.nt_core.specs.State.{State, object_at}
+use Rattle.nt_calls.specs.State.{State, object_at}
 use Rattle.nt_core.specs.Dispatcher.{Dispatcher, state}
-use Rattle.nt_core.specs.Serving.{IsChanged}
-use Rattle.nt_core.specs.Change.{exited}
-use Rattle.nt_core.specs.Steps.{NothingDue}
+use Rattle.nt_calls.specs.Serving.{IsChanged}
+use Rattle.nt_calls.specs.Change.{exited}
+use Rattle.nt_calls.specs.Steps.{NothingDue}
 use Rattle.nt_core.specs.Lawful.{IsSound, MayReplace}
 use Rattle.nt_core.specs.Accepts.{IsStoppedAfter}
 use Rattle.nt_core.proofs.Handling.{handles_along}

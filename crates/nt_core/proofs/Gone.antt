@@ -5,10 +5,10 @@ use Rattle.std.proofs.lemmas.Bool.{cases_eq}
 use Rattle.nt_status.specs.Lists.{IsMember}
 use Rattle.nt_status.proofs.Lists.{member_or_not, member_push_cases}
 use Rattle.nt_alarms.specs.Alarms.{alarm_at, NoneAt, IsLowestAt}
-use Rattle.nt_core.specs.Rising.{IsRising}
-use Rattle.nt_core.specs.State.{State}
+use Rattle.nt_calls.specs.Rising.{IsRising}
+use Rattle.nt_calls.specs.State.{State}
 use Rattle.nt_core.specs.Dispatcher.{Dispatcher, state}
-use Rattle.nt_core.specs.Living.{is_forgotten, gone, all_gone, Ends, LivesWhileKept}
+use Rattle.nt_calls.specs.Living.{is_forgotten, gone, all_gone, Ends, LivesWhileKept}
 use Rattle.nt_core.specs.Lawful.{IsSound, IsSteady}
 use Rattle.nt_core.proofs.Lives.{forgotten_as, still_forgotten, all_living}
 use Rattle.nt_core.proofs.Remaining.{stays}

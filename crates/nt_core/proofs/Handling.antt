@@ -3,7 +3,7 @@ use Rattle.std.proofs.Common.{◌≡◌, ℕ, zero, suc, ◌+◌, ◌<◌, ◌�
 use Rattle.nt_status.specs.declared.limits.TheConstants.{MAX_HANDLES, MAX_THREADS}
 use Rattle.nt_objects.specs.declared.handles.Opened.{Opened}
 use Rattle.nt_objects.specs.Handles.{opened_at, own_handles}
-use Rattle.nt_core.specs.Naming.{object_in}
+use Rattle.nt_calls.specs.Naming.{object_in}
 use Rattle.nt_core.specs.Lawful.{HandlesAgree}
 
 -- as many objects as before

@@ -4,8 +4,8 @@ use Rattle.std.specs.Prelude.{IsTrue, MatchOption}
 use Rattle.nt_status.specs.declared.refusal.Refusal.{Refusal}
 use Rattle.nt_status.specs.declared.refusal.Refusal.TheVariants.{Memory}
 use Rattle.nt_status.specs.declared.limits.TheConstants.{MAX_WAIT_OBJECTS}
-use Rattle.nt_core.specs.declared.call.Call.{Call}
-use Rattle.nt_core.specs.State.{State}
+use Rattle.nt_calls.specs.declared.call.Call.{Call}
+use Rattle.nt_calls.specs.State.{State}
 use Rattle.std.proofs.Common.{[]}
 use Rattle.std.proofs.Common.{List, length, ◌∷◌, ◌++◌, ◌||◌, ◌==◌, nat_lt}
 use Rattle.std.specs.Prelude.{nat_le, int_le, int_lt, pos}
@@ -13,12 +13,12 @@ use Rattle.std.specs.List.{list_any}
 use Rattle.nt_status.specs.declared.refusal.Refusal.TheVariants.{AccessDenied, InvalidHandle, InvalidParameter, NotOwner, TooManyPosts, RecursionLimit, HandleLimit, ThreadGone, UnknownThread, ThreadEnded, ThreadWaiting}
 use Rattle.nt_objects.specs.declared.object.Object.{Object}
 use Rattle.nt_objects.specs.Object.{is_event, is_semaphore, is_timer, is_thread, has_ended, overflows}
-use Rattle.nt_core.specs.declared.call.Act.{Act}
-use Rattle.nt_core.specs.declared.call.WaitCall.{WaitCall}
-use Rattle.nt_core.specs.State.{object_at, pends}
-use Rattle.nt_core.specs.Refusals.{Cause, first_of_causes, is_no, is_unknown, is_full, has_twice, is_at_limit, is_foreign, may_signal}
+use Rattle.nt_calls.specs.declared.call.Act.{Act}
+use Rattle.nt_calls.specs.declared.call.WaitCall.{WaitCall}
+use Rattle.nt_calls.specs.State.{object_at, pends}
+use Rattle.nt_calls.specs.Refusals.{Cause, first_of_causes, is_no, is_unknown, is_full, has_twice, is_at_limit, is_foreign, may_signal}
 use Rattle.nt_core.proofs.Accepting.{next_causes}
-use Rattle.nt_core.specs.Refusals.{refusal, grows, IsRefusal}
+use Rattle.nt_calls.specs.Refusals.{refusal, grows, IsRefusal}
 
 -- the first cause that holds is the refusal
 pub is_refusal : (s : State) (who : ℕ) (denied : Bool) (call : Call) (r : Refusal) → refusal s who denied call ≡ Some r → IsRefusal s who denied call r

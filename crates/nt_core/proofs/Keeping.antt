@@ -8,18 +8,18 @@ use Rattle.nt_waits.specs.declared.wait.Wait.{Wait}
 use Rattle.nt_objects.specs.declared.object.Object.{Object}
 use Rattle.nt_objects.specs.declared.object.Object.TheVariants.{Event, Semaphore, Mutex, Timer, Thread, Gone}
 use Rattle.nt_objects.specs.Object.{signaled, taken, has_room, owned_by, has_ended, is_thread, is_gone, due_of, setter_of, IsLawfulObject}
-use Rattle.nt_core.specs.State.{object_at}
-use Rattle.nt_core.specs.Refusals.{is_at_limit}
-use Rattle.nt_core.specs.Serving.{is_ready, fits, least, take_at, take_each, objects_taken, CanTake}
-use Rattle.nt_core.proofs.Tries.{differ, ready_other, object_taken_other}
-use Rattle.nt_core.proofs.Ready.{no_pass, first_pass_at}
+use Rattle.nt_calls.specs.State.{object_at}
+use Rattle.nt_calls.specs.Refusals.{is_at_limit}
+use Rattle.nt_calls.specs.Serving.{is_ready, fits, least, take_at, take_each, objects_taken, CanTake}
+use Rattle.nt_calls.proofs.Tries.{differ, ready_other, object_taken_other}
+use Rattle.nt_calls.proofs.Ready.{no_pass, first_pass_at}
 use Rattle.std.specs.Prelude.{pos, ◌-ℤ◌, ◌<ℤ◌, ◌≤ℤ◌}
 use Rattle.std.specs.Int.Signed.{lt_z_yes}
 use Rattle.std.proofs.lemmas.Int.{ints}
 use Rattle.std.proofs.Common.{T}
 use Rattle.std.proofs.lemmas.List.{length-set}
 use Rattle.std.proofs.Math.Nat.{lt_of_not-le}
-use Rattle.nt_core.specs.Serving.{is_sleep}
+use Rattle.nt_calls.specs.Serving.{is_sleep}
 use Rattle.std.proofs.Common.{Option}
 use Rattle.nt_core.specs.Lawful.{TimersAgree}
 

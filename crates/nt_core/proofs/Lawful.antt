@@ -3,7 +3,7 @@ use Rattle.std.proofs.Common.{◌≡◌, ℕ, ◌<◌, true, Option, Some, None,
 use Rattle.std.proofs.lemmas.Bool.{false≢true}
 use Rattle.std.specs.FinMap.{get}
 use Rattle.nt_waits.specs.declared.wait.Wait.{Wait}
-use Rattle.nt_core.specs.State.{pends}
+use Rattle.nt_calls.specs.State.{pends}
 use Rattle.nt_core.specs.Dispatcher.{Dispatcher, state}
 use Rattle.nt_core.specs.Lawful.{IsLawful}
 

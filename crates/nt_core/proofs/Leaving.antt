@@ -9,7 +9,7 @@ use Rattle.nt_objects.specs.declared.object.Object.{Object}
 use Rattle.nt_objects.specs.declared.object.Object.TheVariants.{Event, Semaphore, Mutex, Timer, Thread, Gone}
 use Rattle.nt_objects.specs.Object.{is_timer, setter_of, due_of, armed_with}
 use Rattle.nt_apc.specs.Queues.{place_of}
-use Rattle.nt_core.specs.State.{object_at}
+use Rattle.nt_calls.specs.State.{object_at}
 use Rattle.nt_core.specs.Dispatcher.{Dispatcher}
 use Rattle.nt_core.specs.Lawful.{IsSound}
 use Rattle.nt_core.specs.Accepts.{IsStoppedAfter}

@@ -5,10 +5,10 @@ use Rattle.std.specs.Prelude.{slice_index}
 use Rattle.nt_waits.specs.declared.wait.Wait.{Wait}
 use Rattle.nt_objects.specs.declared.object.Object.{Object}
 use Rattle.nt_objects.specs.Object.{taken, with_set, armed_with, setting_of, rearmed}
-use Rattle.nt_core.specs.declared.call.Grant.{Grant}
-use Rattle.nt_core.specs.State.{State, object_at}
-use Rattle.nt_core.specs.Serving.{least, take_at, take_each, objects_taken, granted, Grants}
-use Rattle.nt_core.specs.Change.{expired_as, expired, all_expired}
+use Rattle.nt_calls.specs.declared.call.Grant.{Grant}
+use Rattle.nt_calls.specs.State.{State, object_at}
+use Rattle.nt_calls.specs.Serving.{least, take_at, take_each, objects_taken, granted, Grants}
+use Rattle.nt_calls.specs.Change.{expired_as, expired, all_expired}
 use Rattle.std.specs.Prelude.{Option, Some, None}
 use Rattle.nt_objects.specs.declared.object.Armed.{Armed}
 

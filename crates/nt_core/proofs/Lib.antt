@@ -1,6 +1,4 @@
 mod Taking
-mod Ready
-pub mod Tries
 mod Orders
 pub mod Keeping
 pub mod Walks

@@ -9,7 +9,7 @@ use Rattle.std.proofs.lemmas.List.Sums.{sum_by-cons}
 use Rattle.std.proofs.lemmas.List.Sorted.{sum_by-IsPermutation}
 use Rattle.nt_status.specs.Lists.{IsMember, AreOnce}
 use Rattle.nt_status.proofs.Lists.{member_place, member_at}
-use Rattle.nt_core.specs.Rising.{IsRising, AreRising}
+use Rattle.nt_calls.specs.Rising.{IsRising, AreRising}
 
 -- ---- tests of numbers
 

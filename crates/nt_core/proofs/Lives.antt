@@ -10,9 +10,9 @@ use Rattle.nt_objects.specs.Handles.{opened_at, count_named, names}
 use Rattle.nt_objects.specs.Object.{has_ended, is_gone}
 use Rattle.nt_status.specs.Lists.{IsMember}
 use Rattle.nt_waits.specs.Waits.{queue_of}
-use Rattle.nt_core.specs.State.{State, object_at}
+use Rattle.nt_calls.specs.State.{State, object_at}
 use Rattle.nt_core.specs.Dispatcher.{Dispatcher, state}
-use Rattle.nt_core.specs.Living.{is_opened, is_awaited, runs, is_kept, lives, is_forgotten, all_gone, Ends, LivesWhileKept}
+use Rattle.nt_calls.specs.Living.{is_opened, is_awaited, runs, is_kept, lives, is_forgotten, all_gone, Ends, LivesWhileKept}
 use Rattle.nt_core.specs.Lawful.{IsSound}
 use Rattle.nt_core.proofs.Remaining.{both, turned, and_not, same_handles, same_queues, same_threads, same_count, stays, goes, some_handle, some_member, ends_living}
 

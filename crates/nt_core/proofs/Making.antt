@@ -9,15 +9,15 @@ use Rattle.nt_status.specs.declared.refusal.Refusal.TheVariants.{AccessDenied, H
 use Rattle.nt_objects.specs.declared.handles.Opened.{Opened}
 use Rattle.nt_objects.specs.declared.object.Object.{Object}
 use Rattle.nt_objects.specs.Object.{is_semaphore, is_mutex, is_thread, is_gone, owned_by, overflows, due_of, IsLawfulObject}
-use Rattle.nt_core.specs.declared.call.Act.{Act}
-use Rattle.nt_core.specs.declared.call.Call.{Call}
-use Rattle.nt_core.specs.declared.call.Reply.{Reply}
-use Rattle.nt_core.specs.Calls.{act_grows}
-use Rattle.nt_core.specs.State.{State, object_at}
+use Rattle.nt_calls.specs.declared.call.Act.{Act}
+use Rattle.nt_calls.specs.declared.call.Call.{Call}
+use Rattle.nt_calls.specs.declared.call.Reply.{Reply}
+use Rattle.nt_calls.specs.Calls.{act_grows}
+use Rattle.nt_calls.specs.State.{State, object_at}
 use Rattle.nt_core.specs.Dispatcher.{Dispatcher, state, with_created}
-use Rattle.nt_core.specs.Change.{change, created}
-use Rattle.nt_core.specs.Steps.{after_serving, answered}
-use Rattle.nt_core.specs.Refusals.{first_of_causes, call_causes, creation_causes, kind_causes, grows, is_full, is_no, is_foreign, release_causes, unlock_causes}
+use Rattle.nt_calls.specs.Change.{change, created}
+use Rattle.nt_calls.specs.Steps.{after_serving, answered}
+use Rattle.nt_calls.specs.Refusals.{first_of_causes, call_causes, creation_causes, kind_causes, grows, is_full, is_no, is_foreign, release_causes, unlock_causes}
 use Rattle.nt_core.specs.Accepts.{IsFresh, IsFree, IsMade, Accepts}
 use Rattle.nt_core.proofs.Judging.{is_refusal, is_memory}
 use Rattle.nt_core.proofs.Accepting.{next_causes}

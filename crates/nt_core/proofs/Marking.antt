@@ -17,9 +17,9 @@ use Rattle.nt_waits.specs.Waits.{Names, Waits, queue_of, others}
 use Rattle.nt_alarms.specs.Alarms.{alarm_at}
 use Rattle.nt_apc.specs.Queues.{Apcs}
 use Rattle.nt_waits.proofs.OthersLemmas.{others_absent}
-use Rattle.nt_core.specs.State.{State, object_at}
+use Rattle.nt_calls.specs.State.{State, object_at}
 use Rattle.nt_core.specs.Dispatcher.{Dispatcher, state, with_created}
-use Rattle.nt_core.specs.Living.{is_opened, is_awaited, runs, is_kept, lives, is_forgotten}
+use Rattle.nt_calls.specs.Living.{is_opened, is_awaited, runs, is_kept, lives, is_forgotten}
 use Rattle.nt_core.specs.Lawful.{IsSound, HandlesAgree, MarksAgreeBut}
 use Rattle.nt_core.proofs.Handling.{opened_longer}
 use Rattle.nt_core.proofs.Lives.{IsForgotten, parts, whole, counted_opened}

@@ -13,13 +13,13 @@ use Rattle.nt_objects.specs.declared.object.Armed.{Armed}
 use Rattle.nt_objects.specs.Object.{due_of, setting_of}
 use Rattle.nt_apc.specs.declared.apc.Queued.{Queued}
 use Rattle.nt_apc.specs.Queues.{has_apc}
-use Rattle.nt_core.specs.declared.call.Grant.{Grant}
-use Rattle.nt_core.specs.State.{State, object_at, waits_over, wait_over, Pending}
+use Rattle.nt_calls.specs.declared.call.Grant.{Grant}
+use Rattle.nt_calls.specs.State.{State, object_at, waits_over, wait_over, Pending}
 use Rattle.nt_core.specs.Dispatcher.{Dispatcher, state}
 use Rattle.nt_core.specs.Due.{is_up_to, due_weight, total_weight}
-use Rattle.nt_core.specs.Serving.{granted, sequence, IsServed, IsAlerted, Grants, IsLate}
-use Rattle.nt_core.specs.Change.{expired_as, expired, all_expired}
-use Rattle.nt_core.specs.Steps.{IsNextMoment}
+use Rattle.nt_calls.specs.Serving.{granted, sequence, IsServed, IsAlerted, Grants, IsLate}
+use Rattle.nt_calls.specs.Change.{expired_as, expired, all_expired}
+use Rattle.nt_calls.specs.Steps.{IsNextMoment}
 use Rattle.nt_core.specs.Visits.{FitOnlyIn, Visits}
 use Rattle.nt_core.specs.Lawful.{IsSound}
 use Rattle.nt_core.specs.Accepts.{IsExpiredAfter, IsAlertedAfter, IsTimedOutAfter, IsPassedAfter}

@@ -13,26 +13,26 @@ use Rattle.nt_status.specs.Lists.{IsMember}
 use Rattle.nt_objects.specs.declared.object.Armed.{Armed}
 use Rattle.nt_objects.specs.Object.{setting_of}
 use Rattle.nt_apc.specs.Queues.{has_apc}
-use Rattle.nt_core.specs.declared.call.Act.{Act}
-use Rattle.nt_core.specs.declared.call.Call.{Call}
-use Rattle.nt_core.specs.declared.call.WaitCall.{WaitCall}
-use Rattle.nt_core.specs.declared.call.Grant.{Grant}
-use Rattle.nt_core.specs.declared.call.Reply.{Reply}
-use Rattle.nt_core.specs.Calls.{timeout_of}
-use Rattle.nt_core.specs.Rising.{IsRising}
-use Rattle.nt_core.specs.Rights.{is_denied}
+use Rattle.nt_calls.specs.declared.call.Act.{Act}
+use Rattle.nt_calls.specs.declared.call.Call.{Call}
+use Rattle.nt_calls.specs.declared.call.WaitCall.{WaitCall}
+use Rattle.nt_calls.specs.declared.call.Grant.{Grant}
+use Rattle.nt_calls.specs.declared.call.Reply.{Reply}
+use Rattle.nt_calls.specs.Calls.{timeout_of}
+use Rattle.nt_calls.specs.Rising.{IsRising}
+use Rattle.nt_calls.specs.Rights.{is_denied}
 use Rattle.nt_core.proofs.Judging.{undenied}
-use Rattle.nt_core.specs.Refusals.{Cause, first_of_causes, refusal, call_causes}
+use Rattle.nt_calls.specs.Refusals.{Cause, first_of_causes, refusal, call_causes}
 use Rattle.nt_status.specs.declared.refusal.Refusal.TheVariants.{UnknownThread, ThreadEnded, ThreadWaiting}
 use Rattle.nt_objects.specs.Object.{has_ended}
-use Rattle.nt_core.specs.Naming.{call_named}
+use Rattle.nt_calls.specs.Naming.{call_named}
 use Rattle.nt_objects.specs.declared.handles.Opened.{Opened}
-use Rattle.nt_core.specs.State.{State, Pending, pends, pending_too, with_handing, wait_over, waits_over, object_at}
-use Rattle.nt_core.specs.Serving.{fits, status, granted, Grants, Alert, TimeOut, ending, taken_by, is_sleep, late_status, sleeps}
-use Rattle.nt_core.specs.Change.{change, act_reply, may_take, armed_anew, timer_set, expired, expired_as, all_expired}
-use Rattle.nt_core.specs.Steps.{Called, Made, Step, Ticked, MomentPasses, MomentsPass, after_serving, answered, begun, wait_of}
-use Rattle.nt_core.specs.Living.{Ends}
-use Rattle.nt_core.specs.Moves.{one_if, pended, is_wait, granted_to, Moves, IsMomentAfter}
+use Rattle.nt_calls.specs.State.{State, Pending, pends, pending_too, with_handing, wait_over, waits_over, object_at}
+use Rattle.nt_calls.specs.Serving.{fits, status, granted, Grants, Alert, TimeOut, ending, taken_by, is_sleep, late_status, sleeps}
+use Rattle.nt_calls.specs.Change.{change, act_reply, may_take, armed_anew, timer_set, expired, expired_as, all_expired}
+use Rattle.nt_calls.specs.Steps.{Called, Made, Step, Ticked, MomentPasses, MomentsPass, after_serving, answered, begun, wait_of}
+use Rattle.nt_calls.specs.Living.{Ends}
+use Rattle.nt_calls.specs.Moves.{one_if, pended, is_wait, granted_to, Moves, IsMomentAfter}
 use Rattle.nt_core.proofs.Remaining.{same_threads, ends_waits}
 use Rattle.nt_core.proofs.Settling.{same_now}
 use Rattle.nt_core.proofs.Walks.{get_same, get_other}

@@ -13,12 +13,12 @@ use Rattle.nt_objects.specs.declared.object.Routine.{Routine}
 use Rattle.nt_objects.specs.Object.{due_of, setter_of, is_timer, rearmed}
 use Rattle.nt_alarms.specs.Alarms.{alarm_at, NoneBefore, NoneAt, IsLowestAt}
 use Rattle.nt_apc.specs.Queues.{has_apc}
-use Rattle.nt_core.specs.Rising.{IsRising}
-use Rattle.nt_core.specs.State.{State, object_at}
+use Rattle.nt_calls.specs.Rising.{IsRising}
+use Rattle.nt_calls.specs.State.{State, object_at}
 use Rattle.nt_core.specs.Dispatcher.{Dispatcher, state}
 use Rattle.nt_core.specs.Due.{is_up_to, due_weight, total_weight}
-use Rattle.nt_core.specs.Serving.{IsAlerted}
-use Rattle.nt_core.specs.Change.{notified, expired, all_expired, IsTimerDue}
+use Rattle.nt_calls.specs.Serving.{IsAlerted}
+use Rattle.nt_calls.specs.Change.{notified, expired, all_expired, IsTimerDue}
 use Rattle.nt_core.specs.Lawful.{IsSound}
 use Rattle.nt_core.specs.Accepts.{IsExpiredAfter}
 use Rattle.nt_core.proofs.Changing.{object_at-set_same, object_at-set_other}

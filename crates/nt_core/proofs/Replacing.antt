@@ -12,16 +12,16 @@ use Rattle.std.specs.Prelude.{◌||◌, ℤ, pos, ◌+ℤ◌, ◌<ℤ◌, nat_le
 use Rattle.nt_status.specs.Flags.{has_flag, mutex_initial_owner}
 use Rattle.std.proofs.lemmas.Int.{ints}
 use Rattle.std.proofs.Common.{◌-◌}
-use Rattle.nt_core.specs.declared.call.Call.{Call}
-use Rattle.nt_core.specs.declared.call.Act.{Act}
-use Rattle.nt_core.specs.declared.call.Reply.{Reply}
-use Rattle.nt_core.specs.Rising.{AreRising}
-use Rattle.nt_core.specs.State.{State, object_at, with_object}
+use Rattle.nt_calls.specs.declared.call.Call.{Call}
+use Rattle.nt_calls.specs.declared.call.Act.{Act}
+use Rattle.nt_calls.specs.declared.call.Reply.{Reply}
+use Rattle.nt_calls.specs.Rising.{AreRising}
+use Rattle.nt_calls.specs.State.{State, object_at, with_object}
 use Rattle.nt_core.specs.Dispatcher.{Dispatcher, state, with_created}
-use Rattle.nt_core.specs.declared.call.Grant.{Grant}
-use Rattle.nt_core.specs.Serving.{is_ready, IsChanged, sequence, Serve, Grants, granted}
-use Rattle.nt_core.specs.Change.{change, at, created, opened_too}
-use Rattle.nt_core.specs.Steps.{after_serving, answered}
+use Rattle.nt_calls.specs.declared.call.Grant.{Grant}
+use Rattle.nt_calls.specs.Serving.{is_ready, IsChanged, sequence, Serve, Grants, granted}
+use Rattle.nt_calls.specs.Change.{change, at, created, opened_too}
+use Rattle.nt_calls.specs.Steps.{after_serving, answered}
 use Rattle.std.specs.Prelude.{not}
 use Rattle.nt_status.specs.Access.{access_bits}
 use Rattle.nt_status.specs.Flags.{only_known}
@@ -29,7 +29,7 @@ use Rattle.nt_status.specs.declared.refusal.Refusal.TheVariants.{AccessDenied, H
 use Rattle.nt_core.proofs.Handling.{handles_opened}
 use Rattle.nt_core.proofs.Marking.{marks_opened}
 use Rattle.nt_objects.specs.declared.handles.Opened.{Opened}
-use Rattle.nt_core.specs.Refusals.{duplicate_causes, first_of_causes, is_full, is_unknown}
+use Rattle.nt_calls.specs.Refusals.{duplicate_causes, first_of_causes, is_full, is_unknown}
 use Rattle.nt_core.specs.Visits.{FitOnlyIn}
 use Rattle.nt_core.specs.Lawful.{IsSound, IsSteady, MayReplace}
 use Rattle.nt_core.specs.Accepts.{IsFresh, IsServedAfter, Accepts}

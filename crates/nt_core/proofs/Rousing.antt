@@ -12,10 +12,10 @@ use Rattle.nt_status.proofs.Lists.{member_push_cases}
 use Rattle.nt_alarms.specs.Alarms.{alarm_at, NoneAt, IsLowestAt}
 use Rattle.nt_apc.specs.declared.apc.Queued.{Queued}
 use Rattle.nt_apc.specs.Queues.{has_apc}
-use Rattle.nt_core.specs.Rising.{IsRising}
-use Rattle.nt_core.specs.State.{State, wait_over, waits_over}
+use Rattle.nt_calls.specs.Rising.{IsRising}
+use Rattle.nt_calls.specs.State.{State, wait_over, waits_over}
 use Rattle.nt_core.specs.Dispatcher.{Dispatcher, state}
-use Rattle.nt_core.specs.Serving.{IsAlerted, ending}
+use Rattle.nt_calls.specs.Serving.{IsAlerted, ending}
 use Rattle.nt_core.specs.Lawful.{IsSound}
 use Rattle.nt_core.specs.Accepts.{IsRoused, IsAlertedAfter}
 use Rattle.nt_core.proofs.Alerting.{over_pending, over_apcs}

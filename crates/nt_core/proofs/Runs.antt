@@ -1,7 +1,7 @@
 -- Runs, one after another.
 use Rattle.std.proofs.Common.{List, [], ◌∷◌, ◌++◌, subst}
-use Rattle.nt_core.specs.State.{State}
-use Rattle.nt_core.specs.Runs.{Turn, Turns}
+use Rattle.nt_calls.specs.State.{State}
+use Rattle.nt_calls.specs.Runs.{Turn, Turns}
 
 -- turns that go on where others end
 pub turns-append : (a b c : State) (first more : List Turn) → Turns a first b → Turns b more c → Turns a (first ++ more) c

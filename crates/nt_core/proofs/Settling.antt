@@ -13,11 +13,11 @@ use Rattle.nt_waits.specs.declared.wait.Wait.{Wait}
 use Rattle.nt_status.specs.Lists.{IsMember}
 use Rattle.nt_status.proofs.Lists.{member_or_not}
 use Rattle.nt_waits.specs.Waits.{Names, Agrees, queue_of}
-use Rattle.nt_core.specs.State.{State, Pending, object_at}
+use Rattle.nt_calls.specs.State.{State, Pending, object_at}
 use Rattle.nt_core.specs.Dispatcher.{Dispatcher, state}
-use Rattle.nt_core.specs.Serving.{is_ready, is_sleep, fits, satisfied, is_due, IsAlerted}
-use Rattle.nt_core.specs.Steps.{IsAwaited}
-use Rattle.nt_core.specs.Living.{is_opened, is_awaited, runs, is_kept, lives, is_forgotten, gone, all_gone, Ends}
+use Rattle.nt_calls.specs.Serving.{is_ready, is_sleep, fits, satisfied, is_due, IsAlerted}
+use Rattle.nt_calls.specs.Steps.{IsAwaited}
+use Rattle.nt_calls.specs.Living.{is_opened, is_awaited, runs, is_kept, lives, is_forgotten, gone, all_gone, Ends}
 use Rattle.nt_core.specs.Lawful.{IsSettled}
 use Rattle.nt_core.proofs.Remaining.{same_waits, stays, goes, both, turned}
 

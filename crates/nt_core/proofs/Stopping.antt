@@ -11,9 +11,9 @@ use Rattle.nt_objects.specs.declared.object.Object.{Object}
 use Rattle.nt_objects.specs.declared.object.Object.TheVariants.{Event, Semaphore, Mutex, Timer, Thread, Gone}
 use Rattle.nt_objects.specs.Object.{signaled, taken, owned_by}
 use Rattle.nt_objects.proofs.Taking.{unsignaled_taken}
-use Rattle.nt_core.specs.State.{State, object_at, with_object}
+use Rattle.nt_calls.specs.State.{State, object_at, with_object}
 use Rattle.nt_core.specs.Dispatcher.{Dispatcher, state}
-use Rattle.nt_core.specs.Serving.{is_ready, is_due, satisfied, least, take_at, take_each, objects_taken, granted, IsServed, Serve, sequence}
+use Rattle.nt_calls.specs.Serving.{is_ready, is_due, satisfied, least, take_at, take_each, objects_taken, granted, IsServed, Serve, sequence}
 use Rattle.nt_core.specs.Visits.{IsVisited, Visits, FitOnlyIn, FitOnlyBy, closed}
 use Rattle.nt_core.proofs.Taking.{unready_taken, fits_kept}
 use Rattle.nt_core.proofs.Walks.{IsAt, Grants-before, all_served, get_same, get_other}

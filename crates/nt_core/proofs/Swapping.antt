@@ -12,16 +12,16 @@ use Rattle.nt_objects.specs.declared.object.Object.{Object}
 use Rattle.nt_objects.specs.declared.object.Object.TheVariants.{Event, Semaphore, Mutex, Timer, Thread, Gone}
 use Rattle.nt_objects.specs.Object.{is_mutex, owned_by, overflows, has_ended, is_gone, IsLawfulObject}
 use Rattle.nt_waits.specs.declared.wait.Wait.{Wait}
-use Rattle.nt_core.specs.declared.call.Call.{Call}
-use Rattle.nt_core.specs.declared.call.WaitCall.{WaitCall}
-use Rattle.nt_core.specs.declared.call.Reply.{Reply}
-use Rattle.nt_core.specs.declared.call.Grant.{Grant}
-use Rattle.nt_core.specs.State.{State, object_at}
+use Rattle.nt_calls.specs.declared.call.Call.{Call}
+use Rattle.nt_calls.specs.declared.call.WaitCall.{WaitCall}
+use Rattle.nt_calls.specs.declared.call.Reply.{Reply}
+use Rattle.nt_calls.specs.declared.call.Grant.{Grant}
+use Rattle.nt_calls.specs.State.{State, object_at}
 use Rattle.nt_core.specs.Dispatcher.{Dispatcher, state, with_prepared}
-use Rattle.nt_core.specs.Serving.{wait_for, sequence, Grants, granted, objects_taken}
-use Rattle.nt_core.specs.Change.{at, signal}
-use Rattle.nt_core.specs.Refusals.{may_signal, is_foreign, is_no, is_unknown, is_at_limit, refusal}
-use Rattle.nt_core.specs.Steps.{begun, wait_of}
+use Rattle.nt_calls.specs.Serving.{wait_for, sequence, Grants, granted, objects_taken}
+use Rattle.nt_calls.specs.Change.{at, signal}
+use Rattle.nt_calls.specs.Refusals.{may_signal, is_foreign, is_no, is_unknown, is_at_limit, refusal}
+use Rattle.nt_calls.specs.Steps.{begun, wait_of}
 use Rattle.nt_core.specs.Lawful.{IsSoundWait, IsSound, IsSteady, MayReplace}
 use Rattle.nt_core.specs.Accepts.{is_by_objects, IsFresh, IsServedAfter, Accepts}
 use Rattle.nt_objects.proofs.Lawful.{lawful_released, lawful_unlocked}

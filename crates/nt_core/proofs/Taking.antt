@@ -7,9 +7,9 @@ use Rattle.std.specs.Cmp.{nat_cmp_total}
 use Rattle.std.specs.FinMap as map
 use Rattle.nt_waits.specs.declared.wait.Wait.{Wait}
 use Rattle.nt_objects.specs.declared.object.Object.{Object}
-use Rattle.nt_core.specs.State.{State, Pending, pends}
+use Rattle.nt_calls.specs.State.{State, Pending, pends}
 use Rattle.nt_objects.proofs.Taking.{unsignaled_taken}
-use Rattle.nt_core.specs.Serving.{is_ready, is_sleep, fits, least, take_at, take_each, objects_taken, granted, satisfied, is_due}
+use Rattle.nt_calls.specs.Serving.{is_ready, is_sleep, fits, least, take_at, take_each, objects_taken, granted, satisfied, is_due}
 
 -- ---- the law of taking, for lists of objects
 

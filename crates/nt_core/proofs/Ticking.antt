@@ -9,12 +9,12 @@ use Rattle.nt_waits.specs.declared.wait.Wait.{Wait}
 use Rattle.nt_status.specs.Lists.{IsMember}
 use Rattle.nt_status.proofs.Lists.{member_place, member_push_cases}
 use Rattle.nt_waits.specs.Deadlines.{deadline_in, deadline_of, NoneEarlier, NoneWithDeadline, IsEarliestDeadline, IsFirstWithDeadline, NoDeadline}
-use Rattle.nt_core.specs.declared.call.Grant.{Grant}
-use Rattle.nt_core.specs.Rising.{IsRising}
-use Rattle.nt_core.specs.State.{State, wait_over, waits_over}
+use Rattle.nt_calls.specs.declared.call.Grant.{Grant}
+use Rattle.nt_calls.specs.Rising.{IsRising}
+use Rattle.nt_calls.specs.State.{State, wait_over, waits_over}
 use Rattle.nt_core.specs.Dispatcher.{Dispatcher, state}
-use Rattle.nt_core.specs.Serving.{IsLate, ending, late_status, sleeps}
-use Rattle.nt_core.specs.Steps.{IsAwaited, IsNextMoment, NothingDue, MomentPasses, MomentsPass}
+use Rattle.nt_calls.specs.Serving.{IsLate, ending, late_status, sleeps}
+use Rattle.nt_calls.specs.Steps.{IsAwaited, IsNextMoment, NothingDue, MomentPasses, MomentsPass}
 use Rattle.nt_core.specs.Lawful.{IsSound}
 use Rattle.nt_core.specs.Accepts.{IsTimedOutAfter}
 use Rattle.std.specs.Prelude.{MatchOption, if◌then◌else◌}

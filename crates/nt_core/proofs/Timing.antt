@@ -10,14 +10,14 @@ use Rattle.nt_objects.specs.Object.{signaled, is_timer, is_thread, is_gone, has_
 use Rattle.nt_alarms.specs.Alarms.{alarm_at}
 use Rattle.nt_apc.specs.declared.apc.Queued.{Queued}
 use Rattle.nt_apc.specs.Queues.{Apcs, queue_of, has_apc, has_from, is_from, withdrawn, without_from, place_of, KeepsPlaces}
-use Rattle.nt_core.specs.declared.call.Act.{Act}
-use Rattle.nt_core.specs.declared.call.Call.{Call}
-use Rattle.nt_core.specs.declared.call.Reply.{Reply}
-use Rattle.nt_core.specs.Rising.{AreRising}
-use Rattle.nt_core.specs.State.{object_at}
+use Rattle.nt_calls.specs.declared.call.Act.{Act}
+use Rattle.nt_calls.specs.declared.call.Call.{Call}
+use Rattle.nt_calls.specs.declared.call.Reply.{Reply}
+use Rattle.nt_calls.specs.Rising.{AreRising}
+use Rattle.nt_calls.specs.State.{object_at}
 use Rattle.nt_core.specs.Dispatcher.{Dispatcher, state}
-use Rattle.nt_core.specs.Serving.{IsChanged}
-use Rattle.nt_core.specs.Change.{timer_cancelled}
+use Rattle.nt_calls.specs.Serving.{IsChanged}
+use Rattle.nt_calls.specs.Change.{timer_cancelled}
 use Rattle.nt_core.specs.Lawful.{IsSound, IsSteady}
 use Rattle.nt_core.specs.Accepts.{IsFresh, Accepts}
 use Rattle.nt_core.proofs.Handling.{handles_along}

@@ -8,10 +8,10 @@ use Rattle.std.specs.FinMap as map
 use Rattle.nt_waits.specs.declared.wait.Wait.{Wait}
 use Rattle.nt_waits.specs.Waits.{Waits, queue_of, others, Agrees, counted_once}
 use Rattle.nt_objects.specs.declared.object.Object.{Object}
-use Rattle.nt_core.specs.declared.call.Grant.{Grant}
-use Rattle.nt_core.specs.State.{State, Pending, object_at}
+use Rattle.nt_calls.specs.declared.call.Grant.{Grant}
+use Rattle.nt_calls.specs.State.{State, Pending, object_at}
 use Rattle.nt_core.specs.Dispatcher.{Dispatcher, state}
-use Rattle.nt_core.specs.Serving.{fits, satisfied, granted, IsTried, CanTake}
+use Rattle.nt_calls.specs.Serving.{fits, satisfied, granted, IsTried, CanTake}
 use Rattle.nt_core.specs.Visits.{IsVisited}
 use Rattle.nt_core.specs.Lawful.{IsSoundWait, IsSound, MarksAgreeBut}
 use Rattle.nt_objects.specs.Object.{has_room, signaled, owned_by, IsLawfulObject}

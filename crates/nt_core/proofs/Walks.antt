@@ -15,10 +15,10 @@ use Rattle.nt_status.specs.Lists.{IsMember, AreOnce}
 use Rattle.nt_status.proofs.Lists.{member_of_last}
 use Rattle.nt_waits.specs.Waits.{others, next_after, Agrees}
 use Rattle.nt_waits.proofs.OthersLemmas.{others_absent}
-use Rattle.nt_core.specs.declared.call.Grant.{Grant}
-use Rattle.nt_core.specs.State.{State, Pending, pends}
+use Rattle.nt_calls.specs.declared.call.Grant.{Grant}
+use Rattle.nt_calls.specs.State.{State, Pending, pends}
 use Rattle.nt_core.specs.Dispatcher.{Dispatcher, state}
-use Rattle.nt_core.specs.Serving.{is_due, IsDue, satisfied, granted, grant_of, Grants, IsServed, Serve, sequence}
+use Rattle.nt_calls.specs.Serving.{is_due, IsDue, satisfied, granted, grant_of, Grants, IsServed, Serve, sequence}
 use Rattle.nt_core.specs.Visits.{IsVisited, Visits, FitOnlyIn}
 use Rattle.nt_core.specs.Lawful.{IsSound}
 use Rattle.nt_core.proofs.Taking.{undue_granted, idle_granted, undue_idle}

@@ -4,24 +4,24 @@ use Rattle.std.specs.List.{filter}
 use Rattle.std.specs.FinMap.{len, get}
 use Rattle.nt_status.specs.Status.{io_completion_code, timeout_code}
 use Rattle.nt_status.specs.declared.refusal.Refusal.{Refusal}
-use Rattle.nt_core.specs.declared.call.Act.{Act}
-use Rattle.nt_core.specs.declared.call.Call.{Call}
-use Rattle.nt_core.specs.declared.call.WaitCall.{WaitCall}
-use Rattle.nt_core.specs.declared.call.Reply.{Reply}
-use Rattle.nt_core.specs.declared.call.Grant.{Grant}
-use Rattle.nt_core.specs.Rising.{AreRising}
+use Rattle.nt_calls.specs.declared.call.Act.{Act}
+use Rattle.nt_calls.specs.declared.call.Call.{Call}
+use Rattle.nt_calls.specs.declared.call.WaitCall.{WaitCall}
+use Rattle.nt_calls.specs.declared.call.Reply.{Reply}
+use Rattle.nt_calls.specs.declared.call.Grant.{Grant}
+use Rattle.nt_calls.specs.Rising.{AreRising}
 use Rattle.nt_objects.specs.Object.{armed_with}
 use Rattle.nt_objects.specs.declared.object.Routine.{Routine}
 use Rattle.nt_alarms.specs.Alarms.{alarm_at}
 use Rattle.nt_apc.specs.Queues.{withdrawn, place_of}
 use Rattle.nt_status.specs.Lists.{IsMember}
-use Rattle.nt_core.specs.State.{State, object_at, wait_over}
-use Rattle.nt_core.specs.Serving.{IsChanged, sequence, sleeps, Serve, IsAlerted, Alert, ending, TimeOut, IsLate}
-use Rattle.nt_core.specs.Change.{change, all_expired, exited, IsTimerDue}
-use Rattle.nt_core.specs.Naming.{object_named, lacks, act_named, wait_named}
-use Rattle.nt_core.specs.Rights.{act_denied, wait_denied}
-use Rattle.nt_core.specs.Refusals.{Cause, first_of_causes, call_causes, refusal, would_pend}
-use Rattle.nt_core.specs.Steps.{Step, MomentPasses, Made, begun, wait_of}
+use Rattle.nt_calls.specs.State.{State, object_at, wait_over}
+use Rattle.nt_calls.specs.Serving.{IsChanged, sequence, sleeps, Serve, IsAlerted, Alert, ending, TimeOut, IsLate}
+use Rattle.nt_calls.specs.Change.{change, all_expired, exited, IsTimerDue}
+use Rattle.nt_calls.specs.Naming.{object_named, lacks, act_named, wait_named}
+use Rattle.nt_calls.specs.Rights.{act_denied, wait_denied}
+use Rattle.nt_calls.specs.Refusals.{Cause, first_of_causes, call_causes, refusal, would_pend}
+use Rattle.nt_calls.specs.Steps.{Step, MomentPasses, Made, begun, wait_of}
 use Rattle.nt_core.specs.Dispatcher.{Dispatcher, state}
 use Rattle.nt_core.specs.Due.{due_weight, total_weight}
 use Rattle.nt_core.specs.Lawful.{IsSound, IsSteady}

@@ -7,8 +7,8 @@ use Rattle.nt_apc.specs.Queues.{Apcs}
 use Rattle.nt_objects.specs.declared.object.Object.{Object}
 use Rattle.nt_objects.specs.declared.handles.Opened.{Opened}
 use Rattle.nt_objects.specs.Handles.{full_access}
-use Rattle.nt_core.specs.declared.call.Grant.{Grant}
-use Rattle.nt_core.specs.State.{State}
+use Rattle.nt_calls.specs.declared.call.Grant.{Grant}
+use Rattle.nt_calls.specs.State.{State}
 
 pub record Dispatcher : Type 0 where
   pub threads : ℕ

@@ -15,12 +15,12 @@ use Rattle.nt_waits.specs.Waits.{Names, Agrees}
 use Rattle.std.specs.List.{IsDistinct}
 use Rattle.nt_alarms.specs.Alarms.{alarm_at}
 use Rattle.nt_apc.specs.Queues.{place_of}
-use Rattle.nt_core.specs.State.{State, object_at}
-use Rattle.nt_core.specs.Serving.{IsServed, IsAlerted}
-use Rattle.nt_core.specs.Refusals.{is_at_limit}
-use Rattle.nt_core.specs.Steps.{NothingDue}
+use Rattle.nt_calls.specs.State.{State, object_at}
+use Rattle.nt_calls.specs.Serving.{IsServed, IsAlerted}
+use Rattle.nt_calls.specs.Refusals.{is_at_limit}
+use Rattle.nt_calls.specs.Steps.{NothingDue}
 use Rattle.nt_core.specs.Dispatcher.{Dispatcher, state}
-use Rattle.nt_core.specs.Living.{is_forgotten, LivesWhileKept}
+use Rattle.nt_calls.specs.Living.{is_forgotten, LivesWhileKept}
 
 -- no pending wait could end now: none fits, none is to be alerted, none has timed out, and no timer is to expire
 pub record IsSettled (s : State) : Type 0 where

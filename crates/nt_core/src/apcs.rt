@@ -1,44 +1,23 @@
 //! Calls on APCs, and the waits that end for them.
 ghost use Rattle.std.specs.Prelude.{◌≡◌, ◌<◌, ◌∷◌, ◌++◌, [], ℕ, None, IsTrue, OnOk, OnErr, length};
-ghost use Rattle.nt_core.specs.declared.call.Act.{Act};
-ghost use Rattle.nt_core.specs.declared.call.Call.{Call};
+ghost use Rattle.nt_calls.specs.declared.call.Act.{Act};
+ghost use Rattle.nt_calls.specs.declared.call.Call.{Call};
 ghost use Rattle.nt_apc.specs.Queues.{pushed, taken, oldest, apc_of, queue_of};
-ghost use Rattle.nt_core.specs.Change.{may_take};
+ghost use Rattle.nt_calls.specs.Change.{may_take};
 ghost use Rattle.std.specs.FinMap as map;
-ghost use Rattle.nt_core.specs.State.{pends, wait_over};
+ghost use Rattle.nt_calls.specs.State.{pends, wait_over};
 ghost use Rattle.nt_core.specs.Dispatcher.{state, with_queues};
-ghost use Rattle.nt_core.specs.Serving.{IsAlerted, ending};
+ghost use Rattle.nt_calls.specs.Serving.{IsAlerted, ending};
 ghost use Rattle.nt_core.specs.Lawful.{IsSound};
 ghost use Rattle.nt_core.specs.Accepts.{IsFresh, IsFree, IsRoused, IsAlertedAfter, IsActMade, Accepts, IsJudged};
-ghost use Rattle.nt_core.specs.Refusals.{first_of_causes, apc_causes};
+ghost use Rattle.nt_calls.specs.Refusals.{apc_causes};
 ghost use Rattle.nt_status.specs.Access.{set_context};
 
-use crate::call::{Grant, Reply};
-use crate::handles::{SET_CONTEXT, named, opened};
-use crate::judge::judged;
 use crate::machine::Machine;
 use nt_apc::Apc;
-use nt_objects::Object;
+use nt_calls::{Grant, Reply, SET_CONTEXT, apc_refusal, judged, opened};
 use nt_status::{Handle, OptionalMoment, Refusal, Status, ThreadId};
 use std::alloc::AllocError;
-
-/// The refusal of an APC for the thread whose object has this handle.
-fn apc_refusal(objects: &[Object], denied: bool, thread: Handle) -> Option<Refusal>
-    ensures { result ≡ first_of_causes (apc_causes objects.now denied thread) }
-{
-    match named(objects, thread) {
-        Some(object) if object.is_thread() => {
-            if denied {
-                Some(Refusal::AccessDenied)
-            } else if object.has_ended() {
-                Some(Refusal::ThreadGone)
-            } else {
-                None
-            }
-        }
-        _ => Some(Refusal::InvalidHandle),
-    }
-}
 
 impl Machine {
     /// Where this thread's wait pends, is alertable and an APC is queued for it, ends the wait. The caller knows that no

@@ -1,21 +1,44 @@
 //! The table of calls: each is made, or refused, by the function for it.
-ghost use Rattle.std.specs.Prelude.{◌≡◌, ◌<◌, false, None, OnOk, OnErr};
+ghost use Rattle.std.specs.Prelude.{◌≡◌, ◌<◌, Bool, false, None, Some, OnOk, OnErr, IfSome, IfNone};
 ghost use Rattle.std.specs.FinMap as fin;
 ghost use Rattle.nt_objects.specs.Object.{has_ended};
 ghost use Rattle.nt_core.specs.Dispatcher.{state};
-ghost use Rattle.nt_core.specs.State.{object_at};
-ghost use Rattle.nt_core.specs.Naming.{call_named};
-ghost use Rattle.nt_core.specs.Rights.{is_denied};
-ghost use Rattle.nt_core.specs.Steps.{Made, Called};
+ghost use Rattle.nt_calls.specs.State.{object_at};
+ghost use Rattle.nt_calls.specs.Naming.{call_named};
+ghost use Rattle.nt_calls.specs.Rights.{is_denied};
+ghost use Rattle.nt_calls.specs.Refusals.{refusal};
+ghost use Rattle.nt_calls.specs.declared.call.Call.{Call};
+ghost use Rattle.nt_calls.specs.Steps.{Made, Called};
 ghost use Rattle.nt_core.specs.Lawful.{IsSteady};
-ghost use Rattle.nt_core.specs.Living.{LivesWhileKept};
+ghost use Rattle.nt_calls.specs.Living.{LivesWhileKept};
 ghost use Rattle.nt_core.specs.Accepts.{IsFresh, IsFree, IsLocal, IsActMade};
 
-use crate::call::{Act, Call, Reply};
 use crate::machine::Machine;
+use nt_calls::{Act, Call, Reply};
 use nt_status::{ChangedObjects, NamedObjects, Refusal, ThreadId};
 
 impl Machine {
+    /// The refusal that every call of this thread must meet, if any.
+    pub(crate) fn caller_refusal(&self, who: u32) -> Option<Refusal>
+        ensures refused { IfSome result
+            (λ cause. (denied : Bool) (call : Call) → refusal (state self.now) who denied call ≡ Some cause) }
+        ensures free { IfNone result (IsFree (state self.now) who) }
+        ensures known { IfNone result (who < self.now.threads) }
+    {
+        if who >= self.threads {
+            return Some(Refusal::UnknownThread);
+        }
+        if let Some(own) = self.objects.as_slice().get(who as usize) {
+            if own.has_ended() {
+                return Some(Refusal::ThreadEnded);
+            }
+        }
+        if self.waits.about(ThreadId::new(who as u16)).is_some() {
+            return Some(Refusal::ThreadWaiting);
+        }
+        None
+    }
+
     /// An act, made or refused by its own causes.
     #[inline(always)]
     fn act(&mut self, thread: ThreadId, act: &Act) -> Result<Reply, Refusal>

@@ -2,8 +2,8 @@
 ghost use Rattle.std.specs.Prelude.{◌≡◌, ◌≤◌, IfOk, IfErr, vec_capacity};
 ghost use Rattle.nt_status.specs.declared.refusal.Refusal.TheVariants.{Memory};
 
-use crate::call::Grant;
 use crate::machine::Machine;
+use nt_calls::Grant;
 use nt_status::Refusal;
 use std::alloc::{AllocError, Global};
 

@@ -1,19 +1,18 @@
 ghost use Rattle.std.specs.Prelude.{◌≡◌, ◌≤◌, ◌+◌, ℕ, true, false, [], length, IfOk, IfErr, OnOk, OnErr, MatchBool, nat_le, ◌&&◌};
 ghost use Rattle.std.specs.FinMap as map;
 ghost use Rattle.nt_status.specs.declared.refusal.Refusal.TheVariants.{InvalidParameter, Memory};
-ghost use Rattle.nt_core.specs.State.{opening, pends};
-ghost use Rattle.nt_core.specs.Naming.{call_named};
-ghost use Rattle.nt_core.specs.Steps.{Called, Ticked};
+ghost use Rattle.nt_calls.specs.State.{opening, pends};
+ghost use Rattle.nt_calls.specs.Naming.{call_named};
+ghost use Rattle.nt_calls.specs.Steps.{Called, Ticked};
 ghost use Rattle.nt_core.specs.Dispatcher.{state};
-ghost use Rattle.nt_core.specs.Living.{living};
+ghost use Rattle.nt_calls.specs.Living.{living};
 ghost use Rattle.nt_core.specs.Lawful.{IsLawful};
 ghost use Rattle.nt_core.specs.Accepts.{IsLocal, IsTickLocal};
-ghost use Rattle.nt_core.specs.Moves.{Moves, IsMomentAfter, pended, is_wait};
+ghost use Rattle.nt_calls.specs.Moves.{Moves, IsMomentAfter, pended, is_wait};
 
 use crate::alerted::AlertedThreads;
-use crate::call::{Call, Grant, Reply};
-use crate::living::count_living;
 use crate::machine::Machine;
+use nt_calls::{Call, Grant, Reply, count_living};
 use nt_status::{ChangedObjects, MAX_THREADS, Moment, NamedObjects, Refusal};
 use std::alloc::Global;
 use std::marker::Model;

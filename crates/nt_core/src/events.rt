@@ -1,17 +1,16 @@
 //! Calls on events.
 ghost use Rattle.std.specs.Prelude.{◌≡◌, ◌<◌, ℕ, length, true, false, not, IsTrue};
 ghost use Rattle.nt_objects.specs.Object.{is_event, signaled, with_set};
-ghost use Rattle.nt_core.specs.State.{object_at, with_object};
-ghost use Rattle.nt_core.specs.Change.{at};
+ghost use Rattle.nt_calls.specs.State.{object_at, with_object};
+ghost use Rattle.nt_calls.specs.Change.{at};
 ghost use Rattle.nt_core.specs.Dispatcher.{state};
 ghost use Rattle.nt_core.specs.Accepts.{IsFresh, IsFree, IsServedAfter, IsActMade, IsJudged};
-ghost use Rattle.nt_core.specs.declared.call.Act.{Act};
-ghost use Rattle.nt_core.specs.Refusals.{kind_causes};
+ghost use Rattle.nt_calls.specs.declared.call.Act.{Act};
+ghost use Rattle.nt_calls.specs.Refusals.{kind_causes};
 ghost use Rattle.nt_status.specs.Access.{modify_state};
 
-use crate::call::Reply;
-use crate::handles::{MODIFY_STATE, opened};
 use crate::machine::Machine;
+use nt_calls::{MODIFY_STATE, Reply, opened};
 use nt_objects::Object;
 use nt_status::{EventFlags, Handle, Refusal};
 

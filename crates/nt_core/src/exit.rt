@@ -1,31 +1,21 @@
 //! A thread ends.
-ghost use Rattle.std.specs.Prelude.{◌≡◌, ◌≢◌, ◌<◌, ◌≤◌, ◌+◌, ◌↔◌, ℕ, None, Some, true, false, length, map, slice_set, IsTrue};
+ghost use Rattle.std.specs.Prelude.{◌≡◌, ◌≢◌, ◌<◌, ◌≤◌, ◌+◌, ℕ, None, Some, true, false, length, map, slice_set};
 ghost use Rattle.std.specs.FinMap as fin;
 ghost use Rattle.nt_status.specs.declared.limits.TheConstants.{MAX_HANDLES};
 ghost use Rattle.nt_objects.specs.declared.object.Object.TheVariants.{Thread};
 ghost use Rattle.nt_objects.specs.Object.{is_timer, has_ended, owned_by, setter_of, abandoned_by};
 ghost use Rattle.nt_status.specs.Lists.{IsMember, AreOnce, Lists};
 ghost use Rattle.nt_apc.specs.Queues.{cleared};
-ghost use Rattle.nt_core.specs.State.{object_at};
+ghost use Rattle.nt_calls.specs.State.{object_at};
 ghost use Rattle.nt_core.specs.Dispatcher.{state};
 ghost use Rattle.nt_core.specs.Lawful.{IsSound};
 ghost use Rattle.nt_core.specs.Accepts.{IsFresh, IsStoppedAfter, IsExitedAfter, Accepts};
-ghost use Rattle.nt_core.specs.declared.call.Call.{Call};
-ghost use Rattle.nt_core.specs.declared.call.Reply.{Reply};
+ghost use Rattle.nt_calls.specs.declared.call.Call.{Call};
+ghost use Rattle.nt_calls.specs.declared.call.Reply.{Reply};
 
 use crate::machine::Machine;
-use nt_objects::Object;
+use nt_calls::is_set_by;
 use nt_status::{ChangedObjects, Handle, ThreadId};
-
-/// Whether the thread armed the timer at this handle with a routine.
-fn is_set_by(objects: &[Object], thread: ThreadId, handle: Handle) -> bool
-    ensures { IsTrue result ↔ (setter_of (object_at objects.now handle) ≡ Some thread) }
-{
-    match objects.get(handle.get() as usize) {
-        Some(object) => object.setter() == Some(thread),
-        None => false,
-    }
-}
 
 impl Machine {
     /// Frees and marks each mutex that the thread owns, and adds it to the list.

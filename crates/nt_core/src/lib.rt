@@ -16,18 +16,14 @@
 #![tactic(auto)]
 
 // What a caller sees.
-mod call;
 mod dispatcher;
 mod readers;
 // The parts, and the way of a call through them.
 mod alerted;
 mod calls;
-mod handles;
-mod judge;
 mod machine;
 // Waits: how they begin, are tried, and are served.
 mod serving;
-mod wait_refusal;
 mod waiting;
 // The calls by their objects.
 mod apcs;
@@ -43,5 +39,5 @@ mod copy;
 mod living;
 mod ticks;
 
-pub use call::{Act, Call, Grant, Reply, WaitCall};
 pub use dispatcher::Core;
+pub use nt_calls::{Act, Call, Grant, Reply, WaitCall};

@@ -1,5 +1,5 @@
 //! When an object lives, and the end of those that nothing keeps any more.
-ghost use Rattle.std.specs.Prelude.{◌≡◌, ◌≢◌, ◌<◌, [], ℕ, None, Some, true, not, false, length, slice_set, count_by, IsSome, if◌then◌else◌};
+ghost use Rattle.std.specs.Prelude.{◌≡◌, ◌≢◌, ◌<◌, [], ℕ, None, Some, true, false, length, slice_set, IsSome, if◌then◌else◌};
 ghost use Rattle.std.specs.Option.{ForSome};
 ghost use Rattle.nt_objects.specs.Object.{is_gone};
 ghost use Rattle.nt_objects.specs.Handles.{opened_at};
@@ -7,23 +7,15 @@ ghost use Rattle.nt_status.specs.Lists.{IsMember};
 ghost use Rattle.nt_apc.specs.Queues.{withdrawn, place_of};
 ghost use Rattle.nt_core.specs.Dispatcher.{state};
 ghost use Rattle.nt_core.specs.Lawful.{IsSound, IsSteady, MarksAgreeBut, LetsGoBut};
-ghost use Rattle.nt_core.specs.Living.{is_forgotten, gone, living, Ends, LivesWhileKept};
+ghost use Rattle.nt_calls.specs.Living.{is_forgotten, gone, living, Ends, LivesWhileKept};
 ghost use Rattle.nt_core.specs.Accepts.{IsFresh, IsFree, IsActMade};
-ghost use Rattle.nt_core.specs.declared.call.Act.{Act};
-ghost use Rattle.nt_core.specs.Refusals.{first_of_causes, close_causes};
+ghost use Rattle.nt_calls.specs.declared.call.Act.{Act};
 
-use crate::call::Reply;
 use crate::machine::Machine;
 use nt_alarms::Marks;
+use nt_calls::{Reply, close_refusal};
 use nt_objects::{HandleTable, Object};
 use nt_status::{Handle, Refusal};
-
-/// How many of the objects are not gone.
-pub(crate) fn count_living(objects: &[Object]) -> usize
-    ensures { result ≡ count_by (λ o. not (is_gone o)) objects.now }
-{
-    objects.iter().filter(|object| !object.is_gone()).count()
-}
 
 /// Marks those of the objects of a wait, which ends, that no handle names.
 pub(crate) fn let_go(handles: &HandleTable, leaving: &mut Marks, ended: &[Handle])
@@ -34,16 +26,6 @@ pub(crate) fn let_go(handles: &HandleTable, leaving: &mut Marks, ended: &[Handle
         if handles.count(*object) == 0 {
             leaving.set(object.get() as usize);
         }
-    }
-}
-
-/// The refusal of closing this handle.
-fn close_refusal(handles: &HandleTable, handle: Handle) -> Option<Refusal>
-    ensures { result ≡ first_of_causes (close_causes handles.now.opened handle) }
-{
-    match handles.get(handle) {
-        Some(_opened) => None,
-        None => Some(Refusal::InvalidHandle),
     }
 }
 

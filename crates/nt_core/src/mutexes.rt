@@ -1,35 +1,17 @@
 //! Calls on mutexes.
 ghost use Rattle.std.specs.Prelude.{◌≡◌, ◌<◌, length, IsTrue};
 ghost use Rattle.nt_objects.specs.Object.{owned_by, unlocked};
-ghost use Rattle.nt_core.specs.State.{object_at, with_object};
-ghost use Rattle.nt_core.specs.Change.{at};
+ghost use Rattle.nt_calls.specs.State.{object_at, with_object};
+ghost use Rattle.nt_calls.specs.Change.{at};
 ghost use Rattle.nt_core.specs.Dispatcher.{state};
 ghost use Rattle.nt_core.specs.Accepts.{IsFresh, IsFree, IsServedAfter, IsActMade, IsJudged};
-ghost use Rattle.nt_core.specs.declared.call.Act.{Act};
-ghost use Rattle.nt_core.specs.Refusals.{first_of_causes, unlock_causes};
+ghost use Rattle.nt_calls.specs.declared.call.Act.{Act};
+ghost use Rattle.nt_calls.specs.Refusals.{unlock_causes};
 
-use crate::call::Reply;
-use crate::handles::{named, object_named};
-use crate::judge::judged;
 use crate::machine::Machine;
+use nt_calls::{Reply, judged, object_named, unlock_refusal};
 use nt_objects::Object;
 use nt_status::{Handle, MutexFlags, Refusal, ThreadId};
-
-/// The refusal of a release of the mutex at this handle.
-fn unlock_refusal(objects: &[Object], thread: ThreadId, mutex: Handle) -> Option<Refusal>
-    ensures { result ≡ first_of_causes (unlock_causes objects.now thread mutex) }
-{
-    match named(objects, mutex) {
-        Some(object) if object.is_mutex() => {
-            if object.is_owned_by(thread) {
-                None
-            } else {
-                Some(Refusal::NotOwner)
-            }
-        }
-        _ => Some(Refusal::InvalidHandle),
-    }
-}
 
 impl Machine {
     /// CreateMutex.

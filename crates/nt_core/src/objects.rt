@@ -1,43 +1,20 @@
 //! The list of objects, and the creation of more.
-ghost use Rattle.std.specs.Prelude.{◌≡◌, ◌<◌, ℕ, None, ◌∷◌, ◌++◌, [], true, false, Some, IfOk, IfErr, OnOk, OnErr, MatchBool, length, slice_set};
+ghost use Rattle.std.specs.Prelude.{◌≡◌, ◌<◌, ℕ, ◌∷◌, ◌++◌, [], true, false, Some, IfOk, IfErr, OnOk, OnErr, MatchBool, length, slice_set};
 ghost use Rattle.nt_status.specs.declared.refusal.Refusal.TheVariants.{HandleLimit, Memory};
 ghost use Rattle.nt_objects.specs.Object.{owner_of, owned_by};
-ghost use Rattle.nt_core.specs.State.{object_at};
-ghost use Rattle.nt_core.specs.Refusals.{is_full, first_of_causes, duplicate_causes};
+ghost use Rattle.nt_calls.specs.State.{object_at};
+ghost use Rattle.nt_calls.specs.Refusals.{is_full, duplicate_causes};
 ghost use Rattle.nt_core.specs.Dispatcher.{state, with_created};
 ghost use Rattle.nt_core.specs.Lawful.{HandlesAgree};
 ghost use Rattle.nt_core.specs.Accepts.{IsFresh, IsFree, IsActMade, IsJudged};
-ghost use Rattle.nt_core.specs.declared.call.Act.{Act};
-ghost use Rattle.nt_core.specs.declared.call.Reply.{Reply};
+ghost use Rattle.nt_calls.specs.declared.call.Act.{Act};
+ghost use Rattle.nt_calls.specs.declared.call.Reply.{Reply};
 
-use crate::call::Reply;
-use crate::handles::opened;
-use crate::judge::{is_unknown, judged};
 use crate::machine::Machine;
-use nt_objects::{HandleTable, Object, Opened};
+use nt_calls::{Reply, duplicate_refusal, judged, opened};
+use nt_objects::{Object, Opened};
 use nt_status::{Access, Handle, MAX_HANDLES, Refusal};
 use std::alloc::AllocError;
-
-/// The refusal of one handle more for this object, with these rights.
-fn duplicate_refusal(
-    handles: &HandleTable,
-    objects: &[Object],
-    denied: bool,
-    object: Handle,
-    access: u32,
-) -> Option<Refusal>
-    ensures { result ≡ first_of_causes (duplicate_causes handles.now.opened objects.now denied object access) }
-{
-    if is_unknown(objects, object) {
-        Some(Refusal::InvalidHandle)
-    } else if denied || Access::from_bits(access).is_none() {
-        Some(Refusal::AccessDenied)
-    } else if handles.len() >= MAX_HANDLES {
-        Some(Refusal::HandleLimit)
-    } else {
-        None
-    }
-}
 
 impl Machine {
     /// Adds an object with a handle that has all rights of its kind, and answers the handle, unless no handle number is left or

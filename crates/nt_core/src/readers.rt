@@ -3,11 +3,11 @@ ghost use Rattle.std.specs.Prelude.{◌≡◌, MatchOption, slice_get};
 ghost use Rattle.std.specs.Option.{option_copied};
 ghost use Rattle.std.specs.FinMap as map;
 ghost use Rattle.nt_core.specs.Dispatcher.{state};
-ghost use Rattle.nt_core.specs.Naming.{object_named};
-ghost use Rattle.nt_core.specs.Steps.{IsNextMoment, NothingDue};
+ghost use Rattle.nt_calls.specs.Naming.{object_named};
+ghost use Rattle.nt_calls.specs.Steps.{IsNextMoment, NothingDue};
 
 use crate::dispatcher::Core;
-use crate::handles::{named, object_named};
+use nt_calls::{named, object_named};
 use nt_objects::Object;
 use nt_status::{Handle, Moment, ThreadId};
 use nt_waits::Wait;

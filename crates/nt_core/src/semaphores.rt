@@ -1,45 +1,18 @@
 //! Calls on semaphores.
 ghost use Rattle.std.specs.Prelude.{◌≡◌, ◌<◌, ℕ, length, pos, ◌<ℤ◌, false, IsTrue};
 ghost use Rattle.nt_objects.specs.Object.{is_semaphore, count_of, overflows, released};
-ghost use Rattle.nt_core.specs.State.{object_at, with_object};
-ghost use Rattle.nt_core.specs.Change.{at};
+ghost use Rattle.nt_calls.specs.State.{object_at, with_object};
+ghost use Rattle.nt_calls.specs.Change.{at};
 ghost use Rattle.nt_core.specs.Dispatcher.{state};
 ghost use Rattle.nt_core.specs.Accepts.{IsFresh, IsFree, IsServedAfter, IsActMade, IsJudged};
-ghost use Rattle.nt_core.specs.declared.call.Act.{Act};
-ghost use Rattle.nt_core.specs.Refusals.{first_of_causes, release_causes};
+ghost use Rattle.nt_calls.specs.declared.call.Act.{Act};
+ghost use Rattle.nt_calls.specs.Refusals.{release_causes};
 ghost use Rattle.nt_status.specs.Access.{modify_state};
 
-use crate::call::Reply;
-use crate::handles::{MODIFY_STATE, named, opened};
-use crate::judge::judged;
 use crate::machine::Machine;
+use nt_calls::{MODIFY_STATE, Reply, judged, opened, release_refusal};
 use nt_objects::Object;
 use nt_status::{Handle, Refusal};
-
-/// The refusal of a release of the semaphore at this handle.
-fn release_refusal(
-    objects: &[Object],
-    denied: bool,
-    semaphore: Handle,
-    count: i32,
-) -> Option<Refusal>
-    ensures { result ≡ first_of_causes (release_causes objects.now denied semaphore count) }
-{
-    match named(objects, semaphore) {
-        Some(object) if object.is_semaphore() => {
-            if denied {
-                Some(Refusal::AccessDenied)
-            } else if count <= 0 {
-                Some(Refusal::InvalidParameter)
-            } else if object.overflows(count) {
-                Some(Refusal::TooManyPosts)
-            } else {
-                None
-            }
-        }
-        _ => Some(Refusal::InvalidHandle),
-    }
-}
 
 impl Machine {
     /// CreateSemaphore.

@@ -1,71 +1,25 @@
 //! SignalObjectAndWait: one object is signaled, the others are served, and then the caller waits.
-ghost use Rattle.std.specs.Prelude.{◌≡◌, ◌≢◌, ◌∷◌, ◌+◌, ◌<◌, [], false, None, Some, IfOk, IfErr, OnOk, OnErr, IsSome, IsTrue, length, pos, not, ◌==◌, ◌||◌, ◌&&◌};
+ghost use Rattle.std.specs.Prelude.{◌≡◌, ◌≢◌, ◌∷◌, ◌+◌, ◌<◌, [], false, None, Some, IfOk, IfErr, OnOk, OnErr, IsSome, IsTrue, length, pos, not, ◌==◌};
 ghost use Rattle.std.specs.Option.{ForSome};
 ghost use Rattle.std.specs.FinMap as map;
 ghost use Rattle.nt_status.specs.declared.refusal.Refusal.TheVariants.{Memory};
-ghost use Rattle.nt_objects.specs.Object.{overflows, is_gone, is_mutex};
+ghost use Rattle.nt_objects.specs.Object.{overflows, is_gone};
 ghost use Rattle.nt_waits.specs.declared.wait.Wait.{Wait};
-ghost use Rattle.nt_core.specs.State.{object_at, deadline_after, pending_too};
+ghost use Rattle.nt_calls.specs.State.{object_at, deadline_after, pending_too};
 ghost use Rattle.nt_core.specs.Dispatcher.{state, with_prepared};
-ghost use Rattle.nt_core.specs.Change.{at, signal};
-ghost use Rattle.nt_core.specs.Refusals.{may_signal, is_foreign, refusal, first_of_causes, swap_causes};
+ghost use Rattle.nt_calls.specs.Change.{at, signal};
+ghost use Rattle.nt_calls.specs.Refusals.{may_signal, is_foreign, refusal};
 ghost use Rattle.nt_core.specs.Lawful.{IsSoundWait, IsSound};
 ghost use Rattle.nt_core.specs.Accepts.{IsFresh, IsServedAfter, Accepts, IsFree, IsWaitMade};
-ghost use Rattle.nt_core.specs.declared.call.Call.{Call};
-ghost use Rattle.nt_core.specs.declared.call.WaitCall.{WaitCall};
+ghost use Rattle.nt_calls.specs.declared.call.Call.{Call};
+ghost use Rattle.nt_calls.specs.declared.call.WaitCall.{WaitCall};
 
-use crate::call::Reply;
-use crate::handles::{MODIFY_STATE, SYNCHRONIZE, named, opened};
-use crate::judge::is_unknown;
 use crate::machine::Machine;
-use crate::wait_refusal::is_at_limit;
-use crate::waiting::deadline_after;
-use nt_objects::Object;
+use nt_calls::{
+    MODIFY_STATE, Reply, SYNCHRONIZE, deadline_after, is_swap_denied, opened, swap_refusal,
+};
 use nt_status::{Handle, Refusal, ThreadId};
 use nt_waits::About;
-
-/// The refusal of a swap that signals one object and waits for the other, both as they are before it.
-fn swap_refusal(
-    objects: &[Object],
-    thread: ThreadId,
-    denied: bool,
-    signal: Handle,
-    object: Handle,
-) -> Option<Refusal>
-    ensures { result ≡ first_of_causes (swap_causes objects.now thread denied signal object) }
-{
-    let signaled = match named(objects, signal) {
-        Some(signaled) => *signaled,
-        None => return Some(Refusal::InvalidHandle),
-    };
-    let is_mutex = signaled.is_mutex();
-    if !(signaled.is_event() || signaled.is_semaphore() || is_mutex) {
-        Some(Refusal::InvalidHandle)
-    } else if is_unknown(objects, object) {
-        Some(Refusal::InvalidHandle)
-    } else if denied {
-        Some(Refusal::AccessDenied)
-    } else if is_mutex && !signaled.is_owned_by(thread) {
-        Some(Refusal::NotOwner)
-    } else if signaled.overflows(1) {
-        Some(Refusal::TooManyPosts)
-    } else if is_at_limit(objects, thread, object) {
-        Some(Refusal::RecursionLimit)
-    } else {
-        None
-    }
-}
-
-/// Whether a right is lacking that a swap needs: to release a mutex needs none.
-fn is_denied(objects: &[Object], signaled: Handle, no_signal: bool, no_wait: bool) -> bool
-    ensures { result ≡ (not (is_mutex (object_at objects.now signaled)) && no_signal || no_wait) }
-{
-    let is_mutex = match named(objects, signaled) {
-        Some(object) => object.is_mutex(),
-        None => false,
-    };
-    !is_mutex && no_signal || no_wait
-}
 
 impl Machine {
     /// Signals the object, and serves the waits that name it: an event is set, a semaphore counts one more, a mutex is held one
@@ -192,7 +146,7 @@ impl Machine {
         let (signaled, no_signal) = opened(&self.handles, signal, MODIFY_STATE);
         let (awaited, no_wait) = opened(&self.handles, object, SYNCHRONIZE);
         let objects = self.objects.as_slice();
-        let denied = is_denied(objects, signaled, no_signal, no_wait);
+        let denied = is_swap_denied(objects, signaled, no_signal, no_wait);
         match swap_refusal(objects, thread, denied, signaled, awaited) {
             Some(refusal) => Err(refusal),
             None => self.swap(thread, signaled, awaited, ms, alertable),

@@ -4,18 +4,17 @@ ghost use Rattle.nt_alarms.specs.Alarms.{alarm_at, NoneBefore};
 ghost use Rattle.nt_core.specs.Due.{earlier, due_weight};
 ghost use Rattle.std.specs.FinMap as map;
 ghost use Rattle.nt_waits.specs.Deadlines.{NoneEarlier};
-ghost use Rattle.nt_core.specs.State.{pends, wait_over};
+ghost use Rattle.nt_calls.specs.State.{pends, wait_over};
 ghost use Rattle.nt_core.specs.Dispatcher.{state};
-ghost use Rattle.nt_core.specs.Serving.{ending, late_status, sleeps, IsServed, IsAlerted};
-ghost use Rattle.nt_core.specs.Steps.{IsNextMoment, NothingDue, Ticked};
+ghost use Rattle.nt_calls.specs.Serving.{ending, late_status, sleeps, IsServed, IsAlerted};
+ghost use Rattle.nt_calls.specs.Steps.{IsNextMoment, NothingDue, Ticked};
 ghost use Rattle.nt_core.specs.Lawful.{IsSound, IsSteady};
-ghost use Rattle.nt_core.specs.Living.{LivesWhileKept};
+ghost use Rattle.nt_calls.specs.Living.{LivesWhileKept};
 ghost use Rattle.nt_core.specs.Accepts.{IsTimedOutAfter, IsAlertedAfter, IsExpiredAfter, IsPassedAfter, IsTickLocal};
 
 use crate::alerted::AlertedThreads;
-use crate::call::{Grant, Reply};
 use crate::machine::Machine;
-use crate::waiting::late_status;
+use nt_calls::{Grant, Reply, late_status};
 use nt_status::{ChangedObjects, Handle, Moment, Refusal, ThreadId};
 
 /// The earlier of two moments.

@@ -2,74 +2,24 @@
 ghost use Rattle.std.specs.Prelude.{◌≡◌, ◌≤◌, ◌<◌, pos, ◌≤ℤ◌, false, ℕ, length, slice_set, is_some, None, Some, IfSome, IsSomeAnd, IsTrue, OnOk, OnErr};
 ghost use Rattle.nt_objects.specs.Object.{is_timer, has_ended, due_of, owner_of};
 ghost use Rattle.nt_apc.specs.Queues.{withdrawn, place_of};
-ghost use Rattle.nt_core.specs.State.{object_at};
-ghost use Rattle.nt_core.specs.Change.{notified, expired, armed_anew, due_moment, routine_for};
+ghost use Rattle.nt_calls.specs.State.{object_at};
+ghost use Rattle.nt_calls.specs.Change.{notified, expired, armed_anew, due_moment, routine_for};
 ghost use Rattle.nt_core.specs.Dispatcher.{state, with_queues};
 ghost use Rattle.std.specs.FinMap as map;
 ghost use Rattle.nt_core.specs.Lawful.{IsSound};
 ghost use Rattle.nt_core.specs.Accepts.{IsFresh, IsFree, IsPromised, IsActMade, Accepts, IsJudged};
-ghost use Rattle.nt_core.specs.declared.call.Act.{Act};
-ghost use Rattle.nt_core.specs.declared.call.Call.{Call};
-ghost use Rattle.nt_core.specs.declared.call.Reply.{Reply};
-ghost use Rattle.nt_core.specs.Refusals.{first_of_causes, arm_causes, is_no, kind_causes};
+ghost use Rattle.nt_calls.specs.declared.call.Act.{Act};
+ghost use Rattle.nt_calls.specs.declared.call.Call.{Call};
+ghost use Rattle.nt_calls.specs.declared.call.Reply.{Reply};
+ghost use Rattle.nt_calls.specs.Refusals.{arm_causes, kind_causes};
 ghost use Rattle.nt_status.specs.Access.{modify_state};
 
-use crate::call::Reply;
-use crate::handles::{MODIFY_STATE, named, opened};
-use crate::judge::judged;
 use crate::machine::Machine;
 use nt_apc::Apc;
+use nt_calls::{MODIFY_STATE, Reply, arm_refusal, due_moment, judged, opened, routine_for};
 use nt_objects::{Armed, Object, Routine};
 use nt_status::{Handle, Moment, OptionalMoment, Refusal, ThreadId, TimerFlags};
 use std::alloc::AllocError;
-
-/// The due moment of a due time in units of 100 ns: from now on where it is negative.
-fn due_moment(now: Moment, due: i64) -> u64
-    ensures { result ≡ due_moment now due }
-{
-    if due < 0 {
-        now.get() + due.unsigned_abs()
-    } else {
-        due as u64
-    }
-}
-
-/// The routine and its argument, to run on this thread.
-fn routine_for(thread: ThreadId, routine: Option<(u64, u64)>) -> Option<Routine>
-    ensures { result ≡ routine_for thread routine }
-{
-    let (routine, arg) = routine?;
-    Some(Routine {
-        routine,
-        arg,
-        thread,
-    })
-}
-
-/// Whether the handle names no timer.
-fn is_no_timer(objects: &[Object], handle: Handle) -> bool
-    ensures { result ≡ is_no is_timer objects.now handle }
-{
-    match named(objects, handle) {
-        Some(object) => !object.is_timer(),
-        None => true,
-    }
-}
-
-/// The refusal of setting the timer at this handle.
-fn arm_refusal(objects: &[Object], denied: bool, timer: Handle, period: i32) -> Option<Refusal>
-    ensures { result ≡ first_of_causes (arm_causes objects.now denied timer period) }
-{
-    if is_no_timer(objects, timer) {
-        Some(Refusal::InvalidHandle)
-    } else if denied {
-        Some(Refusal::AccessDenied)
-    } else if period < 0 {
-        Some(Refusal::InvalidParameter)
-    } else {
-        None
-    }
-}
 
 impl Machine {
     /// CreateWaitableTimer.

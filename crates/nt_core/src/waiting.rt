@@ -7,46 +7,22 @@ ghost use Rattle.nt_status.specs.Lists.{IsMember};
 ghost use Rattle.nt_objects.specs.Object.{is_gone};
 ghost use Rattle.nt_apc.specs.Queues.{has_apc};
 ghost use Rattle.nt_waits.specs.Waits as waits;
-ghost use Rattle.nt_core.specs.State.{object_at, deadline_after, pending_too};
+ghost use Rattle.nt_calls.specs.State.{object_at, deadline_after, pending_too};
 ghost use Rattle.nt_core.specs.Dispatcher.{state};
-ghost use Rattle.nt_core.specs.Serving.{late_status, wait_for, fits, status, taken_by};
-ghost use Rattle.nt_core.specs.declared.call.Call.{Call};
-ghost use Rattle.nt_core.specs.declared.call.WaitCall.{WaitCall};
+ghost use Rattle.nt_calls.specs.Serving.{late_status, wait_for, fits, status, taken_by};
+ghost use Rattle.nt_calls.specs.declared.call.Call.{Call};
+ghost use Rattle.nt_calls.specs.declared.call.WaitCall.{WaitCall};
 ghost use Rattle.nt_core.specs.Lawful.{IsSoundWait, IsSound, IsSteady};
-ghost use Rattle.nt_core.specs.declared.call.Reply.{Reply};
+ghost use Rattle.nt_calls.specs.declared.call.Reply.{Reply};
 ghost use Rattle.nt_core.specs.Accepts.{IsFresh, IsFree, HasBegun, begins_pending, IsMade, IsWaitMade};
 
-use crate::call::{Reply, WaitCall};
-use crate::handles::{SYNCHRONIZE, name_all, opened};
 use crate::machine::Machine;
-use crate::serving::try_wait;
-use crate::wait_refusal::objects_refusal;
-use nt_status::{
-    Handle, INFINITE, MAX_WAIT_OBJECTS, Moment, NamedObjects, Refusal, Status, ThreadId,
+use nt_calls::{
+    Reply, SYNCHRONIZE, WaitCall, deadline_after, late_status, name_all, objects_refusal, opened,
+    try_wait,
 };
+use nt_status::{Handle, MAX_WAIT_OBJECTS, NamedObjects, Refusal, Status, ThreadId};
 use nt_waits::About;
-
-/// The deadline of a wait that begins at this moment with a timeout in milliseconds.
-pub(crate) fn deadline_after(now: Moment, ms: u32) -> Option<u64>
-    ensures { result ≡ deadline_after now ms }
-{
-    if ms == INFINITE {
-        None
-    } else {
-        Some(now.get() + 10_000 * ms as u64)
-    }
-}
-
-/// The status of a wait whose interval has passed: a sleep's is 0.
-pub(crate) fn late_status(sleeps: bool) -> Status
-    ensures { result ≡ late_status sleeps }
-{
-    if sleeps {
-        Status::object(0)
-    } else {
-        Status::TIMEOUT
-    }
-}
 
 impl Machine {
     /// The thread's wait for these handles pends from now on. Where memory is refused nothing changes.

@@ -8,20 +8,20 @@ use Rattle.std.proofs.lemmas.List.{append-nil, length-map}
 use Rattle.std.proofs.lemmas.Bool.{false≢true}
 use native.Mathlib.Decide.{ℕ_discrete}
 use Rattle.nt_status.specs.declared.refusal.Refusal.{Refusal}
-use Rattle.nt_core.specs.declared.call.Call.{Call}
-use Rattle.nt_core.specs.declared.call.Reply.{Reply}
-use Rattle.nt_core.specs.declared.call.Grant.{Grant}
+use Rattle.nt_calls.specs.declared.call.Call.{Call}
+use Rattle.nt_calls.specs.declared.call.Reply.{Reply}
+use Rattle.nt_calls.specs.declared.call.Grant.{Grant}
 use Rattle.std.proofs.Common.{Option, is_some}
 use Rattle.std.specs.FinMap.{get-empty}
 use Rattle.std.specs.Ordering.{nat_cmp}
 use Rattle.nt_waits.specs.declared.wait.Wait.{Wait}
-use Rattle.nt_core.specs.State.{State, pends, opening}
-use Rattle.nt_core.specs.Runs.{Turn, Calls, Ticks, IsTurn}
+use Rattle.nt_calls.specs.State.{State, pends, opening}
+use Rattle.nt_calls.specs.Runs.{Turn, Calls, Ticks, IsTurn}
 use Rattle.nt_core.specs.Dispatcher.{Dispatcher, state}
 use Rattle.nt_core.specs.Lawful.{IsLawful}
 use Rattle.nt_mail.specs.declared.entry.Entry.{Entry}
 use Rattle.nt_mail.specs.declared.entry.Entry.TheVariants.{Called, Ticked}
-use Rattle.nt_core.specs.Moves.{one_if, pended, granted_to, Moves, IsMomentAfter}
+use Rattle.nt_calls.specs.Moves.{one_if, pended, granted_to, Moves, IsMomentAfter}
 use Rattle.nt_core.proofs.Lawful.{who_waits}
 use Rattle.nt_core.proofs.Runs.{turns-append}
 use Rattle.nt_mail.specs.Entries.{Each, arms, is_armed, accepted, accepted_at, IsOwn}

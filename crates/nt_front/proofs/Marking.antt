@@ -6,8 +6,8 @@ use Rattle.std.proofs.lemmas.Bool.{cases_eq}
 use Rattle.std.proofs.lemmas.Nat.Bits.{bit_at_set_same, bit_at_set_other, bit_at-lt, bit_at-zero}
 use Rattle.std.proofs.lemmas.List.{take_all, take_more}
 use Rattle.nt_status.specs.declared.limits.TheConstants.{MAX_THREADS}
-use Rattle.nt_core.specs.declared.call.Grant.{Grant}
-use Rattle.nt_core.specs.Moves.{one_if, granted_to}
+use Rattle.nt_calls.specs.declared.call.Grant.{Grant}
+use Rattle.nt_calls.specs.Moves.{one_if, granted_to}
 use Rattle.nt_front.specs.Marks.{mark_of, IsMarkedToo, AreMarks}
 
 -- the blocks with a mark for thread n

@@ -1,8 +1,8 @@
 -- What a thread knows, where the first entries were handed out: of those since, all of it.
 use Rattle.std.proofs.Common.{◌≡◌, ◌==◌, ◌≤◌, ◌<◌, ◌+◌, ℕ, suc, List, [], ◌∷◌, ◌++◌, length, Bool, true, false, cond, inl, inr, refl, ◌∙◌, ap, sym, subst, arith}
 use Rattle.nt_core.specs.Dispatcher.{Dispatcher, state}
-use Rattle.nt_core.specs.Runs.{Turn, Calls, Ticks, Turns}
-use Rattle.nt_core.specs.State.{State, opening}
+use Rattle.nt_calls.specs.Runs.{Turn, Calls, Ticks, Turns}
+use Rattle.nt_calls.specs.State.{State, opening}
 use Rattle.nt_mail.specs.declared.entry.Entry.{Entry}
 use Rattle.nt_mail.specs.declared.entry.Entry.TheVariants.{Called, Ticked, Granted}
 use Rattle.nt_mail.specs.declared.knowledge.Asked.{Asked}

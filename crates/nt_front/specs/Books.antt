@@ -3,14 +3,14 @@ use Rattle.std.specs.Prelude.{◌≡◌, ℕ, Bool, ◌+◌, ◌-◌, ◌<◌, �
 use Rattle.std.specs.FinMap.{len}
 use Rattle.nt_status.specs.declared.limits.TheConstants.{MAX_THREADS}
 use Rattle.nt_status.specs.declared.refusal.Refusal.{Refusal}
-use Rattle.nt_core.specs.declared.call.Call.{Call}
-use Rattle.nt_core.specs.declared.call.Reply.{Reply}
+use Rattle.nt_calls.specs.declared.call.Call.{Call}
+use Rattle.nt_calls.specs.declared.call.Reply.{Reply}
 use Rattle.nt_core.specs.Dispatcher.{Dispatcher, state}
 use Rattle.nt_core.specs.Lawful.{IsLawful}
-use Rattle.nt_core.specs.Steps.{Called}
-use Rattle.nt_core.specs.Moves.{Moves, pended, is_wait}
-use Rattle.nt_core.specs.Runs.{Turn, Calls, Ticks, IsTurn}
-use Rattle.nt_core.specs.State.{opening}
+use Rattle.nt_calls.specs.Steps.{Called}
+use Rattle.nt_calls.specs.Moves.{Moves, pended, is_wait}
+use Rattle.nt_calls.specs.Runs.{Turn, Calls, Ticks, IsTurn}
+use Rattle.nt_calls.specs.State.{opening}
 use Rattle.nt_mail.specs.declared.entry.Entry.{Entry}
 use Rattle.nt_mail.specs.declared.knowledge.Knowledge.{Knowledge}
 use Rattle.nt_mail.specs.Entries.{accepted}

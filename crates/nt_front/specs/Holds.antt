@@ -1,7 +1,7 @@
 -- What contracts see of a thread's hold of the front.
 use Rattle.std.specs.Prelude.{◌≡◌, ℕ, ◌≤◌, max, zero, suc, List, [], ◌∷◌, ◌++◌, length, Result, Ok, Err}
-use Rattle.nt_core.specs.declared.call.Call.{Call}
-use Rattle.nt_core.specs.declared.call.Reply.{Reply}
+use Rattle.nt_calls.specs.declared.call.Call.{Call}
+use Rattle.nt_calls.specs.declared.call.Reply.{Reply}
 use Rattle.nt_status.specs.declared.refusal.Refusal.{Refusal}
 use Rattle.atomic_table.specs.Seated.{TableId}
 use Rattle.nt_mail.specs.Seats.{Seated}

@@ -2,8 +2,8 @@
 use Rattle.std.specs.Prelude.{◌≡◌, ◌<◌, ◌/◌, ◌%◌, ◌==◌, ℕ, List, slice_index, min, max}
 use Rattle.std.specs.Int.{bit_at}
 use Rattle.nt_status.specs.declared.limits.TheConstants.{MAX_THREADS}
-use Rattle.nt_core.specs.declared.call.Grant.{Grant}
-use Rattle.nt_core.specs.Moves.{one_if, granted_to}
+use Rattle.nt_calls.specs.declared.call.Grant.{Grant}
+use Rattle.nt_calls.specs.Moves.{one_if, granted_to}
 
 -- 1 where thread t has a mark: its bit of the block of 64 threads that it is in
 abbrev pub mark_of : ℕ → List ℕ → ℕ

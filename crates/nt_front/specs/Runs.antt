@@ -1,9 +1,9 @@
 -- A journal as a run of the machine.
 use Rattle.std.specs.Prelude.{◌≡◌, ◌<◌, ◌≤◌, ◌+◌, ℕ, List, [], ◌∷◌, ◌++◌, length, true}
-use Rattle.nt_core.specs.declared.call.Grant.{Grant}
+use Rattle.nt_calls.specs.declared.call.Grant.{Grant}
 use Rattle.nt_core.specs.Dispatcher.{Dispatcher, state}
 use Rattle.nt_core.specs.Lawful.{IsLawful}
-use Rattle.nt_core.specs.State.{State, pends, opening}
+use Rattle.nt_calls.specs.State.{State, pends, opening}
 use Rattle.nt_mail.specs.declared.entry.Entry.{Entry}
 use Rattle.nt_mail.specs.Entries.{Each, is_armed, accepted}
 pub use Rattle.nt_mail.specs.Journals.{granted, entries_of, journal_of, IsRunFrom}

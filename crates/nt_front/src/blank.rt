@@ -1,7 +1,7 @@
 //! How a front is made.
 ghost use Rattle.std.specs.Prelude.{◌≡◌, ◌+◌, ◌≤◌, ◌&&◌, [], vec_len, vec_capacity, IfOk, IfErr, MatchBool, nat_le};
 ghost use Rattle.nt_status.specs.declared.refusal.Refusal.TheVariants.{InvalidParameter, Memory};
-ghost use Rattle.nt_core.specs.State.{opening};
+ghost use Rattle.nt_calls.specs.State.{opening};
 ghost use Rattle.nt_core.specs.Dispatcher.{state};
 ghost use Rattle.nt_mail.specs.Knowledge.{newcomers};
 ghost use Rattle.nt_front.specs.Books.{is_lawful_front};

@@ -1,9 +1,9 @@
 //! What a thread with a pass may do under the lock.
 ghost use Rattle.std.specs.Prelude.{◌≡◌, true, IfOk, IfErr, OnErr};
 ghost use Rattle.nt_status.specs.declared.refusal.Refusal.TheVariants.{JournalFull, Memory};
-ghost use Rattle.nt_core.specs.declared.call.Call.{Call};
+ghost use Rattle.nt_calls.specs.declared.call.Call.{Call};
 ghost use Rattle.nt_core.specs.Dispatcher.{state};
-ghost use Rattle.nt_core.specs.Moves.{pended, is_wait};
+ghost use Rattle.nt_calls.specs.Moves.{pended, is_wait};
 ghost use Rattle.nt_mail.specs.Knowledge.{IsEarlier};
 ghost use Rattle.nt_front.specs.Books.{WasFull, WasHandedOut};
 ghost use Rattle.nt_front.specs.Held.{IsAllOf};

@@ -1,6 +1,6 @@
 //! How entries are written, and told to their threads.
 ghost use Rattle.std.specs.Prelude.{◌≡◌, ◌+◌, ◌-◌, ◌^◌, ◌<◌, ◌≤◌, ◌++◌, ◌∷◌, [], length, map, vec_len, vec_capacity, IfOk};
-ghost use Rattle.nt_core.specs.Moves.{one_if};
+ghost use Rattle.nt_calls.specs.Moves.{one_if};
 ghost use Rattle.nt_mail.specs.declared.entry.Entry.TheVariants.{Called};
 ghost use Rattle.nt_mail.specs.Entries.{accepted_if, arms, is_armed, IsOwn};
 ghost use Rattle.nt_mail.specs.Seats.{seated};

@@ -1,9 +1,9 @@
 //! The mail: the bits of reply words, and each step once.
 ghost use Rattle.std.specs.Prelude.{◌≡◌, ◌+◌, ◌<◌, ◌≤◌, ◌^◌, ◌++◌, ◌∷◌, [], length, true, false, IfOk, Ok};
-ghost use Rattle.nt_core.specs.declared.call.Call.{Call};
-ghost use Rattle.nt_core.specs.declared.call.Reply.{Reply};
-ghost use Rattle.nt_core.specs.declared.call.WaitCall.{WaitCall};
-ghost use Rattle.nt_core.specs.Moves.{pended};
+ghost use Rattle.nt_calls.specs.declared.call.Call.{Call};
+ghost use Rattle.nt_calls.specs.declared.call.Reply.{Reply};
+ghost use Rattle.nt_calls.specs.declared.call.WaitCall.{WaitCall};
+ghost use Rattle.nt_calls.specs.Moves.{pended};
 ghost use Rattle.nt_mail.specs.declared.entry.Entry.TheVariants.{Called};
 ghost use Rattle.nt_mail.specs.Entries.{is_armed};
 ghost use Rattle.nt_mail.specs.Knowledge.{knows, newcomers};

@@ -9,13 +9,13 @@ use Rattle.nt_objects.specs.declared.object.Object.{Object}
 use Rattle.nt_objects.specs.declared.object.Object.TheVariants.{Event, Semaphore, Mutex, Timer, Thread, Gone}
 use Rattle.nt_objects.specs.declared.object.Armed.{Armed}
 use Rattle.nt_objects.specs.Object.{is_timer, event_of, mutex_of, timer_of, with_set, released, overflows, unlocked, armed_with, setting_of, rearmed}
-use Rattle.nt_core.specs.declared.call.Call.{Call}
-use Rattle.nt_core.specs.declared.call.Act.{Act}
-use Rattle.nt_core.specs.declared.call.WaitCall.{WaitCall}
-use Rattle.nt_core.specs.State.{State, object_at, with_object, with_handing}
-use Rattle.nt_core.specs.Change.{created, signal, change, act_change, may_take, expired, expired_as, armed_anew, timer_set, timer_cancelled, due_moment, routine_for, exited}
-use Rattle.nt_core.specs.Refusals.{Cause, first_of_causes, refusal, is_no, is_unknown, is_foreign, is_at_limit, may_signal}
-use Rattle.nt_core.specs.Steps.{after_serving}
+use Rattle.nt_calls.specs.declared.call.Call.{Call}
+use Rattle.nt_calls.specs.declared.call.Act.{Act}
+use Rattle.nt_calls.specs.declared.call.WaitCall.{WaitCall}
+use Rattle.nt_calls.specs.State.{State, object_at, with_object, with_handing}
+use Rattle.nt_calls.specs.Change.{created, signal, change, act_change, may_take, expired, expired_as, armed_anew, timer_set, timer_cancelled, due_moment, routine_for, exited}
+use Rattle.nt_calls.specs.Refusals.{Cause, first_of_causes, refusal, is_no, is_unknown, is_foreign, is_at_limit, may_signal}
+use Rattle.nt_calls.specs.Steps.{after_serving}
 use Rattle.nt_core.proofs.Changing.{object_at-set_other}
 use Rattle.nt_core.proofs.Accepting.{next_causes, own_causes}
 use Rattle.nt_core.proofs.Listing.{same_yes, same_no}

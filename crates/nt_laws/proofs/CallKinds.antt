@@ -16,14 +16,14 @@ use Rattle.nt_objects.specs.Object.{is_gone, has_ended, setting_of, rearmed, eve
 use Rattle.nt_apc.specs.Queues.{taken, withdrawn}
 use Rattle.nt_apc.specs.declared.apc.Queued.{Queued}
 use Rattle.nt_status.specs.declared.limits.TheConstants.{MAX_HANDLES}
-use Rattle.nt_core.specs.declared.call.Call.{Call}
-use Rattle.nt_core.specs.declared.call.Act.{Act}
-use Rattle.nt_core.specs.declared.call.WaitCall.{WaitCall}
-use Rattle.nt_core.specs.State.{State, object_at, pends, with_object, with_handing}
-use Rattle.nt_core.specs.Naming.{call_named, object_named, object_in, access_in, lacks, no_object}
-use Rattle.nt_core.specs.Rights.{is_denied}
-use Rattle.nt_core.specs.Refusals.{Cause, first_of_causes, call_causes, refusal, is_full, is_unknown}
-use Rattle.nt_core.specs.Change.{handle_closed, notified, expired_as, apc_taken, created, opened_too, signal, change, may_take, expired, armed_anew, timer_set, due_moment, routine_for, exited}
+use Rattle.nt_calls.specs.declared.call.Call.{Call}
+use Rattle.nt_calls.specs.declared.call.Act.{Act}
+use Rattle.nt_calls.specs.declared.call.WaitCall.{WaitCall}
+use Rattle.nt_calls.specs.State.{State, object_at, pends, with_object, with_handing}
+use Rattle.nt_calls.specs.Naming.{call_named, object_named, object_in, access_in, lacks, no_object}
+use Rattle.nt_calls.specs.Rights.{is_denied}
+use Rattle.nt_calls.specs.Refusals.{Cause, first_of_causes, call_causes, refusal, is_full, is_unknown}
+use Rattle.nt_calls.specs.Change.{handle_closed, notified, expired_as, apc_taken, created, opened_too, signal, change, may_take, expired, armed_anew, timer_set, due_moment, routine_for, exited}
 use Rattle.nt_laws.specs.Laws.{call_closes}
 use Rattle.nt_core.proofs.Accepting.{next_causes, free_caller}
 use Rattle.nt_core.proofs.Lives.{not_gone}

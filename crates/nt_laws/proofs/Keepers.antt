@@ -18,19 +18,19 @@ use Rattle.nt_objects.specs.declared.handles.Opened.{Opened}
 use Rattle.nt_objects.specs.Handles.{opened_at, own_handles, full_access, count_named}
 use Rattle.nt_objects.specs.Object.{is_gone, has_ended, overflows}
 use Rattle.nt_status.specs.declared.limits.TheConstants.{MAX_WAIT_OBJECTS}
-use Rattle.nt_core.specs.declared.call.Call.{Call}
-use Rattle.nt_core.specs.declared.call.WaitCall.{WaitCall}
-use Rattle.nt_core.specs.declared.call.Reply.{Reply}
-use Rattle.nt_core.specs.declared.call.Grant.{Grant}
-use Rattle.nt_core.specs.Naming.{call_named, wait_named, object_named, object_in, access_in, lacks}
-use Rattle.nt_core.specs.Rights.{is_denied, signal_denied}
-use Rattle.nt_core.specs.State.{State, opening, object_at, pending_too}
-use Rattle.nt_core.specs.Living.{is_opened, is_awaited, runs, is_kept, lives, LivesWhileKept, Ends}
+use Rattle.nt_calls.specs.declared.call.Call.{Call}
+use Rattle.nt_calls.specs.declared.call.WaitCall.{WaitCall}
+use Rattle.nt_calls.specs.declared.call.Reply.{Reply}
+use Rattle.nt_calls.specs.declared.call.Grant.{Grant}
+use Rattle.nt_calls.specs.Naming.{call_named, wait_named, object_named, object_in, access_in, lacks}
+use Rattle.nt_calls.specs.Rights.{is_denied, signal_denied}
+use Rattle.nt_calls.specs.State.{State, opening, object_at, pending_too}
+use Rattle.nt_calls.specs.Living.{is_opened, is_awaited, runs, is_kept, lives, LivesWhileKept, Ends}
 use Rattle.nt_laws.specs.Laws.{IsKept}
-use Rattle.nt_core.specs.Refusals.{Cause, refusal, has_twice, is_unknown, is_no, is_foreign, is_at_limit, may_signal}
-use Rattle.nt_core.specs.Change.{change}
-use Rattle.nt_core.specs.Steps.{Made, wait_of}
-use Rattle.nt_core.specs.Runs.{Turn, Calls, Ticks, IsTurn, Turns, Run}
+use Rattle.nt_calls.specs.Refusals.{Cause, refusal, has_twice, is_unknown, is_no, is_foreign, is_at_limit, may_signal}
+use Rattle.nt_calls.specs.Change.{change}
+use Rattle.nt_calls.specs.Steps.{Made, wait_of}
+use Rattle.nt_calls.specs.Runs.{Turn, Calls, Ticks, IsTurn, Turns, Run}
 use Rattle.nt_core.proofs.Accepting.{next_causes, free_caller, nothing_pends, object_at-replicate}
 use Rattle.nt_core.proofs.Judging.{undenied}
 use Rattle.nt_laws.proofs.Lasting.{step_lasts, moments_last}

@@ -10,16 +10,16 @@ use Rattle.nt_objects.specs.Object.{is_gone, taken, with_set, armed_with, settin
 use Rattle.nt_apc.specs.declared.apc.Queued.{Queued}
 use Rattle.nt_apc.specs.Queues.{has_apc}
 use Rattle.nt_status.specs.Status.{io_completion_code}
-use Rattle.nt_core.specs.declared.call.Call.{Call}
-use Rattle.nt_core.specs.declared.call.Act.{Act}
-use Rattle.nt_core.specs.declared.call.WaitCall.{WaitCall}
-use Rattle.nt_core.specs.declared.call.Reply.{Reply}
-use Rattle.nt_core.specs.declared.call.Grant.{Grant}
-use Rattle.nt_core.specs.Calls.{timeout_of}
-use Rattle.nt_core.specs.State.{State, object_at, with_object, with_handing, pending_no_more, pending_too, wait_over, waits_over}
-use Rattle.nt_core.specs.Serving.{fits, status, objects_taken, taken_by, granted, is_sleep, late_status, Grants, sequence}
-use Rattle.nt_core.specs.Change.{change, notified, expired, expired_as, all_expired}
-use Rattle.nt_core.specs.Steps.{Step, wait_of, begun, answered, after_serving, MomentPasses, MomentsPass}
+use Rattle.nt_calls.specs.declared.call.Call.{Call}
+use Rattle.nt_calls.specs.declared.call.Act.{Act}
+use Rattle.nt_calls.specs.declared.call.WaitCall.{WaitCall}
+use Rattle.nt_calls.specs.declared.call.Reply.{Reply}
+use Rattle.nt_calls.specs.declared.call.Grant.{Grant}
+use Rattle.nt_calls.specs.Calls.{timeout_of}
+use Rattle.nt_calls.specs.State.{State, object_at, with_object, with_handing, pending_no_more, pending_too, wait_over, waits_over}
+use Rattle.nt_calls.specs.Serving.{fits, status, objects_taken, taken_by, granted, is_sleep, late_status, Grants, sequence}
+use Rattle.nt_calls.specs.Change.{change, notified, expired, expired_as, all_expired}
+use Rattle.nt_calls.specs.Steps.{Step, wait_of, begun, answered, after_serving, MomentPasses, MomentsPass}
 use Rattle.nt_core.proofs.Accepting.{reading_taken_by}
 use Rattle.nt_core.proofs.Lengths.{length_taken}
 

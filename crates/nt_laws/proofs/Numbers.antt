@@ -14,17 +14,17 @@ use Rattle.nt_objects.specs.declared.handles.Opened.{Opened}
 use Rattle.nt_objects.specs.Handles.{opened_at, full_access}
 use Rattle.nt_objects.specs.declared.object.Object.TheVariants.{Thread}
 use Rattle.nt_core.proofs.Handling.{own_count}
-use Rattle.nt_core.specs.declared.call.Call.{Call}
-use Rattle.nt_core.specs.declared.call.Reply.{Reply}
-use Rattle.nt_core.specs.declared.call.Grant.{Grant}
-use Rattle.nt_core.specs.State.{State, opening}
-use Rattle.nt_core.specs.Naming.{call_named}
-use Rattle.nt_core.specs.Change.{change}
-use Rattle.nt_core.specs.Steps.{Step, Called, Ticked}
-use Rattle.nt_core.specs.Living.{Ends}
+use Rattle.nt_calls.specs.declared.call.Call.{Call}
+use Rattle.nt_calls.specs.declared.call.Reply.{Reply}
+use Rattle.nt_calls.specs.declared.call.Grant.{Grant}
+use Rattle.nt_calls.specs.State.{State, opening}
+use Rattle.nt_calls.specs.Naming.{call_named}
+use Rattle.nt_calls.specs.Change.{change}
+use Rattle.nt_calls.specs.Steps.{Step, Called, Ticked}
+use Rattle.nt_calls.specs.Living.{Ends}
 use Rattle.nt_core.proofs.Remaining.{same_handles, same_count}
 use Rattle.nt_core.proofs.Listing.{same_yes, same_no}
-use Rattle.nt_core.specs.Runs.{Turn, Calls, Ticks, IsTurn, Turns}
+use Rattle.nt_calls.specs.Runs.{Turn, Calls, Ticks, IsTurn, Turns}
 use Rattle.nt_laws.specs.Laws.{call_closes, turn_closes, HasRights}
 use Rattle.nt_laws.proofs.CallKinds.{IsCreated, IsDuplicated, IsSame, Kind, change_kind}
 use Rattle.nt_laws.proofs.Lasting.{Lasts, step_lasts, moments_last}

@@ -8,19 +8,19 @@ use Rattle.nt_status.specs.Status.{io_completion_code}
 use Rattle.nt_status.specs.declared.refusal.Refusal.{Refusal}
 use Rattle.nt_status.specs.declared.refusal.Refusal.TheVariants.{Memory}
 use Rattle.nt_status.specs.Lists.{IsMember}
-use Rattle.nt_core.specs.declared.call.Call.{Call}
-use Rattle.nt_core.specs.declared.call.Reply.{Reply}
-use Rattle.nt_core.specs.declared.call.Grant.{Grant}
-use Rattle.nt_core.specs.Rising.{IsRising, AreRising}
-use Rattle.nt_core.specs.Naming.{call_named}
-use Rattle.nt_core.specs.State.{State, waits_over}
-use Rattle.nt_core.specs.Serving.{Serve, Alert, TimeOut, sequence, IsLate, ending, late_status, sleeps}
-use Rattle.nt_core.specs.Change.{change, all_expired}
-use Rattle.nt_core.specs.Rights.{is_denied}
-use Rattle.nt_core.specs.Refusals.{refusal, grows, IsRefusal}
-use Rattle.nt_core.specs.Living.{all_gone, Ends}
-use Rattle.nt_core.specs.Steps.{Step, Called, after_serving, answered, MomentPasses, MomentsPass, IsNextMoment, NothingDue, Ticked}
-use Rattle.nt_core.specs.Runs.{Turn, Calls, Ticks, IsTurn, Turns}
+use Rattle.nt_calls.specs.declared.call.Call.{Call}
+use Rattle.nt_calls.specs.declared.call.Reply.{Reply}
+use Rattle.nt_calls.specs.declared.call.Grant.{Grant}
+use Rattle.nt_calls.specs.Rising.{IsRising, AreRising}
+use Rattle.nt_calls.specs.Naming.{call_named}
+use Rattle.nt_calls.specs.State.{State, waits_over}
+use Rattle.nt_calls.specs.Serving.{Serve, Alert, TimeOut, sequence, IsLate, ending, late_status, sleeps}
+use Rattle.nt_calls.specs.Change.{change, all_expired}
+use Rattle.nt_calls.specs.Rights.{is_denied}
+use Rattle.nt_calls.specs.Refusals.{refusal, grows, IsRefusal}
+use Rattle.nt_calls.specs.Living.{all_gone, Ends}
+use Rattle.nt_calls.specs.Steps.{Step, Called, after_serving, answered, MomentPasses, MomentsPass, IsNextMoment, NothingDue, Ticked}
+use Rattle.nt_calls.specs.Runs.{Turn, Calls, Ticks, IsTurn, Turns}
 use Rattle.nt_laws.specs.Laws.{AsksCall, AsksTick, wants_memory, question}
 use Rattle.nt_laws.proofs.Unique.{serve_unique}
 

@@ -10,16 +10,16 @@ use Rattle.nt_status.specs.declared.refusal.Refusal.TheVariants.{InvalidHandle, 
 use Rattle.nt_objects.specs.declared.object.Object.{Object}
 use Rattle.nt_objects.specs.declared.object.Object.TheVariants.{Event, Semaphore, Mutex, Timer, Thread, Gone}
 use Rattle.nt_objects.specs.Object.{signaled, taken, is_mutex, owned_by, depth_of, event_of, mutex_of, with_set, released, unlocked, unset_by, set_by}
-use Rattle.nt_core.specs.declared.call.Call.{Call}
-use Rattle.nt_core.specs.declared.call.Act.{Act}
-use Rattle.nt_core.specs.declared.call.WaitCall.{WaitCall}
-use Rattle.nt_core.specs.Naming.{call_named}
-use Rattle.nt_core.specs.State.{State, opening, object_at}
-use Rattle.nt_core.specs.Change.{change, signal}
-use Rattle.nt_core.specs.Rights.{is_denied}
+use Rattle.nt_calls.specs.declared.call.Call.{Call}
+use Rattle.nt_calls.specs.declared.call.Act.{Act}
+use Rattle.nt_calls.specs.declared.call.WaitCall.{WaitCall}
+use Rattle.nt_calls.specs.Naming.{call_named}
+use Rattle.nt_calls.specs.State.{State, opening, object_at}
+use Rattle.nt_calls.specs.Change.{change, signal}
+use Rattle.nt_calls.specs.Rights.{is_denied}
 use Rattle.nt_core.proofs.Judging.{undenied}
-use Rattle.nt_core.specs.Refusals.{refusal, may_signal, is_no, is_foreign}
-use Rattle.nt_core.specs.Runs.{Turn, Calls, Ticks, IsTurn, Turns, Run}
+use Rattle.nt_calls.specs.Refusals.{refusal, may_signal, is_no, is_foreign}
+use Rattle.nt_calls.specs.Runs.{Turn, Calls, Ticks, IsTurn, Turns, Run}
 use Rattle.nt_laws.specs.Takes.{turn_took, takers}
 use Rattle.nt_laws.specs.Laws.{act_owes, call_owes, turn_owes, owed_after, held_by}
 use Rattle.nt_core.proofs.Accepting.{next_causes, own_causes, object_at-replicate}

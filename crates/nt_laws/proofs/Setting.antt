@@ -7,16 +7,16 @@ use Rattle.nt_status.specs.Flags.{has_flag, event_initial_set, mutex_initial_own
 use Rattle.nt_objects.specs.declared.object.Object.{Object}
 use Rattle.nt_objects.specs.declared.object.Object.TheVariants.{Event, Semaphore, Mutex, Timer, Thread, Gone}
 use Rattle.nt_objects.specs.Object.{signaled, taken, event_of, mutex_of, with_set, released, unlocked, unset_by, set_by}
-use Rattle.nt_core.specs.declared.call.Call.{Call}
-use Rattle.nt_core.specs.declared.call.Act.{Act}
-use Rattle.nt_core.specs.declared.call.WaitCall.{WaitCall}
-use Rattle.nt_core.specs.Naming.{call_named}
-use Rattle.nt_core.specs.State.{State, opening, object_at}
-use Rattle.nt_core.specs.Change.{change, signal}
-use Rattle.nt_core.specs.Rights.{is_denied}
+use Rattle.nt_calls.specs.declared.call.Call.{Call}
+use Rattle.nt_calls.specs.declared.call.Act.{Act}
+use Rattle.nt_calls.specs.declared.call.WaitCall.{WaitCall}
+use Rattle.nt_calls.specs.Naming.{call_named}
+use Rattle.nt_calls.specs.State.{State, opening, object_at}
+use Rattle.nt_calls.specs.Change.{change, signal}
+use Rattle.nt_calls.specs.Rights.{is_denied}
 use Rattle.nt_core.proofs.Judging.{undenied}
-use Rattle.nt_core.specs.Refusals.{refusal, may_signal}
-use Rattle.nt_core.specs.Runs.{Turn, Calls, Ticks, IsTurn, Turns, Run}
+use Rattle.nt_calls.specs.Refusals.{refusal, may_signal}
+use Rattle.nt_calls.specs.Runs.{Turn, Calls, Ticks, IsTurn, Turns, Run}
 use Rattle.nt_laws.specs.Takes.{turn_took, takes, takers}
 use Rattle.nt_laws.specs.Laws.{times_set, act_sets, call_sets, turn_sets, is_auto_reset, set_now}
 use Rattle.nt_core.proofs.Exiting.{left}

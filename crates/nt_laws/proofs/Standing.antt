@@ -13,9 +13,9 @@ use Rattle.nt_objects.specs.declared.object.Object.{Object}
 use Rattle.nt_objects.specs.declared.handles.Opened.{Opened}
 use Rattle.nt_objects.specs.Handles.{opened_at}
 use Rattle.nt_objects.specs.Object.{is_gone}
-use Rattle.nt_core.specs.declared.call.Call.{Call}
-use Rattle.nt_core.specs.State.{State, Pending, object_at, names, pending_no_more, pending_too}
-use Rattle.nt_core.specs.Change.{created, opened_too, handle_closed}
+use Rattle.nt_calls.specs.declared.call.Call.{Call}
+use Rattle.nt_calls.specs.State.{State, Pending, object_at, names, pending_no_more, pending_too}
+use Rattle.nt_calls.specs.Change.{created, opened_too, handle_closed}
 use Rattle.nt_waits.proofs.OthersLemmas.{member_others, member_of_others}
 use Rattle.nt_core.proofs.Beginning.{get_inserted, names_yes, names_no}
 use Rattle.nt_core.proofs.Walks.{get_removed, get_other}

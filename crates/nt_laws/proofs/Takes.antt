@@ -10,12 +10,12 @@ use Rattle.nt_waits.specs.declared.wait.Wait.{Wait}
 use Rattle.nt_status.specs.Lists.{IsMember}
 use Rattle.nt_objects.specs.declared.object.Object.{Object}
 use Rattle.nt_objects.specs.Object.{signaled, taken}
-use Rattle.nt_core.specs.declared.call.Grant.{Grant}
-use Rattle.nt_core.specs.State.{State, Pending, object_at}
-use Rattle.nt_core.specs.Serving.{is_ready, is_sleep, fits, least, status, status_at, has_mark, take_at, take_each, objects_taken, granted, Grants, ending, IsLate, late_status, sleeps}
+use Rattle.nt_calls.specs.declared.call.Grant.{Grant}
+use Rattle.nt_calls.specs.State.{State, Pending, object_at}
+use Rattle.nt_calls.specs.Serving.{is_ready, is_sleep, fits, least, status, status_at, has_mark, take_at, take_each, objects_taken, granted, Grants, ending, IsLate, late_status, sleeps}
 use Rattle.nt_laws.specs.Takes.{Take, only_at, handles_told, takes_of, grant_took, grants_took, takers}
 use Rattle.nt_core.proofs.Listing.{same_yes, same_no}
-use Rattle.nt_core.proofs.Tries.{object_taken_other, ready_other, differ}
+use Rattle.nt_calls.proofs.Tries.{object_taken_other, ready_other, differ}
 use Rattle.nt_core.proofs.Keeping.{list_all_at, list_any_at}
 use Rattle.nt_core.proofs.Walks.{get_removed}
 

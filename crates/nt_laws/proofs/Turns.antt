@@ -17,21 +17,21 @@ use Rattle.nt_objects.specs.declared.object.Object.TheVariants.{Event, Semaphore
 use Rattle.nt_objects.specs.Object.{is_gone, taken}
 use Rattle.nt_apc.specs.Queues.{has_apc}
 use Rattle.nt_status.specs.declared.limits.TheConstants.{MAX_WAIT_OBJECTS}
-use Rattle.nt_core.specs.declared.call.Call.{Call}
-use Rattle.nt_core.specs.declared.call.WaitCall.{WaitCall}
-use Rattle.nt_core.specs.declared.call.Reply.{Reply}
-use Rattle.nt_core.specs.declared.call.Grant.{Grant}
-use Rattle.nt_core.specs.Calls.{timeout_of}
-use Rattle.nt_core.specs.Naming.{call_named}
-use Rattle.nt_core.specs.State.{State, Pending, opening, object_at, with_handing, pending_too, waits_over}
-use Rattle.nt_core.specs.Serving.{fits, status, is_sleep, late_status, taken_by, sequence, Alert, TimeOut}
-use Rattle.nt_core.specs.Change.{change, expired, all_expired}
-use Rattle.nt_core.specs.Rights.{is_denied}
+use Rattle.nt_calls.specs.declared.call.Call.{Call}
+use Rattle.nt_calls.specs.declared.call.WaitCall.{WaitCall}
+use Rattle.nt_calls.specs.declared.call.Reply.{Reply}
+use Rattle.nt_calls.specs.declared.call.Grant.{Grant}
+use Rattle.nt_calls.specs.Calls.{timeout_of}
+use Rattle.nt_calls.specs.Naming.{call_named}
+use Rattle.nt_calls.specs.State.{State, Pending, opening, object_at, with_handing, pending_too, waits_over}
+use Rattle.nt_calls.specs.Serving.{fits, status, is_sleep, late_status, taken_by, sequence, Alert, TimeOut}
+use Rattle.nt_calls.specs.Change.{change, expired, all_expired}
+use Rattle.nt_calls.specs.Rights.{is_denied}
 use Rattle.nt_core.proofs.Judging.{undenied}
-use Rattle.nt_core.specs.Refusals.{Cause, refusal, has_twice, is_unknown, is_at_limit}
-use Rattle.nt_core.specs.Living.{all_gone, gone, Ends}
-use Rattle.nt_core.specs.Steps.{Step, Called, wait_of, begun, answered, after_serving, MomentPasses, MomentsPass, Ticked}
-use Rattle.nt_core.specs.Runs.{Turn, Calls, Ticks, IsTurn, Turns}
+use Rattle.nt_calls.specs.Refusals.{Cause, refusal, has_twice, is_unknown, is_at_limit}
+use Rattle.nt_calls.specs.Living.{all_gone, gone, Ends}
+use Rattle.nt_calls.specs.Steps.{Step, Called, wait_of, begun, answered, after_serving, MomentPasses, MomentsPass, Ticked}
+use Rattle.nt_calls.specs.Runs.{Turn, Calls, Ticks, IsTurn, Turns}
 use Rattle.nt_laws.specs.Takes.{takes_of, grants_took, reply_took, call_took, turn_took, takers}
 use Rattle.nt_core.proofs.Remaining.{ends_waits}
 use Rattle.nt_core.proofs.Accepting.{next_causes, own_causes, distinct_handles, nothing_pends}
@@ -45,7 +45,7 @@ use Rattle.nt_laws.proofs.Acting.{is_plain, expired_object, expired_waits, chang
 
 over_same : (s : State) (ts : List ℕ) (may : Bool) → (waits_over s ts may).objects ≡ s.objects
 over_same s [] may = refl
-over_same s (t ∷ ts) may = over_same (Rattle.nt_core.specs.State.wait_over s t may) ts may
+over_same s (t ∷ ts) may = over_same (Rattle.nt_calls.specs.State.wait_over s t may) ts may
 
 begun_taken : (s : State) (t : ℕ) (w : Wait) (ms h : ℕ) (reply : Reply) (new : State) → IsFair w → (reply, new) ≡ begun s t w ms → TakenBy (object_at s.objects h) (takers h (reply_took t w reply)) (object_at new.objects h)
 begun_taken s t w ms h reply new fair is = go (fits s.objects t w) (w.alertable && has_apc s.apcs t) (ms == 0) refl is

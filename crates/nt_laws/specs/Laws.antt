@@ -12,20 +12,20 @@ use Rattle.nt_status.specs.Flags.{has_flag, event_initial_set, mutex_initial_own
 use Rattle.nt_objects.specs.declared.object.Object.{Object}
 use Rattle.nt_objects.specs.declared.object.Object.TheVariants.{Event}
 use Rattle.nt_objects.specs.Object.{is_semaphore, is_mutex, count_of, owned_by, depth_of, IsLawfulObject}
-use Rattle.nt_core.specs.declared.call.Call.{Call}
-use Rattle.nt_core.specs.declared.call.Act.{Act}
-use Rattle.nt_core.specs.declared.call.WaitCall.{WaitCall}
-use Rattle.nt_core.specs.declared.call.Reply.{Reply}
-use Rattle.nt_core.specs.declared.call.Grant.{Grant}
+use Rattle.nt_calls.specs.declared.call.Call.{Call}
+use Rattle.nt_calls.specs.declared.call.Act.{Act}
+use Rattle.nt_calls.specs.declared.call.WaitCall.{WaitCall}
+use Rattle.nt_calls.specs.declared.call.Reply.{Reply}
+use Rattle.nt_calls.specs.declared.call.Grant.{Grant}
 use Rattle.nt_objects.specs.declared.handles.Opened.{Opened}
 use Rattle.nt_objects.specs.Handles.{opened_at}
 use Rattle.nt_waits.specs.declared.wait.Wait.{Wait}
 use Rattle.nt_waits.specs.Waits.{Names}
-use Rattle.nt_core.specs.Living.{runs, lives}
-use Rattle.nt_core.specs.Naming.{call_named}
-use Rattle.nt_core.specs.State.{State, opening, object_at}
-use Rattle.nt_core.specs.Serving.{Serve}
-use Rattle.nt_core.specs.Runs.{Turn, Calls, Ticks, Turns, Run}
+use Rattle.nt_calls.specs.Living.{runs, lives}
+use Rattle.nt_calls.specs.Naming.{call_named}
+use Rattle.nt_calls.specs.State.{State, opening, object_at}
+use Rattle.nt_calls.specs.Serving.{Serve}
+use Rattle.nt_calls.specs.Runs.{Turn, Calls, Ticks, Turns, Run}
 use Rattle.nt_laws.specs.Takes.{turn_took, takes, takers}
 
 -- the order of grants leaves no choice: from one state and one sequence, serving gives the same grants and ends in the same state

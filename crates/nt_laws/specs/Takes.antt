@@ -6,13 +6,13 @@ use Rattle.std.specs.declared.option.Option.TheVariants.{None, Some}
 use Rattle.std.specs.declared.result.Result.TheVariants.{Ok, Err}
 use Rattle.nt_status.specs.Status.{abandoned_code, io_completion_code, timeout_code}
 use Rattle.nt_waits.specs.declared.wait.Wait.{Wait}
-use Rattle.nt_core.specs.declared.call.Call.{Call}
-use Rattle.nt_core.specs.declared.call.Reply.{Reply}
-use Rattle.nt_core.specs.declared.call.Grant.{Grant}
-use Rattle.nt_core.specs.State.{State, Pending}
-use Rattle.nt_core.specs.Naming.{call_named}
-use Rattle.nt_core.specs.Steps.{wait_of}
-use Rattle.nt_core.specs.Runs.{Turn, Calls, Ticks, Turns}
+use Rattle.nt_calls.specs.declared.call.Call.{Call}
+use Rattle.nt_calls.specs.declared.call.Reply.{Reply}
+use Rattle.nt_calls.specs.declared.call.Grant.{Grant}
+use Rattle.nt_calls.specs.State.{State, Pending}
+use Rattle.nt_calls.specs.Naming.{call_named}
+use Rattle.nt_calls.specs.Steps.{wait_of}
+use Rattle.nt_calls.specs.Runs.{Turn, Calls, Ticks, Turns}
 
 -- a thread took the object with this number
 pub record Take : Type 0 where

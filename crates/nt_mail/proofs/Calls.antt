@@ -3,13 +3,13 @@ use Rattle.std.proofs.Common.{◌≡◌, ◌≢◌, ℕ, suc, ◌+◌, ◌<◌, 
 use Rattle.std.specs.Prelude.{◌||◌}
 use Rattle.std.proofs.lemmas.List.{append-nil}
 use native.Mathlib.Decide.{ℕ_discrete}
-use Rattle.nt_core.specs.Moves.{one_if}
+use Rattle.nt_calls.specs.Moves.{one_if}
 use Rattle.nt_mail.specs.declared.entry.Entry.{Entry}
 use Rattle.nt_mail.specs.declared.entry.Entry.TheVariants.{Called, Ticked, Granted}
 use Rattle.nt_mail.specs.declared.knowledge.Made.{Made}
 use Rattle.nt_mail.specs.declared.knowledge.Got.{Got}
 use Rattle.nt_mail.specs.declared.knowledge.Asked.{Asked}
-use Rattle.nt_core.specs.Moves.{pended}
+use Rattle.nt_calls.specs.Moves.{pended}
 use Rattle.nt_mail.specs.Entries.{item, last_number, given, call_at, calls_from, calls_of, grant_at, grants_from, grants_of, armed_by, armed_from, is_armed, last_from, last_of, pended_in, last_pended_from, last_pended, thread_of, AreBelow, AreMadeBelow, IsOwn, arms}
 use Rattle.nt_mail.specs.Rule.{IsCounted}
 

@@ -4,7 +4,7 @@ use Rattle.std.specs.Prelude.{slice_index, slice_set}
 use mathlib.Core.Option.{some}
 use lib.ListN.{get_elem?}
 use Rattle.atomic_table.proofs.Lists.{at_set}
-use Rattle.nt_core.specs.Moves.{one_if}
+use Rattle.nt_calls.specs.Moves.{one_if}
 use Rattle.nt_mail.specs.declared.entry.Entry.{Entry}
 use Rattle.nt_mail.specs.declared.knowledge.View.{View}
 use Rattle.nt_mail.specs.declared.knowledge.Got.{Got}

@@ -5,7 +5,7 @@ use native.Mathlib.Decide.{ℕ_discrete}
 use Rattle.atomic_table.specs.Table.{Me, keeps, Allows}
 use Rattle.nt_status.specs.Status.{is_status_code}
 use Rattle.nt_status.specs.declared.limits.TheConstants.{MAX_MOMENT}
-use Rattle.nt_core.specs.Moves.{one_if}
+use Rattle.nt_calls.specs.Moves.{one_if}
 use Rattle.nt_mail.specs.declared.entry.Entry.{Entry}
 use Rattle.nt_mail.specs.declared.entry.Entry.TheVariants.{Granted}
 use Rattle.nt_mail.specs.declared.knowledge.View.{View}

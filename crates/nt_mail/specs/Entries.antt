@@ -1,8 +1,8 @@
 -- Entries written, numbered from 1, and what stands among them of one thread.
 use Rattle.std.specs.Prelude.{◌≡◌, ◌==◌, ◌<◌, ℕ, suc, ◌+◌, List, [], ◌∷◌, ◌++◌, Bool, false, ◌||◌, Result, Ok, Err, if◌then◌else◌}
-use Rattle.nt_core.specs.declared.call.Reply.{Reply}
+use Rattle.nt_calls.specs.declared.call.Reply.{Reply}
 use Rattle.nt_status.specs.declared.refusal.Refusal.{Refusal}
-use Rattle.nt_core.specs.Moves.{one_if, pended}
+use Rattle.nt_calls.specs.Moves.{one_if, pended}
 use Rattle.nt_mail.specs.declared.entry.Entry.{Entry}
 use Rattle.nt_mail.specs.declared.entry.Entry.TheVariants.{Called, Ticked, Granted}
 use Rattle.nt_mail.specs.declared.knowledge.Asked.{Asked}

@@ -1,8 +1,8 @@
 -- Entries as what the turns of the machine write.
 use Rattle.std.specs.Prelude.{◌≡◌, List, [], ◌∷◌, ◌++◌, map}
-use Rattle.nt_core.specs.declared.call.Grant.{Grant}
-use Rattle.nt_core.specs.State.{State}
-use Rattle.nt_core.specs.Runs.{Turn, Calls, Ticks, Turns}
+use Rattle.nt_calls.specs.declared.call.Grant.{Grant}
+use Rattle.nt_calls.specs.State.{State}
+use Rattle.nt_calls.specs.Runs.{Turn, Calls, Ticks, Turns}
 use Rattle.nt_mail.specs.declared.entry.Entry.{Entry}
 use Rattle.nt_mail.specs.declared.entry.Entry.TheVariants.{Called, Ticked, Granted}
 

@@ -1,7 +1,7 @@
 -- The reply words: the number of the thread's last entry in the high 54 bits, and in the low 10 how its wait stands.
 use Rattle.std.specs.Prelude.{◌≡◌, ◌<◌, ◌+◌, ◌-◌, ◌*◌, ◌/◌, ◌%◌, ◌^◌, ℕ, Bool, true, false}
 use Rattle.nt_status.specs.Status.{is_status_code}
-use Rattle.nt_core.specs.declared.call.Reply.{Reply}
+use Rattle.nt_calls.specs.declared.call.Reply.{Reply}
 use Rattle.nt_mail.specs.declared.knowledge.Got.{Got}
 use Rattle.nt_mail.specs.declared.word.Word.{Word}
 use Rattle.nt_mail.specs.Entries.{given}

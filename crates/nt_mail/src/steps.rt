@@ -1,6 +1,6 @@
 //! The eight steps. Each is one atomic operation on one word: a store, a load or an exchange.
 ghost use Rattle.std.specs.Prelude.{◌≡◌, ◌≢◌, ◌<◌, ◌≤◌, ◌+◌, ◌^◌, ◌%◌, ◌++◌, ◌∷◌, [], length, true, false, IfErr, OnOk};
-ghost use Rattle.nt_core.specs.Moves.{one_if};
+ghost use Rattle.nt_calls.specs.Moves.{one_if};
 ghost use Rattle.nt_mail.specs.declared.entry.Entry.TheVariants.{Granted};
 ghost use Rattle.nt_mail.specs.Entries.{IsOwn, arms, is_armed};
 ghost use Rattle.nt_mail.specs.Words.{called_word, grant_in};

@@ -6,14 +6,14 @@ use Rattle.std.specs.List.{slice_get}
 use Rattle.std.proofs.lemmas.List.{append-nil, take_more, take-append-drop, drop_all}
 use Rattle.std.proofs.lemmas.Option.{slice_get-get_or, slice_get_within, get_or_from_slice_get}
 use Rattle.nt_status.specs.declared.refusal.Refusal.{Refusal}
-use Rattle.nt_core.specs.declared.call.Call.{Call}
-use Rattle.nt_core.specs.declared.call.Reply.{Reply}
-use Rattle.nt_core.specs.declared.call.Grant.{Grant}
+use Rattle.nt_calls.specs.declared.call.Call.{Call}
+use Rattle.nt_calls.specs.declared.call.Reply.{Reply}
+use Rattle.nt_calls.specs.declared.call.Grant.{Grant}
 use Rattle.nt_core.specs.Dispatcher.{Dispatcher, state}
 use Rattle.nt_laws.specs.Laws.{AsksCall, AsksTick, wants_memory, question, RunsOneWay}
-use Rattle.nt_core.specs.Runs.{Turn, Calls, Ticks, IsTurn}
-use Rattle.nt_core.specs.State.{State}
-use Rattle.nt_core.specs.Steps.{Called as Makes, Ticked as Passes}
+use Rattle.nt_calls.specs.Runs.{Turn, Calls, Ticks, IsTurn}
+use Rattle.nt_calls.specs.State.{State}
+use Rattle.nt_calls.specs.Steps.{Called as Makes, Ticked as Passes}
 use Rattle.nt_core.proofs.Runs.{turns-append}
 use Rattle.nt_mail.specs.declared.entry.Entry.{Entry}
 use Rattle.nt_mail.specs.declared.entry.Entry.TheVariants.{Called, Ticked}

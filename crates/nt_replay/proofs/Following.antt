@@ -1,10 +1,10 @@
 -- Two runs from one base with the same entries go the same way.
 use Rattle.std.proofs.Common.{◌≡◌, List, [], ◌∷◌, ◌++◌, map, refl, sym, ap, ◌∙◌, subst, append_assoc, inl, inr, ◌⊎◌}
 use Rattle.std.proofs.lemmas.List.{append_cancel_left, map-append}
-use Rattle.nt_core.specs.declared.call.Grant.{Grant}
+use Rattle.nt_calls.specs.declared.call.Grant.{Grant}
 use Rattle.nt_laws.specs.Laws.{AsksCall, AsksTick, wants_memory, question, RunsOneWay}
-use Rattle.nt_core.specs.Runs.{Turn, Calls, Ticks, IsTurn, Turns}
-use Rattle.nt_core.specs.State.{State, opening}
+use Rattle.nt_calls.specs.Runs.{Turn, Calls, Ticks, IsTurn, Turns}
+use Rattle.nt_calls.specs.State.{State, opening}
 use Rattle.nt_core.proofs.Runs.{turns-append}
 use Rattle.nt_mail.specs.declared.entry.Entry.{Entry}
 use Rattle.nt_mail.specs.declared.entry.Entry.TheVariants.{Called, Ticked}

@@ -2,14 +2,14 @@
 use Rattle.std.specs.Prelude.{◌≡◌, ◌≢◌, ◌≤◌, ◌<◌, ◌+◌, ℕ, List, ◌++◌, length, map, take, drop, Some, Result}
 use Rattle.std.specs.List.{slice_get}
 use Rattle.nt_status.specs.declared.refusal.Refusal.{Refusal}
-use Rattle.nt_core.specs.declared.call.Call.{Call}
-use Rattle.nt_core.specs.declared.call.Reply.{Reply}
-use Rattle.nt_core.specs.declared.call.Grant.{Grant}
+use Rattle.nt_calls.specs.declared.call.Call.{Call}
+use Rattle.nt_calls.specs.declared.call.Reply.{Reply}
+use Rattle.nt_calls.specs.declared.call.Grant.{Grant}
 use Rattle.nt_core.specs.Dispatcher.{Dispatcher, state}
 use Rattle.nt_laws.specs.Laws.{wants_memory}
-use Rattle.nt_core.specs.Runs.{Turn, Run}
-use Rattle.nt_core.specs.State.{State}
-use Rattle.nt_core.specs.Steps.{Called as Makes}
+use Rattle.nt_calls.specs.Runs.{Turn, Run}
+use Rattle.nt_calls.specs.State.{State}
+use Rattle.nt_calls.specs.Steps.{Called as Makes}
 use Rattle.nt_mail.specs.declared.entry.Entry.{Entry}
 use Rattle.nt_mail.specs.declared.entry.Entry.TheVariants.{Called}
 use Rattle.nt_mail.specs.Journals.{granted, IsRunFrom}

@@ -2,8 +2,8 @@
 use Rattle.std.proofs.Common.{◌≡◌, ℕ, ◌+◌, List, [], ◌∷◌, ◌++◌, length, count_by, Option, Some, None, refl, sym, ap, subst, ◌∙◌, append_assoc, append-nil, arith, length-append}
 use Rattle.std.specs.List.{sum_by}
 use Rattle.std.proofs.lemmas.List.Sums.{sum_by-append}
-use Rattle.nt_core.specs.State.{opening}
-use Rattle.nt_core.specs.Runs.{Turn, Turns}
+use Rattle.nt_calls.specs.State.{opening}
+use Rattle.nt_calls.specs.Runs.{Turn, Turns}
 use Rattle.nt_core.proofs.Runs.{turns-append}
 use Rattle.nt_script.specs.declared.tally.Tally.{Tally}
 use Rattle.nt_script.specs.Scope.{Scope}

@@ -1,12 +1,12 @@
 -- One line after `threads`, with its witness.
 use Rattle.std.proofs.Common.{◌≡◌, ℕ, ◌+◌, List, [], ◌∷◌, Option, None, Some, Result, refl, ap, subst, ◌∙◌, arith}
 use Rattle.nt_status.specs.declared.refusal.Refusal.{Refusal}
-use Rattle.nt_core.specs.declared.call.Act.{Act}
-use Rattle.nt_core.specs.declared.call.Call.{Call}
-use Rattle.nt_core.specs.declared.call.Reply.{Reply}
-use Rattle.nt_core.specs.declared.call.Grant.{Grant}
-use Rattle.nt_core.specs.Steps.{Called, Ticked}
-use Rattle.nt_core.specs.Runs.{Calls, Ticks}
+use Rattle.nt_calls.specs.declared.call.Act.{Act}
+use Rattle.nt_calls.specs.declared.call.Call.{Call}
+use Rattle.nt_calls.specs.declared.call.Reply.{Reply}
+use Rattle.nt_calls.specs.declared.call.Grant.{Grant}
+use Rattle.nt_calls.specs.Steps.{Called, Ticked}
+use Rattle.nt_calls.specs.Runs.{Calls, Ticks}
 use Rattle.nt_script.specs.declared.parser.Statement.TheVariants.{Blank, Create, Perform, Tick}
 use Rattle.nt_script.specs.Scope.{Scope}
 use Rattle.nt_script.specs.declared.tally.Tally.{Tally}

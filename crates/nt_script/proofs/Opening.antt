@@ -3,8 +3,8 @@ use Rattle.std.proofs.Common.{◌≡◌, ℕ, ◌+◌, List, [], Option, None, S
 use Rattle.std.specs.FinMap.{len, len-empty}
 use Rattle.std.specs.Ordering.{nat_cmp}
 use Rattle.nt_waits.specs.declared.wait.Wait.{Wait}
-use Rattle.nt_core.specs.State.{State}
-use Rattle.nt_core.specs.Runs.{Turn}
+use Rattle.nt_calls.specs.State.{State}
+use Rattle.nt_calls.specs.Runs.{Turn}
 use Rattle.nt_script.specs.declared.session.Session.{Session}
 use Rattle.nt_script.specs.declared.tally.Tally.{Tally}
 use Rattle.nt_script.specs.declared.fault.LineFault.{LineFault}

@@ -8,9 +8,9 @@ use Rattle.std.specs.List.{join_with_byte, list_all}
 use Rattle.std.specs.Fmt.{decimal}
 use Rattle.nt_status.specs.Flags.{has_flag}
 use Rattle.nt_lines.specs.Words.{is_name, is_name_byte, is_digit}
-use Rattle.nt_core.specs.declared.call.Call.{Call}
-use Rattle.nt_core.specs.declared.call.Act.{Act}
-use Rattle.nt_core.specs.declared.call.WaitCall.{WaitCall}
+use Rattle.nt_calls.specs.declared.call.Call.{Call}
+use Rattle.nt_calls.specs.declared.call.Act.{Act}
+use Rattle.nt_calls.specs.declared.call.WaitCall.{WaitCall}
 use Rattle.nt_script.specs.Scope.{Scope}
 use Rattle.nt_script.specs.Naming.{NamesFree}
 use Rattle.nt_script.specs.Grammar.{bit_if, act_by, wait_by, Line, Nothing, Moment, Called, called, said_by, Values, ValuesAfter, places_of, after_of, word_if, each_parts}

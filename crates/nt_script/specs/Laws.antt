@@ -3,7 +3,7 @@ use Rattle.std.specs.Prelude.{◌≡◌, ℕ, ◌≤◌, ◌⊎◌, Bool, false,
 use Rattle.std.specs.List.{All}
 use Rattle.std.specs.Fmt.{decimal}
 use Rattle.nt_status.specs.declared.limits.TheConstants.{INFINITE}
-use Rattle.nt_core.specs.Runs.{Turn, Calls, Ticks}
+use Rattle.nt_calls.specs.Runs.{Turn, Calls, Ticks}
 use Rattle.nt_laws.specs.Laws.{wants_memory}
 use Rattle.nt_lines.specs.Words.{words_of, text_of}
 use Rattle.nt_script.specs.Plain.{plain_word}

@@ -2,9 +2,9 @@
 use Rattle.std.specs.Prelude.{◌≡◌, ℕ, ◌+◌, ◌<◌, ◌≤◌, List, [], length, count_by, is_err, Bool, Option, Some, None, Result, Ok, Err}
 use Rattle.std.specs.List.{sum_by}
 use Rattle.std.specs.FinMap.{len}
-use Rattle.nt_core.specs.State.{State, opening}
+use Rattle.nt_calls.specs.State.{State, opening}
 use Rattle.nt_core.specs.Dispatcher.{state}
-use Rattle.nt_core.specs.Runs.{Turn, Turns, Calls, Ticks}
+use Rattle.nt_calls.specs.Runs.{Turn, Turns, Calls, Ticks}
 use Rattle.nt_script.specs.declared.fault.LineFault.{LineFault}
 use Rattle.nt_script.specs.declared.fault.LineFault.TheVariants as fault
 use Rattle.nt_script.specs.declared.session.Session.{Session}

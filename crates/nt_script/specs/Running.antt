@@ -5,7 +5,7 @@ use Rattle.std.specs.FinMap.{len}
 use Rattle.std.specs.Io.KnownBytes.{Consumes, Appends, Keeps, IsAtEnd}
 use Rattle.nt_devices.specs.Device.{AppendsPart, one_more}
 use Rattle.nt_lines.specs.Lines.{HasNoFeed, lines_of}
-use Rattle.nt_core.specs.Runs.{Turn}
+use Rattle.nt_calls.specs.Runs.{Turn}
 use Rattle.nt_script.specs.Transcript.{FaultIn, end_text}
 use Rattle.nt_script.specs.Progress.{Progress, Advances, AreCounted, CarriedOut, scope_of, is_refused, granted_by}
 use Rattle.nt_script.specs.declared.fault.ScriptFault.{ScriptFault}

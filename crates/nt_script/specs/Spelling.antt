@@ -4,9 +4,9 @@ use Rattle.std.specs.List.{join_with_byte}
 use Rattle.std.specs.Fmt.{decimal, signed_decimal}
 use Rattle.nt_status.specs.declared.limits.TheConstants.{INFINITE}
 use Rattle.nt_status.specs.Flags.{has_flag, event_manual_reset, event_initial_set, mutex_initial_owner, timer_manual_reset}
-use Rattle.nt_core.specs.declared.call.Call.{Call}
-use Rattle.nt_core.specs.declared.call.Act.{Act}
-use Rattle.nt_core.specs.declared.call.WaitCall.{WaitCall}
+use Rattle.nt_calls.specs.declared.call.Call.{Call}
+use Rattle.nt_calls.specs.declared.call.Act.{Act}
+use Rattle.nt_calls.specs.declared.call.WaitCall.{WaitCall}
 use Rattle.nt_lines.specs.Words.{is_name}
 use Rattle.nt_script.specs.Scope.{Scope, bound_in}
 use Rattle.nt_script.specs.Places.{Place, NamePlace, ObjectPlace, NumberPlace, SignedPlace, TimePlace, ModePlace, ValueOf}

@@ -4,11 +4,11 @@ use Rattle.std.specs.List.{flat_map}
 use Rattle.std.specs.Fmt.{decimal, signed_decimal, digit_glyph}
 use Rattle.nt_status.specs.declared.refusal.Refusal.{Refusal}
 use Rattle.nt_status.specs.Refusal.{number_of}
-use Rattle.nt_core.specs.declared.call.Call.{Call}
-use Rattle.nt_core.specs.declared.call.Reply.{Reply}
-use Rattle.nt_core.specs.declared.call.Grant.{Grant}
-use Rattle.nt_core.specs.State.{State, pends}
-use Rattle.nt_core.specs.Runs.{Turn, Calls, Ticks}
+use Rattle.nt_calls.specs.declared.call.Call.{Call}
+use Rattle.nt_calls.specs.declared.call.Reply.{Reply}
+use Rattle.nt_calls.specs.declared.call.Grant.{Grant}
+use Rattle.nt_calls.specs.State.{State, pends}
+use Rattle.nt_calls.specs.Runs.{Turn, Calls, Ticks}
 use Rattle.nt_script.specs.declared.fault.ScriptFault.{ScriptFault}
 use Rattle.nt_script.specs.declared.parser.Statement.{Statement}
 use Rattle.nt_script.specs.declared.parser.Statement.TheVariants.{Blank, Create, Perform, Tick}

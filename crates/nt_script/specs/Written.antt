@@ -1,8 +1,8 @@
 -- A call of a run, written as the line of a script.
 use Rattle.std.specs.Prelude.{◌≡◌, ℕ, ◌<◌, Bool, true, false, List, [], ◌∷◌, ◌++◌, length, Option, Some, None, if◌then◌else◌, codes}
 use Rattle.std.specs.Fmt.{decimal}
-use Rattle.nt_core.specs.declared.call.Call.{Call}
-use Rattle.nt_core.specs.declared.call.Act.{Act}
+use Rattle.nt_calls.specs.declared.call.Call.{Call}
+use Rattle.nt_calls.specs.declared.call.Act.{Act}
 use Rattle.nt_script.specs.Naming.{NamesFree}
 use Rattle.nt_script.specs.Scope.{Scope}
 use Rattle.nt_script.specs.Spelling.{statement_text}

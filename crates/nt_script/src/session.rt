@@ -3,7 +3,7 @@
 ghost use Rattle.std.specs.Prelude.{◌≡◌, ◌+◌, ◌*◌, ◌-◌, ◌<◌, ◌≤◌, ◌^◌, ◌∷◌, [], ◌++◌, OnOk, OnErr, IfOk, IfErr, IfSome, length, None, Some, vec_len, vec_capacity, Result, Ok, Err};
 ghost use Rattle.std.specs.FinMap.{len};
 ghost use Rattle.nt_core.specs.Dispatcher.{state};
-ghost use Rattle.nt_core.specs.Steps.{Called, Ticked};
+ghost use Rattle.nt_calls.specs.Steps.{Called, Ticked};
 ghost use Rattle.nt_script.specs.Reading.{Gives, statement_of, opening_of};
 ghost use Rattle.nt_script.specs.Naming.{NamesFree};
 ghost use Rattle.nt_script.specs.Scope.{bound_in};
@@ -79,7 +79,7 @@ pub(crate) fn open(alloc: Global, line: &[u8]) -> Result<Option<Session>, LineFa
 
 impl Session {
     ghost use Rattle.nt_script.specs.Progress.{progress, LineAnswers, IsCounted, IsFresh, add_tally, tally_of};
-    ghost use Rattle.nt_core.specs.Runs.{Calls, Ticks};
+    ghost use Rattle.nt_calls.specs.Runs.{Calls, Ticks};
 
     fn new(alloc: Global, threads: u32) -> Result<Session, AllocError>
         requires range { (0 < threads) × (threads ≤ MAX_THREADS) }

@@ -1,7 +1,7 @@
 -- Entries counted one after another.
 use Rattle.std.proofs.Common.{◌≡◌, ◌∙◌, ◌+◌, ◌*◌, ◌<◌, ◌≤◌, ℕ, Bool, false, List, ◌∷◌, length, drop, set, get_or, replicate, refl, sym, ap, arith}
 use Rattle.std.proofs.lemmas.List.{at_drop_more, at_drop_all, set_past, get_or_past}
-use Rattle.nt_core.specs.Moves.{one_if}
+use Rattle.nt_calls.specs.Moves.{one_if}
 use Rattle.nt_mail.specs.declared.entry.Entry.{Entry}
 use Rattle.nt_threads.specs.Counts.{abandoned, acquired, acquired_from, acquires, is_abandoned, is_release, posted, posts_in, released, waiting_after}
 

@@ -1,9 +1,9 @@
 -- What the threads of the plan ask.
 use Rattle.std.specs.Prelude.{ℕ, ◌*◌, zero, suc, pos, length, map, List, [], ◌∷◌, ◌++◌, true, false}
 use Rattle.nt_status.specs.declared.limits.TheConstants.{INFINITE}
-use Rattle.nt_core.specs.declared.call.Act.{Act}
-use Rattle.nt_core.specs.declared.call.Call.{Call}
-use Rattle.nt_core.specs.declared.call.WaitCall.{WaitCall}
+use Rattle.nt_calls.specs.declared.call.Act.{Act}
+use Rattle.nt_calls.specs.declared.call.Call.{Call}
+use Rattle.nt_calls.specs.declared.call.WaitCall.{WaitCall}
 use Rattle.nt_threads.specs.declared.plan.Objects.{Objects}
 
 -- a wait for this object, without a deadline

@@ -1,7 +1,7 @@
 -- What the program prints.
 use Rattle.std.specs.Prelude.{◌≡◌, ℕ, ◌+◌, ◌*◌, ◌<◌, ◌≤◌, List, [], ◌∷◌, ◌++◌, codes}
 use Rattle.std.specs.Fmt.{decimal}
-use Rattle.nt_core.specs.declared.call.Call.{Call}
+use Rattle.nt_calls.specs.declared.call.Call.{Call}
 use Rattle.nt_core.specs.Dispatcher.{Dispatcher, state}
 use Rattle.nt_core.specs.Lawful.{IsLawful}
 use Rattle.nt_mail.specs.declared.entry.Entry.{Entry}

@@ -1,6 +1,6 @@
 //! What the program tells of a history.
 ghost use Rattle.std.specs.Prelude.{◌≡◌, false, get_or, set, IfOk};
-ghost use Rattle.nt_core.specs.Moves.{one_if};
+ghost use Rattle.nt_calls.specs.Moves.{one_if};
 ghost use Rattle.nt_threads.specs.Counts.{abandoned, acquired, acquires, is_abandoned, is_release, is_taken, is_wait_for, posted, posts_in, released, tells_abandoned, waiting_after};
 
 use nt_core::{Act, Call, Reply, WaitCall};

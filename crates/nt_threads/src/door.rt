@@ -1,6 +1,6 @@
 //! What a thread calls through.
 ghost use Rattle.std.specs.Prelude.{◌≡◌, ◌++◌, ◌∷◌, [], List, ℕ, OnOk};
-ghost use Rattle.nt_core.specs.declared.call.Call.{Call};
+ghost use Rattle.nt_calls.specs.declared.call.Call.{Call};
 
 use nt_core::{Act, Reply, WaitCall};
 use nt_status::{Refusal, ThreadId};

@@ -1,6 +1,6 @@
 //! A door to a front.
 ghost use Rattle.std.specs.Prelude.{◌≡◌, ◌++◌, ◌∷◌, [], Some, OnOk};
-ghost use Rattle.nt_core.specs.declared.call.Call.{Call};
+ghost use Rattle.nt_calls.specs.declared.call.Call.{Call};
 ghost use Rattle.nt_front.specs.Held.{knowledge_of};
 ghost use Rattle.nt_threads.specs.Doors.{accepted_calls, calls_of_hold, made_through, holder_of};
 

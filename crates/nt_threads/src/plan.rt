@@ -1,7 +1,7 @@
 //! What the threads of the plan ask of their doors.
 ghost use Rattle.std.specs.Prelude.{◌≡◌, ◌++◌, ◌+◌, ◌∷◌, ◌<◌, ◌^◌, [], true, IfOk, OnOk};
-ghost use Rattle.nt_core.specs.declared.call.Act.{Act};
-ghost use Rattle.nt_core.specs.declared.call.Call.{Call};
+ghost use Rattle.nt_calls.specs.declared.call.Act.{Act};
+ghost use Rattle.nt_calls.specs.declared.call.Call.{Call};
 ghost use Rattle.nt_threads.specs.Plans.{creations, lead_of, rounds_of, round_of, wait_for, wait_for_all, work_of, workers};
 
 use crate::door::Door;

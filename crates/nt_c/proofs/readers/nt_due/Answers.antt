@@ -3,7 +3,7 @@ use Rattle.std.proofs.lemmas.Bool.Decides.{nat_tests}
 use Rattle.std.specs.Prelude.{Bool, true, nat_le, Option, Some, MatchBool, MatchOption}
 use Rattle.nt_status.specs.declared.limits.TheConstants.{MAX_MOMENT}
 use Rattle.nt_core.specs.Dispatcher.{Dispatcher, state}
-use Rattle.nt_core.specs.Steps.{IsNextMoment, NothingDue}
+use Rattle.nt_calls.specs.Steps.{IsNextMoment, NothingDue}
 use Rattle.nt_c.specs.declared.handle.Nt.{Nt}
 use Rattle.nt_c.specs.Asks.{ReadsDue}
 use Rattle.nt_c.proofs.readers.nt_due.Goals as goal

@@ -4,9 +4,9 @@ use Rattle.std.specs.declared.result.Result.{Result}
 use Rattle.std.specs.declared.result.Result.TheVariants.{Err}
 use Rattle.nt_status.specs.declared.refusal.Refusal.{Refusal}
 use Rattle.nt_status.specs.declared.refusal.Refusal.TheVariants.{InvalidHandle}
-use Rattle.nt_core.specs.declared.call.Call.{Call}
-use Rattle.nt_core.specs.declared.call.Reply.{Reply}
-use Rattle.nt_core.specs.declared.call.WaitCall.{WaitCall}
+use Rattle.nt_calls.specs.declared.call.Call.{Call}
+use Rattle.nt_calls.specs.declared.call.Reply.{Reply}
+use Rattle.nt_calls.specs.declared.call.WaitCall.{WaitCall}
 use Rattle.nt_core.specs.Dispatcher.{Dispatcher}
 use Rattle.nt_c.specs.declared.handle.Nt.{Nt}
 use Rattle.nt_c.specs.declared.reply.NtReply.{NtReply}

@@ -1,4 +1,4 @@
-use Rattle.nt_core.specs.State.{opening}
+use Rattle.nt_calls.specs.State.{opening}
 use Rattle.nt_laws.proofs.Numbers.{turns_stay, turns_enough, opening_enough}
 use Rattle.nt_laws.proofs.laws.handles_stay.Goals as goal
 

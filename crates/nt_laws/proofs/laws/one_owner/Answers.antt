@@ -1,6 +1,6 @@
 use Rattle.std.proofs.Common.{subst}
 use Rattle.std.specs.Prelude.{◌<◌}
-use Rattle.nt_core.specs.State.{object_at}
+use Rattle.nt_calls.specs.State.{object_at}
 use Rattle.nt_laws.proofs.Owing.{owed_held, holder}
 use Rattle.nt_laws.proofs.laws.one_owner.Goals as goal
 

@@ -1,4 +1,4 @@
-use Rattle.nt_core.specs.State.{opening}
+use Rattle.nt_calls.specs.State.{opening}
 use Rattle.nt_laws.proofs.OneWay.{turns_same}
 use Rattle.nt_laws.proofs.laws.runs_one_way.Goals as goal
 

@@ -1,5 +1,5 @@
 use Rattle.std.proofs.Common.{◌≡◌, ◌+◌, ℕ, suc, length, rules, arith, subst, sym, ap, ◌∙◌}
-use Rattle.nt_core.specs.Moves.{one_if}
+use Rattle.nt_calls.specs.Moves.{one_if}
 use Rattle.nt_mail.specs.Entries.{IsOwn, is_armed, arms}
 use Rattle.nt_mail.specs.Words.{called_word}
 use Rattle.nt_mail.proofs.Writing.{calls_as}

@@ -1,9 +1,9 @@
 use Rattle.std.proofs.Common.{◌<◌, ◌≤◌, ℕ, List, length, sym, ap, subst, ◌∙◌}
 use Rattle.std.specs.List.{slice_get}
 use Rattle.std.proofs.lemmas.Bool.{false≢true}
-use Rattle.nt_core.specs.declared.call.Grant.{Grant}
+use Rattle.nt_calls.specs.declared.call.Grant.{Grant}
 use Rattle.nt_core.specs.Dispatcher.{state}
-use Rattle.nt_core.specs.Steps.{Called}
+use Rattle.nt_calls.specs.Steps.{Called}
 use Rattle.nt_replay.proofs.Comparing.{grant_compared, grant_differs, other_grant, call_answered, tick_answered}
 use Rattle.nt_replay.proofs.replaying.replay_entry.Goals as goal
 

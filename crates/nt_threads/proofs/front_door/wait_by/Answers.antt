@@ -1,4 +1,4 @@
-use Rattle.nt_core.specs.declared.call.Call.{Call}
+use Rattle.nt_calls.specs.declared.call.Call.{Call}
 use Rattle.nt_threads.proofs.Accepted.{wait_accepted}
 use Rattle.nt_threads.proofs.front_door.wait_by.Goals as goal
 

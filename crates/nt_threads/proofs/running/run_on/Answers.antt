@@ -1,5 +1,5 @@
 use Rattle.std.proofs.Common.{◌≡◌, ℕ, true, rules, subst}
-use Rattle.nt_core.specs.State.{State, opening}
+use Rattle.nt_calls.specs.State.{State, opening}
 use Rattle.nt_core.specs.Dispatcher.{state}
 use Rattle.nt_mail.specs.Entries.{Each}
 use Rattle.nt_front.specs.Held.{IsAccounted}

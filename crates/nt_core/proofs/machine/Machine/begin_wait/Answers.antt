@@ -1,11 +1,11 @@
 use Rattle.std.proofs.Common.{◌≡◌, false, sym, ap, ◌∙◌, subst, ◌&&◌}
 use Rattle.nt_apc.specs.Queues.{has_apc}
 use Rattle.nt_waits.specs.declared.wait.Wait.{Wait}
-use Rattle.nt_core.specs.declared.call.Reply.{Reply}
-use Rattle.nt_core.specs.State.{State, deadline_after, pending_too}
+use Rattle.nt_calls.specs.declared.call.Reply.{Reply}
+use Rattle.nt_calls.specs.State.{State, deadline_after, pending_too}
 use Rattle.nt_core.specs.Dispatcher.{Dispatcher, state}
 use Rattle.nt_core.specs.Lawful.{IsSoundWait}
-use Rattle.nt_core.specs.Serving.{fits, wait_for}
+use Rattle.nt_calls.specs.Serving.{fits, wait_for}
 use Rattle.nt_core.proofs.Beginning.{began_pending, begun_pends}
 use Rattle.nt_core.proofs.machine.Machine.begin_wait.Goals as goal
 

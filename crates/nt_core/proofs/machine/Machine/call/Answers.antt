@@ -1,11 +1,11 @@
 use Rattle.std.proofs.Common.{List, Ok, sym, subst}
-use Rattle.nt_core.specs.declared.call.Grant.{Grant}
-use Rattle.nt_core.specs.Naming.{call_named}
-use Rattle.nt_core.specs.Rights.{is_denied}
-use Rattle.nt_core.specs.State.{State}
+use Rattle.nt_calls.specs.declared.call.Grant.{Grant}
+use Rattle.nt_calls.specs.Naming.{call_named}
+use Rattle.nt_calls.specs.Rights.{is_denied}
+use Rattle.nt_calls.specs.State.{State}
 use Rattle.nt_core.specs.Dispatcher.{state}
-use Rattle.nt_core.specs.Living.{LivesWhileKept}
-use Rattle.nt_core.specs.Steps.{Made}
+use Rattle.nt_calls.specs.Living.{LivesWhileKept}
+use Rattle.nt_calls.specs.Steps.{Made}
 use Rattle.nt_core.proofs.machine.Machine.call.Goals as goal
 
 pub returns-in_err-reply-clause-living : goal.returns-in_err-reply-clause-living

@@ -1,10 +1,10 @@
 use Rattle.std.proofs.Common.{◌≡◌, ◌<◌, ℕ, false, Some, length, set, sym, ap, ◌∙◌, arith}
 use Rattle.nt_objects.specs.Handles.{opened_at}
-use Rattle.nt_core.specs.declared.call.Act.{Act}
-use Rattle.nt_core.specs.declared.call.Call.{Call}
-use Rattle.nt_core.specs.declared.call.Reply.{Reply}
+use Rattle.nt_calls.specs.declared.call.Act.{Act}
+use Rattle.nt_calls.specs.declared.call.Call.{Call}
+use Rattle.nt_calls.specs.declared.call.Reply.{Reply}
 use Rattle.nt_core.specs.Dispatcher.{Dispatcher}
-use Rattle.nt_core.specs.Refusals.{first_of_causes, close_causes}
+use Rattle.nt_calls.specs.Refusals.{first_of_causes, close_causes}
 use Rattle.nt_core.proofs.Closing.{close_free, opened_of, closed_accepted}
 use Rattle.nt_core.proofs.Making.{refused_made, accepted_made}
 use Rattle.nt_core.proofs.machine.Machine.close.Goals as goal

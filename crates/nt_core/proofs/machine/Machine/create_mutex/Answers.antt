@@ -3,8 +3,8 @@ use Rattle.nt_status.specs.Flags.{only_known, mutex_bits}
 use Rattle.nt_status.specs.declared.refusal.Refusal.TheVariants.{InvalidParameter}
 use Rattle.nt_objects.specs.declared.object.Object.{Object}
 use Rattle.nt_objects.specs.Object.{mutex_of, IsLawfulObject, owned_by}
-use Rattle.nt_core.specs.declared.call.Act.{Act}
-use Rattle.nt_core.specs.declared.call.Call.{Call}
+use Rattle.nt_calls.specs.declared.call.Act.{Act}
+use Rattle.nt_calls.specs.declared.call.Call.{Call}
 use Rattle.nt_core.proofs.Owned.{new_owner}
 use Rattle.nt_core.proofs.Replacing.{mutex_undue, mutex_no_thread, mutex_lives}
 use Rattle.nt_core.proofs.Making.{refused_made, unlawful_creation, unknown_bits, created_made, created_as}

@@ -5,8 +5,8 @@ use Rattle.std.proofs.lemmas.Int.{to_z-of_z}
 use Rattle.nt_status.specs.declared.refusal.Refusal.TheVariants.{InvalidParameter}
 use Rattle.nt_objects.specs.declared.object.Object.TheVariants.{Semaphore}
 use Rattle.nt_objects.specs.Object.{may_count, IsLawfulObject}
-use Rattle.nt_core.specs.declared.call.Act.{Act}
-use Rattle.nt_core.specs.declared.call.Call.{Call}
+use Rattle.nt_calls.specs.declared.call.Act.{Act}
+use Rattle.nt_calls.specs.declared.call.Call.{Call}
 use Rattle.nt_core.proofs.Making.{refused_made, unlawful_creation, unknown_bits, created_made, created_as}
 use Rattle.nt_core.proofs.machine.Machine.create_semaphore.Goals as goal
 

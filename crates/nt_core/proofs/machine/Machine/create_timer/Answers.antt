@@ -2,8 +2,8 @@ use Rattle.std.proofs.Common.{◌≡◌, ℕ, false, refl, ap, ◌∙◌}
 use Rattle.nt_status.specs.Flags.{only_known, timer_bits}
 use Rattle.nt_status.specs.declared.refusal.Refusal.TheVariants.{InvalidParameter}
 use Rattle.nt_objects.specs.Object.{timer_of}
-use Rattle.nt_core.specs.declared.call.Act.{Act}
-use Rattle.nt_core.specs.declared.call.Call.{Call}
+use Rattle.nt_calls.specs.declared.call.Act.{Act}
+use Rattle.nt_calls.specs.declared.call.Call.{Call}
 use Rattle.nt_core.proofs.Making.{refused_made, unlawful_creation, unknown_bits, created_made, created_as}
 use Rattle.nt_core.proofs.machine.Machine.create_timer.Goals as goal
 

@@ -2,7 +2,7 @@ use Rattle.std.proofs.Common.{◌≡◌, ◌<◌, ℕ, List, Option, ap, sym, �
 use Rattle.std.specs.Prelude.{if◌then◌else◌, slice_set, None}
 use Rattle.nt_alarms.specs.Alarms.{IsLowestAt, NoneAt}
 use Rattle.nt_core.specs.Dispatcher.{Dispatcher, state}
-use Rattle.nt_core.specs.Living.{is_forgotten, gone}
+use Rattle.nt_calls.specs.Living.{is_forgotten, gone}
 use Rattle.nt_core.proofs.Gone.{gone_none, gone_next, gone_end, gone_steady}
 use Rattle.nt_core.proofs.Rousing.{marks_left, marks_less}
 use Rattle.nt_core.proofs.machine.Machine.end_forgotten.Goals as goal

@@ -1,7 +1,7 @@
 use Rattle.std.proofs.Common.{◌≡◌, true, set, sym, ap, ◌∙◌, subst, None}
-use Rattle.nt_core.specs.State.{State}
+use Rattle.nt_calls.specs.State.{State}
 use Rattle.nt_core.specs.Dispatcher.{Dispatcher, state}
-use Rattle.nt_core.specs.Living.{is_forgotten}
+use Rattle.nt_calls.specs.Living.{is_forgotten}
 use Rattle.nt_core.specs.Lawful.{IsSound}
 use Rattle.nt_core.proofs.Ended.{unmarked_sound, gone_needless}
 use Rattle.nt_core.proofs.Lives.{forgotten_known}

@@ -1,6 +1,6 @@
 use Rattle.std.proofs.Common.{◌≡◌, ◌<◌, ◌≤◌, ℕ, true, List, [], length, set, sym, ap, ◌∙◌, subst, arith}
 use Rattle.std.specs.Vec.{vec_capacity}
-use Rattle.nt_core.specs.State.{pends}
+use Rattle.nt_calls.specs.State.{pends}
 use Rattle.nt_core.specs.Dispatcher.{Dispatcher, dispatcher_of, state}
 use Rattle.nt_core.specs.Lawful.{IsSound, MarksAgreeBut}
 use Rattle.nt_core.proofs.Visiting.{room_for}

@@ -1,10 +1,10 @@
 use Rattle.std.proofs.Common.{◌≡◌, ◌≤◌, ◌<◌, ◌^◌, ℕ, List, length, sym, ap, ◌∙◌, subst}
 use Rattle.nt_waits.specs.Waits.{Waits}
 use Rattle.nt_objects.specs.declared.object.Object.{Object}
-use Rattle.nt_core.specs.State.{State}
+use Rattle.nt_calls.specs.State.{State}
 use Rattle.nt_core.specs.Dispatcher.{state}
-use Rattle.nt_core.specs.Rising.{AreRising}
-use Rattle.nt_core.specs.Serving.{IsChanged, sequence, Serve}
+use Rattle.nt_calls.specs.Rising.{AreRising}
+use Rattle.nt_calls.specs.Serving.{IsChanged, sequence, Serve}
 use Rattle.nt_core.specs.Visits.{FitOnlyIn}
 use Rattle.nt_core.proofs.Exiting.{objects_left}
 use Rattle.nt_core.proofs.Ending.{exited_fit, exited_few, exited_accepted}

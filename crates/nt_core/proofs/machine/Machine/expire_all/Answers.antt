@@ -1,9 +1,9 @@
 use Rattle.std.proofs.Common.{◌≡◌, ◌<◌, ◌-◌, ℕ, ◌+◌, List, [], ◌∷◌, ◌++◌, length, length-append, sym, ap, ◌∙◌, subst, arith}
 use Rattle.nt_objects.specs.Object.{setter_of}
 use Rattle.nt_alarms.specs.Alarms.{IsLowestAt, NoneAt}
-use Rattle.nt_core.specs.State.{State, object_at}
+use Rattle.nt_calls.specs.State.{State, object_at}
 use Rattle.nt_core.specs.Dispatcher.{Dispatcher, state}
-use Rattle.nt_core.specs.Change.{expired}
+use Rattle.nt_calls.specs.Change.{expired}
 use Rattle.nt_core.proofs.Lengths.{length_expired}
 use Rattle.nt_core.proofs.Passing.{ExpiredSoFar, IsMarked, expired_none, expired_next, expired_end, room_more, setter_marked, setter_unmarked, setter_known}
 use Rattle.nt_core.proofs.machine.Machine.expire_all.Goals as goal

@@ -1,5 +1,5 @@
 use Rattle.nt_objects.specs.Object.{unlocked}
-use Rattle.nt_core.specs.State.{object_at}
+use Rattle.nt_calls.specs.State.{object_at}
 use Rattle.nt_core.proofs.Replacing.{known_mutex, unlocked_differs}
 use Rattle.nt_core.proofs.Exchanging.{may_unlock, exchanged_sound, exchanged_fit, exchanged_needed, exchanged_few, exchanged_served, exchanged_prepared}
 use Rattle.nt_core.proofs.machine.Machine.give_back.Goals as goal

@@ -3,12 +3,12 @@ use Rattle.std.specs.List.Sorted.{IsPermutation}
 use Rattle.nt_objects.specs.declared.object.Object.{Object}
 use Rattle.nt_objects.specs.Object.{is_timer, has_ended, owned_by, setter_of, abandoned_by}
 use Rattle.std.specs.FinMap as fin
-use Rattle.nt_core.specs.State.{State, object_at}
+use Rattle.nt_calls.specs.State.{State, object_at}
 use Rattle.nt_core.specs.Dispatcher.{Dispatcher, state}
 use Rattle.nt_status.specs.Lists.{Lists}
-use Rattle.nt_core.specs.Rising.{AreRising}
-use Rattle.nt_core.specs.Serving.{IsChanged}
-use Rattle.nt_core.specs.Change.{exited}
+use Rattle.nt_calls.specs.Rising.{AreRising}
+use Rattle.nt_calls.specs.Serving.{IsChanged}
+use Rattle.nt_calls.specs.Change.{exited}
 use Rattle.nt_core.specs.Lawful.{IsSound}
 use Rattle.nt_core.proofs.Exiting.{abandoned_sound, objects_left}
 use Rattle.nt_core.proofs.Ending.{AreGathered, exited_state, stopped_own, none_set, mutexes_once, mutexes_others, tail_timers, tail_stopped, own_room, sorted_changed}

@@ -4,7 +4,7 @@ use Rattle.std.specs.Prelude.{slice_index_or}
 use Rattle.nt_waits.specs.Waits.{queue_of}
 use Rattle.nt_objects.specs.declared.object.Object.TheVariants.{Thread}
 use Rattle.nt_objects.specs.Handles.{own_handles, full_access}
-use Rattle.nt_core.specs.State.{opening, object_at}
+use Rattle.nt_calls.specs.State.{opening, object_at}
 use Rattle.nt_core.specs.Dispatcher.{state, dispatcher_of}
 use Rattle.nt_core.proofs.Visiting.{state_same}
 use Rattle.nt_core.proofs.Accepting.{object_at-replicate, opening_steady}

@@ -2,11 +2,11 @@ use Rattle.std.proofs.Common.{◌≡◌, None, true, false, sym, ◌∙◌, subs
 use Rattle.std.specs.declared.option.Option.{Option}
 use Rattle.nt_apc.specs.declared.apc.Apc.{Apc}
 use Rattle.nt_apc.specs.Queues.{taken}
-use Rattle.nt_core.specs.declared.call.Call.{Call}
-use Rattle.nt_core.specs.declared.call.Act.{Act}
-use Rattle.nt_core.specs.declared.call.Reply.{Reply}
+use Rattle.nt_calls.specs.declared.call.Call.{Call}
+use Rattle.nt_calls.specs.declared.call.Act.{Act}
+use Rattle.nt_calls.specs.declared.call.Reply.{Reply}
 use Rattle.nt_core.specs.Dispatcher.{Dispatcher, state}
-use Rattle.nt_core.specs.Change.{may_take}
+use Rattle.nt_calls.specs.Change.{may_take}
 use Rattle.nt_core.specs.Lawful.{IsSteady}
 use Rattle.nt_core.specs.Accepts.{Accepts}
 use Rattle.nt_core.proofs.Alerting.{taken_accepted, untaken_accepted}

@@ -1,7 +1,7 @@
 use Rattle.std.proofs.Common.{◌<◌, ◌≤◌, ◌∙◌, ℕ, sym, subst, arith}
 use Rattle.std.specs.Prelude.{Option}
 use Rattle.nt_core.specs.Dispatcher.{Dispatcher, dispatcher_of, state}
-use Rattle.nt_core.specs.Steps.{IsNextMoment, NothingDue}
+use Rattle.nt_calls.specs.Steps.{IsNextMoment, NothingDue}
 use Rattle.nt_core.specs.Lawful.{IsSound}
 use Rattle.nt_core.proofs.Ticking.{IsNext, next_of}
 use Rattle.nt_core.proofs.machine.Machine.next_moment.Goals as goal

@@ -1,6 +1,6 @@
 use Rattle.std.proofs.Common.{◌<◌, ◌+◌, ◌^◌, ℕ, length, List, inl, sym, ◌∙◌, subst}
 use Rattle.nt_core.specs.Dispatcher.{state}
-use Rattle.nt_core.specs.Serving.{sequence}
+use Rattle.nt_calls.specs.Serving.{sequence}
 use Rattle.nt_core.specs.Visits.{Visits}
 use Rattle.nt_core.proofs.Moments.{Grants_alerted, expired_fit, expired_countable, passed_whole, none_earlier_left}
 use Rattle.nt_core.proofs.machine.Machine.pass.Goals as goal

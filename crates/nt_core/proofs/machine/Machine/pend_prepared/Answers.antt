@@ -1,6 +1,6 @@
 use Rattle.std.proofs.Common.{◌≡◌, ◌+◌, ◌<◌, None, length, sym, ap, ◌∙◌, subst}
 use Rattle.std.specs.FinMap as fin
-use Rattle.nt_core.specs.State.{pending_too}
+use Rattle.nt_calls.specs.State.{pending_too}
 use Rattle.nt_core.specs.Dispatcher.{Dispatcher, dispatcher_of, state}
 use Rattle.nt_core.specs.Lawful.{IsSound, IsSoundWait}
 use Rattle.nt_core.proofs.Beginning.{pends_too, queues_longer, sound_begun}

@@ -1,10 +1,10 @@
 use Rattle.std.proofs.Common.{ℕ, sym, subst}
-use Rattle.nt_core.specs.declared.call.Act.{Act}
-use Rattle.nt_core.specs.declared.call.Call.{Call}
-use Rattle.nt_core.specs.declared.call.Reply.{Reply}
+use Rattle.nt_calls.specs.declared.call.Act.{Act}
+use Rattle.nt_calls.specs.declared.call.Call.{Call}
+use Rattle.nt_calls.specs.declared.call.Reply.{Reply}
 use Rattle.std.specs.Prelude.{Ok}
-use Rattle.nt_core.specs.Naming.{act_named}
-use Rattle.nt_core.specs.Rights.{act_denied}
+use Rattle.nt_calls.specs.Naming.{act_named}
+use Rattle.nt_calls.specs.Rights.{act_denied}
 use Rattle.nt_core.specs.Accepts.{IsMade}
 use Rattle.nt_objects.specs.Object.{is_event}
 use Rattle.nt_core.specs.Dispatcher.{Dispatcher}

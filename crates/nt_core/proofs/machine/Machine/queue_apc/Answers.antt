@@ -3,13 +3,13 @@ use Rattle.std.specs.Prelude.{Ok}
 use Rattle.nt_apc.specs.Queues.{pushed}
 use Rattle.nt_apc.specs.declared.apc.Queued.{Queued}
 use Rattle.nt_core.specs.Dispatcher.{Dispatcher, state}
-use Rattle.nt_core.specs.Serving.{IsAlerted}
+use Rattle.nt_calls.specs.Serving.{IsAlerted}
 use Rattle.nt_core.specs.Lawful.{IsSound}
-use Rattle.nt_core.specs.declared.call.Act.{Act}
-use Rattle.nt_core.specs.declared.call.Call.{Call}
-use Rattle.nt_core.specs.declared.call.Reply.{Reply}
-use Rattle.nt_core.specs.Naming.{act_named}
-use Rattle.nt_core.specs.Rights.{act_denied}
+use Rattle.nt_calls.specs.declared.call.Act.{Act}
+use Rattle.nt_calls.specs.declared.call.Call.{Call}
+use Rattle.nt_calls.specs.declared.call.Reply.{Reply}
+use Rattle.nt_calls.specs.Naming.{act_named}
+use Rattle.nt_calls.specs.Rights.{act_denied}
 use Rattle.nt_core.specs.Accepts.{IsAlertedAfter, IsMade}
 use Rattle.nt_core.proofs.Alerting.{alone_pushed, posted_sound, queued_accepted}
 use Rattle.nt_core.proofs.Making.{refused_with, unmade_with, accepted_made}

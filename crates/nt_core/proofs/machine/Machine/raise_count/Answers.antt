@@ -1,7 +1,7 @@
 use Rattle.std.proofs.Common.{w32}
 use Rattle.std.proofs.lemmas.Int.{to_z-of_z}
 use Rattle.nt_objects.specs.Object.{released}
-use Rattle.nt_core.specs.State.{object_at}
+use Rattle.nt_calls.specs.State.{object_at}
 use Rattle.nt_core.proofs.Replacing.{known_semaphore, released_differs}
 use Rattle.nt_core.proofs.Exchanging.{may_count_more, exchanged_alone, exchanged_sound, exchanged_fit, exchanged_needed, exchanged_few, exchanged_served, exchanged_prepared}
 use Rattle.nt_core.proofs.machine.Machine.raise_count.Goals as goal

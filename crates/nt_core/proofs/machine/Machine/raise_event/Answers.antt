@@ -1,6 +1,6 @@
 use Rattle.std.proofs.Common.{true, ap}
 use Rattle.nt_objects.specs.Object.{with_set}
-use Rattle.nt_core.specs.State.{object_at}
+use Rattle.nt_calls.specs.State.{object_at}
 use Rattle.nt_core.specs.Dispatcher.{Dispatcher}
 use Rattle.nt_core.proofs.Changing.{known_event}
 use Rattle.nt_core.proofs.Replacing.{set_may_replace}

@@ -1,13 +1,13 @@
 use Rattle.std.proofs.Common.{ℕ, false, refl, subst}
 use Rattle.std.specs.Prelude.{Ok}
-use Rattle.nt_core.specs.declared.call.Act.{Act}
-use Rattle.nt_core.specs.declared.call.Call.{Call}
-use Rattle.nt_core.specs.declared.call.Reply.{Reply}
-use Rattle.nt_core.specs.Naming.{act_named}
-use Rattle.nt_core.specs.Rights.{act_denied}
+use Rattle.nt_calls.specs.declared.call.Act.{Act}
+use Rattle.nt_calls.specs.declared.call.Call.{Call}
+use Rattle.nt_calls.specs.declared.call.Reply.{Reply}
+use Rattle.nt_calls.specs.Naming.{act_named}
+use Rattle.nt_calls.specs.Rights.{act_denied}
 use Rattle.nt_core.specs.Accepts.{IsMade}
 use Rattle.nt_objects.specs.Object.{unlocked}
-use Rattle.nt_core.specs.State.{object_at}
+use Rattle.nt_calls.specs.State.{object_at}
 use Rattle.nt_core.proofs.Replacing.{replaced_accepted}
 use Rattle.nt_core.proofs.Exchanging.{may_unlock}
 use Rattle.nt_core.proofs.Making.{refused_with, accepted_made, unlock_free}

@@ -1,16 +1,16 @@
 use Rattle.std.proofs.Common.{◌≡◌, ℕ, refl, sym, ◌∙◌, subst, w32, rules}
 use Rattle.std.specs.Prelude.{Ok}
-use Rattle.nt_core.specs.declared.call.Act.{Act}
-use Rattle.nt_core.specs.declared.call.Call.{Call}
-use Rattle.nt_core.specs.declared.call.Reply.{Reply}
-use Rattle.nt_core.specs.Naming.{act_named}
-use Rattle.nt_core.specs.Rights.{act_denied}
+use Rattle.nt_calls.specs.declared.call.Act.{Act}
+use Rattle.nt_calls.specs.declared.call.Call.{Call}
+use Rattle.nt_calls.specs.declared.call.Reply.{Reply}
+use Rattle.nt_calls.specs.Naming.{act_named}
+use Rattle.nt_calls.specs.Rights.{act_denied}
 use Rattle.nt_core.specs.Accepts.{IsMade}
 use Rattle.std.specs.Prelude.{ℤ}
 use mir.Val.{to_z, of_z}
 use Rattle.std.proofs.lemmas.Int.{to_z-of_z}
 use Rattle.nt_objects.specs.Object.{released, count_of}
-use Rattle.nt_core.specs.State.{object_at}
+use Rattle.nt_calls.specs.State.{object_at}
 use Rattle.nt_core.specs.Accepts.{Accepts}
 use Rattle.nt_core.proofs.Replacing.{replaced_accepted}
 use Rattle.nt_core.proofs.Exchanging.{may_count_more}

@@ -1,6 +1,6 @@
 use Rattle.std.proofs.Common.{◌≡◌, ◌++◌, length, ap, ◌∙◌, arith}
 use Rattle.nt_core.specs.Dispatcher.{state}
-use Rattle.nt_core.specs.Serving.{sequence}
+use Rattle.nt_calls.specs.Serving.{sequence}
 use Rattle.nt_core.proofs.Walks.{all_served}
 use Rattle.nt_core.proofs.machine.Machine.serve.Goals as goal
 

@@ -1,7 +1,7 @@
 use Rattle.std.proofs.Common.{arith, refl, ◌∙◌}
 use Rattle.std.proofs.lemmas.List.{take_all}
 use Rattle.nt_core.specs.Dispatcher.{state}
-use Rattle.nt_core.specs.Serving.{sequence}
+use Rattle.nt_calls.specs.Serving.{sequence}
 use Rattle.nt_core.specs.Visits.{Visits}
 use Rattle.nt_core.proofs.Walks.{Visits-none, Visits-on, on_countable}
 use Rattle.nt_core.proofs.machine.Machine.serve_all.Goals as goal

@@ -1,6 +1,6 @@
 use Rattle.std.proofs.Common.{◌≡◌, take}
 use Rattle.nt_core.specs.Dispatcher.{state}
-use Rattle.nt_core.specs.Serving.{sequence}
+use Rattle.nt_calls.specs.Serving.{sequence}
 use Rattle.nt_core.specs.Visits.{Visits}
 use Rattle.nt_core.specs.Lawful.{IsSound}
 use Rattle.nt_core.proofs.machine.Machine.serve_all.Given as goal

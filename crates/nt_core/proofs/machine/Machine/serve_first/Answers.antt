@@ -2,7 +2,7 @@ use Rattle.std.proofs.Common.{ℕ, ◌<◌, ◌+◌, ◌-◌, length, arith, sub
 use Rattle.nt_status.specs.Lists.{IsMember}
 use Rattle.nt_waits.specs.Waits.{next_after}
 use Rattle.nt_core.specs.Dispatcher.{Dispatcher, state}
-use Rattle.nt_core.specs.Serving.{is_ready}
+use Rattle.nt_calls.specs.Serving.{is_ready}
 use Rattle.nt_objects.specs.declared.object.Object.{Object}
 use Rattle.nt_core.proofs.Stopping.{by_visited, by_none, at_stop}
 use Rattle.nt_core.proofs.Walks.{IsAt, at_first, at_next, at_end, at_member, at_countable, waiters_pend, looked_visited}

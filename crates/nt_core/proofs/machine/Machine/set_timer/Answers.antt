@@ -2,10 +2,10 @@ use Rattle.std.proofs.Common.{◌≡◌, ℕ, subst, w32, w64}
 use Rattle.std.specs.Prelude.{Ok}
 use mir.Val.{to_z, of_z}
 use Rattle.std.proofs.lemmas.Int.{to_z-of_z}
-use Rattle.nt_core.specs.declared.call.Act.{Act}
-use Rattle.nt_core.specs.declared.call.Call.{Call}
-use Rattle.nt_core.specs.declared.call.Reply.{Reply}
-use Rattle.nt_core.specs.Rights.{act_denied}
+use Rattle.nt_calls.specs.declared.call.Act.{Act}
+use Rattle.nt_calls.specs.declared.call.Call.{Call}
+use Rattle.nt_calls.specs.declared.call.Reply.{Reply}
+use Rattle.nt_calls.specs.Rights.{act_denied}
 use Rattle.nt_core.specs.Accepts.{IsMade}
 use Rattle.nt_core.proofs.Making.{unmade_with, accepted_made}
 use Rattle.nt_core.proofs.machine.Machine.set_timer.Goals as goal

@@ -1,15 +1,15 @@
 use Rattle.std.proofs.Common.{◌≡◌, ◌<◌, ◌&&◌, ◌||◌, ℕ, Bool, List, not, false, length, sym, ap, ◌∙◌, subst}
 use Rattle.nt_objects.specs.declared.object.Object.{Object}
 use Rattle.nt_objects.specs.Object.{is_gone, is_mutex}
-use Rattle.nt_core.specs.declared.call.Call.{Call}
-use Rattle.nt_core.specs.declared.call.WaitCall.{WaitCall}
-use Rattle.nt_core.specs.declared.call.Reply.{Reply}
+use Rattle.nt_calls.specs.declared.call.Call.{Call}
+use Rattle.nt_calls.specs.declared.call.WaitCall.{WaitCall}
+use Rattle.nt_calls.specs.declared.call.Reply.{Reply}
 use Rattle.nt_status.specs.declared.refusal.Refusal.{Refusal}
 use Rattle.std.specs.Prelude.{Result, Err}
-use Rattle.nt_core.specs.State.{object_at}
-use Rattle.nt_core.specs.Naming.{object_named, lacks}
-use Rattle.nt_core.specs.Rights.{signal_denied}
-use Rattle.nt_core.specs.Refusals.{first_of_causes, swap_causes}
+use Rattle.nt_calls.specs.State.{object_at}
+use Rattle.nt_calls.specs.Naming.{object_named, lacks}
+use Rattle.nt_calls.specs.Rights.{signal_denied}
+use Rattle.nt_calls.specs.Refusals.{first_of_causes, swap_causes}
 use Rattle.nt_core.specs.Dispatcher.{Dispatcher, state}
 use Rattle.nt_core.specs.Accepts.{IsMade}
 use Rattle.nt_core.proofs.Closing.{named_living}
@@ -33,8 +33,8 @@ pub swap-requires-clause-free : goal.swap-requires-clause-free
 swap-requires-clause-free c =
     let t = c.args.thread in
     let call = Call.Wait (WaitCall.Swap c.opened-signaled.result.0 c.opened-awaited.result.0 c.args.ms c.args.alertable) in
-    let judged = c.swap_refusal.ensures ∙ (ap (λ (os : List Object). first_of_causes (swap_causes os t c.is_denied-denied.result c.opened-signaled.result.0 c.opened-awaited.result.0)) c.as_slice-objects.ensures ∙ ap (λ (x : Dispatcher). first_of_causes (swap_causes x.objects t c.is_denied-denied.result c.opened-signaled.result.0 c.opened-awaited.result.0)) c.self.view_is) in
-    undenied (state c.args.self.now) t c.is_denied-denied.result call (c.requires.caller c.is_denied-denied.result call ∙ (sym judged ∙ c.in-None.is))
+    let judged = c.swap_refusal.ensures ∙ (ap (λ (os : List Object). first_of_causes (swap_causes os t c.is_swap_denied-denied.result c.opened-signaled.result.0 c.opened-awaited.result.0)) c.as_slice-objects.ensures ∙ ap (λ (x : Dispatcher). first_of_causes (swap_causes x.objects t c.is_swap_denied-denied.result c.opened-signaled.result.0 c.opened-awaited.result.0)) c.self.view_is) in
+    undenied (state c.args.self.now) t c.is_swap_denied-denied.result call (c.requires.caller c.is_swap_denied-denied.result call ∙ (sym judged ∙ c.in-None.is))
 
 pub swap-requires-clause-living : goal.swap-requires-clause-living
 swap-requires-clause-living c =
@@ -47,12 +47,12 @@ returns-in-Some c =
     let old = c.args.self.now in
     let t = c.args.thread in
     let call = Call.Wait (WaitCall.Swap c.opened-signaled.result.0 c.opened-awaited.result.0 c.args.ms c.args.alertable) in
-    let judged = c.swap_refusal.ensures ∙ (ap (λ (os : List Object). first_of_causes (swap_causes os t c.is_denied-denied.result c.opened-signaled.result.0 c.opened-awaited.result.0)) c.as_slice-objects.ensures ∙ ap (λ (x : Dispatcher). first_of_causes (swap_causes x.objects t c.is_denied-denied.result c.opened-signaled.result.0 c.opened-awaited.result.0)) c.self.view_is) in
-    made_as old old t c.is_denied-denied.result _ c.opened-signaled.result.0 _ c.opened-awaited.result.0 _ c.args.ms c.args.alertable (Err c.in-Some.refusal)
-    (denied_as old _ c.args.signal c.args.object c.opened-signaled.result.0 c.as_slice-objects.result.now c.opened-signaled.result.1 c.opened-awaited.result.1 c.is_denied-denied.result c.self.view_is c.as_slice-objects.ensures c.opened-signaled.ensures.object c.opened-signaled.ensures.denied c.opened-awaited.ensures.denied c.is_denied-denied.ensures)
+    let judged = c.swap_refusal.ensures ∙ (ap (λ (os : List Object). first_of_causes (swap_causes os t c.is_swap_denied-denied.result c.opened-signaled.result.0 c.opened-awaited.result.0)) c.as_slice-objects.ensures ∙ ap (λ (x : Dispatcher). first_of_causes (swap_causes x.objects t c.is_swap_denied-denied.result c.opened-signaled.result.0 c.opened-awaited.result.0)) c.self.view_is) in
+    made_as old old t c.is_swap_denied-denied.result _ c.opened-signaled.result.0 _ c.opened-awaited.result.0 _ c.args.ms c.args.alertable (Err c.in-Some.refusal)
+    (denied_as old _ c.args.signal c.args.object c.opened-signaled.result.0 c.as_slice-objects.result.now c.opened-signaled.result.1 c.opened-awaited.result.1 c.is_swap_denied-denied.result c.self.view_is c.as_slice-objects.ensures c.opened-signaled.ensures.object c.opened-signaled.ensures.denied c.opened-awaited.ensures.denied c.is_swap_denied-denied.ensures)
     (c.opened-signaled.ensures.object ∙ ap (λ (x : Dispatcher). object_named x.handles c.args.signal) c.self.view_is)
     (c.opened-awaited.ensures.object ∙ ap (λ (x : Dispatcher). object_named x.handles c.args.object) c.self.view_is)
-    (refused_made old t c.is_denied-denied.result call c.in-Some.refusal c.requires.fresh c.requires.caller (sym judged ∙ c.in-Some.is))
+    (refused_made old t c.is_swap_denied-denied.result call c.in-Some.refusal c.requires.fresh c.requires.caller (sym judged ∙ c.in-Some.is))
 
 pub returns-in-None : goal.returns-in-None
 returns-in-None c =
@@ -60,9 +60,9 @@ returns-in-None c =
     let new = c.swap.new.self in
     let t = c.args.thread in
     let call = Call.Wait (WaitCall.Swap c.opened-signaled.result.0 c.opened-awaited.result.0 c.args.ms c.args.alertable) in
-    let judged = c.swap_refusal.ensures ∙ (ap (λ (os : List Object). first_of_causes (swap_causes os t c.is_denied-denied.result c.opened-signaled.result.0 c.opened-awaited.result.0)) c.as_slice-objects.ensures ∙ ap (λ (x : Dispatcher). first_of_causes (swap_causes x.objects t c.is_denied-denied.result c.opened-signaled.result.0 c.opened-awaited.result.0)) c.self.view_is) in
-    made_as old new t c.is_denied-denied.result _ c.opened-signaled.result.0 _ c.opened-awaited.result.0 _ c.args.ms c.args.alertable c.swap.result
-    (denied_as old _ c.args.signal c.args.object c.opened-signaled.result.0 c.as_slice-objects.result.now c.opened-signaled.result.1 c.opened-awaited.result.1 c.is_denied-denied.result c.self.view_is c.as_slice-objects.ensures c.opened-signaled.ensures.object c.opened-signaled.ensures.denied c.opened-awaited.ensures.denied c.is_denied-denied.ensures)
+    let judged = c.swap_refusal.ensures ∙ (ap (λ (os : List Object). first_of_causes (swap_causes os t c.is_swap_denied-denied.result c.opened-signaled.result.0 c.opened-awaited.result.0)) c.as_slice-objects.ensures ∙ ap (λ (x : Dispatcher). first_of_causes (swap_causes x.objects t c.is_swap_denied-denied.result c.opened-signaled.result.0 c.opened-awaited.result.0)) c.self.view_is) in
+    made_as old new t c.is_swap_denied-denied.result _ c.opened-signaled.result.0 _ c.opened-awaited.result.0 _ c.args.ms c.args.alertable c.swap.result
+    (denied_as old _ c.args.signal c.args.object c.opened-signaled.result.0 c.as_slice-objects.result.now c.opened-signaled.result.1 c.opened-awaited.result.1 c.is_swap_denied-denied.result c.self.view_is c.as_slice-objects.ensures c.opened-signaled.ensures.object c.opened-signaled.ensures.denied c.opened-awaited.ensures.denied c.is_swap_denied-denied.ensures)
     (c.opened-signaled.ensures.object ∙ ap (λ (x : Dispatcher). object_named x.handles c.args.signal) c.self.view_is)
     (c.opened-awaited.ensures.object ∙ ap (λ (x : Dispatcher). object_named x.handles c.args.object) c.self.view_is)
-    (tried_made old new t c.is_denied-denied.result call c.swap.result c.requires.fresh c.requires.caller (sym judged ∙ c.in-None.is) c.swap.ensures.ok c.swap.ensures.grows c.swap.ensures.memory c.swap.ensures.err)
+    (tried_made old new t c.is_swap_denied-denied.result call c.swap.result c.requires.fresh c.requires.caller (sym judged ∙ c.in-None.is) c.swap.ensures.ok c.swap.ensures.grows c.swap.ensures.memory c.swap.ensures.err)

@@ -5,7 +5,7 @@ use Rattle.std.proofs.lemmas.Int.{to_z-of_z}
 use Rattle.nt_objects.specs.declared.object.Object.{Object}
 use Rattle.nt_objects.specs.declared.object.Armed.{Armed}
 use Rattle.nt_objects.specs.Object.{signaled}
-use Rattle.nt_core.specs.Change.{due_moment}
+use Rattle.nt_calls.specs.Change.{due_moment}
 use Rattle.nt_core.specs.Dispatcher.{Dispatcher}
 use Rattle.nt_core.proofs.Replacing.{one_few}
 use Rattle.nt_core.proofs.Arming.{asked, anew_due, set_local, set_ahead, set_at_once, set_and_served}

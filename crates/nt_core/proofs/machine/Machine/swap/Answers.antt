@@ -3,14 +3,14 @@ use Rattle.std.proofs.lemmas.Option.{same_Some}
 use Rattle.std.specs.FinMap as fin
 use Rattle.nt_objects.specs.Object.{is_gone}
 use Rattle.nt_waits.specs.declared.wait.Wait.{Wait}
-use Rattle.nt_core.specs.declared.call.Call.{Call}
-use Rattle.nt_core.specs.declared.call.WaitCall.{WaitCall}
-use Rattle.nt_core.specs.declared.call.Reply.{Reply}
-use Rattle.nt_core.specs.State.{State, object_at, deadline_after, pending_too}
+use Rattle.nt_calls.specs.declared.call.Call.{Call}
+use Rattle.nt_calls.specs.declared.call.WaitCall.{WaitCall}
+use Rattle.nt_calls.specs.declared.call.Reply.{Reply}
+use Rattle.nt_calls.specs.State.{State, object_at, deadline_after, pending_too}
 use Rattle.nt_core.specs.Dispatcher.{Dispatcher, state, with_prepared}
-use Rattle.nt_core.specs.Serving.{wait_for}
-use Rattle.nt_core.specs.Refusals.{refusal}
-use Rattle.nt_core.specs.Steps.{begun, wait_of}
+use Rattle.nt_calls.specs.Serving.{wait_for}
+use Rattle.nt_calls.specs.Refusals.{refusal}
+use Rattle.nt_calls.specs.Steps.{begun, wait_of}
 use Rattle.nt_core.specs.Lawful.{IsSoundWait, IsSteady}
 use Rattle.nt_core.specs.Accepts.{IsFresh, Accepts}
 use Rattle.nt_core.proofs.Beginning.{began_pending, begun_pends}

@@ -1,7 +1,7 @@
 use Rattle.std.proofs.Common.{◌≡◌, ℕ, set, sym, subst, Some, None, false}
 use Rattle.std.specs.FinMap as fin
 use Rattle.nt_core.specs.Dispatcher.{Dispatcher, dispatcher_of}
-use Rattle.nt_core.specs.Serving.{wait_for, IsTried}
+use Rattle.nt_calls.specs.Serving.{wait_for, IsTried}
 use Rattle.nt_core.specs.Lawful.{IsSteady, IsSoundWait}
 use Rattle.nt_core.proofs.Beginning.{began_taken}
 use Rattle.nt_core.proofs.machine.Machine.take_now.Goals as goal

@@ -1,12 +1,12 @@
 use Rattle.std.proofs.Common.{◌≡◌, ◌≤◌, ◌<◌, ℕ, List, sym, ap, ◌∙◌, subst, arith}
 use Rattle.std.specs.Prelude.{Ok}
-use Rattle.nt_core.specs.declared.call.Reply.{Reply}
-use Rattle.nt_core.specs.State.{State}
+use Rattle.nt_calls.specs.declared.call.Reply.{Reply}
+use Rattle.nt_calls.specs.State.{State}
 use Rattle.nt_core.specs.Dispatcher.{Dispatcher, state}
-use Rattle.nt_core.specs.Steps.{Ticked}
+use Rattle.nt_calls.specs.Steps.{Ticked}
 use Rattle.nt_waits.specs.Waits.{Waits}
-use Rattle.nt_core.specs.declared.call.Grant.{Grant}
-use Rattle.nt_core.specs.Living.{Ends, LivesWhileKept}
+use Rattle.nt_calls.specs.declared.call.Grant.{Grant}
+use Rattle.nt_calls.specs.Living.{Ends, LivesWhileKept}
 use Rattle.nt_core.specs.Lawful.{IsSteady}
 use Rattle.nt_core.specs.Accepts.{IsTickLocal}
 use Rattle.nt_core.proofs.Coming.{left_to_come, left_smaller, tick_first, tick_next, tick_end, tick_ended, tick_countable}

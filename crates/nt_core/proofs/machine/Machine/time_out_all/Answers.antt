@@ -2,7 +2,7 @@ use Rattle.std.proofs.Common.{◌≡◌, ◌<◌, sym, ap, subst, arith}
 use Rattle.std.specs.FinMap as fin
 use Rattle.nt_waits.specs.Deadlines.{NoneEarlier, NoneWithDeadline, IsFirstWithDeadline}
 use Rattle.nt_core.specs.Dispatcher.{Dispatcher, state}
-use Rattle.nt_core.specs.State.{State}
+use Rattle.nt_calls.specs.State.{State}
 use Rattle.nt_core.proofs.Visiting.{len_removed}
 use Rattle.nt_core.proofs.Ticking.{late_of, late_next, late_end, none_earlier_kept}
 use Rattle.nt_core.proofs.machine.Machine.time_out_all.Goals as goal

@@ -5,7 +5,7 @@ use Rattle.nt_owners.specs.Objects.{Objects}
 use Rattle.nt_status.specs.Lists.{IsMember}
 use Rattle.nt_waits.specs.Waits.{Waits, queue_of, others}
 use Rattle.nt_core.specs.Dispatcher.{Dispatcher, dispatcher_of}
-use Rattle.nt_core.specs.Serving.{IsTried, CanTake, wait_for}
+use Rattle.nt_calls.specs.Serving.{IsTried, CanTake, wait_for}
 use Rattle.nt_core.specs.Visits.{IsVisited}
 use Rattle.nt_core.specs.Lawful.{IsSound, MarksAgreeBut, LetsGoBut}
 use Rattle.nt_core.proofs.Marking.{member_named}

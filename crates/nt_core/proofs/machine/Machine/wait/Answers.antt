@@ -1,10 +1,10 @@
 use Rattle.std.proofs.Common.{◌≡◌, [], length, arith, sym, ap, subst, refl, false}
-use Rattle.nt_core.specs.declared.call.Call.{Call}
-use Rattle.nt_core.specs.declared.call.WaitCall.{WaitCall}
-use Rattle.nt_core.specs.State.{deadline_after}
+use Rattle.nt_calls.specs.declared.call.Call.{Call}
+use Rattle.nt_calls.specs.declared.call.WaitCall.{WaitCall}
+use Rattle.nt_calls.specs.State.{deadline_after}
 use Rattle.nt_core.specs.Dispatcher.{state}
-use Rattle.nt_core.specs.Serving.{wait_for}
-use Rattle.nt_core.specs.Steps.{begun}
+use Rattle.nt_calls.specs.Serving.{wait_for}
+use Rattle.nt_calls.specs.Steps.{begun}
 use Rattle.nt_core.specs.Accepts.{Accepts, IsWaitMade}
 use Rattle.nt_core.proofs.Accepting.{ok_then, free_caller, sound_sleep, wait_accepted}
 use Rattle.nt_core.proofs.Beginning.{room_to_begin}

@@ -1,13 +1,13 @@
 use Rattle.std.proofs.Common.{◌≡◌, List, [], length, arith, sym, ap, ◌∙◌, refl, false, None}
 use Rattle.nt_objects.specs.declared.object.Object.{Object}
-use Rattle.nt_core.specs.declared.call.Call.{Call}
-use Rattle.nt_core.specs.declared.call.WaitCall.{WaitCall}
-use Rattle.nt_core.specs.State.{deadline_after}
+use Rattle.nt_calls.specs.declared.call.Call.{Call}
+use Rattle.nt_calls.specs.declared.call.WaitCall.{WaitCall}
+use Rattle.nt_calls.specs.State.{deadline_after}
 use Rattle.nt_core.specs.Dispatcher.{Dispatcher, state}
-use Rattle.nt_core.specs.Serving.{wait_for}
-use Rattle.nt_core.specs.Steps.{begun}
+use Rattle.nt_calls.specs.Serving.{wait_for}
+use Rattle.nt_calls.specs.Steps.{begun}
 use Rattle.nt_core.specs.Accepts.{Accepts}
-use Rattle.nt_core.specs.Refusals.{first_of_causes, objects_causes, refusal}
+use Rattle.nt_calls.specs.Refusals.{first_of_causes, objects_causes, refusal}
 use Rattle.nt_core.proofs.Accepting.{ok_then, free_caller, sound_objects, wait_accepted}
 use Rattle.nt_core.proofs.Beginning.{room_to_begin}
 use Rattle.nt_core.proofs.Judging.{undenied}

@@ -6,12 +6,12 @@ use Rattle.nt_status.specs.declared.limits.TheConstants.{MAX_WAIT_OBJECTS}
 use Rattle.nt_status.specs.declared.refusal.Refusal.TheVariants.{AccessDenied, InvalidHandle, InvalidParameter, RecursionLimit}
 use Rattle.nt_objects.specs.Object.{is_gone}
 use Rattle.nt_status.specs.Lists.{IsMember}
-use Rattle.nt_core.specs.State.{object_at}
+use Rattle.nt_calls.specs.State.{object_at}
 use Rattle.nt_core.specs.Dispatcher.{Dispatcher}
-use Rattle.nt_core.specs.Naming.{object_named, lacks}
-use Rattle.nt_core.specs.Refusals.{first_of_causes, is_unknown, has_twice, is_at_limit}
-use Rattle.nt_core.specs.declared.call.Call.{Call}
-use Rattle.nt_core.specs.declared.call.WaitCall.{WaitCall}
+use Rattle.nt_calls.specs.Naming.{object_named, lacks}
+use Rattle.nt_calls.specs.Refusals.{first_of_causes, is_unknown, has_twice, is_at_limit}
+use Rattle.nt_calls.specs.declared.call.Call.{Call}
+use Rattle.nt_calls.specs.declared.call.WaitCall.{WaitCall}
 use Rattle.nt_core.proofs.Closing.{all_living}
 use Rattle.nt_core.proofs.Making.{refused_made}
 use Rattle.nt_core.proofs.machine.Machine.wait_for_objects.Goals as goal

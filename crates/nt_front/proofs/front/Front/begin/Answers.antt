@@ -1,6 +1,6 @@
 use Rattle.std.proofs.Common.{subst, sym, ◌∙◌}
 use Rattle.nt_mail.specs.Knowledge.{IsFree, IsWaiting}
-use Rattle.nt_core.specs.declared.call.Call.{Call}
+use Rattle.nt_calls.specs.declared.call.Call.{Call}
 use Rattle.nt_front.proofs.Floors.{waits_after, free_after}
 use Rattle.nt_front.proofs.front.Front.begin.Goals as goal
 

@@ -1,6 +1,6 @@
 use Rattle.std.proofs.Common.{refl, rules, subst, sym}
 use Rattle.nt_mail.specs.Knowledge.{IsFree}
-use Rattle.nt_core.specs.declared.call.Call.{Call}
+use Rattle.nt_calls.specs.declared.call.Call.{Call}
 use Rattle.nt_front.proofs.Floors.{free_unless_waits}
 use Rattle.nt_front.proofs.front.Front.exit.Goals as goal
 

@@ -1,0 +1,29 @@
+-- What a call alone says.
+use Rattle.std.specs.Prelude.{ℕ, Bool, true, false, [], ◌∷◌, is_some}
+use Rattle.nt_waits.specs.declared.wait.Wait.{Wait}
+use Rattle.nt_calls.specs.declared.call.Act.{Act}
+use Rattle.nt_calls.specs.declared.call.WaitCall.{WaitCall}
+use Rattle.nt_calls.specs.State.{deadline_after}
+
+-- the acts that may want memory: creations, duplicates, queued APCs, and timers set with a routine, whose APC gets a place
+abbrev pub act_grows : Act → Bool
+act_grows (Act.CreateEvent flags) = true
+act_grows (Act.CreateSemaphore initial maximum) = true
+act_grows (Act.CreateMutex flags) = true
+act_grows (Act.CreateTimer flags) = true
+act_grows (Act.Duplicate h access) = true
+act_grows (Act.SetTimer timer due period routine) = is_some routine
+act_grows (Act.QueueApc thread routine arg) = true
+act_grows _ = false
+
+-- the timeout that a waiting call names, in milliseconds
+abbrev pub timeout_of : WaitCall → ℕ
+timeout_of (WaitCall.Objects all alertable ms handles) = ms
+timeout_of (WaitCall.Sleep ms alertable) = ms
+timeout_of (WaitCall.Swap h object ms alertable) = ms
+
+-- the wait that a waiting call asks for at this moment
+abbrev pub wait_of : ℕ → WaitCall → Wait
+wait_of now (WaitCall.Objects all alertable ms handles) = record { handles = handles; all = all; alertable = alertable; deadline = deadline_after now ms }
+wait_of now (WaitCall.Sleep ms alertable) = record { handles = []; all = false; alertable = alertable; deadline = deadline_after now ms }
+wait_of now (WaitCall.Swap h object ms alertable) = record { handles = object ∷ []; all = false; alertable = alertable; deadline = deadline_after now ms }

@@ -1,0 +1,12 @@
+pub mod Rising
+pub mod State
+pub mod Calls
+pub mod Naming
+pub mod Rights
+pub mod Serving
+pub mod Change
+pub mod Living
+pub mod Refusals
+pub mod Steps
+pub mod Runs
+pub mod Moves

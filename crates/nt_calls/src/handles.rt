@@ -1,0 +1,74 @@
+//! What the handles of a call name.
+ghost use Rattle.std.specs.Prelude.{◌≡◌, ◌≤◌, ◌||◌, false, length, nat_lt, is_some, map, slice_get, IfNone};
+ghost use Rattle.std.specs.List.{list_any};
+ghost use Rattle.std.specs.Option.{option_copied};
+ghost use Rattle.nt_status.specs.declared.limits.TheConstants.{MAX_WAIT_OBJECTS};
+ghost use Rattle.nt_objects.specs.declared.object.Object.TheVariants.{Thread};
+ghost use Rattle.nt_calls.specs.State.{object_at};
+ghost use Rattle.nt_calls.specs.Naming.{object_named, lacks};
+
+use nt_objects::{HandleTable, Object};
+use nt_status::{Handle, MAX_HANDLES, NamedObjects};
+
+/// A number that no object has: the numbers of objects are below it.
+const NO_OBJECT: u32 = MAX_HANDLES as u32;
+
+/// SYNCHRONIZE.
+pub const SYNCHRONIZE: u32 = 0x0010_0000;
+
+/// EVENT_MODIFY_STATE, SEMAPHORE_MODIFY_STATE, TIMER_MODIFY_STATE.
+pub const MODIFY_STATE: u32 = 0x0002;
+
+/// THREAD_SET_CONTEXT.
+pub const SET_CONTEXT: u32 = 0x0010;
+
+/// The number of the object that the handle names, and one that no object has where it names none.
+pub fn object_named(handles: &HandleTable, handle: Handle) -> Handle
+    ensures { result ≡ object_named handles.now.opened handle }
+{
+    match handles.get(handle) {
+        Some(opened) => opened.object,
+        None => Handle::new(NO_OBJECT),
+    }
+}
+
+/// What the handle names: the number of its object, and one that no object has where it names none. Answers also whether the
+/// handle lacks one of these rights.
+pub fn opened(handles: &HandleTable, handle: Handle, access: u32) -> (Handle, bool)
+    ensures object { result.0 ≡ object_named handles.now.opened handle }
+    ensures denied { result.1 ≡ lacks access handles.now.opened handle }
+{
+    let (object, held) = match handles.get(handle) {
+        Some(opened) => (opened.object, opened.access.bits()),
+        None => (Handle::new(NO_OBJECT), 0),
+    };
+    (object, held & access != access)
+}
+
+/// The numbers of the objects that the handles name, in this order. Answers whether one of the handles may not be waited for.
+pub fn name_all(handles: &HandleTable, these: &[Handle], named: &mut NamedObjects) -> bool
+    requires { length these.now ≤ MAX_WAIT_OBJECTS }
+    ensures denied { result ≡ list_any (lacks 0x00100000 handles.now.opened) these.now }
+    ensures items { named.new ≡ map (object_named handles.now.opened) these.now }
+{
+    named.clear();
+    let mut denied = false;
+    for handle in these {
+        let (object, held) = match handles.get(*handle) {
+            Some(opened) => (opened.object, opened.access.bits()),
+            None => (Handle::new(NO_OBJECT), 0),
+        };
+        named.push(object);
+        denied = denied || held & SYNCHRONIZE != SYNCHRONIZE;
+    }
+    denied
+}
+
+/// The object with this number, or none.
+pub fn named(objects: &[Object], handle: Handle) -> Option<&Object>
+    ensures object { option_copied result ≡ slice_get objects.now handle }
+    ensures known { is_some result ≡ nat_lt handle (length objects.now) }
+    ensures none { IfNone result (object_at objects.now handle ≡ Thread false) }
+{
+    objects.get(handle.get() as usize)
+}

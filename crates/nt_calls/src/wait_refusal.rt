@@ -1,0 +1,127 @@
+//! Whether a wait for objects is refused, and by which cause.
+ghost use Rattle.std.specs.Prelude.{ℕ, ◌≡◌, ◌==◌, ◌≤◌, [], ◌∷◌, true, false};
+ghost use Rattle.std.specs.List.{list_any};
+ghost use Rattle.nt_calls.specs.Refusals.{first_of_causes, objects_causes, is_unknown, has_twice, is_at_limit};
+
+use crate::handles::named;
+use crate::refusals::is_unknown;
+use nt_objects::Object;
+use nt_status::{Handle, MAX_WAIT_OBJECTS, Refusal, ThreadId};
+
+/// Whether one of the handles names nothing.
+fn has_unknown(objects: &[Object], handles: &[Handle]) -> bool
+    ensures { result ≡ list_any (is_unknown objects.now) handles.now }
+{
+    handles.iter().any(|handle| is_unknown(objects, *handle))
+}
+
+/// Whether the handle is that of a mutex which the thread holds at the greatest depth.
+pub fn is_at_limit(objects: &[Object], thread: ThreadId, handle: Handle) -> bool
+    ensures { result ≡ is_at_limit objects.now thread handle }
+{
+    match named(objects, handle) {
+        Some(object) => object.is_owned_by(thread) && !object.has_room(),
+        None => false,
+    }
+}
+
+/// Whether one of the handles is that of a mutex which the thread holds at the greatest depth.
+fn has_limit(objects: &[Object], thread: ThreadId, handles: &[Handle]) -> bool
+    ensures { result ≡ list_any (is_at_limit objects.now thread) handles.now }
+{
+    handles
+        .iter()
+        .any(|handle| is_at_limit(objects, thread, *handle))
+}
+
+/// Whether a handle stands twice.
+fn has_twice(handles: &[Handle]) -> bool
+    ensures { result ≡ has_twice handles.now }
+{
+    match handles {
+        [] => false,
+        [first, rest @ ..] => rest.contains(first) || has_twice(rest),
+    }
+}
+
+/// Whether the numbers rise, the first from above this one: then none of them stands twice.
+fn rises_from(below: Handle, numbers: &[Handle]) -> bool
+    ensures above { result ≡ true → (x : ℕ) → x ≤ below → list_any (λ other. other == x) numbers.now ≡ false }
+    ensures apart { result ≡ true → has_twice numbers.now ≡ false }
+{
+    match numbers {
+        [] => true,
+        [first, rest @ ..] => below < *first && rises_from(*first, rest),
+    }
+}
+
+/// Whether a number stands twice. Where the numbers rise, one look at each tells.
+fn names_twice(numbers: &[Handle]) -> bool
+    ensures { result ≡ has_twice numbers.now }
+{
+    match numbers {
+        [] => false,
+        [first, rest @ ..] => !rises_from(*first, rest) && has_twice(numbers),
+    }
+}
+
+/// The refusal of a wait for the object with this number alone.
+fn object_refusal(
+    objects: &[Object],
+    thread: ThreadId,
+    denied: bool,
+    object: Handle,
+) -> Option<Refusal>
+    ensures { result ≡ first_of_causes (objects_causes objects.now thread denied (object ∷ [])) }
+{
+    let Some(there) = named(objects, object) else {
+        return Some(Refusal::InvalidHandle);
+    };
+    if denied {
+        Some(Refusal::AccessDenied)
+    } else if there.is_owned_by(thread) && !there.has_room() {
+        Some(Refusal::RecursionLimit)
+    } else {
+        None
+    }
+}
+
+/// The refusal of a wait for the objects with these numbers, none or several.
+fn list_refusal(
+    objects: &[Object],
+    thread: ThreadId,
+    denied: bool,
+    numbers: &[Handle],
+) -> Option<Refusal>
+    ensures { result ≡ first_of_causes (objects_causes objects.now thread denied numbers.now) }
+{
+    if numbers.is_empty() || numbers.len() > MAX_WAIT_OBJECTS {
+        Some(Refusal::InvalidParameter)
+    } else if has_unknown(objects, numbers) {
+        Some(Refusal::InvalidHandle)
+    } else if denied {
+        Some(Refusal::AccessDenied)
+    } else if names_twice(numbers) {
+        Some(Refusal::InvalidParameter)
+    } else if has_limit(objects, thread, numbers) {
+        Some(Refusal::RecursionLimit)
+    } else {
+        None
+    }
+}
+
+/// The refusal of a wait for the objects with these numbers by its own causes. Most waits name one.
+#[inline(always)]
+pub fn objects_refusal(
+    objects: &[Object],
+    thread: ThreadId,
+    denied: bool,
+    numbers: &[Handle],
+) -> Option<Refusal>
+    ensures { result ≡ first_of_causes (objects_causes objects.now thread denied numbers.now) }
+{
+    match numbers {
+        [object] => object_refusal(objects, thread, denied, *object),
+        _ => list_refusal(objects, thread, denied, numbers),
+    }
+}
