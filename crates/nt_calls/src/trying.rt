@@ -1,7 +1,5 @@
-ghost use Rattle.std.specs.Prelude.{◌≡◌, ◌≤◌, ◌<◌, IsTrue, IfNone, None, true, false, length};
-ghost use Rattle.std.specs.List.{position, list_all, list_any};
-ghost use Rattle.std.specs.List.{IsDistinct};
-ghost use Rattle.std.specs.Prelude.{nat_eq};
+ghost use Rattle.std.specs.Prelude.{◌≡◌, ◌≤◌, ◌<◌, IsTrue, IfNone, None, true, false, length, nat_eq};
+ghost use Rattle.std.specs.List.{position, list_all, list_any, IsDistinct};
 ghost use Rattle.nt_objects.specs.declared.object.Object.{Object};
 ghost use Rattle.nt_objects.specs.Object.{has_room, is_abandoned, TellsAbandoned};
 ghost use Rattle.nt_calls.specs.State.{object_at};

@@ -45,9 +45,7 @@ impl Core {
         ensures { MatchOption result (NothingDue (state self.now) up_to)
             (λ moment. IsNextMoment (state self.now) up_to moment) }
     {
-        match self.machine.next_moment(up_to) {
-            Some(moment) => Moment::new(moment),
-            None => None,
-        }
+        let moment = self.machine.next_moment(up_to)?;
+        Moment::new(moment)
     }
 }

@@ -21,7 +21,12 @@ const MAY_SIGNAL: u32 = 0x0002;
 /// Both rights of an event.
 const ALL_OF_EVENT: u32 = 0x0010_0002;
 
-const SCENARIOS: &[Scenario] = &[
+/// Handles that are closed.
+fn handles() -> &'static [Scenario] {
+    HANDLES
+}
+
+const HANDLES: &[Scenario] = &[
     Scenario {
         shows: "a wait keeps what no handle names any more",
         threads: 2,
@@ -120,6 +125,14 @@ const SCENARIOS: &[Scenario] = &[
             Living(1),
         ],
     },
+];
+
+/// Threads that end.
+fn threads() -> &'static [Scenario] {
+    THREADS
+}
+
+const THREADS: &[Scenario] = &[
     Scenario {
         shows: "an owned mutex that nobody waits for is closed, and its owner ends",
         threads: 2,
@@ -188,6 +201,14 @@ const SCENARIOS: &[Scenario] = &[
             Living(3),
         ],
     },
+];
+
+/// Waits that keep objects, and let go of them.
+fn waits() -> &'static [Scenario] {
+    WAITS
+}
+
+const WAITS: &[Scenario] = &[
     Scenario {
         shows: "one of two waits that keep an object times out, and one is granted, in one tick",
         threads: 3,
@@ -247,6 +268,14 @@ const SCENARIOS: &[Scenario] = &[
             Living(2),
         ],
     },
+];
+
+/// Timers that are closed.
+fn timers() -> &'static [Scenario] {
+    TIMERS
+}
+
+const TIMERS: &[Scenario] = &[
     Scenario {
         shows: "a closed timer that a wait names expires, alerts, and its apc is withdrawn",
         threads: 2,
@@ -325,10 +354,16 @@ const SCENARIOS: &[Scenario] = &[
 
 #[test]
 fn objects_end_once_nothing_keeps_them(rt: HostRuntime) -> Result<(), Fail> {
-    play_all(&rt, SCENARIOS)
+    play_all(&rt, handles())?;
+    play_all(&rt, threads())?;
+    play_all(&rt, waits())?;
+    play_all(&rt, timers())
 }
 
 #[test]
 fn objects_end_alike_in_copies(rt: HostRuntime) -> Result<(), Fail> {
-    play_all_in_both(&rt, SCENARIOS)
+    play_all_in_both(&rt, handles())?;
+    play_all_in_both(&rt, threads())?;
+    play_all_in_both(&rt, waits())?;
+    play_all_in_both(&rt, timers())
 }

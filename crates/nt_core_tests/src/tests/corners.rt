@@ -9,7 +9,12 @@ use crate::tests::script::Step::{Call, Tick, Waiting};
 use crate::tests::script::{INFINITE, INVALID_HANDLE, IO_COMPLETION, Scenario, TIMEOUT};
 use std::test::Fail;
 
-const SCENARIOS: &[Scenario] = &[
+/// Timers, and the APCs that they queue.
+fn apcs_of_timers() -> &'static [Scenario] {
+    APCS_OF_TIMERS
+}
+
+const APCS_OF_TIMERS: &[Scenario] = &[
     Scenario {
         shows: "an apc that a timer queues comes before a deadline of the same moment",
         threads: 4,
@@ -76,6 +81,14 @@ const SCENARIOS: &[Scenario] = &[
             Waiting(&[]),
         ],
     },
+];
+
+/// What ends the taking of APCs.
+fn taking_apcs() -> &'static [Scenario] {
+    TAKING_APCS
+}
+
+const TAKING_APCS: &[Scenario] = &[
     Scenario {
         shows: "another call in between leaves the apcs to be taken",
         threads: 3,
@@ -150,6 +163,14 @@ const SCENARIOS: &[Scenario] = &[
             Waiting(&[]),
         ],
     },
+];
+
+/// Mutexes of a thread that waits for them, and timers of one moment.
+fn mutexes_and_moments() -> &'static [Scenario] {
+    MUTEXES_AND_MOMENTS
+}
+
+const MUTEXES_AND_MOMENTS: &[Scenario] = &[
     Scenario {
         shows: "an owner is not held up by its own mutex, and a swap takes it back",
         threads: 4,
@@ -228,5 +249,7 @@ const SCENARIOS: &[Scenario] = &[
 
 #[test]
 fn corners_answer_as_the_reference(rt: HostRuntime) -> Result<(), Fail> {
-    play_all(&rt, SCENARIOS)
+    play_all(&rt, apcs_of_timers())?;
+    play_all(&rt, taking_apcs())?;
+    play_all(&rt, mutexes_and_moments())
 }

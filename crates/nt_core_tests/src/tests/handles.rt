@@ -27,7 +27,12 @@ const ALL_OF_EVENT: u32 = 0x0010_0002;
 /// Both rights of a thread.
 const ALL_OF_THREAD: u32 = 0x0010_0010;
 
-const SCENARIOS: &[Scenario] = &[
+/// Handles for one object, and what each may be used for.
+fn duplicates() -> &'static [Scenario] {
+    DUPLICATES
+}
+
+const DUPLICATES: &[Scenario] = &[
     Scenario {
         shows: "a duplicate that may only wait",
         threads: 2,
@@ -92,6 +97,14 @@ const SCENARIOS: &[Scenario] = &[
             Call(1, Apc(1, 1), &[3], INVALID_HANDLE, &[]),
         ],
     },
+];
+
+/// When a missing right is told.
+fn missing_rights() -> &'static [Scenario] {
+    MISSING_RIGHTS
+}
+
+const MISSING_RIGHTS: &[Scenario] = &[
     Scenario {
         shows: "a missing right comes right after handles that name nothing fit",
         threads: 2,
@@ -170,6 +183,14 @@ const SCENARIOS: &[Scenario] = &[
             Call(0, Unlock, &[1], Done, &[]),
         ],
     },
+];
+
+/// The numbers of handles and of objects.
+fn numbers() -> &'static [Scenario] {
+    NUMBERS
+}
+
+const NUMBERS: &[Scenario] = &[
     Scenario {
         shows: "what a duplicate is refused for",
         threads: 1,
@@ -257,11 +278,15 @@ const ALL_NUMBERS: &[Scenario] = &[Scenario {
 
 #[test]
 fn handles_name_objects_with_rights(rt: HostRuntime) -> Result<(), Fail> {
-    play_all(&rt, SCENARIOS)?;
+    play_all(&rt, duplicates())?;
+    play_all(&rt, missing_rights())?;
+    play_all(&rt, numbers())?;
     play_all(&rt, ALL_NUMBERS)
 }
 
 #[test]
 fn handles_name_objects_in_copies_too(rt: HostRuntime) -> Result<(), Fail> {
-    play_all_in_both(&rt, SCENARIOS)
+    play_all_in_both(&rt, duplicates())?;
+    play_all_in_both(&rt, missing_rights())?;
+    play_all_in_both(&rt, numbers())
 }

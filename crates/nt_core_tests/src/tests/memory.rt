@@ -46,14 +46,11 @@ pub fn let_go(_core: Core) {}
 
 /// An equal dispatcher, with a second try where memory is refused.
 pub fn copy_at_last(rt: &impl Host, core: &Core) -> Result<Core, Refusal> {
-    match core.copy() {
-        Ok(copied) => Ok(copied),
-        Err(refusal) => {
-            assert_eq!(rt; refusal.number(), NOT_ENOUGH_MEMORY);
-            tell_refused(rt, "a copy");
-            core.copy()
-        }
-    }
+    core.copy().or_else(|refusal| {
+        assert_eq!(rt; refusal.number(), NOT_ENOUGH_MEMORY);
+        tell_refused(rt, "a copy");
+        core.copy()
+    })
 }
 
 /// Whether the last call ended no wait, began none where so many pended, and tested none.

@@ -1,4 +1,4 @@
 use Rattle.nt_core.proofs.dispatcher.Core.due.Goals as goal
 
-pub returns-in-None : goal.returns-in-None
-returns-in-None c = rw c.self.view_is at c.in-None.ensures
+pub returns-in_err-moment : goal.returns-in_err-moment
+returns-in_err-moment c = rw c.from_residual.ensures (rw c.self.view_is at c.in_err-moment.ensures)
