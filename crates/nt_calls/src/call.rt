@@ -1,3 +1,4 @@
+//! The calls, and their answers.
 use nt_apc::Apc;
 use nt_status::{Handle, Handles, Status, ThreadId};
 

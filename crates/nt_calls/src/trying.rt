@@ -1,3 +1,4 @@
+//! How a wait is tried on the objects, and what it takes of them.
 ghost use Rattle.std.specs.Prelude.{◌≡◌, ◌≤◌, ◌<◌, IsTrue, IfNone, None, true, false, length, nat_eq};
 ghost use Rattle.std.specs.List.{position, list_all, list_any, IsDistinct};
 ghost use Rattle.nt_objects.specs.declared.object.Object.{Object};

@@ -12,7 +12,8 @@
 //! object once, answers the first cause that refuses the call, and else makes the change where the object stands; then the waits that the
 //! change may end are served. Last of all the objects end that nothing keeps any more. A refused call changes nothing.
 //!
-//! What a call has to do is said in `specs/` (`Step`, `Called`), and nothing of it is said by this code: that page comes first.
+//! What a call has to do is said by the definitions of `nt_calls` (`Step`, `Called`), and nothing of it is said by this code: that page
+//! comes first. What refuses a call, and what a wait takes, is asked of that crate too.
 #![tactic(auto)]
 
 // What a caller sees.
@@ -22,7 +23,7 @@ mod readers;
 mod alerted;
 mod calls;
 mod machine;
-// Waits: how they begin, are tried, and are served.
+// Waits: how they begin, and are served.
 mod serving;
 mod waiting;
 // The calls by their objects.
