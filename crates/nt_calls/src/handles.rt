@@ -1,5 +1,5 @@
 //! What the handles of a call name.
-ghost use Rattle.std.specs.Prelude.{◌≡◌, ◌≤◌, ◌||◌, false, length, nat_lt, is_some, map, slice_get, IfNone};
+ghost use Rattle.std.specs.Prelude.{◌≡◌, ◌≤◌, ◌||◌, false, [], length, nat_lt, is_some, map, slice_get, IfNone};
 ghost use Rattle.std.specs.List.{list_any};
 ghost use Rattle.std.specs.Option.{option_copied};
 ghost use Rattle.nt_status.specs.declared.limits.TheConstants.{MAX_WAIT_OBJECTS};
@@ -7,8 +7,9 @@ ghost use Rattle.nt_objects.specs.declared.object.Object.TheVariants.{Thread};
 ghost use Rattle.nt_calls.specs.State.{object_at};
 ghost use Rattle.nt_calls.specs.Naming.{object_named, lacks};
 
+use arrayvec::ArrayVec;
 use nt_objects::{HandleTable, Object};
-use nt_status::{Handle, MAX_HANDLES, NamedObjects};
+use nt_status::{Handle, MAX_HANDLES, MAX_WAIT_OBJECTS};
 
 /// A number that no object has: the numbers of objects are below it.
 const NO_OBJECT: u32 = MAX_HANDLES as u32;
@@ -21,6 +22,9 @@ pub const MODIFY_STATE: u32 = 0x0002;
 
 /// THREAD_SET_CONTEXT.
 pub const SET_CONTEXT: u32 = 0x0010;
+
+/// The numbers of the objects that a wait names, at most as many as it may name. They lie in the value itself.
+pub type NamedObjects = ArrayVec<Handle, MAX_WAIT_OBJECTS>;
 
 /// The number of the object that the handle names, and one that no object has where it names none.
 pub fn object_named(handles: &HandleTable, handle: Handle) -> Handle
@@ -45,13 +49,13 @@ pub fn opened(handles: &HandleTable, handle: Handle, access: u32) -> (Handle, bo
     (object, held & access != access)
 }
 
-/// The numbers of the objects that the handles name, in this order. Answers whether one of the handles may not be waited for.
+/// Lists the numbers of the objects that the handles name, in this order. Answers whether one of the handles may not be waited for.
 pub fn name_all(handles: &HandleTable, these: &[Handle], named: &mut NamedObjects) -> bool
-    requires { length these.now ≤ MAX_WAIT_OBJECTS }
+    requires few { length these.now ≤ MAX_WAIT_OBJECTS }
+    requires empty { named.old.items ≡ [] }
     ensures denied { result ≡ list_any (lacks 0x00100000 handles.now.opened) these.now }
-    ensures items { named.new ≡ map (object_named handles.now.opened) these.now }
+    ensures items { named.new.items ≡ map (object_named handles.now.opened) these.now }
 {
-    named.clear();
     let mut denied = false;
     for handle in these {
         let (object, held) = match handles.get(*handle) {

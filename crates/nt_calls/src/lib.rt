@@ -22,7 +22,9 @@ mod timing;
 mod trying;
 
 pub use call::{Act, Call, Grant, Reply, WaitCall};
-pub use handles::{MODIFY_STATE, SET_CONTEXT, SYNCHRONIZE, name_all, named, object_named, opened};
+pub use handles::{
+    MODIFY_STATE, NamedObjects, SET_CONTEXT, SYNCHRONIZE, name_all, named, object_named, opened,
+};
 pub use objects::{count_living, is_set_by};
 pub use refusals::{
     apc_refusal, arm_refusal, close_refusal, duplicate_refusal, is_unknown, judged,

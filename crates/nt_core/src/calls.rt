@@ -15,7 +15,7 @@ ghost use Rattle.nt_core.specs.Accepts.{IsFresh, IsFree, IsLocal, IsActMade};
 
 use crate::machine::Machine;
 use nt_calls::{Act, Call, Reply};
-use nt_status::{ChangedObjects, NamedObjects, Refusal, ThreadId};
+use nt_status::{ChangedObjects, Refusal, ThreadId};
 
 impl Machine {
     /// The refusal that every call of this thread must meet, if any.
@@ -86,7 +86,6 @@ impl Machine {
         &mut self,
         who: u32,
         call: &Call,
-        numbers: &mut NamedObjects,
         changed: &mut ChangedObjects,
     ) -> Result<Reply, Refusal>
         requires steady { IsSteady self.old }
@@ -104,7 +103,7 @@ impl Machine {
         let thread = ThreadId::new(who as u16);
         match call {
             Call::Act(act) => self.act(thread, act),
-            Call::Wait(wait) => self.wait(thread, wait, numbers),
+            Call::Wait(wait) => self.wait(thread, wait),
             Call::Exit => {
                 self.exit(thread, changed);
                 Ok(Reply::Done)
@@ -118,7 +117,6 @@ impl Machine {
         &mut self,
         who: u32,
         call: &Call,
-        numbers: &mut NamedObjects,
         changed: &mut ChangedObjects,
     ) -> Result<Reply, Refusal>
         requires steady { IsSteady self.old }
@@ -130,7 +128,7 @@ impl Machine {
             (call_named self.old.handles call.now) self.new.table.looked self.new.grants) }
         ensures untested { OnErr result (self.new.table.looked ≡ 0) }
     {
-        let reply = self.make(who, call, numbers, changed)?;
+        let reply = self.make(who, call, changed)?;
         self.end_forgotten();
         Ok(reply)
     }

@@ -13,7 +13,7 @@ ghost use Rattle.nt_calls.specs.Moves.{Moves, IsMomentAfter, pended, is_wait};
 use crate::alerted::AlertedThreads;
 use crate::machine::Machine;
 use nt_calls::{Call, Grant, Reply, count_living};
-use nt_status::{ChangedObjects, MAX_THREADS, Moment, NamedObjects, Refusal};
+use nt_status::{ChangedObjects, MAX_THREADS, Moment, Refusal};
 use std::alloc::Global;
 use std::marker::Model;
 
@@ -21,8 +21,6 @@ use std::marker::Model;
 #[derive(Drop)]
 pub struct Core {
     pub(crate) machine: Machine,
-    /// For the numbers of the objects that a wait names.
-    numbers: NamedObjects,
     /// For the objects that a call or a moment of a tick changes.
     changed: ChangedObjects,
     /// For the threads that a moment of a tick alerts.
@@ -59,14 +57,12 @@ impl Core {
         if threads == 0 || threads > MAX_THREADS {
             return Err(Refusal::InvalidParameter);
         }
-        let numbers = NamedObjects::new(alloc)?;
         let changed = ChangedObjects::new(alloc)?;
         let alerted = AlertedThreads::new(alloc)?;
         let machine = Machine::new(alloc, threads)?;
         machine.objects.agree();
         Ok(Core {
             machine,
-            numbers,
             changed,
             alerted,
         })
@@ -89,7 +85,7 @@ impl Core {
     {
         let result = self
             .machine
-            .call(who, call, &mut self.numbers, &mut self.changed);
+            .call(who, call, &mut self.changed);
         let machine = &self.machine;
         machine.objects.agree();
         result
@@ -166,13 +162,11 @@ impl Core {
         ensures memory { IfErr result (λ refusal. refusal ≡ Memory) }
     {
         let alloc = *self.machine.grants.allocator();
-        let numbers = NamedObjects::new(alloc)?;
         let changed = ChangedObjects::new(alloc)?;
         let alerted = AlertedThreads::new(alloc)?;
         let machine = self.machine.copy()?;
         Ok(Core {
             machine,
-            numbers,
             changed,
             alerted,
         })

@@ -18,10 +18,10 @@ ghost use Rattle.nt_core.specs.Accepts.{IsFresh, IsFree, HasBegun, begins_pendin
 
 use crate::machine::Machine;
 use nt_calls::{
-    Reply, SYNCHRONIZE, WaitCall, deadline_after, late_status, name_all, objects_refusal, opened,
-    try_wait,
+    NamedObjects, Reply, SYNCHRONIZE, WaitCall, deadline_after, late_status, name_all,
+    objects_refusal, opened, try_wait,
 };
-use nt_status::{Handle, MAX_WAIT_OBJECTS, NamedObjects, Refusal, Status, ThreadId};
+use nt_status::{Handle, MAX_WAIT_OBJECTS, Refusal, Status, ThreadId};
 use nt_waits::About;
 
 impl Machine {
@@ -192,7 +192,6 @@ impl Machine {
         all: bool,
         ms: u32,
         alertable: bool,
-        numbers: &mut NamedObjects,
     ) -> Result<Reply, Refusal>
         requires fresh { IsFresh self.old }
         requires caller { IsFree (state self.old) thread }
@@ -202,21 +201,34 @@ impl Machine {
             let (object, denied) = opened(&self.handles, *handle, SYNCHRONIZE);
             return self.wait_for(thread, denied, &[object], all, ms, alertable);
         }
+        self.wait_for_several(thread, these, all, ms, alertable)
+    }
+
+    /// The same for any number of handles. It stands apart, since the list of their objects lies in its own frame.
+    #[inline(never)]
+    fn wait_for_several(
+        &mut self,
+        thread: ThreadId,
+        these: &[Handle],
+        all: bool,
+        ms: u32,
+        alertable: bool,
+    ) -> Result<Reply, Refusal>
+        requires fresh { IsFresh self.old }
+        requires caller { IsFree (state self.old) thread }
+        ensures { IsWaitMade self.old self.new thread (WaitCall.Objects all alertable ms these.now) result }
+    {
         if these.len() > MAX_WAIT_OBJECTS {
             return Err(Refusal::InvalidParameter);
         }
-        let denied = name_all(&self.handles, these, numbers);
+        let mut numbers = NamedObjects::new();
+        let denied = name_all(&self.handles, these, &mut numbers);
         self.wait_for(thread, denied, numbers.as_slice(), all, ms, alertable)
     }
 
     /// A waiting call, begun or refused by its own causes.
     #[inline(always)]
-    pub(crate) fn wait(
-        &mut self,
-        thread: ThreadId,
-        call: &WaitCall,
-        numbers: &mut NamedObjects,
-    ) -> Result<Reply, Refusal>
+    pub(crate) fn wait(&mut self, thread: ThreadId, call: &WaitCall) -> Result<Reply, Refusal>
         requires fresh { IsFresh self.old }
         requires caller { IsFree (state self.old) thread }
         ensures { IsWaitMade self.old self.new thread call.now result }
@@ -227,7 +239,7 @@ impl Machine {
                 all,
                 ms,
                 alertable,
-            } => self.wait_for_objects(thread, handles.as_slice(), *all, *ms, *alertable, numbers),
+            } => self.wait_for_objects(thread, handles.as_slice(), *all, *ms, *alertable),
             WaitCall::Sleep { ms, alertable } => self.begin_wait(
                 thread,
                 &[],

@@ -14,7 +14,7 @@ use Rattle.nt_calls.specs.declared.call.Call.{Call}
 use Rattle.nt_calls.specs.declared.call.WaitCall.{WaitCall}
 use Rattle.nt_core.proofs.Closing.{all_living}
 use Rattle.nt_core.proofs.Making.{refused_made}
-use Rattle.nt_core.proofs.machine.Machine.wait_for_objects.Goals as goal
+use Rattle.nt_core.proofs.machine.Machine.wait_for_several.Goals as goal
 
 -- as many numbers as handles: more than one wait may name
 pub returns-then-these-gt-MAX_WAIT_OBJECTS : goal.returns-then-these-gt-MAX_WAIT_OBJECTS
@@ -28,9 +28,9 @@ returns-then-these-gt-MAX_WAIT_OBJECTS c =
     refused_made d c.args.thread denied (Call.Wait (WaitCall.Objects c.args.all c.args.alertable c.args.ms named)) InvalidParameter c.requires.fresh c.requires.caller
     (ap (λ (b : Bool). first_of_causes ((b, InvalidParameter) ∷ (list_any (is_unknown d.objects) named, InvalidHandle) ∷ (denied, AccessDenied) ∷ (has_twice named, InvalidParameter) ∷ (list_any (is_at_limit d.objects c.args.thread) named, RecursionLimit) ∷ [])) many)
 
-pub wait_for-requires-2-clause-living : goal.wait_for-requires-2-clause-living
-wait_for-requires-2-clause-living c =
+pub wait_for-requires-clause-living : goal.wait_for-requires-clause-living
+wait_for-requires-clause-living c =
     let d = c.args.self.now in
     let numbers : c.as_slice.result.now ≡ map (object_named d.handles) c.args.these.now =
-    c.as_slice.ensures ∙ (c.name_all-denied.ensures.items ∙ ap (λ (x : Dispatcher). map (object_named x.handles) c.args.these.now) c.self-2.view_is) in
+    c.as_slice.ensures.value ∙ (c.name_all-denied.ensures.items ∙ ap (λ (x : Dispatcher). map (object_named x.handles) c.args.these.now) c.self.view_is) in
     subst (λ (list : List ℕ). (h : ℕ) → IsMember list h → h < length d.objects → is_gone (object_at d.objects h) ≡ false) (sym numbers) (all_living d c.args.these.now c.requires.fresh.steady.sound)
