@@ -75,17 +75,33 @@ impl Alarms {
         Ok(())
     }
 
-    /// Adds a place to these alarms, with no alarm, and one to the marks, with no mark, both last; where memory is refused, to
-    /// neither.
-    pub fn add_with(&mut self, marks: &mut Marks) -> Result<(), AllocError>
+    /// Adds a place to these alarms and one to the others, both last, with no alarm; where memory is refused, to neither.
+    pub fn add_both(&mut self, others: &mut Alarms) -> Result<(), AllocError>
         ensures ok { OnOk result (self.new ≡ self.old ++ None ∷ []) }
-        ensures marks { OnOk result (marks.new ≡ marks.old ++ None ∷ []) }
+        ensures others { OnOk result (others.new ≡ others.old ++ None ∷ []) }
         ensures err { OnErr result (self.new ≡ self.old) }
-        ensures kept { OnErr result (marks.new ≡ marks.old) }
+        ensures kept { OnErr result (others.new ≡ others.old) }
     {
         self.alarms.reserve(1)?;
         self.firsts.reserve(1)?;
-        marks.add()?;
+        others.add()?;
+        self.alarms.push_reserved(None);
+        self.firsts.push_reserved(None);
+        Ok(())
+    }
+
+    /// Adds a place to these alarms, with no alarm, and one to each of two kinds of marks, with no mark, all last; where memory is
+    /// refused, to none.
+    pub fn add_with(&mut self, marks: &mut Marks, more: &mut Marks) -> Result<(), AllocError>
+        ensures ok { OnOk result (self.new ≡ self.old ++ None ∷ []) }
+        ensures marks { OnOk result (marks.new ≡ marks.old ++ None ∷ []) }
+        ensures more { OnOk result (more.new ≡ more.old ++ None ∷ []) }
+        ensures err { OnErr result (self.new ≡ self.old) }
+        ensures kept { OnErr result ((marks.new ≡ marks.old) × (more.new ≡ more.old)) }
+    {
+        self.alarms.reserve(1)?;
+        self.firsts.reserve(1)?;
+        marks.add_both(more)?;
         self.alarms.push_reserved(None);
         self.firsts.push_reserved(None);
         Ok(())

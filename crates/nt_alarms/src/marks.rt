@@ -67,6 +67,16 @@ impl Marks {
         self.others.add()
     }
 
+    /// Adds a place to these marks and one to the others, both last, with no mark; where memory is refused, to neither.
+    pub fn add_both(&mut self, others: &mut Marks) -> Result<(), AllocError>
+        ensures ok { OnOk result (self.new ≡ self.old ++ None ∷ []) }
+        ensures others { OnOk result (others.new ≡ others.old ++ None ∷ []) }
+        ensures err { OnErr result (self.new ≡ self.old) }
+        ensures kept { OnErr result (others.new ≡ others.old) }
+    {
+        self.others.add_both(&mut others.others)
+    }
+
     /// Marks this place.
     pub fn set(&mut self, place: usize)
         requires { place < length self.old }

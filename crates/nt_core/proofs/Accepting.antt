@@ -157,8 +157,8 @@ quiet_alarms zero h = refl
 quiet_alarms (suc n) zero = refl
 quiet_alarms (suc n) (suc h) = quiet_alarms n h
 
-pub opening_steady : (d : Dispatcher) → d.threads ≤ MAX_THREADS → d.handles ≡ own_handles d.threads (full_access (Thread false)) → d.objects ≡ replicate d.threads (Thread false) → d.table.pending ≡ fin.empty → Agrees d.table.pending d.table.queues → length d.handing ≡ d.threads → length d.apcs.queues ≡ d.threads → d.grants ≡ [] → d.alarms ≡ replicate d.threads None → d.leaving ≡ replicate d.threads None → IsSteady d
-opening_steady d few handles objects waits agrees hands inboxes grants alarms leaving = record {
+pub opening_steady : (d : Dispatcher) → d.threads ≤ MAX_THREADS → d.handles ≡ own_handles d.threads (full_access (Thread false)) → d.objects ≡ replicate d.threads (Thread false) → d.table.pending ≡ fin.empty → Agrees d.table.pending d.table.queues → length d.handing ≡ d.threads → length d.apcs.queues ≡ d.threads → d.grants ≡ [] → d.alarms ≡ replicate d.threads None → d.leaving ≡ replicate d.threads None → d.marked.changed ≡ replicate d.threads None → d.marked.alerted ≡ replicate d.threads None → IsSteady d
+opening_steady d few handles objects waits agrees hands inboxes grants alarms leaving changed alerted = record {
   sound = record {
     few = few;
     waits = λ t w pends. nobody t w pends;
@@ -176,12 +176,20 @@ opening_steady d few handles objects waits agrees hands inboxes grants alarms le
     };
     handles = subst (λ (hs : List (Option Opened)). HandlesAgree (length d.objects) hs) (sym handles) (handles_along (own_handles d.threads (full_access (Thread false))) (ap (λ os. length os) objects ∙ length-replicate d.threads (Thread false)) (own_agree d.threads (full_access (Thread false)) few));
     marks = marks_opening d objects leaving running;
+    places = record {
+      changed = ap (λ marks. length marks) changed ∙ (length-replicate d.threads None ∙ sym (ap (λ os. length os) objects ∙ length-replicate d.threads (Thread false)));
+      alerted = ap (λ marks. length marks) alerted ∙ length-replicate d.threads None;
+    };
     room = let none : length d.grants ≡ 0 = ap (λ gs. length gs) grants in let empty : fin.len d.table.pending ≡ 0 = ap (λ m. fin.len m) waits ∙ fin.len-empty nat_cmp Wait in omega (arith, none, empty);
   };
   settled = record {
     served = λ t. unfit t (fin.get d.table.pending t) refl;
     alerted = λ t alerted. nobody t alerted.0 alerted.1;
     passed = not_due;
+  };
+  unmarked = record {
+    changed = λ place at. nobody_set 0 (sym (ap (λ marks. alarm_at marks place) changed ∙ quiet_alarms d.threads place) ∙ at);
+    alerted = λ place at. nobody_set 0 (sym (ap (λ marks. alarm_at marks place) alerted ∙ quiet_alarms d.threads place) ∙ at);
   };
 }
   where
@@ -222,9 +230,11 @@ told_anew d table steady is = subst (λ (v : Waits). IsFresh (record d { table =
       timers = steady.sound.timers;
       handles = steady.sound.handles;
       marks = marks_along refl refl refl (λ o. refl) refl steady.sound.marks;
+      places = steady.sound.places;
       room = let room = steady.sound.room in omega (arith, room);
     };
     settled = steady.settled;
+    unmarked = steady.unmarked;
   };
   no_grants = refl;
   untested = refl;

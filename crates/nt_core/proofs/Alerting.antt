@@ -22,7 +22,7 @@ use Rattle.nt_calls.specs.State.{State, pends, wait_over, waits_over, object_at}
 use Rattle.nt_core.specs.Dispatcher.{Dispatcher, state}
 use Rattle.nt_calls.specs.Serving.{satisfied, IsServed, IsAlerted, Alert, ending}
 use Rattle.nt_calls.specs.Steps.{NothingDue, IsAwaited}
-use Rattle.nt_core.specs.Lawful.{IsSound, IsSettled, IsSteady, MarksAgreeBut}
+use Rattle.nt_core.specs.Lawful.{IsSound, IsSettled, IsSteady, MarksAgreeBut, IsUnmarked}
 use Rattle.nt_core.specs.Accepts.{is_by_objects, IsRoused, IsAlertedAfter, IsFresh, Accepts}
 use Rattle.nt_core.proofs.Marking.{marks_along, marks_ended}
 use Rattle.nt_core.proofs.Walks.{get_removed}
@@ -53,6 +53,7 @@ ended_sound old table t code may w grants leaving sound has waits agrees pushed 
       timers = sound.timers;
       handles = sound.handles;
       marks = marks;
+      places = sound.places;
       room = omega (arith, sound.room, longer, fewer, same);
     }
 
@@ -75,8 +76,8 @@ pending_wait s t has = go (fin.get s.waits t) refl has
 
 -- ---- alerts of one thread, or of none
 
-pub one_alerted : (old new : Dispatcher) (t : ℕ) → IsAlerted (state old) t → ((u : ℕ) → IsAlerted (state old) u → u ≡ t) → state new ≡ wait_over (state old) t true → new.grants ≡ old.grants ++ ending io_completion_code t ∷ [] → new.table.looked ≡ old.table.looked → IsAlertedAfter old new
-one_alerted old new t here alone over grants looked = record {
+pub one_alerted : (old new : Dispatcher) (t : ℕ) → IsAlerted (state old) t → ((u : ℕ) → IsAlerted (state old) u → u ≡ t) → state new ≡ wait_over (state old) t true → new.grants ≡ old.grants ++ ending io_completion_code t ∷ [] → new.table.looked ≡ old.table.looked → new.marked ≡ old.marked → IsAlertedAfter old new
+one_alerted old new t here alone over grants looked marked = record {
   ended = ending io_completion_code t ∷ [];
   alerts = record {
     threads = t ∷ [];
@@ -89,6 +90,7 @@ one_alerted old new t here alone over grants looked = record {
   };
   grants = grants;
   looked = looked;
+  marked = marked;
 }
   where
     member : (u : ℕ) → (t ≡ u) ⊎ ⊥ → IsAlerted (state old) u
@@ -106,11 +108,12 @@ none_alerted old calm = record {
   };
   grants = sym (append-nil old.grants);
   looked = refl;
+  marked = refl;
 }
 
 -- one thread was roused, or was not to be alerted, and no other was
 pub roused_alone : (old new : Dispatcher) (t : ℕ) → IsRoused old new t → ((u : ℕ) → IsAlerted (state old) u → u ≡ t) → IsAlertedAfter old new
-roused_alone old new t (inl ended) alone = one_alerted old new t ended.0 alone ended.1 ended.2 ended.3
+roused_alone old new t (inl ended) alone = one_alerted old new t ended.0 alone ended.1 ended.2 ended.3 ended.4
 roused_alone old new t (inr quiet) alone = subst (IsAlertedAfter old) (sym quiet.1) (none_alerted old (λ u alerted. quiet.0 (subst (IsAlerted (state old)) (alone u alerted) alerted)))
 
 about_none : (o : Option Wait) → option_map about_of o ≡ None → o ≡ None
@@ -221,6 +224,7 @@ posted_sound d t q sound = record {
   timers = sound.timers;
   handles = sound.handles;
   marks = marks_along refl refl refl (λ o. refl) refl sound.marks;
+  places = sound.places;
   room = sound.room;
 }
 
@@ -241,6 +245,7 @@ queued_accepted old new t h routine arg fresh sound after = record {
   steady = record {
     sound = sound;
     settled = alerted_settled (state mid) (state new) after.ended after.alerts served fresh.steady.settled.passed;
+    unmarked = subst IsUnmarked (sym after.marked) fresh.steady.unmarked;
   };
   local = record {
     handles = [];
@@ -275,6 +280,7 @@ taken_steady d t steady idle = record {
     timers = steady.sound.timers;
     handles = steady.sound.handles;
     marks = marks_along refl refl refl (λ o. refl) refl steady.sound.marks;
+    places = steady.sound.places;
     room = steady.sound.room;
   };
   settled = record {
@@ -285,6 +291,7 @@ taken_steady d t steady idle = record {
     ];
     passed = steady.settled.passed;
   };
+  unmarked = steady.unmarked;
 }
   where
     waits_not : (v : Wait) → None ≡ Some v → ⊥

@@ -26,7 +26,7 @@ use Rattle.nt_calls.specs.Serving.{is_ready, sequence, Serve}
 use Rattle.nt_calls.specs.Change.{change}
 use Rattle.nt_calls.specs.Steps.{NothingDue}
 use Rattle.nt_core.specs.Visits.{FitOnlyIn}
-use Rattle.nt_core.specs.Lawful.{IsSound, IsSteady, IsSettled}
+use Rattle.nt_core.specs.Lawful.{IsSound, IsSteady, IsSettled, IsUnmarked}
 use Rattle.nt_core.specs.Accepts.{IsFresh, IsPromised, IsServedAfter, Accepts}
 use Rattle.nt_core.proofs.Changing.{object_at-set_same, object_at-set_other, served_fewer, fit_only_in, changed_at_one, one_changed}
 use Rattle.nt_core.proofs.Accepting.{IsCalm, accepted, settled_after}
@@ -156,8 +156,8 @@ unready_timed s h manual was now a setting is rises u k unready = elim (cases_eq
     stays false rises e = refl
 
 -- no object satisfies more waits than before: nothing is served
-pub set_quietly : (old new : Dispatcher) (t h : ℕ) (due period : ℤ) (routine : Option (ℕ × ℕ)) (manual was now : Bool) (a setting : Option Armed) (queues : List (List Queued)) → IsFresh old → fin.get old.table.pending t ≡ None → object_at old.objects h ≡ Timer manual was a → (now ≡ true → was ≡ true) → ((v : ℕ) → due_of (Timer manual now setting) ≡ Some v → old.now < v) → ((u : ℕ) → u ≢ t → has_apc queues u ≡ true → has_apc old.apcs.queues u ≡ true) → state new ≡ timed_state (state old) h (Timer manual now setting) queues → IsSound new → new.grants ≡ old.grants → new.table.looked ≡ old.table.looked → change (state old) t (Call.Act (Act.SetTimer h due period routine)) ≡ timed_state (state old) h (Timer manual now setting) queues → Accepts old new t (Call.Act (Act.SetTimer h due period routine)) Reply.Done
-set_quietly old new t h due period routine manual was now a setting queues fresh idle is rises later fewer becomes sound grants looked changes =
+pub set_quietly : (old new : Dispatcher) (t h : ℕ) (due period : ℤ) (routine : Option (ℕ × ℕ)) (manual was now : Bool) (a setting : Option Armed) (queues : List (List Queued)) → IsFresh old → fin.get old.table.pending t ≡ None → object_at old.objects h ≡ Timer manual was a → (now ≡ true → was ≡ true) → ((v : ℕ) → due_of (Timer manual now setting) ≡ Some v → old.now < v) → ((u : ℕ) → u ≢ t → has_apc queues u ≡ true → has_apc old.apcs.queues u ≡ true) → state new ≡ timed_state (state old) h (Timer manual now setting) queues → IsSound new → new.grants ≡ old.grants → new.table.looked ≡ old.table.looked → new.marked ≡ old.marked → change (state old) t (Call.Act (Act.SetTimer h due period routine)) ≡ timed_state (state old) h (Timer manual now setting) queues → Accepts old new t (Call.Act (Act.SetTimer h due period routine)) Reply.Done
+set_quietly old new t h due period routine manual was now a setting queues fresh idle is rises later fewer becomes sound grants looked marked changes =
     let o = Timer manual now setting in
     let s = timed_state (state old) h o queues in
     let changed = timer_changed old.objects h manual was now a setting is in
@@ -167,7 +167,7 @@ set_quietly old new t h due period routine manual was now a setting queues fresh
       alerted = calm_timed (state old) t h o queues idle fewer fresh.steady.settled.alerted;
       passed = due_timed (state old) h old.now o queues known later fresh.steady.settled.passed;
     } in
-    let steady : IsSteady new = record { sound = sound; settled = subst IsSettled (sym becomes) settled } in
+    let steady : IsSteady new = record { sound = sound; settled = subst IsSettled (sym becomes) settled; unmarked = subst IsUnmarked (sym marked) fresh.steady.unmarked } in
     accepted old new new t (Call.Act (Act.SetTimer h due period routine)) Reply.Done
     (subst (λ (x : State). IsServedAfter old x new) (sym changes) (idle_served old s new changed.0 fresh changed.1 grants looked becomes steady))
     refl refl refl steady refl
@@ -177,8 +177,8 @@ pub set_fit : (old : Dispatcher) (h : ℕ) (o : Object) (queues : List (List Que
 set_fit old h o queues fresh = fit_only_in (h ∷ []) old (set old.objects h o) fresh.steady.sound fresh.steady.settled.served (changed_at_one old.objects h o)
 
 -- the timer was not set, is set now, and the waits that name it were served
-pub set_served : (old mid new : Dispatcher) (t h : ℕ) (due period : ℤ) (routine : Option (ℕ × ℕ)) (manual : Bool) (a setting : Option Armed) (queues : List (List Queued)) → IsFresh old → fin.get old.table.pending t ≡ None → object_at old.objects h ≡ Timer manual false a → ((v : ℕ) → due_of (Timer manual true setting) ≡ Some v → old.now < v) → ((u : ℕ) → u ≢ t → has_apc queues u ≡ true → has_apc old.apcs.queues u ≡ true) → state mid ≡ timed_state (state old) h (Timer manual true setting) queues → Serve (sequence (state mid) (h ∷ [])) (state mid) new.grants (state new) → IsSound new → new.table.looked ≤ length (sequence (state mid) (h ∷ [])) → length new.grants ≤ new.table.looked → change (state old) t (Call.Act (Act.SetTimer h due period routine)) ≡ timed_state (state old) h (Timer manual true setting) queues → Accepts old new t (Call.Act (Act.SetTimer h due period routine)) Reply.Done
-set_served old mid new t h due period routine manual a setting queues fresh idle is later fewer becomes serve sound most least changes =
+pub set_served : (old mid new : Dispatcher) (t h : ℕ) (due period : ℤ) (routine : Option (ℕ × ℕ)) (manual : Bool) (a setting : Option Armed) (queues : List (List Queued)) → IsFresh old → fin.get old.table.pending t ≡ None → object_at old.objects h ≡ Timer manual false a → ((v : ℕ) → due_of (Timer manual true setting) ≡ Some v → old.now < v) → ((u : ℕ) → u ≢ t → has_apc queues u ≡ true → has_apc old.apcs.queues u ≡ true) → state mid ≡ timed_state (state old) h (Timer manual true setting) queues → Serve (sequence (state mid) (h ∷ [])) (state mid) new.grants (state new) → IsSound new → new.table.looked ≤ length (sequence (state mid) (h ∷ [])) → length new.grants ≤ new.table.looked → new.marked ≡ old.marked → change (state old) t (Call.Act (Act.SetTimer h due period routine)) ≡ timed_state (state old) h (Timer manual true setting) queues → Accepts old new t (Call.Act (Act.SetTimer h due period routine)) Reply.Done
+set_served old mid new t h due period routine manual a setting queues fresh idle is later fewer becomes serve sound most least marked changes =
     let o = Timer manual true setting in
     let s = timed_state (state old) h o queues in
     let known = known_timer old.objects h (ap is_timer is) in
@@ -191,10 +191,12 @@ set_served old mid new t h due period routine manual a setting queues fresh idle
       sound = sound;
       most = subst (λ (x : State). new.table.looked ≤ length (sequence x (h ∷ []))) becomes most;
       least = least;
+      unmarked = subst IsUnmarked (sym marked) fresh.steady.unmarked;
     } in
     let steady : IsSteady new = record {
       sound = sound;
       settled = settled_after (sequence s (h ∷ [])) s (state new) new.grants serves (calm_timed (state old) t h o queues idle fewer fresh.steady.settled.alerted) (due_timed (state old) h old.now o queues known later fresh.steady.settled.passed);
+      unmarked = after.unmarked;
     } in
     accepted old new new t (Call.Act (Act.SetTimer h due period routine)) Reply.Done
     (subst (λ (x : State). IsServedAfter old x new) (sym changes) after)
@@ -302,8 +304,8 @@ rung_after old d1 d2 h v manual was a armed is now arms rings =
     ∙ rung_state old.now (state old) h manual was a armed is (known_timer old.objects h (ap is_timer is))))
 
 -- it is not due yet
-pub set_ahead : (old new : Dispatcher) (t h : ℕ) (due period : ℤ) (routine : Option (ℕ × ℕ)) (armed : Armed) → IsFresh old → fin.get old.table.pending t ≡ None → is_timer (object_at old.objects h) ≡ true → armed ≡ asked old.now t due period routine → old.now < armed.due → state new ≡ armed_anew (state old) h armed → IsSound new → new.grants ≡ old.grants → new.table ≡ old.table → Accepts old new t (Call.Act (Act.SetTimer h due period routine)) Reply.Done
-set_ahead old new t h due period routine armed fresh idle is same ahead arms sound grants table =
+pub set_ahead : (old new : Dispatcher) (t h : ℕ) (due period : ℤ) (routine : Option (ℕ × ℕ)) (armed : Armed) → IsFresh old → fin.get old.table.pending t ≡ None → is_timer (object_at old.objects h) ≡ true → armed ≡ asked old.now t due period routine → old.now < armed.due → state new ≡ armed_anew (state old) h armed → IsSound new → new.grants ≡ old.grants → new.table ≡ old.table → new.marked ≡ old.marked → Accepts old new t (Call.Act (Act.SetTimer h due period routine)) Reply.Done
+set_ahead old new t h due period routine armed fresh idle is same ahead arms sound grants table marked =
     let parts = timer_parts (object_at old.objects h) is in
     let changes : change (state old) t (Call.Act (Act.SetTimer h due period routine)) ≡ timed_state (state old) h (Timer parts.0 false (Some armed)) (withdrawn old.apcs.queues h) =
     ap (λ (x : Armed). timer_set (state old) h x) (sym same) ∙ set_waits (state old) h parts.0 parts.1 parts.2 armed parts.3 ahead in
@@ -311,14 +313,14 @@ set_ahead old new t h due period routine armed fresh idle is same ahead arms sou
     (λ never. absurd (false≢true never))
     (λ v at. let e : Some armed.due ≡ Some v = at in let d = inside armed.due v e in omega (arith, d, ahead))
     (λ u other has. has_withdrawn h old.apcs.queues u has)
-    (arms ∙ armed_state (state old) h parts.0 parts.1 parts.2 armed parts.3) sound grants (ap (λ (x : Waits). x.looked) table) changes
+    (arms ∙ armed_state (state old) h parts.0 parts.1 parts.2 armed parts.3) sound grants (ap (λ (x : Waits). x.looked) table) marked changes
   where
     inside : (a b : ℕ) → Some a ≡ Some b → a ≡ b
     inside a b e = (cc)
 
 -- it is due, and was set before
-pub set_at_once : (old d1 new : Dispatcher) (t h v : ℕ) (due period : ℤ) (routine : Option (ℕ × ℕ)) (armed : Armed) → IsFresh old → fin.get old.table.pending t ≡ None → is_timer (object_at old.objects h) ≡ true → armed ≡ asked old.now t due period routine → v ≡ old.now → armed.due ≤ v → signaled (object_at old.objects h) t ≡ true → state d1 ≡ armed_anew (state old) h armed → state new ≡ expired v (state d1) h → IsSound new → new.grants ≡ old.grants → new.table ≡ old.table → Accepts old new t (Call.Act (Act.SetTimer h due period routine)) Reply.Done
-set_at_once old d1 new t h v due period routine armed fresh idle is same now past was arms rings sound grants table =
+pub set_at_once : (old d1 new : Dispatcher) (t h v : ℕ) (due period : ℤ) (routine : Option (ℕ × ℕ)) (armed : Armed) → IsFresh old → fin.get old.table.pending t ≡ None → is_timer (object_at old.objects h) ≡ true → armed ≡ asked old.now t due period routine → v ≡ old.now → armed.due ≤ v → signaled (object_at old.objects h) t ≡ true → state d1 ≡ armed_anew (state old) h armed → state new ≡ expired v (state d1) h → IsSound new → new.grants ≡ old.grants → new.table ≡ old.table → new.marked ≡ old.marked → Accepts old new t (Call.Act (Act.SetTimer h due period routine)) Reply.Done
+set_at_once old d1 new t h v due period routine armed fresh idle is same now past was arms rings sound grants table marked =
     let parts = timer_parts (object_at old.objects h) is in
     let known = known_timer old.objects h is in
     let reached : armed.due ≤ old.now = omega (arith, past, now) in
@@ -330,11 +332,11 @@ set_at_once old d1 new t h v due period routine armed fresh idle is same now pas
     (λ e. set_before)
     (later_rung old.now parts.0 armed reached)
     (λ u other has. fewer_rung old.apcs.queues h armed.due armed.routine t u own other has)
-    (rung_after old d1 new h v parts.0 parts.1 parts.2 armed parts.3 now arms rings) sound grants (ap (λ (x : Waits). x.looked) table) changes
+    (rung_after old d1 new h v parts.0 parts.1 parts.2 armed parts.3 now arms rings) sound grants (ap (λ (x : Waits). x.looked) table) marked changes
 
 -- it is due, was not set before, and its waits were served
-pub set_and_served : (old d1 mid new : Dispatcher) (t h v : ℕ) (due period : ℤ) (routine : Option (ℕ × ℕ)) (armed : Armed) → IsFresh old → fin.get old.table.pending t ≡ None → is_timer (object_at old.objects h) ≡ true → armed ≡ asked old.now t due period routine → v ≡ old.now → armed.due ≤ v → signaled (object_at old.objects h) t ≡ false → state d1 ≡ armed_anew (state old) h armed → state mid ≡ expired v (state d1) h → Serve (sequence (state mid) (h ∷ [])) (state mid) new.grants (state new) → IsSound new → new.table.looked ≤ length (sequence (state mid) (h ∷ [])) → length new.grants ≤ new.table.looked → Accepts old new t (Call.Act (Act.SetTimer h due period routine)) Reply.Done
-set_and_served old d1 mid new t h v due period routine armed fresh idle is same now past was arms rings serve sound most least =
+pub set_and_served : (old d1 mid new : Dispatcher) (t h v : ℕ) (due period : ℤ) (routine : Option (ℕ × ℕ)) (armed : Armed) → IsFresh old → fin.get old.table.pending t ≡ None → is_timer (object_at old.objects h) ≡ true → armed ≡ asked old.now t due period routine → v ≡ old.now → armed.due ≤ v → signaled (object_at old.objects h) t ≡ false → state d1 ≡ armed_anew (state old) h armed → state mid ≡ expired v (state d1) h → Serve (sequence (state mid) (h ∷ [])) (state mid) new.grants (state new) → IsSound new → new.table.looked ≤ length (sequence (state mid) (h ∷ [])) → length new.grants ≤ new.table.looked → new.marked ≡ old.marked → Accepts old new t (Call.Act (Act.SetTimer h due period routine)) Reply.Done
+set_and_served old d1 mid new t h v due period routine armed fresh idle is same now past was arms rings serve sound most least marked =
     let parts = timer_parts (object_at old.objects h) is in
     let known = known_timer old.objects h is in
     let reached : armed.due ≤ old.now = omega (arith, past, now) in
@@ -345,7 +347,7 @@ set_and_served old d1 mid new t h v due period routine armed fresh idle is same 
     set_served old mid new t h due period routine parts.0 parts.2 (rearmed old.now armed) (notified (withdrawn old.apcs.queues h) h armed.due armed.routine) fresh idle (parts.3 ∙ ap (λ (b : Bool). Timer parts.0 b parts.2) unset_before)
     (later_rung old.now parts.0 armed reached)
     (λ u other has. fewer_rung old.apcs.queues h armed.due armed.routine t u own other has)
-    (rung_after old d1 mid h v parts.0 parts.1 parts.2 armed parts.3 now arms rings) serve sound most least changes
+    (rung_after old d1 mid h v parts.0 parts.1 parts.2 armed parts.3 now arms rings) serve sound most least marked changes
 
 -- what fits then names the timer
 pub set_local : (old d1 mid : Dispatcher) (h v : ℕ) (armed : Armed) → IsFresh old → is_timer (object_at old.objects h) ≡ true → v ≡ old.now → state d1 ≡ armed_anew (state old) h armed → state mid ≡ expired v (state d1) h → FitOnlyIn (sequence (state mid) (h ∷ [])) (state mid)

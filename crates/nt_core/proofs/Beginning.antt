@@ -15,7 +15,7 @@ use Rattle.nt_waits.specs.Waits.{Waits, queue_of, Agrees, Names}
 use Rattle.nt_calls.specs.declared.call.Reply.{Reply}
 use Rattle.nt_calls.specs.State.{State, Pending, names, pending_too}
 use Rattle.nt_core.specs.Dispatcher.{Dispatcher, state}
-use Rattle.nt_core.specs.Lawful.{IsSoundWait, IsSound}
+use Rattle.nt_core.specs.Lawful.{IsSoundWait, IsSound, IsUnmarked}
 use Rattle.std.proofs.lemmas.List.{length-set}
 use Rattle.nt_status.specs.declared.limits.TheConstants.{INFINITE}
 use Rattle.nt_apc.specs.Queues.{has_apc}
@@ -105,6 +105,7 @@ sound_begun old table t w sound able idle room pending agrees more = record {
   timers = sound.timers;
   handles = sound.handles;
   marks = marks_begun old table more sound.marks;
+  places = sound.places;
   room = let more = len_inserted old.table.pending t w idle in let same : fin.len table.pending ≡ fin.len (fin.insert old.table.pending t w) = ap (λ m. fin.len m) pending in omega (arith, room, more, same);
 }
   where
@@ -243,6 +244,7 @@ began_taken old objects owned t code w steady able idle tried =
         timers = taken_timers old.threads old.objects objects old.alarms old.apcs.places t sound.timers well;
         handles = handles_along old.handles well.length sound.handles;
         marks = marks_same old new refl refl refl (λ h. refl) well.length well.gone well.ended sound.marks;
+        places = record { changed = sound.places.changed ∙ sym well.length; alerted = sound.places.alerted };
         room = sound.room;
       };
       settled = record {
@@ -250,6 +252,7 @@ began_taken old objects owned t code w steady able idle tried =
         alerted = steady.settled.alerted;
         passed = due_kept (state old) (state new) old.now (λ h. inl (subst (λ (os : List Object). due_of (object_at os h) ≡ due_of (object_at old.objects h)) (sym tried.2) (due_taken_by old.objects t w h))) refl steady.settled.passed;
       };
+      unmarked = steady.unmarked;
     }
 
 -- its timeout is 0, or an APC is queued: only whether it may take its APCs is changed
@@ -267,6 +270,7 @@ handed_steady old t may steady = record {
     timers = steady.sound.timers;
     handles = steady.sound.handles;
     marks = marks_along refl refl refl (λ o. refl) refl steady.sound.marks;
+    places = steady.sound.places;
     room = steady.sound.room;
   };
   settled = record {
@@ -274,11 +278,12 @@ handed_steady old t may steady = record {
     alerted = steady.settled.alerted;
     passed = steady.settled.passed;
   };
+  unmarked = steady.unmarked;
 }
 
 -- it pends
-pub began_pending : (old new : Dispatcher) (t ms : ℕ) (w : Wait) → IsSteady old → fits old.objects t w ≡ false → (w.alertable && has_apc old.apcs.queues t) ≡ false → ms ≢ 0 → w.deadline ≡ deadline_after old.now ms → state new ≡ pending_too (state old) t w → IsSound new → IsSteady new
-began_pending old new t ms w steady unfit quiet later deadline becomes sound =
+pub began_pending : (old new : Dispatcher) (t ms : ℕ) (w : Wait) → IsSteady old → fits old.objects t w ≡ false → (w.alertable && has_apc old.apcs.queues t) ≡ false → ms ≢ 0 → w.deadline ≡ deadline_after old.now ms → state new ≡ pending_too (state old) t w → IsSound new → new.marked ≡ old.marked → IsSteady new
+began_pending old new t ms w steady unfit quiet later deadline becomes sound marked =
     record {
       sound = sound;
       settled = subst IsSettled (sym becomes) (record {
@@ -286,6 +291,7 @@ began_pending old new t ms w steady unfit quiet later deadline becomes sound =
         alerted = λ u alerted. unalerted u alerted.0 alerted.2 (get_inserted old.table.pending t u w alerted.0 alerted.1);
         passed = passed;
       });
+      unmarked = subst IsUnmarked (sym marked) steady.unmarked;
     }
   where
     unalerted : (u : ℕ) (v : Wait) → (v.alertable && has_apc old.apcs.queues u) ≡ true → ((u ≡ t) × (w ≡ v)) ⊎ (fin.get old.table.pending u ≡ Some v) → ⊥

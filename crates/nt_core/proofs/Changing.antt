@@ -205,6 +205,7 @@ sound_replaced d h o owned sound may = record {
   timers = timers_kept d.threads d.objects (set d.objects h o) d.alarms d.apcs.places sound.timers (length-set d.objects h o) (reading_set due_of d.objects h o may.due) (reading_set setter_of d.objects h o may.setter) (reading_set has_ended d.objects h o may.ended);
   handles = handles_along d.handles (length-set d.objects h o) sound.handles;
   marks = marks_same d (record d { objects = set d.objects h o; owned = owned }) refl refl refl (λ k. refl) (length-set d.objects h o) (reading_set is_gone d.objects h o may.gone) (reading_set has_ended d.objects h o may.ended) sound.marks;
+  places = record { changed = sound.places.changed ∙ sym (length-set d.objects h o); alerted = sound.places.alerted };
   room = sound.room;
 }
 
@@ -215,7 +216,7 @@ reading_created f [] o same (suc k) = refl
 reading_created f (x ∷ os) o same zero = refl
 reading_created f (x ∷ os) o same (suc k) = reading_created f os o same k
 
-alarm_created : (alarms : List (Option ℕ)) (h : ℕ) → alarm_at (alarms ++ None ∷ []) h ≡ alarm_at alarms h
+pub alarm_created : (alarms : List (Option ℕ)) (h : ℕ) → alarm_at (alarms ++ None ∷ []) h ≡ alarm_at alarms h
 alarm_created [] zero = refl
 alarm_created [] (suc h) = refl
 alarm_created (a ∷ alarms) zero = refl
@@ -264,6 +265,10 @@ sound_created d o owned sound room lawful no_thread alive due = record {
   };
   handles = handles_created (length (d.objects ++ o ∷ [])) d.handles (length d.objects) (full_access o) (grind (arith, nat_tests, room)) sound.handles (length-append d.objects (o ∷ []));
   marks = marks_created d o owned sound.handles alive sound.marks;
+  places = record {
+    changed = let objects = length-append d.objects (o ∷ []) in let marks = length-append d.marked.changed (None ∷ []) in let before = sound.places.changed in omega (arith, objects, marks, before);
+    alerted = sound.places.alerted;
+  };
   own = λ t below.
       let before = sound.own t below in (
         let longer = length-append d.objects (o ∷ []) in omega (arith, longer, before.0),

@@ -126,6 +126,7 @@ closed_accepted old new t h opened fresh is becomes =
         timers = before.timers;
         handles = handles_closed (length old.objects) old.handles h before.handles;
         marks = marks_closed old h opened is (before.handles.named h opened is) before.marks;
+        places = before.places;
         room = before.room;
       };
       settled = record {
@@ -133,4 +134,5 @@ closed_accepted old new t h opened fresh is becomes =
         alerted = fresh.steady.settled.alerted;
         passed = fresh.steady.settled.passed;
       };
+      unmarked = fresh.steady.unmarked;
     }

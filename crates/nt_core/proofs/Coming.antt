@@ -20,7 +20,7 @@ use Rattle.nt_calls.specs.Serving.{satisfied, sequence, IsServed, ending, late_s
 use Rattle.nt_calls.specs.Change.{all_expired}
 use Rattle.nt_calls.specs.Steps.{IsAwaited, IsNextMoment, NothingDue, MomentPasses, MomentsPass, Ticked}
 use Rattle.nt_calls.specs.Living.{Ends}
-use Rattle.nt_core.specs.Lawful.{IsSound, IsSteady}
+use Rattle.nt_core.specs.Lawful.{IsSound, IsSteady, IsUnmarked}
 use Rattle.nt_core.specs.Accepts.{IsFresh, IsPassedAfter, IsDueBy, is_by_objects, ended_by_objects, IsTickLocal}
 use Rattle.nt_core.proofs.Accepting.{IsCalm}
 use Rattle.nt_core.proofs.Alerting.{over_pending, over_objects}
@@ -44,6 +44,7 @@ pub record TickSoFar (old now : Dispatcher) (m : ℕ) : Type 0 where
   pub kept : (t : ℕ) (w : Wait) → fin.get (state now).waits t ≡ Some w → fin.get (state old).waits t ≡ Some w
   pub most : now.table.looked + due_weight (blocks_in (state now)) m 0 now.objects ≤ due_weight (blocks_in (state old)) m 0 old.objects
   pub least : length (filter (ended_by_objects (state old)) now.grants) ≤ now.table.looked
+  pub unmarked : IsUnmarked now.marked
 
 pub tick_first : (d : Dispatcher) (m : ℕ) → IsFresh d → TickSoFar d d m
 tick_first d m fresh = record {
@@ -55,6 +56,7 @@ tick_first d m fresh = record {
   kept = λ t w pends. pends;
   most = let none = fresh.untested in omega (arith, none);
   least = subst (λ (gs : List Grant). length (filter (ended_by_objects (state d)) gs) ≤ d.table.looked) (sym fresh.no_grants) (omega arith);
+  unmarked = fresh.steady.unmarked;
 }
 
 -- what is left to test fits the counter
@@ -173,6 +175,7 @@ tick_next old now new m u far next after =
       moments = far.moments ++ u ∷ [];
       passed = subst (λ (gs : List Grant). Passed (state old) m (far.moments ++ u ∷ []) gs (state new)) (sym after.grants) (Passed-then far.moments (state old) (state now) (state new) m u now.grants after.here far.passed next passes);
       sound = after.sound;
+      unmarked = after.unmarked;
       served = passed_served (state now) (state new) m u after.here passes;
       calm = passed_calm (state now) (state new) m u after.here passes;
       kept = λ t w pends. far.kept t w (passed_pending (state now) (state new) m u after.here passes t w pends);
@@ -299,9 +302,11 @@ tick_end old now m far none = (
       timers = far.sound.timers;
       handles = far.sound.handles;
       marks = marks_along refl refl refl (λ o. refl) refl far.sound.marks;
+      places = far.sound.places;
       room = far.sound.room;
     };
     settled = record { served = far.served; alerted = far.calm; passed = none };
+    unmarked = far.unmarked;
   },
   record {
     timers = due_list m 0 old.objects;

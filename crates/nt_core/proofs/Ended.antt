@@ -66,6 +66,7 @@ gone_sound d o owned apcs sound forgotten len places = record {
     marked = λ x left. sound.marks.marked x (still_forgotten (state d) (o ∷ []) x left).0;
     known = λ x m. absurd m;
   };
+  places = record { changed = sound.places.changed ∙ sym count; alerted = sound.places.alerted };
   room = sound.room;
 }
   where
@@ -161,6 +162,7 @@ unmarked_sound d o sound needless = record {
     ];
     known = λ x m. absurd m;
   };
+  places = sound.places;
   room = sound.room;
 }
 

@@ -21,7 +21,7 @@ use Rattle.nt_calls.specs.Rising.{AreRising}
 use Rattle.nt_calls.specs.Serving.{IsChanged, sequence, Serve}
 use Rattle.nt_calls.specs.Change.{exited}
 use Rattle.nt_core.specs.Visits.{FitOnlyIn}
-use Rattle.nt_core.specs.Lawful.{IsSound, IsSteady}
+use Rattle.nt_core.specs.Lawful.{IsSound, IsSteady, IsUnmarked}
 use Rattle.nt_core.specs.Accepts.{IsFresh, IsStoppedAfter, IsExitedAfter, Accepts}
 use Rattle.nt_calls.specs.declared.call.Call.{Call}
 use Rattle.nt_calls.specs.declared.call.Reply.{Reply}
@@ -91,6 +91,7 @@ ended_sound d t apcs sound idle known running unset len places = record {
   };
   handles = handles_along d.handles count sound.handles;
   marks = marks_ending d t apcs (sound.own t known).0 (not_gone (object_at d.objects t) running) sound.marks;
+  places = record { changed = sound.places.changed ∙ sym count; alerted = sound.places.alerted };
   room = sound.room;
 }
   where
@@ -119,12 +120,13 @@ ended_sound d t apcs sound idle known running unset len places = record {
     stays u differs = ap (λ b. cond b None (Some u)) (same_no u t differs)
 
 -- the dispatcher once the thread's own object says so, and its APCs are gone
-pub own_ended : (old new : Dispatcher) (t : ℕ) (apcs : Apcs) → IsSound old → fin.get old.table.pending t ≡ None → t < old.threads → has_ended (object_at old.objects t) ≡ false → ((h : ℕ) → setter_of (object_at old.objects h) ≢ Some t) → new ≡ record old { objects = set old.objects t (Thread true); apcs = apcs; leaving = set old.leaving t (Some 0) } → apcs.queues ≡ cleared old.apcs.queues t → ((m : ℕ) → place_of apcs.places m ≡ given_up t (place_of old.apcs.places m)) → (state new ≡ record (state old) { objects = set old.objects t (Thread true); apcs = cleared old.apcs.queues t }) × IsSound new × (new.grants ≡ old.grants) × (new.table ≡ old.table)
+pub own_ended : (old new : Dispatcher) (t : ℕ) (apcs : Apcs) → IsSound old → fin.get old.table.pending t ≡ None → t < old.threads → has_ended (object_at old.objects t) ≡ false → ((h : ℕ) → setter_of (object_at old.objects h) ≢ Some t) → new ≡ record old { objects = set old.objects t (Thread true); apcs = apcs; leaving = set old.leaving t (Some 0) } → apcs.queues ≡ cleared old.apcs.queues t → ((m : ℕ) → place_of apcs.places m ≡ given_up t (place_of old.apcs.places m)) → (state new ≡ record (state old) { objects = set old.objects t (Thread true); apcs = cleared old.apcs.queues t }) × IsSound new × (new.grants ≡ old.grants) × (new.table ≡ old.table) × (new.marked ≡ old.marked)
 own_ended old new t apcs sound idle known running unset becomes queues places = (
   ap (λ (d : Dispatcher). state d) becomes ∙ ap (λ (qs : List (List Queued)). record (state old) { objects = set old.objects t (Thread true); apcs = qs }) queues,
   subst (λ (d : Dispatcher). IsSound d) (sym becomes) (ended_sound old t apcs sound idle known running unset (ap (λ qs. length qs) queues ∙ length-set old.apcs.queues t []) places),
   ap (λ (d : Dispatcher). d.grants) becomes,
   ap (λ (d : Dispatcher). d.table) becomes,
+  ap (λ (d : Dispatcher). d.marked) becomes,
 )
 
 -- ---- the state
@@ -296,12 +298,14 @@ exited_few old t handles sound changed =
     let limit = sound.handles.few in
     omega (arith, few, most, limit)
 
-pub exited_accepted : (old mid new : Dispatcher) (t : ℕ) (handles : List ℕ) → IsFresh old → IsExitedAfter old t mid handles → Serve (sequence (state mid) handles) (state mid) new.grants (state new) → IsSound new → new.table.looked ≤ length (sequence (state mid) handles) → length new.grants ≤ new.table.looked → Accepts old new t Call.Exit Reply.Done
-exited_accepted old mid new t handles fresh after serve sound most least =
+pub exited_accepted : (old mid new : Dispatcher) (t : ℕ) (handles : List ℕ) → IsFresh old → IsExitedAfter old t mid handles → Serve (sequence (state mid) handles) (state mid) new.grants (state new) → IsSound new → new.table.looked ≤ length (sequence (state mid) handles) → length new.grants ≤ new.table.looked → new.marked ≡ mid.marked → Accepts old new t Call.Exit Reply.Done
+exited_accepted old mid new t handles fresh after serve sound most least marked =
+    let unmarked : IsUnmarked new.marked = subst IsUnmarked (sym (marked ∙ after.marked)) fresh.steady.unmarked in
     let served : Serve (sequence (state old) handles) (exited (state old) t) new.grants (state new) = subst (λ (s : State). Serve (sequence s handles) s new.grants (state new)) after.becomes serve in
     let steady : IsSteady new = record {
       sound = sound;
       settled = settled_after (sequence (state old) handles) (exited (state old) t) (state new) new.grants served (calm_exited (state old) t fresh.steady.settled.alerted) (due_exited old t old.now fresh.steady.sound fresh.steady.settled.passed);
+      unmarked = unmarked;
     } in
     let objects : mid.objects ≡ objects_left old.objects t = ap (λ (s : State). s.objects) after.becomes in
     accepted old new new t Call.Exit Reply.Done (record {
@@ -311,4 +315,5 @@ exited_accepted old mid new t handles fresh after serve sound most least =
       sound = sound;
       most = subst (λ (s : State). new.table.looked ≤ length (sequence s handles)) after.becomes most;
       least = least;
+      unmarked = unmarked;
     }) refl refl refl steady refl

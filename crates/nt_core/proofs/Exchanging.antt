@@ -12,7 +12,7 @@ use Rattle.nt_core.specs.Dispatcher.{Dispatcher, state}
 use Rattle.nt_calls.specs.Change.{at}
 use Rattle.nt_calls.specs.Serving.{sequence, Serve}
 use Rattle.nt_core.specs.Visits.{FitOnlyBy, FitOnlyIn}
-use Rattle.nt_core.specs.Lawful.{IsSound, MayReplace}
+use Rattle.nt_core.specs.Lawful.{IsSound, MayReplace, IsUnmarked}
 use Rattle.nt_core.specs.Accepts.{IsFresh, IsServedAfter}
 use Rattle.nt_core.proofs.Changing.{sound_replaced}
 use Rattle.nt_core.proofs.Stopping.{by_replaced}
@@ -38,13 +38,14 @@ exchanged_needed old mid h o fresh may is = subst (λ (x : Dispatcher). FitOnlyB
 pub exchanged_few : (old mid : Dispatcher) (h : ℕ) (o : Object) → IsFresh old → IsExchanged old h o mid → length (sequence (state mid) (h ∷ [])) < 2 ^ 64
 exchanged_few old mid h o fresh is = subst (λ (x : Dispatcher). length (sequence (state x) (h ∷ [])) < 2 ^ 64) (sym is) (one_few old h fresh.steady.sound)
 
-pub exchanged_served : (old mid new : Dispatcher) (h : ℕ) (o : Object) → h < length old.objects → o ≢ object_at old.objects h → IsExchanged old h o mid → Serve (sequence (state mid) (h ∷ [])) (state mid) new.grants (state new) → IsSound new → new.table.looked ≤ length (sequence (state mid) (h ∷ [])) → length new.grants ≤ new.table.looked → IsServedAfter old (at (state old) h (λ _. o)) new
-exchanged_served old mid new h o known differs is serve sound most least =
+pub exchanged_served : (old mid new : Dispatcher) (h : ℕ) (o : Object) → IsFresh old → h < length old.objects → o ≢ object_at old.objects h → IsExchanged old h o mid → Serve (sequence (state mid) (h ∷ [])) (state mid) new.grants (state new) → IsSound new → new.table.looked ≤ length (sequence (state mid) (h ∷ [])) → length new.grants ≤ new.table.looked → new.marked ≡ mid.marked → IsServedAfter old (at (state old) h (λ _. o)) new
+exchanged_served old mid new h o fresh known differs is serve sound most least marked =
     replaced_served old new h o known differs
     (subst (λ (x : Dispatcher). Serve (sequence (state x) (h ∷ [])) (state x) new.grants (state new)) is serve)
     sound
     (subst (λ (x : Dispatcher). new.table.looked ≤ length (sequence (state x) (h ∷ []))) is most)
     least
+    (subst IsUnmarked (sym (marked ∙ ap (λ (x : Dispatcher). x.marked) is)) fresh.steady.unmarked)
 
 pub exchanged_prepared : (old mid new : Dispatcher) (h : ℕ) (o : Object) → IsExchanged old h o mid → new.table.prepared ≡ mid.table.prepared → new.table.prepared ≡ old.table.prepared
 exchanged_prepared old mid new h o is same = same ∙ ap (λ (x : Dispatcher). x.table.prepared) is

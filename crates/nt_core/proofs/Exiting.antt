@@ -77,6 +77,7 @@ sound_mapped d f owned still may sound = record {
   timers = timers_kept d.threads d.objects (map f d.objects) d.alarms d.apcs.places sound.timers len (reading due_of (λ o r. r.due)) (reading setter_of (λ o r. r.setter)) (reading has_ended (λ o r. r.ended));
   handles = handles_along d.handles len sound.handles;
   marks = marks_same d (record d { objects = map f d.objects; owned = owned }) refl refl refl (λ k. refl) len (reading is_gone (λ o r. r.gone)) (reading has_ended (λ o r. r.ended)) sound.marks;
+  places = record { changed = sound.places.changed ∙ sym len; alerted = sound.places.alerted };
   room = sound.room;
 }
   where

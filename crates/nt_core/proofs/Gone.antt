@@ -9,7 +9,7 @@ use Rattle.nt_calls.specs.Rising.{IsRising}
 use Rattle.nt_calls.specs.State.{State}
 use Rattle.nt_core.specs.Dispatcher.{Dispatcher, state}
 use Rattle.nt_calls.specs.Living.{is_forgotten, gone, all_gone, Ends, LivesWhileKept}
-use Rattle.nt_core.specs.Lawful.{IsSound, IsSteady}
+use Rattle.nt_core.specs.Lawful.{IsSound, IsSteady, IsUnmarked}
 use Rattle.nt_core.proofs.Lives.{forgotten_as, still_forgotten, all_living}
 use Rattle.nt_core.proofs.Remaining.{stays}
 use Rattle.nt_core.proofs.Rousing.{cleared_other, cleared_here, lowest_least}
@@ -30,6 +30,7 @@ pub record GoneSoFar (old now : Dispatcher) : Type 0 where
   pub sound : IsSound now
   pub grants : now.grants ≡ old.grants
   pub table : now.table ≡ old.table
+  pub marked : now.marked ≡ old.marked
 
 pub gone_none : (d : Dispatcher) → IsSound d → GoneSoFar d d
 gone_none d sound = record {
@@ -41,13 +42,14 @@ gone_none d sound = record {
   sound = sound;
   grants = refl;
   table = refl;
+  marked = refl;
 }
 
 no_mark : {P : Type 0} (n : ℕ) → None ≡ Some n → P
 no_mark n e = (cc)
 
-pub gone_next : (old now new : Dispatcher) (t : ℕ) → GoneSoFar old now → IsLowestAt now.leaving 0 t → state new ≡ cond (is_forgotten (state now) t) (gone (state now) t) (state now) → new.leaving ≡ slice_set now.leaving t None → IsSound new → new.grants ≡ now.grants → new.table ≡ now.table → GoneSoFar old new
-gone_next old now new t far lowest becomes leaving sound grants table = go (is_forgotten (state now) t) refl becomes
+pub gone_next : (old now new : Dispatcher) (t : ℕ) → GoneSoFar old now → IsLowestAt now.leaving 0 t → state new ≡ cond (is_forgotten (state now) t) (gone (state now) t) (state now) → new.leaving ≡ slice_set now.leaving t None → IsSound new → new.grants ≡ now.grants → new.table ≡ now.table → new.marked ≡ now.marked → GoneSoFar old new
+gone_next old now new t far lowest becomes leaving sound grants table marked = go (is_forgotten (state now) t) refl becomes
   where
     mark_before : (x : ℕ) → x ≢ t → alarm_at new.leaving x ≡ alarm_at now.leaving x
     mark_before x other = ap (λ (m : List (Option ℕ)). alarm_at m x) leaving ∙ cleared_other now.leaving t x other
@@ -75,6 +77,7 @@ gone_next old now new t far lowest becomes leaving sound grants table = go (is_f
           sound = sound;
           grants = grants ∙ far.grants;
           table = table ∙ far.table;
+          marked = marked ∙ far.marked;
         }
     go false is next = record {
       objects = far.objects;
@@ -85,6 +88,7 @@ gone_next old now new t far lowest becomes leaving sound grants table = go (is_f
       sound = sound;
       grants = grants ∙ far.grants;
       table = table ∙ far.table;
+      marked = marked ∙ far.marked;
     }
 
 pub gone_end : (old now : Dispatcher) → GoneSoFar old now → NoneAt now.leaving 0 → Ends (state old) (state now)
@@ -110,6 +114,6 @@ gone_end old now far none = record {
 pub gone_steady : (old now : Dispatcher) → IsSteady old → GoneSoFar old now → NoneAt now.leaving 0 → IsSteady now × LivesWhileKept (state now)
 gone_steady old now steady far none =
     let ends = gone_end old now far none in (
-      record { sound = far.sound; settled = ends_settled old (state now) steady.sound.blocks steady.settled ends },
+      record { sound = far.sound; settled = ends_settled old (state now) steady.sound.blocks steady.settled ends; unmarked = subst IsUnmarked (sym far.marked) steady.unmarked },
       all_living old (state now) steady.sound ends,
     )

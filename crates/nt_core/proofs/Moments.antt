@@ -21,7 +21,7 @@ use Rattle.nt_calls.specs.Serving.{granted, sequence, IsServed, IsAlerted, Grant
 use Rattle.nt_calls.specs.Change.{expired_as, expired, all_expired}
 use Rattle.nt_calls.specs.Steps.{IsNextMoment}
 use Rattle.nt_core.specs.Visits.{FitOnlyIn, Visits}
-use Rattle.nt_core.specs.Lawful.{IsSound}
+use Rattle.nt_core.specs.Lawful.{IsSound, IsUnmarked}
 use Rattle.nt_core.specs.Accepts.{IsExpiredAfter, IsAlertedAfter, IsTimedOutAfter, IsPassedAfter}
 use Rattle.nt_core.proofs.Walks.{get_removed, served}
 use Rattle.nt_core.proofs.Visiting.{len_removed}
@@ -201,8 +201,8 @@ late_fewer d1 d2 d3 d4 u threads gs has rouse timed t late = by_grants gs has
         let count = Grants_len threads (state d1) (state d2) (g ∷ gs) has in
         omega (arith, count, out, roused)
 
-pub passed_whole : (old d1 d2 d3 d4 : Dispatcher) (m u : ℕ) (timers : List ℕ) (marks : List (Option ℕ)) → IsExpiredAfter old m u d1 timers marks → FitOnlyIn (sequence (state d1) timers) (state d1) → Visits (sequence (state d1) timers) d1 d2 → IsAlertedAfter d2 d3 → IsTimedOutAfter d3 u d4 → IsSound d4 → IsPassedAfter old m u d4
-passed_whole old d1 d2 d3 d4 m u timers marks after local visits rouse timed sound =
+pub passed_whole : (old d1 d2 d3 d4 : Dispatcher) (m u : ℕ) (timers : List ℕ) (marks : List (Option ℕ)) → IsExpiredAfter old m u d1 timers marks → FitOnlyIn (sequence (state d1) timers) (state d1) → Visits (sequence (state d1) timers) d1 d2 → IsAlertedAfter d2 d3 → IsTimedOutAfter d3 u d4 → IsSound d4 → IsUnmarked old.marked → IsPassedAfter old m u d4
+passed_whole old d1 d2 d3 d4 m u timers marks after local visits rouse timed sound unmarked =
     let same = same_sequence old d1 timers after.table in
     let grants : Grants (sequence (state old) timers) (all_expired m (state old) timers) visits.ended (state d2) =
     subst (λ (s : State). Grants (sequence (state old) timers) s visits.ended (state d2)) after.expired (subst (λ (q : List ℕ). Grants q (state d1) visits.ended (state d2)) same visits.granted) in
@@ -241,6 +241,7 @@ passed_whole old d1 d2 d3 d4 m u timers marks after local visits rouse timed sou
           let same : fin.len (state d1).waits ≡ fin.len (state old).waits = ap (λ (p : Pending). fin.len p) waits in
           omega (arith, less, same);
       sound = sound;
+      unmarked = subst IsUnmarked (sym (timed.marked ∙ (rouse.marked ∙ (visits.marked ∙ after.stays)))) unmarked;
     }
 
 -- what is served then fits the counter

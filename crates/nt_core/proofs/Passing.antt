@@ -47,6 +47,7 @@ pub record ExpiredSoFar (old now : Dispatcher) (m u : ℕ) (timers : List ℕ) (
   pub count : length now.objects ≡ length old.objects
   pub grants : now.grants ≡ old.grants
   pub table : now.table ≡ old.table
+  pub stays : now.marked ≡ old.marked
   pub sound : IsSound now
 
 pub expired_none : (d : Dispatcher) (m u : ℕ) (marks : List (Option ℕ)) → IsSound d → IsCalm (state d) → NoneBefore d.alarms u → ExpiredSoFar d d m u [] marks
@@ -63,6 +64,7 @@ expired_none d m u marks sound calm before = record {
   count = refl;
   grants = refl;
   table = refl;
+  stays = refl;
   sound = sound;
 }
 
@@ -162,8 +164,8 @@ alerted_before m s h u t due alerted =
         go (inl same) = inl (setter_parts (object_at s.objects h) manual was armed is r some ∙ ap (λ (k : ℕ). Some k) (sym same))
         go (inr other) = inr (alerted.0, alerted.1, and_kept (alerted.0).alertable (has_apc (notified s.apcs h armed.due (Some r)) t) (has_apc s.apcs t) (has_notified s.apcs h armed.due (Some r) r.thread t refl other) (subst (λ (x : Option Routine). ((alerted.0).alertable && has_apc (notified s.apcs h armed.due x) t) ≡ true) some alerted.2))
 
-pub expired_next : (old now new : Dispatcher) (m u h : ℕ) (timers : List ℕ) (marks marked : List (Option ℕ)) → u ≤ m → ExpiredSoFar old now m u timers marks → IsLowestAt now.alarms u h → IsMarked marks marked (setter_of (object_at now.objects h)) → state new ≡ expired m (state now) h → new.grants ≡ now.grants → new.table ≡ now.table → IsSound new → ExpiredSoFar old new m u (timers ++ h ∷ []) marked
-expired_next old now new m u h timers marks marked le far lowest mark becomes grants table sound =
+pub expired_next : (old now new : Dispatcher) (m u h : ℕ) (timers : List ℕ) (marks marked : List (Option ℕ)) → u ≤ m → ExpiredSoFar old now m u timers marks → IsLowestAt now.alarms u h → IsMarked marks marked (setter_of (object_at now.objects h)) → state new ≡ expired m (state now) h → new.grants ≡ now.grants → new.table ≡ now.table → new.marked ≡ now.marked → IsSound new → ExpiredSoFar old new m u (timers ++ h ∷ []) marked
+expired_next old now new m u h timers marks marked le far lowest mark becomes grants table stays sound =
     let due = lowest_due now u h far.sound lowest in
     let own = expired_objects m (state now) h u due in
     let armed = own.0 in
@@ -203,6 +205,7 @@ expired_next old now new m u h timers marks marked le far lowest mark becomes gr
       count = count ∙ far.count;
       grants = grants ∙ far.grants;
       table = table ∙ far.table;
+      stays = stays ∙ far.stays;
       sound = sound;
     }
   where
@@ -235,6 +238,7 @@ expired_end old now m u timers marks far none = record {
   fewer = far.fewer;
   others = far.others;
   table = far.table;
+  stays = far.stays;
 }
   where
     listed : (h : ℕ) → IsTimerDue (state old) u h → IsMember timers h ⊎ (IsMember timers h → ⊥) → IsMember timers h

@@ -31,9 +31,9 @@ use Rattle.nt_core.proofs.Marking.{marks_opened}
 use Rattle.nt_objects.specs.declared.handles.Opened.{Opened}
 use Rattle.nt_calls.specs.Refusals.{duplicate_causes, first_of_causes, is_full, is_unknown}
 use Rattle.nt_core.specs.Visits.{FitOnlyIn}
-use Rattle.nt_core.specs.Lawful.{IsSound, IsSteady, MayReplace}
+use Rattle.nt_core.specs.Lawful.{IsSound, IsSteady, MayReplace, IsUnmarked}
 use Rattle.nt_core.specs.Accepts.{IsFresh, IsServedAfter, Accepts}
-use Rattle.nt_core.proofs.Changing.{ChangedOnlyAt, one_changed, same_changed, fit_only_in, changed_at_one, sound_replaced, served_fewer, due_replaced, none_created, sound_created, served_unchanged, object_at-append, due_kept, known_event, known_object, set_as_before, object_at-set_same}
+use Rattle.nt_core.proofs.Changing.{ChangedOnlyAt, one_changed, same_changed, fit_only_in, changed_at_one, sound_replaced, served_fewer, due_replaced, none_created, sound_created, served_unchanged, object_at-append, due_kept, known_event, known_object, set_as_before, object_at-set_same, alarm_created}
 use Rattle.nt_core.proofs.Accepting.{accepted, settled_after, reading_taken_by, next_causes}
 
 -- ---- a queue holds each thread once at most
@@ -52,14 +52,15 @@ one_few d h sound = let few = queue_few d h sound in rw (append-nil ((state d).q
 pub replaced_fit : (d : Dispatcher) (h : ℕ) (o : Object) → IsSteady d → FitOnlyIn (sequence (state d) (h ∷ [])) (state (record d { objects = set d.objects h o }))
 replaced_fit d h o steady = fit_only_in (h ∷ []) d (set d.objects h o) steady.sound steady.settled.served (changed_at_one d.objects h o)
 
-pub replaced_served : (old new : Dispatcher) (h : ℕ) (o : Object) → h < length old.objects → o ≢ object_at old.objects h → Serve (sequence (state old) (h ∷ [])) (state (record old { objects = set old.objects h o })) new.grants (state new) → IsSound new → new.table.looked ≤ length (sequence (state old) (h ∷ [])) → length new.grants ≤ new.table.looked → IsServedAfter old (state (record old { objects = set old.objects h o })) new
-replaced_served old new h o known differs serve sound most least = record {
+pub replaced_served : (old new : Dispatcher) (h : ℕ) (o : Object) → h < length old.objects → o ≢ object_at old.objects h → Serve (sequence (state old) (h ∷ [])) (state (record old { objects = set old.objects h o })) new.grants (state new) → IsSound new → new.table.looked ≤ length (sequence (state old) (h ∷ [])) → length new.grants ≤ new.table.looked → IsUnmarked new.marked → IsServedAfter old (state (record old { objects = set old.objects h o })) new
+replaced_served old new h o known differs serve sound most least unmarked = record {
   handles = h ∷ [];
   changed = one_changed old.objects h o known differs;
   serves = serve;
   sound = sound;
   most = most;
   least = least;
+  unmarked = unmarked;
 }
 
 -- what holds once the waits on it are served
@@ -68,6 +69,7 @@ replaced_settled old new h o fresh may after = record {
   sound = after.sound;
   settled = settled_after (sequence (state old) after.handles) (at (state old) h (λ _. o)) (state new) new.grants after.serves fresh.steady.settled.alerted
       (due_replaced (state old) h o old.now may.due fresh.steady.settled.passed);
+  unmarked = after.unmarked;
 }
 
 -- a call that exchanges one object and answers at once
@@ -84,6 +86,7 @@ idle_served old mid new handles fresh changed grants looked is steady = record {
   sound = steady.sound;
   most = let none : new.table.looked ≡ 0 = looked ∙ fresh.untested in omega (arith, none);
   least = let none : length new.grants ≡ 0 = ap (λ gs. length gs) (grants ∙ fresh.no_grants) in omega (arith, none);
+  unmarked = steady.unmarked;
 }
 
 -- ---- events
@@ -147,6 +150,7 @@ raised_settled old new h fresh is after = record {
   sound = after.sound;
   settled = settled_after (sequence (state old) after.handles) (at (state old) h (with_set true)) (state new) new.grants after.serves fresh.steady.settled.alerted
       (due_replaced (state old) h (with_set true (object_at old.objects h)) old.now (due_with_set true (object_at old.objects h) is) fresh.steady.settled.passed);
+  unmarked = after.unmarked;
 }
 
 pub set_accepted : (old new : Dispatcher) (t h : ℕ) → IsFresh old → is_event (object_at old.objects h) ≡ true → IsServedAfter old (at (state old) h (with_set true)) new → Accepts old new t (Call.Act (Act.SetEvent h)) Reply.Done
@@ -170,6 +174,7 @@ reset_steady d h steady is =
         alerted = steady.settled.alerted;
         passed = due_replaced (state d) h (with_set false o) d.now (due_with_set false o is) steady.settled.passed;
       };
+      unmarked = steady.unmarked;
     }
 
 pub reset_accepted : (old : Dispatcher) (t h : ℕ) → IsFresh old → is_event (object_at old.objects h) ≡ true → Accepts old (record old { objects = with_object old.objects h (with_set false) }) t (Call.Act (Act.ResetEvent h)) Reply.Done
@@ -267,6 +272,7 @@ created_accepted old new t o owned call handle fresh room lawful no_thread alive
         alerted = fresh.steady.settled.alerted;
         passed = due_kept (state old) (state d) old.now (λ k. due_created old.objects o k due) refl fresh.steady.settled.passed;
       };
+      unmarked = record { changed = λ place at. fresh.steady.unmarked.changed place (sym (alarm_created old.marked.changed place) ∙ at); alerted = fresh.steady.unmarked.alerted };
     }
 
 -- ---- a duplicate
@@ -300,6 +306,7 @@ duplicated_accepted old new t object access handle fresh room known alive is bec
         timers = before.timers;
         handles = handles_opened (length old.objects) old.handles object access (grind (arith, nat_tests, room)) known before.handles;
         marks = marks_opened old object access alive before.marks;
+        places = before.places;
         room = before.room;
       };
       settled = record {
@@ -307,6 +314,7 @@ duplicated_accepted old new t object access handle fresh room known alive is bec
         alerted = fresh.steady.settled.alerted;
         passed = fresh.steady.settled.passed;
       };
+      unmarked = fresh.steady.unmarked;
     }
 
 -- what a duplicate that no cause refuses names, with rights that there are

@@ -56,6 +56,7 @@ pub record AlertedSoFar (old now : Dispatcher) (marks : List (Option ℕ)) : Typ
   pub above : (x : ℕ) → alarm_at marks x ≡ Some 0 → (y : ℕ) → IsMember threads y → y < x
   pub marked : (x : ℕ) → IsAlerted (state now) x → alarm_at marks x ≡ Some 0
   pub looked : now.table.looked ≡ old.table.looked
+  pub stays : now.marked ≡ old.marked
   pub sound : IsSound now
 
 pub alerted_none : (d : Dispatcher) (marks : List (Option ℕ)) → IsSound d → ((t : ℕ) → IsAlerted (state d) t → alarm_at marks t ≡ Some 0) → AlertedSoFar d d marks
@@ -68,6 +69,7 @@ alerted_none d marks sound marked = record {
   above = λ x is y m. absurd m;
   marked = marked;
   looked = refl;
+  stays = refl;
   sound = sound;
 }
 
@@ -101,6 +103,7 @@ alerted_next old now new marks t far lowest (inl roused) sound =
           let still = still_alerted (state now) (t ∷ []) true x (subst (λ (s : State). IsAlerted s x) roused.1 alerted) in
           cleared_other marks t x (λ e. still.1 (inl (sym e))) ∙ far.marked x still.0;
       looked = roused.3 ∙ far.looked;
+      stays = roused.4 ∙ far.stays;
       sound = sound;
     }
   where
@@ -123,6 +126,7 @@ alerted_next old now new marks t far lowest (inr idle) sound = subst (λ (d : Di
     | inr other ↦ cleared_other marks t x other ∙ far.marked x alerted
   ];
   looked = far.looked;
+  stays = far.stays;
   sound = far.sound;
 })
   where
@@ -144,6 +148,7 @@ alerted_end old now marks far none = record {
   };
   grants = far.grants;
   looked = far.looked;
+  marked = far.stays;
 }
   where
     gone : (x : ℕ) → IsAlerted (state old) x → (o : Option Wait) → fin.get now.table.pending x ≡ o → IsMember far.threads x

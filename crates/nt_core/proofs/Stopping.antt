@@ -144,6 +144,7 @@ Visits-before xs ys old new a served = record {
   queues = a.queues;
   most = let longer = length-append xs ys in omega (arith, a.most, longer);
   least = a.least;
+  marked = a.marked;
 }
 
 pub at_stop : (h : ℕ) (old now : Dispatcher) (at : Option ℕ) → IsAt h old now at → IsServed (state now) → Visits ((state old).queues h) old now

@@ -50,11 +50,12 @@ sound_prepared d prepared sound = record {
   timers = sound.timers;
   handles = sound.handles;
   marks = marks_along refl refl refl (λ o. refl) refl sound.marks;
+  places = sound.places;
   room = sound.room;
 }
 
 pub steady_prepared : (d : Dispatcher) (prepared : Option (ℕ × Wait)) → IsSteady d → IsSteady (with_prepared d prepared)
-steady_prepared d prepared steady = record { sound = sound_prepared d prepared steady.sound; settled = steady.settled }
+steady_prepared d prepared steady = record { sound = sound_prepared d prepared steady.sound; settled = steady.settled; unmarked = steady.unmarked }
 
 pub fresh_prepared : (d : Dispatcher) (prepared : Option (ℕ × Wait)) → IsFresh d → IsFresh (with_prepared d prepared)
 fresh_prepared d prepared fresh = record { steady = steady_prepared d prepared fresh.steady; no_grants = fresh.no_grants; untested = fresh.untested }

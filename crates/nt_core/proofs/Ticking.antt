@@ -107,6 +107,7 @@ pub record LateSoFar (old now : Dispatcher) (u : ℕ) : Type 0 where
   pub above : (x : ℕ) → IsLate (state now) u x → (y : ℕ) → IsMember threads y → y < x
   pub looked : now.table.looked ≡ old.table.looked
   pub count : fin.len now.table.pending + length threads ≡ fin.len old.table.pending
+  pub marked : now.marked ≡ old.marked
   pub sound : IsSound now
 
 pub rising_append : (xs : List ℕ) (t : ℕ) → IsRising xs → ((y : ℕ) → IsMember xs y → y < t) → IsRising (xs ++ t ∷ [])
@@ -125,8 +126,8 @@ pub map_append : (f : ℕ → Grant) (xs : List ℕ) (t : ℕ) → map f (xs ++ 
 map_append f [] t = refl
 map_append f (x ∷ xs) t = ap (λ ys. f x ∷ ys) (map_append f xs t)
 
-pub late_next : (old now new : Dispatcher) (u t : ℕ) → LateSoFar old now u → IsFirstWithDeadline now.table.pending u t → state new ≡ wait_over (state now) t false → new.grants ≡ now.grants ++ ending (late_status (sleeps (fin.get now.table.pending t))) t ∷ [] → new.table.looked ≡ now.table.looked → IsSound new → LateSoFar old new u
-late_next old now new u t far first over grants looked sound =
+pub late_next : (old now new : Dispatcher) (u t : ℕ) → LateSoFar old now u → IsFirstWithDeadline now.table.pending u t → state new ≡ wait_over (state now) t false → new.grants ≡ now.grants ++ ending (late_status (sleeps (fin.get now.table.pending t))) t ∷ [] → new.table.looked ≡ now.table.looked → new.marked ≡ now.marked → IsSound new → LateSoFar old new u
+late_next old now new u t far first over grants looked marked sound =
     let here = late_of (state now) u t first.has in
     let before = over_pending (state old) far.threads false t here.0 (ap (λ (s : State). fin.get s.waits t) (sym far.over) ∙ here.1) in
     let same : fin.get now.table.pending t ≡ fin.get old.table.pending t = here.1 ∙ sym before.0 in
@@ -155,6 +156,7 @@ late_next old now new u t far first over grants looked sound =
             | inr last ↦ subst (λ (k : ℕ). k < x) last (omega (arith, least, differs))
           ];
       looked = looked ∙ far.looked;
+      marked = marked ∙ far.marked;
       count = omega (arith, fewer, len, longer, counted);
       sound = sound;
     }
@@ -189,6 +191,7 @@ late_end old now u far none = record {
   };
   grants = far.grants;
   looked = far.looked;
+  marked = far.marked;
   fewer = λ t late. some t (gone t late (fin.get now.table.pending t) refl) far.count;
 }
   where

@@ -175,6 +175,7 @@ retimed_sound d h o apcs sound was is len placed others = record {
   };
   handles = handles_along d.handles (length-set d.objects h o) sound.handles;
   marks = marks_same d (retimed d h o apcs) refl refl refl (λ k. refl) (length-set d.objects h o) gone ended sound.marks;
+  places = record { changed = sound.places.changed ∙ sym (length-set d.objects h o); alerted = sound.places.alerted };
   room = sound.room;
 }
   where
@@ -310,6 +311,7 @@ cancel_steady d h steady is =
         alerted = λ t alerted. steady.settled.alerted t (alerted.0, alerted.1, and_kept (alerted.0).alertable (has_apc (withdrawn d.apcs.queues h) t) (has_apc d.apcs.queues t) (has_withdrawn h d.apcs.queues t) alerted.2);
         passed = due_kept (state d) (state new) d.now (λ k. due k) refl steady.settled.passed;
       };
+      unmarked = steady.unmarked;
     }
   where
     nobody : {P : Type 0} (t : ℕ) → None ≡ Some t → P

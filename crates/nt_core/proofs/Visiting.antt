@@ -76,6 +76,7 @@ looked_sound d looked sound = record {
   timers = sound.timers;
   handles = sound.handles;
   marks = marks_along refl refl refl (λ o. refl) refl sound.marks;
+  places = sound.places;
   room = sound.room;
 }
 
@@ -89,6 +90,7 @@ visit_passed old t w objects owned table sound small has unfit same lists looked
         stays = refl;
         grants = refl;
         looked = refl;
+        marked = refl;
       }),
       looked_sound old (old.table.looked + 1) sound,
     )
@@ -123,6 +125,7 @@ visit_granted old t code w objects owned table grants leaving sound has tried wa
         becomes = state_same (state new) (granted (state old) t w) refl refl tried.2 waits queues refl refl refl;
         grants = pushed ∙ ap (λ (s : ℕ). old.grants ++ record { thread = t; status = s } ∷ []) tried.1;
         looked = looked;
+        marked = refl;
       }),
       record {
         few = sound.few;
@@ -146,6 +149,7 @@ visit_granted old t code w objects owned table grants leaving sound has tried wa
         timers = taken_timers old.threads old.objects objects old.alarms old.apcs.places t sound.timers well;
         handles = handles_along old.handles well.length sound.handles;
         marks = marks;
+        places = record { changed = sound.places.changed ∙ sym well.length; alerted = sound.places.alerted };
         room = omega (arith, sound.room, longer, fewer, same);
       },
     )

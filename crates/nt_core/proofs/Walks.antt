@@ -75,6 +75,7 @@ Visits-then xs ys old mid new a b =
       queues = λ h. b.queues h ∙ (ap (λ q. filter (pends (state new)) q) (a.queues h) ∙ filter-filter (pends (state new)) (pends (state mid)) idle ((state old).queues h));
       most = let longer = length-append xs ys in omega (arith, a.most, b.most, fewer, longer);
       least = let longer = length-append a.ended b.ended in omega (arith, a.least, b.least, longer);
+      marked = b.marked ∙ a.marked;
     }
 
 -- ---- the map and the queues after one grant
@@ -127,6 +128,7 @@ Visits-none d blocks = record {
   queues = λ h. sym (filter_whole (pends (state d)) ((state d).queues h) (λ u m. waiters_pend d h u blocks m));
   most = omega arith;
   least = omega arith;
+  marked = refl;
 }
 
 due_is : (s : State) (g : Grant) (w : Wait) → IsDue s g w → is_due s g.thread ≡ true
@@ -147,6 +149,7 @@ visited old new t blocks (inl g) =
       queues = λ h. ap (λ (s : State). s.queues h) g.becomes ∙ (others_pend (state old) t g.wait ((state old).queues h) (λ u m. waiters_pend old h u blocks m) ∙ ap (λ (s : State). filter (pends s) ((state old).queues h)) (sym g.becomes));
       most = omega (arith, g.looked);
       least = omega (arith, g.looked);
+      marked = g.marked;
     }
 visited old new t blocks (inr p) =
     record {
@@ -157,6 +160,7 @@ visited old new t blocks (inr p) =
       queues = λ h. ap (λ (s : State). s.queues h) p.stays ∙ (sym (filter_whole (pends (state old)) ((state old).queues h) (λ u m. waiters_pend old h u blocks m)) ∙ ap (λ (s : State). filter (pends s) ((state old).queues h)) (sym p.stays));
       most = omega (arith, p.looked);
       least = omega (arith, p.looked);
+      marked = p.marked;
     }
 
 -- ---- the walk over one queue

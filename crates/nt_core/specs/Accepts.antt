@@ -24,7 +24,7 @@ use Rattle.nt_calls.specs.Refusals.{Cause, first_of_causes, call_causes, refusal
 use Rattle.nt_calls.specs.Steps.{Step, MomentPasses, Made, begun, wait_of}
 use Rattle.nt_core.specs.Dispatcher.{Dispatcher, state}
 use Rattle.nt_core.specs.Due.{due_weight, total_weight}
-use Rattle.nt_core.specs.Lawful.{IsSound, IsSteady}
+use Rattle.nt_core.specs.Lawful.{IsSound, IsSteady, IsUnmarked}
 
 -- whether the wait ended by objects: neither by an APC nor by its deadline
 abbrev pub is_by_objects : Grant → Bool
@@ -46,6 +46,7 @@ pub record IsServedAfter (old : Dispatcher) (changed_to : State) (new : Dispatch
   pub sound : IsSound new
   pub most : new.table.looked ≤ length (sequence (state old) handles)
   pub least : length new.grants ≤ new.table.looked
+  pub unmarked : IsUnmarked new.marked
 
 -- the waits that were to be alerted have ended, and no pending wait was tested for it
 pub record IsAlertedAfter (old new : Dispatcher) : Type 0 where
@@ -53,6 +54,7 @@ pub record IsAlertedAfter (old new : Dispatcher) : Type 0 where
   pub alerts : Alert (state old) ended (state new)
   pub grants : new.grants ≡ old.grants ++ ended
   pub looked : new.table.looked ≡ old.table.looked
+  pub marked : new.marked ≡ old.marked
 
 -- the pending waits with this deadline have ended, and there were some where one was late
 pub record IsTimedOutAfter (old : Dispatcher) (deadline : ℕ) (new : Dispatcher) : Type 0 where
@@ -60,6 +62,7 @@ pub record IsTimedOutAfter (old : Dispatcher) (deadline : ℕ) (new : Dispatcher
   pub timed : TimeOut (state old) deadline ended (state new)
   pub grants : new.grants ≡ old.grants ++ ended
   pub looked : new.table.looked ≡ old.table.looked
+  pub marked : new.marked ≡ old.marked
   pub fewer : (t : ℕ) → IsLate (state old) deadline t → len (state new).waits < len (state old).waits
 
 -- the APC of the routine, if there is one, has a place in its thread's queue; of the queues only the timer's own APC may be gone
@@ -79,11 +82,12 @@ pub record IsExpiredAfter (old : Dispatcher) (m u : ℕ) (new : Dispatcher) (tim
   pub fewer : (weight : ℕ → ℕ) → due_weight weight m 0 new.objects + total_weight weight timers ≡ due_weight weight m 0 old.objects
   pub grants : new.grants ≡ old.grants
   pub table : new.table ≡ old.table
+  pub stays : new.marked ≡ old.marked
 
 -- the thread was to be alerted and its wait has ended, or it was not and nothing changed
 abbrev pub IsRoused : Dispatcher → Dispatcher → ℕ → Type 0
 IsRoused old new t =
-    (IsAlerted (state old) t × (state new ≡ wait_over (state old) t true) × (new.grants ≡ old.grants ++ ending io_completion_code t ∷ []) × (new.table.looked ≡ old.table.looked))
+    (IsAlerted (state old) t × (state new ≡ wait_over (state old) t true) × (new.grants ≡ old.grants ++ ending io_completion_code t ∷ []) × (new.table.looked ≡ old.table.looked) × (new.marked ≡ old.marked))
     ⊎ ((IsAlerted (state old) t → ⊥) × (new ≡ old))
 
 -- moment u of a tick to m has passed; no more pending waits were tested than stood in the queues of the timers due then, and
@@ -97,6 +101,7 @@ pub record IsPassedAfter (old : Dispatcher) (m u : ℕ) (new : Dispatcher) : Typ
   pub fewer : (weight : ℕ → ℕ) → due_weight weight m 0 new.objects + total_weight weight passes.timers ≡ due_weight weight m 0 old.objects
   pub late : (t : ℕ) → IsLate (state old) u t → len (state new).waits < len (state old).waits
   pub sound : IsSound new
+  pub unmarked : IsUnmarked new.marked
 
 -- the timer at this handle is armed for a moment up to m
 abbrev pub IsDueBy : State → ℕ → ℕ → Type 0
@@ -127,6 +132,7 @@ pub record IsExitedAfter (old : Dispatcher) (t : ℕ) (new : Dispatcher) (handle
   pub changed : AreRising (IsChanged old.objects new.objects) handles
   pub grants : new.grants ≡ old.grants
   pub table : new.table ≡ old.table
+  pub marked : new.marked ≡ old.marked
 
 -- steady, and nothing told yet of the call that comes
 pub record IsFresh (d : Dispatcher) : Type 0 where

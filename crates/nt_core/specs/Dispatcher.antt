@@ -10,6 +10,13 @@ use Rattle.nt_objects.specs.Handles.{full_access}
 use Rattle.nt_calls.specs.declared.call.Grant.{Grant}
 use Rattle.nt_calls.specs.State.{State}
 
+-- what is to be served or alerted still; between two calls nothing is
+pub record Marked : Type 0 where
+  -- by object number, a mark where the waits on the object are to be served
+  pub changed : List (Option ℕ)
+  -- by thread number, a mark where the thread may have to be alerted
+  pub alerted : List (Option ℕ)
+
 pub record Dispatcher : Type 0 where
   pub threads : ℕ
   -- what each handle names, with its rights
@@ -29,6 +36,7 @@ pub record Dispatcher : Type 0 where
   pub alarms : List (Option ℕ)
   -- by object number, a mark where nothing may keep the object any more
   pub leaving : List (Option ℕ)
+  pub marked : Marked
 
 -- the state of the machine
 abbrev pub state : Dispatcher → State
@@ -51,7 +59,7 @@ with_prepared d prepared = record d { table = record d.table { prepared = prepar
 abbrev pub with_queues : Dispatcher → List (List Queued) → Dispatcher
 with_queues d queues = record d { apcs = record d.apcs { queues = queues } }
 
--- one object more, last, with a handle and no alarm; it may stand in its owner's list
+-- one object more, last, with a handle, no alarm and no mark; it may stand in its owner's list
 abbrev pub with_created : Dispatcher → Object → List (List ℕ) → Dispatcher
 with_created d o owned =
     record d {
@@ -60,10 +68,11 @@ with_created d o owned =
       owned = owned;
       alarms = d.alarms ++ None ∷ [];
       leaving = d.leaving ++ None ∷ [];
+      marked = record d.marked { changed = d.marked.changed ++ None ∷ [] };
     }
 
-abbrev pub dispatcher_of : ℕ → List (Option Opened) → List Object → List (List ℕ) → Waits → Apcs → List Bool → ℕ → List Grant → List (Option ℕ) → List (Option ℕ) → Dispatcher
-dispatcher_of threads handles objects owned table apcs handing now grants alarms leaving = record {
+abbrev pub dispatcher_of : ℕ → List (Option Opened) → List Object → List (List ℕ) → Waits → Apcs → List Bool → ℕ → List Grant → List (Option ℕ) → List (Option ℕ) → List (Option ℕ) → List (Option ℕ) → Dispatcher
+dispatcher_of threads handles objects owned table apcs handing now grants alarms leaving changed alerted = record {
   threads = threads;
   handles = handles;
   objects = objects;
@@ -75,4 +84,5 @@ dispatcher_of threads handles objects owned table apcs handing now grants alarms
   grants = grants;
   alarms = alarms;
   leaving = leaving;
+  marked = record { changed = changed; alerted = alerted };
 }

@@ -13,13 +13,13 @@ use Rattle.nt_waits.specs.declared.wait.Wait.{Wait}
 use Rattle.nt_status.specs.Lists.{IsMember}
 use Rattle.nt_waits.specs.Waits.{Names, Agrees}
 use Rattle.std.specs.List.{IsDistinct}
-use Rattle.nt_alarms.specs.Alarms.{alarm_at}
+use Rattle.nt_alarms.specs.Alarms.{alarm_at, NoneAt}
 use Rattle.nt_apc.specs.Queues.{place_of}
 use Rattle.nt_calls.specs.State.{State, object_at}
 use Rattle.nt_calls.specs.Serving.{IsServed, IsAlerted}
 use Rattle.nt_calls.specs.Refusals.{is_at_limit}
 use Rattle.nt_calls.specs.Steps.{NothingDue}
-use Rattle.nt_core.specs.Dispatcher.{Dispatcher, state}
+use Rattle.nt_core.specs.Dispatcher.{Dispatcher, Marked, state}
 use Rattle.nt_calls.specs.Living.{is_forgotten, LivesWhileKept}
 
 -- no pending wait could end now: none fits, none is to be alerted, none has timed out, and no timer is to expire
@@ -64,6 +64,16 @@ pub record LetsGoBut (left : List ℕ) (handles : List (Option Opened)) (ended :
   pub marked : (o : ℕ) → IsMember ended o → count_named handles o ≡ 0 → (alarm_at new o ≡ Some 0) ⊎ IsMember left o
   pub kept : (o : ℕ) → alarm_at old o ≡ Some 0 → alarm_at new o ≡ Some 0
 
+-- there is a place for the mark of each object and of each thread
+pub record HasPlaces (threads : ℕ) (objects : List Object) (marked : Marked) : Type 0 where
+  pub changed : length marked.changed ≡ length objects
+  pub alerted : length marked.alerted ≡ threads
+
+-- no object is to be served, and no thread to be alerted
+pub record IsUnmarked (marked : Marked) : Type 0 where
+  pub changed : NoneAt marked.changed 0
+  pub alerted : NoneAt marked.alerted 0
+
 -- what holds also between a change and the serving after it
 pub record IsSound (d : Dispatcher) : Type 0 where
   pub few : d.threads ≤ MAX_THREADS
@@ -79,6 +89,7 @@ pub record IsSound (d : Dispatcher) : Type 0 where
   pub timers : TimersAgree d.threads d.objects d.alarms d.apcs.places
   pub handles : HandlesAgree (length d.objects) d.handles
   pub marks : MarksAgreeBut [] d
+  pub places : HasPlaces d.threads d.objects d.marked
   -- each pending wait can be granted
   pub room : length d.grants + map.len (state d).waits ≤ d.threads
 
@@ -86,6 +97,8 @@ pub record IsSound (d : Dispatcher) : Type 0 where
 pub record IsSteady (d : Dispatcher) : Type 0 where
   pub sound : IsSound d
   pub settled : IsSettled (state d)
+  -- no mark is left
+  pub unmarked : IsUnmarked d.marked
 
 -- what holds between any two calls
 pub record IsLawful (d : Dispatcher) : Type 0 where

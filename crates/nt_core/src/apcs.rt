@@ -53,6 +53,7 @@ impl Machine {
         ensures over { state self.new ≡ wait_over (state self.old) thread may }
         ensures grants { self.new.grants ≡ self.old.grants ++ ending status thread ∷ [] }
         ensures looked { self.new.table.looked ≡ self.old.table.looked }
+        ensures marked { self.new.marked ≡ self.old.marked }
         ensures sound { IsSound self.new }
     {
         let ended = self.waits.end(thread);

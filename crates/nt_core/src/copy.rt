@@ -29,6 +29,8 @@ impl Machine {
         let handing = Vec::from_slice(alloc, &self.handing)?;
         let alarms = self.alarms.copy()?;
         let leaving = self.leaving.copy()?;
+        let changed = self.changed.copy()?;
+        let alerted = self.alerted.copy()?;
         let grants = copy_grants(alloc, self.threads as usize, &self.grants)?;
         let objects = self.objects.copy()?;
         Ok(Machine {
@@ -42,6 +44,8 @@ impl Machine {
             grants,
             alarms,
             leaving,
+            changed,
+            alerted,
         })
     }
 }

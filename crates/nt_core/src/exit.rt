@@ -70,6 +70,7 @@ impl Machine {
         ensures sound { IsSound self.new }
         ensures grants { self.new.grants ≡ self.old.grants }
         ensures table { self.new.table ≡ self.old.table }
+        ensures marked { self.new.marked ≡ self.old.marked }
     {
         let own = Handle::new(thread.get() as u32);
         let mut object = self.object(own);

@@ -104,6 +104,7 @@ impl Machine {
         ensures leaving { self.new.leaving ≡ self.old.leaving }
         ensures grants { self.new.grants ≡ self.old.grants }
         ensures table { self.new.table ≡ self.old.table }
+        ensures marked { self.new.marked ≡ self.old.marked }
     {
         self.forget(object);
         self.alarms.clear(object.get() as usize);
@@ -129,6 +130,7 @@ impl Machine {
         ensures leaving { self.new.leaving ≡ slice_set self.old.leaving object None }
         ensures grants { self.new.grants ≡ self.old.grants }
         ensures table { self.new.table ≡ self.old.table }
+        ensures marked { self.new.marked ≡ self.old.marked }
     {
         if self.is_forgotten(object) {
             self.end_object(object);

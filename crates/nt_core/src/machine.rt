@@ -38,6 +38,10 @@ pub struct Machine {
     pub(crate) alarms: Alarms,
     /// A mark for each object that nothing may keep any more.
     pub(crate) leaving: Marks,
+    /// A mark for each object whose waits are to be served still.
+    pub(crate) changed: Marks,
+    /// A mark for each thread that may have to be alerted still.
+    pub(crate) alerted: Marks,
 }
 
 impl Model for Machine {
@@ -52,7 +56,7 @@ impl Model for Machine {
     ghost coded = { Prim.hlevel (codes, waits_code) };
 
     ghost view = { λ m. dispatcher_of m.threads m.handles.opened m.objects.items m.objects.owned m.waits m.apcs
-        m.handing.items m.moment m.grants.items m.alarms m.leaving };
+        m.handing.items m.moment m.grants.items m.alarms m.leaving m.changed m.alerted };
 
     ghost invariant = { λ m. (m.threads ≤ MAX_THREADS) × (m.threads ≤ vec_capacity m.grants)
         × (length m.objects.owned ≡ m.threads) };
@@ -74,6 +78,8 @@ impl Machine {
         let apcs = ApcQueues::new(alloc, count)?;
         let alarms = Alarms::with_places(alloc, count)?;
         let leaving = Marks::with_places(alloc, count)?;
+        let changed = Marks::with_places(alloc, count)?;
+        let alerted = Marks::with_places(alloc, count)?;
         let handles = HandleTable::new(alloc, count, Object::new_thread().full_access())?;
         let objects = ObjectTable::new(alloc, count)?;
         let waits = WaitTable::new(alloc);
@@ -88,6 +94,8 @@ impl Machine {
             grants,
             alarms,
             leaving,
+            changed,
+            alerted,
         })
     }
 

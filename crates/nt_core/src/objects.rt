@@ -49,7 +49,7 @@ impl Machine {
         let access = object.full_access();
         self.objects.make_room()?;
         self.handles.make_room()?;
-        self.alarms.add_with(&mut self.leaving)?;
+        self.alarms.add_with(&mut self.leaving, &mut self.changed)?;
         self.objects.add(object);
         let object = Handle::new(count as u32);
         Ok(self.handles.add(Opened { object, access }))

@@ -73,6 +73,7 @@ impl Machine {
         ensures served { Serve (sequence (state self.old) changed.now) (state self.old) self.new.grants
             (state self.new) }
         ensures prepared { self.new.table.prepared ≡ self.old.table.prepared }
+        ensures marked { self.new.marked ≡ self.old.marked }
         ensures sound { IsSound self.new }
         ensures most { self.new.table.looked ≤ length (sequence (state self.old) changed.now) }
         ensures least { length self.new.grants ≤ self.new.table.looked }
@@ -117,6 +118,7 @@ impl Machine {
         ensures served { Serve (sequence (state self.old) (handle ∷ [])) (state self.old) self.new.grants
             (state self.new) }
         ensures prepared { self.new.table.prepared ≡ self.old.table.prepared }
+        ensures marked { self.new.marked ≡ self.old.marked }
         ensures sound { IsSound self.new }
         ensures most { self.new.table.looked ≤ length (sequence (state self.old) (handle ∷ [])) }
         ensures least { length self.new.grants ≤ self.new.table.looked }

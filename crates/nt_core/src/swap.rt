@@ -94,6 +94,7 @@ impl Machine {
         ensures sound { IsSound self.new }
         ensures grants { self.new.grants ≡ self.old.grants }
         ensures looked { self.new.table.looked ≡ self.old.table.looked }
+        ensures marked { self.new.marked ≡ self.old.marked }
         ensures prepared { self.new.table.prepared ≡ None }
     {
         self.waits.begin_prepared();

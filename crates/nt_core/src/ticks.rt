@@ -8,7 +8,7 @@ ghost use Rattle.nt_calls.specs.State.{pends, wait_over};
 ghost use Rattle.nt_core.specs.Dispatcher.{state};
 ghost use Rattle.nt_calls.specs.Serving.{ending, late_status, sleeps, IsServed, IsAlerted};
 ghost use Rattle.nt_calls.specs.Steps.{IsNextMoment, NothingDue, Ticked};
-ghost use Rattle.nt_core.specs.Lawful.{IsSound, IsSteady};
+ghost use Rattle.nt_core.specs.Lawful.{IsSound, IsSteady, IsUnmarked};
 ghost use Rattle.nt_calls.specs.Living.{LivesWhileKept};
 ghost use Rattle.nt_core.specs.Accepts.{IsTimedOutAfter, IsAlertedAfter, IsExpiredAfter, IsPassedAfter, IsTickLocal};
 
@@ -88,6 +88,7 @@ impl Machine {
         requires sound { IsSound self.old }
         requires served { IsServed (state self.old) }
         requires calm { (t : ℕ) → IsAlerted (state self.old) t → ⊥ }
+        requires unmarked { IsUnmarked self.old.marked }
         requires next { IsNextMoment (state self.old) m u }
         requires countable { self.old.table.looked + due_weight
             (λ h. length ((state self.old).queues h)) m 0 self.old.objects < 2 ^ 64 }
@@ -107,6 +108,7 @@ impl Machine {
         ensures grants { self.new.grants ≡ self.old.grants
             ++ ending (late_status (sleeps (map.get self.old.table.pending thread))) thread ∷ [] }
         ensures looked { self.new.table.looked ≡ self.old.table.looked }
+        ensures marked { self.new.marked ≡ self.old.marked }
         ensures sound { IsSound self.new }
     {
         let ended = self.waits.end(thread);

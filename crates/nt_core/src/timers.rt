@@ -117,6 +117,7 @@ impl Machine {
         ensures sound { IsSound self.new }
         ensures grants { self.new.grants ≡ self.old.grants }
         ensures table { self.new.table ≡ self.old.table }
+        ensures marked { self.new.marked ≡ self.old.marked }
     {
         let mut object = self.object(timer);
         let Some(due) = object.due() else {
@@ -153,6 +154,7 @@ impl Machine {
         ensures sound { OnOk result (IsSound self.new) }
         ensures grants { OnOk result (self.new.grants ≡ self.old.grants) }
         ensures table { OnOk result (self.new.table ≡ self.old.table) }
+        ensures marked { OnOk result (self.new.marked ≡ self.old.marked) }
         ensures needs { OnErr result (IsTrue (is_some armed.routine)) }
         ensures err { OnErr result (self.new ≡ self.old) }
     {

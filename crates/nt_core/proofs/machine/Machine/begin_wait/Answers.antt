@@ -29,7 +29,7 @@ returns-clause-steady c =
     let unfit : fits d.objects c.args.thread w ≡ false = subst (λ (x : Dispatcher). fits x.objects c.args.thread (wait_for c.args.handles.now c.args.all) ≡ false) (sym same) pends.0 in
     let quiet : (w.alertable && has_apc d.apcs.queues c.args.thread) ≡ false = subst (λ (x : Dispatcher). (c.args.alertable && has_apc x.apcs.queues c.args.thread) ≡ false) (sym same) pends.1 in
     let deadline : w.deadline ≡ deadline_after d.now c.args.ms = c.deadline_after.ensures ∙ ap (λ (x : Dispatcher). deadline_after x.now c.args.ms) c.self.view_is in
-    began_pending d c.pend.new.self c.args.thread c.args.ms w c.end_at_once.ensures.steady unfit quiet pends.2 deadline c.in_ok-pend.ensures.state c.pend.ensures.sound
+    began_pending d c.pend.new.self c.args.thread c.args.ms w c.end_at_once.ensures.steady unfit quiet pends.2 deadline c.in_ok-pend.ensures.state c.pend.ensures.sound c.pend.ensures.marked
 
 pub pend-requires-clause-able : goal.pend-requires-clause-able
 pend-requires-clause-able c =

@@ -26,6 +26,7 @@ loop-place-preserved c =
     c.end_marked.ensures.sound
     c.end_marked.ensures.grants
     c.end_marked.ensures.table
+    c.end_marked.ensures.marked
 
 pub returns : goal.returns
 returns c =

@@ -21,4 +21,4 @@ returns c =
     (c.mark.ensures ∙ (ap (λ (h : ℕ). record mid { leaving = set mid.leaving h (Some 0) }) own ∙ ap (λ (d : Dispatcher). record d { leaving = set d.leaving t (Some 0) }) ended))
     (c.clear.ensures.queues ∙ ap (λ (d : Dispatcher). cleared d.apcs.queues t) before)
     (λ m. c.clear.ensures.places m ∙ ap (λ (d : Dispatcher). given_up t (place_of d.apcs.places m)) before) in
-    record { ended = all.0; sound = all.1; grants = all.2; table = all.3 }
+    record { ended = all.0; sound = all.1; grants = all.2; table = all.3; marked = all.4 }

@@ -46,3 +46,4 @@ returns c =
     c.serve.ensures.sound
     (subst (λ (hs : List ℕ). new.table.looked ≤ length (sequence (state mid) hs)) items c.serve.ensures.most)
     c.serve.ensures.least
+    c.serve.ensures.marked

@@ -52,7 +52,7 @@ loop-place-preserved c =
     ]) in
     subst (λ (timers : List ℕ). ExpiredSoFar c.args.self.now c.expire.new.self c.args.m c.args.u timers c.match-setter.alerted) (ap (λ (k : ℕ). c.loop-place.changed ++ k ∷ []) (sym timer) ∙ sym c.push.ensures)
     (expired_next c.args.self.now c.loop-place.self c.expire.new.self c.args.m c.args.u c.in-Some.place c.loop-place.changed c.loop-place.alerted c.match-setter.alerted c.requires.within far lowest marked
-    (c.expire.ensures.expired ∙ ap (λ (k : ℕ). expired c.args.m (state c.loop-place.self) k) timer) c.expire.ensures.grants c.expire.ensures.table c.expire.ensures.sound)
+    (c.expire.ensures.expired ∙ ap (λ (k : ℕ). expired c.args.m (state c.loop-place.self) k) timer) c.expire.ensures.grants c.expire.ensures.table c.expire.ensures.marked c.expire.ensures.sound)
 
 pub returns-clause-expired : goal.returns-clause-expired
 returns-clause-expired c =

@@ -21,8 +21,8 @@ serve_one-requires-clause-countable c = exchanged_few c.args.self.now c.unlock.n
 
 pub returns-clause-served : goal.returns-clause-served
 returns-clause-served c =
-    exchanged_served c.args.self.now c.unlock.new.self c.serve_one.new.self c.args.mutex (unlocked (object_at c.args.self.now.objects c.args.mutex)) (known_mutex c.args.self.now.objects c.args.mutex c.args.thread c.requires.owner) (unlocked_differs (object_at c.args.self.now.objects c.args.mutex) c.args.thread c.requires.owner (c.requires.fresh.steady.sound.objects c.args.mutex)) (c.unlock.ensures)
-    c.serve_one.ensures.served c.serve_one.ensures.sound c.serve_one.ensures.most c.serve_one.ensures.least
+    exchanged_served c.args.self.now c.unlock.new.self c.serve_one.new.self c.args.mutex (unlocked (object_at c.args.self.now.objects c.args.mutex)) c.requires.fresh (known_mutex c.args.self.now.objects c.args.mutex c.args.thread c.requires.owner) (unlocked_differs (object_at c.args.self.now.objects c.args.mutex) c.args.thread c.requires.owner (c.requires.fresh.steady.sound.objects c.args.mutex)) (c.unlock.ensures)
+    c.serve_one.ensures.served c.serve_one.ensures.sound c.serve_one.ensures.most c.serve_one.ensures.least c.serve_one.ensures.marked
 
 pub returns-clause-prepared : goal.returns-clause-prepared
 returns-clause-prepared c = exchanged_prepared c.args.self.now c.unlock.new.self c.serve_one.new.self c.args.mutex (unlocked (object_at c.args.self.now.objects c.args.mutex)) (c.unlock.ensures) c.serve_one.ensures.prepared

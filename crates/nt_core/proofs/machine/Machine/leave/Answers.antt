@@ -98,6 +98,7 @@ returns-clause-left c =
       changed = subst (λ (os : List Object). AreRising (IsChanged old.objects os) c.sort.new.self) (sym objects) (sorted_changed old t mutexes all c.sort.new.self c.requires.sound c.requires.known c.requires.runs listed moved c.sort.ensures.rising);
       grants = c.end_own.ensures.grants ∙ (ap (λ (d : Dispatcher). d.grants) stops.rest ∙ ap (λ (d : Dispatcher). d.grants) c.abandon_all.ensures.abandoned);
       table = c.end_own.ensures.table ∙ (ap (λ (d : Dispatcher). d.table) stops.rest ∙ ap (λ (d : Dispatcher). d.table) c.abandon_all.ensures.abandoned);
+      marked = c.end_own.ensures.marked ∙ (ap (λ (d : Dispatcher). d.marked) stops.rest ∙ ap (λ (d : Dispatcher). d.marked) c.abandon_all.ensures.abandoned);
     }
 
 pub returns-clause-sound : goal.returns-clause-sound

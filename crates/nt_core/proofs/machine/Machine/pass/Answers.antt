@@ -28,4 +28,4 @@ pub returns : goal.returns
 returns c =
     let visits = subst (λ (timers : List ℕ). Visits (sequence (state c.expire_all.new.self) timers) c.expire_all.new.self c.serve_all.new.self) c.as_slice.ensures c.serve_all.ensures.visits in
     let local = expired_fit c.args.self.now c.expire_all.new.self c.args.m c.args.u c.expire_all.new.changed c.expire_all.new.alerted c.requires.sound c.requires.served c.expire_all.ensures.expired in
-    passed_whole c.args.self.now c.expire_all.new.self c.serve_all.new.self c.alert_all.new.self c.time_out_all.new.self c.args.m c.args.u c.expire_all.new.changed c.expire_all.new.alerted c.expire_all.ensures.expired local visits c.alert_all.ensures.alerted c.time_out_all.ensures.timed c.time_out_all.ensures.sound
+    passed_whole c.args.self.now c.expire_all.new.self c.serve_all.new.self c.alert_all.new.self c.time_out_all.new.self c.args.m c.args.u c.expire_all.new.changed c.expire_all.new.alerted c.expire_all.ensures.expired local visits c.alert_all.ensures.alerted c.time_out_all.ensures.timed c.time_out_all.ensures.sound c.requires.unmarked

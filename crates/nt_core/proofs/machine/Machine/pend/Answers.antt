@@ -10,14 +10,14 @@ use Rattle.nt_core.proofs.machine.Machine.pend.Goals as goal
 
 pub returns-clause-state : goal.returns-clause-state
 returns-clause-state c =
-    let d = dispatcher_of c.self.inside.threads c.self.inside.handles.opened c.self.inside.objects.items c.self.inside.objects.owned c.self.inside.waits c.self.inside.apcs c.self.inside.handing.items c.self.inside.moment c.self.inside.grants.items c.self.inside.alarms c.self.inside.leaving in
+    let d = dispatcher_of c.self.inside.threads c.self.inside.handles.opened c.self.inside.objects.items c.self.inside.objects.owned c.self.inside.waits c.self.inside.apcs c.self.inside.handing.items c.self.inside.moment c.self.inside.grants.items c.self.inside.alarms c.self.inside.leaving c.self.inside.changed c.self.inside.alerted in
     let done = c.in_ok-begin_in_place.ensures.begins in
     subst (λ (x : Dispatcher). state (record d { table = c.begin_in_place.new.self }) ≡ pending_too (state x) c.args.thread (wait_for c.args.handles.now c.args.all c.args.about)) c.self.view_is
     (pends_too d c.begin_in_place.new.self c.args.thread (wait_for c.args.handles.now c.args.all c.args.about) done.pending done.joined done.queues_kept)
 
 pub returns-clause-sound : goal.returns-clause-sound
 returns-clause-sound c =
-    let d = dispatcher_of c.self.inside.threads c.self.inside.handles.opened c.self.inside.objects.items c.self.inside.objects.owned c.self.inside.waits c.self.inside.apcs c.self.inside.handing.items c.self.inside.moment c.self.inside.grants.items c.self.inside.alarms c.self.inside.leaving in
+    let d = dispatcher_of c.self.inside.threads c.self.inside.handles.opened c.self.inside.objects.items c.self.inside.objects.owned c.self.inside.waits c.self.inside.apcs c.self.inside.handing.items c.self.inside.moment c.self.inside.grants.items c.self.inside.alarms c.self.inside.leaving c.self.inside.changed c.self.inside.alerted in
     let sound : IsSound d = subst IsSound (sym c.self.view_is) c.requires.sound in
     let able : IsSoundWait d.threads d.objects c.args.thread (wait_for c.args.handles.now c.args.all c.args.about) = subst (λ (x : Dispatcher). IsSoundWait x.threads x.objects c.args.thread (wait_for c.args.handles.now c.args.all c.args.about)) (sym c.self.view_is) c.requires.able in
     let idle : fin.get d.table.pending c.args.thread ≡ None = subst (λ (x : Dispatcher). fin.get x.table.pending c.args.thread ≡ None) (sym c.self.view_is) c.requires.idle in

@@ -9,14 +9,14 @@ use Rattle.nt_core.proofs.machine.Machine.pend_prepared.Goals as goal
 
 pub returns-clause-state : goal.returns-clause-state
 returns-clause-state c p is =
-    let d = dispatcher_of c.self.inside.threads c.self.inside.handles.opened c.self.inside.objects.items c.self.inside.objects.owned c.self.inside.waits c.self.inside.apcs c.self.inside.handing.items c.self.inside.moment c.self.inside.grants.items c.self.inside.alarms c.self.inside.leaving in
+    let d = dispatcher_of c.self.inside.threads c.self.inside.handles.opened c.self.inside.objects.items c.self.inside.objects.owned c.self.inside.waits c.self.inside.apcs c.self.inside.handing.items c.self.inside.moment c.self.inside.grants.items c.self.inside.alarms c.self.inside.leaving c.self.inside.changed c.self.inside.alerted in
     let done = c.begin_prepared.ensures.begins p (ap (λ (x : Dispatcher). x.table.prepared) c.self.view_is ∙ is) in
     subst (λ (x : Dispatcher). state (record d { table = c.begin_prepared.new.self }) ≡ pending_too (state x) p.0 p.1) c.self.view_is
     (pends_too d c.begin_prepared.new.self p.0 p.1 done.pending done.joined done.queues_kept)
 
 pub returns-clause-sound : goal.returns-clause-sound
 returns-clause-sound c =
-    let d = dispatcher_of c.self.inside.threads c.self.inside.handles.opened c.self.inside.objects.items c.self.inside.objects.owned c.self.inside.waits c.self.inside.apcs c.self.inside.handing.items c.self.inside.moment c.self.inside.grants.items c.self.inside.alarms c.self.inside.leaving in
+    let d = dispatcher_of c.self.inside.threads c.self.inside.handles.opened c.self.inside.objects.items c.self.inside.objects.owned c.self.inside.waits c.self.inside.apcs c.self.inside.handing.items c.self.inside.moment c.self.inside.grants.items c.self.inside.alarms c.self.inside.leaving c.self.inside.changed c.self.inside.alerted in
     let found = some_of c.args.self.now.table.prepared c.requires.there in
     let t = found.0.0 in
     let w = found.0.1 in

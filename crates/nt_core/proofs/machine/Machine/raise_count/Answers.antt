@@ -23,8 +23,8 @@ serve_one-requires-clause-countable c = exchanged_few c.args.self.now c.count-pr
 
 pub returns-clause-served : goal.returns-clause-served
 returns-clause-served c =
-    exchanged_served c.args.self.now c.count-previous.new.self c.serve_one.new.self c.args.semaphore (released c.args.count (object_at c.args.self.now.objects c.args.semaphore)) (known_semaphore c.args.self.now.objects c.args.semaphore c.requires.kind) (released_differs c.args.count (object_at c.args.self.now.objects c.args.semaphore) c.requires.kind c.requires.positive) (exchanged_alone c.args.self.now c.count-previous.new.self c.args.semaphore (released c.args.count (object_at c.args.self.now.objects c.args.semaphore)) (rw (to_z-of_z w32 c.args.count c.ranges.count) at c.count-previous.ensures.becomes))
-    c.serve_one.ensures.served c.serve_one.ensures.sound c.serve_one.ensures.most c.serve_one.ensures.least
+    exchanged_served c.args.self.now c.count-previous.new.self c.serve_one.new.self c.args.semaphore (released c.args.count (object_at c.args.self.now.objects c.args.semaphore)) c.requires.fresh (known_semaphore c.args.self.now.objects c.args.semaphore c.requires.kind) (released_differs c.args.count (object_at c.args.self.now.objects c.args.semaphore) c.requires.kind c.requires.positive) (exchanged_alone c.args.self.now c.count-previous.new.self c.args.semaphore (released c.args.count (object_at c.args.self.now.objects c.args.semaphore)) (rw (to_z-of_z w32 c.args.count c.ranges.count) at c.count-previous.ensures.becomes))
+    c.serve_one.ensures.served c.serve_one.ensures.sound c.serve_one.ensures.most c.serve_one.ensures.least c.serve_one.ensures.marked
 
 pub returns-clause-prepared : goal.returns-clause-prepared
 returns-clause-prepared c = exchanged_prepared c.args.self.now c.count-previous.new.self c.serve_one.new.self c.args.semaphore (released c.args.count (object_at c.args.self.now.objects c.args.semaphore)) (exchanged_alone c.args.self.now c.count-previous.new.self c.args.semaphore (released c.args.count (object_at c.args.self.now.objects c.args.semaphore)) (rw (to_z-of_z w32 c.args.count c.ranges.count) at c.count-previous.ensures.becomes)) c.serve_one.ensures.prepared

@@ -24,8 +24,8 @@ serve_one-requires-clause-countable c = exchanged_few c.args.self.now c.set.new.
 
 pub returns-then-set-clause-served : goal.returns-then-set-clause-served
 returns-then-set-clause-served c =
-    exchanged_served c.args.self.now c.set.new.self c.serve_one.new.self c.args.event (with_set true (object_at c.args.self.now.objects c.args.event)) (known_event c.args.self.now.objects c.args.event c.requires.kind) (raised_differs (object_at c.args.self.now.objects c.args.event) c.set.result c.requires.kind (λ t. c.set.ensures.answer t) c.if-set.true) (exchanged_alone c.args.self.now c.set.new.self c.args.event (with_set true (object_at c.args.self.now.objects c.args.event)) c.set.ensures.becomes)
-    c.serve_one.ensures.served c.serve_one.ensures.sound c.serve_one.ensures.most c.serve_one.ensures.least
+    exchanged_served c.args.self.now c.set.new.self c.serve_one.new.self c.args.event (with_set true (object_at c.args.self.now.objects c.args.event)) c.requires.fresh (known_event c.args.self.now.objects c.args.event c.requires.kind) (raised_differs (object_at c.args.self.now.objects c.args.event) c.set.result c.requires.kind (λ t. c.set.ensures.answer t) c.if-set.true) (exchanged_alone c.args.self.now c.set.new.self c.args.event (with_set true (object_at c.args.self.now.objects c.args.event)) c.set.ensures.becomes)
+    c.serve_one.ensures.served c.serve_one.ensures.sound c.serve_one.ensures.most c.serve_one.ensures.least c.serve_one.ensures.marked
 
 pub returns-then-set-clause-prepared : goal.returns-then-set-clause-prepared
 returns-then-set-clause-prepared c = exchanged_prepared c.args.self.now c.set.new.self c.serve_one.new.self c.args.event (with_set true (object_at c.args.self.now.objects c.args.event)) (exchanged_alone c.args.self.now c.set.new.self c.args.event (with_set true (object_at c.args.self.now.objects c.args.event)) c.set.ensures.becomes) c.serve_one.ensures.prepared

@@ -29,4 +29,4 @@ pub returns-clause-roused : goal.returns-clause-roused
 returns-clause-roused c =
     let old = c.args.self.now in
     let some = sym c.in-Some.is ∙ (c.about.ensures ∙ ap (λ (d : Dispatcher). option_map about_of (fin.get d.table.pending c.args.thread)) c.self.view_is) in
-    inl (alerted_here (state old) c.args.thread c.in-Some.about some (sym c.is_alerted.ensures ∙ c.if-not-is_alerted.false), c.end_wait.ensures.over, c.end_wait.ensures.grants, c.end_wait.ensures.looked)
+    inl (alerted_here (state old) c.args.thread c.in-Some.about some (sym c.is_alerted.ensures ∙ c.if-not-is_alerted.false), c.end_wait.ensures.over, c.end_wait.ensures.grants, c.end_wait.ensures.looked, c.end_wait.ensures.marked)

@@ -31,7 +31,7 @@ returns-then-not-was_set-clause-ok c =
     let same : armed ≡ asked old.now c.args.thread c.args.due c.args.period c.args.routine = λ i. record { due = due i; period = period i; routine = c.routine_for.ensures i } in
     let past : c.due_moment-due.result ≤ c.self.inside.moment = let h = c.if-due-get.true in let k = c.get.ensures.value in omega (arith, h, k) in
     let was = ap (λ (o : Object). signaled o c.args.thread) (sym c.object.ensures) ∙ sym c.signaled_for-was_set.ensures in
-    set_and_served old c.arm.new.self c.expire.new.self c.serve.new.self c.args.thread c.args.timer c.self.inside.moment c.args.due c.args.period c.args.routine armed c.requires.fresh c.requires.idle c.requires.kind same now past (was ∙ c.if-not-was_set.true) c.in_ok-arm.ensures.armed c.expire.ensures.expired c.serve.ensures.served c.serve.ensures.sound c.serve.ensures.most c.serve.ensures.least
+    set_and_served old c.arm.new.self c.expire.new.self c.serve.new.self c.args.thread c.args.timer c.self.inside.moment c.args.due c.args.period c.args.routine armed c.requires.fresh c.requires.idle c.requires.kind same now past (was ∙ c.if-not-was_set.true) c.in_ok-arm.ensures.armed c.expire.ensures.expired c.serve.ensures.served c.serve.ensures.sound c.serve.ensures.most c.serve.ensures.least (c.serve.ensures.marked ∙ (c.expire.ensures.marked ∙ c.in_ok-arm.ensures.marked))
 
 pub returns-else-not-was_set-clause-ok : goal.returns-else-not-was_set-clause-ok
 returns-else-not-was_set-clause-ok c =
@@ -43,7 +43,7 @@ returns-else-not-was_set-clause-ok c =
     let same : armed ≡ asked old.now c.args.thread c.args.due c.args.period c.args.routine = λ i. record { due = due i; period = period i; routine = c.routine_for.ensures i } in
     let past : c.due_moment-due.result ≤ c.self.inside.moment = let h = c.if-due-get.true in let k = c.get.ensures.value in omega (arith, h, k) in
     let was = ap (λ (o : Object). signaled o c.args.thread) (sym c.object.ensures) ∙ sym c.signaled_for-was_set.ensures in
-    set_at_once old c.arm.new.self c.expire.new.self c.args.thread c.args.timer c.self.inside.moment c.args.due c.args.period c.args.routine armed c.requires.fresh c.requires.idle c.requires.kind same now past (was ∙ c.if-not-was_set.false) c.in_ok-arm.ensures.armed c.expire.ensures.expired c.expire.ensures.sound (c.expire.ensures.grants ∙ c.in_ok-arm.ensures.grants) (c.expire.ensures.table ∙ c.in_ok-arm.ensures.table)
+    set_at_once old c.arm.new.self c.expire.new.self c.args.thread c.args.timer c.self.inside.moment c.args.due c.args.period c.args.routine armed c.requires.fresh c.requires.idle c.requires.kind same now past (was ∙ c.if-not-was_set.false) c.in_ok-arm.ensures.armed c.expire.ensures.expired c.expire.ensures.sound (c.expire.ensures.grants ∙ c.in_ok-arm.ensures.grants) (c.expire.ensures.table ∙ c.in_ok-arm.ensures.table) (c.expire.ensures.marked ∙ c.in_ok-arm.ensures.marked)
 
 pub returns-else-due-get-clause-ok : goal.returns-else-due-get-clause-ok
 returns-else-due-get-clause-ok c =
@@ -54,7 +54,7 @@ returns-else-due-get-clause-ok c =
     let period : c.unsigned_abs-period.result ≡ unsigned_abs c.args.period = c.unsigned_abs-period.ensures.value ∙ ap (λ (z : ℤ). unsigned_abs z) (to_z-of_z w32 c.args.period c.ranges.period) in
     let same : armed ≡ asked old.now c.args.thread c.args.due c.args.period c.args.routine = λ i. record { due = due i; period = period i; routine = c.routine_for.ensures i } in
     let ahead : old.now < c.due_moment-due.result = let h = c.if-due-get.false in let k = c.get.ensures.value in omega (arith, h, k, now) in
-    set_ahead old c.arm.new.self c.args.thread c.args.timer c.args.due c.args.period c.args.routine armed c.requires.fresh c.requires.idle c.requires.kind same ahead c.in_ok-arm.ensures.armed c.in_ok-arm.ensures.sound c.in_ok-arm.ensures.grants c.in_ok-arm.ensures.table
+    set_ahead old c.arm.new.self c.args.thread c.args.timer c.args.due c.args.period c.args.routine armed c.requires.fresh c.requires.idle c.requires.kind same ahead c.in_ok-arm.ensures.armed c.in_ok-arm.ensures.sound c.in_ok-arm.ensures.grants c.in_ok-arm.ensures.table c.in_ok-arm.ensures.marked
 
 pub expire-requires-clause-due : goal.expire-requires-clause-due
 expire-requires-clause-due c =

@@ -109,7 +109,7 @@ returns-clause-ok c =
     let moment : calm.now ≡ old.now = calm_now mid calm t c.args.signal c.args.object c.args.ms c.args.alertable (fresh here) (free here) (living here) c.signal.ensures.served ∙ ap (λ (d : Dispatcher). d.now) c.prepare.ensures.kept in
     let deadline : w.deadline ≡ deadline_after calm.now c.args.ms = ap (λ (n : ℕ). deadline_after n c.args.ms) (sym moment) in
     let becomes : state new ≡ pending_too (state calm) t w = c.pend_prepared.ensures.state (t, w) (prepared now) ∙ ap (λ (d : Dispatcher). pending_too (state d) t w) same in
-    let settled : IsSteady new = began_pending calm new t c.args.ms w steady pends.0 pends.1 pends.2 deadline becomes c.pend_prepared.ensures.sound in
+    let settled : IsSteady new = began_pending calm new t c.args.ms w steady pends.0 pends.1 pends.2 deadline becomes c.pend_prepared.ensures.sound (c.pend_prepared.ensures.marked ∙ ap (λ (d : Dispatcher). d.marked) same) in
     let answers : (Reply.Pended, state new) ≡ begun (state calm) t w c.args.ms = ap (λ (s : State). (Reply.Pended, s)) becomes ∙ sym (begun_pends (state calm) t w c.args.ms pends.0 pends.1 pends.2) in
     let accepted = swap_accepted mid calm t c.args.signal c.args.object c.args.ms c.args.alertable (fresh here) (free here) (living here) c.signal.ensures.served new Reply.Pended
     (c.pend_prepared.ensures.grants ∙ c.end_at_once.ensures.grants) (c.pend_prepared.ensures.looked ∙ ap (λ v. v.looked) c.end_at_once.ensures.table) settled

@@ -9,7 +9,7 @@ use Rattle.nt_core.proofs.machine.Machine.time_out.Goals as goal
 
 pub index_mut-requires : goal.index_mut-requires
 index_mut-requires c =
-    let d = dispatcher_of c.self.inside.threads c.self.inside.handles.opened c.self.inside.objects.items c.self.inside.objects.owned c.self.inside.waits c.self.inside.apcs c.self.inside.handing.items c.self.inside.moment c.self.inside.grants.items c.self.inside.alarms c.self.inside.leaving in
+    let d = dispatcher_of c.self.inside.threads c.self.inside.handles.opened c.self.inside.objects.items c.self.inside.objects.owned c.self.inside.waits c.self.inside.apcs c.self.inside.handing.items c.self.inside.moment c.self.inside.grants.items c.self.inside.alarms c.self.inside.leaving c.self.inside.changed c.self.inside.alerted in
     let sound : IsSound d = subst IsSound (sym c.self.view_is) c.requires.sound in
     let pending = pending_wait (state d) c.args.thread (subst (λ (x : Dispatcher). pends (state x) c.args.thread ≡ true) (sym c.self.view_is) c.requires.pends) in
     let hands : length c.self.inside.handing.items ≡ d.threads = sound.hands in
@@ -19,7 +19,7 @@ index_mut-requires c =
 
 pub push_reserved-requires : goal.push_reserved-requires
 push_reserved-requires c =
-    let d = dispatcher_of c.self.inside.threads c.self.inside.handles.opened c.self.inside.objects.items c.self.inside.objects.owned c.self.inside.waits c.self.inside.apcs c.self.inside.handing.items c.self.inside.moment c.self.inside.grants.items c.self.inside.alarms c.self.inside.leaving in
+    let d = dispatcher_of c.self.inside.threads c.self.inside.handles.opened c.self.inside.objects.items c.self.inside.objects.owned c.self.inside.waits c.self.inside.apcs c.self.inside.handing.items c.self.inside.moment c.self.inside.grants.items c.self.inside.alarms c.self.inside.leaving c.self.inside.changed c.self.inside.alerted in
     let sound : IsSound d = subst IsSound (sym c.self.view_is) c.requires.sound in
     let pending = pending_wait (state d) c.args.thread (subst (λ (x : Dispatcher). pends (state x) c.args.thread ≡ true) (sym c.self.view_is) c.requires.pends) in
     let room : length d.grants < d.threads = room_for d c.args.thread pending.0 sound pending.1 in
@@ -28,7 +28,7 @@ push_reserved-requires c =
 
 pub let_go-requires : goal.let_go-requires
 let_go-requires c =
-    let d = dispatcher_of c.self.inside.threads c.self.inside.handles.opened c.self.inside.objects.items c.self.inside.objects.owned c.self.inside.waits c.self.inside.apcs c.self.inside.handing.items c.self.inside.moment c.self.inside.grants.items c.self.inside.alarms c.self.inside.leaving in
+    let d = dispatcher_of c.self.inside.threads c.self.inside.handles.opened c.self.inside.objects.items c.self.inside.objects.owned c.self.inside.waits c.self.inside.apcs c.self.inside.handing.items c.self.inside.moment c.self.inside.grants.items c.self.inside.alarms c.self.inside.leaving c.self.inside.changed c.self.inside.alerted in
     let sound : IsSound d = subst IsSound (sym c.self.view_is) c.requires.sound in
     let ended = c.end-ended.ensures in
     subst (λ (k : ℕ). MarksAgreeBut c.as_slice-2.result.now (record d { table = c.end-ended.new.self; handing = set d.handing k false; grants = c.push_reserved.new.self.items })) (sym c.get.ensures)
@@ -37,7 +37,7 @@ let_go-requires c =
 
 pub returns-clause-over : goal.returns-clause-over
 returns-clause-over c =
-    let d = dispatcher_of c.self.inside.threads c.self.inside.handles.opened c.self.inside.objects.items c.self.inside.objects.owned c.self.inside.waits c.self.inside.apcs c.self.inside.handing.items c.self.inside.moment c.self.inside.grants.items c.self.inside.alarms c.self.inside.leaving in
+    let d = dispatcher_of c.self.inside.threads c.self.inside.handles.opened c.self.inside.objects.items c.self.inside.objects.owned c.self.inside.waits c.self.inside.apcs c.self.inside.handing.items c.self.inside.moment c.self.inside.grants.items c.self.inside.alarms c.self.inside.leaving c.self.inside.changed c.self.inside.alerted in
     let ended = c.end-ended.ensures in
     let leaving = c.let_go.new.self.leaving in
     let is : c.let_go.new.self ≡ record d { table = c.end-ended.new.self; handing = set d.handing c.args.thread false; grants = c.push_reserved.new.self.items; leaving = leaving } =
@@ -47,7 +47,7 @@ returns-clause-over c =
 
 pub returns-clause-sound : goal.returns-clause-sound
 returns-clause-sound c =
-    let d = dispatcher_of c.self.inside.threads c.self.inside.handles.opened c.self.inside.objects.items c.self.inside.objects.owned c.self.inside.waits c.self.inside.apcs c.self.inside.handing.items c.self.inside.moment c.self.inside.grants.items c.self.inside.alarms c.self.inside.leaving in
+    let d = dispatcher_of c.self.inside.threads c.self.inside.handles.opened c.self.inside.objects.items c.self.inside.objects.owned c.self.inside.waits c.self.inside.apcs c.self.inside.handing.items c.self.inside.moment c.self.inside.grants.items c.self.inside.alarms c.self.inside.leaving c.self.inside.changed c.self.inside.alerted in
     let sound : IsSound d = subst IsSound (sym c.self.view_is) c.requires.sound in
     let ended = c.end-ended.ensures in
     let leaving = c.let_go.new.self.leaving in

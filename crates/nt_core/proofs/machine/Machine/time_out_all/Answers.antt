@@ -26,7 +26,7 @@ pub loop-thread-preserved : goal.loop-thread-preserved
 loop-thread-preserved c =
     let first : IsFirstWithDeadline c.loop-thread.self.table.pending c.args.deadline c.in-Some.thread = subst (λ (x : Dispatcher). IsFirstWithDeadline x.table.pending c.args.deadline c.in-Some.thread) c.self.view_is c.in-Some.ensures in
     let out = c.time_out.ensures in
-    late_next c.args.self.now c.loop-thread.self c.time_out.new.self c.args.deadline c.in-Some.thread c.loop-thread.invariant first out.over out.grants out.looked out.sound
+    late_next c.args.self.now c.loop-thread.self c.time_out.new.self c.args.deadline c.in-Some.thread c.loop-thread.invariant first out.over out.grants out.looked out.marked out.sound
 
 pub returns-clause-timed : goal.returns-clause-timed
 returns-clause-timed c =
