@@ -76,8 +76,8 @@ pending_wait s t has = go (fin.get s.waits t) refl has
 
 -- ---- alerts of one thread, or of none
 
-pub one_alerted : (old new : Dispatcher) (t : ℕ) → IsAlerted (state old) t → ((u : ℕ) → IsAlerted (state old) u → u ≡ t) → state new ≡ wait_over (state old) t true → new.grants ≡ old.grants ++ ending io_completion_code t ∷ [] → new.table.looked ≡ old.table.looked → new.marked ≡ old.marked → IsAlertedAfter old new
-one_alerted old new t here alone over grants looked marked = record {
+pub one_alerted : (old new : Dispatcher) (t : ℕ) → IsAlerted (state old) t → ((u : ℕ) → IsAlerted (state old) u → u ≡ t) → state new ≡ wait_over (state old) t true → new.grants ≡ old.grants ++ ending io_completion_code t ∷ [] → new.table.looked ≡ old.table.looked → IsUnmarked new.marked → IsAlertedAfter old new
+one_alerted old new t here alone over grants looked unmarked = record {
   ended = ending io_completion_code t ∷ [];
   alerts = record {
     threads = t ∷ [];
@@ -90,15 +90,15 @@ one_alerted old new t here alone over grants looked marked = record {
   };
   grants = grants;
   looked = looked;
-  marked = marked;
+  unmarked = unmarked;
 }
   where
     member : (u : ℕ) → (t ≡ u) ⊎ ⊥ → IsAlerted (state old) u
     member u (inl same) = subst (λ (k : ℕ). IsAlerted (state old) k) same here
     member u (inr m) = absurd m
 
-pub none_alerted : (old : Dispatcher) → IsCalm (state old) → IsAlertedAfter old old
-none_alerted old calm = record {
+pub none_alerted : (old : Dispatcher) → IsCalm (state old) → IsUnmarked old.marked → IsAlertedAfter old old
+none_alerted old calm unmarked = record {
   ended = [];
   alerts = record {
     threads = [];
@@ -108,13 +108,13 @@ none_alerted old calm = record {
   };
   grants = sym (append-nil old.grants);
   looked = refl;
-  marked = refl;
+  unmarked = unmarked;
 }
 
 -- one thread was roused, or was not to be alerted, and no other was
-pub roused_alone : (old new : Dispatcher) (t : ℕ) → IsRoused old new t → ((u : ℕ) → IsAlerted (state old) u → u ≡ t) → IsAlertedAfter old new
-roused_alone old new t (inl ended) alone = one_alerted old new t ended.0 alone ended.1 ended.2 ended.3 ended.4
-roused_alone old new t (inr quiet) alone = subst (IsAlertedAfter old) (sym quiet.1) (none_alerted old (λ u alerted. quiet.0 (subst (IsAlerted (state old)) (alone u alerted) alerted)))
+pub roused_alone : (old new : Dispatcher) (t : ℕ) → IsRoused old new t → ((u : ℕ) → IsAlerted (state old) u → u ≡ t) → IsUnmarked old.marked → IsAlertedAfter old new
+roused_alone old new t (inl ended) alone unmarked = one_alerted old new t ended.0 alone ended.1 ended.2 ended.3 (subst IsUnmarked (sym ended.4) unmarked)
+roused_alone old new t (inr quiet) alone unmarked = subst (IsAlertedAfter old) (sym quiet.1) (none_alerted old (λ u alerted. quiet.0 (subst (IsAlerted (state old)) (alone u alerted) alerted)) unmarked)
 
 about_none : (o : Option Wait) → option_map about_of o ≡ None → o ≡ None
 about_none None e = refl
@@ -245,7 +245,7 @@ queued_accepted old new t h routine arg fresh sound after = record {
   steady = record {
     sound = sound;
     settled = alerted_settled (state mid) (state new) after.ended after.alerts served fresh.steady.settled.passed;
-    unmarked = subst IsUnmarked (sym after.marked) fresh.steady.unmarked;
+    unmarked = after.unmarked;
   };
   local = record {
     handles = [];

@@ -23,6 +23,7 @@ mod Swapping
 mod Arming
 mod Passing
 mod Rousing
+mod Places
 mod Moments
 mod Coming
 pub mod Judging

@@ -15,7 +15,7 @@ use Rattle.nt_apc.specs.declared.apc.Queued.{Queued}
 use Rattle.nt_apc.specs.Queues.{has_apc}
 use Rattle.nt_calls.specs.declared.call.Grant.{Grant}
 use Rattle.nt_calls.specs.State.{State, object_at, waits_over, wait_over, Pending}
-use Rattle.nt_core.specs.Dispatcher.{Dispatcher, state}
+use Rattle.nt_core.specs.Dispatcher.{Dispatcher, state, Marked, with_marked}
 use Rattle.nt_core.specs.Due.{is_up_to, due_weight, total_weight}
 use Rattle.nt_calls.specs.Serving.{granted, sequence, IsServed, IsAlerted, Grants, IsLate}
 use Rattle.nt_calls.specs.Change.{expired_as, expired, all_expired}
@@ -148,6 +148,18 @@ sequence_weight s (h ∷ hs) =
 same_sequence : (old new : Dispatcher) (timers : List ℕ) → new.table ≡ old.table → sequence (state new) timers ≡ sequence (state old) timers
 same_sequence old new timers table = ap (λ (v : Waits). flat_map (λ h. queue_of v h) timers) table
 
+-- what expired tells nothing of the marks that are left now
+pub expired_remarked : (old new : Dispatcher) (m u : ℕ) (timers : List ℕ) (marks : List (Option ℕ)) (marked : Marked) → IsExpiredAfter old m u new timers marks → IsExpiredAfter old m u (with_marked new marked) timers marks
+expired_remarked old new m u timers marks marked after = record {
+  due = after.due;
+  expired = after.expired;
+  marked = after.marked;
+  others = after.others;
+  fewer = after.fewer;
+  grants = after.grants;
+  table = after.table;
+}
+
 -- what fits after timers expired names one of them
 pub expired_fit : (old new : Dispatcher) (m u : ℕ) (timers : List ℕ) (marks : List (Option ℕ)) → IsSound old → IsServed (state old) → IsExpiredAfter old m u new timers marks → FitOnlyIn (sequence (state new) timers) (state new)
 expired_fit old new m u timers marks sound served after =
@@ -201,8 +213,8 @@ late_fewer d1 d2 d3 d4 u threads gs has rouse timed t late = by_grants gs has
         let count = Grants_len threads (state d1) (state d2) (g ∷ gs) has in
         omega (arith, count, out, roused)
 
-pub passed_whole : (old d1 d2 d3 d4 : Dispatcher) (m u : ℕ) (timers : List ℕ) (marks : List (Option ℕ)) → IsExpiredAfter old m u d1 timers marks → FitOnlyIn (sequence (state d1) timers) (state d1) → Visits (sequence (state d1) timers) d1 d2 → IsAlertedAfter d2 d3 → IsTimedOutAfter d3 u d4 → IsSound d4 → IsUnmarked old.marked → IsPassedAfter old m u d4
-passed_whole old d1 d2 d3 d4 m u timers marks after local visits rouse timed sound unmarked =
+pub passed_whole : (old d1 d2 d3 d4 : Dispatcher) (m u : ℕ) (timers : List ℕ) (marks : List (Option ℕ)) → IsExpiredAfter old m u d1 timers marks → FitOnlyIn (sequence (state d1) timers) (state d1) → Visits (sequence (state d1) timers) d1 d2 → IsAlertedAfter d2 d3 → IsTimedOutAfter d3 u d4 → IsSound d4 → IsPassedAfter old m u d4
+passed_whole old d1 d2 d3 d4 m u timers marks after local visits rouse timed sound =
     let same = same_sequence old d1 timers after.table in
     let grants : Grants (sequence (state old) timers) (all_expired m (state old) timers) visits.ended (state d2) =
     subst (λ (s : State). Grants (sequence (state old) timers) s visits.ended (state d2)) after.expired (subst (λ (q : List ℕ). Grants q (state d1) visits.ended (state d2)) same visits.granted) in
@@ -241,7 +253,7 @@ passed_whole old d1 d2 d3 d4 m u timers marks after local visits rouse timed sou
           let same : fin.len (state d1).waits ≡ fin.len (state old).waits = ap (λ (p : Pending). fin.len p) waits in
           omega (arith, less, same);
       sound = sound;
-      unmarked = subst IsUnmarked (sym (timed.marked ∙ (rouse.marked ∙ (visits.marked ∙ after.stays)))) unmarked;
+      unmarked = subst IsUnmarked (sym timed.marked) rouse.unmarked;
     }
 
 -- what is served then fits the counter

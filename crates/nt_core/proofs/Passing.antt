@@ -1,6 +1,6 @@
 -- One moment of a tick: timers expire, waits are served, alerted and timed out.
-use Rattle.std.proofs.Common.{◌≡◌, ◌≢◌, ◌<◌, ◌≤◌, ℕ, zero, suc, ◌+◌, Bool, true, false, ◌&&◌, List, [], ◌∷◌, ◌++◌, length, length-append, set, refl, sym, ap, ◌∙◌, subst, arith, Option, Some, None, inl, inr, ◌⊎◌}
-use Rattle.std.specs.Prelude.{nat_le}
+use Rattle.std.proofs.Common.{◌≡◌, ◌≢◌, ◌<◌, ◌≤◌, ◌-◌, ℕ, zero, suc, ◌+◌, Bool, true, false, ◌&&◌, List, [], ◌∷◌, ◌++◌, length, length-append, set, refl, sym, ap, ◌∙◌, subst, arith, Option, Some, None, inl, inr, ◌⊎◌}
+use Rattle.std.specs.Prelude.{nat_le, IsSomeAnd}
 use Rattle.std.proofs.lemmas.Bool.{cases_eq, false≢true}
 use Rattle.std.proofs.lemmas.Bool.Decides.{nat_tests}
 use Rattle.std.proofs.lemmas.List.{length-set}
@@ -12,10 +12,11 @@ use Rattle.nt_objects.specs.declared.object.Armed.{Armed}
 use Rattle.nt_objects.specs.declared.object.Routine.{Routine}
 use Rattle.nt_objects.specs.Object.{due_of, setter_of, is_timer, rearmed}
 use Rattle.nt_alarms.specs.Alarms.{alarm_at, NoneBefore, NoneAt, IsLowestAt}
+use Rattle.nt_alarms.specs.Marks.{with_mark, marked_places}
 use Rattle.nt_apc.specs.Queues.{has_apc}
 use Rattle.nt_calls.specs.Rising.{IsRising}
 use Rattle.nt_calls.specs.State.{State, object_at}
-use Rattle.nt_core.specs.Dispatcher.{Dispatcher, state}
+use Rattle.nt_core.specs.Dispatcher.{Dispatcher, Marked, state, with_marked}
 use Rattle.nt_core.specs.Due.{is_up_to, due_weight, total_weight}
 use Rattle.nt_calls.specs.Serving.{IsAlerted}
 use Rattle.nt_calls.specs.Change.{notified, expired, all_expired, IsTimerDue}
@@ -24,6 +25,7 @@ use Rattle.nt_core.specs.Accepts.{IsExpiredAfter}
 use Rattle.nt_core.proofs.Changing.{object_at-set_same, object_at-set_other}
 use Rattle.nt_core.proofs.Accepting.{IsCalm}
 use Rattle.nt_core.proofs.Arming.{expired_one, setting_parts, due_setting, later_rung, has_notified, rung}
+use Rattle.nt_core.proofs.Places.{sound_marked, marked_last}
 use Rattle.nt_core.proofs.Ticking.{rising_append}
 use Rattle.nt_core.proofs.Timing.{known_timer, and_kept}
 
@@ -47,7 +49,6 @@ pub record ExpiredSoFar (old now : Dispatcher) (m u : ℕ) (timers : List ℕ) (
   pub count : length now.objects ≡ length old.objects
   pub grants : now.grants ≡ old.grants
   pub table : now.table ≡ old.table
-  pub stays : now.marked ≡ old.marked
   pub sound : IsSound now
 
 pub expired_none : (d : Dispatcher) (m u : ℕ) (marks : List (Option ℕ)) → IsSound d → IsCalm (state d) → NoneBefore d.alarms u → ExpiredSoFar d d m u [] marks
@@ -64,7 +65,6 @@ expired_none d m u marks sound calm before = record {
   count = refl;
   grants = refl;
   table = refl;
-  stays = refl;
   sound = sound;
 }
 
@@ -164,8 +164,8 @@ alerted_before m s h u t due alerted =
         go (inl same) = inl (setter_parts (object_at s.objects h) manual was armed is r some ∙ ap (λ (k : ℕ). Some k) (sym same))
         go (inr other) = inr (alerted.0, alerted.1, and_kept (alerted.0).alertable (has_apc (notified s.apcs h armed.due (Some r)) t) (has_apc s.apcs t) (has_notified s.apcs h armed.due (Some r) r.thread t refl other) (subst (λ (x : Option Routine). ((alerted.0).alertable && has_apc (notified s.apcs h armed.due x) t) ≡ true) some alerted.2))
 
-pub expired_next : (old now new : Dispatcher) (m u h : ℕ) (timers : List ℕ) (marks marked : List (Option ℕ)) → u ≤ m → ExpiredSoFar old now m u timers marks → IsLowestAt now.alarms u h → IsMarked marks marked (setter_of (object_at now.objects h)) → state new ≡ expired m (state now) h → new.grants ≡ now.grants → new.table ≡ now.table → new.marked ≡ now.marked → IsSound new → ExpiredSoFar old new m u (timers ++ h ∷ []) marked
-expired_next old now new m u h timers marks marked le far lowest mark becomes grants table stays sound =
+pub expired_next : (old now new : Dispatcher) (m u h : ℕ) (timers : List ℕ) (marks marked : List (Option ℕ)) → u ≤ m → ExpiredSoFar old now m u timers marks → IsLowestAt now.alarms u h → IsMarked marks marked (setter_of (object_at now.objects h)) → state new ≡ expired m (state now) h → new.grants ≡ now.grants → new.table ≡ now.table → IsSound new → ExpiredSoFar old new m u (timers ++ h ∷ []) marked
+expired_next old now new m u h timers marks marked le far lowest mark becomes grants table sound =
     let due = lowest_due now u h far.sound lowest in
     let own = expired_objects m (state now) h u due in
     let armed = own.0 in
@@ -205,7 +205,6 @@ expired_next old now new m u h timers marks marked le far lowest mark becomes gr
       count = count ∙ far.count;
       grants = grants ∙ far.grants;
       table = table ∙ far.table;
-      stays = stays ∙ far.stays;
       sound = sound;
     }
   where
@@ -238,7 +237,6 @@ expired_end old now m u timers marks far none = record {
   fewer = far.fewer;
   others = far.others;
   table = far.table;
-  stays = far.stays;
 }
   where
     listed : (h : ℕ) → IsTimerDue (state old) u h → IsMember timers h ⊎ (IsMember timers h → ⊥) → IsMember timers h
@@ -259,17 +257,60 @@ room_more old now m u h timers marks far lowest =
     let longer = length-append timers (h ∷ []) in
     omega (arith, few, longer)
 
-pub setter_known : (d : Dispatcher) (h t : ℕ) → IsSound d → setter_of (object_at d.objects h) ≡ Some t → t < 256
-setter_known d h t sound sets = let known = (sound.timers.runs h t sets).0 in let few = sound.few in omega (arith, known, few)
+-- with the mark of its setter, if it has one
+pub setter_marked : (marks : List (Option ℕ)) (setter : Option ℕ) → ((t : ℕ) → setter ≡ Some t → t < length marks) → IsMarked marks (with_mark setter marks) setter
+setter_marked marks None known = marked_none marks
+setter_marked marks (Some t) known = marked_some marks t (known t refl)
 
-pub setter_marked : (d : Dispatcher) (h t : ℕ) (marks marked : List (Option ℕ)) → IsSound d → length marked ≡ 256 → setter_of (object_at d.objects h) ≡ Some t → marked ≡ set marks t (Some 0) → IsMarked marks marked (setter_of (object_at d.objects h))
-setter_marked d h t marks marked sound count sets is =
-    let known = setter_known d h t sound sets in
-    let same : length marks ≡ 256 = sym (length-set marks t (Some 0)) ∙ (ap (λ xs. length xs) (sym is) ∙ count) in
-    subst (λ (o : Option ℕ). IsMarked marks marked o) (sym sets)
-    (subst (λ (xs : List (Option ℕ)). IsMarked marks xs (Some t)) (sym is) (marked_some marks t (omega (arith, known, same))))
+pub setter_known : (d : Dispatcher) (h t : ℕ) → IsSound d → setter_of (object_at d.objects h) ≡ Some t → t < length d.marked.alerted
+setter_known d h t sound sets = let known = (sound.timers.runs h t sets).0 in let places = sound.places.alerted in omega (arith, known, places)
 
-pub setter_unmarked : (d : Dispatcher) (h : ℕ) (marks marked : List (Option ℕ)) → setter_of (object_at d.objects h) ≡ None → marked ≡ marks → IsMarked marks marked (setter_of (object_at d.objects h))
-setter_unmarked d h marks marked none same =
-    subst (λ (o : Option ℕ). IsMarked marks marked o) (sym none)
-    (subst (λ (xs : List (Option ℕ)). IsMarked marks xs None) (sym same) (marked_none marks))
+-- the timer at h, which expires, and its setter are marked
+abbrev pub due_marked : Dispatcher → ℕ → Dispatcher
+due_marked d h = with_marked d (record { changed = set d.marked.changed h (Some 0); alerted = with_mark (setter_of (object_at d.objects h)) d.marked.alerted })
+
+pub lowest_known : (d : Dispatcher) (u h : ℕ) → IsSound d → IsLowestAt d.alarms u h → h < length d.objects
+lowest_known d u h sound lowest = let known = alarm_known d.alarms h u lowest.here in let clocks = sound.timers.count in omega (arith, known, clocks)
+
+pub marked_sound : (now mid : Dispatcher) (h : ℕ) → IsSound now → mid ≡ due_marked now h → IsSound mid
+marked_sound now mid h sound is = subst IsSound (sym is) (sound_marked now marks sound (record {
+  changed = length-set now.marked.changed h (Some 0) ∙ sound.places.changed;
+  alerted = as_long (setter_of (object_at now.objects h)) ∙ sound.places.alerted;
+}))
+  where
+    as_long : (setter : Option ℕ) → length (with_mark setter now.marked.alerted) ≡ length now.marked.alerted
+    as_long None = refl
+    as_long (Some t) = length-set now.marked.alerted t (Some 0)
+
+    marks : Marked
+    marks = record { changed = set now.marked.changed h (Some 0); alerted = with_mark (setter_of (object_at now.objects h)) now.marked.alerted }
+
+pub due_by : (now mid : Dispatcher) (m u h : ℕ) → u ≤ m → IsSound now → IsLowestAt now.alarms u h → mid ≡ due_marked now h → IsSomeAnd (due_of (object_at mid.objects h)) (λ due. due ≤ m)
+due_by now mid m u h le sound lowest is =
+    subst (λ (o : Option ℕ). IsSomeAnd o (λ due. due ≤ m)) (sym (ap (λ (d : Dispatcher). due_of (object_at d.objects h)) is ∙ lowest_due now u h sound lowest)) le
+
+mark_places : (now mid new : Dispatcher) (m u h : ℕ) (old : Dispatcher) → ExpiredSoFar old now m u (marked_places now.marked.changed) now.marked.alerted → IsLowestAt now.alarms u h → mid ≡ due_marked now h → new.marked ≡ mid.marked → marked_places new.marked.changed ≡ marked_places now.marked.changed ++ h ∷ []
+mark_places now mid new m u h old far lowest is stays =
+    let known = lowest_known now u h far.sound lowest in
+    let places = far.sound.places.changed in
+    ap (λ (mk : Marked). marked_places mk.changed) (stays ∙ ap (λ (d : Dispatcher). d.marked) is)
+    ∙ marked_last now.marked.changed h (omega (arith, known, places)) (λ x member. far.above h (lowest_due now u h far.sound lowest) x member)
+
+-- the timer with the lowest number is marked, and expires
+pub expired_marked : (old now mid new : Dispatcher) (m u h : ℕ) → u ≤ m → ExpiredSoFar old now m u (marked_places now.marked.changed) now.marked.alerted → IsLowestAt now.alarms u h → mid ≡ due_marked now h → state new ≡ expired m (state mid) h → new.grants ≡ mid.grants → new.table ≡ mid.table → new.marked ≡ mid.marked → IsSound new → ExpiredSoFar old new m u (marked_places new.marked.changed) new.marked.alerted
+expired_marked old now mid new m u h le far lowest is becomes grants table stays sound =
+    let setter = setter_of (object_at now.objects h) in
+    let alerted : new.marked.alerted ≡ with_mark setter now.marked.alerted = ap (λ (mk : Marked). mk.alerted) (stays ∙ ap (λ (d : Dispatcher). d.marked) is) in
+    subst (λ (timers : List ℕ). ExpiredSoFar old new m u timers new.marked.alerted) (sym (mark_places now mid new m u h old far lowest is stays))
+    (subst (λ (marks : List (Option ℕ)). ExpiredSoFar old new m u (marked_places now.marked.changed ++ h ∷ []) marks) (sym alerted)
+    (expired_next old now new m u h (marked_places now.marked.changed) now.marked.alerted (with_mark setter now.marked.alerted) le far lowest
+    (setter_marked now.marked.alerted setter (λ t sets. setter_known now h t far.sound sets))
+    (becomes ∙ ap (λ (d : Dispatcher). expired m (state d) h) is) (grants ∙ ap (λ (d : Dispatcher). d.grants) is) (table ∙ ap (λ (d : Dispatcher). d.table) is) sound))
+
+-- fewer objects are left without a mark
+pub expired_fewer : (old now mid new : Dispatcher) (m u h : ℕ) → ExpiredSoFar old now m u (marked_places now.marked.changed) now.marked.alerted → IsLowestAt now.alarms u h → mid ≡ due_marked now h → new.marked ≡ mid.marked → length new.objects ≡ length now.objects → length new.objects - length (marked_places new.marked.changed) < length now.objects - length (marked_places now.marked.changed)
+expired_fewer old now mid new m u h far lowest is stays same =
+    let room = room_more old now m u h (marked_places now.marked.changed) now.marked.alerted far lowest in
+    let longer : length (marked_places new.marked.changed) ≡ length (marked_places now.marked.changed) + 1 = ap (λ (xs : List ℕ). length xs) (mark_places now mid new m u h old far lowest is stays) ∙ length-append (marked_places now.marked.changed) (h ∷ []) in
+    let count = far.count in
+    omega (arith, room, longer, count, same)

@@ -4,7 +4,7 @@ use Rattle.std.specs.Prelude.{nat_le}
 use Rattle.std.specs.FinMap as fin
 use Rattle.std.proofs.lemmas.Bool.{cases_eq}
 use Rattle.std.proofs.lemmas.Bool.Decides.{nat_tests}
-use Rattle.std.proofs.lemmas.List.{append-nil}
+use Rattle.std.proofs.lemmas.List.{append-nil, length-set}
 use Rattle.nt_status.specs.Status.{io_completion_code}
 use Rattle.nt_waits.specs.declared.wait.Wait.{Wait}
 use Rattle.nt_status.specs.Lists.{IsMember}
@@ -14,11 +14,12 @@ use Rattle.nt_apc.specs.declared.apc.Queued.{Queued}
 use Rattle.nt_apc.specs.Queues.{has_apc}
 use Rattle.nt_calls.specs.Rising.{IsRising}
 use Rattle.nt_calls.specs.State.{State, wait_over, waits_over}
-use Rattle.nt_core.specs.Dispatcher.{Dispatcher, state}
+use Rattle.nt_core.specs.Dispatcher.{Dispatcher, state, Marked, with_marked}
 use Rattle.nt_calls.specs.Serving.{IsAlerted, ending}
-use Rattle.nt_core.specs.Lawful.{IsSound}
+use Rattle.nt_core.specs.Lawful.{IsSound, IsUnmarked}
 use Rattle.nt_core.specs.Accepts.{IsRoused, IsAlertedAfter}
 use Rattle.nt_core.proofs.Alerting.{over_pending, over_apcs}
+use Rattle.nt_core.proofs.Places.{sound_marked}
 use Rattle.nt_core.proofs.Ticking.{rising_append, over_append, map_append, gone_member}
 
 -- how many marks there are
@@ -56,11 +57,11 @@ pub record AlertedSoFar (old now : Dispatcher) (marks : List (Option ℕ)) : Typ
   pub above : (x : ℕ) → alarm_at marks x ≡ Some 0 → (y : ℕ) → IsMember threads y → y < x
   pub marked : (x : ℕ) → IsAlerted (state now) x → alarm_at marks x ≡ Some 0
   pub looked : now.table.looked ≡ old.table.looked
-  pub stays : now.marked ≡ old.marked
+  pub stays : now.marked ≡ record old.marked { alerted = marks }
   pub sound : IsSound now
 
-pub alerted_none : (d : Dispatcher) (marks : List (Option ℕ)) → IsSound d → ((t : ℕ) → IsAlerted (state d) t → alarm_at marks t ≡ Some 0) → AlertedSoFar d d marks
-alerted_none d marks sound marked = record {
+pub alerted_none : (d : Dispatcher) → IsSound d → ((t : ℕ) → IsAlerted (state d) t → alarm_at d.marked.alerted t ≡ Some 0) → AlertedSoFar d d d.marked.alerted
+alerted_none d sound marked = record {
   threads = [];
   rising = tt;
   alerted = λ x m. absurd m;
@@ -86,7 +87,7 @@ lowest_least marks t x lowest is = go (nat_le t x) refl
     go true le = grind (arith, nat_tests, le)
     go false gt = let below : x < t = grind (arith, nat_tests, gt) in absurd (lowest.none_below x below is)
 
-pub alerted_next : (old now new : Dispatcher) (marks : List (Option ℕ)) (t : ℕ) → AlertedSoFar old now marks → IsLowestAt marks 0 t → IsRoused now new t → IsSound new → AlertedSoFar old new (set marks t None)
+pub alerted_next : (old now new : Dispatcher) (marks : List (Option ℕ)) (t : ℕ) → AlertedSoFar old now marks → IsLowestAt marks 0 t → IsRoused (with_marked now (record now.marked { alerted = set marks t None })) new t → IsSound new → AlertedSoFar old new (set marks t None)
 alerted_next old now new marks t far lowest (inl roused) sound =
     let before = still_alerted (state old) far.threads true t (subst (λ (s : State). IsAlerted s t) far.over roused.0) in
     record {
@@ -103,7 +104,7 @@ alerted_next old now new marks t far lowest (inl roused) sound =
           let still = still_alerted (state now) (t ∷ []) true x (subst (λ (s : State). IsAlerted s x) roused.1 alerted) in
           cleared_other marks t x (λ e. still.1 (inl (sym e))) ∙ far.marked x still.0;
       looked = roused.3 ∙ far.looked;
-      stays = roused.4 ∙ far.stays;
+      stays = roused.4 ∙ ap (λ (m : Marked). record m { alerted = set marks t None }) far.stays;
       sound = sound;
     }
   where
@@ -126,8 +127,8 @@ alerted_next old now new marks t far lowest (inr idle) sound = subst (λ (d : Di
     | inr other ↦ cleared_other marks t x other ∙ far.marked x alerted
   ];
   looked = far.looked;
-  stays = far.stays;
-  sound = far.sound;
+  stays = ap (λ (m : Marked). record m { alerted = set marks t None }) far.stays;
+  sound = subst IsSound idle.1 sound;
 })
   where
     no_mark : {P : Type 0} (n : ℕ) → None ≡ Some n → P
@@ -137,8 +138,17 @@ alerted_next old now new marks t far lowest (inr idle) sound = subst (λ (d : Di
     after x is (inl same) y m = no_mark 0 (sym (cleared_here marks t) ∙ (ap (λ (k : ℕ). alarm_at (set marks t None) k) (sym same) ∙ is))
     after x is (inr other) y m = far.above x (sym (cleared_other marks t x other) ∙ is) y m
 
-pub alerted_end : (old now : Dispatcher) (marks : List (Option ℕ)) → AlertedSoFar old now marks → NoneAt marks 0 → IsAlertedAfter old now
-alerted_end old now marks far none = record {
+-- the lowest mark is taken away
+pub taken_sound : (now mid : Dispatcher) (t : ℕ) → IsSound now → mid ≡ with_marked now (record now.marked { alerted = set now.marked.alerted t None }) → IsSound mid
+taken_sound now mid t sound is =
+    subst IsSound (sym is) (sound_marked now (record now.marked { alerted = set now.marked.alerted t None }) sound (record { changed = sound.places.changed; alerted = length-set now.marked.alerted t None ∙ sound.places.alerted }))
+
+pub alerted_left : (now mid new : Dispatcher) (t : ℕ) → mid ≡ with_marked now (record now.marked { alerted = set now.marked.alerted t None }) → IsRoused mid new t → new.marked.alerted ≡ set now.marked.alerted t None
+alerted_left now mid new t is (inl roused) = ap (λ (m : Marked). m.alerted) roused.4 ∙ ap (λ (d : Dispatcher). d.marked.alerted) is
+alerted_left now mid new t is (inr quiet) = ap (λ (d : Dispatcher). d.marked.alerted) quiet.1 ∙ ap (λ (d : Dispatcher). d.marked.alerted) is
+
+pub alerted_end : (old now : Dispatcher) (marks : List (Option ℕ)) → AlertedSoFar old now marks → NoneAt marks 0 → NoneAt old.marked.changed 0 → IsAlertedAfter old now
+alerted_end old now marks far none served = record {
   ended = map (ending io_completion_code) far.threads;
   alerts = record {
     threads = far.threads;
@@ -148,7 +158,7 @@ alerted_end old now marks far none = record {
   };
   grants = far.grants;
   looked = far.looked;
-  marked = far.stays;
+  unmarked = subst IsUnmarked (sym far.stays) (record { changed = served; alerted = none });
 }
   where
     gone : (x : ℕ) → IsAlerted (state old) x → (o : Option Wait) → fin.get now.table.pending x ≡ o → IsMember far.threads x

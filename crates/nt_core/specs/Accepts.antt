@@ -54,7 +54,7 @@ pub record IsAlertedAfter (old new : Dispatcher) : Type 0 where
   pub alerts : Alert (state old) ended (state new)
   pub grants : new.grants ≡ old.grants ++ ended
   pub looked : new.table.looked ≡ old.table.looked
-  pub marked : new.marked ≡ old.marked
+  pub unmarked : IsUnmarked new.marked
 
 -- the pending waits with this deadline have ended, and there were some where one was late
 pub record IsTimedOutAfter (old : Dispatcher) (deadline : ℕ) (new : Dispatcher) : Type 0 where
@@ -82,7 +82,6 @@ pub record IsExpiredAfter (old : Dispatcher) (m u : ℕ) (new : Dispatcher) (tim
   pub fewer : (weight : ℕ → ℕ) → due_weight weight m 0 new.objects + total_weight weight timers ≡ due_weight weight m 0 old.objects
   pub grants : new.grants ≡ old.grants
   pub table : new.table ≡ old.table
-  pub stays : new.marked ≡ old.marked
 
 -- the thread was to be alerted and its wait has ended, or it was not and nothing changed
 abbrev pub IsRoused : Dispatcher → Dispatcher → ℕ → Type 0

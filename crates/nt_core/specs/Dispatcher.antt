@@ -59,6 +59,10 @@ with_prepared d prepared = record d { table = record d.table { prepared = prepar
 abbrev pub with_queues : Dispatcher → List (List Queued) → Dispatcher
 with_queues d queues = record d { apcs = record d.apcs { queues = queues } }
 
+-- the dispatcher with other marks of what is to be served
+abbrev pub with_marked : Dispatcher → Marked → Dispatcher
+with_marked d marked = record d { marked = marked }
+
 -- one object more, last, with a handle, no alarm and no mark; it may stand in its owner's list
 abbrev pub with_created : Dispatcher → Object → List (List ℕ) → Dispatcher
 with_created d o owned =

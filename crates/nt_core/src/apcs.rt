@@ -8,7 +8,7 @@ ghost use Rattle.std.specs.FinMap as map;
 ghost use Rattle.nt_calls.specs.State.{pends, wait_over};
 ghost use Rattle.nt_core.specs.Dispatcher.{state, with_queues};
 ghost use Rattle.nt_calls.specs.Serving.{IsAlerted, ending};
-ghost use Rattle.nt_core.specs.Lawful.{IsSound};
+ghost use Rattle.nt_core.specs.Lawful.{IsSound, IsUnmarked};
 ghost use Rattle.nt_core.specs.Accepts.{IsFresh, IsFree, IsRoused, IsAlertedAfter, IsActMade, Accepts, IsJudged};
 ghost use Rattle.nt_calls.specs.Refusals.{apc_causes};
 ghost use Rattle.nt_status.specs.Access.{set_context};
@@ -25,6 +25,7 @@ impl Machine {
     fn alert(&mut self, thread: ThreadId)
         requires sound { IsSound self.old }
         requires alone { (t : ℕ) → IsAlerted (state self.old) t → t ≡ thread }
+        requires unmarked { IsUnmarked self.old.marked }
         ensures alerted { IsAlertedAfter self.old self.new }
         ensures sound { IsSound self.new }
     {

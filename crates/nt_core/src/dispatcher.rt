@@ -10,7 +10,6 @@ ghost use Rattle.nt_core.specs.Lawful.{IsLawful};
 ghost use Rattle.nt_core.specs.Accepts.{IsLocal, IsTickLocal};
 ghost use Rattle.nt_calls.specs.Moves.{Moves, IsMomentAfter, pended, is_wait};
 
-use crate::alerted::AlertedThreads;
 use crate::machine::Machine;
 use nt_calls::{Call, Grant, Reply, count_living};
 use nt_status::{ChangedObjects, MAX_THREADS, Moment, Refusal};
@@ -23,8 +22,6 @@ pub struct Core {
     pub(crate) machine: Machine,
     /// For the objects that a call or a moment of a tick changes.
     changed: ChangedObjects,
-    /// For the threads that a moment of a tick alerts.
-    alerted: AlertedThreads,
 }
 
 impl Model for Core {
@@ -58,13 +55,11 @@ impl Core {
             return Err(Refusal::InvalidParameter);
         }
         let changed = ChangedObjects::new(alloc)?;
-        let alerted = AlertedThreads::new(alloc)?;
         let machine = Machine::new(alloc, threads)?;
         machine.objects.agree();
         Ok(Core {
             machine,
             changed,
-            alerted,
         })
     }
 
@@ -105,7 +100,7 @@ impl Core {
         ensures moment { IsMomentAfter (state self.old).now m result (state self.new).now }
         ensures untested { OnErr result (self.new.table.looked ≡ 0) }
     {
-        let result = self.machine.tick(m, &mut self.changed, &mut self.alerted);
+        let result = self.machine.tick(m);
         let machine = &self.machine;
         machine.objects.agree();
         result
@@ -163,12 +158,10 @@ impl Core {
     {
         let alloc = *self.machine.grants.allocator();
         let changed = ChangedObjects::new(alloc)?;
-        let alerted = AlertedThreads::new(alloc)?;
         let machine = self.machine.copy()?;
         Ok(Core {
             machine,
             changed,
-            alerted,
         })
     }
 }

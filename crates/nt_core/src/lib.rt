@@ -20,9 +20,9 @@
 mod dispatcher;
 mod readers;
 // The parts, and the way of a call through them.
-mod alerted;
 mod calls;
 mod machine;
+mod marked;
 // Waits: how they begin, and are served.
 mod serving;
 mod waiting;

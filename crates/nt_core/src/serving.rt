@@ -1,7 +1,9 @@
 //! The serving of pending waits: after objects changed, the waits that they satisfy end, in the order in which they began.
 ghost use Rattle.std.specs.Prelude.{◌≡◌, ◌+◌, ◌≤◌, ◌<◌, ◌^◌, [], ◌∷◌, length, slice_get, IsTrue};
 ghost use Rattle.nt_calls.specs.State.{pends};
-ghost use Rattle.nt_core.specs.Dispatcher.{state};
+ghost use Rattle.nt_alarms.specs.Alarms.{NoneAt};
+ghost use Rattle.nt_alarms.specs.Marks.{marked_places};
+ghost use Rattle.nt_core.specs.Dispatcher.{state, with_marked};
 ghost use Rattle.nt_calls.specs.Serving.{sequence, Serve};
 ghost use Rattle.nt_core.specs.Visits.{IsVisited, Visits, FitOnlyBy, FitOnlyIn};
 ghost use Rattle.nt_core.specs.Lawful.{IsSound};
@@ -60,6 +62,24 @@ impl Machine {
     {
         for handle in changed {
             self.serve_on(*handle);
+        }
+    }
+
+    /// Visits the waits on the objects that are marked as changed, object by object from the lowest number on, and takes the marks
+    /// away.
+    pub(crate) fn serve_marked(&mut self)
+        requires sound { IsSound self.old }
+        requires countable { self.old.table.looked
+            + length (sequence (state self.old) (marked_places self.old.marked.changed)) < 2 ^ 64 }
+        ensures visits { Visits (sequence (state self.old) (marked_places self.old.marked.changed))
+            (with_marked self.old self.new.marked) self.new }
+        ensures served { NoneAt self.new.marked.changed 0 }
+        ensures alerted { self.new.marked.alerted ≡ self.old.marked.alerted }
+        ensures prepared { self.new.table.prepared ≡ self.old.table.prepared }
+        ensures sound { IsSound self.new }
+    {
+        while let Some(object) = self.take_changed() {
+            self.serve_on(object);
         }
     }
 

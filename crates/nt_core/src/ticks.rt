@@ -1,6 +1,7 @@
 //! Ticks: moments pass, and the waits end whose deadlines come.
 ghost use Rattle.std.specs.Prelude.{◌≡◌, ◌≤◌, ◌<◌, ◌+◌, ◌^◌, ℕ, ◌∷◌, ◌++◌, [], false, Some, length, IsTrue, MatchOption, OnOk, OnErr};
-ghost use Rattle.nt_alarms.specs.Alarms.{alarm_at, NoneBefore};
+ghost use Rattle.nt_alarms.specs.Alarms.{alarm_at, NoneAt, NoneBefore};
+ghost use Rattle.nt_alarms.specs.Marks.{marked_places};
 ghost use Rattle.nt_core.specs.Due.{earlier, due_weight};
 ghost use Rattle.std.specs.FinMap as map;
 ghost use Rattle.nt_waits.specs.Deadlines.{NoneEarlier};
@@ -12,10 +13,9 @@ ghost use Rattle.nt_core.specs.Lawful.{IsSound, IsSteady, IsUnmarked};
 ghost use Rattle.nt_calls.specs.Living.{LivesWhileKept};
 ghost use Rattle.nt_core.specs.Accepts.{IsTimedOutAfter, IsAlertedAfter, IsExpiredAfter, IsPassedAfter, IsTickLocal};
 
-use crate::alerted::AlertedThreads;
 use crate::machine::Machine;
 use nt_calls::{Grant, Reply, late_status};
-use nt_status::{ChangedObjects, Handle, Moment, Refusal, ThreadId};
+use nt_status::{Handle, Moment, Refusal, ThreadId};
 
 /// The earlier of two moments.
 fn earlier(first: Option<u64>, second: Option<u64>) -> Option<u64>
@@ -38,53 +38,39 @@ impl Machine {
         if next <= m.get() { Some(next) } else { None }
     }
 
-    /// Expires the timers that are due at moment `u` of a tick to `m`, lists them, and marks the threads whose APCs they queue.
-    fn expire_all(
-        &mut self,
-        u: u64,
-        m: Moment,
-        changed: &mut ChangedObjects,
-        alerted: &mut AlertedThreads,
-    )
+    /// Expires the timers that are due at moment `u` of a tick to `m`, and marks them, and the threads whose APCs they queue.
+    fn expire_all(&mut self, u: u64, m: Moment)
         requires sound { IsSound self.old }
         requires calm { (t : ℕ) → IsAlerted (state self.old) t → ⊥ }
+        requires unmarked { IsUnmarked self.old.marked }
         requires within { u ≤ m }
         requires earliest { NoneBefore self.old.alarms u }
-        ensures expired { IsExpiredAfter self.old m u self.new changed.new alerted.new }
+        ensures expired { IsExpiredAfter self.old m u self.new
+            (marked_places self.new.marked.changed) self.new.marked.alerted }
         ensures sound { IsSound self.new }
     {
-        changed.clear();
         while let Some(place) = self.alarms.first_at(u) {
             let timer = Handle::new(place as u32);
-            if let Some(thread) = self.object(timer).setter() {
-                alerted.mark(thread);
-            }
+            self.mark_due(timer);
             self.expire(timer, m);
-            changed.push(timer);
         }
     }
 
     /// Ends the waits of the threads with a mark that are to be alerted, by rising thread number. All that are have one.
-    fn alert_all(&mut self, alerted: &mut AlertedThreads)
+    fn alert_all(&mut self)
         requires sound { IsSound self.old }
-        requires marked { (t : ℕ) → IsAlerted (state self.old) t → alarm_at alerted.old t ≡ Some 0 }
+        requires marked { (t : ℕ) → IsAlerted (state self.old) t → alarm_at self.old.marked.alerted t ≡ Some 0 }
+        requires served { NoneAt self.old.marked.changed 0 }
         ensures alerted { IsAlertedAfter self.old self.new }
         ensures sound { IsSound self.new }
     {
-        while let Some(thread) = alerted.first() {
-            alerted.unmark(thread);
+        while let Some(thread) = self.take_alerted() {
             self.rouse(thread);
         }
     }
 
     /// What happens at moment `u` of a tick to `m`: timers expire, waits are served, alerted and timed out.
-    fn pass(
-        &mut self,
-        u: u64,
-        m: Moment,
-        changed: &mut ChangedObjects,
-        alerted: &mut AlertedThreads,
-    )
+    fn pass(&mut self, u: u64, m: Moment)
         requires sound { IsSound self.old }
         requires served { IsServed (state self.old) }
         requires calm { (t : ℕ) → IsAlerted (state self.old) t → ⊥ }
@@ -94,9 +80,9 @@ impl Machine {
             (λ h. length ((state self.old).queues h)) m 0 self.old.objects < 2 ^ 64 }
         ensures { IsPassedAfter self.old m u self.new }
     {
-        self.expire_all(u, m, changed, alerted);
-        self.serve_all(changed.as_slice());
-        self.alert_all(alerted);
+        self.expire_all(u, m);
+        self.serve_marked();
+        self.alert_all();
         self.time_out_all(u);
     }
 
@@ -131,12 +117,7 @@ impl Machine {
     }
 
     /// Lets all moments up to `m` pass.
-    pub fn tick(
-        &mut self,
-        m: Moment,
-        changed: &mut ChangedObjects,
-        alerted: &mut AlertedThreads,
-    ) -> Result<Reply, Refusal>
+    pub fn tick(&mut self, m: Moment) -> Result<Reply, Refusal>
         requires steady { IsSteady self.old }
         requires living { LivesWhileKept (state self.old) }
         ensures ticked { Ticked (state self.old) m result self.new.grants (state self.new) }
@@ -151,7 +132,7 @@ impl Machine {
             return Err(Refusal::MomentBack);
         }
         while let Some(u) = self.next_moment(m) {
-            self.pass(u, m, changed, alerted);
+            self.pass(u, m);
         }
         self.moment = m;
         self.end_forgotten();

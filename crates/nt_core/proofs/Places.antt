@@ -1,0 +1,228 @@
+-- Which places are marked, as a list; objects that are marked as changed are served one after another.
+use Rattle.std.proofs.Common.{◌≡◌, ◌≢◌, ◌<◌, ◌≤◌, ◌^◌, ℕ, zero, suc, ◌+◌, List, [], ◌∷◌, ◌++◌, length, length-append, set, refl, sym, ap, ◌∙◌, subst, arith, append_assoc, Option, Some, None, inl, inr, ◌⊎◌}
+use Rattle.std.specs.Prelude.{◌↔◌}
+use Rattle.std.specs.List.{flat_map, filter}
+use Rattle.std.proofs.lemmas.List.{append-nil, length-set}
+use Rattle.std.proofs.lemmas.Grind.{flat_map-append}
+use Rattle.nt_status.specs.Lists.{IsMember}
+use Rattle.nt_alarms.specs.Alarms.{alarm_at, NoneAt, IsLowestAt}
+use Rattle.nt_alarms.specs.Marks.{marked_from, marked_places}
+use Rattle.nt_waits.specs.Waits.{Agrees}
+use Rattle.nt_calls.specs.Rising.{IsRising, AreRising}
+use Rattle.nt_calls.specs.State.{State, pends}
+use Rattle.nt_calls.specs.Serving.{sequence}
+use Rattle.nt_core.specs.Dispatcher.{Dispatcher, Marked, state, with_marked}
+use Rattle.nt_core.specs.Lawful.{IsSound, HasPlaces}
+use Rattle.nt_core.specs.Visits.{Visits}
+use Rattle.nt_core.proofs.Marking.{marks_along}
+use Rattle.nt_core.proofs.Orders.{length-filter-le}
+use Rattle.nt_core.proofs.Walks.{Visits-none, Visits-then}
+
+-- ---- the list of the marked places
+
+unmarked_here : {P : Type 0} (n : ℕ) → None ≡ Some n → P
+unmarked_here n e = (cc)
+
+other_alarm : {P : Type 0} (n m : ℕ) → m ≡ 0 → Some (suc n) ≡ Some m → P
+other_alarm n m none e = let same : suc n ≡ m = (cc) in absurd (omega (arith, same, none))
+
+none_from : (k : ℕ) (marks : List (Option ℕ)) → NoneAt marks 0 → marked_from k marks ≡ []
+none_from k [] none = refl
+none_from k (None ∷ marks) none = none_from (k + 1) marks (λ place. none (suc place))
+none_from k (Some zero ∷ marks) none = absurd (none 0 refl)
+none_from k (Some (suc n) ∷ marks) none = none_from (k + 1) marks (λ place. none (suc place))
+
+pub none_marked : (marks : List (Option ℕ)) → NoneAt marks 0 → marked_places marks ≡ []
+none_marked marks none = none_from 0 marks none
+
+next_lowest : (a : Option ℕ) (marks : List (Option ℕ)) (h : ℕ) → IsLowestAt (a ∷ marks) 0 (suc h) → IsLowestAt marks 0 h
+next_lowest a marks h lowest = record { here = lowest.here; none_below = λ lower below. lowest.none_below (suc lower) (omega (arith, below)) }
+
+lowest_from : (k : ℕ) (marks : List (Option ℕ)) (h : ℕ) → IsLowestAt marks 0 h → marked_from k marks ≡ (k + h) ∷ marked_from k (set marks h None)
+lowest_from k [] h lowest = unmarked_here 0 lowest.here
+lowest_from k (None ∷ marks) zero lowest = unmarked_here 0 lowest.here
+lowest_from k (Some zero ∷ marks) zero lowest = ap (λ (n : ℕ). n ∷ marked_from (k + 1) marks) (omega arith)
+lowest_from k (Some (suc n) ∷ marks) zero lowest = other_alarm n 0 refl lowest.here
+lowest_from k (None ∷ marks) (suc h) lowest = lowest_from (k + 1) marks h (next_lowest None marks h lowest) ∙ ap (λ (n : ℕ). n ∷ marked_from (k + 1) (set marks h None)) (omega arith)
+lowest_from k (Some zero ∷ marks) (suc h) lowest = absurd (lowest.none_below 0 (omega arith) refl)
+lowest_from k (Some (suc n) ∷ marks) (suc h) lowest = lowest_from (k + 1) marks h (next_lowest (Some (suc n)) marks h lowest) ∙ ap (λ (n : ℕ). n ∷ marked_from (k + 1) (set marks h None)) (omega arith)
+
+-- the lowest comes first, and without its mark the others are left
+pub lowest_first : (marks : List (Option ℕ)) (h : ℕ) → IsLowestAt marks 0 h → marked_places marks ≡ h ∷ marked_places (set marks h None)
+lowest_first marks h lowest = lowest_from 0 marks h lowest ∙ ap (λ (n : ℕ). n ∷ marked_places (set marks h None)) (omega arith)
+
+from_member : (k : ℕ) (marks : List (Option ℕ)) (x : ℕ) → IsMember (marked_from k marks) x → (place : ℕ) × (x ≡ k + place) × (alarm_at marks place ≡ Some 0)
+from_member k [] x m = absurd m
+from_member k (None ∷ marks) x m = let rest = from_member (k + 1) marks x m in (suc rest.0, let e = rest.1 in omega (arith, e), rest.2)
+from_member k (Some zero ∷ marks) x (inl same) = (0, omega (arith, same), refl)
+from_member k (Some zero ∷ marks) x (inr m) = let rest = from_member (k + 1) marks x m in (suc rest.0, let e = rest.1 in omega (arith, e), rest.2)
+from_member k (Some (suc n) ∷ marks) x m = let rest = from_member (k + 1) marks x m in (suc rest.0, let e = rest.1 in omega (arith, e), rest.2)
+
+moved : (xs : List ℕ) (a b : ℕ) → a ≡ b → IsMember xs a → IsMember xs b
+moved xs a b same m = subst (λ (x : ℕ). IsMember xs x) same m
+
+member_from : (k : ℕ) (marks : List (Option ℕ)) (place : ℕ) → alarm_at marks place ≡ Some 0 → IsMember (marked_from k marks) (k + place)
+member_from k [] place at = unmarked_here 0 at
+member_from k (None ∷ marks) zero at = unmarked_here 0 at
+member_from k (Some zero ∷ marks) zero at = inl (omega arith)
+member_from k (Some (suc n) ∷ marks) zero at = other_alarm n 0 refl at
+member_from k (None ∷ marks) (suc place) at = moved (marked_from (k + 1) marks) (k + 1 + place) (k + suc place) (omega arith) (member_from (k + 1) marks place at)
+member_from k (Some zero ∷ marks) (suc place) at = inr (moved (marked_from (k + 1) marks) (k + 1 + place) (k + suc place) (omega arith) (member_from (k + 1) marks place at))
+member_from k (Some (suc n) ∷ marks) (suc place) at = moved (marked_from (k + 1) marks) (k + 1 + place) (k + suc place) (omega arith) (member_from (k + 1) marks place at)
+
+from_rising : (k : ℕ) (marks : List (Option ℕ)) → IsRising (marked_from k marks)
+from_rising k [] = tt
+from_rising k (None ∷ marks) = from_rising (k + 1) marks
+from_rising k (Some zero ∷ marks) = (λ y m. let place = from_member (k + 1) marks y m in let e = place.1 in omega (arith, e), from_rising (k + 1) marks)
+from_rising k (Some (suc n) ∷ marks) = from_rising (k + 1) marks
+
+pub place_member : (marks : List (Option ℕ)) (h : ℕ) → alarm_at marks h ≡ Some 0 → IsMember (marked_places marks) h
+place_member marks h at = moved (marked_places marks) (0 + h) h (omega arith) (member_from 0 marks h at)
+
+pub member_marked : (marks : List (Option ℕ)) (h : ℕ) → IsMember (marked_places marks) h → alarm_at marks h ≡ Some 0
+member_marked marks h m = let place = from_member 0 marks h m in ap (λ (k : ℕ). alarm_at marks k) (let e = place.1 in let same : h ≡ place.0 = omega (arith, e) in same) ∙ place.2
+
+-- where exactly those are marked that have a property, the list is theirs
+pub places_rising : (property : ℕ → Type 0) (marks : List (Option ℕ)) → ((h : ℕ) → (alarm_at marks h ≡ Some 0) ↔ property h) → AreRising property (marked_places marks)
+places_rising property marks exactly = record {
+  rising = from_rising 0 marks;
+  exactly = λ h. (λ m. (exactly h).0 (member_marked marks h m), λ has. place_member marks h ((exactly h).1 has));
+}
+
+last_from : (k : ℕ) (marks : List (Option ℕ)) (h : ℕ) → h < length marks → ((x : ℕ) → IsMember (marked_from k marks) x → x < k + h) → marked_from k (set marks h (Some 0)) ≡ marked_from k marks ++ (k + h) ∷ []
+last_from k [] h known below = absurd (omega (arith, known))
+last_from k (None ∷ marks) zero known below = over k (marked_from (k + 1) marks) (λ x m. let lt = below x m in let place = from_member (k + 1) marks x m in let e = place.1 in omega (arith, lt, e))
+  where
+    over : (k : ℕ) (rest : List ℕ) → ((x : ℕ) → IsMember rest x → ⊥) → k ∷ rest ≡ rest ++ (k + 0) ∷ []
+    over k [] none = ap (λ (n : ℕ). n ∷ []) (omega arith)
+    over k (x ∷ rest) none = absurd (none x (inl refl))
+last_from k (Some zero ∷ marks) zero known below = let lt = below k (inl refl) in absurd (omega (arith, lt))
+last_from k (Some (suc n) ∷ marks) zero known below = over k (marked_from (k + 1) marks) (λ x m. let lt = below x m in let place = from_member (k + 1) marks x m in let e = place.1 in omega (arith, lt, e))
+  where
+    over : (k : ℕ) (rest : List ℕ) → ((x : ℕ) → IsMember rest x → ⊥) → k ∷ rest ≡ rest ++ (k + 0) ∷ []
+    over k [] none = ap (λ (n : ℕ). n ∷ []) (omega arith)
+    over k (x ∷ rest) none = absurd (none x (inl refl))
+last_from k (None ∷ marks) (suc h) known below =
+    last_from (k + 1) marks h (omega (arith, known)) (λ x m. let lt = below x m in omega (arith, lt)) ∙ ap (λ (n : ℕ). marked_from (k + 1) marks ++ n ∷ []) (omega arith)
+last_from k (Some zero ∷ marks) (suc h) known below =
+    ap (λ (xs : List ℕ). k ∷ xs) (last_from (k + 1) marks h (omega (arith, known)) (λ x m. let lt = below x (inr m) in omega (arith, lt)) ∙ ap (λ (n : ℕ). marked_from (k + 1) marks ++ n ∷ []) (omega arith))
+last_from k (Some (suc n) ∷ marks) (suc h) known below =
+    last_from (k + 1) marks h (omega (arith, known)) (λ x m. let lt = below x m in omega (arith, lt)) ∙ ap (λ (n : ℕ). marked_from (k + 1) marks ++ n ∷ []) (omega arith)
+
+-- a place above all that are marked comes last, once it is marked
+pub marked_last : (marks : List (Option ℕ)) (h : ℕ) → h < length marks → ((x : ℕ) → IsMember (marked_places marks) x → x < h) → marked_places (set marks h (Some 0)) ≡ marked_places marks ++ h ∷ []
+marked_last marks h known below =
+    last_from 0 marks h known (λ x m. let lt = below x m in omega (arith, lt)) ∙ ap (λ (n : ℕ). marked_places marks ++ n ∷ []) (omega arith)
+
+-- ---- other marks
+
+-- soundness asks of these marks only that there is a place for each
+pub sound_marked : (d : Dispatcher) (marked : Marked) → IsSound d → HasPlaces d.threads d.objects marked → IsSound (with_marked d marked)
+sound_marked d marked sound places = record {
+  few = sound.few;
+  waits = sound.waits;
+  blocks = sound.blocks;
+  hands = sound.hands;
+  inboxes = sound.inboxes;
+  objects = sound.objects;
+  own = sound.own;
+  none_else = sound.none_else;
+  timers = sound.timers;
+  handles = sound.handles;
+  marks = marks_along refl refl refl (λ o. refl) refl sound.marks;
+  places = places;
+  room = sound.room;
+}
+
+pub remarked : (threads : List ℕ) (old new : Dispatcher) (marked : Marked) → Visits threads old new → Visits threads (with_marked old marked) (with_marked new marked)
+remarked threads old new marked visits = record {
+  ended = visits.ended;
+  grants = visits.grants;
+  granted = visits.granted;
+  over = visits.over;
+  queues = visits.queues;
+  most = visits.most;
+  least = visits.least;
+  marked = refl;
+}
+
+-- ---- the marked objects, one after another
+
+-- the waits on some of the marked objects were served, and the others are marked still
+pub record ServedSoFar (old now : Dispatcher) : Type 0 where
+  pub objects : List ℕ
+  pub split : marked_places old.marked.changed ≡ objects ++ marked_places now.marked.changed
+  pub visits : Visits (sequence (state old) objects) (with_marked old now.marked) now
+  pub alerted : now.marked.alerted ≡ old.marked.alerted
+  pub prepared : now.table.prepared ≡ old.table.prepared
+  pub sound : IsSound now
+
+pub served_none : (d : Dispatcher) → IsSound d → ServedSoFar d d
+served_none d sound = record {
+  objects = [];
+  split = refl;
+  visits = Visits-none d sound.blocks;
+  alerted = refl;
+  prepared = refl;
+  sound = sound;
+}
+
+-- the dispatcher once the lowest mark is taken away
+abbrev pub without_mark : Dispatcher → ℕ → Dispatcher
+without_mark d h = with_marked d (record d.marked { changed = set d.marked.changed h None })
+
+pub changed_sound : (now mid : Dispatcher) (h : ℕ) → IsSound now → mid ≡ without_mark now h → IsSound mid
+changed_sound now mid h sound is =
+    subst IsSound (sym is) (sound_marked now (record now.marked { changed = set now.marked.changed h None }) sound (record { changed = length-set now.marked.changed h None ∙ sound.places.changed; alerted = sound.places.alerted }))
+
+one_more : (s : State) (objects : List ℕ) (h : ℕ) → sequence s (objects ++ h ∷ []) ≡ sequence s objects ++ s.queues h
+one_more s objects h = flat_map-append s.queues objects (h ∷ []) ∙ ap (λ (q : List ℕ). sequence s objects ++ q) (append-nil (s.queues h))
+
+pub served_next : (old now mid new : Dispatcher) (h : ℕ) → ServedSoFar old now → IsLowestAt now.marked.changed 0 h → mid ≡ without_mark now h → Visits ((state mid).queues h) mid new → new.table.prepared ≡ mid.table.prepared → IsSound new → ServedSoFar old new
+served_next old now mid new h far lowest is visits prepared sound = record {
+  objects = far.objects ++ h ∷ [];
+  split = far.split ∙ (ap (λ (xs : List ℕ). far.objects ++ xs) (lowest_first now.marked.changed h lowest) ∙ (sym (append_assoc far.objects (h ∷ []) (marked_places (set now.marked.changed h None))) ∙ ap (λ (m : Marked). (far.objects ++ h ∷ []) ++ marked_places m.changed) (sym marks)));
+  visits =
+      subst (λ (q : List ℕ). Visits q (with_marked old new.marked) new) (sym (one_more (state old) far.objects h))
+      (Visits-then (sequence (state old) far.objects) ((state old).queues h) (with_marked old new.marked) mid new before
+      (subst (λ (q : List ℕ). Visits q mid new) (before.queues h) visits));
+  alerted = ap (λ (m : Marked). m.alerted) marks ∙ far.alerted;
+  prepared = prepared ∙ (ap (λ (d : Dispatcher). d.table.prepared) is ∙ far.prepared);
+  sound = sound;
+}
+  where
+    marks : new.marked ≡ record now.marked { changed = set now.marked.changed h None }
+    marks = visits.marked ∙ ap (λ (d : Dispatcher). d.marked) is
+
+    before : Visits (sequence (state old) far.objects) (with_marked old new.marked) mid
+    before =
+        subst (λ (d : Dispatcher). Visits (sequence (state old) far.objects) (with_marked old new.marked) d) (sym is)
+        (subst (λ (m : Marked). Visits (sequence (state old) far.objects) (with_marked old m) (without_mark now h)) (sym marks)
+        (remarked (sequence (state old) far.objects) (with_marked old now.marked) now (record now.marked { changed = set now.marked.changed h None }) far.visits))
+
+-- the looks that are still to come fit the counter
+pub served_countable : (old now mid : Dispatcher) (h : ℕ) → ServedSoFar old now → IsLowestAt now.marked.changed 0 h → mid ≡ without_mark now h → old.table.looked + length (sequence (state old) (marked_places old.marked.changed)) < 2 ^ 64 → mid.table.looked + length ((state mid).queues h) < 2 ^ 64
+served_countable old now mid h far lowest is few =
+    subst (λ (d : Dispatcher). d.table.looked + length ((state d).queues h) < 2 ^ 64) (sym is) here
+  where
+    rest : List ℕ
+    rest = marked_places (set now.marked.changed h None)
+
+    all : marked_places old.marked.changed ≡ (far.objects ++ h ∷ []) ++ rest
+    all = far.split ∙ (ap (λ (xs : List ℕ). far.objects ++ xs) (lowest_first now.marked.changed h lowest) ∙ sym (append_assoc far.objects (h ∷ []) rest))
+
+    here : now.table.looked + length ((state now).queues h) < 2 ^ 64
+    here =
+        let whole : length (sequence (state old) (marked_places old.marked.changed)) ≡ length (sequence (state old) (far.objects ++ h ∷ []) ++ sequence (state old) rest) = ap (λ (q : List ℕ). length q) (ap (λ (xs : List ℕ). sequence (state old) xs) all ∙ flat_map-append (state old).queues (far.objects ++ h ∷ []) rest) in
+        let parts = length-append (sequence (state old) (far.objects ++ h ∷ [])) (sequence (state old) rest) in
+        let done : length (sequence (state old) (far.objects ++ h ∷ [])) ≡ length (sequence (state old) far.objects ++ (state old).queues h) = ap (λ (q : List ℕ). length q) (one_more (state old) far.objects h) in
+        let both = length-append (sequence (state old) far.objects) ((state old).queues h) in
+        let left : length ((state now).queues h) ≤ length ((state old).queues h) = rw (far.visits.queues h) (length-filter-le (pends (state now)) ((state old).queues h)) in
+        let most = far.visits.most in
+        omega (arith, few, whole, parts, done, both, left, most)
+
+pub served_end : (old now : Dispatcher) → ServedSoFar old now → NoneAt now.marked.changed 0 → Visits (sequence (state old) (marked_places old.marked.changed)) (with_marked old now.marked) now
+served_end old now far none =
+    subst (λ (xs : List ℕ). Visits (sequence (state old) xs) (with_marked old now.marked) now)
+    (sym (far.split ∙ (ap (λ (xs : List ℕ). far.objects ++ xs) (none_marked now.marked.changed none) ∙ append-nil far.objects)))
+    far.visits
