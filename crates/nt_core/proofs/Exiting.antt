@@ -17,7 +17,7 @@ use Rattle.nt_calls.specs.Serving.{IsChanged}
 use Rattle.nt_calls.specs.Change.{exited}
 use Rattle.nt_calls.specs.Steps.{NothingDue}
 use Rattle.nt_core.specs.Lawful.{IsSound, MayReplace}
-use Rattle.nt_core.specs.Accepts.{IsStoppedAfter}
+use Rattle.nt_core.specs.Accepts.{IsSetBy, AreStopped}
 use Rattle.nt_core.proofs.Handling.{handles_along}
 use Rattle.nt_core.proofs.Changing.{object_at-set_same, object_at-set_other, due_kept}
 use Rattle.nt_core.proofs.Accepting.{IsCalm}
@@ -27,7 +27,7 @@ use Rattle.nt_core.proofs.Marking.{marks_same}
 use Rattle.nt_core.proofs.Replacing.{known_mutex}
 use Rattle.nt_core.proofs.Timing.{and_kept}
 use Rattle.nt_core.proofs.Listing.{same_yes, same_no}
-use Rattle.nt_core.proofs.Leaving.{stopped_unset, set_timer_known}
+use Rattle.nt_core.proofs.Leaving.{stopped_unset, set_timer_known, setter_or_not, due_stopped}
 
 -- what is left of an object once thread t has ended
 abbrev pub left : ℕ → Object → Object
@@ -89,28 +89,6 @@ sound_mapped d f owned still may sound = record {
 
     reading : {X : Type 0} (read : Object → X) → ((o : Object) → MayReplace o (f o) → read (f o) ≡ read o) → (h : ℕ) → read (object_at (map f d.objects) h) ≡ read (object_at d.objects h)
     reading read same h = ap read (here h) ∙ same (object_at d.objects h) (may (object_at d.objects h) (sound.objects h))
-
--- whether the thread armed the timer with a routine
-setter_or_not : (o : Object) (t : ℕ) → (setter_of o ≡ Some t) ⊎ (setter_of o ≡ Some t → ⊥)
-setter_or_not o t = go (setter_of o)
-  where
-    inside : (k : ℕ) → Some k ≡ Some t → k ≡ t
-    inside k e = (cc)
-
-    go : (setter : Option ℕ) → (setter ≡ Some t) ⊎ (setter ≡ Some t → ⊥)
-    go None = inr (λ e. let h : None ≡ Some t = e in (cc))
-    go (Some k) = elim (cases_eq k t) [
-      | inl same ↦ inl (ap Some same)
-      | inr differs ↦ inr (λ e. differs (inside k e))
-    ]
-
-due_stopped : (o : Object) → due_of (armed_with None o) ≡ None
-due_stopped (Event manual was) = refl
-due_stopped (Semaphore count maximum) = refl
-due_stopped (Mutex owner depth abandoned) = refl
-due_stopped (Timer manual was armed) = refl
-due_stopped (Thread ended) = refl
-due_stopped Gone = refl
 
 -- ---- mutexes
 
@@ -178,13 +156,13 @@ unset_all t o sets = go (setter_or_not o t)
     go (inr none) = none (sym (ap setter_of (unset_other t o none)) ∙ sets)
 
 -- once the listed timers are stopped, all of the thread's are
-pub stopped_objects : (old new : Dispatcher) (t : ℕ) (timers : List ℕ) → ((h : ℕ) → IsMember timers h ↔ (setter_of (object_at old.objects h) ≡ Some t)) → IsStoppedAfter old timers new → new.objects ≡ map (unset_by t) old.objects
-stopped_objects old new t timers all stopped = same_objects new.objects (map (unset_by t) old.objects) (stopped.count ∙ sym (length-map old.objects (unset_by t))) at
+pub stopped_objects : (old new : List Object) (t : ℕ) → AreStopped (IsSetBy old t) old new → new ≡ map (unset_by t) old
+stopped_objects old new t stops = same_objects new (map (unset_by t) old) (stops.count ∙ sym (length-map old (unset_by t))) at
   where
-    at : (h : ℕ) → object_at new.objects h ≡ object_at (map (unset_by t) old.objects) h
-    at h = elim (member_or_not timers h) [
-      | inl m ↦ stopped.stopped h m ∙ (sym (unset_one t (object_at old.objects h) ((all h).0 m)) ∙ sym (mapped_at (unset_by t) refl old.objects h))
-      | inr none ↦ stopped.others h none ∙ (sym (unset_other t (object_at old.objects h) (λ sets. none ((all h).1 sets))) ∙ sym (mapped_at (unset_by t) refl old.objects h))
+    at : (h : ℕ) → object_at new h ≡ object_at (map (unset_by t) old) h
+    at h = elim (setter_or_not (object_at old h) t) [
+      | inl sets ↦ stops.stopped h sets ∙ (sym (unset_one t (object_at old h) sets) ∙ sym (mapped_at (unset_by t) refl old h))
+      | inr none ↦ stops.others h none ∙ (sym (unset_other t (object_at old h) none) ∙ sym (mapped_at (unset_by t) refl old h))
     ]
 
 -- ---- which objects are altered

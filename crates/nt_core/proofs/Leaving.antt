@@ -1,27 +1,26 @@
--- A thread that ends: its timers are listed and stopped.
-use Rattle.std.proofs.Common.{◌≡◌, ◌≢◌, ◌<◌, ◌≤◌, ◌+◌, ℕ, true, false, List, [], ◌∷◌, ◌++◌, length, length-append, get_or, take, set, refl, sym, ap, ◌∙◌, subst, arith, append_assoc, Some, None, inl, inr, ◌⊎◌}
-use Rattle.std.specs.Prelude.{AllPairs, Contains, ◌↔◌}
+-- A thread that ends: its timers are stopped and marked.
+use Rattle.std.proofs.Common.{◌≡◌, ◌≢◌, ◌<◌, ℕ, true, false, List, [], ◌∷◌, ◌++◌, length, set, refl, sym, ap, ◌∙◌, subst, arith, Option, Some, None, inl, inr, ◌⊎◌}
+use Rattle.std.specs.Prelude.{Contains, ◌↔◌}
 use Rattle.std.proofs.lemmas.Bool.{cases_eq, false≢true}
-use Rattle.std.proofs.lemmas.List.{append-nil, length-set}
-use Rattle.nt_status.specs.Lists.{IsMember, AreOnce, Lists}
-use Rattle.nt_status.proofs.Lists.{member_append_cases, member_of_first, member_of_last, member_or_not, once_append, once_push, few_below}
+use Rattle.std.proofs.lemmas.List.{length-set, get_or-set_other}
+use Rattle.nt_status.specs.Lists.{IsMember}
+use Rattle.nt_status.proofs.Lists.{member_push_cases, member_of_first, member_of_last, member_or_not}
 use Rattle.nt_objects.specs.declared.object.Object.{Object}
 use Rattle.nt_objects.specs.declared.object.Object.TheVariants.{Event, Semaphore, Mutex, Timer, Thread, Gone}
 use Rattle.nt_objects.specs.Object.{is_timer, setter_of, due_of, armed_with}
+use Rattle.nt_alarms.specs.Alarms.{alarm_at}
+use Rattle.nt_alarms.specs.Marks.{AddsMarks}
 use Rattle.nt_apc.specs.Queues.{place_of}
 use Rattle.nt_calls.specs.State.{object_at}
 use Rattle.nt_core.specs.Dispatcher.{Dispatcher}
 use Rattle.nt_core.specs.Lawful.{IsSound}
-use Rattle.nt_core.specs.Accepts.{IsStoppedAfter}
+use Rattle.nt_core.specs.Accepts.{IsSetBy, IsSetAmong, AreStopped}
 use Rattle.nt_core.proofs.Changing.{object_at-set_same, object_at-set_other}
 use Rattle.nt_core.proofs.Timing.{known_timer, retimed_sound}
-use Rattle.nt_core.proofs.Listing.{contained, next_apart, one_more}
+use Rattle.nt_core.proofs.Listing.{contained}
+use Rattle.nt_core.proofs.Places.{adds_as, set_mark, set_kept}
 
--- ---- timers are listed
-
--- thread t armed the timer at this handle with a routine
-abbrev pub IsSetBy : List Object → ℕ → ℕ → Type 0
-IsSetBy os t h = setter_of (object_at os h) ≡ Some t
+-- ---- timers that a thread armed with a routine
 
 pub setter_timer : (o : Object) (t : ℕ) → setter_of o ≡ Some t → is_timer o ≡ true
 setter_timer (Event manual was) t sets = let h : None ≡ Some t = sets in (cc)
@@ -34,91 +33,27 @@ setter_timer Gone t sets = let h : None ≡ Some t = sets in (cc)
 pub set_timer_known : (os : List Object) (t h : ℕ) → IsSetBy os t h → h < length os
 set_timer_known os t h sets = known_timer os h (setter_timer (object_at os h) t sets)
 
--- what stood on the list before: handles of objects that are no timers, each once
-pub record OthersStand (os : List Object) (before : List ℕ) : Type 0 where
-  pub once : AreOnce before
-  pub others : (h : ℕ) → IsMember before h → (h < length os) × (is_timer (object_at os h) ≡ false)
-
--- of the first i of these timers those that the thread armed with a routine stand on the list
-abbrev pub ListedSoFar : List Object → ℕ → List ℕ → ℕ → List ℕ → List ℕ → Type 0
-ListedSoFar os t timers i before now = Lists (λ h. IsMember (take i timers) h × IsSetBy os t h) before now
-
-pub listed_none : (os : List Object) (t : ℕ) (timers before : List ℕ) → ListedSoFar os t timers 0 before before
-listed_none os t timers before = record { more = []; longer = sym (append-nil before); once = tt; exactly = λ h. (λ m. absurd m, λ has. absurd has.0) }
-
--- the next timer is the thread's, and is listed
-pub listed_next : (os : List Object) (t : ℕ) (timers : List ℕ) (i h : ℕ) (before now : List ℕ) → AllPairs (λ a b. a ≢ b) timers → i < length timers → h ≡ get_or timers i h → IsSetBy os t h → ListedSoFar os t timers i before now → ListedSoFar os t timers (i + 1) before (now ++ h ∷ [])
-listed_next os t timers i h before now apart below is sets far = record {
-  more = far.more ++ h ∷ [];
-  longer = ap (λ xs. xs ++ h ∷ []) far.longer ∙ append_assoc before far.more (h ∷ []);
-  once = once_push far.more h far.once (λ m. next_apart timers i h apart below is ((far.exactly h).0 m).0);
-  exactly = λ x. (λ m. to x (member_append_cases far.more (h ∷ []) x m), λ has. from x (member_append_cases (take i timers) (h ∷ []) x (subst (λ (xs : List ℕ). IsMember xs x) more has.0)) has.1);
-}
+-- whether the thread armed the timer with a routine
+pub setter_or_not : (o : Object) (t : ℕ) → (setter_of o ≡ Some t) ⊎ (setter_of o ≡ Some t → ⊥)
+setter_or_not o t = go (setter_of o)
   where
-    more : take (i + 1) timers ≡ take i timers ++ h ∷ []
-    more = one_more timers i h below is
+    inside : (k : ℕ) → Some k ≡ Some t → k ≡ t
+    inside k e = (cc)
 
-    to : (x : ℕ) → IsMember far.more x ⊎ IsMember (h ∷ []) x → IsMember (take (i + 1) timers) x × IsSetBy os t x
-    to x (inl m) = let has = (far.exactly x).0 m in (subst (λ (xs : List ℕ). IsMember xs x) (sym more) (member_of_first (take i timers) (h ∷ []) x has.0), has.1)
-    to x (inr (inl e)) = (subst (λ (xs : List ℕ). IsMember xs x) (sym more) (member_of_last (take i timers) (h ∷ []) x (inl e)), subst (λ (k : ℕ). IsSetBy os t k) e sets)
-    to x (inr (inr none)) = absurd none
+    go : (setter : Option ℕ) → (setter ≡ Some t) ⊎ (setter ≡ Some t → ⊥)
+    go None = inr (λ e. let h : None ≡ Some t = e in (cc))
+    go (Some k) = elim (cases_eq k t) [
+      | inl same ↦ inl (ap Some same)
+      | inr differs ↦ inr (λ e. differs (inside k e))
+    ]
 
-    from : (x : ℕ) → IsMember (take i timers) x ⊎ IsMember (h ∷ []) x → IsSetBy os t x → IsMember (far.more ++ h ∷ []) x
-    from x (inl m) own = member_of_first far.more (h ∷ []) x ((far.exactly x).1 (m, own))
-    from x (inr last) own = member_of_last far.more (h ∷ []) x last
-
--- the next timer is not the thread's
-pub listed_not : (os : List Object) (t : ℕ) (timers : List ℕ) (i h : ℕ) (before now : List ℕ) → i < length timers → h ≡ get_or timers i h → (IsSetBy os t h → ⊥) → ListedSoFar os t timers i before now → ListedSoFar os t timers (i + 1) before now
-listed_not os t timers i h before now below is none far = record {
-  more = far.more;
-  longer = far.longer;
-  once = far.once;
-  exactly = λ x. (
-    λ m. let has = (far.exactly x).0 m in (subst (λ (xs : List ℕ). IsMember xs x) (sym more) (member_of_first (take i timers) (h ∷ []) x has.0), has.1),
-    λ has. from x (member_append_cases (take i timers) (h ∷ []) x (subst (λ (xs : List ℕ). IsMember xs x) more has.0)) has.1,
-  );
-}
-  where
-    more : take (i + 1) timers ≡ take i timers ++ h ∷ []
-    more = one_more timers i h below is
-
-    from : (x : ℕ) → IsMember (take i timers) x ⊎ IsMember (h ∷ []) x → IsSetBy os t x → IsMember far.more x
-    from x (inl m) own = (far.exactly x).1 (m, own)
-    from x (inr (inl e)) own = absurd (none (subst (λ (k : ℕ). IsSetBy os t k) (sym e) own))
-    from x (inr (inr never)) own = absurd never
-
--- the list has room for the next timer: it has no more handles than there are objects
-pub listed_room : (os : List Object) (t : ℕ) (timers : List ℕ) (i h : ℕ) (before now : List ℕ) → AllPairs (λ a b. a ≢ b) timers → i < length timers → h ≡ get_or timers i h → IsSetBy os t h → OthersStand os before → ListedSoFar os t timers i before now → length now + 1 ≤ length os
-listed_room os t timers i h before now apart below is sets stand far =
-    let next = listed_next os t timers i h before now apart below is sets far in
-    let all : AreOnce (before ++ next.more) = once_append before next.more stand.once next.once (λ x a b. clash x a ((next.exactly x).0 b).1) in
-    let few = few_below (length os) (before ++ next.more) all (λ x m. known x (member_append_cases before next.more x m)) in
-    let long : length (now ++ h ∷ []) ≡ length (before ++ next.more) = ap (λ xs. length xs) next.longer in
-    let one = length-append now (h ∷ []) in
-    omega (arith, few, long, one)
-  where
-    clash : (x : ℕ) → IsMember before x → IsSetBy os t x → ⊥
-    clash x m own = false≢true (sym (stand.others x m).1 ∙ setter_timer (object_at os x) t own)
-
-    known : (x : ℕ) → IsMember before x ⊎ IsMember (listed_next os t timers i h before now apart below is sets far).more x → x < length os
-    known x (inl m) = (stand.others x m).0
-    known x (inr m) = set_timer_known os t x (((listed_next os t timers i h before now apart below is sets far).exactly x).0 m).1
-
--- all that the thread armed with a routine have a place in its queue, so all are listed
-pub listed_all : (d : Dispatcher) (t : ℕ) (timers before now : List ℕ) → IsSound d → ((m : ℕ) → Contains timers m ↔ (place_of d.apcs.places m ≡ Some t)) → ListedSoFar d.objects t timers (length timers) before now → Lists (λ h. setter_of (object_at d.objects h) ≡ Some t) before now
-listed_all d t timers before now sound placed far = record {
-  more = far.more;
-  longer = far.longer;
-  once = far.once;
-  exactly = λ h. (
-    λ m. ((far.exactly h).0 m).1,
-    λ sets. (far.exactly h).1 (subst (λ (xs : List ℕ). IsMember xs h) (sym (take_all timers)) (contained timers h ((placed h).1 (sound.timers.placed h t sets))), sets),
-  );
-}
-  where
-    take_all : (xs : List ℕ) → take (length xs) xs ≡ xs
-    take_all [] = refl
-    take_all (x ∷ xs) = ap (λ ys. x ∷ ys) (take_all xs)
+pub due_stopped : (o : Object) → due_of (armed_with None o) ≡ None
+due_stopped (Event manual was) = refl
+due_stopped (Semaphore count maximum) = refl
+due_stopped (Mutex owner depth abandoned) = refl
+due_stopped (Timer manual was armed) = refl
+due_stopped (Thread ended) = refl
+due_stopped Gone = refl
 
 -- ---- timers are stopped
 
@@ -130,14 +65,6 @@ stopped_stays (Timer manual was armed) = refl
 stopped_stays (Thread ended) = refl
 stopped_stays Gone = refl
 
-stopped_once : (o : Object) → armed_with None (armed_with None o) ≡ armed_with None o
-stopped_once (Event manual was) = refl
-stopped_once (Semaphore count maximum) = refl
-stopped_once (Mutex owner depth abandoned) = refl
-stopped_once (Timer manual was armed) = refl
-stopped_once (Thread ended) = refl
-stopped_once Gone = refl
-
 pub stopped_unset : (o : Object) (t : ℕ) {P : Type 0} → setter_of (armed_with None o) ≡ Some t → P
 stopped_unset (Event manual was) t sets = let h : None ≡ Some t = sets in (cc)
 stopped_unset (Semaphore count maximum) t sets = let h : None ≡ Some t = sets in (cc)
@@ -146,51 +73,136 @@ stopped_unset (Timer manual was armed) t sets = let h : None ≡ Some t = sets i
 stopped_unset (Thread ended) t sets = let h : None ≡ Some t = sets in (cc)
 stopped_unset Gone t sets = let h : None ≡ Some t = sets in (cc)
 
-pub stopped_none : (d : Dispatcher) → IsStoppedAfter d [] d
-stopped_none d = record { rest = refl; count = refl; stopped = λ h m. absurd m; others = λ h none. refl }
-
-pub stopped_timer : (old now : Dispatcher) (timers : List ℕ) (h : ℕ) → IsStoppedAfter old timers now → is_timer (object_at old.objects h) ≡ true → is_timer (object_at now.objects h) ≡ true
-stopped_timer old now timers h far is = elim (member_or_not timers h) [
-  | inl m ↦ ap is_timer (far.stopped h m) ∙ (stopped_stays (object_at old.objects h) ∙ is)
-  | inr none ↦ ap is_timer (far.others h none) ∙ is
-]
-
 -- the dispatcher once the timer at h is stopped
 abbrev pub stopped_at : Dispatcher → ℕ → Dispatcher
 stopped_at d h = record d { objects = set d.objects h (armed_with None (object_at d.objects h)); alarms = set d.alarms h (due_of (armed_with None (object_at d.objects h))) }
-
-pub stopped_next : (old now new : Dispatcher) (timers : List ℕ) (i h : ℕ) → i < length timers → h ≡ get_or timers i h → h < length now.objects → IsStoppedAfter old (take i timers) now → new ≡ stopped_at now h → IsStoppedAfter old (take (i + 1) timers) new
-stopped_next old now new timers i h below is known far becomes =
-    subst (λ (xs : List ℕ). IsStoppedAfter old xs new) (sym (one_more timers i h below is))
-    (subst (λ (d : Dispatcher). IsStoppedAfter old (take i timers ++ h ∷ []) d) (sym becomes) (record {
-      rest = ap (λ (d : Dispatcher). stopped_at d h) far.rest;
-      count = length-set now.objects h (armed_with None (object_at now.objects h)) ∙ far.count;
-      stopped = λ x m. elim (cases_eq x h) [
-        | inl same ↦ here x same
-        | inr differs ↦ object_at-set_other now.objects h x (armed_with None (object_at now.objects h)) differs ∙ before x differs (member_append_cases (take i timers) (h ∷ []) x m)
-      ];
-      others = λ x none.
-          object_at-set_other now.objects h x (armed_with None (object_at now.objects h)) (λ same. none (member_of_last (take i timers) (h ∷ []) x (inl (sym same))))
-          ∙ far.others x (λ m. none (member_of_first (take i timers) (h ∷ []) x m));
-    }))
-  where
-    before : (x : ℕ) → x ≢ h → IsMember (take i timers) x ⊎ ((h ≡ x) ⊎ ⊥) → object_at now.objects x ≡ armed_with None (object_at old.objects x)
-    before x differs (inl m) = far.stopped x m
-    before x differs (inr (inl same)) = absurd (differs (sym same))
-    before x differs (inr (inr never)) = absurd never
-
-    -- it may have been stopped before
-    twice : IsMember (take i timers) h ⊎ (IsMember (take i timers) h → ⊥) → armed_with None (object_at now.objects h) ≡ armed_with None (object_at old.objects h)
-    twice (inl m) = ap (armed_with None) (far.stopped h m) ∙ stopped_once (object_at old.objects h)
-    twice (inr none) = ap (armed_with None) (far.others h none)
-
-    here : (x : ℕ) → x ≡ h → object_at (stopped_at now h).objects x ≡ armed_with None (object_at old.objects x)
-    here x same =
-        ap (λ (k : ℕ). object_at (stopped_at now h).objects k) same
-        ∙ (object_at-set_same now.objects h (armed_with None (object_at now.objects h)) known
-        ∙ (twice (member_or_not (take i timers) h) ∙ ap (λ (k : ℕ). armed_with None (object_at old.objects k)) (sym same)))
 
 pub stopped_sound : (d : Dispatcher) (h : ℕ) → IsSound d → is_timer (object_at d.objects h) ≡ true → IsSound (stopped_at d h)
 stopped_sound d h sound is =
     retimed_sound d h (armed_with None (object_at d.objects h)) d.apcs sound is (stopped_stays (object_at d.objects h) ∙ is) refl
     (λ t sets. stopped_unset (object_at d.objects h) t sets) (λ m differs. refl)
+
+-- those that are stopped for a property are stopped for another that says the same
+pub stopped_as : (P Q : ℕ → Type 0) (old new : List Object) → ((k : ℕ) → P k ↔ Q k) → AreStopped P old new → AreStopped Q old new
+stopped_as P Q old new same stops = record {
+  count = stops.count;
+  stopped = λ k has. stops.stopped k ((same k).1 has);
+  others = λ k none. stops.others k (λ has. none ((same k).0 has));
+}
+
+-- ---- the timers of a list, one after another
+
+-- of these timers those that the thread armed with a routine are stopped and marked, and what was sound is sound still
+pub record StoppedSoFar (t : ℕ) (timers : List ℕ) (old now : List Object) (old_alarms alarms old_marks marks : List (Option ℕ)) : Type 0 where
+  pub stopped : AreStopped (IsSetAmong timers old t) old now
+  pub marked : AddsMarks (IsSetAmong timers old t) old_marks marks
+  pub clocks : length alarms ≡ length now
+  pub sound : (d : Dispatcher) → IsSound (record d { objects = old; alarms = old_alarms }) → IsSound (record d { objects = now; alarms = alarms })
+
+pub stopped_none : (t : ℕ) (os : List Object) (alarms marks : List (Option ℕ)) → length alarms ≡ length os → StoppedSoFar t [] os os alarms alarms marks marks
+stopped_none t os alarms marks clocks = record {
+  stopped = record { count = refl; stopped = λ h has. absurd has.0; others = λ h none. refl };
+  marked = record {
+    count = refl;
+    exactly = λ h. (
+      λ mark. inl mark,
+      λ has. elim has [
+        | inl mark ↦ mark
+        | inr own ↦ absurd own.0
+      ],
+    );
+  };
+  clocks = clocks;
+  sound = λ d sound. sound;
+}
+
+-- whom the thread's timer is now it was before, and it is none of those that are stopped
+set_before : (t : ℕ) (timers : List ℕ) (old now : List Object) (h : ℕ) → AreStopped (IsSetAmong timers old t) old now → IsSetBy now t h → IsSetBy old t h × (IsMember timers h → ⊥)
+set_before t timers old now h stops sets = (was, never was)
+  where
+    was : IsSetBy old t h
+    was = elim (setter_or_not (object_at old h) t) [
+      | inl is ↦ is
+      | inr none ↦ ap setter_of (sym (stops.others h (λ has. none has.1))) ∙ sets
+    ]
+
+    never : IsSetBy old t h → IsMember timers h → ⊥
+    never is member = stopped_unset (object_at old h) t (ap setter_of (sym (stops.stopped h (member, is))) ∙ sets)
+
+-- the next timer is the thread's: it is stopped and marked
+pub stopped_next : (t : ℕ) (timers : List ℕ) (h : ℕ) (old now : List Object) (old_alarms alarms old_marks marks : List (Option ℕ)) → IsSetBy now t h → h < length marks → StoppedSoFar t timers old now old_alarms alarms old_marks marks → StoppedSoFar t (timers ++ h ∷ []) old (set now h (armed_with None (object_at now h))) old_alarms (set alarms h None) old_marks (set marks h (Some 0))
+stopped_next t timers h old now old_alarms alarms old_marks marks sets place far = record {
+  stopped = record {
+    count = length-set now h (armed_with None (object_at now h)) ∙ far.stopped.count;
+    stopped = λ k has. stop k has (cases_eq k h);
+    others = λ k none. object_at-set_other now h k (armed_with None (object_at now h)) (λ same. none (last k same)) ∙ far.stopped.others k (λ has. none (first k has));
+  };
+  marked = record {
+    count = length-set marks h (Some 0) ∙ far.marked.count;
+    exactly = λ k. (λ mark. to k mark (cases_eq k h), λ has. from k has);
+  };
+  clocks = length-set alarms h None ∙ (far.clocks ∙ sym (length-set now h (armed_with None (object_at now h))));
+  sound = λ d sound.
+      subst (λ (due : Option ℕ). IsSound (record d { objects = set now h (armed_with None (object_at now h)); alarms = set alarms h due })) (due_stopped (object_at now h))
+      (stopped_sound (record d { objects = now; alarms = alarms }) h (far.sound d sound) (setter_timer (object_at now h) t sets));
+}
+  where
+    before : IsSetBy old t h × (IsMember timers h → ⊥)
+    before = set_before t timers old now h far.stopped sets
+
+    same_here : object_at now h ≡ object_at old h
+    same_here = far.stopped.others h (λ has. before.1 has.0)
+
+    first : (k : ℕ) → IsSetAmong timers old t k → IsSetAmong (timers ++ h ∷ []) old t k
+    first k has = (member_of_first timers (h ∷ []) k has.0, has.1)
+
+    last : (k : ℕ) → k ≡ h → IsSetAmong (timers ++ h ∷ []) old t k
+    last k same = (member_of_last timers (h ∷ []) k (inl (sym same)), subst (λ (n : ℕ). IsSetBy old t n) (sym same) before.0)
+
+    stop : (k : ℕ) → IsSetAmong (timers ++ h ∷ []) old t k → (k ≡ h) ⊎ (k ≢ h) → object_at (set now h (armed_with None (object_at now h))) k ≡ armed_with None (object_at old k)
+    stop k has (inl same) =
+        ap (λ (n : ℕ). object_at (set now h (armed_with None (object_at now h))) n) same
+        ∙ (object_at-set_same now h (armed_with None (object_at now h)) (set_timer_known now t h sets)
+        ∙ (ap (armed_with None) same_here ∙ ap (λ (n : ℕ). armed_with None (object_at old n)) (sym same)))
+    stop k has (inr differs) = object_at-set_other now h k (armed_with None (object_at now h)) differs ∙ earlier (member_push_cases timers h k has.0)
+      where
+        earlier : IsMember timers k ⊎ (h ≡ k) → object_at now k ≡ armed_with None (object_at old k)
+        earlier (inl member) = far.stopped.stopped k (member, has.1)
+        earlier (inr same) = absurd (differs (sym same))
+
+    to : (k : ℕ) → alarm_at (set marks h (Some 0)) k ≡ Some 0 → (k ≡ h) ⊎ (k ≢ h) → (alarm_at old_marks k ≡ Some 0) ⊎ IsSetAmong (timers ++ h ∷ []) old t k
+    to k mark (inl same) = inr (last k same)
+    to k mark (inr differs) = elim ((far.marked.exactly k).0 (sym (get_or-set_other marks h k (Some 0) None differs) ∙ mark)) [
+      | inl was ↦ inl was
+      | inr has ↦ inr (first k has)
+    ]
+
+    from : (k : ℕ) → (alarm_at old_marks k ≡ Some 0) ⊎ IsSetAmong (timers ++ h ∷ []) old t k → alarm_at (set marks h (Some 0)) k ≡ Some 0
+    from k (inl was) = set_kept marks h k ((far.marked.exactly k).1 (inl was))
+    from k (inr has) = elim (member_push_cases timers h k has.0) [
+      | inl member ↦ set_kept marks h k ((far.marked.exactly k).1 (inr (member, has.1)))
+      | inr same ↦ subst (λ (n : ℕ). alarm_at (set marks h (Some 0)) n ≡ Some 0) same (set_mark marks h place)
+    ]
+
+-- the next timer is not the thread's
+pub stopped_not : (t : ℕ) (timers : List ℕ) (h : ℕ) (old now : List Object) (old_alarms alarms old_marks marks : List (Option ℕ)) → (IsSetBy now t h → ⊥) → StoppedSoFar t timers old now old_alarms alarms old_marks marks → StoppedSoFar t (timers ++ h ∷ []) old now old_alarms alarms old_marks marks
+stopped_not t timers h old now old_alarms alarms old_marks marks none far = record {
+  stopped = stopped_as (IsSetAmong timers old t) (IsSetAmong (timers ++ h ∷ []) old t) old now same far.stopped;
+  marked = adds_as (IsSetAmong timers old t) (IsSetAmong (timers ++ h ∷ []) old t) old_marks marks same far.marked;
+  clocks = far.clocks;
+  sound = far.sound;
+}
+  where
+    among : (k : ℕ) → IsSetBy old t k → IsMember timers k ⊎ (h ≡ k) → IsSetAmong timers old t k
+    among k sets (inl member) = (member, sets)
+    among k sets (inr last) = elim (member_or_not timers k) [
+      | inl member ↦ (member, sets)
+      | inr never ↦ absurd (none (subst (λ (n : ℕ). IsSetBy now t n) (sym last) (ap setter_of (far.stopped.others k (λ has. never has.0)) ∙ sets)))
+    ]
+
+    same : (k : ℕ) → IsSetAmong timers old t k ↔ IsSetAmong (timers ++ h ∷ []) old t k
+    same k = (λ has. (member_of_first timers (h ∷ []) k has.0, has.1), λ has. among k has.1 (member_push_cases timers h k has.0))
+
+-- all that the thread armed with a routine have a place in its queue
+pub set_among : (d : Dispatcher) (t : ℕ) (timers : List ℕ) → IsSound d → ((m : ℕ) → Contains timers m ↔ (place_of d.apcs.places m ≡ Some t)) → (k : ℕ) → IsSetAmong timers d.objects t k ↔ IsSetBy d.objects t k
+set_among d t timers sound placed k = (λ has. has.1, λ sets. (contained timers k ((placed k).1 (sound.timers.placed k t sets)), sets))

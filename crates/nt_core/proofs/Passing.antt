@@ -25,7 +25,7 @@ use Rattle.nt_core.specs.Accepts.{IsExpiredAfter}
 use Rattle.nt_core.proofs.Changing.{object_at-set_same, object_at-set_other}
 use Rattle.nt_core.proofs.Accepting.{IsCalm}
 use Rattle.nt_core.proofs.Arming.{expired_one, setting_parts, due_setting, later_rung, has_notified, rung}
-use Rattle.nt_core.proofs.Places.{sound_marked, marked_last}
+use Rattle.nt_core.proofs.Places.{sound_marked, marked_last, set_mark, set_kept}
 use Rattle.nt_core.proofs.Ticking.{rising_append}
 use Rattle.nt_core.proofs.Timing.{known_timer, and_kept}
 
@@ -128,18 +128,6 @@ marked_none marks = record { kept = λ t is. is; own = λ t e. no t e }
   where
     no : {P : Type 0} (t : ℕ) → None ≡ Some t → P
     no t e = (cc)
-
-set_mark : (marks : List (Option ℕ)) (t : ℕ) → t < length marks → alarm_at (set marks t (Some 0)) t ≡ Some 0
-set_mark [] t below = absurd (omega (arith, below))
-set_mark (a ∷ marks) zero below = refl
-set_mark (a ∷ marks) (suc t) below = set_mark marks t (omega (arith, below))
-
-set_kept : (marks : List (Option ℕ)) (t k : ℕ) → alarm_at marks k ≡ Some 0 → alarm_at (set marks t (Some 0)) k ≡ Some 0
-set_kept [] t k is = is
-set_kept (a ∷ marks) zero zero is = refl
-set_kept (a ∷ marks) zero (suc k) is = is
-set_kept (a ∷ marks) (suc t) zero is = is
-set_kept (a ∷ marks) (suc t) (suc k) is = set_kept marks t k is
 
 pub marked_some : (marks : List (Option ℕ)) (t : ℕ) → t < length marks → IsMarked marks (set marks t (Some 0)) (Some t)
 marked_some marks t below = record {

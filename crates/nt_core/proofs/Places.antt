@@ -6,17 +6,17 @@ use Rattle.std.proofs.lemmas.List.{append-nil, length-set}
 use Rattle.std.proofs.lemmas.Grind.{flat_map-append}
 use Rattle.nt_status.specs.Lists.{IsMember}
 use Rattle.nt_alarms.specs.Alarms.{alarm_at, NoneAt, IsLowestAt}
-use Rattle.nt_alarms.specs.Marks.{marked_from, marked_places}
+use Rattle.nt_alarms.specs.Marks.{AddsMarks, marked_from, marked_places}
 use Rattle.nt_waits.specs.Waits.{Agrees}
 use Rattle.nt_calls.specs.Rising.{IsRising, AreRising}
 use Rattle.nt_calls.specs.State.{State, pends}
-use Rattle.nt_calls.specs.Serving.{sequence}
+use Rattle.nt_calls.specs.Serving.{sequence, Serve}
 use Rattle.nt_core.specs.Dispatcher.{Dispatcher, Marked, state, with_marked}
 use Rattle.nt_core.specs.Lawful.{IsSound, HasPlaces}
-use Rattle.nt_core.specs.Visits.{Visits}
+use Rattle.nt_core.specs.Visits.{FitOnlyIn, Visits}
 use Rattle.nt_core.proofs.Marking.{marks_along}
 use Rattle.nt_core.proofs.Orders.{length-filter-le}
-use Rattle.nt_core.proofs.Walks.{Visits-none, Visits-then}
+use Rattle.nt_core.proofs.Walks.{Visits-none, Visits-then, all_served}
 
 -- ---- the list of the marked places
 
@@ -113,6 +113,36 @@ last_from k (Some (suc n) ∷ marks) (suc h) known below =
 pub marked_last : (marks : List (Option ℕ)) (h : ℕ) → h < length marks → ((x : ℕ) → IsMember (marked_places marks) x → x < h) → marked_places (set marks h (Some 0)) ≡ marked_places marks ++ h ∷ []
 marked_last marks h known below =
     last_from 0 marks h known (λ x m. let lt = below x m in omega (arith, lt)) ∙ ap (λ (n : ℕ). marked_places marks ++ n ∷ []) (omega arith)
+
+-- ---- one place more is marked
+
+pub set_mark : (marks : List (Option ℕ)) (t : ℕ) → t < length marks → alarm_at (set marks t (Some 0)) t ≡ Some 0
+set_mark [] t below = absurd (omega (arith, below))
+set_mark (a ∷ marks) zero below = refl
+set_mark (a ∷ marks) (suc t) below = set_mark marks t (omega (arith, below))
+
+pub set_kept : (marks : List (Option ℕ)) (t k : ℕ) → alarm_at marks k ≡ Some 0 → alarm_at (set marks t (Some 0)) k ≡ Some 0
+set_kept [] t k is = is
+set_kept (a ∷ marks) zero zero is = refl
+set_kept (a ∷ marks) zero (suc k) is = is
+set_kept (a ∷ marks) (suc t) zero is = is
+set_kept (a ∷ marks) (suc t) (suc k) is = set_kept marks t k is
+
+-- marks that are added for a property are added for another that says the same
+pub adds_as : (P Q : ℕ → Type 0) (old new : List (Option ℕ)) → ((k : ℕ) → P k ↔ Q k) → AddsMarks P old new → AddsMarks Q old new
+adds_as P Q old new same adds = record {
+  count = adds.count;
+  exactly = λ k. (
+    λ mark. elim ((adds.exactly k).0 mark) [
+      | inl before ↦ inl before
+      | inr has ↦ inr ((same k).0 has)
+    ],
+    λ has. elim has [
+      | inl before ↦ (adds.exactly k).1 (inl before)
+      | inr own ↦ (adds.exactly k).1 (inr ((same k).1 own))
+    ],
+  );
+}
 
 -- ---- other marks
 
@@ -226,3 +256,11 @@ served_end old now far none =
     subst (λ (xs : List ℕ). Visits (sequence (state old) xs) (with_marked old now.marked) now)
     (sym (far.split ∙ (ap (λ (xs : List ℕ). far.objects ++ xs) (none_marked now.marked.changed none) ∙ append-nil far.objects)))
     far.visits
+
+-- where only these waits can fit, all that fitted were granted, and no more were tested
+pub serving_whole : (threads : List ℕ) (old new : Dispatcher) → old.grants ≡ [] → old.table.looked ≡ 0 → FitOnlyIn threads (state old) → Visits threads old new → Serve threads (state old) new.grants (state new) × (new.table.looked ≤ length threads) × (length new.grants ≤ new.table.looked)
+serving_whole threads old new first anew local visits = (
+  all_served threads old new first local visits,
+  let most = visits.most in omega (arith, most, anew),
+  let same : length new.grants ≡ length visits.ended = ap (λ gs. length gs) (visits.grants ∙ ap (λ gs. gs ++ visits.ended) first) in let least = visits.least in omega (arith, same, least, anew),
+)

@@ -1,5 +1,5 @@
 -- What an accepted call does to the dispatcher.
-use Rattle.std.specs.Prelude.{◌≡◌, ℕ, ◌+◌, ◌≢◌, ◌<◌, ◌≤◌, ◌⊎◌, Bool, true, not, ◌&&◌, ◌==◌, List, [], ◌∷◌, ◌++◌, length, Option, Some, None, IfSome, Result, Ok, Err, OnOk, OnErr}
+use Rattle.std.specs.Prelude.{◌≡◌, ℕ, ◌+◌, ◌≢◌, ◌<◌, ◌≤◌, ◌⊎◌, ◌↔◌, Bool, true, not, ◌&&◌, ◌==◌, List, [], ◌∷◌, ◌++◌, length, Option, Some, None, IfSome, Result, Ok, Err, OnOk, OnErr}
 use Rattle.std.specs.List.{filter}
 use Rattle.std.specs.FinMap.{len, get}
 use Rattle.nt_status.specs.Status.{io_completion_code, timeout_code}
@@ -10,9 +10,11 @@ use Rattle.nt_calls.specs.declared.call.WaitCall.{WaitCall}
 use Rattle.nt_calls.specs.declared.call.Reply.{Reply}
 use Rattle.nt_calls.specs.declared.call.Grant.{Grant}
 use Rattle.nt_calls.specs.Rising.{AreRising}
-use Rattle.nt_objects.specs.Object.{armed_with}
+use Rattle.nt_objects.specs.declared.object.Object.{Object}
+use Rattle.nt_objects.specs.Object.{armed_with, setter_of}
 use Rattle.nt_objects.specs.declared.object.Routine.{Routine}
 use Rattle.nt_alarms.specs.Alarms.{alarm_at}
+use Rattle.nt_alarms.specs.Marks.{AddsMarks}
 use Rattle.nt_apc.specs.Queues.{withdrawn, place_of}
 use Rattle.nt_status.specs.Lists.{IsMember}
 use Rattle.nt_calls.specs.State.{State, object_at, wait_over}
@@ -118,20 +120,33 @@ pub record IsTickLocal (old : State) (m tested : ℕ) (grants : List Grant) : Ty
   pub most : tested ≤ length (sequence old timers)
   pub least : length (filter (ended_by_objects old) grants) ≤ tested
 
--- the timers at these handles are not armed any more, and no other object changed
-pub record IsStoppedAfter (old : Dispatcher) (timers : List ℕ) (new : Dispatcher) : Type 0 where
-  pub rest : new ≡ record old { objects = new.objects; alarms = new.alarms }
-  pub count : length new.objects ≡ length old.objects
-  pub stopped : (h : ℕ) → IsMember timers h → object_at new.objects h ≡ armed_with None (object_at old.objects h)
-  pub others : (h : ℕ) → (IsMember timers h → ⊥) → object_at new.objects h ≡ object_at old.objects h
+-- the thread armed the timer at this handle with a routine
+abbrev pub IsSetBy : List Object → ℕ → ℕ → Type 0
+IsSetBy objects t h = setter_of (object_at objects h) ≡ Some t
 
--- the thread has ended and the objects that this changed are listed, but no wait was served yet
-pub record IsExitedAfter (old : Dispatcher) (t : ℕ) (new : Dispatcher) (handles : List ℕ) : Type 0 where
+-- this is one of these timers, and the thread armed it with a routine
+abbrev pub IsSetAmong : List ℕ → List Object → ℕ → ℕ → Type 0
+IsSetAmong timers objects t h = IsMember timers h × IsSetBy objects t h
+
+-- the timers with this property are not armed any more, and no other object changed
+pub record AreStopped (property : ℕ → Type 0) (old new : List Object) : Type 0 where
+  pub count : length new ≡ length old
+  pub stopped : (h : ℕ) → property h → object_at new h ≡ armed_with None (object_at old h)
+  pub others : (h : ℕ) → (property h → ⊥) → object_at new h ≡ object_at old h
+
+-- the timers that the thread armed with a routine are stopped and marked, and nothing else changed
+pub record IsStoppedAfter (old : Dispatcher) (t : ℕ) (new : Dispatcher) : Type 0 where
+  pub rest : new ≡ record old { objects = new.objects; alarms = new.alarms; marked = record old.marked { changed = new.marked.changed } }
+  pub stopped : AreStopped (IsSetBy old.objects t) old.objects new.objects
+  pub marks : AddsMarks (IsSetBy old.objects t) old.marked.changed new.marked.changed
+
+-- the thread has ended and exactly the objects that this changed are marked, but no wait was served yet
+pub record IsExitedAfter (old : Dispatcher) (t : ℕ) (new : Dispatcher) : Type 0 where
   pub becomes : state new ≡ exited (state old) t
-  pub changed : AreRising (IsChanged old.objects new.objects) handles
+  pub changed : (h : ℕ) → (alarm_at new.marked.changed h ≡ Some 0) ↔ IsChanged old.objects new.objects h
   pub grants : new.grants ≡ old.grants
   pub table : new.table ≡ old.table
-  pub marked : new.marked ≡ old.marked
+  pub alerted : new.marked.alerted ≡ old.marked.alerted
 
 -- steady, and nothing told yet of the call that comes
 pub record IsFresh (d : Dispatcher) : Type 0 where

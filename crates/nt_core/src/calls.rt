@@ -15,7 +15,7 @@ ghost use Rattle.nt_core.specs.Accepts.{IsFresh, IsFree, IsLocal, IsActMade};
 
 use crate::machine::Machine;
 use nt_calls::{Act, Call, Reply};
-use nt_status::{ChangedObjects, Refusal, ThreadId};
+use nt_status::{Refusal, ThreadId};
 
 impl Machine {
     /// The refusal that every call of this thread must meet, if any.
@@ -79,15 +79,9 @@ impl Machine {
         }
     }
 
-    /// Makes the call of this thread, or refuses it, and ends no object. `numbers` is for the objects that a wait names, `changed`
-    /// for those that an end of a thread changes.
+    /// Makes the call of this thread, or refuses it, and ends no object.
     #[inline(always)]
-    fn make(
-        &mut self,
-        who: u32,
-        call: &Call,
-        changed: &mut ChangedObjects,
-    ) -> Result<Reply, Refusal>
+    fn make(&mut self, who: u32, call: &Call) -> Result<Reply, Refusal>
         requires steady { IsSteady self.old }
         ensures made { Made (state self.old) who (is_denied (state self.old) call.now)
             (call_named self.old.handles call.now) result self.new.grants (state self.new) }
@@ -105,7 +99,7 @@ impl Machine {
             Call::Act(act) => self.act(thread, act),
             Call::Wait(wait) => self.wait(thread, wait),
             Call::Exit => {
-                self.exit(thread, changed);
+                self.exit(thread);
                 Ok(Reply::Done)
             }
         }
@@ -113,12 +107,7 @@ impl Machine {
 
     /// Makes the call of this thread, or refuses it, and ends the objects that nothing keeps any more.
     #[inline(always)]
-    pub fn call(
-        &mut self,
-        who: u32,
-        call: &Call,
-        changed: &mut ChangedObjects,
-    ) -> Result<Reply, Refusal>
+    pub fn call(&mut self, who: u32, call: &Call) -> Result<Reply, Refusal>
         requires steady { IsSteady self.old }
         requires living { LivesWhileKept (state self.old) }
         ensures called { Called (state self.old) who call.now result self.new.grants (state self.new) }
@@ -128,7 +117,7 @@ impl Machine {
             (call_named self.old.handles call.now) self.new.table.looked self.new.grants) }
         ensures untested { OnErr result (self.new.table.looked ≡ 0) }
     {
-        let reply = self.make(who, call, changed)?;
+        let reply = self.make(who, call)?;
         self.end_forgotten();
         Ok(reply)
     }

@@ -12,7 +12,7 @@ ghost use Rattle.nt_calls.specs.Moves.{Moves, IsMomentAfter, pended, is_wait};
 
 use crate::machine::Machine;
 use nt_calls::{Call, Grant, Reply, count_living};
-use nt_status::{ChangedObjects, MAX_THREADS, Moment, Refusal};
+use nt_status::{MAX_THREADS, Moment, Refusal};
 use std::alloc::Global;
 use std::marker::Model;
 
@@ -20,8 +20,6 @@ use std::marker::Model;
 #[derive(Drop)]
 pub struct Core {
     pub(crate) machine: Machine,
-    /// For the objects that a call or a moment of a tick changes.
-    changed: ChangedObjects,
 }
 
 impl Model for Core {
@@ -54,13 +52,9 @@ impl Core {
         if threads == 0 || threads > MAX_THREADS {
             return Err(Refusal::InvalidParameter);
         }
-        let changed = ChangedObjects::new(alloc)?;
         let machine = Machine::new(alloc, threads)?;
         machine.objects.agree();
-        Ok(Core {
-            machine,
-            changed,
-        })
+        Ok(Core { machine })
     }
 
     /// Makes the call of this thread, and answers its reply or why it is refused. The pending waits that it ends are in
@@ -78,9 +72,7 @@ impl Core {
         ensures moment { (state self.new).now ≡ (state self.old).now }
         ensures untested { OnErr result (self.new.table.looked ≡ 0) }
     {
-        let result = self
-            .machine
-            .call(who, call, &mut self.changed);
+        let result = self.machine.call(who, call);
         let machine = &self.machine;
         machine.objects.agree();
         result
@@ -156,12 +148,7 @@ impl Core {
         ensures value { IfOk result (λ copied. copied ≡ self.now) }
         ensures memory { IfErr result (λ refusal. refusal ≡ Memory) }
     {
-        let alloc = *self.machine.grants.allocator();
-        let changed = ChangedObjects::new(alloc)?;
         let machine = self.machine.copy()?;
-        Ok(Core {
-            machine,
-            changed,
-        })
+        Ok(Core { machine })
     }
 }

@@ -1,64 +1,108 @@
 //! A thread ends.
-ghost use Rattle.std.specs.Prelude.{◌≡◌, ◌≢◌, ◌<◌, ◌≤◌, ◌+◌, ℕ, None, Some, true, false, length, map, slice_set};
+ghost use Rattle.std.specs.Prelude.{◌≡◌, ◌≢◌, ◌<◌, ℕ, None, Some, true, false, length, map, slice_set};
 ghost use Rattle.std.specs.FinMap as fin;
-ghost use Rattle.nt_status.specs.declared.limits.TheConstants.{MAX_HANDLES};
 ghost use Rattle.nt_objects.specs.declared.object.Object.TheVariants.{Thread};
-ghost use Rattle.nt_objects.specs.Object.{is_timer, has_ended, owned_by, setter_of, abandoned_by};
-ghost use Rattle.nt_status.specs.Lists.{IsMember, AreOnce, Lists};
+ghost use Rattle.nt_objects.specs.Object.{is_timer, has_ended, owned_by, setter_of, abandoned_by, armed_with};
+ghost use Rattle.nt_alarms.specs.Marks.{AddsMarks};
 ghost use Rattle.nt_apc.specs.Queues.{cleared};
 ghost use Rattle.nt_calls.specs.State.{object_at};
-ghost use Rattle.nt_core.specs.Dispatcher.{state};
-ghost use Rattle.nt_core.specs.Lawful.{IsSound};
-ghost use Rattle.nt_core.specs.Accepts.{IsFresh, IsStoppedAfter, IsExitedAfter, Accepts};
+ghost use Rattle.nt_core.specs.Dispatcher.{Dispatcher, state, with_marked};
+ghost use Rattle.nt_core.specs.Lawful.{IsSound, IsUnmarked};
+ghost use Rattle.nt_core.specs.Accepts.{IsFresh, IsSetAmong, AreStopped, IsStoppedAfter, IsExitedAfter, Accepts};
 ghost use Rattle.nt_calls.specs.declared.call.Call.{Call};
 ghost use Rattle.nt_calls.specs.declared.call.Reply.{Reply};
 
 use crate::machine::Machine;
+use nt_alarms::{Alarms, Marks};
 use nt_calls::is_set_by;
-use nt_status::{ChangedObjects, Handle, ThreadId};
+use nt_owners::ObjectTable;
+use nt_status::{Handle, ThreadId};
+
+/// Stops the timer, and marks it.
+fn stop(objects: &mut ObjectTable, alarms: &mut Alarms, changed: &mut Marks, timer: Handle)
+    requires kind { is_timer (object_at objects.old.items timer) ≡ true }
+    requires known { timer < length objects.old.items }
+    requires clock { timer < length alarms.old }
+    requires place { timer < length changed.old }
+    ensures objects { objects.new.items
+        ≡ slice_set objects.old.items timer (armed_with None (object_at objects.old.items timer)) }
+    ensures owned { objects.new.owned ≡ objects.old.owned }
+    ensures alarms { alarms.new ≡ slice_set alarms.old timer None }
+    ensures changed { changed.new ≡ slice_set changed.old timer (Some 0) }
+{
+    let place = timer.get() as usize;
+    let mut object = objects.as_slice()[place];
+    object.cancel();
+    objects.put(timer, object);
+    alarms.clear(place);
+    changed.set(place);
+}
+
+/// Stops those of these timers that the thread armed with a routine, and marks them. All else stays sound.
+fn stop_each(
+    objects: &mut ObjectTable,
+    alarms: &mut Alarms,
+    changed: &mut Marks,
+    thread: ThreadId,
+    timers: &[Handle],
+)
+    requires clocks { length alarms.old ≡ length objects.old.items }
+    requires places { length changed.old ≡ length objects.old.items }
+    ensures stopped { AreStopped (IsSetAmong timers.now objects.old.items thread) objects.old.items objects.new.items }
+    ensures marked { AddsMarks (IsSetAmong timers.now objects.old.items thread) changed.old changed.new }
+    ensures owned { objects.new.owned ≡ objects.old.owned }
+    ensures sound { (d : Dispatcher) → IsSound (record d { objects = objects.old.items; alarms = alarms.old })
+        → IsSound (record d { objects = objects.new.items; alarms = alarms.new }) }
+{
+    for timer in timers {
+        if is_set_by(objects.as_slice(), thread, *timer) {
+            stop(objects, alarms, changed, *timer);
+        }
+    }
+}
 
 impl Machine {
-    /// Frees and marks each mutex that the thread owns, and adds it to the list.
-    fn abandon_all(&mut self, thread: ThreadId, changed: &mut ChangedObjects)
-        requires room { length changed.old + length self.old.objects ≤ MAX_HANDLES }
-        ensures abandoned { self.new ≡ record self.old
-            { objects = map (abandoned_by thread) self.old.objects; owned = self.new.owned } }
-        ensures listed { Lists (λ m. owned_by (object_at self.old.objects m) thread ≡ true) changed.old changed.new }
+    /// Frees each mutex that the thread owns, as abandoned, and marks it: the waits on it are to be served.
+    fn abandon_all(&mut self, thread: ThreadId)
+        requires { IsSound self.old }
+        ensures abandoned { self.new ≡ record self.old {
+            objects = map (abandoned_by thread) self.old.objects;
+            owned = self.new.owned;
+            marked = record self.old.marked { changed = self.new.marked.changed };
+        } }
+        ensures marked { AddsMarks (λ m. owned_by (object_at self.old.objects m) thread ≡ true)
+            self.old.marked.changed self.new.marked.changed }
     {
-        self.objects.abandon_all(thread, changed);
+        self.objects.abandon_all(thread, &mut self.changed);
     }
 
-    /// Adds each timer that the thread armed with a routine to the list, on which no timer stands.
-    fn list_timers(&self, thread: ThreadId, changed: &mut ChangedObjects)
-        requires sound { IsSound self.now }
-        requires known { thread < self.now.threads }
-        requires once { AreOnce changed.old }
-        requires others { (h : ℕ) → IsMember changed.old h → (h < length self.now.objects)
-            × (is_timer (object_at self.now.objects h) ≡ false) }
-        ensures { Lists (λ h. setter_of (object_at self.now.objects h) ≡ Some thread) changed.old changed.new }
-    {
-        for timer in self.apcs.timers_of(thread) {
-            if is_set_by(self.objects.as_slice(), thread, *timer) {
-                changed.push(*timer);
-            }
-        }
-    }
-
-    /// Stops the timers at these handles.
-    fn stop_all(&mut self, timers: &[Handle])
+    /// Stops each timer that the thread armed with a routine, and marks it: the waits on it are to be served.
+    fn stop_all(&mut self, thread: ThreadId)
         requires sound { IsSound self.old }
-        requires kind { (h : ℕ) → IsMember timers.now h → is_timer (object_at self.old.objects h) ≡ true }
-        ensures stopped { IsStoppedAfter self.old timers.now self.new }
+        requires known { thread < self.old.threads }
+        ensures stopped { IsStoppedAfter self.old thread self.new }
         ensures sound { IsSound self.new }
     {
-        for timer in timers {
-            let mut object = self.object(*timer);
-            object.cancel();
-            self.put_timer(*timer, object);
-        }
+        let timers = self.apcs.timers_of(thread);
+        stop_each(
+            &mut self.objects,
+            &mut self.alarms,
+            &mut self.changed,
+            thread,
+            timers,
+        );
     }
 
-    /// The thread's own object says from now on that it has ended, and its APCs are gone, with all places in its queue.
+    /// The waits on the object are to be served.
+    fn mark_changed(&mut self, object: Handle)
+        requires { object < length self.old.marked.changed }
+        ensures { self.new ≡ with_marked self.old
+            (record self.old.marked { changed = slice_set self.old.marked.changed object (Some 0) }) }
+    {
+        self.changed.set(object.get() as usize);
+    }
+
+    /// The thread's own object says from now on that it has ended, and is marked; its APCs are gone, with all places in its queue.
     fn end_own(&mut self, thread: ThreadId)
         requires sound { IsSound self.old }
         requires idle { fin.get self.old.table.pending thread ≡ None }
@@ -70,7 +114,8 @@ impl Machine {
         ensures sound { IsSound self.new }
         ensures grants { self.new.grants ≡ self.old.grants }
         ensures table { self.new.table ≡ self.old.table }
-        ensures marked { self.new.marked ≡ self.old.marked }
+        ensures marked { self.new.marked
+            ≡ record self.old.marked { changed = slice_set self.old.marked.changed thread (Some 0) } }
     {
         let own = Handle::new(thread.get() as u32);
         let mut object = self.object(own);
@@ -78,37 +123,34 @@ impl Machine {
         self.exchange(own, object);
         self.apcs.clear(thread);
         self.mark(own);
+        self.mark_changed(own);
     }
 
-    /// The thread ends, and the objects that this changes are listed, by rising handle.
-    fn leave(&mut self, thread: ThreadId, changed: &mut ChangedObjects)
+    /// The thread ends, and the objects that this changes are marked.
+    fn leave(&mut self, thread: ThreadId)
         requires sound { IsSound self.old }
+        requires unmarked { IsUnmarked self.old.marked }
         requires idle { fin.get self.old.table.pending thread ≡ None }
         requires known { thread < self.old.threads }
         requires runs { has_ended (object_at self.old.objects thread) ≡ false }
-        ensures left { IsExitedAfter self.old thread self.new changed.new }
+        ensures left { IsExitedAfter self.old thread self.new }
         ensures sound { IsSound self.new }
     {
-        changed.clear();
-        self.abandon_all(thread, changed);
-        let mutexes = changed.as_slice().len();
-        self.list_timers(thread, changed);
-        self.stop_all(&changed.as_slice()[mutexes..]);
+        self.abandon_all(thread);
+        self.stop_all(thread);
         self.end_own(thread);
-        changed.push(Handle::new(thread.get() as u32));
-        changed.sort();
     }
 
-    /// The thread ends: the mutexes that it owns are free and marked, the timers that it armed with a routine stop, its APCs are
+    /// The thread ends: the mutexes that it owns are free and abandoned, the timers that it armed with a routine stop, its APCs are
     /// gone, its object is signaled, and the waits that name what changed are served.
-    pub(crate) fn exit(&mut self, thread: ThreadId, changed: &mut ChangedObjects)
+    pub(crate) fn exit(&mut self, thread: ThreadId)
         requires fresh { IsFresh self.old }
         requires idle { fin.get self.old.table.pending thread ≡ None }
         requires known { thread < self.old.threads }
         requires runs { has_ended (object_at self.old.objects thread) ≡ false }
         ensures { Accepts self.old self.new thread Call.Exit Reply.Done }
     {
-        self.leave(thread, changed);
-        self.serve(changed.as_slice());
+        self.leave(thread);
+        self.serve_marked();
     }
 }

@@ -52,19 +52,6 @@ impl Machine {
         }
     }
 
-    /// Visits the waits on these handles, object by object.
-    pub(crate) fn serve_all(&mut self, changed: &[Handle])
-        requires sound { IsSound self.old }
-        requires countable { self.old.table.looked + length (sequence (state self.old) changed.now) < 2 ^ 64 }
-        ensures visits { Visits (sequence (state self.old) changed.now) self.old self.new }
-        ensures prepared { self.new.table.prepared ≡ self.old.table.prepared }
-        ensures sound { IsSound self.new }
-    {
-        for handle in changed {
-            self.serve_on(*handle);
-        }
-    }
-
     /// Visits the waits on the objects that are marked as changed, object by object from the lowest number on, and takes the marks
     /// away.
     pub(crate) fn serve_marked(&mut self)
@@ -83,22 +70,22 @@ impl Machine {
         }
     }
 
-    /// Grants what fits after the objects at these handles changed. The caller knows that a wait that fits names one of them.
-    pub fn serve(&mut self, changed: &[Handle])
+    /// Grants what fits after the object at this handle changed. The caller knows that a wait that fits names it.
+    pub(crate) fn serve(&mut self, handle: Handle)
         requires sound { IsSound self.old }
-        requires local { FitOnlyIn (sequence (state self.old) changed.now) (state self.old) }
+        requires local { FitOnlyIn (sequence (state self.old) (handle ∷ [])) (state self.old) }
         requires first { self.old.grants ≡ [] }
         requires anew { self.old.table.looked ≡ 0 }
-        requires countable { length (sequence (state self.old) changed.now) < 2 ^ 64 }
-        ensures served { Serve (sequence (state self.old) changed.now) (state self.old) self.new.grants
+        requires countable { length (sequence (state self.old) (handle ∷ [])) < 2 ^ 64 }
+        ensures served { Serve (sequence (state self.old) (handle ∷ [])) (state self.old) self.new.grants
             (state self.new) }
         ensures prepared { self.new.table.prepared ≡ self.old.table.prepared }
         ensures marked { self.new.marked ≡ self.old.marked }
         ensures sound { IsSound self.new }
-        ensures most { self.new.table.looked ≤ length (sequence (state self.old) changed.now) }
+        ensures most { self.new.table.looked ≤ length (sequence (state self.old) (handle ∷ [])) }
         ensures least { length self.new.grants ≤ self.new.table.looked }
     {
-        self.serve_all(changed);
+        self.serve_on(handle);
     }
 
     /// Visits the waits on this handle, the first of which is this thread's, in the order in which they began, until its object is

@@ -1,18 +1,18 @@
--- A thread's mutexes are abandoned and listed, one after another.
-use Rattle.std.proofs.Common.{◌≡◌, ◌≢◌, ◌≤◌, ◌<◌, ◌+◌, ◌⊎◌, ℕ, set, zero, suc, false, List, [], ◌∷◌, ◌++◌, length, map, refl, sym, ap, ◌∙◌, subst, inl, inr, arith, Some, None}
+-- A thread's mutexes are abandoned and marked, one after another.
+use Rattle.std.proofs.Common.{◌≡◌, ◌≢◌, ◌<◌, ◌⊎◌, ℕ, set, zero, suc, false, List, [], ◌∷◌, length, map, Option, refl, sym, ap, ◌∙◌, subst, inl, inr, arith, Some, None}
 use Rattle.std.specs.Prelude.{◌↔◌, IsTrue}
 use Rattle.std.proofs.lemmas.Bool.{cases_eq}
-use Rattle.std.proofs.lemmas.Option.{none-some}
-use Rattle.std.proofs.lemmas.List.{append-nil, append_assoc, length-append, get_or-set_same, get_or-set_other}
+use Rattle.std.proofs.lemmas.List.{length-set, length-map, get_or-set_same, get_or-set_other}
 use Rattle.nt_objects.specs.declared.object.Object.{Object}
 use Rattle.nt_objects.specs.declared.object.Object.TheVariants.{Event, Semaphore, Mutex, Timer, Thread, Gone}
-use Rattle.nt_objects.specs.Object.{owner_of, owned_by, abandoned_by}
-use Rattle.nt_status.specs.Lists.{IsMember, AreOnce, Lists}
-use Rattle.nt_status.proofs.Lists.{member_same, member_push_cases, member_of_first, member_of_last, once_push, few_below}
+use Rattle.nt_objects.specs.Object.{owned_by, abandoned_by}
+use Rattle.nt_status.specs.Lists.{IsMember}
+use Rattle.nt_alarms.specs.Alarms.{alarm_at}
+use Rattle.nt_alarms.specs.Marks.{AddsMarks}
 use Rattle.nt_owners.specs.Owned.{list_of}
 use Rattle.nt_owners.specs.Objects.{object_at, OwnersAgree}
 use Rattle.nt_owners.proofs.ListLemmas.{same_test, other_test}
-use Rattle.nt_owners.proofs.PassLemmas.{owned_owner, owned_below, abandoned_free}
+use Rattle.nt_owners.proofs.PassLemmas.{owned_owner, owned_below}
 
 -- ---- abandoning
 
@@ -20,28 +20,13 @@ use Rattle.nt_owners.proofs.PassLemmas.{owned_owner, owned_below, abandoned_free
 abbrev pub Owns : List Object → ℕ → ℕ → Type 0
 Owns objects t m = IsTrue (owned_by (object_at objects m) t)
 
--- those listed so far are free now, and with those that the thread still owns they are all that it owned
-pub record ListedSoFar (old now : List Object) (t : ℕ) (start listed : List ℕ) : Type 0 where
-  mutexes : List ℕ
-  appended : listed ≡ start ++ mutexes
-  once : AreOnce mutexes
-  exactly : (m : ℕ) → (IsMember mutexes m ⊎ Owns now t m) ↔ Owns old t m
-  free : (m : ℕ) → IsMember mutexes m → Owns now t m → ⊥
+-- those that it owned and owns no more have a mark, besides those that were marked at first
+pub record MarkedSoFar (old now : List Object) (t : ℕ) (start marks : List (Option ℕ)) : Type 0 where
+  pub count : length marks ≡ length start
+  pub exactly : (m : ℕ) → ((alarm_at marks m ≡ Some 0) ⊎ Owns now t m) ↔ ((alarm_at start m ≡ Some 0) ⊎ Owns old t m)
 
-pub none_listed : (objects : List Object) (t : ℕ) (start : List ℕ) → ListedSoFar objects objects t start start
-none_listed objects t start = record {
-  mutexes = [];
-  appended = sym (append-nil start);
-  once = tt;
-  exactly = λ m. (
-    (λ has. elim has [
-      | inl none ↦ absurd none
-      | inr owns ↦ owns
-    ]),
-    λ owns. inr owns,
-  );
-  free = λ m none owns. none;
-}
+pub none_marked : (objects : List Object) (t : ℕ) (start : List (Option ℕ)) → MarkedSoFar objects objects t start start
+none_marked objects t start = record { count = refl; exactly = λ m. (λ has. has, λ has. has) }
 
 abbrev pub abandoned_at : List Object → ℕ → ℕ → List Object
 abandoned_at objects t m = set objects m (abandoned_by t (object_at objects m))
@@ -49,69 +34,43 @@ abandoned_at objects t m = set objects m (abandoned_by t (object_at objects m))
 owns_elsewhere : (objects : List Object) (t m k : ℕ) → k ≢ m → object_at (abandoned_at objects t m) k ≡ object_at objects k
 owns_elsewhere objects t m k differs = get_or-set_other objects m k (abandoned_by t (object_at objects m)) (Thread false) differs
 
-owns_no_more : (objects : List Object) (t m : ℕ) → Owns objects t m → Owns (abandoned_at objects t m) t m → ⊥
-owns_no_more objects t m owns still =
-    let owner : owner_of (object_at objects m) ≡ Some t = (owned_owner (object_at objects m) t).0 owns in
-    let here : object_at (abandoned_at objects t m) m ≡ abandoned_by t (object_at objects m) = get_or-set_same objects m (abandoned_by t (object_at objects m)) (Thread false) (owned_below objects t m owner) in
-    none-some t (sym (abandoned_free (object_at objects m) t owner) ∙ (ap owner_of (sym here) ∙ (owned_owner (object_at (abandoned_at objects t m) m) t).0 still))
-
-pub one_listed : (old now : List Object) (t m : ℕ) (start listed : List ℕ) → ListedSoFar old now t start listed → Owns now t m → ListedSoFar old (abandoned_at now t m) t start (listed ++ m ∷ [])
-one_listed old now t m start listed so_far owns = record {
-  mutexes = so_far.mutexes ++ m ∷ [];
-  appended = ap (λ (list : List ℕ). list ++ m ∷ []) so_far.appended ∙ append_assoc start so_far.mutexes (m ∷ []);
-  once = once_push so_far.mutexes m so_far.once (λ has. so_far.free m has owns);
-  exactly = λ k. ((λ has. (so_far.exactly k).0 (before k has)), λ was. after k was (cases_eq k m));
-  free = λ k has still. elim (member_push_cases so_far.mutexes m k has) [
-    | inl within ↦ so_far.free k within (owned_before k (λ same. so_far.free m (member_same so_far.mutexes k m same within) owns) still)
-    | inr last ↦ owns_no_more now t m owns (subst (λ (n : ℕ). Owns (abandoned_at now t m) t n) (sym last) still)
-  ];
+pub one_marked : (old now : List Object) (t m : ℕ) (start marks : List (Option ℕ)) → MarkedSoFar old now t start marks → Owns now t m → m < length marks → MarkedSoFar old (abandoned_at now t m) t start (set marks m (Some 0))
+one_marked old now t m start marks so_far owns below = record {
+  count = length-set marks m (Some 0) ∙ so_far.count;
+  exactly = λ k. ((λ has. (so_far.exactly k).0 (before k has (cases_eq k m))), λ was. after k was (cases_eq k m));
 }
   where
     owned_before : (k : ℕ) → k ≢ m → Owns (abandoned_at now t m) t k → Owns now t k
     owned_before k differs still = subst (λ (o : Object). IsTrue (owned_by o t)) (owns_elsewhere now t m k differs) still
 
-    before : (k : ℕ) → IsMember (so_far.mutexes ++ m ∷ []) k ⊎ Owns (abandoned_at now t m) t k → IsMember so_far.mutexes k ⊎ Owns now t k
-    before k (inl listed) = elim (member_push_cases so_far.mutexes m k listed) [
-      | inl within ↦ inl within
-      | inr last ↦ inr (subst (λ (n : ℕ). Owns now t n) last owns)
-    ]
-    before k (inr still) = elim (cases_eq k m) [
-      | inl same ↦ inr (subst (λ (n : ℕ). Owns now t n) (sym same) owns)
-      | inr differs ↦ inr (owned_before k differs still)
-    ]
+    before : (k : ℕ) → (alarm_at (set marks m (Some 0)) k ≡ Some 0) ⊎ Owns (abandoned_at now t m) t k → (k ≡ m) ⊎ (k ≢ m) → (alarm_at marks k ≡ Some 0) ⊎ Owns now t k
+    before k has (inl same) = inr (subst (λ (n : ℕ). Owns now t n) (sym same) owns)
+    before k (inl mark) (inr differs) = inl (sym (get_or-set_other marks m k (Some 0) None differs) ∙ mark)
+    before k (inr still) (inr differs) = inr (owned_before k differs still)
 
-    after : (k : ℕ) → Owns old t k → (k ≡ m) ⊎ (k ≢ m) → IsMember (so_far.mutexes ++ m ∷ []) k ⊎ Owns (abandoned_at now t m) t k
-    after k was (inl same) = inl (subst (λ (n : ℕ). IsMember (so_far.mutexes ++ m ∷ []) n) (sym same) (member_of_last so_far.mutexes (m ∷ []) m (inl refl)))
+    after : (k : ℕ) → (alarm_at start k ≡ Some 0) ⊎ Owns old t k → (k ≡ m) ⊎ (k ≢ m) → (alarm_at (set marks m (Some 0)) k ≡ Some 0) ⊎ Owns (abandoned_at now t m) t k
+    after k was (inl same) = inl (ap (λ (n : ℕ). alarm_at (set marks m (Some 0)) n) same ∙ get_or-set_same marks m (Some 0) None below)
     after k was (inr differs) = elim ((so_far.exactly k).1 was) [
-      | inl within ↦ inl (member_of_first so_far.mutexes (m ∷ []) k within)
+      | inl mark ↦ inl (get_or-set_other marks m k (Some 0) None differs ∙ mark)
       | inr owned ↦ inr (subst (λ (o : Object). IsTrue (owned_by o t)) (sym (owns_elsewhere now t m k differs)) owned)
     ]
 
--- there is room for one more
-pub few_listed : (old now : List Object) (t m : ℕ) (start listed : List ℕ) → ListedSoFar old now t start listed → Owns now t m → length listed < length start + length old
-few_listed old now t m start listed so_far owns =
-    let more = so_far.mutexes ++ m ∷ [] in
-    let below : (k : ℕ) → IsMember more k → k < length old = λ k has. owned_below old t k ((owned_owner (object_at old k) t).0 ((so_far.exactly k).0 (inside k has))) in
-    let few : length more ≤ length old = few_below (length old) more (once_push so_far.mutexes m so_far.once (λ has. so_far.free m has owns)) below in
-    let long : length more ≡ length so_far.mutexes + 1 = length-append so_far.mutexes (m ∷ []) in
-    let all : length listed ≡ length start + length so_far.mutexes = ap (λ (list : List ℕ). length list) so_far.appended ∙ length-append start so_far.mutexes in
-    omega (arith, few, long, all)
-  where
-    inside : (k : ℕ) → IsMember (so_far.mutexes ++ m ∷ []) k → IsMember so_far.mutexes k ⊎ Owns now t k
-    inside k has = elim (member_push_cases so_far.mutexes m k has) [
-      | inl within ↦ inl within
-      | inr last ↦ inr (subst (λ (n : ℕ). Owns now t n) last owns)
-    ]
+-- what the thread still owns is among the objects that there were
+pub owned_there : (old now : List Object) (t m : ℕ) → map (abandoned_by t) now ≡ map (abandoned_by t) old → Owns now t m → m < length old
+owned_there old now t m all owns =
+    let below = owned_below now t m ((owned_owner (object_at now m) t).0 owns) in
+    let same : length (map (abandoned_by t) now) ≡ length (map (abandoned_by t) old) = ap (λ (os : List Object). length os) all in
+    let a = length-map now (abandoned_by t) in
+    let b = length-map old (abandoned_by t) in
+    omega (arith, below, same, a, b)
 
-pub all_listed : (old now : List Object) (t : ℕ) (start listed : List ℕ) → ListedSoFar old now t start listed → ((m : ℕ) → Owns now t m → ⊥) → Lists (λ m. IsTrue (owned_by (object_at old m) t)) start listed
-all_listed old now t start listed so_far none = record {
-  more = so_far.mutexes;
-  longer = so_far.appended;
-  once = so_far.once;
+pub all_marked : (old now : List Object) (t : ℕ) (start marks : List (Option ℕ)) → MarkedSoFar old now t start marks → ((m : ℕ) → Owns now t m → ⊥) → AddsMarks (λ m. IsTrue (owned_by (object_at old m) t)) start marks
+all_marked old now t start marks so_far none = record {
+  count = so_far.count;
   exactly = λ m. (
-    (λ has. (so_far.exactly m).0 (inl has)),
+    (λ mark. (so_far.exactly m).0 (inl mark)),
     λ was. elim ((so_far.exactly m).1 was) [
-      | inl within ↦ within
+      | inl mark ↦ mark
       | inr owns ↦ absurd (none m owns)
     ],
   );

@@ -6,14 +6,15 @@ ghost use Rattle.std.specs.Result.{result_err};
 ghost use Rattle.nt_objects.specs.Object.{is_event, is_semaphore, is_mutex, count_of, owner_of, owned_by, abandoned_by};
 ghost use Rattle.nt_objects.specs.Object.{signaled, taken, has_room, TellsAbandoned};
 ghost use Rattle.nt_objects.specs.Object.{with_set, released, release_refusal, unlocked};
-ghost use Rattle.nt_status.specs.Lists.{IsMember, AreOnce, Lists};
-ghost use Rattle.nt_status.specs.declared.limits.TheConstants.{MAX_HANDLES};
+ghost use Rattle.nt_status.specs.Lists.{IsMember, AreOnce};
+ghost use Rattle.nt_alarms.specs.Marks.{AddsMarks};
 ghost use Rattle.nt_owners.specs.Owned.{list_of, IsUnowned};
 ghost use Rattle.nt_owners.specs.Objects.{object_at, OwnersAgree, IsPassed};
 
 use crate::owners::Owners;
+use nt_alarms::Marks;
 use nt_objects::{Armed, Object, Released, Routine, Taken};
-use nt_status::{ChangedObjects, Handle, Refusal, ThreadId};
+use nt_status::{Handle, Refusal, ThreadId};
 use std::alloc::{AllocError, Global};
 use std::marker::Model;
 
@@ -107,23 +108,23 @@ fn abandon_first(objects: &mut [Object], owners: &mut Owners, thread: ThreadId) 
     Some(mutex)
 }
 
-/// Each mutex that the thread owns is free from now on, and marked, and listed.
+/// Each mutex that the thread owns is free from now on, and abandoned, and has a mark among these.
 fn abandon_each(
     objects: &mut [Object],
     owners: &mut Owners,
     thread: ThreadId,
-    listed: &mut ChangedObjects,
+    changed: &mut Marks,
 )
     requires agree { OwnersAgree objects.old owners.old.lists }
-    requires room { length listed.old + length objects.old ≤ MAX_HANDLES }
+    requires places { length objects.old ≤ length changed.old }
     ensures agree { OwnersAgree objects.new owners.new.lists }
     ensures objects { objects.new ≡ map (abandoned_by thread) objects.old }
-    ensures listed { Lists (λ m. IsTrue (owned_by (object_at objects.old m) thread)) listed.old listed.new }
+    ensures marked { AddsMarks (λ m. IsTrue (owned_by (object_at objects.old m) thread)) changed.old changed.new }
     ensures room { owners.new.room ≡ owners.old.room }
     ensures threads { length owners.new.lists ≡ length owners.old.lists }
 {
     while let Some(mutex) = abandon_first(objects, owners, thread) {
-        listed.push(mutex);
+        changed.set(mutex.get() as usize);
     }
 }
 
@@ -310,14 +311,14 @@ impl ObjectTable {
         taken
     }
 
-    /// The thread ends: each mutex that it owns is free from now on, and marked, and listed.
-    pub fn abandon_all(&mut self, thread: ThreadId, listed: &mut ChangedObjects)
-        requires { length listed.old + length self.old.items ≤ MAX_HANDLES }
+    /// The thread ends: each mutex that it owns is free from now on, and abandoned, and has a mark among these.
+    pub fn abandon_all(&mut self, thread: ThreadId, changed: &mut Marks)
+        requires { length self.old.items ≤ length changed.old }
         ensures items { self.new.items ≡ map (abandoned_by thread) self.old.items }
-        ensures listed { Lists (λ m. IsTrue (owned_by (object_at self.old.items m) thread)) listed.old listed.new }
+        ensures marked { AddsMarks (λ m. IsTrue (owned_by (object_at self.old.items m) thread)) changed.old changed.new }
         ensures threads { length self.new.owned ≡ length self.old.owned }
     {
-        abandon_each(&mut self.objects, &mut self.owners, thread, listed);
+        abandon_each(&mut self.objects, &mut self.owners, thread, changed);
     }
 
     /// The same objects in memory of their own.

@@ -17,8 +17,9 @@ returns c =
     let apcs = c.clear.new.self in
     let mid = record (the_view c.self.inside) { apcs = apcs } in
     let ended : mid ≡ record old { objects = set old.objects t (Thread true); apcs = apcs } = ap (λ (d : Dispatcher). record d { apcs = apcs }) before in
-    let all = own_ended old c.mark.new.self t apcs c.requires.sound c.requires.idle c.requires.known c.requires.runs c.requires.unset
-    (c.mark.ensures ∙ (ap (λ (h : ℕ). record mid { leaving = set mid.leaving h (Some 0) }) own ∙ ap (λ (d : Dispatcher). record d { leaving = set d.leaving t (Some 0) }) ended))
+    let marks : ℕ → Dispatcher → Dispatcher = λ h d. record d { marked = record d.marked { changed = set d.marked.changed h (Some 0) } } in
+    let all = own_ended old c.mark_changed.new.self t apcs c.requires.sound c.requires.idle c.requires.known c.requires.runs c.requires.unset
+    (c.mark_changed.ensures ∙ (ap (λ (h : ℕ). marks h c.mark.new.self) own ∙ ap (marks t) (c.mark.ensures ∙ (ap (λ (h : ℕ). record mid { leaving = set mid.leaving h (Some 0) }) own ∙ ap (λ (d : Dispatcher). record d { leaving = set d.leaving t (Some 0) }) ended))))
     (c.clear.ensures.queues ∙ ap (λ (d : Dispatcher). cleared d.apcs.queues t) before)
     (λ m. c.clear.ensures.places m ∙ ap (λ (d : Dispatcher). given_up t (place_of d.apcs.places m)) before) in
     record { ended = all.0; sound = all.1; grants = all.2; table = all.3; marked = all.4 }

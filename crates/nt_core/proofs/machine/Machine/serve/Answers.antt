@@ -1,19 +1,14 @@
-use Rattle.std.proofs.Common.{◌≡◌, ◌++◌, length, ap, ◌∙◌, arith}
-use Rattle.nt_core.specs.Dispatcher.{state}
-use Rattle.nt_calls.specs.Serving.{sequence}
-use Rattle.nt_core.proofs.Walks.{all_served}
+use Rattle.nt_core.proofs.Stopping.{one_served, one_most, one_least, one_countable}
 use Rattle.nt_core.proofs.machine.Machine.serve.Goals as goal
 
+pub serve_on-requires-clause-countable : goal.serve_on-requires-clause-countable
+serve_on-requires-clause-countable c = one_countable c.args.self.now c.args.handle c.requires.anew c.requires.countable
+
 pub returns-clause-served : goal.returns-clause-served
-returns-clause-served c =
-    all_served (sequence (state c.args.self.now) c.args.changed.now) c.args.self.now c.serve_all.new.self c.requires.first c.requires.local c.serve_all.ensures.visits
+returns-clause-served c = one_served c.args.self.now c.serve_on.new.self c.args.handle c.requires.first c.requires.local c.serve_on.ensures.visits
 
 pub returns-clause-most : goal.returns-clause-most
-returns-clause-most c = let most = c.serve_all.ensures.visits.most in let none = c.requires.anew in omega (arith, most, none)
+returns-clause-most c = one_most c.args.self.now c.serve_on.new.self c.args.handle c.requires.anew c.serve_on.ensures.visits
 
 pub returns-clause-least : goal.returns-clause-least
-returns-clause-least c =
-    let visits = c.serve_all.ensures.visits in
-    let same : length c.serve_all.new.self.grants ≡ length visits.ended = ap (λ gs. length gs) (visits.grants ∙ ap (λ gs. gs ++ visits.ended) c.requires.first) in
-    let least = visits.least in
-    omega (arith, same, least)
+returns-clause-least c = one_least c.args.self.now c.serve_on.new.self c.args.handle c.requires.first c.requires.anew c.serve_on.ensures.visits
