@@ -25,12 +25,13 @@ use Rattle.nt_waits.specs.declared.wait.Wait.{Wait}
 use Rattle.nt_calls.specs.Serving.{is_ready, sequence, Serve}
 use Rattle.nt_calls.specs.Change.{change}
 use Rattle.nt_calls.specs.Steps.{NothingDue}
-use Rattle.nt_core.specs.Visits.{FitOnlyIn}
+use Rattle.nt_core.specs.Visits.{FitOnlyIn, FitOnlyBy}
 use Rattle.nt_core.specs.Lawful.{IsSound, IsSteady, IsSettled, IsUnmarked}
 use Rattle.nt_core.specs.Accepts.{IsFresh, IsPromised, IsServedAfter, Accepts}
 use Rattle.nt_core.proofs.Changing.{object_at-set_same, object_at-set_other, served_fewer, fit_only_in, changed_at_one, one_changed}
 use Rattle.nt_core.proofs.Accepting.{IsCalm, accepted, settled_after}
 use Rattle.nt_core.proofs.Alerting.{has_pushed_other}
+use Rattle.nt_core.proofs.Stopping.{by_replaced}
 use Rattle.nt_core.proofs.Replacing.{idle_served}
 use Rattle.nt_core.proofs.Timing.{retimed, retimed_sound, timer_parts, timer_changed, known_timer, and_kept, withdrawn_twice, length_withdrawn, has_withdrawn}
 
@@ -355,6 +356,13 @@ set_local old d1 mid h v armed fresh is now arms rings =
     let parts = timer_parts (object_at old.objects h) is in
     subst (λ (s : State). FitOnlyIn (sequence s (h ∷ [])) s) (sym (rung_after old d1 mid h v parts.0 parts.1 parts.2 armed parts.3 now arms rings))
     (set_fit old h (Timer parts.0 true (rearmed old.now armed)) (notified (withdrawn old.apcs.queues h) h armed.due armed.routine) fresh)
+
+-- and needs it
+pub set_needed : (old d1 mid : Dispatcher) (h v : ℕ) (armed : Armed) → IsFresh old → is_timer (object_at old.objects h) ≡ true → v ≡ old.now → state d1 ≡ armed_anew (state old) h armed → state mid ≡ expired v (state d1) h → FitOnlyBy h (state mid)
+set_needed old d1 mid h v armed fresh is now arms rings =
+    let parts = timer_parts (object_at old.objects h) is in
+    subst (λ (s : State). FitOnlyBy h s) (sym (rung_after old d1 mid h v parts.0 parts.1 parts.2 armed parts.3 now arms rings))
+    (by_replaced (state old) h (Timer parts.0 true (rearmed old.now armed)) fresh.steady.settled.served (λ u owns. absurd (false≢true owns)))
 
 set_due : (o : Object) (armed : Armed) → is_timer o ≡ true → due_of (armed_with (Some armed) (with_set false o)) ≡ Some armed.due
 set_due (Event manual was) armed is = absurd (false≢true is)

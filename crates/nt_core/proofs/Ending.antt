@@ -1,18 +1,17 @@
 -- The parts of a thread's end put together.
-use Rattle.std.proofs.Common.{Option, ◌≡◌, ◌≢◌, ◌<◌, ◌≤◌, ◌+◌, ◌*◌, ◌-◌, ◌^◌, ℕ, true, false, cond, List, [], ◌∷◌, ◌++◌, length, length-append, drop, take, set, refl, sym, ap, ◌∙◌, subst, arith, Some, None, inl, inr, ◌⊎◌, map}
+use Rattle.std.proofs.Common.{Option, ◌≡◌, ◌≢◌, ◌<◌, ◌≤◌, ◌*◌, ◌^◌, ℕ, true, false, cond, List, [], ◌∷◌, length, length-append, set, refl, sym, ap, ◌∙◌, subst, arith, Some, None, inl, inr, ◌⊎◌, map}
 use Rattle.std.specs.Prelude.{◌↔◌}
 use Rattle.std.specs.List.{flat_map}
 use Rattle.std.specs.FinMap as fin
 use Rattle.std.proofs.lemmas.Bool.{cases_eq, false≢true}
 use Rattle.std.proofs.lemmas.List.{length-set, length-map, get_or-set_other}
 use Rattle.nt_waits.specs.declared.wait.Wait.{Wait}
-use Rattle.nt_status.specs.Lists.{IsMember}
 use Rattle.nt_status.proofs.Lists.{few_below}
 use Rattle.nt_alarms.specs.Alarms.{alarm_at, NoneAt}
 use Rattle.nt_alarms.specs.Marks.{AddsMarks, marked_places}
 use Rattle.nt_objects.specs.declared.object.Object.{Object}
 use Rattle.nt_objects.specs.declared.object.Object.TheVariants.{Event, Semaphore, Mutex, Timer, Thread, Gone}
-use Rattle.nt_objects.specs.Object.{is_timer, is_thread, is_gone, has_ended, owned_by, due_of, setter_of, abandoned_by, unset_by, IsLawfulObject}
+use Rattle.nt_objects.specs.Object.{is_thread, is_gone, has_ended, owned_by, due_of, setter_of, abandoned_by, unset_by, IsLawfulObject}
 use Rattle.nt_apc.specs.Queues.{Apcs, place_of, given_up, cleared}
 use Rattle.nt_apc.specs.declared.apc.Queued.{Queued}
 use Rattle.nt_calls.specs.State.{State, object_at}
@@ -31,7 +30,7 @@ use Rattle.nt_core.proofs.Lives.{not_gone}
 use Rattle.nt_core.proofs.Marking.{marks_ending}
 use Rattle.nt_core.proofs.Changing.{ChangedOnlyAt, object_at-set_other, reading_set, property_set, limit_set, fit_only_in}
 use Rattle.nt_core.proofs.Accepting.{accepted, settled_after}
-use Rattle.nt_core.proofs.Replacing.{queue_few, known_mutex}
+use Rattle.nt_core.proofs.Replacing.{queue_few}
 use Rattle.nt_core.proofs.Listing.{same_no}
 use Rattle.nt_core.proofs.Places.{sound_marked, places_rising, set_mark, set_kept}
 use Rattle.nt_core.proofs.Passing.{rising_once}

@@ -1,13 +1,11 @@
 -- Which places are marked, as a list; objects that are marked as changed are served one after another.
-use Rattle.std.proofs.Common.{◌≡◌, ◌≢◌, ◌<◌, ◌≤◌, ◌^◌, ℕ, zero, suc, ◌+◌, List, [], ◌∷◌, ◌++◌, length, length-append, set, refl, sym, ap, ◌∙◌, subst, arith, append_assoc, Option, Some, None, inl, inr, ◌⊎◌}
+use Rattle.std.proofs.Common.{◌≡◌, ◌<◌, ◌≤◌, ◌^◌, ℕ, zero, suc, ◌+◌, List, [], ◌∷◌, ◌++◌, length, length-append, set, refl, sym, ap, ◌∙◌, subst, arith, append_assoc, Option, Some, None, inl, inr}
 use Rattle.std.specs.Prelude.{◌↔◌}
-use Rattle.std.specs.List.{flat_map, filter}
 use Rattle.std.proofs.lemmas.List.{append-nil, length-set}
 use Rattle.std.proofs.lemmas.Grind.{flat_map-append}
 use Rattle.nt_status.specs.Lists.{IsMember}
 use Rattle.nt_alarms.specs.Alarms.{alarm_at, NoneAt, IsLowestAt}
 use Rattle.nt_alarms.specs.Marks.{AddsMarks, marked_from, marked_places}
-use Rattle.nt_waits.specs.Waits.{Agrees}
 use Rattle.nt_calls.specs.Rising.{IsRising, AreRising}
 use Rattle.nt_calls.specs.State.{State, pends}
 use Rattle.nt_calls.specs.Serving.{sequence, Serve}

@@ -1,14 +1,12 @@
 -- Visits one after another.
-use Rattle.std.proofs.Common.{◌≡◌, ◌≢◌, ℕ, suc, ◌+◌, ◌≤◌, ◌<◌, Bool, true, false, eqb, List, [], ◌∷◌, ◌++◌, length, length-append, get_or, take, append_assoc, refl, sym, ap, ◌∙◌, subst, arith, Option, Some, None, is_some, inl, inr}
+use Rattle.std.proofs.Common.{◌≡◌, ◌≢◌, ℕ, suc, ◌+◌, ◌≤◌, Bool, true, false, eqb, List, [], ◌∷◌, ◌++◌, length, length-append, append_assoc, refl, sym, ap, ◌∙◌, subst, arith, Option, Some, None, is_some, inl, inr}
 use Rattle.std.specs.List.{find, filter}
 use Rattle.std.specs.Prelude.{slice_get}
 use Rattle.std.specs.Ordering.{nat_cmp, eq_by_cmp}
 use Rattle.std.specs.Cmp.{unsigned_tied, nat_cmp_total}
 use Rattle.std.specs.FinMap as map
 use Rattle.std.proofs.lemmas.Bool.{cases_eq}
-use Rattle.std.proofs.lemmas.List.{append-nil, take_more}
-use Rattle.std.proofs.lemmas.List.Folds.{length-flat_map-take}
-use Rattle.std.proofs.lemmas.Grind.{flat_map-append}
+use Rattle.std.proofs.lemmas.List.{append-nil}
 use Rattle.std.proofs.lemmas.Bool.Decides.{nat_tests}
 use Rattle.nt_waits.specs.declared.wait.Wait.{Wait}
 use Rattle.nt_status.specs.Lists.{IsMember, AreOnce}
@@ -18,7 +16,7 @@ use Rattle.nt_waits.proofs.OthersLemmas.{others_absent}
 use Rattle.nt_calls.specs.declared.call.Grant.{Grant}
 use Rattle.nt_calls.specs.State.{State, Pending, pends}
 use Rattle.nt_core.specs.Dispatcher.{Dispatcher, state}
-use Rattle.nt_calls.specs.Serving.{is_due, IsDue, satisfied, granted, grant_of, Grants, IsServed, Serve, sequence}
+use Rattle.nt_calls.specs.Serving.{is_due, IsDue, satisfied, granted, grant_of, Grants, IsServed, Serve}
 use Rattle.nt_core.specs.Visits.{IsVisited, Visits, FitOnlyIn}
 use Rattle.nt_core.specs.Lawful.{IsSound}
 use Rattle.nt_core.proofs.Taking.{undue_granted, idle_granted, undue_idle}
@@ -260,27 +258,6 @@ served threads old new local visits t = go (is_due (state old) t) refl
     go : (b : Bool) → is_due (state old) t ≡ b → is_due (state new) t ≡ false
     go true e = find_none_member (is_due (state new)) threads t visits.over (local t e)
     go false e = Grants-undue threads (state old) (state new) visits.ended t visits.granted e
-
--- one more handle
-sequence_more : (d : Dispatcher) (changed : List ℕ) (i h : ℕ) → i < length changed → h ≡ get_or changed i h → sequence (state d) (take (i + 1) changed) ≡ sequence (state d) (take i changed) ++ (state d).queues h
-sequence_more d changed i h lt is =
-    ap (λ hs. sequence (state d) hs) (take_more changed i h lt)
-    ∙ (flat_map-append (state d).queues (take i changed) (get_or changed i h ∷ [])
-    ∙ ap (λ q. sequence (state d) (take i changed) ++ q) (append-nil ((state d).queues (get_or changed i h)) ∙ ap (state d).queues (sym is)))
-
-pub Visits-on : (old mid new : Dispatcher) (changed : List ℕ) (i h : ℕ) → i < length changed → h ≡ get_or changed i h → Visits (sequence (state old) (take i changed)) old mid → Visits ((state mid).queues h) mid new → Visits (sequence (state old) (take (i + 1) changed)) old new
-Visits-on old mid new changed i h lt is a b =
-    subst (λ (q : List ℕ). Visits q old new) (sym (sequence_more old changed i h lt is))
-    (Visits-then (sequence (state old) (take i changed)) ((state old).queues h) old mid new a (subst (λ (q : List ℕ). Visits q mid new) (a.queues h) b))
-
--- the looks that are still to come
-pub on_countable : (old mid : Dispatcher) (changed : List ℕ) (i h : ℕ) → i < length changed → h ≡ get_or changed i h → Visits (sequence (state old) (take i changed)) old mid → mid.table.looked + length ((state mid).queues h) ≤ old.table.looked + length (sequence (state old) changed)
-on_countable old mid changed i h lt is a =
-    let parts = length-flat_map-take (state old).queues changed i h lt in
-    let here : length ((state old).queues (get_or changed i h)) ≡ length ((state old).queues h) = ap (λ k. length ((state old).queues k)) (sym is) in
-    let left : length ((state mid).queues h) ≤ length ((state old).queues h) = rw (a.queues h) (length-filter-le (pends (state mid)) ((state old).queues h)) in
-    let most = a.most in
-    omega (arith, parts, here, left, most)
 
 pub all_served : (threads : List ℕ) (old new : Dispatcher) → old.grants ≡ [] → FitOnlyIn threads (state old) → Visits threads old new → Serve threads (state old) new.grants (state new)
 all_served threads old new first local visits =

@@ -6,7 +6,7 @@ ghost use Rattle.nt_objects.specs.Object.{is_timer, has_ended, owned_by, setter_
 ghost use Rattle.nt_alarms.specs.Marks.{AddsMarks};
 ghost use Rattle.nt_apc.specs.Queues.{cleared};
 ghost use Rattle.nt_calls.specs.State.{object_at};
-ghost use Rattle.nt_core.specs.Dispatcher.{Dispatcher, state, with_marked};
+ghost use Rattle.nt_core.specs.Dispatcher.{Dispatcher, state};
 ghost use Rattle.nt_core.specs.Lawful.{IsSound, IsUnmarked};
 ghost use Rattle.nt_core.specs.Accepts.{IsFresh, IsSetAmong, AreStopped, IsStoppedAfter, IsExitedAfter, Accepts};
 ghost use Rattle.nt_calls.specs.declared.call.Call.{Call};
@@ -93,15 +93,6 @@ impl Machine {
         );
     }
 
-    /// The waits on the object are to be served.
-    fn mark_changed(&mut self, object: Handle)
-        requires { object < length self.old.marked.changed }
-        ensures { self.new ≡ with_marked self.old
-            (record self.old.marked { changed = slice_set self.old.marked.changed object (Some 0) }) }
-    {
-        self.changed.set(object.get() as usize);
-    }
-
     /// The thread's own object says from now on that it has ended, and is marked; its APCs are gone, with all places in its queue.
     fn end_own(&mut self, thread: ThreadId)
         requires sound { IsSound self.old }
@@ -123,7 +114,7 @@ impl Machine {
         self.exchange(own, object);
         self.apcs.clear(thread);
         self.mark(own);
-        self.mark_changed(own);
+        self.changed.set(thread.get() as usize);
     }
 
     /// The thread ends, and the objects that this changes are marked.

@@ -30,11 +30,10 @@ impl Machine {
     /// Takes the mark of the lowest object whose waits are to be served, and answers the object.
     pub(crate) fn take_changed(&mut self) -> Option<Handle>
         requires sound { IsSound self.old }
-        ensures none { IfNone result (NoneAt self.old.marked.changed 0) }
+        ensures none { IfNone result (NoneAt self.old.marked.changed 0 × (self.new ≡ self.old)) }
         ensures lowest { IfSome result (λ object. IsLowestAt self.old.marked.changed 0 object) }
         ensures taken { IfSome result (λ object. self.new ≡ with_marked self.old
             (record self.old.marked { changed = slice_set self.old.marked.changed object None })) }
-        ensures kept { IfNone result (self.new ≡ self.old) }
     {
         let place = self.changed.first()?;
         self.changed.clear(place);
@@ -44,11 +43,10 @@ impl Machine {
     /// Takes the mark of the lowest thread that may have to be alerted, and answers the thread.
     pub(crate) fn take_alerted(&mut self) -> Option<ThreadId>
         requires sound { IsSound self.old }
-        ensures none { IfNone result (NoneAt self.old.marked.alerted 0) }
+        ensures none { IfNone result (NoneAt self.old.marked.alerted 0 × (self.new ≡ self.old)) }
         ensures lowest { IfSome result (λ thread. IsLowestAt self.old.marked.alerted 0 thread) }
         ensures taken { IfSome result (λ thread. self.new ≡ with_marked self.old
             (record self.old.marked { alerted = slice_set self.old.marked.alerted thread None })) }
-        ensures kept { IfNone result (self.new ≡ self.old) }
     {
         let place = self.alerted.first()?;
         self.alerted.clear(place);

@@ -70,24 +70,6 @@ impl Machine {
         }
     }
 
-    /// Grants what fits after the object at this handle changed. The caller knows that a wait that fits names it.
-    pub(crate) fn serve(&mut self, handle: Handle)
-        requires sound { IsSound self.old }
-        requires local { FitOnlyIn (sequence (state self.old) (handle ∷ [])) (state self.old) }
-        requires first { self.old.grants ≡ [] }
-        requires anew { self.old.table.looked ≡ 0 }
-        requires countable { length (sequence (state self.old) (handle ∷ [])) < 2 ^ 64 }
-        ensures served { Serve (sequence (state self.old) (handle ∷ [])) (state self.old) self.new.grants
-            (state self.new) }
-        ensures prepared { self.new.table.prepared ≡ self.old.table.prepared }
-        ensures marked { self.new.marked ≡ self.old.marked }
-        ensures sound { IsSound self.new }
-        ensures most { self.new.table.looked ≤ length (sequence (state self.old) (handle ∷ [])) }
-        ensures least { length self.new.grants ≤ self.new.table.looked }
-    {
-        self.serve_on(handle);
-    }
-
     /// Visits the waits on this handle, the first of which is this thread's, in the order in which they began, until its object is
     /// signaled for none that is left. The caller knows that a wait that fits needs this object.
     #[inline(never)]

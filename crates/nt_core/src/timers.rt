@@ -200,7 +200,7 @@ impl Machine {
         if due <= now.get() {
             self.expire(timer, now);
             if !was_set {
-                self.serve(timer);
+                self.serve_one(timer);
             }
         }
         Ok(())

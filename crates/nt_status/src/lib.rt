@@ -3,7 +3,6 @@
 
 mod access;
 mod event_flags;
-mod handle_list;
 mod handles;
 mod limits;
 mod moment;
@@ -16,7 +15,6 @@ mod timer_flags;
 
 pub use access::Access;
 pub use event_flags::EventFlags;
-pub use handle_list::{ChangedObjects, HandleList, NamedObjects};
 pub use handles::{Handle, Handles};
 pub use limits::{INFINITE, MAX_HANDLES, MAX_MOMENT, MAX_THREADS, MAX_WAIT_OBJECTS};
 pub use moment::Moment;

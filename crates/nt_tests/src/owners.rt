@@ -4,8 +4,9 @@ ghost use Rattle.std.specs.Prelude.{◌≡◌, ◌<◌, [], length, IfOk, OnOk};
 
 use crate::refused::{Host, tell_refused};
 use nt_objects::Object;
+use nt_alarms::Marks;
 use nt_owners::{ObjectTable, Owners};
-use nt_status::{ChangedObjects, Handle, MutexFlags, ThreadId};
+use nt_status::{Handle, MutexFlags, ThreadId};
 use std::alloc::AllocError;
 use std::test::Fail;
 
@@ -74,15 +75,15 @@ fn make_object_room(rt: &impl Host, table: &mut ObjectTable) -> Result<(), Alloc
     }
 }
 
-/// An empty list of handles. Where memory is refused, a second try goes on.
-fn no_handles(rt: &impl Host) -> Result<ChangedObjects, AllocError>
-    ensures { IfOk result (λ handles. handles ≡ []) }
+/// A place for each of three objects, none of which is marked. Where memory is refused, a second try goes on.
+fn no_marks(rt: &impl Host) -> Result<Marks, AllocError>
+    ensures { IfOk result (λ marks. marks ≡ replicate 3 None) }
 {
-    match ChangedObjects::new(rt.alloc()) {
-        Ok(handles) => Ok(handles),
+    match Marks::with_places(rt.alloc(), 3) {
+        Ok(marks) => Ok(marks),
         Err(_) => {
-            tell_refused(rt, "the handles");
-            ChangedObjects::new(rt.alloc())
+            tell_refused(rt, "the marks");
+            Marks::with_places(rt.alloc(), 3)
         }
     }
 }
@@ -91,36 +92,36 @@ fn no_handles(rt: &impl Host) -> Result<ChangedObjects, AllocError>
 fn leave_mutex(
     rt: &impl Host,
     table: &mut ObjectTable,
-    listed: &mut ChangedObjects,
+    marks: &mut Marks,
 ) -> Result<bool, AllocError>
     requires objects { length table.old.items ≡ 2 }
     requires threads { length table.old.owned ≡ 2 }
-    requires empty { listed.old ≡ [] }
+    requires marks { length marks.old ≡ 3 }
 {
     let owner = ThreadId::new(1);
     make_object_room(rt, table)?;
     table.add(Object::new_mutex(MutexFlags::INITIAL_OWNER, owner));
     let was_owned = table.as_slice()[2].is_owned_by(owner);
-    table.abandon_all(owner, listed);
+    table.abandon_all(owner, marks);
     Ok(was_owned)
 }
 
-/// Whether the mutex alone is listed, is free, and says that it was abandoned.
-fn is_left(table: &ObjectTable, listed: &[Handle]) -> bool {
+/// Whether the mutex is marked, and none before it, is free, and says that it was abandoned.
+fn is_left(table: &ObjectTable, marks: &Marks) -> bool {
     let is_abandoned = match table.as_slice() {
         [_, _, mutex] => mutex.is_abandoned() && mutex.owner().is_none(),
         _ => false,
     };
-    is_abandoned && listed == [Handle::new(2)].as_slice()
+    is_abandoned && marks.first() == Some(2)
 }
 
 fn check_left_mutex(rt: &impl Host, table: &mut ObjectTable) -> Result<(), Fail>
     requires objects { length table.old.items ≡ 2 }
     requires threads { length table.old.owned ≡ 2 }
 {
-    let mut listed = no_handles(rt)?;
-    let was_owned = leave_mutex(rt, table, &mut listed)?;
-    assert!(rt; was_owned && is_left(table, listed.as_slice()));
+    let mut marks = no_marks(rt)?;
+    let was_owned = leave_mutex(rt, table, &mut marks)?;
+    assert!(rt; was_owned && is_left(table, &marks));
     Ok(())
 }
 

@@ -27,8 +27,8 @@ loop-thread-preserved c =
 
 pub returns-clause-alerted : goal.returns-clause-alerted
 returns-clause-alerted c =
-    subst (λ (d : Dispatcher). IsAlertedAfter c.args.self.now d) (sym c.in_default.ensures.kept)
-    (alerted_end c.args.self.now c.loop-thread.self c.loop-thread.self.marked.alerted c.loop-thread.invariant c.in_default.ensures.none c.requires.served)
+    subst (λ (d : Dispatcher). IsAlertedAfter c.args.self.now d) (sym c.in_default.ensures.none.1)
+    (alerted_end c.args.self.now c.loop-thread.self c.loop-thread.self.marked.alerted c.loop-thread.invariant c.in_default.ensures.none.0 c.requires.served)
 
 pub returns-clause-sound : goal.returns-clause-sound
-returns-clause-sound c = subst IsSound (sym c.in_default.ensures.kept) c.loop-thread.invariant.sound
+returns-clause-sound c = subst IsSound (sym c.in_default.ensures.none.1) c.loop-thread.invariant.sound

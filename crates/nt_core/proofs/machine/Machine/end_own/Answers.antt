@@ -1,4 +1,4 @@
-use Rattle.std.proofs.Common.{◌≡◌, ℕ, Some, true, set, ap, ◌∙◌}
+use Rattle.std.proofs.Common.{◌≡◌, ℕ, List, Option, Some, true, set, ap, ◌∙◌}
 use Rattle.nt_objects.specs.declared.object.Object.{Object}
 use Rattle.nt_objects.specs.declared.object.Object.TheVariants.{Thread}
 use Rattle.nt_apc.specs.Queues.{place_of, given_up, cleared}
@@ -18,8 +18,11 @@ returns c =
     let mid = record (the_view c.self.inside) { apcs = apcs } in
     let ended : mid ≡ record old { objects = set old.objects t (Thread true); apcs = apcs } = ap (λ (d : Dispatcher). record d { apcs = apcs }) before in
     let marks : ℕ → Dispatcher → Dispatcher = λ h d. record d { marked = record d.marked { changed = set d.marked.changed h (Some 0) } } in
-    let all = own_ended old c.mark_changed.new.self t apcs c.requires.sound c.requires.idle c.requires.known c.requires.runs c.requires.unset
-    (c.mark_changed.ensures ∙ (ap (λ (h : ℕ). marks h c.mark.new.self) own ∙ ap (marks t) (c.mark.ensures ∙ (ap (λ (h : ℕ). record mid { leaving = set mid.leaving h (Some 0) }) own ∙ ap (λ (d : Dispatcher). record d { leaving = set d.leaving t (Some 0) }) ended))))
+    let last = the_view c.self-2.inside in
+    let new = record last { marked = record last.marked { changed = c.set.new.self } } in
+    let placed : new ≡ marks t last = ap (λ (xs : List (Option ℕ)). record last { marked = record last.marked { changed = xs } }) (c.set.ensures ∙ ap (λ (k : ℕ). set last.marked.changed k (Some 0)) c.get-2.ensures) in
+    let all = own_ended old new t apcs c.requires.sound c.requires.idle c.requires.known c.requires.runs c.requires.unset
+    (placed ∙ ap (marks t) (c.self-2.view_is ∙ (c.mark.ensures ∙ (ap (λ (h : ℕ). record mid { leaving = set mid.leaving h (Some 0) }) own ∙ ap (λ (d : Dispatcher). record d { leaving = set d.leaving t (Some 0) }) ended))))
     (c.clear.ensures.queues ∙ ap (λ (d : Dispatcher). cleared d.apcs.queues t) before)
     (λ m. c.clear.ensures.places m ∙ ap (λ (d : Dispatcher). given_up t (place_of d.apcs.places m)) before) in
     record { ended = all.0; sound = all.1; grants = all.2; table = all.3; marked = all.4 }

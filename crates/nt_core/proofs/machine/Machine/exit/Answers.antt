@@ -1,13 +1,11 @@
-use Rattle.std.proofs.Common.{◌≡◌, ◌≤◌, ◌<◌, ◌+◌, ◌^◌, ℕ, List, Some, length, sym, ap, ◌∙◌, subst, arith}
-use Rattle.std.specs.Prelude.{◌↔◌}
-use Rattle.nt_alarms.specs.Alarms.{alarm_at, NoneAt}
+use Rattle.std.proofs.Common.{◌≡◌, ◌<◌, ◌^◌, length, sym, ap, ◌∙◌, subst, arith}
+use Rattle.nt_alarms.specs.Alarms.{NoneAt}
 use Rattle.nt_alarms.specs.Marks.{marked_places}
 use Rattle.nt_waits.specs.Waits.{Waits}
-use Rattle.nt_objects.specs.declared.object.Object.{Object}
 use Rattle.nt_calls.specs.State.{State}
 use Rattle.nt_calls.specs.Rising.{AreRising}
-use Rattle.nt_calls.specs.Serving.{IsChanged, sequence, Serve}
-use Rattle.nt_core.specs.Dispatcher.{Dispatcher, state, with_marked}
+use Rattle.nt_calls.specs.Serving.{IsChanged, sequence}
+use Rattle.nt_core.specs.Dispatcher.{state, with_marked}
 use Rattle.nt_core.specs.Visits.{FitOnlyIn}
 use Rattle.nt_core.proofs.Exiting.{objects_left}
 use Rattle.nt_core.proofs.Ending.{exited_fit, exited_few, exited_accepted, exited_places}

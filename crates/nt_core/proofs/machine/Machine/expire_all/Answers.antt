@@ -1,5 +1,5 @@
 use Rattle.std.proofs.Common.{◌≡◌, ◌<◌, ◌≤◌, ◌-◌, ℕ, List, [], ◌∷◌, length, sym, ap, ◌∙◌, subst, arith}
-use Rattle.std.specs.Prelude.{Option, IsSomeAnd}
+use Rattle.std.specs.Prelude.{IsSomeAnd}
 use Rattle.nt_objects.specs.Object.{due_of}
 use Rattle.nt_alarms.specs.Alarms.{IsLowestAt, NoneAt}
 use Rattle.nt_alarms.specs.Marks.{marked_places}

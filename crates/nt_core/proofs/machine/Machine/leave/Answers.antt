@@ -1,4 +1,4 @@
-use Rattle.std.proofs.Common.{◌≡◌, ◌<◌, ℕ, List, Option, Some, map, sym, ap, ◌∙◌, subst, arith}
+use Rattle.std.proofs.Common.{◌≡◌, List, Some, map, sym, ap, ◌∙◌, subst, arith}
 use Rattle.nt_objects.specs.declared.object.Object.{Object}
 use Rattle.nt_objects.specs.Object.{has_ended, abandoned_by}
 use Rattle.std.specs.FinMap as fin
@@ -9,7 +9,6 @@ use Rattle.nt_calls.specs.State.{State}
 use Rattle.nt_calls.specs.Serving.{IsChanged}
 use Rattle.nt_calls.specs.Change.{exited}
 use Rattle.nt_core.specs.Dispatcher.{Dispatcher, Marked, state}
-use Rattle.nt_core.specs.Lawful.{IsSound}
 use Rattle.nt_core.specs.Accepts.{IsSetBy}
 use Rattle.nt_core.proofs.Exiting.{objects_left}
 use Rattle.nt_core.proofs.Ending.{AreMarked, exited_state, stopped_own, none_set, freed_sound, marked_changed}

@@ -1,7 +1,7 @@
-use Rattle.std.proofs.Common.{◌≡◌, Some, inl, sym, ap, ◌∙◌}
+use Rattle.std.proofs.Common.{inl, sym, ap, ◌∙◌}
 use Rattle.nt_alarms.specs.Alarms.{alarm_at}
 use Rattle.nt_alarms.specs.Marks.{marked_places}
-use Rattle.nt_core.specs.Dispatcher.{Dispatcher, state, with_marked}
+use Rattle.nt_core.specs.Dispatcher.{state, with_marked}
 use Rattle.nt_calls.specs.Serving.{sequence}
 use Rattle.nt_core.proofs.Moments.{Grants_alerted, expired_fit, expired_remarked, expired_countable, passed_whole, none_earlier_left}
 use Rattle.nt_core.proofs.machine.Machine.pass.Goals as goal

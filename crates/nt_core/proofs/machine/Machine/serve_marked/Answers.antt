@@ -1,8 +1,7 @@
-use Rattle.std.proofs.Common.{◌≡◌, ◌<◌, ◌+◌, ◌^◌, ℕ, List, None, length, set, sym, ap, ◌∙◌, subst}
+use Rattle.std.proofs.Common.{◌≡◌, ◌<◌, ℕ, List, None, set, sym, ap, ◌∙◌, subst}
 use Rattle.std.specs.Prelude.{Option}
 use Rattle.nt_alarms.specs.Alarms.{NoneAt}
-use Rattle.nt_core.specs.Dispatcher.{Dispatcher, Marked, state}
-use Rattle.nt_core.specs.Lawful.{IsSound}
+use Rattle.nt_core.specs.Dispatcher.{Dispatcher, Marked}
 use Rattle.nt_core.proofs.Places.{ServedSoFar, served_none, served_next, served_countable, served_end, changed_sound}
 use Rattle.nt_core.proofs.Rousing.{marks_left, marks_less}
 use Rattle.nt_core.proofs.machine.Machine.serve_marked.Goals as goal
@@ -34,7 +33,7 @@ returns c =
     let old = c.args.self.now in
     let now = c.loop-object.self in
     let new = c.take_changed.new.self in
-    let same : new ≡ now = c.in_default.ensures.kept in
+    let same : new ≡ now = c.in_default.ensures.none.1 in
     let far : ServedSoFar old new = subst (λ (d : Dispatcher). ServedSoFar old d) (sym same) c.loop-object.invariant in
-    let none = subst (λ (d : Dispatcher). NoneAt d.marked.changed 0) (sym same) c.in_default.ensures.none in
+    let none = subst (λ (d : Dispatcher). NoneAt d.marked.changed 0) (sym same) c.in_default.ensures.none.0 in
     record { visits = served_end old new far none; served = none; alerted = far.alerted; prepared = far.prepared; sound = far.sound }

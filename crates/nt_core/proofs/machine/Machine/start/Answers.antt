@@ -8,18 +8,25 @@ use Rattle.nt_objects.specs.Object.{signaled}
 use Rattle.nt_calls.specs.Change.{due_moment}
 use Rattle.nt_core.specs.Dispatcher.{Dispatcher}
 use Rattle.nt_core.proofs.Replacing.{one_few}
-use Rattle.nt_core.proofs.Arming.{asked, anew_due, set_local, set_ahead, set_at_once, set_and_served}
+use Rattle.nt_core.proofs.Arming.{asked, anew_due, set_local, set_needed, set_ahead, set_at_once, set_and_served}
 use Rattle.nt_core.proofs.machine.Machine.start.Goals as goal
 
-pub serve-requires-clause-local : goal.serve-requires-clause-local
-serve-requires-clause-local c =
+pub serve_one-requires-clause-local : goal.serve_one-requires-clause-local
+serve_one-requires-clause-local c =
     let old = c.args.self.now in
     let now : c.self.inside.moment ≡ old.now = ap (λ (d : Dispatcher). d.now) c.self.view_is in
     let armed : Armed = record { due = c.due_moment-due.result; period = c.unsigned_abs-period.result; routine = c.routine_for.result } in
     set_local old c.arm.new.self c.expire.new.self c.args.timer c.self.inside.moment armed c.requires.fresh c.requires.kind now c.in_ok-arm.ensures.armed c.expire.ensures.expired
 
-pub serve-requires-clause-countable : goal.serve-requires-clause-countable
-serve-requires-clause-countable c = one_few c.expire.new.self c.args.timer c.expire.ensures.sound
+pub serve_one-requires-clause-needed : goal.serve_one-requires-clause-needed
+serve_one-requires-clause-needed c =
+    let old = c.args.self.now in
+    let now : c.self.inside.moment ≡ old.now = ap (λ (d : Dispatcher). d.now) c.self.view_is in
+    let armed : Armed = record { due = c.due_moment-due.result; period = c.unsigned_abs-period.result; routine = c.routine_for.result } in
+    set_needed old c.arm.new.self c.expire.new.self c.args.timer c.self.inside.moment armed c.requires.fresh c.requires.kind now c.in_ok-arm.ensures.armed c.expire.ensures.expired
+
+pub serve_one-requires-clause-countable : goal.serve_one-requires-clause-countable
+serve_one-requires-clause-countable c = one_few c.expire.new.self c.args.timer c.expire.ensures.sound
 
 pub returns-then-not-was_set-clause-ok : goal.returns-then-not-was_set-clause-ok
 returns-then-not-was_set-clause-ok c =
@@ -31,7 +38,7 @@ returns-then-not-was_set-clause-ok c =
     let same : armed ≡ asked old.now c.args.thread c.args.due c.args.period c.args.routine = λ i. record { due = due i; period = period i; routine = c.routine_for.ensures i } in
     let past : c.due_moment-due.result ≤ c.self.inside.moment = let h = c.if-due-get.true in let k = c.get.ensures.value in omega (arith, h, k) in
     let was = ap (λ (o : Object). signaled o c.args.thread) (sym c.object.ensures) ∙ sym c.signaled_for-was_set.ensures in
-    set_and_served old c.arm.new.self c.expire.new.self c.serve.new.self c.args.thread c.args.timer c.self.inside.moment c.args.due c.args.period c.args.routine armed c.requires.fresh c.requires.idle c.requires.kind same now past (was ∙ c.if-not-was_set.true) c.in_ok-arm.ensures.armed c.expire.ensures.expired c.serve.ensures.served c.serve.ensures.sound c.serve.ensures.most c.serve.ensures.least (c.serve.ensures.marked ∙ (c.expire.ensures.marked ∙ c.in_ok-arm.ensures.marked))
+    set_and_served old c.arm.new.self c.expire.new.self c.serve_one.new.self c.args.thread c.args.timer c.self.inside.moment c.args.due c.args.period c.args.routine armed c.requires.fresh c.requires.idle c.requires.kind same now past (was ∙ c.if-not-was_set.true) c.in_ok-arm.ensures.armed c.expire.ensures.expired c.serve_one.ensures.served c.serve_one.ensures.sound c.serve_one.ensures.most c.serve_one.ensures.least (c.serve_one.ensures.marked ∙ (c.expire.ensures.marked ∙ c.in_ok-arm.ensures.marked))
 
 pub returns-else-not-was_set-clause-ok : goal.returns-else-not-was_set-clause-ok
 returns-else-not-was_set-clause-ok c =

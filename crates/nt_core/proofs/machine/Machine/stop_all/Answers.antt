@@ -1,6 +1,6 @@
-use Rattle.std.proofs.Common.{◌≡◌, ℕ, List, Option, Some, sym, ap, ◌∙◌, subst}
+use Rattle.std.proofs.Common.{◌≡◌, ℕ, List, sym, ap, ◌∙◌, subst}
 use Rattle.nt_alarms.specs.Marks.{AddsMarks}
-use Rattle.nt_core.specs.Dispatcher.{Dispatcher, with_marked}
+use Rattle.nt_core.specs.Dispatcher.{Dispatcher}
 use Rattle.nt_core.specs.Lawful.{IsSound}
 use Rattle.nt_core.specs.Accepts.{IsSetBy, IsSetAmong, AreStopped, IsStoppedAfter}
 use Rattle.nt_core.specs.contracts.machine.Machine.{the_view}
