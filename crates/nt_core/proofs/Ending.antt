@@ -126,9 +126,9 @@ pub own_ended : (old new : Dispatcher) (t : ℕ) (apcs : Apcs) → IsSound old �
 own_ended old new t apcs sound idle known running unset becomes queues places = (
   ap (λ (d : Dispatcher). state d) becomes ∙ ap (λ (qs : List (List Queued)). record (state old) { objects = set old.objects t (Thread true); apcs = qs }) queues,
   subst (λ (d : Dispatcher). IsSound d) (sym becomes)
-  (sound_marked (record old { objects = set old.objects t (Thread true); apcs = apcs; leaving = set old.leaving t (Some 0) }) (record old.marked { changed = set old.marked.changed t (Some 0) })
-  (ended_sound old t apcs sound idle known running unset (ap (λ qs. length qs) queues ∙ length-set old.apcs.queues t []) places)
-  (record { changed = length-set old.marked.changed t (Some 0) ∙ (sound.places.changed ∙ sym (length-set old.objects t (Thread true))); alerted = sound.places.alerted })),
+      (sound_marked (record old { objects = set old.objects t (Thread true); apcs = apcs; leaving = set old.leaving t (Some 0) }) (record old.marked { changed = set old.marked.changed t (Some 0) })
+      (ended_sound old t apcs sound idle known running unset (ap (λ qs. length qs) queues ∙ length-set old.apcs.queues t []) places)
+      (record { changed = length-set old.marked.changed t (Some 0) ∙ (sound.places.changed ∙ sym (length-set old.objects t (Thread true))); alerted = sound.places.alerted })),
   ap (λ (d : Dispatcher). d.grants) becomes,
   ap (λ (d : Dispatcher). d.table) becomes,
   ap (λ (d : Dispatcher). d.marked) becomes,

@@ -66,9 +66,9 @@ impl Machine {
     fn abandon_all(&mut self, thread: ThreadId)
         requires { IsSound self.old }
         ensures abandoned { self.new ≡ record self.old {
-            objects = map (abandoned_by thread) self.old.objects;
-            owned = self.new.owned;
-            marked = record self.old.marked { changed = self.new.marked.changed };
+          objects = map (abandoned_by thread) self.old.objects;
+          owned = self.new.owned;
+          marked = record self.old.marked { changed = self.new.marked.changed };
         } }
         ensures marked { AddsMarks (λ m. owned_by (object_at self.old.objects m) thread ≡ true)
             self.old.marked.changed self.new.marked.changed }

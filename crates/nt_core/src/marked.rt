@@ -17,8 +17,8 @@ impl Machine {
         requires sound { IsSound self.old }
         requires known { timer < length self.old.objects }
         ensures { self.new ≡ with_marked self.old (record {
-            changed = slice_set self.old.marked.changed timer (Some 0);
-            alerted = with_mark (setter_of (object_at self.old.objects timer)) self.old.marked.alerted;
+          changed = slice_set self.old.marked.changed timer (Some 0);
+          alerted = with_mark (setter_of (object_at self.old.objects timer)) self.old.marked.alerted;
         }) }
     {
         if let Some(thread) = self.object(timer).setter() {

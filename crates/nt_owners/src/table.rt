@@ -109,12 +109,7 @@ fn abandon_first(objects: &mut [Object], owners: &mut Owners, thread: ThreadId) 
 }
 
 /// Each mutex that the thread owns is free from now on, and abandoned, and has a mark among these.
-fn abandon_each(
-    objects: &mut [Object],
-    owners: &mut Owners,
-    thread: ThreadId,
-    changed: &mut Marks,
-)
+fn abandon_each(objects: &mut [Object], owners: &mut Owners, thread: ThreadId, changed: &mut Marks)
     requires agree { OwnersAgree objects.old owners.old.lists }
     requires places { length objects.old ≤ length changed.old }
     ensures agree { OwnersAgree objects.new owners.new.lists }

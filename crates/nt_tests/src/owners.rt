@@ -1,10 +1,10 @@
 //! Mutexes and their owners' lists.
 
-ghost use Rattle.std.specs.Prelude.{◌≡◌, ◌<◌, [], length, IfOk, OnOk};
+ghost use Rattle.std.specs.Prelude.{◌≡◌, ◌<◌, None, length, replicate, IfOk, OnOk};
 
 use crate::refused::{Host, tell_refused};
-use nt_objects::Object;
 use nt_alarms::Marks;
+use nt_objects::Object;
 use nt_owners::{ObjectTable, Owners};
 use nt_status::{Handle, MutexFlags, ThreadId};
 use std::alloc::AllocError;
