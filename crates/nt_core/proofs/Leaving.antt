@@ -99,24 +99,7 @@ pub record StoppedSoFar (t : ℕ) (timers : List ℕ) (old now : List Object) (o
   pub clocks : length alarms ≡ length now
   pub sound : (d : Dispatcher) → IsSound (record d { objects = old; alarms = old_alarms }) → IsSound (record d { objects = now; alarms = alarms })
 
-pub stopped_none : (t : ℕ) (os : List Object) (alarms marks : List (Option ℕ)) → length alarms ≡ length os → StoppedSoFar t [] os os alarms alarms marks marks
-stopped_none t os alarms marks clocks = record {
-  stopped = record { count = refl; stopped = λ h has. absurd has.0; others = λ h none. refl };
-  marked = record {
-    count = refl;
-    exactly = λ h. (
-      λ mark. inl mark,
-      λ has. elim has [
-        | inl mark ↦ mark
-        | inr own ↦ absurd own.0
-      ],
-    );
-  };
-  clocks = clocks;
-  sound = λ d sound. sound;
-}
-
--- whom the thread's timer is now it was before, and it is none of those that are stopped
+-- a timer that is the thread's now was so before, and is none of those that are stopped
 set_before : (t : ℕ) (timers : List ℕ) (old now : List Object) (h : ℕ) → AreStopped (IsSetAmong timers old t) old now → IsSetBy now t h → IsSetBy old t h × (IsMember timers h → ⊥)
 set_before t timers old now h stops sets = (was, never was)
   where

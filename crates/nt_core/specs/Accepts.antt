@@ -74,7 +74,7 @@ pub record IsPromised (old : Dispatcher) (timer : ℕ) (routine : Option Routine
   pub place : IfSome routine (λ r. place_of new.apcs.places timer ≡ Some r.thread)
   pub others : (m : ℕ) → m ≢ timer → place_of new.apcs.places m ≡ place_of old.apcs.places m
 
--- the timers due at moment u of a tick to m have expired and are listed, and whoever is to be alerted has a mark
+-- these are the timers due at moment u of a tick to m, and have expired; of these marks whoever is to be alerted has one
 pub record IsExpiredAfter (old : Dispatcher) (m u : ℕ) (new : Dispatcher) (timers : List ℕ) (marks : List (Option ℕ)) : Type 0 where
   pub due : AreRising (IsTimerDue (state old) u) timers
   pub expired : state new ≡ all_expired m (state old) timers

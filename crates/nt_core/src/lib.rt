@@ -10,7 +10,8 @@
 //!
 //! **The way of one call.** `Core::call` judges the caller, and one match hands the call to the function for it. That function finds its
 //! object once, answers the first cause that refuses the call, and else makes the change where the object stands; then the waits that the
-//! change may end are served. Last of all the objects end that nothing keeps any more. A refused call changes nothing.
+//! change may end are served. What an exit or a tick changes is marked, and served mark by mark (`serve_marked`): between two calls no mark
+//! is left. Last of all the objects end that nothing keeps any more. A refused call changes nothing.
 //!
 //! What a call has to do is said by the definitions of `nt_calls` (`Step`, `Called`), and nothing of it is said by this code: that page
 //! comes first. What refuses a call, and what a wait takes, is asked of that crate too.
