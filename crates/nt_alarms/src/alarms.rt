@@ -52,6 +52,18 @@ impl Alarms {
         Ok(alarms)
     }
 
+    /// So many places in alarms, each with no alarm, and in each of two kinds of marks, each with no mark.
+    pub fn with_marks(alloc: Global, count: usize) -> Result<(Self, Marks, Marks), AllocError>
+        ensures alarms { IfOk result (λ all. all.0 ≡ replicate count None) }
+        ensures marks { IfOk result (λ all. all.1 ≡ replicate count None) }
+        ensures more { IfOk result (λ all. all.2 ≡ replicate count None) }
+    {
+        let alarms = Alarms::with_places(alloc, count)?;
+        let marks = Marks::with_places(alloc, count)?;
+        let more = Marks::with_places(alloc, count)?;
+        Ok((alarms, marks, more))
+    }
+
     pub fn len(&self) -> usize
         ensures { result ≡ length self.now }
     {
@@ -166,5 +178,16 @@ impl Alarms {
             alarms: Vec::from_slice(alloc, &self.alarms)?,
             firsts: Vec::from_slice(alloc, &self.firsts)?,
         })
+    }
+    /// The same alarms, and the same marks of two kinds, in memory of their own.
+    pub fn copy_with(&self, marks: &Marks, more: &Marks) -> Result<(Self, Marks, Marks), AllocError>
+        ensures alarms { IfOk result (λ copied. copied.0 ≡ self.now) }
+        ensures marks { IfOk result (λ copied. copied.1 ≡ marks.now) }
+        ensures more { IfOk result (λ copied. copied.2 ≡ more.now) }
+    {
+        let alarms = self.copy()?;
+        let marks = marks.copy()?;
+        let more = more.copy()?;
+        Ok((alarms, marks, more))
     }
 }

@@ -27,17 +27,16 @@ impl Machine {
         let apcs = self.apcs.copy()?;
         let handles = self.handles.copy()?;
         let handing = Vec::from_slice(alloc, &self.handing)?;
-        let alarms = self.alarms.copy()?;
-        let leaving = self.leaving.copy()?;
-        let changed = self.changed.copy()?;
-        let alerted = self.alerted.copy()?;
         let grants = copy_grants(alloc, self.threads as usize, &self.grants)?;
         let objects = self.objects.copy()?;
+        let waits = self.waits.copy()?;
+        let alerted = self.alerted.copy()?;
+        let (alarms, leaving, changed) = self.alarms.copy_with(&self.leaving, &self.changed)?;
         Ok(Machine {
             threads: self.threads,
             handles,
             objects,
-            waits: self.waits.copy()?,
+            waits,
             apcs,
             handing,
             moment: self.moment,

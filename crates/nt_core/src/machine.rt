@@ -76,12 +76,10 @@ impl Machine {
         let handing = none_handing(alloc, count)?;
         let grants = Vec::with_capacity(alloc, count)?;
         let apcs = ApcQueues::new(alloc, count)?;
-        let alarms = Alarms::with_places(alloc, count)?;
-        let leaving = Marks::with_places(alloc, count)?;
-        let changed = Marks::with_places(alloc, count)?;
-        let alerted = Marks::with_places(alloc, count)?;
         let handles = HandleTable::new(alloc, count, Object::new_thread().full_access())?;
         let objects = ObjectTable::new(alloc, count)?;
+        let alerted = Marks::with_places(alloc, count)?;
+        let (alarms, leaving, changed) = Alarms::with_marks(alloc, count)?;
         let waits = WaitTable::new(alloc);
         Ok(Machine {
             threads,
