@@ -29,14 +29,13 @@ impl Machine {
         let handing = Vec::from_slice(alloc, &self.handing)?;
         let grants = copy_grants(alloc, self.threads as usize, &self.grants)?;
         let objects = self.objects.copy()?;
-        let waits = self.waits.copy()?;
         let alerted = self.alerted.copy()?;
         let (alarms, leaving, changed) = self.alarms.copy_with(&self.leaving, &self.changed)?;
         Ok(Machine {
             threads: self.threads,
             handles,
             objects,
-            waits,
+            waits: self.waits.copy()?,
             apcs,
             handing,
             moment: self.moment,
