@@ -1,5 +1,4 @@
-use Rattle.std.proofs.Common.{◌≡◌, ◌<◌, ℕ, List, Option, map, length, refl, sym, ap, ◌∙◌, subst, arith, set, Some}
-use Rattle.std.proofs.lemmas.List.{length-map}
+use Rattle.std.proofs.Common.{ℕ, List, Option, map, refl, sym, ap, ◌∙◌, subst, arith, set, Some}
 use Rattle.nt_objects.specs.declared.object.Object.{Object}
 use Rattle.nt_objects.specs.Object.{abandoned_by}
 use Rattle.nt_owners.proofs.AbandonLemmas.{MarkedSoFar, abandoned_at, none_marked, one_marked, all_marked, all_the_same, none_abandoned, none_owned, owned_there}
