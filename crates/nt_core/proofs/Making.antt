@@ -18,7 +18,7 @@ use Rattle.nt_core.specs.Dispatcher.{Dispatcher, state, with_created}
 use Rattle.nt_calls.specs.Change.{change, created}
 use Rattle.nt_calls.specs.Steps.{after_serving, answered}
 use Rattle.nt_calls.specs.Refusals.{first_of_causes, call_causes, creation_causes, kind_causes, grows, is_full, is_no, is_foreign, release_causes, unlock_causes}
-use Rattle.nt_core.specs.Accepts.{IsFresh, IsFree, IsMade, Accepts}
+use Rattle.nt_core.specs.Accepts.{IsFresh, IsFree, IsMade, Accepts, reply_of, replied}
 use Rattle.nt_core.proofs.Judging.{is_refusal, is_memory}
 use Rattle.nt_core.proofs.Accepting.{next_causes}
 use Rattle.nt_core.proofs.Replacing.{created_accepted}
@@ -64,6 +64,11 @@ unmade_with old new t denied call (Err r) told fresh free none grown same = unma
 pub tried_made : (old new : Dispatcher) (t : ℕ) (denied : Bool) (call : Call) (result : Result Reply Refusal) → IsFresh old → IsFree (state old) t → first_of_causes (call_causes (state old) t denied call) ≡ None → IfOk result (λ reply. Accepts old new t call reply) → OnErr result (IsTrue (grows (state old) t call)) → IfErr result (λ r. r ≡ Memory) → OnErr result (new ≡ old) → IsMade old new t denied call result
 tried_made old new t denied call (Ok reply) fresh free none accepts grown memory same = accepted_made old new t denied call reply free none accepts
 tried_made old new t denied call (Err r) fresh free none accepts grown memory same = unmade old new t denied call r fresh free none grown memory same
+
+-- the same for a waiting call, by what its wait answers
+pub waited_made : (old new : Dispatcher) (t : ℕ) (denied : Bool) (call : Call) (ended : Result (Option ℕ) Refusal) → IsFresh old → IsFree (state old) t → first_of_causes (call_causes (state old) t denied call) ≡ None → IfOk ended (λ e. Accepts old new t call (reply_of e)) → OnErr ended (IsTrue (grows (state old) t call)) → IfErr ended (λ r. r ≡ Memory) → OnErr ended (new ≡ old) → IsMade old new t denied call (replied ended)
+waited_made old new t denied call (Ok e) fresh free none accepts grown memory same = tried_made old new t denied call (Ok (reply_of e)) fresh free none accepts grown memory same
+waited_made old new t denied call (Err r) fresh free none accepts grown memory same = tried_made old new t denied call (Err r) fresh free none accepts grown memory same
 
 -- ---- what no cause says of an object
 

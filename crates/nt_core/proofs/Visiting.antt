@@ -6,7 +6,9 @@ use Rattle.std.specs.Ordering.{nat_cmp}
 use Rattle.std.specs.Cmp.{nat_cmp_total}
 use Rattle.std.specs.FinMap as map
 use Rattle.nt_waits.specs.declared.wait.Wait.{Wait}
-use Rattle.nt_waits.specs.Waits.{Waits, queue_of, others, Agrees, counted_once}
+use Rattle.nt_waits.specs.Waits.{Waits, queue_of, others, Agrees, counted_once, only_among, only_of}
+use Rattle.std.specs.Option.{option_map}
+use Rattle.std.proofs.lemmas.Option.{same_Some}
 use Rattle.nt_objects.specs.declared.object.Object.{Object}
 use Rattle.nt_calls.specs.declared.call.Grant.{Grant}
 use Rattle.nt_calls.specs.State.{State, Pending, object_at}
@@ -94,6 +96,18 @@ visit_passed old t w objects owned table sound small has unfit same lists looked
       }),
       looked_sound old (old.table.looked + 1) sound,
     )
+
+-- ---- a wait for one handle alone
+
+one_among : (hs : List ℕ) (b : Bool) (h : ℕ) (all : Bool) → only_among hs b ≡ Some (h, all) → ◌≡◌ {A = List ℕ × Bool} (hs, b) (h ∷ [], all)
+one_among [] b h all e = (cc)
+one_among (x ∷ []) b h all e = let same : ◌≡◌ {A = ℕ × Bool} (x, b) (h, all) = same_Some (x, b) (h, all) e in ap (λ (p : ℕ × Bool). (p.0 ∷ [], p.1)) same
+one_among (x ∷ y ∷ hs) b h all e = (cc)
+
+-- it is the thread's pending wait
+pub only_wait : (o : Option Wait) (h : ℕ) (all : Bool) → option_map only_of o ≡ Some (Some (h, all)) → (w : Wait) × (Some w ≡ o) × ◌≡◌ {A = List ℕ × Bool} (w.handles, w.all) (h ∷ [], all)
+only_wait None h all e = (cc)
+only_wait (Some w) h all e = (w, refl, one_among w.handles w.all h all (same_Some (only_of w) (Some (h, all)) e))
 
 -- ---- the visited wait ends
 

@@ -1,5 +1,5 @@
 -- What an accepted call does to the dispatcher.
-use Rattle.std.specs.Prelude.{◌≡◌, ℕ, ◌+◌, ◌≢◌, ◌<◌, ◌≤◌, ◌⊎◌, ◌↔◌, Bool, true, not, ◌&&◌, ◌==◌, List, [], ◌∷◌, ◌++◌, length, Option, Some, None, IfSome, Result, Ok, Err, OnOk, OnErr}
+use Rattle.std.specs.Prelude.{◌≡◌, ℕ, ◌+◌, ◌≢◌, ◌<◌, ◌≤◌, ◌⊎◌, ◌↔◌, Bool, true, not, ◌&&◌, ◌==◌, List, [], ◌∷◌, ◌++◌, length, Option, Some, None, IfSome, Result, Ok, Err, IfErr, OnOk, OnErr, ⊤}
 use Rattle.std.specs.List.{filter}
 use Rattle.std.specs.FinMap.{len, get}
 use Rattle.nt_status.specs.Status.{io_completion_code, timeout_code}
@@ -17,7 +17,7 @@ use Rattle.nt_alarms.specs.Alarms.{alarm_at}
 use Rattle.nt_alarms.specs.Marks.{AddsMarks}
 use Rattle.nt_apc.specs.Queues.{withdrawn, place_of}
 use Rattle.nt_status.specs.Lists.{IsMember}
-use Rattle.nt_calls.specs.State.{State, object_at, wait_over}
+use Rattle.nt_calls.specs.State.{State, object_at, wait_over, pending_too}
 use Rattle.nt_calls.specs.Serving.{IsChanged, sequence, sleeps, Serve, IsAlerted, Alert, ending, TimeOut, IsLate}
 use Rattle.nt_calls.specs.Change.{change, all_expired, exited, IsTimerDue}
 use Rattle.nt_calls.specs.Naming.{object_named, lacks, act_named, wait_named}
@@ -153,6 +153,26 @@ pub record IsFresh (d : Dispatcher) : Type 0 where
   pub steady : IsSteady d
   pub no_grants : d.grants ≡ []
   pub untested : d.table.looked ≡ 0
+
+-- the thread's wait for these objects pends from now on, or memory was refused and nothing has changed
+pub record HasPended (old new : Dispatcher) (t : ℕ) (handles : List ℕ) (all alertable : Bool) (ms : ℕ) (result : Result ⊤ Refusal) : Type 0 where
+  pub state : OnOk result (state new ≡ pending_too (state old) t (wait_of old.now (WaitCall.Objects all alertable ms handles)))
+  pub sound : IsSound new
+  pub grants : new.grants ≡ old.grants
+  pub looked : new.table.looked ≡ old.table.looked
+  pub marked : new.marked ≡ old.marked
+  pub memory : IfErr result (λ refusal. refusal ≡ Refusal.Memory)
+  pub err : OnErr result (new ≡ old)
+
+-- the reply of a wait that ended with this status, or pends
+abbrev pub reply_of : Option ℕ → Reply
+reply_of None = Reply.Pended
+reply_of (Some status) = Reply.Status status
+
+-- the same for a waiting call, which may be refused
+abbrev pub replied : Result (Option ℕ) Refusal → Result Reply Refusal
+replied (Ok ended) = Ok (reply_of ended)
+replied (Err refusal) = Err refusal
 
 -- a wait for these objects has begun, and this is its reply
 abbrev pub HasBegun : State → State → ℕ → List ℕ → Bool → Bool → ℕ → Reply → Type 0

@@ -134,6 +134,7 @@ impl Machine {
 
     /// The thread ends: the mutexes that it owns are free and abandoned, the timers that it armed with a routine stop, its APCs are
     /// gone, its object is signaled, and the waits that name what changed are served.
+    #[inline(never)]
     pub(crate) fn exit(&mut self, thread: ThreadId)
         requires fresh { IsFresh self.old }
         requires idle { fin.get self.old.table.pending thread ≡ None }

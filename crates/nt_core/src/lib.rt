@@ -25,6 +25,7 @@ mod calls;
 mod machine;
 mod marked;
 // Waits: how they begin, and are served.
+mod pending;
 mod serving;
 mod waiting;
 // The calls by their objects.

@@ -51,6 +51,7 @@ impl Machine {
     }
 
     /// The mutex is held one level less deep, and where that was the last the waits that name it are served.
+    #[inline(always)]
     pub(crate) fn give_back(&mut self, thread: ThreadId, mutex: Handle)
         requires fresh { IsFresh self.old }
         requires owner { IsTrue (owned_by (object_at self.old.objects mutex) thread) }

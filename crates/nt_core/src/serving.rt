@@ -1,5 +1,9 @@
 //! The serving of pending waits: after objects changed, the waits that they satisfy end, in the order in which they began.
-ghost use Rattle.std.specs.Prelude.{◌≡◌, ◌+◌, ◌≤◌, ◌<◌, ◌^◌, [], ◌∷◌, length, slice_get, IsTrue};
+ghost use Rattle.std.specs.Prelude.{◌≡◌, ◌+◌, ◌≤◌, ◌<◌, ◌^◌, [], ◌∷◌, length, slice_get, IsTrue, Some};
+ghost use Rattle.std.specs.Option.{option_map};
+ghost use Rattle.std.specs.FinMap as fin;
+ghost use Rattle.nt_status.specs.Lists.{IsMember};
+ghost use Rattle.nt_waits.specs.Waits.{next_after, only_of};
 ghost use Rattle.nt_calls.specs.State.{pends};
 ghost use Rattle.nt_alarms.specs.Alarms.{NoneAt};
 ghost use Rattle.nt_alarms.specs.Marks.{marked_places};
@@ -14,9 +18,9 @@ use nt_calls::{Grant, is_ready, try_wait};
 use nt_status::{Handle, ThreadId};
 
 impl Machine {
-    /// Tests the pending wait of this thread, and ends it where it fits.
-    #[inline(always)]
-    fn visit(&mut self, thread: ThreadId)
+    /// Tests the pending wait of this thread, whatever it names, and ends it where it fits.
+    #[inline(never)]
+    fn visit_any(&mut self, thread: ThreadId)
         requires pends { IsTrue (pends (state self.old) thread) }
         requires sound { IsSound self.old }
         requires countable { self.old.table.looked + 1 < 2 ^ 64 }
@@ -37,6 +41,49 @@ impl Machine {
         self.grants.push_reserved(Grant { thread, status });
     }
 
+    /// The same for a wait for this handle alone, as most are. Answers whose wait on the handle began next.
+    #[inline(always)]
+    fn visit_one(&mut self, thread: ThreadId, handle: Handle, all: bool) -> Option<ThreadId>
+        requires only { option_map only_of (fin.get self.old.table.pending thread) ≡ Some (Some (handle, all)) }
+        requires sound { IsSound self.old }
+        requires countable { self.old.table.looked + 1 < 2 ^ 64 }
+        ensures visited { IsVisited self.old self.new thread }
+        ensures next { result ≡ next_after thread ((state self.old).queues handle) }
+        ensures prepared { self.new.table.prepared ≡ self.old.table.prepared }
+        ensures sound { IsSound self.new }
+    {
+        self.waits.count_look();
+        let Some(status) = try_wait(&mut self.objects, thread, &[handle], all) else {
+            return self.waits.next_on(handle, thread);
+        };
+        let_go(&self.handles, &mut self.leaving, &[handle]);
+        let next = self.waits.end_one(thread, handle);
+        let place = thread.get() as usize;
+        self.handing[place] = false;
+        self.grants.push_reserved(Grant { thread, status });
+        next
+    }
+
+    /// Tests the pending wait of this thread, which stands in the queue of this handle, and ends it where it fits. Answers whose wait
+    /// on the handle began next.
+    #[inline(always)]
+    fn visit(&mut self, thread: ThreadId, handle: Handle) -> Option<ThreadId>
+        requires waits { IsMember ((state self.old).queues handle) thread }
+        requires sound { IsSound self.old }
+        requires countable { self.old.table.looked + 1 < 2 ^ 64 }
+        ensures visited { IsVisited self.old self.new thread }
+        ensures next { result ≡ next_after thread ((state self.old).queues handle) }
+        ensures prepared { self.new.table.prepared ≡ self.old.table.prepared }
+        ensures sound { IsSound self.new }
+    {
+        if let Some((_, all)) = self.waits.only(thread) {
+            return self.visit_one(thread, handle, all);
+        }
+        let next = self.waits.next_on(handle, thread);
+        self.visit_any(thread);
+        next
+    }
+
     /// Visits the waits on this handle, in the order in which they began.
     fn serve_on(&mut self, handle: Handle)
         requires sound { IsSound self.old }
@@ -47,8 +94,7 @@ impl Machine {
     {
         let mut at = self.waits.first_on(handle);
         while let Some(thread) = at {
-            at = self.waits.next_on(handle, thread);
-            self.visit(thread);
+            at = self.visit(thread, handle);
         }
     }
 
@@ -84,8 +130,7 @@ impl Machine {
     {
         let mut next = Some(first);
         while let Some(thread) = next {
-            next = self.waits.next_on(handle, thread);
-            self.visit(thread);
+            next = self.visit(thread, handle);
             if let Some(after) = next {
                 if !is_ready(self.objects.as_slice(), after, handle) {
                     return;

@@ -1,56 +1,41 @@
 //! How a thread's own wait begins.
-ghost use Rattle.std.specs.Prelude.{ℕ, ◌≡◌, ◌≢◌, ◌&&◌, ◌+◌, ◌<◌, [], None, false, OnOk, OnErr, IfOk, IfErr, is_some, IfSome, IfNone, IsTrue, length, slice_set};
+ghost use Rattle.std.specs.Prelude.{ℕ, ◌≡◌, ◌≢◌, ◌&&◌, ◌+◌, ◌<◌, [], None, false, OnErr, IfOk, IfErr, is_some, IfSome, IfNone, IsTrue, length, slice_set};
 ghost use Rattle.std.specs.Option.{OnSome};
 ghost use Rattle.std.specs.FinMap as fin;
 ghost use Rattle.nt_status.specs.declared.refusal.Refusal.TheVariants.{Memory};
 ghost use Rattle.nt_status.specs.Lists.{IsMember};
 ghost use Rattle.nt_objects.specs.Object.{is_gone};
 ghost use Rattle.nt_apc.specs.Queues.{has_apc};
-ghost use Rattle.nt_waits.specs.Waits as waits;
-ghost use Rattle.nt_calls.specs.State.{object_at, deadline_after, pending_too};
+ghost use Rattle.nt_calls.specs.State.{object_at};
 ghost use Rattle.nt_core.specs.Dispatcher.{state};
 ghost use Rattle.nt_calls.specs.Serving.{late_status, wait_for, fits, status, taken_by};
 ghost use Rattle.nt_calls.specs.declared.call.Call.{Call};
 ghost use Rattle.nt_calls.specs.declared.call.WaitCall.{WaitCall};
 ghost use Rattle.nt_core.specs.Lawful.{IsSoundWait, IsSound, IsSteady};
 ghost use Rattle.nt_calls.specs.declared.call.Reply.{Reply};
-ghost use Rattle.nt_core.specs.Accepts.{IsFresh, IsFree, HasBegun, begins_pending, IsMade, IsWaitMade};
+ghost use Rattle.nt_core.specs.Accepts.{IsFresh, IsFree, HasBegun, reply_of, replied, begins_pending, IsMade, IsWaitMade};
 
 use crate::machine::Machine;
 use nt_calls::{
-    NamedObjects, Reply, SYNCHRONIZE, WaitCall, deadline_after, late_status, name_all,
-    objects_refusal, opened, try_wait,
+    NamedObjects, Reply, SYNCHRONIZE, WaitCall, late_status, name_all, objects_refusal, opened,
+    try_wait,
 };
 use nt_status::{Handle, MAX_WAIT_OBJECTS, Refusal, Status, ThreadId};
 use nt_waits::About;
 
-impl Machine {
-    /// The thread's wait for these handles pends from now on. Where memory is refused nothing changes.
-    #[inline(never)]
-    fn pend(
-        &mut self,
-        thread: ThreadId,
-        handles: &[Handle],
-        all: bool,
-        about: About,
-    ) -> Result<(), Refusal>
-        requires idle { fin.get self.old.table.pending thread ≡ None }
-        requires able { IsSoundWait self.old.threads self.old.objects thread (waits.wait_for handles.now all about) }
-        requires room { length self.old.grants + fin.len self.old.table.pending < self.old.threads }
-        requires sound { IsSound self.old }
-        ensures state { OnOk result
-            (state self.new ≡ pending_too (state self.old) thread (waits.wait_for handles.now all about)) }
-        ensures sound { IsSound self.new }
-        ensures grants { self.new.grants ≡ self.old.grants }
-        ensures looked { self.new.table.looked ≡ self.old.table.looked }
-        ensures marked { self.new.marked ≡ self.old.marked }
-        ensures memory { IfErr result (λ refusal. refusal ≡ Memory) }
-        ensures err { OnErr result (self.new ≡ self.old) }
-    {
-        self.waits.begin_in_place(thread, handles, all, about)?;
-        Ok(())
+/// The reply of a waiting call, from the status with which the wait ended, or none where it pends. What makes a wait answers no more than
+/// that: a reply is large, and a function that may get one clears room for it at each call.
+fn replied(ended: Result<Option<Status>, Refusal>) -> Result<Reply, Refusal>
+    ensures { result ≡ replied ended }
+{
+    match ended {
+        Ok(Some(status)) => Ok(Reply::Status(status)),
+        Ok(None) => Ok(Reply::Pended),
+        Err(refusal) => Err(refusal),
     }
+}
 
+impl Machine {
     /// Whether the thread may take its APCs from now on.
     pub(crate) fn hand(&mut self, thread: ThreadId, may: bool)
         requires steady { IsSteady self.old }
@@ -126,8 +111,8 @@ impl Machine {
         None
     }
 
-    /// Begins the caller's wait for these handles, none for a sleep: it ends at once, or pends. Where memory is refused nothing
-    /// changes.
+    /// Begins the caller's wait for these handles, none for a sleep: it ends at once, with a status, or pends. Where memory is
+    /// refused nothing changes.
     #[inline(always)]
     pub(crate) fn begin_wait(
         &mut self,
@@ -136,13 +121,13 @@ impl Machine {
         all: bool,
         ms: u32,
         alertable: bool,
-    ) -> Result<Reply, Refusal>
+    ) -> Result<Option<Status>, Refusal>
         requires idle { fin.get self.old.table.pending thread ≡ None }
         requires able { IsSoundWait self.old.threads self.old.objects thread (wait_for handles.now all) }
         requires room { length self.old.grants + fin.len self.old.table.pending < self.old.threads }
         requires steady { IsSteady self.old }
-        ensures begun { IfOk result (λ reply.
-            HasBegun (state self.old) (state self.new) thread handles.now all alertable ms reply) }
+        ensures begun { IfOk result (λ ended.
+            HasBegun (state self.old) (state self.new) thread handles.now all alertable ms (reply_of ended)) }
         ensures steady { IsSteady self.new }
         ensures grants { self.new.grants ≡ self.old.grants }
         ensures looked { self.new.table.looked ≡ self.old.table.looked }
@@ -151,14 +136,10 @@ impl Machine {
         ensures err { OnErr result (self.new ≡ self.old) }
     {
         if let Some(status) = self.end_at_once(thread, handles, all, ms, alertable) {
-            return Ok(Reply::Status(status));
+            return Ok(Some(status));
         }
-        let about = About {
-            alertable,
-            deadline: deadline_after(self.moment, ms),
-        };
-        self.pend(thread, handles, all, about)?;
-        Ok(Reply::Pended)
+        self.pend(thread, handles, all, ms, alertable)?;
+        Ok(None)
     }
 
     /// The caller's wait for the objects with these numbers, begun or refused by its own causes.
@@ -171,12 +152,13 @@ impl Machine {
         all: bool,
         ms: u32,
         alertable: bool,
-    ) -> Result<Reply, Refusal>
+    ) -> Result<Option<Status>, Refusal>
         requires fresh { IsFresh self.old }
         requires caller { IsFree (state self.old) thread }
         requires living { (h : ℕ) → IsMember numbers.now h → h < length self.old.objects
             → is_gone (object_at self.old.objects h) ≡ false }
-        ensures { IsMade self.old self.new thread denied (Call.Wait (WaitCall.Objects all alertable ms numbers.now)) result }
+        ensures { IsMade self.old self.new thread denied (Call.Wait (WaitCall.Objects all alertable ms numbers.now))
+            (replied result) }
     {
         match objects_refusal(self.objects.as_slice(), thread, denied, numbers) {
             Some(refusal) => Err(refusal),
@@ -200,9 +182,9 @@ impl Machine {
     {
         if let [handle] = these {
             let (object, denied) = opened(&self.handles, *handle, SYNCHRONIZE);
-            return self.wait_for(thread, denied, &[object], all, ms, alertable);
+            return replied(self.wait_for(thread, denied, &[object], all, ms, alertable));
         }
-        self.wait_for_several(thread, these, all, ms, alertable)
+        replied(self.wait_for_several(thread, these, all, ms, alertable))
     }
 
     /// The same for any number of handles. It stands apart, since the list of their objects lies in its own frame.
@@ -214,10 +196,10 @@ impl Machine {
         all: bool,
         ms: u32,
         alertable: bool,
-    ) -> Result<Reply, Refusal>
+    ) -> Result<Option<Status>, Refusal>
         requires fresh { IsFresh self.old }
         requires caller { IsFree (state self.old) thread }
-        ensures { IsWaitMade self.old self.new thread (WaitCall.Objects all alertable ms these.now) result }
+        ensures { IsWaitMade self.old self.new thread (WaitCall.Objects all alertable ms these.now) (replied result) }
     {
         if these.len() > MAX_WAIT_OBJECTS {
             return Err(Refusal::InvalidParameter);
@@ -241,13 +223,9 @@ impl Machine {
                 ms,
                 alertable,
             } => self.wait_for_objects(thread, handles.as_slice(), *all, *ms, *alertable),
-            WaitCall::Sleep { ms, alertable } => self.begin_wait(
-                thread,
-                &[],
-                false,
-                *ms,
-                *alertable,
-            ),
+            WaitCall::Sleep { ms, alertable } => {
+                replied(self.begin_wait(thread, &[], false, *ms, *alertable))
+            }
             WaitCall::Swap {
                 signal,
                 object,

@@ -2,6 +2,7 @@
 #![tactic(auto)]
 
 mod links;
+mod optional;
 mod owners;
 mod table;
 

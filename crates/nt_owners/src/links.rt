@@ -5,65 +5,65 @@ ghost use Rattle.nt_status.specs.Lists.{IsMember};
 ghost use Rattle.nt_owners.specs.Owned.{without};
 ghost use Rattle.nt_owners.specs.Links.{link_at, first_at, with_first, with_next, with_previous, list_in, lists_in, IsSound};
 
+use crate::optional::OptionalMutex;
 use nt_status::{Handle, ThreadId};
 use std::alloc::{AllocError, Global};
 
 /// Which mutexes stand beside one in its owner's list.
 #[derive(Clone, Copy)]
 pub struct Link {
-    pub previous: Option<Handle>,
-    pub next: Option<Handle>,
+    pub previous: OptionalMutex,
+    pub next: OptionalMutex,
 }
 
 /// No first mutex for each of so many threads.
-pub fn no_firsts(alloc: Global, threads: usize) -> Result<Vec<Option<Handle>>, AllocError>
+pub fn no_firsts(alloc: Global, threads: usize) -> Result<Vec<OptionalMutex>, AllocError>
     ensures { IfOk result (λ firsts. firsts.items ≡ replicate threads None) }
 {
-    vec![in alloc; None; threads]
+    vec![in alloc; OptionalMutex::NONE; threads]
 }
 
 /// The first mutex of the thread.
-pub fn first_of(firsts: &[Option<Handle>], thread: ThreadId) -> Option<Handle>
+pub fn first_of(firsts: &[OptionalMutex], thread: ThreadId) -> Option<Handle>
     ensures { result ≡ first_at firsts.now thread }
 {
     match firsts.get(thread.get() as usize) {
-        Some(first) => *first,
+        Some(first) => first.get(),
         None => None,
     }
 }
 
 /// Makes `to` the mutex after `at` in the thread's list; with no `at` the first.
 fn set_next(
-    firsts: &mut [Option<Handle>],
+    firsts: &mut [OptionalMutex],
     links: &mut [Link],
     thread: ThreadId,
-    at: Option<Handle>,
-    to: Option<Handle>,
+    at: OptionalMutex,
+    to: OptionalMutex,
 )
     requires thread { thread < length firsts.old }
     requires there { ForSome at (λ mutex. mutex < length links.old) }
     ensures firsts { firsts.new ≡ with_first firsts.old thread at to }
     ensures links { links.new ≡ with_next links.old at to }
 {
-    match at {
-        None => firsts[thread.get() as usize] = to,
-        Some(mutex) => {
-            let place = mutex.get() as usize;
-            links[place] = Link {
-                next: to,
-                ..links[place]
-            };
-        }
+    if at.is_none() {
+        firsts[thread.get() as usize] = to;
+    } else {
+        let place = at.mutex().get() as usize;
+        links[place] = Link {
+            next: to,
+            ..links[place]
+        };
     }
 }
 
 /// Makes `to` the mutex before `at`.
-fn set_previous(links: &mut [Link], at: Option<Handle>, to: Option<Handle>)
+fn set_previous(links: &mut [Link], at: OptionalMutex, to: OptionalMutex)
     requires there { ForSome at (λ mutex. mutex < length links.old) }
     ensures { links.new ≡ with_previous links.old at to }
 {
-    if let Some(mutex) = at {
-        let place = mutex.get() as usize;
+    if !at.is_none() {
+        let place = at.mutex().get() as usize;
         links[place] = Link {
             previous: to,
             ..links[place]
@@ -72,7 +72,8 @@ fn set_previous(links: &mut [Link], at: Option<Handle>, to: Option<Handle>)
 }
 
 /// Puts a mutex that is in no list into the thread's list, first.
-pub fn enter(firsts: &mut [Option<Handle>], links: &mut [Link], thread: ThreadId, mutex: Handle)
+#[inline(always)]
+pub fn enter(firsts: &mut [OptionalMutex], links: &mut [Link], thread: ThreadId, mutex: Handle)
     requires sound { IsSound firsts.old links.old }
     requires thread { thread < length firsts.old }
     requires room { mutex < length links.old }
@@ -80,16 +81,17 @@ pub fn enter(firsts: &mut [Option<Handle>], links: &mut [Link], thread: ThreadId
     ensures sound { IsSound firsts.new links.new }
     ensures lists { lists_in firsts.new links.new ≡ slice_set (lists_in firsts.old links.old) thread (mutex ∷ list_in firsts.old links.old thread) }
 {
+    let first = firsts[thread.get() as usize];
     links[mutex.get() as usize] = Link {
-        previous: None,
-        next: first_of(firsts, thread),
+        previous: OptionalMutex::NONE,
+        next: first,
     };
-    set_previous(links, first_of(firsts, thread), Some(mutex));
-    set_next(firsts, links, thread, None, Some(mutex));
+    set_previous(links, first, OptionalMutex::some(mutex));
+    firsts[thread.get() as usize] = OptionalMutex::some(mutex);
 }
 
 /// Takes a mutex out of the thread's list.
-pub fn leave(firsts: &mut [Option<Handle>], links: &mut [Link], thread: ThreadId, mutex: Handle)
+pub fn leave(firsts: &mut [OptionalMutex], links: &mut [Link], thread: ThreadId, mutex: Handle)
     requires sound { IsSound firsts.old links.old }
     requires owned { IsMember (list_in firsts.old links.old thread) mutex }
     ensures sound { IsSound firsts.new links.new }
@@ -109,8 +111,8 @@ pub fn add_links(links: &mut Vec<Link>, count: usize)
 {
     while links.len() < count {
         links.push_reserved(Link {
-            previous: None,
-            next: None,
+            previous: OptionalMutex::NONE,
+            next: OptionalMutex::NONE,
         });
     }
 }

@@ -3,6 +3,7 @@ ghost use Rattle.nt_status.specs.Lists.{IsMember};
 ghost use Rattle.nt_owners.specs.Owned.{Owned, list_of, IsUnowned, after_first, added, removed};
 
 use crate::links::{Link, add_links, enter, first_of, leave, no_firsts};
+use crate::optional::OptionalMutex;
 use nt_status::{Handle, ThreadId};
 use std::alloc::{AllocError, Global};
 use std::marker::Model;
@@ -13,7 +14,7 @@ use std::marker::Model;
 /// for it: each mutex names those beside it.
 #[derive(Drop)]
 pub struct Owners {
-    firsts: Vec<Option<Handle>>,
+    firsts: Vec<OptionalMutex>,
     links: Vec<Link>,
 }
 
@@ -57,7 +58,7 @@ impl Owners {
     }
 
     /// The thread owns this mutex, which nobody owned, from now on.
-    #[inline(never)]
+    #[inline(always)]
     pub fn add(&mut self, thread: ThreadId, mutex: Handle)
         requires thread { thread < length self.old.lists }
         requires room { mutex < self.old.room }

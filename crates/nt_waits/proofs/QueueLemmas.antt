@@ -3,6 +3,7 @@ use Rattle.std.proofs.Common.{◌≡◌, ◌≢◌, ◌⊎◌, ◌+◌, ◌-◌,
 use Rattle.std.proofs.lemmas.Bool.{cases_eq, false≢true}
 use Rattle.std.proofs.lemmas.Option.{none-some, some_pair_parts}
 use Rattle.std.specs.Prelude.{IsSome}
+use Rattle.std.specs.Option.{option_map}
 use Rattle.slab.specs.Slab.{Slab, get, ContainsKey, Updates}
 use Rattle.nt_waits.specs.declared.block.Block.{Block}
 use Rattle.nt_waits.specs.declared.block.Ends.{Ends}
@@ -57,6 +58,11 @@ owner_of-present (Some block) p e = refl
 present_by_owner : (block block' : Option Block) → owner_of block' ≡ owner_of block → IsSome block → IsSome block'
 present_by_owner None block' same there = absurd (cc)
 present_by_owner (Some block) block' same there = owner_of-present block' (block.thread, block.handle) same
+
+thread_by_owner : (block block' : Option Block) → owner_of block' ≡ owner_of block → thread_of block' ≡ thread_of block
+thread_by_owner (Some block) block' same = owner_of-thread block' block.thread block.handle same
+thread_by_owner None None same = refl
+thread_by_owner None (Some block') same = absurd (cc)
 
 not_empty : (ls : List Link) (k : ℕ) → HasNumber ls k → 1 ≤ length ls
 not_empty [] k has = absurd has
@@ -130,6 +136,16 @@ module _ (old gone : Slab Block) (ends : Ends) (handle : ℕ) (ls : List Link) (
   next_there mid owners x e =
       let found = queue_next old ends handle ls queue number x has (after_is ∙ e) in
       present_by_owner (get gone x) (get mid x) (owners x) (rw (removed.others x found.1) (queue_present old ends handle ls queue x found.0))
+
+  -- the thread of the block after is what it was
+  pub next_thread : (mid : Slab Block) → ((k : ℕ) → owner_at mid k ≡ owner_at gone k) → option_map (λ k. thread_of (get mid k)) block.next ≡ option_map (λ k. thread_of (get old k)) (next_of (get old number))
+  next_thread mid owners = go block.next refl ∙ ap (option_map (λ k. thread_of (get old k))) (sym after_is)
+    where
+      go : (o : Option ℕ) → block.next ≡ o → option_map (λ k. thread_of (get mid k)) o ≡ option_map (λ k. thread_of (get old k)) o
+      go None e = refl
+      go (Some x) e =
+          let found = queue_next old ends handle ls queue number x has (after_is ∙ e) in
+          ap Some (thread_by_owner (get gone x) (get mid x) (owners x) ∙ ap thread_of (removed.others x found.1))
 
   module _ (mid new : Slab Block) (ends_mid ends_new ends_last : Ends)
       (written : next_at mid ends_mid block.previous ≡ block.next)

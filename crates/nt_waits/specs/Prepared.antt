@@ -1,10 +1,15 @@
 -- When all that a prepared wait needs is there. No public clause cites this module.
-use Rattle.std.specs.Prelude.{ℕ, ◌+◌, ◌<◌, ◌≤◌, [], ◌∷◌, false, Option, IsSome}
+use Rattle.std.specs.Prelude.{ℕ, ◌+◌, ◌<◌, ◌≤◌, [], ◌∷◌, Bool, true, false, Option, None, Some, IsSome}
 use Rattle.std.specs.Option.{option_map}
 use Rattle.nt_waits.specs.declared.wait.Wait.{Wait}
 use Rattle.nt_waits.specs.declared.prepared.Prepared.{Prepared}
 use Rattle.nt_waits.specs.Queues.{Lists, HasRoomFor}
 use Rattle.nt_waits.specs.Waits.{wait_for}
+
+-- this wait, where it is prepared
+abbrev pub prepared_where : Bool → Prepared → Option Prepared
+prepared_where false wait = None
+prepared_where true wait = Some wait
 
 -- the thread and its wait for one handle, if there is one
 abbrev pub shown : Option Prepared → Option (ℕ × Wait)

@@ -78,6 +78,14 @@ wait_for handles all about = record { handles = handles; all = all; alertable = 
 abbrev pub about_of : Wait → About
 about_of wait = record { alertable = wait.alertable; deadline = wait.deadline }
 
+-- the handle of a wait that names one alone, and whether the wait is for all
+abbrev pub only_among : List ℕ → Bool → Option (ℕ × Bool)
+only_among (handle ∷ []) all = Some (handle, all)
+only_among handles all = None
+
+abbrev pub only_of : Wait → Option (ℕ × Bool)
+only_of wait = only_among wait.handles wait.all
+
 -- an end of this wait reaches its own blocks, and at most two beside each of them
 pub record IsTouched (wait : Wait) (touched : ℕ) : Type 0 where
   pub at_least : length wait.handles ≤ touched

@@ -3,7 +3,7 @@ ghost use Rattle.std.specs.Prelude.{◌≡◌, ◌≢◌, ℕ, ◌+◌, ◌<◌,
 ghost use Rattle.nt_waits.specs.Sound.{ends_at};
 ghost use Rattle.std.specs.Option.{ForSome, option_map};
 ghost use Rattle.slab.specs.Slab.{get, ContainsKey, Updates, slab_len, HasRoomFor};
-ghost use Rattle.nt_waits.specs.Queue.{changed, removed_by, next_at, previous_at, owner_at, thread_of, links, IsQueue};
+ghost use Rattle.nt_waits.specs.Queue.{changed, removed_by, next_of, next_at, previous_at, owner_at, thread_of, links, IsQueue};
 ghost use Rattle.nt_waits.specs.Link.{HasNumber, without};
 
 use crate::block::{Block, BlockNumber, Change, Ends, OptionalBlock};
@@ -22,15 +22,21 @@ fn reach(blocks: &mut Slab<Block>, touched: &mut u64, number: BlockNumber, chang
 {
     *touched += 1;
     let key = number.get();
-    let block = blocks[key];
     match change {
-        Change::SetNext(next) => blocks[key] = Block { next, ..block },
-        Change::SetPrevious(previous) => blocks[key] = Block { previous, ..block },
-        Change::Remove => {
-            blocks.remove(key);
+        Change::SetNext(next) => {
+            let block = &mut blocks[key];
+            let was = *block;
+            block.next = next;
+            was
         }
+        Change::SetPrevious(previous) => {
+            let block = &mut blocks[key];
+            let was = *block;
+            block.previous = previous;
+            was
+        }
+        Change::Remove => blocks.remove(key),
     }
-    block
 }
 
 /// Makes `to` the block after `at`; with no `at` the first one.
@@ -54,22 +60,21 @@ fn set_next(
     ensures counted { touched.new ≤ touched.old + 1 }
     ensures counts_up { touched.old ≤ touched.new }
 {
-    match at.get() {
-        None => ends.first = to,
-        Some(number) => {
-            reach(blocks, touched, number, Change::SetNext(to));
-        }
+    if at.is_none() {
+        ends.first = to;
+    } else {
+        reach(blocks, touched, at.number(), Change::SetNext(to));
     }
 }
 
-/// Makes `to` the block before `at`; with no `at` the last one.
+/// Makes `to` the block before `at`; with no `at` the last one. Answers the thread of `at`.
 fn set_previous(
     blocks: &mut Slab<Block>,
     ends: &mut Ends,
     touched: &mut u64,
     at: OptionalBlock,
     to: OptionalBlock,
-)
+) -> Option<ThreadId>
     requires there { ForSome at (ContainsKey blocks.old) }
     requires countable { touched.old + 1 < 2 ^ 64 }
     ensures written { previous_at blocks.new ends.new at ≡ to }
@@ -82,23 +87,24 @@ fn set_previous(
     ensures count { ends.new.count ≡ ends.old.count }
     ensures counted { touched.new ≤ touched.old + 1 }
     ensures counts_up { touched.old ≤ touched.new }
+    ensures thread { result ≡ option_map (λ k. thread_of (get blocks.old k)) at }
 {
-    match at.get() {
-        None => ends.last = to,
-        Some(number) => {
-            reach(blocks, touched, number, Change::SetPrevious(to));
-        }
+    if at.is_none() {
+        ends.last = to;
+        return None;
     }
+    let was = reach(blocks, touched, at.number(), Change::SetPrevious(to));
+    Some(was.thread)
 }
 
-/// Takes a block out of the queue of its handle.
+/// Takes a block out of the queue of its handle. Answers the thread of the block after it.
 pub fn detach(
     blocks: &mut Slab<Block>,
     ends: &mut Ends,
     touched: &mut u64,
     handle: Handle,
     number: BlockNumber,
-)
+) -> Option<ThreadId>
     requires queue { IsQueue blocks.old ends.old handle (links blocks.old ends.old) }
     requires linked { HasNumber (links blocks.old ends.old) number }
     requires countable { touched.old + 3 < 2 ^ 64 }
@@ -108,11 +114,13 @@ pub fn detach(
     ensures capacity { blocks.new.capacity ≡ blocks.old.capacity }
     ensures counted { touched.new ≤ touched.old + 3 }
     ensures counts_up { touched.old + 1 ≤ touched.new }
+    ensures next { result ≡ option_map (λ k. thread_of (get blocks.old k)) (next_of (get blocks.old number)) }
 {
     let block = reach(blocks, touched, number, Change::Remove);
     set_next(blocks, ends, touched, block.previous, block.next);
-    set_previous(blocks, ends, touched, block.next, block.previous);
+    let next = set_previous(blocks, ends, touched, block.next, block.previous);
     ends.count -= 1;
+    next
 }
 
 /// Puts a block for the thread at the end of the queue of the handle. Answers its number.
@@ -155,9 +163,10 @@ pub fn thread_in(blocks: &Slab<Block>, number: OptionalBlock) -> Option<ThreadId
     requires { ForSome number (ContainsKey blocks.now) }
     ensures { result ≡ option_map (λ k. thread_of (get blocks.now k)) number }
 {
-    match number.get() {
-        Some(number) => Some(blocks[number.get()].thread),
-        None => None,
+    if number.is_none() {
+        None
+    } else {
+        Some(blocks[number.number().get()].thread)
     }
 }
 

@@ -84,14 +84,11 @@ impl Queues {
         ensures distinct { (h : ℕ) → AreNumbersOnce (list_at self.new h) }
     {
         let at = handle.get() as usize;
-        let mut ends = self.ends[at];
-        let number = attach(&mut self.blocks, &mut ends, thread, handle);
-        self.ends[at] = ends;
-        number
+        attach(&mut self.blocks, &mut self.ends[at], thread, handle)
     }
 
-    /// Takes a block out of its handle's queue.
-    pub fn unlink(&mut self, handle: Handle, number: BlockNumber)
+    /// Takes a block out of its handle's queue. Answers the thread of the block after it.
+    pub fn unlink(&mut self, handle: Handle, number: BlockNumber) -> Option<ThreadId>
         requires linked { HasNumber (list_at self.old handle) number }
         requires countable { self.old.touched + 3 < 2 ^ 64 }
         ensures lists { self.new.lists ≡ slice_set self.old.lists handle (without number (list_at self.old handle)) }
@@ -100,18 +97,17 @@ impl Queues {
         ensures handle_room { self.new.handle_room ≡ self.old.handle_room }
         ensures counted { self.new.touched ≤ self.old.touched + 3 }
         ensures counts_up { self.old.touched + 1 ≤ self.new.touched }
+        ensures next { result ≡ thread_after (list_at self.old handle) number }
         ensures distinct { (h : ℕ) → AreNumbersOnce (list_at self.new h) }
     {
         let at = handle.get() as usize;
-        let mut ends = self.ends[at];
         detach(
             &mut self.blocks,
-            &mut ends,
+            &mut self.ends[at],
             &mut self.touched,
             handle,
             number,
-        );
-        self.ends[at] = ends;
+        )
     }
 
     /// The thread whose wait on the handle began first.

@@ -1,8 +1,8 @@
 //! The place of one thread's wait, which is filled and emptied where it lies.
-ghost use Rattle.std.specs.Prelude.{nat_eq, ◌≡◌, ℕ, ◌+◌, ◌<◌, ◌≤◌, ◌^◌, ◌∷◌, [], false, IfOk, IsSome, None, Some, OnOk, OnErr, length, slice_index};
+ghost use Rattle.std.specs.Prelude.{nat_eq, ◌≡◌, ℕ, ◌+◌, ◌<◌, ◌≤◌, ◌^◌, ◌∷◌, [], false, IsSome, None, Some, OnOk, OnErr, length, slice_index};
 ghost use Rattle.std.specs.List.{IsDistinct};
 ghost use Rattle.std.specs.Option.{option_copied, option_map, ForSome};
-ghost use Rattle.nt_waits.specs.Link.{AreNumbersOnce};
+ghost use Rattle.nt_waits.specs.Link.{AreNumbersOnce, thread_after};
 ghost use Rattle.nt_waits.specs.Queues.{list_at, HasRoomFor};
 ghost use Rattle.nt_waits.specs.Slot.{IsFilled, IsUnlinked};
 ghost use Rattle.nt_waits.specs.Table.{IsLinked};
@@ -75,7 +75,7 @@ fn make_numbers(numbers: &mut SmallVec<BlockNumber, 4>, count: usize) -> Result<
 fn remake_numbers(numbers: &mut SmallVec<BlockNumber, 4>, count: usize) -> Result<(), AllocError>
     ensures { OnOk result (length numbers.new.items ≡ count) }
 {
-    *numbers = blank_numbers(*numbers.allocator(), count)?;
+    *numbers = SmallVec::from_elem(*numbers.allocator(), BlockNumber::default(), count)?;
     Ok(())
 }
 
@@ -88,13 +88,6 @@ fn make_one_number(numbers: &mut SmallVec<BlockNumber, 4>)
         *numbers = SmallVec::new(*numbers.allocator());
         numbers.push_reserved(BlockNumber::default());
     }
-}
-
-/// A list of so many numbers. What they are does not matter yet.
-fn blank_numbers(alloc: Global, count: usize) -> Result<SmallVec<BlockNumber, 4>, AllocError>
-    ensures { IfOk result (λ numbers. length numbers.items ≡ count) }
-{
-    SmallVec::from_elem(alloc, BlockNumber::default(), count)
 }
 
 /// Puts a block of the thread at the end of the queue of each of its handles, all below `count`, which are written here already, and
@@ -152,6 +145,15 @@ impl Slot {
         } else {
             None
         }
+    }
+
+    /// The wait with its blocks, which there is.
+    #[inline(always)]
+    pub fn filled(&self) -> &Pending
+        requires { IsSome self.now }
+        ensures { Some result.now ≡ self.now }
+    {
+        &self.pending
     }
 
     /// The thread's wait for these handles, all below `count`, stands here from now on, with a block at the end of each of their queues.
@@ -228,6 +230,25 @@ impl Slot {
             self.pending.numbers.as_slice(),
         );
         self.pends = false;
+    }
+
+    /// The same for a wait for this handle alone. Answers the thread of the block after its own.
+    #[inline(always)]
+    pub fn empty_one(&mut self, queues: &mut Queues, handle: Handle) -> Option<ThreadId>
+        requires there { IsSome self.old }
+        requires one { ForSome self.old (λ p. p.wait.handles ≡ handle ∷ []) }
+        requires linked { ForSome self.old (λ p. (t : ℕ) × IsLinked queues.old t p) }
+        requires numbers { (h : ℕ) → AreNumbersOnce (list_at queues.old h) }
+        requires countable { queues.old.touched ≡ 0 }
+        ensures empty { self.new ≡ None }
+        ensures unlinked { ForSome self.old (λ p. IsUnlinked queues.old queues.new p) }
+        ensures next { ForSome self.old (λ p.
+            result ≡ thread_after (list_at queues.old handle) (slice_index p.numbers.items 0)) }
+    {
+        let number = self.pending.numbers.as_slice()[0];
+        let next = queues.unlink(handle, number);
+        self.pends = false;
+        next
     }
 
     /// Empties the place, and hands its wait back.

@@ -1,5 +1,5 @@
 //! The pending waits of all threads.
-ghost use Rattle.std.specs.Prelude.{nat_eq, ◌≡◌, ℕ, ◌<◌, ◌≤◌, ◌*◌, ◌∷◌, [], false, length, slice_get, IsSome, Some, None, IfOk, OnOk, OnErr, IfErr, MatchOption};
+ghost use Rattle.std.specs.Prelude.{nat_eq, ◌≡◌, ℕ, ◌+◌, ◌<◌, ◌≤◌, ◌*◌, ◌^◌, ◌∷◌, [], false, length, slice_get, IsSome, Some, None, IfOk, OnOk, OnErr, IfErr, MatchOption};
 ghost use Rattle.std.specs.List.{IsDistinct};
 ghost use Rattle.std.specs.FinMap as map;
 ghost use Rattle.std.specs.Option.{option_copied, option_map, ForSome};
@@ -7,10 +7,10 @@ ghost use Rattle.std.specs.Borrow.{sem};
 
 use crate::begin::{begin_ready, begin_wait, make_room};
 use crate::deadlines::{clear_alarm, reserve_alarm, set_alarm};
-use crate::prepared::Prepared;
+use crate::prepared::{Preparation, Prepared};
 use crate::queues::Queues;
 use crate::slot::Slot;
-use crate::take::{end_wait, next_in, take_wait, wait_in};
+use crate::take::{end_one_wait, end_wait, next_in, only_in, take_wait, wait_in};
 use crate::wait::{About, Wait, tell};
 use nt_alarms::Alarms;
 use nt_status::{Handle, MAX_WAIT_OBJECTS, Refusal, ThreadId};
@@ -30,7 +30,7 @@ pub struct WaitTable {
     deadlines: Alarms,
     count: usize,
     looked: u64,
-    prepared: Option<Prepared>,
+    prepared: Preparation,
 }
 
 impl Model for WaitTable {
@@ -59,7 +59,7 @@ impl WaitTable {
     ghost use Rattle.nt_waits.specs.Looking.{LeavesLooked};
     ghost use Rattle.nt_waits.specs.Deadlines.{NoDeadline, NoneEarlier, IsEarliestDeadline, NoneWithDeadline, IsFirstWithDeadline};
     ghost use Rattle.nt_status.specs.Lists.{IsMember};
-    ghost use Rattle.nt_waits.specs.Waits.{Begins, wait_of, wait_for, queue_of, about_of, others, Agrees, IsTouched, next_after};
+    ghost use Rattle.nt_waits.specs.Waits.{Begins, wait_of, wait_for, queue_of, about_of, only_of, others, Agrees, IsTouched, next_after};
 
     /// A table with no wait.
     pub fn new(alloc: Global) -> Self
@@ -76,7 +76,7 @@ impl WaitTable {
             deadlines: Alarms::new(alloc),
             count: 0,
             looked: 0,
-            prepared: None,
+            prepared: Preparation::none(),
         }
     }
 
@@ -90,7 +90,7 @@ impl WaitTable {
             deadlines: self.deadlines.copy()?,
             count: self.count,
             looked: self.looked,
-            prepared: None,
+            prepared: Preparation::none(),
         })
     }
 
@@ -101,7 +101,7 @@ impl WaitTable {
         ensures memory { IfErr result (λ refusal. refusal ≡ Refusal.Memory) }
     {
         let mut copied = self.copy_begun()?;
-        let Some(prepared) = self.prepared else {
+        let Some(prepared) = self.prepared.get() else {
             return Ok(copied);
         };
         // Room is not copied: the copy makes its own.
@@ -145,7 +145,7 @@ impl WaitTable {
         begin_wait(&mut self.queues, &mut self.waits, t, handles, all, about)?;
         set_alarm(&mut self.deadlines, t, about.deadline);
         self.count += 1;
-        self.prepared = None;
+        self.prepared.forget();
         Ok(())
     }
 
@@ -164,7 +164,7 @@ impl WaitTable {
             1,
             handle.get() as usize + 1,
         )?;
-        self.prepared = Some(Prepared {
+        self.prepared.put(Prepared {
             thread,
             handle,
             about,
@@ -179,9 +179,10 @@ impl WaitTable {
         ensures begins { ForSome self.old.prepared (λ p. Begins self.old self.new p.0 p.1) }
         ensures agrees { Agrees self.new.pending self.new.queues }
     {
-        let Some(prepared) = self.prepared.take() else {
+        let Some(prepared) = self.prepared.get() else {
             unreachable!()
         };
+        self.prepared.forget();
         let Prepared { thread, about, .. } = prepared;
         let pending = self.count + 1;
         begin_ready(
@@ -199,7 +200,7 @@ impl WaitTable {
     pub fn forget_prepared(&mut self)
         ensures { self.new ≡ record self.old { prepared = None } }
     {
-        self.prepared = None;
+        self.prepared.forget();
     }
 
     /// Ends the thread's wait where it lies. The other threads keep their order in every queue.
@@ -217,6 +218,26 @@ impl WaitTable {
         clear_alarm(&mut self.deadlines, t);
         end_wait(&mut self.queues, &mut self.waits, t);
         self.count = left;
+    }
+
+    /// Ends the thread's wait, which is for this handle alone, as `end_in_place` does. Answers the thread whose wait on the handle
+    /// began next.
+    #[inline(always)]
+    pub fn end_one(&mut self, t: ThreadId, handle: Handle) -> Option<ThreadId>
+        requires there { IsSome (wait_of self.old t) }
+        requires one { ForSome (wait_of self.old t) (λ wait. wait.handles ≡ handle ∷ []) }
+        ensures next { result ≡ next_after t (queue_of self.old handle) }
+        ensures pending { self.new.pending ≡ map.remove self.old.pending t }
+        ensures queues { (h : ℕ) → queue_of self.new h ≡ others t (queue_of self.old h) }
+        ensures looked { self.new.looked ≡ self.old.looked }
+        ensures prepared { self.new.prepared ≡ self.old.prepared }
+        ensures touched { ForSome (wait_of self.old t) (λ wait. IsTouched wait self.new.touched) }
+        ensures agrees { Agrees self.new.pending self.new.queues }
+    {
+        let others = self.count - 1;
+        self.count = others;
+        clear_alarm(&mut self.deadlines, t);
+        end_one_wait(&mut self.queues, &mut self.waits, t, handle)
     }
 
     /// Ends the thread's wait, and hands it back. The other threads keep their order in every queue.
@@ -246,7 +267,23 @@ impl WaitTable {
         wait_in(&self.waits, t)
     }
 
-    /// How often `get` was called since the last `look_anew`, up to the greatest u64.
+    /// The handle of the thread's pending wait, where it names one alone, and whether the wait is for all. This is no look.
+    pub fn only(&self, t: ThreadId) -> Option<(Handle, bool)>
+        requires { IsSome (wait_of self.now t) }
+        ensures { Some result ≡ option_map only_of (wait_of self.now t) }
+    {
+        only_in(&self.waits, t)
+    }
+
+    /// Counts a look, as `get` does.
+    pub fn count_look(&mut self)
+        requires { self.old.looked + 1 < 2 ^ 64 }
+        ensures { self.new ≡ record self.old { looked = self.old.looked + 1 } }
+    {
+        self.looked += 1;
+    }
+
+    /// How often `get` and `count_look` were called since the last `look_anew`, up to the greatest u64.
     pub fn looked(&self) -> u64
         ensures { result ≡ self.now.looked }
     {

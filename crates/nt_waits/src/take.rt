@@ -1,12 +1,12 @@
 //! The end of a wait, over the queues and the places of the threads.
-ghost use Rattle.std.specs.Prelude.{◌≡◌, IsSome, Some, ◌==◌};
+ghost use Rattle.std.specs.Prelude.{◌≡◌, ◌∷◌, [], IsSome, Some, ◌==◌};
 ghost use Rattle.std.specs.Option.{option_map, option_copied, ForSome};
 ghost use Rattle.nt_waits.specs.Queues.{list_at};
 ghost use Rattle.std.specs.List.{position};
 ghost use Rattle.nt_waits.specs.Table.{threads, slot_at, IsTable};
 ghost use Rattle.nt_waits.specs.Ended.{IsEnded};
 ghost use Rattle.nt_status.specs.Lists.{IsMember};
-ghost use Rattle.nt_waits.specs.Waits.{IsTouched, next_after};
+ghost use Rattle.nt_waits.specs.Waits.{IsTouched, next_after, only_of};
 
 use crate::pending::Pending;
 use crate::queues::Queues;
@@ -26,7 +26,26 @@ pub fn end_wait(queues: &mut Queues, waits: &mut Vec<Slot>, t: ThreadId)
     waits[t.get() as usize].empty(queues);
 }
 
-/// The same, and hands the wait back.
+/// The same for a wait for this handle alone. Answers the thread whose wait on the handle began next.
+#[inline(always)]
+pub fn end_one_wait(
+    queues: &mut Queues,
+    waits: &mut Vec<Slot>,
+    t: ThreadId,
+    handle: Handle,
+) -> Option<ThreadId>
+    requires table { IsTable queues.old waits.old.items }
+    requires there { IsSome (slot_at waits.old.items t) }
+    requires one { ForSome (slot_at waits.old.items t) (λ p. p.wait.handles ≡ handle ∷ []) }
+    ensures ended { IsEnded queues.old waits.old.items queues.new waits.new.items t }
+    ensures touched { ForSome (slot_at waits.old.items t) (λ p. IsTouched p.wait queues.new.touched) }
+    ensures next { result ≡ next_after t (threads (list_at queues.old handle)) }
+{
+    queues.touch_anew();
+    waits[t.get() as usize].empty_one(queues, handle)
+}
+
+/// Ends the thread's wait as `end_wait` does, and hands it back.
 #[inline(always)]
 pub fn take_wait(queues: &mut Queues, waits: &mut Vec<Slot>, t: ThreadId) -> Wait
     requires table { IsTable queues.old waits.old.items }
@@ -45,6 +64,18 @@ pub fn wait_in(waits: &[Slot], t: ThreadId) -> Option<&Wait>
 {
     let pending = pending_in(waits, t)?;
     Some(&pending.wait)
+}
+
+/// The handle of the thread's wait, where it names one alone, and whether the wait is for all.
+pub fn only_in(waits: &[Slot], t: ThreadId) -> Option<(Handle, bool)>
+    requires { IsSome (slot_at waits.now t) }
+    ensures { Some result ≡ option_map (λ p. only_of p.wait) (slot_at waits.now t) }
+{
+    let pending = waits[t.get() as usize].filled();
+    match pending.wait.handles.as_slice() {
+        [handle] => Some((*handle, pending.wait.all)),
+        _ => None,
+    }
 }
 
 /// The thread's wait with its blocks, if it has one.

@@ -1,6 +1,6 @@
 -- The queue before the call is `links` of the blocks and the ends.
-use Rattle.std.proofs.Common.{arith, refl, ◌-◌}
-use Rattle.nt_waits.proofs.QueueLemmas.{queue_present, previous_there, next_there, queue_detached, detached_elsewhere}
+use Rattle.std.proofs.Common.{arith, refl, ◌-◌, ◌∙◌}
+use Rattle.nt_waits.proofs.QueueLemmas.{queue_present, previous_there, next_there, next_thread, queue_detached, detached_elsewhere}
 use Rattle.nt_waits.proofs.chain.detach.Goals as goal
 
 pub reach-block-requires-clause-there : goal.reach-block-requires-clause-there
@@ -10,20 +10,25 @@ pub set_next-requires-clause-there : goal.set_next-requires-clause-there
 set_next-requires-clause-there c =
     previous_there c.args.blocks.now c.reach-block.new.blocks c.args.ends.now c.args.handle _ c.args.number c.reach-block.result c.requires.queue c.requires.linked c.reach-block.ensures.was c.reach-block.ensures.updates
 
-pub set_previous-requires-clause-there : goal.set_previous-requires-clause-there
-set_previous-requires-clause-there c =
+pub set_previous-next-requires-clause-there : goal.set_previous-next-requires-clause-there
+set_previous-next-requires-clause-there c =
     next_there c.args.blocks.now c.reach-block.new.blocks c.args.ends.now c.args.handle _ c.args.number c.reach-block.result c.requires.queue c.requires.linked c.reach-block.ensures.was c.reach-block.ensures.updates c.set_next.new.blocks c.set_next.ensures.owners
 
 pub returns-clause-queue : goal.returns-clause-queue
 returns-clause-queue c =
-    let final = c.set_previous.new.ends in
+    let final = c.set_previous-next.new.ends in
     queue_detached c.args.blocks.now c.reach-block.new.blocks c.args.ends.now c.args.handle _ c.args.number c.reach-block.result c.requires.queue c.requires.linked c.reach-block.ensures.was c.reach-block.ensures.updates
-    c.set_next.new.blocks c.set_previous.new.blocks c.set_next.new.ends final (record final { count = final.count - 1 })
+    c.set_next.new.blocks c.set_previous-next.new.blocks c.set_next.new.ends final (record final { count = final.count - 1 })
     c.set_next.ensures.written c.set_next.ensures.others c.set_next.ensures.backward c.set_next.ensures.owners
-    c.set_previous.ensures.written c.set_previous.ensures.others c.set_previous.ensures.forward c.set_previous.ensures.owners
-    refl refl (omega (arith, c.set_next.ensures.count, c.set_previous.ensures.count))
+    c.set_previous-next.ensures.written c.set_previous-next.ensures.others c.set_previous-next.ensures.forward c.set_previous-next.ensures.owners
+    refl refl (omega (arith, c.set_next.ensures.count, c.set_previous-next.ensures.count))
 
 pub returns-clause-elsewhere : goal.returns-clause-elsewhere
 returns-clause-elsewhere c =
     detached_elsewhere c.args.blocks.now c.reach-block.new.blocks c.args.ends.now c.args.handle _ c.args.number c.reach-block.result c.requires.queue c.requires.linked c.reach-block.ensures.was c.reach-block.ensures.updates
-    c.set_next.new.blocks c.set_previous.new.blocks c.set_next.ensures.elsewhere c.set_previous.ensures.elsewhere
+    c.set_next.new.blocks c.set_previous-next.new.blocks c.set_next.ensures.elsewhere c.set_previous-next.ensures.elsewhere
+
+pub returns-clause-next : goal.returns-clause-next
+returns-clause-next c =
+    c.set_previous-next.ensures.thread
+    ∙ next_thread c.args.blocks.now c.reach-block.new.blocks c.args.ends.now c.args.handle _ c.args.number c.reach-block.result c.requires.queue c.requires.linked c.reach-block.ensures.was c.reach-block.ensures.updates c.set_next.new.blocks c.set_next.ensures.owners

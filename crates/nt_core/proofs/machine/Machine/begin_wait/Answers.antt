@@ -1,10 +1,9 @@
-use Rattle.std.proofs.Common.{◌≡◌, false, sym, ap, ◌∙◌, subst, ◌&&◌}
+use Rattle.std.proofs.Common.{◌≡◌, false, refl, sym, ap, ◌∙◌, subst, ◌&&◌}
 use Rattle.nt_apc.specs.Queues.{has_apc}
 use Rattle.nt_waits.specs.declared.wait.Wait.{Wait}
 use Rattle.nt_calls.specs.declared.call.Reply.{Reply}
 use Rattle.nt_calls.specs.State.{State, deadline_after, pending_too}
 use Rattle.nt_core.specs.Dispatcher.{Dispatcher, state}
-use Rattle.nt_core.specs.Lawful.{IsSoundWait}
 use Rattle.nt_calls.specs.Serving.{fits, wait_for}
 use Rattle.nt_core.proofs.Beginning.{began_pending, begun_pends}
 use Rattle.nt_core.proofs.machine.Machine.begin_wait.Goals as goal
@@ -16,24 +15,16 @@ returns-clause-begun c =
     let w : Wait = record { handles = c.args.handles.now; all = c.args.all; alertable = c.args.alertable; deadline = deadline_after old.now c.args.ms } in
     let same : d ≡ old = c.in_default.ensures.none in
     let pends = c.in_default.ensures.pends in
-    let deadline : c.deadline_after.result ≡ deadline_after old.now c.args.ms = c.deadline_after.ensures ∙ (ap (λ (x : Dispatcher). deadline_after x.now c.args.ms) c.self.view_is ∙ ap (λ (x : Dispatcher). deadline_after x.now c.args.ms) same) in
-    let becomes : state c.pend.new.self ≡ pending_too (state old) c.args.thread w = c.in_ok-pend.ensures.state ∙ (λ i. pending_too (state (same i)) c.args.thread (record { handles = c.args.handles.now; all = c.args.all; alertable = c.args.alertable; deadline = deadline i })) in
+    let becomes : state c.pend.new.self ≡ pending_too (state old) c.args.thread w =
+    c.in_ok-pend.ensures.state ∙ (λ i. pending_too (state (same i)) c.args.thread (record { handles = c.args.handles.now; all = c.args.all; alertable = c.args.alertable; deadline = deadline_after (same i).now c.args.ms })) in
     ap (λ (s : State). (Reply.Pended, s)) becomes ∙ sym (begun_pends (state old) c.args.thread w c.args.ms pends.0 pends.1 pends.2)
 
 pub returns-clause-steady : goal.returns-clause-steady
 returns-clause-steady c =
     let d = c.end_at_once.new.self in
-    let w : Wait = record { handles = c.args.handles.now; all = c.args.all; alertable = c.args.alertable; deadline = c.deadline_after.result } in
+    let w : Wait = record { handles = c.args.handles.now; all = c.args.all; alertable = c.args.alertable; deadline = deadline_after d.now c.args.ms } in
     let same = c.in_default.ensures.none in
     let pends = c.in_default.ensures.pends in
     let unfit : fits d.objects c.args.thread w ≡ false = subst (λ (x : Dispatcher). fits x.objects c.args.thread (wait_for c.args.handles.now c.args.all) ≡ false) (sym same) pends.0 in
     let quiet : (w.alertable && has_apc d.apcs.queues c.args.thread) ≡ false = subst (λ (x : Dispatcher). (c.args.alertable && has_apc x.apcs.queues c.args.thread) ≡ false) (sym same) pends.1 in
-    let deadline : w.deadline ≡ deadline_after d.now c.args.ms = c.deadline_after.ensures ∙ ap (λ (x : Dispatcher). deadline_after x.now c.args.ms) c.self.view_is in
-    began_pending d c.pend.new.self c.args.thread c.args.ms w c.end_at_once.ensures.steady unfit quiet pends.2 deadline c.in_ok-pend.ensures.state c.pend.ensures.sound c.pend.ensures.marked
-
-pub pend-requires-clause-able : goal.pend-requires-clause-able
-pend-requires-clause-able c =
-    let d = c.end_at_once.new.self in
-    let same = c.in_default.ensures.none in
-    let able : IsSoundWait d.threads d.objects c.args.thread (wait_for c.args.handles.now c.args.all) = subst (λ (x : Dispatcher). IsSoundWait x.threads x.objects c.args.thread (wait_for c.args.handles.now c.args.all)) (sym same) c.requires.able in
-    record { known = able.known; runs = able.runs; few = able.few; apart = able.apart; named = able.named; living = able.living }
+    began_pending d c.pend.new.self c.args.thread c.args.ms w c.end_at_once.ensures.steady unfit quiet pends.2 refl c.in_ok-pend.ensures.state c.pend.ensures.sound c.pend.ensures.marked

@@ -5,10 +5,10 @@ use Rattle.nt_calls.specs.State.{deadline_after}
 use Rattle.nt_core.specs.Dispatcher.{state}
 use Rattle.nt_calls.specs.Serving.{wait_for}
 use Rattle.nt_calls.specs.Steps.{begun}
-use Rattle.nt_core.specs.Accepts.{Accepts, IsWaitMade}
+use Rattle.nt_core.specs.Accepts.{Accepts, IsWaitMade, reply_of, replied}
 use Rattle.nt_core.proofs.Accepting.{ok_then, free_caller, sound_sleep, wait_accepted}
 use Rattle.nt_core.proofs.Beginning.{room_to_begin}
-use Rattle.nt_core.proofs.Making.{tried_made}
+use Rattle.nt_core.proofs.Making.{waited_made}
 use Rattle.nt_core.proofs.machine.Machine.wait.Goals as goal
 
 pub begin_wait-requires-clause-idle : goal.begin_wait-requires-clause-idle
@@ -40,11 +40,11 @@ returns-in-Sleep c =
     let t = c.args.thread in
     let began = c.begin_wait.ensures in
     let asked = WaitCall.Sleep c.in-Sleep.ms c.in-Sleep.alertable in
-    subst (λ (w : WaitCall). IsWaitMade old new t w c.begin_wait.result) (sym c.in-Sleep.is)
-    (tried_made old new t false (Call.Wait asked) c.begin_wait.result c.requires.fresh c.requires.caller refl
+    rw c.replied.ensures (subst (λ (w : WaitCall). IsWaitMade old new t w (replied c.begin_wait.result)) (sym c.in-Sleep.is)
+    (waited_made old new t false (Call.Wait asked) c.begin_wait.result c.requires.fresh c.requires.caller refl
     (ok_then
-    (λ reply. (reply, state new) ≡ begun (state old) t (record { handles = []; all = false; alertable = c.in-Sleep.alertable; deadline = deadline_after old.now c.in-Sleep.ms }) c.in-Sleep.ms)
-    (λ reply. Accepts old new t (Call.Wait asked) reply)
-    (λ reply begins. wait_accepted old new t asked reply c.requires.fresh began.grants began.looked began.steady refl begins)
+    (λ ended. (reply_of ended, state new) ≡ begun (state old) t (record { handles = []; all = false; alertable = c.in-Sleep.alertable; deadline = deadline_after old.now c.in-Sleep.ms }) c.in-Sleep.ms)
+    (λ ended. Accepts old new t (Call.Wait asked) (reply_of ended))
+    (λ ended begins. wait_accepted old new t asked (reply_of ended) c.requires.fresh began.grants began.looked began.steady refl begins)
     c.begin_wait.result began.begun)
-    began.grows began.memory began.err)
+    began.grows began.memory began.err))

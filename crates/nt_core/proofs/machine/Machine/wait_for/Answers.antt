@@ -6,12 +6,12 @@ use Rattle.nt_calls.specs.State.{deadline_after}
 use Rattle.nt_core.specs.Dispatcher.{Dispatcher, state}
 use Rattle.nt_calls.specs.Serving.{wait_for}
 use Rattle.nt_calls.specs.Steps.{begun}
-use Rattle.nt_core.specs.Accepts.{Accepts}
+use Rattle.nt_core.specs.Accepts.{Accepts, reply_of}
 use Rattle.nt_calls.specs.Refusals.{first_of_causes, objects_causes, refusal}
 use Rattle.nt_core.proofs.Accepting.{ok_then, free_caller, sound_objects, wait_accepted}
 use Rattle.nt_core.proofs.Beginning.{room_to_begin}
 use Rattle.nt_core.proofs.Judging.{undenied}
-use Rattle.nt_core.proofs.Making.{refused_made, tried_made}
+use Rattle.nt_core.proofs.Making.{refused_made, waited_made}
 use Rattle.nt_core.proofs.machine.Machine.wait_for.Goals as goal
 
 pub begin_wait-requires-clause-idle : goal.begin_wait-requires-clause-idle
@@ -56,10 +56,10 @@ returns-in-None c =
     let began = c.begin_wait.ensures in
     let asked = WaitCall.Objects c.args.all c.args.alertable c.args.ms c.args.numbers.now in
     let judged = c.objects_refusal.ensures ∙ (ap (λ (os : List Object). first_of_causes (objects_causes os t c.args.denied c.args.numbers.now)) c.as_slice.ensures ∙ ap (λ (x : Dispatcher). first_of_causes (objects_causes x.objects t c.args.denied c.args.numbers.now)) c.self.view_is) in
-    tried_made old new t c.args.denied (Call.Wait asked) c.begin_wait.result c.requires.fresh c.requires.caller (sym judged ∙ c.in-None.is)
+    waited_made old new t c.args.denied (Call.Wait asked) c.begin_wait.result c.requires.fresh c.requires.caller (sym judged ∙ c.in-None.is)
     (ok_then
-    (λ reply. (reply, state new) ≡ begun (state old) t (record { handles = c.args.numbers.now; all = c.args.all; alertable = c.args.alertable; deadline = deadline_after old.now c.args.ms }) c.args.ms)
-    (λ reply. Accepts old new t (Call.Wait asked) reply)
-    (λ reply begins. wait_accepted old new t asked reply c.requires.fresh began.grants began.looked began.steady refl begins)
+    (λ ended. (reply_of ended, state new) ≡ begun (state old) t (record { handles = c.args.numbers.now; all = c.args.all; alertable = c.args.alertable; deadline = deadline_after old.now c.args.ms }) c.args.ms)
+    (λ ended. Accepts old new t (Call.Wait asked) (reply_of ended))
+    (λ ended begins. wait_accepted old new t asked (reply_of ended) c.requires.fresh began.grants began.looked began.steady refl begins)
     c.begin_wait.result began.begun)
     began.grows began.memory began.err

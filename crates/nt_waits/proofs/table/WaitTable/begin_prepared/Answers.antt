@@ -14,7 +14,7 @@ abbrev wait : In-Some → Wait
 wait c = let p = c.in-Some.prepared in wait_for (p.handle ∷ []) false p.about
 
 there : (c : In-Some) → c.args.self.now.prepared ≡ Some (c.in-Some.prepared.thread, wait c)
-there c = ap (λ v. v.prepared) (sym c.self.view_is) ∙ ap shown (sym c.in-Some.ensures.value)
+there c = ap (λ v. v.prepared) (sym c.self.view_is) ∙ ap shown (sym c.in-Some.ensures)
 
 -- its thread does not wait
 free : (c : In-Some) → wait_of c.args.self.now c.in-Some.prepared.thread ≡ None
@@ -25,16 +25,16 @@ begin_ready-requires-clause-free c =
     slot_free c.self.inside.queues c.self.inside.waits.items _ _ c.args.self.now c.in-Some.prepared.thread c.self.view_is (free (goal.at.begin_ready-requires-clause-free c).In-Some)
 
 pub begin_ready-requires-clause-blocks : goal.begin_ready-requires-clause-blocks
-begin_ready-requires-clause-blocks c = (c.self.invariant.ready c.in-Some.prepared (sym c.in-Some.ensures.value)).block
+begin_ready-requires-clause-blocks c = (c.self.invariant.ready c.in-Some.prepared (sym c.in-Some.ensures)).block
 
 pub begin_ready-requires-clause-handles : goal.begin_ready-requires-clause-handles
-begin_ready-requires-clause-handles c = (c.self.invariant.ready c.in-Some.prepared (sym c.in-Some.ensures.value)).handle
+begin_ready-requires-clause-handles c = (c.self.invariant.ready c.in-Some.prepared (sym c.in-Some.ensures)).handle
 
 pub begin_ready-requires-clause-place : goal.begin_ready-requires-clause-place
-begin_ready-requires-clause-place c = (c.self.invariant.ready c.in-Some.prepared (sym c.in-Some.ensures.value)).place
+begin_ready-requires-clause-place c = (c.self.invariant.ready c.in-Some.prepared (sym c.in-Some.ensures)).place
 
 pub set_alarm-requires-clause-room : goal.set_alarm-requires-clause-room
-set_alarm-requires-clause-room c = (c.self.invariant.ready c.in-Some.prepared (sym c.in-Some.ensures.value)).alarm
+set_alarm-requires-clause-room c = (c.self.invariant.ready c.in-Some.prepared (sym c.in-Some.ensures)).alarm
 
 pub set_alarm-requires-clause-quiet : goal.set_alarm-requires-clause-quiet
 set_alarm-requires-clause-quiet c =
@@ -49,7 +49,7 @@ pub invariant_of-self : goal.invariant_of-self
 invariant_of-self c =
     let p = c.in-Some.prepared in
     let done = c.begin_ready.ensures in
-    rw c.take.ensures.after (whole_begun c.self.inside.queues c.begin_ready.new.queues c.self.inside.waits.items c.begin_ready.new.waits.items p.thread (wait (goal.at.invariant_of-self c).In-Some) done.begun
+    rw c.forget.ensures (whole_begun c.self.inside.queues c.begin_ready.new.queues c.self.inside.waits.items c.begin_ready.new.waits.items p.thread (wait (goal.at.invariant_of-self c).In-Some) done.begun
     c.self.inside.count c.self.inside.deadlines c.self.inside.deadlines c.set_alarm.new.alarms c.self.inside.prepared c.self.invariant
     (ap (λ v. wait_of v p.thread) c.self.view_is ∙ free (goal.at.invariant_of-self c).In-Some) done.table (λ u. refl) c.set_alarm.ensures.here c.set_alarm.ensures.others)
 
@@ -60,7 +60,7 @@ returns-clause-begins c p is =
     let same : (here.thread, mine) ≡ p = same_Some (here.thread, mine) p (sym (there (goal.at.returns-clause-begins c).In-Some) ∙ is) in
     let done = c.begin_ready.ensures in
     let new = view_of c.begin_ready.new.queues c.begin_ready.new.waits.items c.self.inside.looked None in
-    rw c.take.ensures.after (subst (λ (p : ℕ × Wait). Begins c.args.self.now new p.0 p.1) same
+    rw c.forget.ensures (subst (λ (p : ℕ × Wait). Begins c.args.self.now new p.0 p.1) same
     (subst (λ (v : Waits). Begins v new here.thread mine) c.self.view_is
     (begins c.self.inside.queues c.begin_ready.new.queues c.self.inside.waits.items c.begin_ready.new.waits.items here.thread mine done.begun _ _ done.touched)))
 

@@ -14,7 +14,7 @@ invariant_of-result c =
       table = table_copied c.self.inside.queues c.in_ok-copy.field-0 items copy c.in_ok-copy.ensures.lists same long c.self.invariant.table;
       counted = rw (waits-copied c.self.inside.queues c.in_ok-copy.field-0 items copy c.in_ok-copy.ensures.lists same) c.self.invariant.counted;
       alarmed = rw c.in_ok-copy-2.ensures (alarmed_copied c.self.inside.queues c.in_ok-copy.field-0 items copy c.in_ok-copy.ensures.lists same c.self.inside.deadlines c.self.invariant.alarmed);
-      ready = none_ready c.in_ok-copy.field-0 _ _;
+      ready = rw c.none.ensures (none_ready c.in_ok-copy.field-0 _ _);
     }
 
 pub returns : goal.returns
@@ -23,4 +23,4 @@ returns c =
     let copy = c.in_ok-clone.field-0.items in
     let same = slots_cloned items copy c.in_ok-clone.ensures.cases.0 in
     let waits = waits-copied c.self.inside.queues c.in_ok-copy.field-0 items copy c.in_ok-copy.ensures.lists same in
-    rw (waits, c.in_ok-copy.ensures.lists, c.in_ok-copy.ensures.touched) (ap {B = Waits} (λ (v : Waits). record v { prepared = None }) c.self.view_is)
+    rw (waits, c.in_ok-copy.ensures.lists, c.in_ok-copy.ensures.touched, c.none.ensures) (ap {B = Waits} (λ (v : Waits). record v { prepared = None }) c.self.view_is)

@@ -9,7 +9,7 @@ invariant_of-result c = record {
   table = table_none c.new.result c.new-2.result.items c.new.ensures.lists c.new-2.ensures.items;
   counted = len-none c.new-2.result.items c.new-2.ensures.items;
   alarmed = alarmed_none c.new-3.result c.new-2.result.items c.new-3.ensures c.new-2.ensures.items;
-  ready = none_ready c.new.result _ _;
+  ready = rw c.none.ensures (none_ready c.new.result _ _);
 }
 
 pub returns-clause-agrees : goal.returns-clause-agrees

@@ -26,9 +26,9 @@ pub invariant_of-self-2 : goal.invariant_of-self-2
 invariant_of-self-2 c =
     let room = c.in_ok-make_room.ensures in
     let p : Prepared = record { thread = c.args.thread; handle = c.args.handle; about = c.args.about } in
-    whole_prepared c.make_room.new.queues c.make_room.new.waits.items c.reserve_alarm.new.alarms c.self.inside.count c.self.inside.prepared p
+    rw c.put.ensures (whole_prepared c.make_room.new.queues c.make_room.new.waits.items c.reserve_alarm.new.alarms c.self.inside.count c.self.inside.prepared p
     (roomy (goal.at.invariant_of-self-2 c).After-make_room)
-    (record { block = room.blocks; handle = rw c.get.ensures at room.handles; place = room.place; alarm = c.in_ok-reserve_alarm.ensures.room })
+    (record { block = room.blocks; handle = rw c.get.ensures at room.handles; place = room.place; alarm = c.in_ok-reserve_alarm.ensures.room }))
 
 -- and shows what it showed
 same : (c : After-make_room) → view_of c.make_room.new.queues c.make_room.new.waits.items c.self.inside.looked (shown c.self.inside.prepared) ≡ c.args.self.now
@@ -38,4 +38,4 @@ pub returns-in_err-make_room-clause-err : goal.returns-in_err-make_room-clause-e
 returns-in_err-make_room-clause-err c = on_err c.from_residual-in_err-make_room.result (same (goal.at.returns-in_err-make_room-clause-err c).After-make_room)
 
 pub returns-clause-ok : goal.returns-clause-ok
-returns-clause-ok c = ap {B = Waits} (λ (v : Waits). record v { prepared = Some (c.args.thread, wait_for (c.args.handle ∷ []) false c.args.about) }) (same (goal.at.returns-clause-ok c).After-make_room)
+returns-clause-ok c = rw c.put.ensures (ap {B = Waits} (λ (v : Waits). record v { prepared = Some (c.args.thread, wait_for (c.args.handle ∷ []) false c.args.about) }) (same (goal.at.returns-clause-ok c).After-make_room))

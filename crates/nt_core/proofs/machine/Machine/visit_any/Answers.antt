@@ -11,7 +11,7 @@ use Rattle.nt_core.specs.Lawful.{IsSound, MarksAgreeBut, LetsGoBut}
 use Rattle.nt_core.proofs.Marking.{member_named}
 use Rattle.nt_core.proofs.LettingGo.{let_go_agree}
 use Rattle.nt_core.proofs.Visiting.{visit_granted, visit_unmarked, visit_passed, can_take, counted, room_for}
-use Rattle.nt_core.proofs.machine.Machine.visit.Goals as goal
+use Rattle.nt_core.proofs.machine.Machine.visit_any.Goals as goal
 
 pub try_wait-requires-clause-few : goal.try_wait-requires-clause-few
 try_wait-requires-clause-few c =
