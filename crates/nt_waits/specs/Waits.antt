@@ -78,11 +78,12 @@ wait_for handles all about = record { handles = handles; all = all; alertable = 
 abbrev pub about_of : Wait → About
 about_of wait = record { alertable = wait.alertable; deadline = wait.deadline }
 
--- the handle of a wait that names one alone, and whether the wait is for all
+-- the one handle of this list, where it has one alone, and this answer
 abbrev pub only_among : List ℕ → Bool → Option (ℕ × Bool)
 only_among (handle ∷ []) all = Some (handle, all)
 only_among handles all = None
 
+-- the handle of a wait that names one alone, and whether the wait is for all
 abbrev pub only_of : Wait → Option (ℕ × Bool)
 only_of wait = only_among wait.handles wait.all
 
