@@ -37,49 +37,86 @@ static struct dispatcher *stage(uint32_t threads, bool crowd, size_t entries, bo
     return d;
 }
 
-/* ---- one thread: the pairs */
+/* ---- one thread: the pairs. Beside them stands nothing (1), a crowd that no call touches (2), or a thread that waits (3): in a
+   process of one thread the C library takes a lock with no atomic step. */
 
-static void events_on(struct run *r, bool crowd, bool journal, bool locked) {
-    struct dispatcher *d = stage(1, crowd, 2 * r->rounds, journal, locked);
-    uint32_t e = (uint32_t)create_event(d, 0, false);
+struct sleeper { struct dispatcher *d; uint32_t ready, last; pthread_t thread; };
+
+static void *rest(void *it) {
+    struct sleeper *s = it;
+    wants(set_event(s->d, 1, s->ready) == DONE);
+    wants(wait_objects(s->d, 1, &s->last, 1, false, INFINITE, true) == 0);
+    return NULL;
+}
+
+static void *nothing(void *it) { return it; }
+
+/* What the C library takes for a thread it keeps for the next one: taken before the first journal, it does not lie in the way of the second. */
+static void make_room_for_a_thread(void) {
+    pthread_t thread;
+    wants(pthread_create(&thread, NULL, nothing, NULL) == 0);
+    pthread_join(thread, NULL);
+}
+
+static void begin_beside(struct sleeper *s, struct dispatcher *d) {
+    *s = (struct sleeper){.d = d, .ready = (uint32_t)create_event(d, 0, false), .last = (uint32_t)create_event(d, 0, false)};
+    wants(pthread_create(&s->thread, NULL, rest, s) == 0);
+    wants(wait_objects(d, 0, &s->ready, 1, false, INFINITE, true) == 0);
+}
+
+static void end_beside(struct sleeper *s) {
+    wants(set_event(s->d, 0, s->last) == DONE);
+    pthread_join(s->thread, NULL);
+}
+
+/* Makes the rounds of a pair, and times them. */
+static void pairs(struct run *r, struct dispatcher *d, uint32_t object, void (*rounds)(struct dispatcher *, uint32_t, uint64_t)) {
+    struct sleeper sleeper;
+    if (r->size == 3) begin_beside(&sleeper, d);
     uint64_t began = now();
-    for (uint64_t i = 0; i < r->rounds; i++) {
+    rounds(d, object, r->rounds);
+    r->nanos = now() - began;
+    r->calls = 2 * r->rounds;
+    if (r->size == 3) end_beside(&sleeper);
+    close_dispatcher(d);
+}
+
+static struct dispatcher *stage_of(const struct run *r) { return stage(r->size == 3 ? 2 : 1, r->size == 2, 2 * r->rounds, true, true); }
+
+static void set_and_take(struct dispatcher *d, uint32_t e, uint64_t rounds) {
+    for (uint64_t i = 0; i < rounds; i++) {
         wants(set_event(d, 0, e) == DONE);
         wants(wait_objects(d, 0, &e, 1, false, 0, false) == 0);
     }
-    r->nanos = now() - began;
-    r->calls = 2 * r->rounds;
-    close_dispatcher(d);
 }
 
-static void event(struct run *r) { events_on(r, r->size > 1, true, true); }
-static void core_alone(struct run *r) { events_on(r, false, false, false); }
-static void core_and_journal(struct run *r) { events_on(r, false, true, false); }
-
-static void mutex(struct run *r) {
-    struct dispatcher *d = stage(1, r->size > 1, 2 * r->rounds, true, true);
-    uint32_t m = (uint32_t)create_mutex(d, 0);
-    uint64_t began = now();
-    for (uint64_t i = 0; i < r->rounds; i++) {
+static void take_and_release(struct dispatcher *d, uint32_t m, uint64_t rounds) {
+    for (uint64_t i = 0; i < rounds; i++) {
         wants(wait_objects(d, 0, &m, 1, false, INFINITE, false) == 0);
         wants(release_mutex(d, 0, m) == DONE);
     }
-    r->nanos = now() - began;
-    r->calls = 2 * r->rounds;
-    close_dispatcher(d);
 }
 
-static void semaphore(struct run *r) {
-    struct dispatcher *d = stage(1, r->size > 1, 2 * r->rounds, true, true);
-    uint32_t s = (uint32_t)create_semaphore(d, 0, 0, 1);
-    uint64_t began = now();
-    for (uint64_t i = 0; i < r->rounds; i++) {
+static void release_and_take(struct dispatcher *d, uint32_t s, uint64_t rounds) {
+    for (uint64_t i = 0; i < rounds; i++) {
         wants(release_semaphore(d, 0, s, 1) == 0);
         wants(wait_objects(d, 0, &s, 1, false, INFINITE, false) == 0);
     }
-    r->nanos = now() - began;
-    r->calls = 2 * r->rounds;
-    close_dispatcher(d);
+}
+
+static void events_on(struct run *r, struct dispatcher *d) { pairs(r, d, (uint32_t)create_event(d, 0, false), set_and_take); }
+static void event(struct run *r) { events_on(r, stage_of(r)); }
+static void core_alone(struct run *r) { events_on(r, stage(1, false, 2 * r->rounds, false, false)); }
+static void core_and_journal(struct run *r) { events_on(r, stage(1, false, 2 * r->rounds, true, false)); }
+
+static void mutex(struct run *r) {
+    struct dispatcher *d = stage_of(r);
+    pairs(r, d, (uint32_t)create_mutex(d, 0), take_and_release);
+}
+
+static void semaphore(struct run *r) {
+    struct dispatcher *d = stage_of(r);
+    pairs(r, d, (uint32_t)create_semaphore(d, 0, 0, 1), release_and_take);
 }
 
 /* A wait for any of 64 objects, none of which is signaled. */
@@ -237,8 +274,9 @@ static void futex_round_trip(struct run *r) {
 /* ---- the program */
 
 static const struct { const char *name; void (*run)(struct run *); uint32_t size; } shapes[] = {
-    {"event", event, 1}, {"event_crowd", event, 2}, {"mutex", mutex, 1}, {"mutex_crowd", mutex, 2},
-    {"semaphore", semaphore, 1}, {"semaphore_crowd", semaphore, 2}, {"any_of_64", any_of_64, 1}, {"any_of_64_crowd", any_of_64, 2},
+    {"event", event, 1}, {"event_beside", event, 3}, {"event_crowd", event, 2},
+    {"mutex", mutex, 1}, {"mutex_beside", mutex, 3}, {"mutex_crowd", mutex, 2},
+    {"semaphore", semaphore, 1}, {"semaphore_beside", semaphore, 3}, {"semaphore_crowd", semaphore, 2}, {"any_of_64", any_of_64, 1}, {"any_of_64_crowd", any_of_64, 2},
     {"one_of_64", one_of_64, 1}, {"one_of_64_crowd", one_of_64, 2}, {"tick_100", ticks, 100}, {"tick_10000", ticks, 10000},
     {"round_trip", round_trip, 1}, {"round_trip_crowd", round_trip, 2},
     {"threads_2", workers, 2}, {"threads_8", workers, 8}, {"threads_64", workers, 64},
@@ -253,6 +291,7 @@ int main(int count, char **words) {
     for (size_t i = 0; i < sizeof shapes / sizeof *shapes; i++) {
         if (asked && strcmp(words[1], shapes[i].name)) continue;
         struct run cold = {.size = shapes[i].size, .rounds = asked ? strtoull(words[2], NULL, 10) : 3}, warm = cold;
+        if (shapes[i].size == 3) make_room_for_a_thread();
         shapes[i].run(&cold);
         if (asked) shapes[i].run(&warm);
         printf("%s: %llu calls, %llu grants", shapes[i].name, (unsigned long long)cold.calls, (unsigned long long)cold.grants);

@@ -56,6 +56,7 @@ impl Machine {
     }
 
     /// The semaphore counts so many more, and the waits that name it are served. Answers the count before.
+    #[inline(always)]
     pub(crate) fn raise_count(&mut self, semaphore: Handle, count: i32) -> i32
         requires fresh { IsFresh self.old }
         requires kind { IsTrue (is_semaphore (object_at self.old.objects semaphore)) }
@@ -71,6 +72,7 @@ impl Machine {
     }
 
     /// ReleaseSemaphore. Answers the count before.
+    #[inline(always)]
     pub(crate) fn release_semaphore(
         &mut self,
         semaphore: Handle,

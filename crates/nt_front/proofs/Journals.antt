@@ -11,17 +11,23 @@ use Rattle.nt_status.specs.declared.refusal.Refusal.{Refusal}
 use Rattle.nt_calls.specs.declared.call.Call.{Call}
 use Rattle.nt_calls.specs.declared.call.Reply.{Reply}
 use Rattle.nt_calls.specs.declared.call.Grant.{Grant}
-use Rattle.std.proofs.Common.{Option, is_some}
+use Rattle.std.proofs.Common.{Option, None, is_some, is_err, ◌&&◌}
 use Rattle.std.specs.FinMap.{get-empty}
 use Rattle.std.specs.Ordering.{nat_cmp}
 use Rattle.nt_waits.specs.declared.wait.Wait.{Wait}
 use Rattle.nt_calls.specs.State.{State, pends, opening}
+use Rattle.nt_calls.specs.Naming.{call_named}
+use Rattle.nt_calls.specs.Rights.{is_denied}
+use Rattle.nt_calls.specs.Refusals.{refusal}
+use Rattle.nt_calls.specs.Steps.{Called as IsCalled}
 use Rattle.nt_calls.specs.Runs.{Turn, Calls, Ticks, IsTurn}
 use Rattle.nt_core.specs.Dispatcher.{Dispatcher, state}
 use Rattle.nt_core.specs.Lawful.{IsLawful}
 use Rattle.nt_mail.specs.declared.entry.Entry.{Entry}
 use Rattle.nt_mail.specs.declared.entry.Entry.TheVariants.{Called, Ticked}
 use Rattle.nt_calls.specs.Moves.{one_if, pended, granted_to, Moves, IsMomentAfter}
+use Rattle.nt_core.proofs.Accepting.{free_caller}
+use Rattle.nt_core.proofs.Judging.{undenied}
 use Rattle.nt_core.proofs.Lawful.{who_waits}
 use Rattle.nt_core.proofs.Runs.{turns-append}
 use Rattle.nt_mail.specs.Entries.{Each, arms, is_armed, accepted, accepted_at, IsOwn}
@@ -223,6 +229,16 @@ agree_goes_on n es s new who result e armed gs a below moved p moment past = rec
 }
 
 -- ---- a call
+
+-- a call that nothing refuses is of a thread that waits for nothing
+accepted_free : (s : State) (who : ℕ) (denied : Bool) (call : Call) → refusal s who denied call ≡ None → pends s who ≡ false
+accepted_free s who denied call none = ap is_some (free_caller s who call (undenied s who denied call none)).2
+
+-- a wait of the caller pended before its call exactly where one pends after it, and the call was refused
+pub waits_before : (old : State) (who : ℕ) (call : Call) (result : Result Reply Refusal) (gs : List Grant) (new : State) → IsCalled old who call result gs new
+    → (is_err result && pends new who) ≡ pends old who
+waits_before old who call (Ok reply) gs new called = sym (accepted_free old who (is_denied old call) (call_named old.handles call) called.1.0)
+waits_before old who call (Err r) gs new called = ap (λ (s : State). pends s who) called.2
 
 or_one : (waited p : Bool) → (p ≡ true → waited ≡ false) → one_if waited + one_if p ≡ one_if (waited || p)
 or_one true true h = absurd (let a = ap one_if (h refl) in omega arith)

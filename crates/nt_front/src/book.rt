@@ -1,8 +1,8 @@
 //! What lies behind the lock.
-ghost use Rattle.std.specs.Prelude.{◌≡◌, ◌==◌, ◌+◌, ◌-◌, ◌^◌, ◌<◌, ◌≤◌, ◌↔◌, [], length, min, vec_capacity, true, false, IfOk, IfErr, IfNone, IfSome, OnErr, Err};
+ghost use Rattle.std.specs.Prelude.{◌≡◌, ◌==◌, ◌+◌, ◌-◌, ◌^◌, ◌<◌, ◌≤◌, ◌↔◌, [], length, min, vec_capacity, true, false, IfOk, IfErr, IfNone, IfSome, OnErr, Err, is_err, ◌&&◌};
 ghost use Rattle.std.specs.FinMap as map;
 ghost use Rattle.nt_status.specs.declared.refusal.Refusal.TheVariants.{JournalFull, Memory};
-ghost use Rattle.nt_calls.specs.State.{opening};
+ghost use Rattle.nt_calls.specs.State.{opening, pends};
 ghost use Rattle.nt_core.specs.Dispatcher.{state};
 ghost use Rattle.nt_core.specs.Lawful.{IsLawful};
 ghost use Rattle.nt_calls.specs.Moves.{pended, is_wait};
@@ -20,7 +20,7 @@ use crate::wake::Marks;
 use crate::write::{publish, send, tell, write_call};
 use nt_core::{Call, Core, Reply};
 use nt_mail::{DispatcherSeat, Entry, Mail};
-use nt_status::{Moment, Refusal};
+use nt_status::{Moment, Refusal, ThreadId};
 use std::marker::{Model, PhantomData};
 use std::mem;
 
@@ -86,8 +86,8 @@ impl<N: Named> Book<N> {
             return Err(self.refusal(mail, caller));
         }
         let who = caller.thread();
-        let waited = self.core.is_waiting(u32::from(who.get()));
         let result = write_call(&mut self.core, &mut self.journal, who, call);
+        let waited = waited_before(&self.core, who, &result);
         let armed = waited | has_pended(&result);
         tell(
             mail,
@@ -309,6 +309,15 @@ fn is_full(entries: usize, room: usize, next: u64, pending: usize) -> bool
     let places = room.saturating_sub(entries) as u64;
     let numbers = NUMBERS - next;
     places.min(numbers) <= pending as u64
+}
+
+/// Whether a wait of the thread pended before its call, which was answered so. A call is accepted of a thread alone that waits for
+/// nothing, and a refused one changes no wait: so mostly nothing is looked at.
+#[inline(always)]
+fn waited_before(core: &Core, who: ThreadId, answer: &Result<Reply, Refusal>) -> bool
+    ensures { result ≡ (is_err answer.now && pends (state core.now) who) }
+{
+    answer.is_err() && core.is_waiting(u32::from(who.get()))
 }
 
 /// Whether the caller's wait pends from now on.

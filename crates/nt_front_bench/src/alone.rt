@@ -1,6 +1,6 @@
 //! What one thread does.
 use crate::moves::{call, nanos_since, now, try_wait, wait_for};
-use crate::shapes::{Kind, Shape};
+use crate::shapes::{Company, Kind, Shape};
 use crate::told::Told;
 use nt_core::Act;
 use nt_front::{Front, Named, Pass};
@@ -32,6 +32,9 @@ pub fn set_stage<N: Named, R: Wait>(
             arm(rt, front, pass, shape.first_handle(), timers, told);
         }
         _ => create_events(rt, front, pass, 1, told),
+    }
+    if let Company::Sleeper = shape.company {
+        create_events(rt, front, pass, 2, told);
     }
     told.begin();
 }
@@ -100,18 +103,30 @@ fn arm<N: Named, R: Wait>(
     }
 }
 
-/// Makes the rounds of a shape for one thread, and times them.
+/// Sets the stage of a shape for one thread, and makes its rounds.
 pub fn alone<N: Named, R: Wait + Clock>(
     rt: &R,
     alloc: Global,
     front: &Front<N>,
-    pass: Pass<N>,
+    mut pass: Pass<N>,
     shape: &Shape,
     rounds: u32,
     told: &mut Told,
 ) -> Pass<N> {
-    let mut pass = pass;
     set_stage(rt, front, &mut pass, shape, told);
+    rounds_of(rt, alloc, front, pass, shape, rounds, told)
+}
+
+/// Makes the rounds of a shape for one thread, and times them.
+pub fn rounds_of<N: Named, R: Wait + Clock>(
+    rt: &R,
+    alloc: Global,
+    front: &Front<N>,
+    mut pass: Pass<N>,
+    shape: &Shape,
+    rounds: u32,
+    told: &mut Told,
+) -> Pass<N> {
     let first = shape.first_handle();
     let object = Handle::new(first);
     let began = now(rt);

@@ -6,6 +6,7 @@
 ghost use Rattle.std.specs.Prelude.{◌≡◌};
 
 mod alone;
+mod beside;
 mod measure;
 mod moves;
 mod pair;

@@ -2,11 +2,12 @@
 ghost use Rattle.std.specs.Prelude.{◌≡◌, ◌+◌, ◌<◌, ◌≤◌, [], vec_len, vec_capacity, IfOk};
 
 use crate::alone::alone;
+use crate::beside::beside;
 use crate::moves::{nanos_since, now};
 use crate::pair::round_trips;
 use crate::parts::{bare_lock, core_alone, core_and_journal};
 use crate::queue::one_of_64;
-use crate::shapes::{Kind, Shape};
+use crate::shapes::{Company, Kind, Shape};
 use crate::told::{Fault, Told};
 use crate::workers::{Back, Objects, with_all};
 use nt_core::{Act, Call};
@@ -150,9 +151,13 @@ fn make_rounds<N: Named + Send + Sync, R: Threads + Wait + Clock + Sync>(
         return;
     };
     let mut pass = first.into_hold();
-    match shape.kind {
-        Kind::OneOf64 => one_of_64(rt, alloc, front, &mut pass, carriers, shape, rounds, told),
-        Kind::RoundTrip => match carriers.pop() {
+    match (shape.company, shape.kind) {
+        (Company::Sleeper, _) => match carriers.pop() {
+            Some(other) => pass = beside(rt, alloc, front, pass, other, *shape, rounds, told),
+            None => told.wrong(),
+        },
+        (_, Kind::OneOf64) => one_of_64(rt, alloc, front, &mut pass, carriers, shape, rounds, told),
+        (_, Kind::RoundTrip) => match carriers.pop() {
             Some(other) => pass = round_trips(rt, alloc, front, pass, other, shape, rounds, told),
             None => told.wrong(),
         },

@@ -21,9 +21,9 @@ struct Side {
 
 /// What a thread brings back.
 #[derive(Drop)]
-struct Back<N: Named> {
-    carried: Carried<Pass<N>>,
-    told: Told,
+pub struct Back<N: Named> {
+    pub carried: Carried<Pass<N>>,
+    pub told: Told,
 }
 
 /// Sets the other's event and waits for its own, in every round, and times them.

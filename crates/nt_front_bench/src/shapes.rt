@@ -1,6 +1,6 @@
 //! What is timed. `bench/front.c` makes the same calls under the same names, but for those of `Rotate`: it has no parts.
 
-use nt_status::MAX_THREADS;
+use nt_status::{Handle, MAX_THREADS};
 
 /// How many untouched events a crowd has. Its threads are the most that there may be.
 pub const CROWD_EVENTS: u32 = 10_000;
@@ -34,124 +34,149 @@ pub enum Kind {
     Rotate,
 }
 
-/// A round under its name, with a crowd of threads and objects that no call touches or without.
+/// What there is beside the threads and objects of the rounds.
+#[derive(Clone, Copy)]
+pub enum Company {
+    Nothing,
+    /// A thread that waits for an event of its own, asleep: a process in which nobody could meet another needs no lock.
+    Sleeper,
+    /// Threads and objects that no call touches.
+    Crowd,
+}
+
+/// A round under its name, with what stands beside it.
 #[derive(Clone, Copy)]
 pub struct Shape {
     pub name: &'static str,
     pub kind: Kind,
-    pub has_crowd: bool,
+    pub company: Company,
 }
 
 pub const SHAPES: &[Shape] = &[
     Shape {
         name: "event",
         kind: Kind::Event,
-        has_crowd: false,
+        company: Company::Nothing,
+    },
+    Shape {
+        name: "event_beside",
+        kind: Kind::Event,
+        company: Company::Sleeper,
     },
     Shape {
         name: "event_crowd",
         kind: Kind::Event,
-        has_crowd: true,
+        company: Company::Crowd,
     },
     Shape {
         name: "mutex",
         kind: Kind::Mutex,
-        has_crowd: false,
+        company: Company::Nothing,
+    },
+    Shape {
+        name: "mutex_beside",
+        kind: Kind::Mutex,
+        company: Company::Sleeper,
     },
     Shape {
         name: "mutex_crowd",
         kind: Kind::Mutex,
-        has_crowd: true,
+        company: Company::Crowd,
     },
     Shape {
         name: "semaphore",
         kind: Kind::Semaphore,
-        has_crowd: false,
+        company: Company::Nothing,
+    },
+    Shape {
+        name: "semaphore_beside",
+        kind: Kind::Semaphore,
+        company: Company::Sleeper,
     },
     Shape {
         name: "semaphore_crowd",
         kind: Kind::Semaphore,
-        has_crowd: true,
+        company: Company::Crowd,
     },
     Shape {
         name: "any_of_64",
         kind: Kind::AnyOf64,
-        has_crowd: false,
+        company: Company::Nothing,
     },
     Shape {
         name: "any_of_64_crowd",
         kind: Kind::AnyOf64,
-        has_crowd: true,
+        company: Company::Crowd,
     },
     Shape {
         name: "one_of_64",
         kind: Kind::OneOf64,
-        has_crowd: false,
+        company: Company::Nothing,
     },
     Shape {
         name: "one_of_64_crowd",
         kind: Kind::OneOf64,
-        has_crowd: true,
+        company: Company::Crowd,
     },
     Shape {
         name: "tick_100",
         kind: Kind::Ticks(100),
-        has_crowd: false,
+        company: Company::Nothing,
     },
     Shape {
         name: "tick_10000",
         kind: Kind::Ticks(10_000),
-        has_crowd: false,
+        company: Company::Nothing,
     },
     Shape {
         name: "round_trip",
         kind: Kind::RoundTrip,
-        has_crowd: false,
+        company: Company::Nothing,
     },
     Shape {
         name: "round_trip_crowd",
         kind: Kind::RoundTrip,
-        has_crowd: true,
+        company: Company::Crowd,
     },
     Shape {
         name: "threads_2",
         kind: Kind::Workers(2),
-        has_crowd: false,
+        company: Company::Nothing,
     },
     Shape {
         name: "threads_8",
         kind: Kind::Workers(8),
-        has_crowd: false,
+        company: Company::Nothing,
     },
     Shape {
         name: "threads_64",
         kind: Kind::Workers(64),
-        has_crowd: false,
+        company: Company::Nothing,
     },
     Shape {
         name: "core_alone",
         kind: Kind::Core,
-        has_crowd: false,
+        company: Company::Nothing,
     },
     Shape {
         name: "core_and_journal",
         kind: Kind::CoreAndJournal,
-        has_crowd: false,
+        company: Company::Nothing,
     },
     Shape {
         name: "bare_lock",
         kind: Kind::Lock,
-        has_crowd: false,
+        company: Company::Nothing,
     },
     Shape {
         name: "rotate",
         kind: Kind::Rotate,
-        has_crowd: false,
+        company: Company::Nothing,
     },
     Shape {
         name: "rotate_crowd",
         kind: Kind::Rotate,
-        has_crowd: true,
+        company: Company::Crowd,
     },
 ];
 
@@ -167,13 +192,11 @@ pub fn shape_named(name: &str) -> Option<Shape> {
 impl Shape {
     /// How many threads the front has.
     pub fn threads(&self) -> u32 {
-        if self.has_crowd {
-            return MAX_THREADS;
-        }
-        match self.kind {
-            Kind::OneOf64 => 65,
-            Kind::RoundTrip => 2,
-            Kind::Workers(workers) => workers.wrapping_add(1),
+        match (self.company, self.kind) {
+            (Company::Crowd, _) => MAX_THREADS,
+            (Company::Sleeper, _) | (_, Kind::RoundTrip) => 2,
+            (_, Kind::OneOf64) => 65,
+            (_, Kind::Workers(workers)) => workers.wrapping_add(1),
             _ => 1,
         }
     }
@@ -185,7 +208,20 @@ impl Shape {
 
     /// How many events the crowd has.
     pub fn crowd(&self) -> u32 {
-        if self.has_crowd { CROWD_EVENTS } else { 0 }
+        match self.company {
+            Company::Crowd => CROWD_EVENTS,
+            _ => 0,
+        }
+    }
+
+    /// The event by which the thread beside the rounds says that it is there. It comes after the one object of a pair.
+    pub fn ready_event(&self) -> Handle {
+        Handle::new(self.first_handle().wrapping_add(1))
+    }
+
+    /// The event for which the thread beside the rounds waits.
+    pub fn last_event(&self) -> Handle {
+        Handle::new(self.first_handle().wrapping_add(2))
     }
 
     /// How many entries the calls that set the stage and so many rounds write at the most.
@@ -200,7 +236,7 @@ impl Shape {
                 workers.saturating_mul(3).saturating_add(7),
                 workers.saturating_mul(4),
             ),
-            _ => (8, 2),
+            _ => (16, 2),
         };
         let calls = (each as usize).saturating_mul(rounds as usize);
         calls

@@ -2,7 +2,6 @@ use Rattle.std.proofs.Common.{◌≡◌, ◌+◌, ◌-◌, ℕ, List, ◌∷◌,
 use Rattle.std.proofs.lemmas.List.{append-nil}
 use Rattle.atomic_table.specs.Seated.{TableId}
 use Rattle.nt_calls.specs.declared.call.Grant.{Grant}
-use Rattle.nt_calls.specs.State.{pends}
 use Rattle.nt_core.specs.Dispatcher.{state}
 use Rattle.nt_calls.specs.Runs.{Calls}
 use Rattle.nt_mail.specs.declared.entry.Entry.{Entry}
@@ -13,7 +12,7 @@ use Rattle.nt_mail.specs.Entries.{accepted}
 use Rattle.nt_mail.specs.Seats.{Dispatcher, Seated}
 use Rattle.nt_front.specs.Runs.{Agree, AreArmed, entries_of, granted}
 use Rattle.nt_front.specs.Holds.{floor_of, with_call, AreNumbered}
-use Rattle.nt_front.proofs.Journals.{below, stands_after, call_sends, agree_after_call, accepted-step, journal_is, written_count, last_is, room_left}
+use Rattle.nt_front.proofs.Journals.{below, stands_after, call_sends, agree_after_call, accepted-step, waits_before, journal_is, written_count, last_is, room_left}
 use Rattle.nt_front.proofs.Floors.{fewer_calls, floor_calls, calls_made, numbered_made, made_call}
 use Rattle.nt_front.proofs.book.Book.call.Goals as goal
 
@@ -44,7 +43,7 @@ send-requires-clause-armed g c =
     let new = state c.write_call-result.new.core in
     let done = c.write_call-result.ensures.carried_out in
     let grants = c.write_call-result.new.core.grants in
-    let waited = subst (λ (t : ℕ). c.is_waiting-waited.result ≡ pends old t) (c.from.ensures ∙ c.get.ensures) c.is_waiting-waited.ensures in
+    let waited = c.waited_before-waited.ensures ∙ waits_before old c.thread-who.result c.args.call c.write_call-result.result grants new done.called in
     let words = ap (λ (t : TableId). t.words) c.requires.mail in
     let count : c.args.mail.now.words - 1 ≡ n = omega (arith, words, c.self.invariant.words) in
     let known = below c.self.inside.core n c.self.invariant.stands.lawful c.self.invariant.agree.threads in
@@ -53,7 +52,7 @@ send-requires-clause-armed g c =
     let entry : c.index.result.now ≡ e = last_is c.self.inside.journal.items e c.write_call-result.new.journal.items c.len-place.result c.index.result.now c.index.ensures c.write_call-result.ensures.journal here in
     let told : c.tell.new.dispatcher.written ≡ es ++ e ∷ [] = ap (λ (d : Dispatcher). d.written) c.tell.ensures.written ∙ ap (λ (x : Entry). es ++ x ∷ []) entry in
     subst (λ (x : ℕ × List Entry × List Grant). AreArmed x.0 x.1 x.2) (λ i. (sym count i, sym told i, sym c.grants.ensures i))
-    (call_sends n es old c.thread-who.result c.args.call c.write_call-result.result grants new c.is_waiting-waited.result c.self.invariant.agree known done.moves waited)
+    (call_sends n es old c.thread-who.result c.args.call c.write_call-result.result grants new c.waited_before-waited.result c.self.invariant.agree known done.moves waited)
 
 pub invariant_of-self : goal.invariant_of-self
 invariant_of-self g c =
@@ -65,7 +64,7 @@ invariant_of-self g c =
     let done = c.write_call-result.ensures.carried_out in
     let result = c.write_call-result.result in
     let grants = after.grants in
-    let waited = subst (λ (t : ℕ). c.is_waiting-waited.result ≡ pends old t) (c.from.ensures ∙ c.get.ensures) c.is_waiting-waited.ensures in
+    let waited = c.waited_before-waited.ensures ∙ waits_before old c.thread-who.result c.args.call c.write_call-result.result grants new done.called in
     let known = below c.self.inside.core n c.self.invariant.stands.lawful c.self.invariant.agree.threads in
     let turn = Calls c.thread-who.result c.args.call result grants in
     let e = Called c.thread-who.result c.args.call result in
@@ -91,7 +90,7 @@ invariant_of-self g c =
     let pending = c.pending.ensures in
     let most = done.most in record {
       stands = stands_after c.self.inside.core after c.self.inside.base es more c.self.inside.first held next c.self.inside.room turn c.self.invariant.stands done.lawful done.moves.threads done.called grown longer;
-      agree = subst (λ l. Agree n l new) (sym longer) (agree_after_call n es old c.thread-who.result c.args.call result grants new c.is_waiting-waited.result c.self.invariant.agree known done.moves waited done.moment);
+      agree = subst (λ l. Agree n l new) (sym longer) (agree_after_call n es old c.thread-who.result c.args.call result grants new c.waited_before-waited.result c.self.invariant.agree known done.moves waited done.moment);
       threads = c.self.invariant.threads;
       room = c.self.invariant.room;
       places = omega (arith, c.self.invariant.places, c.write_call-result.ensures.room.1, c.send.ensures.capacity);

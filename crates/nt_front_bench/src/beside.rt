@@ -1,0 +1,90 @@
+//! The pairs of one thread beside another that waits. A program that needs a lock has several threads, and some C libraries take a lock
+//! with no atomic step while there is only one.
+use crate::alone::{rounds_of, set_stage};
+use crate::moves::{call, wait_for};
+use crate::pair::Back;
+use crate::shapes::Shape;
+use crate::told::Told;
+use nt_core::Act;
+use nt_front::{Carried, Front, Named, Pass};
+use std::alloc::Global;
+use std::sync::Wait;
+use std::thread::{self, Threads};
+use std::time::Clock;
+
+/// Makes the rounds once the other thread waits, and lets it go on after them.
+fn lead<N: Named, R: Wait + Clock>(
+    rt: &R,
+    alloc: Global,
+    front: &Front<N>,
+    carried: Carried<Pass<N>>,
+    shape: Shape,
+    rounds: u32,
+) -> Back<N> {
+    let mut around = Told::default();
+    let ready = shape.ready_event();
+    let pass = wait_for(rt, alloc, front, carried.into_hold(), ready, &mut around);
+    let mut told = Told::default();
+    let mut pass = rounds_of(rt, alloc, front, pass, &shape, rounds, &mut told);
+    call(
+        rt,
+        front,
+        &mut pass,
+        Act::SetEvent(shape.last_event()),
+        &mut around,
+    );
+    told.wrong = told.wrong.wrapping_add(around.wrong);
+    Back {
+        carried: Carried { hold: pass },
+        told,
+    }
+}
+
+/// Says that it is there, and waits until the rounds are made.
+fn rest<N: Named, R: Wait>(
+    rt: &R,
+    alloc: Global,
+    front: &Front<N>,
+    carried: Carried<Pass<N>>,
+    shape: Shape,
+) -> Back<N> {
+    let mut told = Told::default();
+    let mut pass = carried.into_hold();
+    call(
+        rt,
+        front,
+        &mut pass,
+        Act::SetEvent(shape.ready_event()),
+        &mut told,
+    );
+    let pass = wait_for(rt, alloc, front, pass, shape.last_event(), &mut told);
+    Back {
+        carried: Carried { hold: pass },
+        told,
+    }
+}
+
+/// Makes the rounds of both threads. What is told is of the pairs alone.
+pub fn beside<N: Named + Send + Sync, R: Threads + Wait + Clock + Sync>(
+    rt: &R,
+    alloc: Global,
+    front: &Front<N>,
+    mut pass: Pass<N>,
+    other: Carried<Pass<N>>,
+    shape: Shape,
+    rounds: u32,
+    told: &mut Told,
+) -> Pass<N> {
+    set_stage(rt, front, &mut pass, &shape, told);
+    let one = Carried { hold: pass };
+    let (one, two) = thread::join(
+        rt,
+        move || lead(rt, alloc, front, one, shape, rounds),
+        move || rest(rt, alloc, front, other, shape),
+    );
+    told.join(one.told);
+    told.wrong = told.wrong.wrapping_add(two.told.wrong);
+    told.nanos = one.told.nanos;
+    let Back { carried, told: _ } = one;
+    carried.into_hold()
+}
