@@ -24,6 +24,7 @@ use Rattle.nt_calls.specs.Naming.{object_named, lacks, act_named, wait_named}
 use Rattle.nt_calls.specs.Rights.{act_denied, wait_denied}
 use Rattle.nt_calls.specs.Refusals.{Cause, first_of_causes, call_causes, refusal, would_pend}
 use Rattle.nt_calls.specs.Steps.{Step, MomentPasses, Made, begun, wait_of}
+use Rattle.nt_core.specs.declared.waiting.Mode.{Mode}
 use Rattle.nt_core.specs.Dispatcher.{Dispatcher, state}
 use Rattle.nt_core.specs.Due.{due_weight, total_weight}
 use Rattle.nt_core.specs.Lawful.{IsSound, IsSteady, IsUnmarked}
@@ -154,9 +155,13 @@ pub record IsFresh (d : Dispatcher) : Type 0 where
   pub no_grants : d.grants ≡ []
   pub untested : d.table.looked ≡ 0
 
+-- the wait for these objects that is asked for in this way
+abbrev pub objects_call : Mode → List ℕ → WaitCall
+objects_call mode handles = WaitCall.Objects mode.all mode.alertable mode.ms handles
+
 -- the thread's wait for these objects pends from now on, or memory was refused and nothing has changed
-pub record HasPended (old new : Dispatcher) (t : ℕ) (handles : List ℕ) (all alertable : Bool) (ms : ℕ) (result : Result ⊤ Refusal) : Type 0 where
-  pub state : OnOk result (state new ≡ pending_too (state old) t (wait_of old.now (WaitCall.Objects all alertable ms handles)))
+pub record HasPended (old new : Dispatcher) (t : ℕ) (handles : List ℕ) (mode : Mode) (result : Result ⊤ Refusal) : Type 0 where
+  pub state : OnOk result (state new ≡ pending_too (state old) t (wait_of old.now (objects_call mode handles)))
   pub sound : IsSound new
   pub grants : new.grants ≡ old.grants
   pub looked : new.table.looked ≡ old.table.looked
@@ -175,12 +180,12 @@ replied (Ok ended) = Ok (reply_of ended)
 replied (Err refusal) = Err refusal
 
 -- a wait for these objects has begun, and this is its reply
-abbrev pub HasBegun : State → State → ℕ → List ℕ → Bool → Bool → ℕ → Reply → Type 0
-HasBegun old new t handles all alertable ms reply = (reply, new) ≡ begun old t (wait_of old.now (WaitCall.Objects all alertable ms handles)) ms
+abbrev pub HasBegun : State → State → ℕ → List ℕ → Mode → Reply → Type 0
+HasBegun old new t handles mode reply = (reply, new) ≡ begun old t (wait_of old.now (objects_call mode handles)) mode.ms
 
 -- a wait for these objects does not end at once
-abbrev pub begins_pending : State → ℕ → List ℕ → Bool → Bool → ℕ → Bool
-begins_pending s t handles all alertable ms = would_pend s t (wait_of s.now (WaitCall.Objects all alertable ms handles)) ms
+abbrev pub begins_pending : State → ℕ → List ℕ → Mode → Bool
+begins_pending s t handles mode = would_pend s t (wait_of s.now (objects_call mode handles)) mode.ms
 
 -- the call is a step of the machine, local, and leaves the dispatcher steady
 pub record Accepts (old new : Dispatcher) (t : ℕ) (call : Call) (reply : Reply) : Type 0 where
