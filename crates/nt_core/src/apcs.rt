@@ -4,12 +4,11 @@ ghost use Rattle.nt_calls.specs.declared.call.Act.{Act};
 ghost use Rattle.nt_calls.specs.declared.call.Call.{Call};
 ghost use Rattle.nt_apc.specs.Queues.{pushed, taken, oldest, apc_of, queue_of};
 ghost use Rattle.nt_calls.specs.Change.{may_take};
-ghost use Rattle.std.specs.FinMap as map;
 ghost use Rattle.nt_calls.specs.State.{pends, wait_over};
 ghost use Rattle.nt_core.specs.Dispatcher.{state, with_queues};
 ghost use Rattle.nt_calls.specs.Serving.{IsAlerted, ending};
 ghost use Rattle.nt_core.specs.Lawful.{IsSound, IsUnmarked};
-ghost use Rattle.nt_core.specs.Accepts.{IsFresh, IsFree, IsRoused, IsAlertedAfter, IsActMade, Accepts, IsJudged};
+ghost use Rattle.nt_core.specs.Accepts.{IsFresh, IsRoused, IsAlertedAfter, Accepts, IsJudged, IsActOfAny, IsRunning};
 ghost use Rattle.nt_calls.specs.Refusals.{apc_causes};
 ghost use Rattle.nt_status.specs.Access.{set_context};
 
@@ -95,8 +94,7 @@ impl Machine {
         arg: u64,
     ) -> Result<Reply, Refusal>
         requires fresh { IsFresh self.old }
-        ensures { (t : ℕ) → IsFree (state self.old) t
-            → IsActMade self.old self.new t (Act.QueueApc target routine arg) result }
+        ensures { IsActOfAny self.old self.new (Act.QueueApc target routine arg) result }
     {
         let target = self.running_thread(target)?;
         let target = ThreadId::new(target.get() as u16);
@@ -126,8 +124,7 @@ impl Machine {
     /// NextApc: the caller's oldest APC, where its last ended wait ended for its APCs and it has not found none since.
     pub(crate) fn next_apc(&mut self, thread: ThreadId) -> Reply
         requires fresh { IsFresh self.old }
-        requires known { thread < self.old.threads }
-        requires idle { map.get self.old.table.pending thread ≡ None }
+        requires running { IsRunning self.old thread }
         ensures { Accepts self.old self.new thread (Call.Act Act.NextApc) result }
     {
         if self.may_take(thread) {

@@ -4,7 +4,7 @@ ghost use Rattle.nt_objects.specs.Object.{is_event, signaled, with_set};
 ghost use Rattle.nt_calls.specs.State.{object_at, with_object};
 ghost use Rattle.nt_calls.specs.Change.{at};
 ghost use Rattle.nt_core.specs.Dispatcher.{state};
-ghost use Rattle.nt_core.specs.Accepts.{IsFresh, IsFree, IsServedAfter, IsActMade, IsJudged};
+ghost use Rattle.nt_core.specs.Accepts.{IsFresh, IsServedAfter, IsJudged, IsActOfAny};
 ghost use Rattle.nt_calls.specs.declared.call.Act.{Act};
 ghost use Rattle.nt_calls.specs.Refusals.{kind_causes};
 ghost use Rattle.nt_status.specs.Access.{modify_state};
@@ -18,8 +18,7 @@ impl Machine {
     /// CreateEvent.
     pub(crate) fn create_event(&mut self, flags: u32) -> Result<Reply, Refusal>
         requires fresh { IsFresh self.old }
-        ensures { (t : ℕ) → IsFree (state self.old) t
-            → IsActMade self.old self.new t (Act.CreateEvent flags) result }
+        ensures { IsActOfAny self.old self.new (Act.CreateEvent flags) result }
     {
         let Some(flags) = EventFlags::from_bits(flags) else {
             return Err(Refusal::InvalidParameter);
@@ -78,7 +77,7 @@ impl Machine {
     /// SetEvent.
     pub(crate) fn set_event(&mut self, event: Handle) -> Result<Reply, Refusal>
         requires fresh { IsFresh self.old }
-        ensures { (t : ℕ) → IsFree (state self.old) t → IsActMade self.old self.new t (Act.SetEvent event) result }
+        ensures { IsActOfAny self.old self.new (Act.SetEvent event) result }
     {
         let event = self.event(event)?;
         self.raise_event(event);
@@ -88,7 +87,7 @@ impl Machine {
     /// ResetEvent: no wait is granted.
     pub(crate) fn reset_event(&mut self, event: Handle) -> Result<Reply, Refusal>
         requires fresh { IsFresh self.old }
-        ensures { (t : ℕ) → IsFree (state self.old) t → IsActMade self.old self.new t (Act.ResetEvent event) result }
+        ensures { IsActOfAny self.old self.new (Act.ResetEvent event) result }
     {
         let event = self.event(event)?;
         self.unset(event);
@@ -98,7 +97,7 @@ impl Machine {
     /// PulseEvent: sets the event, grants what fits then, and leaves it not set.
     pub(crate) fn pulse_event(&mut self, event: Handle) -> Result<Reply, Refusal>
         requires fresh { IsFresh self.old }
-        ensures { (t : ℕ) → IsFree (state self.old) t → IsActMade self.old self.new t (Act.PulseEvent event) result }
+        ensures { IsActOfAny self.old self.new (Act.PulseEvent event) result }
     {
         let event = self.event(event)?;
         self.raise_event(event);

@@ -18,7 +18,6 @@ impl Machine {
     pub(crate) fn create_mutex(&mut self, thread: ThreadId, flags: u32) -> Result<Reply, Refusal>
         requires fresh { IsFresh self.old }
         requires free { IsFree (state self.old) thread }
-        requires known { thread < self.old.threads }
         ensures { IsActMade self.old self.new thread (Act.CreateMutex flags) result }
     {
         let Some(flags) = MutexFlags::from_bits(flags) else {

@@ -4,9 +4,9 @@ ghost use Rattle.nt_status.specs.declared.refusal.Refusal.TheVariants.{HandleLim
 ghost use Rattle.nt_objects.specs.Object.{owner_of, owned_by};
 ghost use Rattle.nt_calls.specs.State.{object_at};
 ghost use Rattle.nt_calls.specs.Refusals.{is_full, duplicate_causes};
-ghost use Rattle.nt_core.specs.Dispatcher.{state, with_created};
+ghost use Rattle.nt_core.specs.Dispatcher.{with_created};
 ghost use Rattle.nt_core.specs.Lawful.{HandlesAgree};
-ghost use Rattle.nt_core.specs.Accepts.{IsFresh, IsFree, IsActMade, IsJudged};
+ghost use Rattle.nt_core.specs.Accepts.{IsFresh, IsJudged, IsActOfAny};
 ghost use Rattle.nt_calls.specs.declared.call.Act.{Act};
 ghost use Rattle.nt_calls.specs.declared.call.Reply.{Reply};
 
@@ -71,8 +71,7 @@ impl Machine {
     /// DuplicateHandle: one handle more for this object, with these rights. Where memory is refused nothing changes.
     pub(crate) fn duplicate(&mut self, handle: Handle, access: u32) -> Result<Reply, Refusal>
         requires fresh { IsFresh self.old }
-        ensures { (t : ℕ) → IsFree (state self.old) t
-            → IsActMade self.old self.new t (Act.Duplicate handle access) result }
+        ensures { IsActOfAny self.old self.new (Act.Duplicate handle access) result }
     {
         let object = self.object_to_share(handle, access)?;
         let Some(access) = Access::from_bits(access) else {

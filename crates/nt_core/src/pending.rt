@@ -1,9 +1,8 @@
 //! How a wait comes to pend: for one handle, as most do, or for any number.
-ghost use Rattle.std.specs.Prelude.{◌∷◌, ◌≡◌, ◌+◌, ◌<◌, [], None, length};
-ghost use Rattle.std.specs.FinMap as fin;
+ghost use Rattle.std.specs.Prelude.{◌∷◌, ◌<◌, []};
 ghost use Rattle.nt_calls.specs.Serving.{wait_for};
-ghost use Rattle.nt_core.specs.Lawful.{IsSoundWait, IsSound};
-ghost use Rattle.nt_core.specs.Accepts.{HasPended};
+ghost use Rattle.nt_core.specs.Lawful.{IsSound};
+ghost use Rattle.nt_core.specs.Accepts.{HasPended, CanBegin};
 
 use crate::machine::Machine;
 use crate::waiting::Mode;
@@ -15,9 +14,7 @@ impl Machine {
     /// The thread's wait for these handles pends from now on, written as any is. Where memory is refused nothing changes.
     #[inline(always)]
     fn pend_for(&mut self, thread: ThreadId, handles: &[Handle], mode: Mode) -> Result<(), Refusal>
-        requires idle { fin.get self.old.table.pending thread ≡ None }
-        requires able { IsSoundWait self.old.threads self.old.objects thread (wait_for handles.now mode.all) }
-        requires room { length self.old.grants + fin.len self.old.table.pending < self.old.threads }
+        requires can { CanBegin self.old thread (wait_for handles.now mode.all) }
         requires sound { IsSound self.old }
         ensures { HasPended self.old self.new thread handles.now mode result }
     {
@@ -29,24 +26,29 @@ impl Machine {
         Ok(())
     }
 
-    /// The same for one handle, as most waits are. It stands apart, so that the compiler knows that there is one.
+    /// The same for one handle, as most waits are. It stands apart, so that the compiler knows that there is one, and the parts of the mode
+    /// come one by one, each in a register of its own.
     #[inline(never)]
-    fn pend_one(&mut self, thread: ThreadId, handle: Handle, mode: Mode) -> Result<(), Refusal>
-        requires idle { fin.get self.old.table.pending thread ≡ None }
-        requires able { IsSoundWait self.old.threads self.old.objects thread (wait_for (handle ∷ []) mode.all) }
-        requires room { length self.old.grants + fin.len self.old.table.pending < self.old.threads }
+    fn pend_one(
+        &mut self,
+        thread: ThreadId,
+        handle: Handle,
+        all: bool,
+        ms: u32,
+        alertable: bool,
+    ) -> Result<(), Refusal>
+        requires can { CanBegin self.old thread (wait_for (handle ∷ []) all) }
         requires sound { IsSound self.old }
-        ensures { HasPended self.old self.new thread (handle ∷ []) mode result }
+        ensures { HasPended self.old self.new thread (handle ∷ [])
+            (record { all = all; alertable = alertable; ms = ms }) result }
     {
-        self.pend_for(thread, &[handle], mode)
+        self.pend_for(thread, &[handle], Mode { all, alertable, ms })
     }
 
     /// The same for any number of handles.
     #[inline(never)]
     fn pend_any(&mut self, thread: ThreadId, handles: &[Handle], mode: Mode) -> Result<(), Refusal>
-        requires idle { fin.get self.old.table.pending thread ≡ None }
-        requires able { IsSoundWait self.old.threads self.old.objects thread (wait_for handles.now mode.all) }
-        requires room { length self.old.grants + fin.len self.old.table.pending < self.old.threads }
+        requires can { CanBegin self.old thread (wait_for handles.now mode.all) }
         requires sound { IsSound self.old }
         ensures { HasPended self.old self.new thread handles.now mode result }
     {
@@ -61,14 +63,12 @@ impl Machine {
         handles: &[Handle],
         mode: Mode,
     ) -> Result<(), Refusal>
-        requires idle { fin.get self.old.table.pending thread ≡ None }
-        requires able { IsSoundWait self.old.threads self.old.objects thread (wait_for handles.now mode.all) }
-        requires room { length self.old.grants + fin.len self.old.table.pending < self.old.threads }
+        requires can { CanBegin self.old thread (wait_for handles.now mode.all) }
         requires sound { IsSound self.old }
         ensures { HasPended self.old self.new thread handles.now mode result }
     {
         match handles {
-            [handle] => self.pend_one(thread, *handle, mode),
+            [handle] => self.pend_one(thread, *handle, mode.all, mode.ms, mode.alertable),
             _ => self.pend_any(thread, handles, mode),
         }
     }

@@ -1,10 +1,10 @@
 //! Calls on semaphores.
-ghost use Rattle.std.specs.Prelude.{◌≡◌, ◌<◌, ℕ, length, pos, ◌<ℤ◌, false, IsTrue};
+ghost use Rattle.std.specs.Prelude.{◌≡◌, ◌<◌, length, pos, ◌<ℤ◌, false, IsTrue};
 ghost use Rattle.nt_objects.specs.Object.{is_semaphore, count_of, overflows, released};
 ghost use Rattle.nt_calls.specs.State.{object_at, with_object};
 ghost use Rattle.nt_calls.specs.Change.{at};
 ghost use Rattle.nt_core.specs.Dispatcher.{state};
-ghost use Rattle.nt_core.specs.Accepts.{IsFresh, IsFree, IsServedAfter, IsActMade, IsJudged};
+ghost use Rattle.nt_core.specs.Accepts.{IsFresh, IsServedAfter, IsJudged, IsActOfAny};
 ghost use Rattle.nt_calls.specs.declared.call.Act.{Act};
 ghost use Rattle.nt_calls.specs.Refusals.{release_causes};
 ghost use Rattle.nt_status.specs.Access.{modify_state};
@@ -18,8 +18,7 @@ impl Machine {
     /// CreateSemaphore.
     pub(crate) fn create_semaphore(&mut self, initial: i32, maximum: i32) -> Result<Reply, Refusal>
         requires fresh { IsFresh self.old }
-        ensures { (t : ℕ) → IsFree (state self.old) t
-            → IsActMade self.old self.new t (Act.CreateSemaphore initial maximum) result }
+        ensures { IsActOfAny self.old self.new (Act.CreateSemaphore initial maximum) result }
     {
         let Ok(semaphore) = Object::new_semaphore(initial, maximum) else {
             return Err(Refusal::InvalidParameter);
@@ -77,8 +76,7 @@ impl Machine {
         count: i32,
     ) -> Result<Reply, Refusal>
         requires fresh { IsFresh self.old }
-        ensures { (t : ℕ) → IsFree (state self.old) t
-            → IsActMade self.old self.new t (Act.ReleaseSemaphore semaphore count) result }
+        ensures { IsActOfAny self.old self.new (Act.ReleaseSemaphore semaphore count) result }
     {
         let semaphore = self.semaphore(semaphore, count)?;
         Ok(Reply::Previous(self.raise_count(semaphore, count)))

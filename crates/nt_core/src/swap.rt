@@ -1,16 +1,14 @@
 //! SignalObjectAndWait: one object is signaled, the others are served, and then the caller waits.
-ghost use Rattle.std.specs.Prelude.{◌≡◌, ◌≢◌, ◌∷◌, ◌+◌, ◌<◌, [], false, None, Some, IfOk, IfErr, OnOk, OnErr, IsSome, IsTrue, length, pos, not, ◌==◌};
+ghost use Rattle.std.specs.Prelude.{◌≡◌, ◌≢◌, ◌∷◌, ◌<◌, [], false, None, Some, IfOk, IfErr, OnOk, OnErr, IsSome, IsTrue, length, pos, not, ◌==◌};
 ghost use Rattle.std.specs.Option.{ForSome};
-ghost use Rattle.std.specs.FinMap as map;
 ghost use Rattle.nt_status.specs.declared.refusal.Refusal.TheVariants.{Memory};
 ghost use Rattle.nt_objects.specs.Object.{overflows, is_gone};
-ghost use Rattle.nt_waits.specs.declared.wait.Wait.{Wait};
 ghost use Rattle.nt_calls.specs.State.{object_at, deadline_after, pending_too};
 ghost use Rattle.nt_core.specs.Dispatcher.{state, with_prepared};
 ghost use Rattle.nt_calls.specs.Change.{at, signal};
 ghost use Rattle.nt_calls.specs.Refusals.{may_signal, is_foreign, refusal};
-ghost use Rattle.nt_core.specs.Lawful.{IsSoundWait, IsSound};
-ghost use Rattle.nt_core.specs.Accepts.{IsFresh, IsServedAfter, Accepts, IsFree, IsWaitMade};
+ghost use Rattle.nt_core.specs.Lawful.{IsSound};
+ghost use Rattle.nt_core.specs.Accepts.{IsFresh, IsServedAfter, Accepts, IsFree, IsWaitMade, CanBegin};
 ghost use Rattle.nt_calls.specs.declared.call.Call.{Call};
 ghost use Rattle.nt_calls.specs.declared.call.WaitCall.{WaitCall};
 
@@ -81,9 +79,7 @@ impl Machine {
     /// The prepared wait pends from now on.
     fn pend_prepared(&mut self)
         requires there { IsSome self.old.table.prepared }
-        requires idle { ForSome self.old.table.prepared (λ p. map.get self.old.table.pending p.0 ≡ None) }
-        requires able { ForSome self.old.table.prepared (λ p. IsSoundWait self.old.threads self.old.objects p.0 p.1) }
-        requires room { length self.old.grants + map.len self.old.table.pending < self.old.threads }
+        requires can { ForSome self.old.table.prepared (λ p. CanBegin self.old p.0 p.1) }
         requires sound { IsSound self.old }
         ensures state { ForSome self.old.table.prepared (λ p. state self.new ≡ pending_too (state self.old) p.0 p.1) }
         ensures sound { IsSound self.new }

@@ -1,13 +1,12 @@
 //! Calls on timers, and their expiry.
-ghost use Rattle.std.specs.Prelude.{◌≡◌, ◌≤◌, ◌<◌, pos, ◌≤ℤ◌, false, ℕ, length, slice_set, is_some, None, Some, IfSome, IsSomeAnd, IsTrue, OnOk, OnErr};
+ghost use Rattle.std.specs.Prelude.{◌≡◌, ◌≤◌, ◌<◌, pos, ◌≤ℤ◌, false, length, slice_set, is_some, None, Some, IfSome, IsSomeAnd, IsTrue, OnOk, OnErr};
 ghost use Rattle.nt_objects.specs.Object.{is_timer, has_ended, due_of, owner_of};
 ghost use Rattle.nt_apc.specs.Queues.{withdrawn, place_of};
 ghost use Rattle.nt_calls.specs.State.{object_at};
 ghost use Rattle.nt_calls.specs.Change.{notified, expired, armed_anew, due_moment, routine_for};
 ghost use Rattle.nt_core.specs.Dispatcher.{state, with_queues};
-ghost use Rattle.std.specs.FinMap as map;
 ghost use Rattle.nt_core.specs.Lawful.{IsSound};
-ghost use Rattle.nt_core.specs.Accepts.{IsFresh, IsFree, IsPromised, IsActMade, Accepts, IsJudged};
+ghost use Rattle.nt_core.specs.Accepts.{IsFresh, IsFree, IsPromised, IsActMade, Accepts, IsJudged, IsActOfAny, IsRunning, KeepsWaits};
 ghost use Rattle.nt_calls.specs.declared.call.Act.{Act};
 ghost use Rattle.nt_calls.specs.declared.call.Call.{Call};
 ghost use Rattle.nt_calls.specs.declared.call.Reply.{Reply};
@@ -25,8 +24,7 @@ impl Machine {
     /// CreateWaitableTimer.
     pub(crate) fn create_timer(&mut self, flags: u32) -> Result<Reply, Refusal>
         requires fresh { IsFresh self.old }
-        ensures { (t : ℕ) → IsFree (state self.old) t
-            → IsActMade self.old self.new t (Act.CreateTimer flags) result }
+        ensures { IsActOfAny self.old self.new (Act.CreateTimer flags) result }
     {
         let Some(flags) = TimerFlags::from_bits(flags) else {
             return Err(Refusal::InvalidParameter);
@@ -115,9 +113,7 @@ impl Machine {
         requires due { IsSomeAnd (due_of (object_at self.old.objects timer)) (λ due. due ≤ now) }
         ensures expired { state self.new ≡ expired now (state self.old) timer }
         ensures sound { IsSound self.new }
-        ensures grants { self.new.grants ≡ self.old.grants }
-        ensures table { self.new.table ≡ self.old.table }
-        ensures marked { self.new.marked ≡ self.old.marked }
+        ensures kept { KeepsWaits self.old self.new }
     {
         let mut object = self.object(timer);
         let Some(due) = object.due() else {
@@ -152,9 +148,7 @@ impl Machine {
             (λ r. (r.thread < self.old.threads) × (has_ended (object_at self.old.objects r.thread) ≡ false)) }
         ensures armed { OnOk result (state self.new ≡ armed_anew (state self.old) timer armed) }
         ensures sound { OnOk result (IsSound self.new) }
-        ensures grants { OnOk result (self.new.grants ≡ self.old.grants) }
-        ensures table { OnOk result (self.new.table ≡ self.old.table) }
-        ensures marked { OnOk result (self.new.marked ≡ self.old.marked) }
+        ensures kept { OnOk result (KeepsWaits self.old self.new) }
         ensures needs { OnErr result (IsTrue (is_some armed.routine)) }
         ensures err { OnErr result (self.new ≡ self.old) }
     {
@@ -177,9 +171,7 @@ impl Machine {
         routine: Option<(u64, u64)>,
     ) -> Result<(), AllocError>
         requires fresh { IsFresh self.old }
-        requires idle { map.get self.old.table.pending thread ≡ None }
-        requires known { thread < self.old.threads }
-        requires runs { has_ended (object_at self.old.objects thread) ≡ false }
+        requires running { IsRunning self.old thread }
         requires kind { IsTrue (is_timer (object_at self.old.objects timer)) }
         requires period { pos 0 ≤ℤ period }
         ensures ok { OnOk result (Accepts self.old self.new thread
@@ -217,9 +209,6 @@ impl Machine {
     ) -> Result<Reply, Refusal>
         requires fresh { IsFresh self.old }
         requires free { IsFree (state self.old) thread }
-        requires idle { map.get self.old.table.pending thread ≡ None }
-        requires known { thread < self.old.threads }
-        requires runs { has_ended (object_at self.old.objects thread) ≡ false }
         ensures { IsActMade self.old self.new thread (Act.SetTimer timer due period routine) result }
     {
         let timer = self.timer_to_arm(timer, period)?;
@@ -230,7 +219,7 @@ impl Machine {
     /// CancelWaitableTimer: the timer is stopped, and its queued APC withdrawn. Whether it is set stays.
     pub(crate) fn cancel_timer(&mut self, timer: Handle) -> Result<Reply, Refusal>
         requires fresh { IsFresh self.old }
-        ensures { (t : ℕ) → IsFree (state self.old) t → IsActMade self.old self.new t (Act.CancelTimer timer) result }
+        ensures { IsActOfAny self.old self.new (Act.CancelTimer timer) result }
     {
         let timer = self.timer_to_cancel(timer)?;
         self.withdraw(timer);

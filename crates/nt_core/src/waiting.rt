@@ -1,7 +1,6 @@
 //! How a thread's own wait begins.
-ghost use Rattle.std.specs.Prelude.{ℕ, ◌≡◌, ◌≢◌, ◌&&◌, ◌+◌, ◌<◌, [], None, false, OnErr, IfOk, IfErr, is_some, IfSome, IfNone, IsTrue, length, slice_set};
+ghost use Rattle.std.specs.Prelude.{ℕ, ◌≡◌, ◌≢◌, ◌&&◌, ◌<◌, [], None, false, OnErr, IfOk, IfErr, is_some, IfSome, IfNone, IsTrue, length, slice_set};
 ghost use Rattle.std.specs.Option.{OnSome};
-ghost use Rattle.std.specs.FinMap as fin;
 ghost use Rattle.nt_status.specs.declared.refusal.Refusal.TheVariants.{Memory};
 ghost use Rattle.nt_status.specs.Lists.{IsMember};
 ghost use Rattle.nt_objects.specs.Object.{is_gone};
@@ -11,9 +10,9 @@ ghost use Rattle.nt_core.specs.Dispatcher.{state};
 ghost use Rattle.nt_calls.specs.Serving.{late_status, wait_for, fits, status, taken_by};
 ghost use Rattle.nt_calls.specs.declared.call.Call.{Call};
 ghost use Rattle.nt_calls.specs.declared.call.WaitCall.{WaitCall};
-ghost use Rattle.nt_core.specs.Lawful.{IsSoundWait, IsSound, IsSteady};
+ghost use Rattle.nt_core.specs.Lawful.{IsSound, IsSteady};
 ghost use Rattle.nt_calls.specs.declared.call.Reply.{Reply};
-ghost use Rattle.nt_core.specs.Accepts.{IsFresh, IsFree, HasBegun, reply_of, replied, begins_pending, objects_call, IsMade, IsWaitMade};
+ghost use Rattle.nt_core.specs.Accepts.{IsFresh, IsFree, HasBegun, reply_of, replied, begins_pending, objects_call, IsMade, IsWaitMade, CanBegin};
 
 use crate::machine::Machine;
 use nt_calls::{
@@ -82,8 +81,7 @@ impl Machine {
     /// Where the objects satisfy the caller's wait, takes them, and answers its status.
     #[inline(always)]
     fn take_now(&mut self, thread: ThreadId, handles: &[Handle], all: bool) -> Option<Status>
-        requires idle { fin.get self.old.table.pending thread ≡ None }
-        requires able { IsSoundWait self.old.threads self.old.objects thread (wait_for handles.now all) }
+        requires can { CanBegin self.old thread (wait_for handles.now all) }
         requires steady { IsSteady self.old }
         ensures fits { is_some result ≡ fits self.old.objects thread (wait_for handles.now all) }
         ensures status { IfSome result (λ code. code ≡ status self.old.objects thread (wait_for handles.now all)) }
@@ -107,8 +105,7 @@ impl Machine {
         handles: &[Handle],
         mode: Mode,
     ) -> Option<Status>
-        requires idle { fin.get self.old.table.pending thread ≡ None }
-        requires able { IsSoundWait self.old.threads self.old.objects thread (wait_for handles.now mode.all) }
+        requires can { CanBegin self.old thread (wait_for handles.now mode.all) }
         requires steady { IsSteady self.old }
         ensures begun { IfSome result (λ code.
             HasBegun (state self.old) (state self.new) thread handles.now mode (Reply.Status code)) }
@@ -137,9 +134,7 @@ impl Machine {
     /// refused nothing changes.
     #[inline(always)]
     pub(crate) fn begin_wait(&mut self, thread: ThreadId, handles: &[Handle], mode: Mode) -> Begun
-        requires idle { fin.get self.old.table.pending thread ≡ None }
-        requires able { IsSoundWait self.old.threads self.old.objects thread (wait_for handles.now mode.all) }
-        requires room { length self.old.grants + fin.len self.old.table.pending < self.old.threads }
+        requires can { CanBegin self.old thread (wait_for handles.now mode.all) }
         requires steady { IsSteady self.old }
         ensures begun { IfOk result (λ ended.
             HasBegun (state self.old) (state self.new) thread handles.now mode (reply_of ended)) }

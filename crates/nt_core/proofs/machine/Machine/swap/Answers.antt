@@ -12,7 +12,7 @@ use Rattle.nt_calls.specs.Serving.{wait_for}
 use Rattle.nt_calls.specs.Refusals.{refusal}
 use Rattle.nt_calls.specs.Steps.{begun, wait_of}
 use Rattle.nt_core.specs.Lawful.{IsSoundWait, IsSteady}
-use Rattle.nt_core.specs.Accepts.{IsFresh, Accepts}
+use Rattle.nt_core.specs.Accepts.{IsFresh, Accepts, CanBegin}
 use Rattle.nt_core.proofs.Beginning.{began_pending, begun_pends}
 use Rattle.nt_core.proofs.Swapping.{fresh_prepared, steady_prepared, calm_steady, calm_idle, calm_now, calm_able, calm_room, swap_accepted, accepts_prepared}
 use Rattle.nt_core.proofs.machine.Machine.swap.Goals as goal
@@ -31,15 +31,14 @@ living c = subst (λ (d : Dispatcher). c.args.object < length d.objects → is_g
 pub signal-requires-clause-fresh : goal.signal-requires-clause-fresh
 signal-requires-clause-fresh c = fresh (goal.at.signal-requires-clause-fresh c).In_ok-prepare
 
-pub end_at_once-requires-clause-idle : goal.end_at_once-requires-clause-idle
-end_at_once-requires-clause-idle c =
-    let here = (goal.at.end_at_once-requires-clause-idle c).In_ok-prepare in
-    calm_idle c.prepare.new.self c.signal.new.self c.args.thread c.args.signal c.args.object c.args.mode.ms c.args.mode.alertable (fresh here) (free here) (living here) c.signal.ensures.served
-
-pub end_at_once-requires-clause-able : goal.end_at_once-requires-clause-able
-end_at_once-requires-clause-able c =
-    let here = (goal.at.end_at_once-requires-clause-able c).In_ok-prepare in
-    calm_able c.prepare.new.self c.signal.new.self c.args.thread c.args.signal c.args.object c.args.mode.ms c.args.mode.alertable (fresh here) (free here) (living here) c.signal.ensures.served (wait_for (c.args.object ∷ []) false) refl
+pub end_at_once-requires-clause-can : goal.end_at_once-requires-clause-can
+end_at_once-requires-clause-can c =
+    let here = (goal.at.end_at_once-requires-clause-can c).In_ok-prepare in
+    record {
+      idle = calm_idle c.prepare.new.self c.signal.new.self c.args.thread c.args.signal c.args.object c.args.mode.ms c.args.mode.alertable (fresh here) (free here) (living here) c.signal.ensures.served;
+      able = calm_able c.prepare.new.self c.signal.new.self c.args.thread c.args.signal c.args.object c.args.mode.ms c.args.mode.alertable (fresh here) (free here) (living here) c.signal.ensures.served (wait_for (c.args.object ∷ []) false) refl;
+      room = calm_room c.prepare.new.self c.signal.new.self c.args.thread c.args.signal c.args.object c.args.mode.ms c.args.mode.alertable (fresh here) (free here) (living here) c.signal.ensures.served;
+    }
 
 pub end_at_once-requires-clause-steady : goal.end_at_once-requires-clause-steady
 end_at_once-requires-clause-steady c =
@@ -66,30 +65,19 @@ returns-in-Some-clause-ok c =
 prepared : (c : In_default) → c.end_at_once.new.self.table.prepared ≡ Some (c.args.thread, record { handles = c.args.object ∷ []; all = false; alertable = c.args.mode.alertable; deadline = deadline_after c.args.self.now.now c.args.mode.ms })
 prepared c = ap (λ (d : Dispatcher). d.table.prepared) c.in_default.ensures.none ∙ (c.signal.ensures.prepared ∙ c.in_ok-prepare.ensures.ready c.in_default.ensures.pends.2)
 
-pub pend_prepared-requires-clause-idle : goal.pend_prepared-requires-clause-idle
-pend_prepared-requires-clause-idle c p is =
-    let now = (goal.at.pend_prepared-requires-clause-idle c).In_default in
-    let here = (goal.at.pend_prepared-requires-clause-idle c).In_ok-prepare in
-    let calm = c.signal.new.self in
-    let idle = calm_idle c.prepare.new.self calm c.args.thread c.args.signal c.args.object c.args.mode.ms c.args.mode.alertable (fresh here) (free here) (living here) c.signal.ensures.served in
-    subst (λ (q : ℕ × Wait). fin.get c.end_at_once.new.self.table.pending q.0 ≡ None) (same_Some _ p (sym (prepared now) ∙ is))
-    (subst (λ (d : Dispatcher). fin.get d.table.pending c.args.thread ≡ None) (sym c.in_default.ensures.none) idle)
-
-pub pend_prepared-requires-clause-able : goal.pend_prepared-requires-clause-able
-pend_prepared-requires-clause-able c p is =
-    let now = (goal.at.pend_prepared-requires-clause-able c).In_default in
-    let here = (goal.at.pend_prepared-requires-clause-able c).In_ok-prepare in
+pub pend_prepared-requires-clause-can : goal.pend_prepared-requires-clause-can
+pend_prepared-requires-clause-can c p is =
+    let now = (goal.at.pend_prepared-requires-clause-can c).In_default in
+    let here = (goal.at.pend_prepared-requires-clause-can c).In_ok-prepare in
     let calm = c.signal.new.self in
     let w : Wait = record { handles = c.args.object ∷ []; all = false; alertable = c.args.mode.alertable; deadline = deadline_after c.args.self.now.now c.args.mode.ms } in
-    let able = calm_able c.prepare.new.self calm c.args.thread c.args.signal c.args.object c.args.mode.ms c.args.mode.alertable (fresh here) (free here) (living here) c.signal.ensures.served w refl in
-    subst (λ (q : ℕ × Wait). IsSoundWait c.end_at_once.new.self.threads c.end_at_once.new.self.objects q.0 q.1) (same_Some (c.args.thread, w) p (sym (prepared now) ∙ is))
-    (subst (λ (d : Dispatcher). IsSoundWait d.threads d.objects c.args.thread w) (sym c.in_default.ensures.none) able)
-
-pub pend_prepared-requires-clause-room : goal.pend_prepared-requires-clause-room
-pend_prepared-requires-clause-room c =
-    let here = (goal.at.pend_prepared-requires-clause-room c).In_ok-prepare in
-    let room = calm_room c.prepare.new.self c.signal.new.self c.args.thread c.args.signal c.args.object c.args.mode.ms c.args.mode.alertable (fresh here) (free here) (living here) c.signal.ensures.served in
-    subst (λ (d : Dispatcher). length d.grants + fin.len d.table.pending < d.threads) (sym c.in_default.ensures.none) room
+    let can : CanBegin calm c.args.thread w = record {
+      idle = calm_idle c.prepare.new.self calm c.args.thread c.args.signal c.args.object c.args.mode.ms c.args.mode.alertable (fresh here) (free here) (living here) c.signal.ensures.served;
+      able = calm_able c.prepare.new.self calm c.args.thread c.args.signal c.args.object c.args.mode.ms c.args.mode.alertable (fresh here) (free here) (living here) c.signal.ensures.served w refl;
+      room = calm_room c.prepare.new.self calm c.args.thread c.args.signal c.args.object c.args.mode.ms c.args.mode.alertable (fresh here) (free here) (living here) c.signal.ensures.served;
+    } in
+    subst (λ (q : ℕ × Wait). CanBegin c.end_at_once.new.self q.0 q.1) (same_Some (c.args.thread, w) p (sym (prepared now) ∙ is))
+    (subst (λ (d : Dispatcher). CanBegin d c.args.thread w) (sym c.in_default.ensures.none) can)
 
 -- the wait pends
 pub returns-clause-ok : goal.returns-clause-ok
