@@ -234,10 +234,3 @@ IsActOfAny old new act result = (t : ℕ) → IsFree (state old) t → IsActMade
 -- a waiting call is made on the objects that its handles name, or refused
 abbrev pub IsWaitMade : Dispatcher → Dispatcher → ℕ → WaitCall → Result Reply Refusal → Type 0
 IsWaitMade old new t wait result = IsMade old new t (wait_denied old.handles old.objects wait) (Call.Wait (wait_named old.handles wait)) result
-
--- the number of the object that a handle names, or the first cause that holds of it, and of whether the handle lacks these rights
-abbrev pub IsJudged : Dispatcher → ℕ → ℕ → (Bool → ℕ → List Cause) → Result ℕ Refusal → Type 0
-IsJudged d handle access causes (Ok object) =
-    (object ≡ object_named d.handles handle) × (first_of_causes (causes (lacks access d.handles handle) object) ≡ None)
-IsJudged d handle access causes (Err cause) =
-    first_of_causes (causes (lacks access d.handles handle) (object_named d.handles handle)) ≡ Some cause

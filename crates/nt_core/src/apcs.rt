@@ -8,13 +8,11 @@ ghost use Rattle.nt_calls.specs.State.{pends, wait_over};
 ghost use Rattle.nt_core.specs.Dispatcher.{state, with_queues};
 ghost use Rattle.nt_calls.specs.Serving.{IsAlerted, ending};
 ghost use Rattle.nt_core.specs.Lawful.{IsSound, IsUnmarked};
-ghost use Rattle.nt_core.specs.Accepts.{IsFresh, IsRoused, IsAlertedAfter, Accepts, IsJudged, IsActOfAny, IsRunning};
-ghost use Rattle.nt_calls.specs.Refusals.{apc_causes};
-ghost use Rattle.nt_status.specs.Access.{set_context};
+ghost use Rattle.nt_core.specs.Accepts.{IsFresh, IsRoused, IsAlertedAfter, Accepts, IsActOfAny, IsRunning};
 
 use crate::machine::Machine;
 use nt_apc::Apc;
-use nt_calls::{Grant, Reply, SET_CONTEXT, apc_refusal, judged, opened};
+use nt_calls::{Grant, Reply, running_thread};
 use nt_status::{Handle, OptionalMoment, Refusal, Status, ThreadId};
 use std::alloc::AllocError;
 
@@ -62,14 +60,6 @@ impl Machine {
         self.let_go(ended.handles.as_slice());
     }
 
-    /// The object of the running thread that the handle names, for an APC.
-    pub(crate) fn running_thread(&self, handle: Handle) -> Result<Handle, Refusal>
-        ensures { IsJudged self.now handle set_context (apc_causes self.now.objects) result }
-    {
-        let (thread, denied) = opened(&self.handles, handle, SET_CONTEXT);
-        judged(thread, apc_refusal(self.objects.as_slice(), denied, thread))
-    }
-
     /// Queues an APC that no timer queues. Where memory is refused nothing changes.
     fn post(&mut self, target: ThreadId, routine: u64, arg: u64) -> Result<(), AllocError>
         requires { target < length self.old.apcs.queues }
@@ -96,7 +86,7 @@ impl Machine {
         requires fresh { IsFresh self.old }
         ensures { IsActOfAny self.old self.new (Act.QueueApc target routine arg) result }
     {
-        let target = self.running_thread(target)?;
+        let target = running_thread(&self.handles, &self.objects, target)?;
         let target = ThreadId::new(target.get() as u16);
         self.post(target, routine, arg)?;
         self.alert(target);

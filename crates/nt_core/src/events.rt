@@ -4,13 +4,11 @@ ghost use Rattle.nt_objects.specs.Object.{is_event, signaled, with_set};
 ghost use Rattle.nt_calls.specs.State.{object_at, with_object};
 ghost use Rattle.nt_calls.specs.Change.{at};
 ghost use Rattle.nt_core.specs.Dispatcher.{state};
-ghost use Rattle.nt_core.specs.Accepts.{IsFresh, IsServedAfter, IsJudged, IsActOfAny};
+ghost use Rattle.nt_core.specs.Accepts.{IsFresh, IsServedAfter, IsActOfAny};
 ghost use Rattle.nt_calls.specs.declared.call.Act.{Act};
-ghost use Rattle.nt_calls.specs.Refusals.{kind_causes};
-ghost use Rattle.nt_status.specs.Access.{modify_state};
 
 use crate::machine::Machine;
-use nt_calls::{MODIFY_STATE, Reply, opened};
+use nt_calls::{Reply, event_named};
 use nt_objects::Object;
 use nt_status::{EventFlags, Handle, Refusal};
 
@@ -24,23 +22,6 @@ impl Machine {
             return Err(Refusal::InvalidParameter);
         };
         self.create(Object::new_event(flags))
-    }
-
-    /// The event that the handle names, for a call that changes it.
-    pub(crate) fn event(&self, handle: Handle) -> Result<Handle, Refusal>
-        ensures { IsJudged self.now handle modify_state (kind_causes is_event self.now.objects) result }
-    {
-        let (event, denied) = opened(&self.handles, handle, MODIFY_STATE);
-        match self.objects.as_slice().get(event.get() as usize) {
-            Some(object) if object.is_event() => {
-                if denied {
-                    Err(Refusal::AccessDenied)
-                } else {
-                    Ok(event)
-                }
-            }
-            _ => Err(Refusal::InvalidHandle),
-        }
     }
 
     /// The event is set from now on; answers whether it was not before.
@@ -79,7 +60,7 @@ impl Machine {
         requires fresh { IsFresh self.old }
         ensures { IsActOfAny self.old self.new (Act.SetEvent event) result }
     {
-        let event = self.event(event)?;
+        let event = event_named(&self.handles, &self.objects, event)?;
         self.raise_event(event);
         Ok(Reply::Done)
     }
@@ -89,7 +70,7 @@ impl Machine {
         requires fresh { IsFresh self.old }
         ensures { IsActOfAny self.old self.new (Act.ResetEvent event) result }
     {
-        let event = self.event(event)?;
+        let event = event_named(&self.handles, &self.objects, event)?;
         self.unset(event);
         Ok(Reply::Done)
     }
@@ -99,7 +80,7 @@ impl Machine {
         requires fresh { IsFresh self.old }
         ensures { IsActOfAny self.old self.new (Act.PulseEvent event) result }
     {
-        let event = self.event(event)?;
+        let event = event_named(&self.handles, &self.objects, event)?;
         self.raise_event(event);
         self.unset(event);
         Ok(Reply::Done)

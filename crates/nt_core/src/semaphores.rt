@@ -4,13 +4,11 @@ ghost use Rattle.nt_objects.specs.Object.{is_semaphore, count_of, overflows, rel
 ghost use Rattle.nt_calls.specs.State.{object_at, with_object};
 ghost use Rattle.nt_calls.specs.Change.{at};
 ghost use Rattle.nt_core.specs.Dispatcher.{state};
-ghost use Rattle.nt_core.specs.Accepts.{IsFresh, IsServedAfter, IsJudged, IsActOfAny};
+ghost use Rattle.nt_core.specs.Accepts.{IsFresh, IsServedAfter, IsActOfAny};
 ghost use Rattle.nt_calls.specs.declared.call.Act.{Act};
-ghost use Rattle.nt_calls.specs.Refusals.{release_causes};
-ghost use Rattle.nt_status.specs.Access.{modify_state};
 
 use crate::machine::Machine;
-use nt_calls::{MODIFY_STATE, Reply, judged, opened, release_refusal};
+use nt_calls::{Reply, semaphore_named};
 use nt_objects::Object;
 use nt_status::{Handle, Refusal};
 
@@ -24,18 +22,6 @@ impl Machine {
             return Err(Refusal::InvalidParameter);
         };
         self.create(semaphore)
-    }
-
-    /// The semaphore that the handle names, for a release by this count.
-    pub(crate) fn semaphore(&self, handle: Handle, count: i32) -> Result<Handle, Refusal>
-        ensures { IsJudged self.now handle modify_state
-            (λ denied h. release_causes self.now.objects denied h count) result }
-    {
-        let (semaphore, denied) = opened(&self.handles, handle, MODIFY_STATE);
-        judged(
-            semaphore,
-            release_refusal(self.objects.as_slice(), denied, semaphore, count),
-        )
     }
 
     /// The semaphore counts so many more from now on; answers its count before.
@@ -78,7 +64,7 @@ impl Machine {
         requires fresh { IsFresh self.old }
         ensures { IsActOfAny self.old self.new (Act.ReleaseSemaphore semaphore count) result }
     {
-        let semaphore = self.semaphore(semaphore, count)?;
+        let semaphore = semaphore_named(&self.handles, &self.objects, semaphore, count)?;
         Ok(Reply::Previous(self.raise_count(semaphore, count)))
     }
 }

@@ -6,16 +6,14 @@ ghost use Rattle.nt_calls.specs.State.{object_at};
 ghost use Rattle.nt_calls.specs.Change.{notified, expired, armed_anew, due_moment, routine_for};
 ghost use Rattle.nt_core.specs.Dispatcher.{state, with_queues};
 ghost use Rattle.nt_core.specs.Lawful.{IsSound};
-ghost use Rattle.nt_core.specs.Accepts.{IsFresh, IsFree, IsPromised, IsActMade, Accepts, IsJudged, IsActOfAny, IsRunning, KeepsWaits};
+ghost use Rattle.nt_core.specs.Accepts.{IsFresh, IsFree, IsPromised, IsActMade, Accepts, IsActOfAny, IsRunning, KeepsWaits};
 ghost use Rattle.nt_calls.specs.declared.call.Act.{Act};
 ghost use Rattle.nt_calls.specs.declared.call.Call.{Call};
 ghost use Rattle.nt_calls.specs.declared.call.Reply.{Reply};
-ghost use Rattle.nt_calls.specs.Refusals.{arm_causes, kind_causes};
-ghost use Rattle.nt_status.specs.Access.{modify_state};
 
 use crate::machine::Machine;
 use nt_apc::Apc;
-use nt_calls::{MODIFY_STATE, Reply, arm_refusal, due_moment, judged, opened, routine_for};
+use nt_calls::{Reply, due_moment, routine_for, timer_named, timer_to_arm};
 use nt_objects::{Armed, Object, Routine};
 use nt_status::{Handle, Moment, OptionalMoment, Refusal, ThreadId, TimerFlags};
 use std::alloc::AllocError;
@@ -30,35 +28,6 @@ impl Machine {
             return Err(Refusal::InvalidParameter);
         };
         self.create(Object::new_timer(flags))
-    }
-
-    /// The timer that the handle names, to be armed with this period.
-    pub(crate) fn timer_to_arm(&self, handle: Handle, period: i32) -> Result<Handle, Refusal>
-        ensures { IsJudged self.now handle modify_state
-            (λ denied h. arm_causes self.now.objects denied h period) result }
-    {
-        let (timer, denied) = opened(&self.handles, handle, MODIFY_STATE);
-        judged(
-            timer,
-            arm_refusal(self.objects.as_slice(), denied, timer, period),
-        )
-    }
-
-    /// The timer that the handle names, to be cancelled.
-    pub(crate) fn timer_to_cancel(&self, handle: Handle) -> Result<Handle, Refusal>
-        ensures { IsJudged self.now handle modify_state (kind_causes is_timer self.now.objects) result }
-    {
-        let (timer, denied) = opened(&self.handles, handle, MODIFY_STATE);
-        match self.objects.as_slice().get(timer.get() as usize) {
-            Some(object) if object.is_timer() => {
-                if denied {
-                    Err(Refusal::AccessDenied)
-                } else {
-                    Ok(timer)
-                }
-            }
-            _ => Err(Refusal::InvalidHandle),
-        }
     }
 
     /// Puts the timer in its place, and its alarm at its due moment.
@@ -211,7 +180,7 @@ impl Machine {
         requires free { IsFree (state self.old) thread }
         ensures { IsActMade self.old self.new thread (Act.SetTimer timer due period routine) result }
     {
-        let timer = self.timer_to_arm(timer, period)?;
+        let timer = timer_to_arm(&self.handles, &self.objects, timer, period)?;
         self.start(thread, timer, due, period, routine)?;
         Ok(Reply::Done)
     }
@@ -221,7 +190,7 @@ impl Machine {
         requires fresh { IsFresh self.old }
         ensures { IsActOfAny self.old self.new (Act.CancelTimer timer) result }
     {
-        let timer = self.timer_to_cancel(timer)?;
+        let timer = timer_named(&self.handles, &self.objects, timer)?;
         self.withdraw(timer);
         let mut object = self.object(timer);
         object.cancel();
