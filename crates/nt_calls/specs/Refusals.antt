@@ -1,5 +1,5 @@
 -- When a call is refused: the first cause that holds is the answer.
-use Rattle.std.specs.Prelude.{◌≡◌, ℕ, ℤ, pos, Bool, false, not, ◌&&◌, ◌||◌, nat_le, nat_lt, int_lt, int_le, List, [], ◌∷◌, length, if◌then◌else◌, ◌==◌, IsTrue, MatchOption, is_none}
+use Rattle.std.specs.Prelude.{◌≡◌, ℕ, ℤ, pos, Bool, false, not, ◌&&◌, ◌||◌, nat_le, nat_lt, int_lt, int_le, List, [], ◌∷◌, length, if◌then◌else◌, ◌==◌, IsTrue, MatchOption, is_none, Result, Ok, Err}
 use Rattle.std.specs.List.{list_any}
 use Rattle.std.specs.declared.option.Option.{Option}
 use Rattle.std.specs.declared.option.Option.TheVariants.{None, Some}
@@ -18,6 +18,7 @@ use Rattle.nt_calls.specs.declared.call.Call.{Call}
 use Rattle.nt_calls.specs.declared.call.Act.{Act}
 use Rattle.nt_calls.specs.declared.call.WaitCall.{WaitCall}
 use Rattle.nt_calls.specs.Calls.{act_grows, wait_of, timeout_of}
+use Rattle.nt_calls.specs.Naming.{object_named, lacks}
 use Rattle.nt_calls.specs.State.{State, object_at, pends}
 use Rattle.nt_calls.specs.Serving.{fits}
 
@@ -119,6 +120,13 @@ swap_causes objects t denied h object =
     ∷ (overflows (pos 1) (object_at objects h), TooManyPosts)
     ∷ (is_at_limit objects t object, RecursionLimit)
     ∷ []
+
+-- the number of the object that a handle names, or the first cause that holds of it, and of whether the handle lacks these rights
+abbrev pub IsJudged : List (Option Opened) → ℕ → ℕ → (Bool → ℕ → List Cause) → Result ℕ Refusal → Type 0
+IsJudged handles handle access causes (Ok object) =
+    (object ≡ object_named handles handle) × (first_of_causes (causes (lacks access handles handle) object) ≡ None)
+IsJudged handles handle access causes (Err cause) =
+    first_of_causes (causes (lacks access handles handle) (object_named handles handle)) ≡ Some cause
 
 -- ---- the table of calls
 

@@ -13,6 +13,7 @@
 mod call;
 // What a call names, and what refuses it.
 mod handles;
+mod judging;
 mod objects;
 mod refusals;
 mod swaps;
@@ -22,14 +23,13 @@ mod timing;
 mod trying;
 
 pub use call::{Act, Call, Grant, Reply, WaitCall};
-pub use handles::{
-    MODIFY_STATE, NamedObjects, SET_CONTEXT, SYNCHRONIZE, name_all, named, object_named, opened,
+pub use handles::{MODIFY_STATE, NamedObjects, SYNCHRONIZE, name_all, named, object_named, opened};
+pub use judging::{
+    event_named, mutex_named, object_to_share, running_thread, semaphore_named, timer_named,
+    timer_to_arm,
 };
 pub use objects::{count_living, is_set_by};
-pub use refusals::{
-    apc_refusal, arm_refusal, close_refusal, duplicate_refusal, is_unknown, judged,
-    release_refusal, unlock_refusal,
-};
+pub use refusals::close_refusal;
 pub use swaps::{is_swap_denied, swap_refusal};
 pub use timing::{deadline_after, due_moment, late_status, routine_for};
 pub use trying::{is_ready, try_wait};

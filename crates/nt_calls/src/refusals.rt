@@ -1,6 +1,7 @@
 //! Whether a call on an object is refused, and by which cause: the first that holds, in the order of `specs/Refusals`.
-ghost use Rattle.std.specs.Prelude.{◌≡◌, Ok, Err, MatchOption};
-ghost use Rattle.nt_objects.specs.Object.{is_timer};
+ghost use Rattle.std.specs.Prelude.{◌≡◌, ◌∷◌, [], Ok, Err, MatchOption};
+ghost use Rattle.nt_status.specs.declared.refusal.Refusal.TheVariants.{InvalidHandle, AccessDenied};
+ghost use Rattle.nt_objects.specs.Object.{is_event, is_timer};
 ghost use Rattle.nt_calls.specs.Refusals.{first_of_causes, apc_causes, arm_causes, close_causes, duplicate_causes, is_no, is_unknown, release_causes, unlock_causes};
 
 use crate::handles::named;
@@ -8,7 +9,7 @@ use nt_objects::{HandleTable, Object};
 use nt_status::{Access, Handle, MAX_HANDLES, Refusal, ThreadId};
 
 /// The number of the object, or why it is refused.
-pub fn judged(object: Handle, refusal: Option<Refusal>) -> Result<Handle, Refusal>
+pub(crate) fn judged(object: Handle, refusal: Option<Refusal>) -> Result<Handle, Refusal>
     ensures { MatchOption refusal (result ≡ Ok object) (λ cause. result ≡ Err cause) }
 {
     match refusal {
@@ -18,14 +19,14 @@ pub fn judged(object: Handle, refusal: Option<Refusal>) -> Result<Handle, Refusa
 }
 
 /// Whether the handle names nothing.
-pub fn is_unknown(objects: &[Object], handle: Handle) -> bool
+pub(crate) fn is_unknown(objects: &[Object], handle: Handle) -> bool
     ensures { result ≡ is_unknown objects.now handle }
 {
     named(objects, handle).is_none()
 }
 
 /// The refusal of a release of the mutex at this handle.
-pub fn unlock_refusal(objects: &[Object], thread: ThreadId, mutex: Handle) -> Option<Refusal>
+pub(crate) fn unlock_refusal(objects: &[Object], thread: ThreadId, mutex: Handle) -> Option<Refusal>
     ensures { result ≡ first_of_causes (unlock_causes objects.now thread mutex) }
 {
     match named(objects, mutex) {
@@ -41,7 +42,7 @@ pub fn unlock_refusal(objects: &[Object], thread: ThreadId, mutex: Handle) -> Op
 }
 
 /// The refusal of a release of the semaphore at this handle.
-pub fn release_refusal(
+pub(crate) fn release_refusal(
     objects: &[Object],
     denied: bool,
     semaphore: Handle,
@@ -65,8 +66,31 @@ pub fn release_refusal(
     }
 }
 
+/// The refusal of a call on an object, which may be of another kind than the call wants, by a handle that may lack the right for it.
+pub(crate) fn kind_refusal(is_other: bool, denied: bool) -> Option<Refusal>
+    ensures { result ≡ first_of_causes ((is_other, InvalidHandle) ∷ (denied, AccessDenied) ∷ []) }
+{
+    if is_other {
+        Some(Refusal::InvalidHandle)
+    } else if denied {
+        Some(Refusal::AccessDenied)
+    } else {
+        None
+    }
+}
+
+/// Whether the handle names no event.
+pub(crate) fn is_no_event(objects: &[Object], handle: Handle) -> bool
+    ensures { result ≡ is_no is_event objects.now handle }
+{
+    match named(objects, handle) {
+        Some(object) => !object.is_event(),
+        None => true,
+    }
+}
+
 /// Whether the handle names no timer.
-fn is_no_timer(objects: &[Object], handle: Handle) -> bool
+pub(crate) fn is_no_timer(objects: &[Object], handle: Handle) -> bool
     ensures { result ≡ is_no is_timer objects.now handle }
 {
     match named(objects, handle) {
@@ -76,7 +100,12 @@ fn is_no_timer(objects: &[Object], handle: Handle) -> bool
 }
 
 /// The refusal of setting the timer at this handle.
-pub fn arm_refusal(objects: &[Object], denied: bool, timer: Handle, period: i32) -> Option<Refusal>
+pub(crate) fn arm_refusal(
+    objects: &[Object],
+    denied: bool,
+    timer: Handle,
+    period: i32,
+) -> Option<Refusal>
     ensures { result ≡ first_of_causes (arm_causes objects.now denied timer period) }
 {
     if is_no_timer(objects, timer) {
@@ -91,7 +120,7 @@ pub fn arm_refusal(objects: &[Object], denied: bool, timer: Handle, period: i32)
 }
 
 /// The refusal of an APC for the thread whose object has this handle.
-pub fn apc_refusal(objects: &[Object], denied: bool, thread: Handle) -> Option<Refusal>
+pub(crate) fn apc_refusal(objects: &[Object], denied: bool, thread: Handle) -> Option<Refusal>
     ensures { result ≡ first_of_causes (apc_causes objects.now denied thread) }
 {
     match named(objects, thread) {
@@ -109,7 +138,7 @@ pub fn apc_refusal(objects: &[Object], denied: bool, thread: Handle) -> Option<R
 }
 
 /// The refusal of one handle more for this object, with these rights.
-pub fn duplicate_refusal(
+pub(crate) fn duplicate_refusal(
     handles: &HandleTable,
     objects: &[Object],
     denied: bool,

@@ -7,6 +7,7 @@ mod Visiting
 pub mod Changing
 pub mod Accepting
 mod Replacing
+mod Running
 pub mod Beginning
 pub mod Handling
 pub mod Remaining

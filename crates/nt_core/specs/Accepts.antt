@@ -1,5 +1,5 @@
 -- What an accepted call does to the dispatcher.
-use Rattle.std.specs.Prelude.{◌≡◌, ℕ, ◌+◌, ◌≢◌, ◌<◌, ◌≤◌, ◌⊎◌, ◌↔◌, Bool, true, not, ◌&&◌, ◌==◌, List, [], ◌∷◌, ◌++◌, length, Option, Some, None, IfSome, Result, Ok, Err, IfErr, OnOk, OnErr, ⊤}
+use Rattle.std.specs.Prelude.{◌≡◌, ℕ, ◌+◌, ◌≢◌, ◌<◌, ◌≤◌, ◌⊎◌, ◌↔◌, Bool, true, false, not, ◌&&◌, ◌==◌, List, [], ◌∷◌, ◌++◌, length, Option, Some, None, IfSome, Result, Ok, Err, IfErr, OnOk, OnErr, ⊤}
 use Rattle.std.specs.List.{filter}
 use Rattle.std.specs.FinMap.{len, get}
 use Rattle.nt_status.specs.Status.{io_completion_code, timeout_code}
@@ -11,7 +11,8 @@ use Rattle.nt_calls.specs.declared.call.Reply.{Reply}
 use Rattle.nt_calls.specs.declared.call.Grant.{Grant}
 use Rattle.nt_calls.specs.Rising.{AreRising}
 use Rattle.nt_objects.specs.declared.object.Object.{Object}
-use Rattle.nt_objects.specs.Object.{armed_with, setter_of}
+use Rattle.nt_objects.specs.Object.{armed_with, has_ended, setter_of}
+use Rattle.nt_waits.specs.declared.wait.Wait.{Wait}
 use Rattle.nt_objects.specs.declared.object.Routine.{Routine}
 use Rattle.nt_alarms.specs.Alarms.{alarm_at}
 use Rattle.nt_alarms.specs.Marks.{AddsMarks}
@@ -24,9 +25,10 @@ use Rattle.nt_calls.specs.Naming.{object_named, lacks, act_named, wait_named}
 use Rattle.nt_calls.specs.Rights.{act_denied, wait_denied}
 use Rattle.nt_calls.specs.Refusals.{Cause, first_of_causes, call_causes, refusal, would_pend}
 use Rattle.nt_calls.specs.Steps.{Step, MomentPasses, Made, begun, wait_of}
+use Rattle.nt_core.specs.declared.waiting.Mode.{Mode}
 use Rattle.nt_core.specs.Dispatcher.{Dispatcher, state}
 use Rattle.nt_core.specs.Due.{due_weight, total_weight}
-use Rattle.nt_core.specs.Lawful.{IsSound, IsSteady, IsUnmarked}
+use Rattle.nt_core.specs.Lawful.{IsSound, IsSoundWait, IsSteady, IsUnmarked}
 
 -- whether the wait ended by objects: neither by an APC nor by its deadline
 abbrev pub is_by_objects : Grant → Bool
@@ -154,9 +156,13 @@ pub record IsFresh (d : Dispatcher) : Type 0 where
   pub no_grants : d.grants ≡ []
   pub untested : d.table.looked ≡ 0
 
+-- the wait for these objects that is asked for in this way
+abbrev pub objects_call : Mode → List ℕ → WaitCall
+objects_call mode handles = WaitCall.Objects mode.all mode.alertable mode.ms handles
+
 -- the thread's wait for these objects pends from now on, or memory was refused and nothing has changed
-pub record HasPended (old new : Dispatcher) (t : ℕ) (handles : List ℕ) (all alertable : Bool) (ms : ℕ) (result : Result ⊤ Refusal) : Type 0 where
-  pub state : OnOk result (state new ≡ pending_too (state old) t (wait_of old.now (WaitCall.Objects all alertable ms handles)))
+pub record HasPended (old new : Dispatcher) (t : ℕ) (handles : List ℕ) (mode : Mode) (result : Result ⊤ Refusal) : Type 0 where
+  pub state : OnOk result (state new ≡ pending_too (state old) t (wait_of old.now (objects_call mode handles)))
   pub sound : IsSound new
   pub grants : new.grants ≡ old.grants
   pub looked : new.table.looked ≡ old.table.looked
@@ -175,12 +181,30 @@ replied (Ok ended) = Ok (reply_of ended)
 replied (Err refusal) = Err refusal
 
 -- a wait for these objects has begun, and this is its reply
-abbrev pub HasBegun : State → State → ℕ → List ℕ → Bool → Bool → ℕ → Reply → Type 0
-HasBegun old new t handles all alertable ms reply = (reply, new) ≡ begun old t (wait_of old.now (WaitCall.Objects all alertable ms handles)) ms
+abbrev pub HasBegun : State → State → ℕ → List ℕ → Mode → Reply → Type 0
+HasBegun old new t handles mode reply = (reply, new) ≡ begun old t (wait_of old.now (objects_call mode handles)) mode.ms
 
 -- a wait for these objects does not end at once
-abbrev pub begins_pending : State → ℕ → List ℕ → Bool → Bool → ℕ → Bool
-begins_pending s t handles all alertable ms = would_pend s t (wait_of s.now (WaitCall.Objects all alertable ms handles)) ms
+abbrev pub begins_pending : State → ℕ → List ℕ → Mode → Bool
+begins_pending s t handles mode = would_pend s t (wait_of s.now (objects_call mode handles)) mode.ms
+
+-- the thread is known, runs, and waits for nothing
+pub record IsRunning (d : Dispatcher) (t : ℕ) : Type 0 where
+  pub known : t < d.threads
+  pub runs : has_ended (object_at d.objects t) ≡ false
+  pub idle : get d.table.pending t ≡ None
+
+-- the thread waits for nothing, this wait can be its own, and there is room for its grant
+pub record CanBegin (d : Dispatcher) (t : ℕ) (w : Wait) : Type 0 where
+  pub idle : get d.table.pending t ≡ None
+  pub able : IsSoundWait d.threads d.objects t w
+  pub room : length d.grants + len d.table.pending < d.threads
+
+-- no wait has ended, and the table of waits and the marks are as they were
+pub record KeepsWaits (old new : Dispatcher) : Type 0 where
+  pub grants : new.grants ≡ old.grants
+  pub table : new.table ≡ old.table
+  pub marked : new.marked ≡ old.marked
 
 -- the call is a step of the machine, local, and leaves the dispatcher steady
 pub record Accepts (old new : Dispatcher) (t : ℕ) (call : Call) (reply : Reply) : Type 0 where
@@ -203,13 +227,10 @@ pub record IsMade (old new : Dispatcher) (t : ℕ) (denied : Bool) (call : Call)
 abbrev pub IsActMade : Dispatcher → Dispatcher → ℕ → Act → Result Reply Refusal → Type 0
 IsActMade old new t act result = IsMade old new t (act_denied old.handles act) (Call.Act (act_named old.handles act)) result
 
+-- the act is made or refused in one way, whoever makes it
+abbrev pub IsActOfAny : Dispatcher → Dispatcher → Act → Result Reply Refusal → Type 0
+IsActOfAny old new act result = (t : ℕ) → IsFree (state old) t → IsActMade old new t act result
+
 -- a waiting call is made on the objects that its handles name, or refused
 abbrev pub IsWaitMade : Dispatcher → Dispatcher → ℕ → WaitCall → Result Reply Refusal → Type 0
 IsWaitMade old new t wait result = IsMade old new t (wait_denied old.handles old.objects wait) (Call.Wait (wait_named old.handles wait)) result
-
--- the number of the object that a handle names, or the first cause that holds of it, and of whether the handle lacks these rights
-abbrev pub IsJudged : Dispatcher → ℕ → ℕ → (Bool → ℕ → List Cause) → Result ℕ Refusal → Type 0
-IsJudged d handle access causes (Ok object) =
-    (object ≡ object_named d.handles handle) × (first_of_causes (causes (lacks access d.handles handle) object) ≡ None)
-IsJudged d handle access causes (Err cause) =
-    first_of_causes (causes (lacks access d.handles handle) (object_named d.handles handle)) ≡ Some cause

@@ -4,18 +4,15 @@ ghost use Rattle.nt_calls.specs.declared.call.Act.{Act};
 ghost use Rattle.nt_calls.specs.declared.call.Call.{Call};
 ghost use Rattle.nt_apc.specs.Queues.{pushed, taken, oldest, apc_of, queue_of};
 ghost use Rattle.nt_calls.specs.Change.{may_take};
-ghost use Rattle.std.specs.FinMap as map;
 ghost use Rattle.nt_calls.specs.State.{pends, wait_over};
 ghost use Rattle.nt_core.specs.Dispatcher.{state, with_queues};
 ghost use Rattle.nt_calls.specs.Serving.{IsAlerted, ending};
 ghost use Rattle.nt_core.specs.Lawful.{IsSound, IsUnmarked};
-ghost use Rattle.nt_core.specs.Accepts.{IsFresh, IsFree, IsRoused, IsAlertedAfter, IsActMade, Accepts, IsJudged};
-ghost use Rattle.nt_calls.specs.Refusals.{apc_causes};
-ghost use Rattle.nt_status.specs.Access.{set_context};
+ghost use Rattle.nt_core.specs.Accepts.{IsFresh, IsRoused, IsAlertedAfter, Accepts, IsActOfAny, IsRunning};
 
 use crate::machine::Machine;
 use nt_apc::Apc;
-use nt_calls::{Grant, Reply, SET_CONTEXT, apc_refusal, judged, opened};
+use nt_calls::{Grant, Reply, running_thread};
 use nt_status::{Handle, OptionalMoment, Refusal, Status, ThreadId};
 use std::alloc::AllocError;
 
@@ -63,14 +60,6 @@ impl Machine {
         self.let_go(ended.handles.as_slice());
     }
 
-    /// The object of the running thread that the handle names, for an APC.
-    pub(crate) fn running_thread(&self, handle: Handle) -> Result<Handle, Refusal>
-        ensures { IsJudged self.now handle set_context (apc_causes self.now.objects) result }
-    {
-        let (thread, denied) = opened(&self.handles, handle, SET_CONTEXT);
-        judged(thread, apc_refusal(self.objects.as_slice(), denied, thread))
-    }
-
     /// Queues an APC that no timer queues. Where memory is refused nothing changes.
     fn post(&mut self, target: ThreadId, routine: u64, arg: u64) -> Result<(), AllocError>
         requires { target < length self.old.apcs.queues }
@@ -95,10 +84,9 @@ impl Machine {
         arg: u64,
     ) -> Result<Reply, Refusal>
         requires fresh { IsFresh self.old }
-        ensures { (t : ℕ) → IsFree (state self.old) t
-            → IsActMade self.old self.new t (Act.QueueApc target routine arg) result }
+        ensures { IsActOfAny self.old self.new (Act.QueueApc target routine arg) result }
     {
-        let target = self.running_thread(target)?;
+        let target = running_thread(&self.handles, &self.objects, target)?;
         let target = ThreadId::new(target.get() as u16);
         self.post(target, routine, arg)?;
         self.alert(target);
@@ -126,8 +114,7 @@ impl Machine {
     /// NextApc: the caller's oldest APC, where its last ended wait ended for its APCs and it has not found none since.
     pub(crate) fn next_apc(&mut self, thread: ThreadId) -> Reply
         requires fresh { IsFresh self.old }
-        requires known { thread < self.old.threads }
-        requires idle { map.get self.old.table.pending thread ≡ None }
+        requires running { IsRunning self.old thread }
         ensures { Accepts self.old self.new thread (Call.Act Act.NextApc) result }
     {
         if self.may_take(thread) {

@@ -1,9 +1,6 @@
 //! The table of calls: each is made, or refused, by the function for it.
-ghost use Rattle.std.specs.Prelude.{◌≡◌, ◌<◌, Bool, false, None, Some, OnOk, OnErr, IfSome, IfNone};
-ghost use Rattle.std.specs.FinMap as fin;
-ghost use Rattle.nt_objects.specs.Object.{has_ended};
+ghost use Rattle.std.specs.Prelude.{◌≡◌, ◌<◌, Bool, None, Some, OnOk, OnErr, IfSome, IfNone};
 ghost use Rattle.nt_core.specs.Dispatcher.{state};
-ghost use Rattle.nt_calls.specs.State.{object_at};
 ghost use Rattle.nt_calls.specs.Naming.{call_named};
 ghost use Rattle.nt_calls.specs.Rights.{is_denied};
 ghost use Rattle.nt_calls.specs.Refusals.{refusal};
@@ -44,9 +41,6 @@ impl Machine {
     fn act(&mut self, thread: ThreadId, act: &Act) -> Result<Reply, Refusal>
         requires fresh { IsFresh self.old }
         requires free { IsFree (state self.old) thread }
-        requires idle { fin.get self.old.table.pending thread ≡ None }
-        requires known { thread < self.old.threads }
-        requires runs { has_ended (object_at self.old.objects thread) ≡ false }
         ensures { IsActMade self.old self.new thread act.now result }
     {
         match *act {

@@ -4,13 +4,11 @@ ghost use Rattle.nt_objects.specs.Object.{is_event, signaled, with_set};
 ghost use Rattle.nt_calls.specs.State.{object_at, with_object};
 ghost use Rattle.nt_calls.specs.Change.{at};
 ghost use Rattle.nt_core.specs.Dispatcher.{state};
-ghost use Rattle.nt_core.specs.Accepts.{IsFresh, IsFree, IsServedAfter, IsActMade, IsJudged};
+ghost use Rattle.nt_core.specs.Accepts.{IsFresh, IsServedAfter, IsActOfAny};
 ghost use Rattle.nt_calls.specs.declared.call.Act.{Act};
-ghost use Rattle.nt_calls.specs.Refusals.{kind_causes};
-ghost use Rattle.nt_status.specs.Access.{modify_state};
 
 use crate::machine::Machine;
-use nt_calls::{MODIFY_STATE, Reply, opened};
+use nt_calls::{Reply, event_named};
 use nt_objects::Object;
 use nt_status::{EventFlags, Handle, Refusal};
 
@@ -18,30 +16,12 @@ impl Machine {
     /// CreateEvent.
     pub(crate) fn create_event(&mut self, flags: u32) -> Result<Reply, Refusal>
         requires fresh { IsFresh self.old }
-        ensures { (t : ℕ) → IsFree (state self.old) t
-            → IsActMade self.old self.new t (Act.CreateEvent flags) result }
+        ensures { IsActOfAny self.old self.new (Act.CreateEvent flags) result }
     {
         let Some(flags) = EventFlags::from_bits(flags) else {
             return Err(Refusal::InvalidParameter);
         };
         self.create(Object::new_event(flags))
-    }
-
-    /// The event that the handle names, for a call that changes it.
-    pub(crate) fn event(&self, handle: Handle) -> Result<Handle, Refusal>
-        ensures { IsJudged self.now handle modify_state (kind_causes is_event self.now.objects) result }
-    {
-        let (event, denied) = opened(&self.handles, handle, MODIFY_STATE);
-        match self.objects.as_slice().get(event.get() as usize) {
-            Some(object) if object.is_event() => {
-                if denied {
-                    Err(Refusal::AccessDenied)
-                } else {
-                    Ok(event)
-                }
-            }
-            _ => Err(Refusal::InvalidHandle),
-        }
     }
 
     /// The event is set from now on; answers whether it was not before.
@@ -78,9 +58,9 @@ impl Machine {
     /// SetEvent.
     pub(crate) fn set_event(&mut self, event: Handle) -> Result<Reply, Refusal>
         requires fresh { IsFresh self.old }
-        ensures { (t : ℕ) → IsFree (state self.old) t → IsActMade self.old self.new t (Act.SetEvent event) result }
+        ensures { IsActOfAny self.old self.new (Act.SetEvent event) result }
     {
-        let event = self.event(event)?;
+        let event = event_named(&self.handles, &self.objects, event)?;
         self.raise_event(event);
         Ok(Reply::Done)
     }
@@ -88,9 +68,9 @@ impl Machine {
     /// ResetEvent: no wait is granted.
     pub(crate) fn reset_event(&mut self, event: Handle) -> Result<Reply, Refusal>
         requires fresh { IsFresh self.old }
-        ensures { (t : ℕ) → IsFree (state self.old) t → IsActMade self.old self.new t (Act.ResetEvent event) result }
+        ensures { IsActOfAny self.old self.new (Act.ResetEvent event) result }
     {
-        let event = self.event(event)?;
+        let event = event_named(&self.handles, &self.objects, event)?;
         self.unset(event);
         Ok(Reply::Done)
     }
@@ -98,9 +78,9 @@ impl Machine {
     /// PulseEvent: sets the event, grants what fits then, and leaves it not set.
     pub(crate) fn pulse_event(&mut self, event: Handle) -> Result<Reply, Refusal>
         requires fresh { IsFresh self.old }
-        ensures { (t : ℕ) → IsFree (state self.old) t → IsActMade self.old self.new t (Act.PulseEvent event) result }
+        ensures { IsActOfAny self.old self.new (Act.PulseEvent event) result }
     {
-        let event = self.event(event)?;
+        let event = event_named(&self.handles, &self.objects, event)?;
         self.raise_event(event);
         self.unset(event);
         Ok(Reply::Done)

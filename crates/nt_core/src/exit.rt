@@ -1,14 +1,13 @@
 //! A thread ends.
-ghost use Rattle.std.specs.Prelude.{◌≡◌, ◌≢◌, ◌<◌, ℕ, None, Some, true, false, length, map, slice_set};
-ghost use Rattle.std.specs.FinMap as fin;
+ghost use Rattle.std.specs.Prelude.{◌≡◌, ◌≢◌, ◌<◌, ℕ, None, Some, true, length, map, slice_set};
 ghost use Rattle.nt_objects.specs.declared.object.Object.TheVariants.{Thread};
-ghost use Rattle.nt_objects.specs.Object.{is_timer, has_ended, owned_by, setter_of, abandoned_by, armed_with};
+ghost use Rattle.nt_objects.specs.Object.{is_timer, owned_by, setter_of, abandoned_by, armed_with};
 ghost use Rattle.nt_alarms.specs.Marks.{AddsMarks};
 ghost use Rattle.nt_apc.specs.Queues.{cleared};
 ghost use Rattle.nt_calls.specs.State.{object_at};
 ghost use Rattle.nt_core.specs.Dispatcher.{Dispatcher, state};
 ghost use Rattle.nt_core.specs.Lawful.{IsSound, IsUnmarked};
-ghost use Rattle.nt_core.specs.Accepts.{IsFresh, IsSetAmong, AreStopped, IsStoppedAfter, IsExitedAfter, Accepts};
+ghost use Rattle.nt_core.specs.Accepts.{IsFresh, IsSetAmong, AreStopped, IsStoppedAfter, IsExitedAfter, Accepts, IsRunning};
 ghost use Rattle.nt_calls.specs.declared.call.Call.{Call};
 ghost use Rattle.nt_calls.specs.declared.call.Reply.{Reply};
 
@@ -96,9 +95,7 @@ impl Machine {
     /// The thread's own object says from now on that it has ended, and is marked; its APCs are gone, with all places in its queue.
     fn end_own(&mut self, thread: ThreadId)
         requires sound { IsSound self.old }
-        requires idle { fin.get self.old.table.pending thread ≡ None }
-        requires known { thread < self.old.threads }
-        requires runs { has_ended (object_at self.old.objects thread) ≡ false }
+        requires running { IsRunning self.old thread }
         requires unset { (h : ℕ) → setter_of (object_at self.old.objects h) ≢ Some thread }
         ensures ended { state self.new ≡ record (state self.old)
             { objects = slice_set self.old.objects thread (Thread true); apcs = cleared self.old.apcs.queues thread } }
@@ -121,9 +118,7 @@ impl Machine {
     fn leave(&mut self, thread: ThreadId)
         requires sound { IsSound self.old }
         requires unmarked { IsUnmarked self.old.marked }
-        requires idle { fin.get self.old.table.pending thread ≡ None }
-        requires known { thread < self.old.threads }
-        requires runs { has_ended (object_at self.old.objects thread) ≡ false }
+        requires running { IsRunning self.old thread }
         ensures left { IsExitedAfter self.old thread self.new }
         ensures sound { IsSound self.new }
     {
@@ -137,9 +132,7 @@ impl Machine {
     #[inline(never)]
     pub(crate) fn exit(&mut self, thread: ThreadId)
         requires fresh { IsFresh self.old }
-        requires idle { fin.get self.old.table.pending thread ≡ None }
-        requires known { thread < self.old.threads }
-        requires runs { has_ended (object_at self.old.objects thread) ≡ false }
+        requires running { IsRunning self.old thread }
         ensures { Accepts self.old self.new thread Call.Exit Reply.Done }
     {
         self.leave(thread);

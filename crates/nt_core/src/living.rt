@@ -1,14 +1,13 @@
 //! When an object lives, and the end of those that nothing keeps any more.
 ghost use Rattle.std.specs.Prelude.{◌≡◌, ◌≢◌, ◌<◌, [], ℕ, None, Some, true, false, length, slice_set, IsSome, if◌then◌else◌};
 ghost use Rattle.std.specs.Option.{ForSome};
-ghost use Rattle.nt_objects.specs.Object.{is_gone};
 ghost use Rattle.nt_objects.specs.Handles.{opened_at};
 ghost use Rattle.nt_status.specs.Lists.{IsMember};
 ghost use Rattle.nt_apc.specs.Queues.{withdrawn, place_of};
 ghost use Rattle.nt_core.specs.Dispatcher.{state};
 ghost use Rattle.nt_core.specs.Lawful.{IsSound, IsSteady, MarksAgreeBut, LetsGoBut};
 ghost use Rattle.nt_calls.specs.Living.{is_forgotten, gone, living, Ends, LivesWhileKept};
-ghost use Rattle.nt_core.specs.Accepts.{IsFresh, IsFree, IsActMade};
+ghost use Rattle.nt_core.specs.Accepts.{IsFresh, IsActOfAny, KeepsWaits};
 ghost use Rattle.nt_calls.specs.declared.call.Act.{Act};
 
 use crate::machine::Machine;
@@ -63,7 +62,7 @@ impl Machine {
     /// CloseHandle: the handle names nothing any more, and what it named may be kept by nothing.
     pub(crate) fn close(&mut self, handle: Handle) -> Result<Reply, Refusal>
         requires fresh { IsFresh self.old }
-        ensures { (t : ℕ) → IsFree (state self.old) t → IsActMade self.old self.new t (Act.Close handle) result }
+        ensures { IsActOfAny self.old self.new (Act.Close handle) result }
     {
         if let Some(refusal) = close_refusal(&self.handles, handle) {
             return Err(refusal);
@@ -102,9 +101,7 @@ impl Machine {
         ensures sound { IsSound self.new }
         ensures place { place_of self.new.apcs.places object ≡ None }
         ensures leaving { self.new.leaving ≡ self.old.leaving }
-        ensures grants { self.new.grants ≡ self.old.grants }
-        ensures table { self.new.table ≡ self.old.table }
-        ensures marked { self.new.marked ≡ self.old.marked }
+        ensures kept { KeepsWaits self.old self.new }
     {
         self.forget(object);
         self.alarms.clear(object.get() as usize);
@@ -128,9 +125,7 @@ impl Machine {
             (if is_forgotten (state self.old) object then gone (state self.old) object else state self.old) }
         ensures sound { IsSound self.new }
         ensures leaving { self.new.leaving ≡ slice_set self.old.leaving object None }
-        ensures grants { self.new.grants ≡ self.old.grants }
-        ensures table { self.new.table ≡ self.old.table }
-        ensures marked { self.new.marked ≡ self.old.marked }
+        ensures kept { KeepsWaits self.old self.new }
     {
         if self.is_forgotten(object) {
             self.end_object(object);

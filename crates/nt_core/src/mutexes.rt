@@ -4,12 +4,11 @@ ghost use Rattle.nt_objects.specs.Object.{owned_by, unlocked};
 ghost use Rattle.nt_calls.specs.State.{object_at, with_object};
 ghost use Rattle.nt_calls.specs.Change.{at};
 ghost use Rattle.nt_core.specs.Dispatcher.{state};
-ghost use Rattle.nt_core.specs.Accepts.{IsFresh, IsFree, IsServedAfter, IsActMade, IsJudged};
+ghost use Rattle.nt_core.specs.Accepts.{IsFresh, IsFree, IsServedAfter, IsActMade};
 ghost use Rattle.nt_calls.specs.declared.call.Act.{Act};
-ghost use Rattle.nt_calls.specs.Refusals.{unlock_causes};
 
 use crate::machine::Machine;
-use nt_calls::{Reply, judged, object_named, unlock_refusal};
+use nt_calls::{Reply, mutex_named};
 use nt_objects::Object;
 use nt_status::{Handle, MutexFlags, Refusal, ThreadId};
 
@@ -18,24 +17,12 @@ impl Machine {
     pub(crate) fn create_mutex(&mut self, thread: ThreadId, flags: u32) -> Result<Reply, Refusal>
         requires fresh { IsFresh self.old }
         requires free { IsFree (state self.old) thread }
-        requires known { thread < self.old.threads }
         ensures { IsActMade self.old self.new thread (Act.CreateMutex flags) result }
     {
         let Some(flags) = MutexFlags::from_bits(flags) else {
             return Err(Refusal::InvalidParameter);
         };
         self.create(Object::new_mutex(flags, thread))
-    }
-
-    /// The mutex that the handle names, for its release by this thread, which needs no right.
-    pub(crate) fn mutex(&self, thread: ThreadId, handle: Handle) -> Result<Handle, Refusal>
-        ensures { IsJudged self.now handle 0 (λ _ h. unlock_causes self.now.objects thread h) result }
-    {
-        let mutex = object_named(&self.handles, handle);
-        judged(
-            mutex,
-            unlock_refusal(self.objects.as_slice(), thread, mutex),
-        )
     }
 
     /// The mutex is held one level less deep from now on, and free after the last.
@@ -73,7 +60,7 @@ impl Machine {
         requires free { IsFree (state self.old) thread }
         ensures { IsActMade self.old self.new thread (Act.ReleaseMutex mutex) result }
     {
-        let mutex = self.mutex(thread, mutex)?;
+        let mutex = mutex_named(&self.handles, &self.objects, mutex, thread)?;
         self.give_back(thread, mutex);
         Ok(Reply::Done)
     }

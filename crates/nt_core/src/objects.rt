@@ -3,15 +3,15 @@ ghost use Rattle.std.specs.Prelude.{◌≡◌, ◌<◌, ℕ, ◌∷◌, ◌++◌
 ghost use Rattle.nt_status.specs.declared.refusal.Refusal.TheVariants.{HandleLimit, Memory};
 ghost use Rattle.nt_objects.specs.Object.{owner_of, owned_by};
 ghost use Rattle.nt_calls.specs.State.{object_at};
-ghost use Rattle.nt_calls.specs.Refusals.{is_full, duplicate_causes};
-ghost use Rattle.nt_core.specs.Dispatcher.{state, with_created};
+ghost use Rattle.nt_calls.specs.Refusals.{is_full};
+ghost use Rattle.nt_core.specs.Dispatcher.{with_created};
 ghost use Rattle.nt_core.specs.Lawful.{HandlesAgree};
-ghost use Rattle.nt_core.specs.Accepts.{IsFresh, IsFree, IsActMade, IsJudged};
+ghost use Rattle.nt_core.specs.Accepts.{IsFresh, IsActOfAny};
 ghost use Rattle.nt_calls.specs.declared.call.Act.{Act};
 ghost use Rattle.nt_calls.specs.declared.call.Reply.{Reply};
 
 use crate::machine::Machine;
-use nt_calls::{Reply, duplicate_refusal, judged, opened};
+use nt_calls::{Reply, object_to_share};
 use nt_objects::{Object, Opened};
 use nt_status::{Access, Handle, MAX_HANDLES, Refusal};
 use std::alloc::AllocError;
@@ -55,26 +55,12 @@ impl Machine {
         Ok(self.handles.add(Opened { object, access }))
     }
 
-    /// The object that the handle names, for one handle more with these rights.
-    pub(crate) fn object_to_share(&self, handle: Handle, access: u32) -> Result<Handle, Refusal>
-        ensures { IsJudged self.now handle access
-            (λ denied h. duplicate_causes self.now.handles self.now.objects denied h access) result }
-    {
-        let (object, denied) = opened(&self.handles, handle, access);
-        let objects = self.objects.as_slice();
-        judged(
-            object,
-            duplicate_refusal(&self.handles, objects, denied, object, access),
-        )
-    }
-
     /// DuplicateHandle: one handle more for this object, with these rights. Where memory is refused nothing changes.
     pub(crate) fn duplicate(&mut self, handle: Handle, access: u32) -> Result<Reply, Refusal>
         requires fresh { IsFresh self.old }
-        ensures { (t : ℕ) → IsFree (state self.old) t
-            → IsActMade self.old self.new t (Act.Duplicate handle access) result }
+        ensures { IsActOfAny self.old self.new (Act.Duplicate handle access) result }
     {
-        let object = self.object_to_share(handle, access)?;
+        let object = object_to_share(&self.handles, &self.objects, handle, access)?;
         let Some(access) = Access::from_bits(access) else {
             unreachable!()
         };

@@ -1,16 +1,14 @@
 //! Calls on semaphores.
-ghost use Rattle.std.specs.Prelude.{◌≡◌, ◌<◌, ℕ, length, pos, ◌<ℤ◌, false, IsTrue};
+ghost use Rattle.std.specs.Prelude.{◌≡◌, ◌<◌, length, pos, ◌<ℤ◌, false, IsTrue};
 ghost use Rattle.nt_objects.specs.Object.{is_semaphore, count_of, overflows, released};
 ghost use Rattle.nt_calls.specs.State.{object_at, with_object};
 ghost use Rattle.nt_calls.specs.Change.{at};
 ghost use Rattle.nt_core.specs.Dispatcher.{state};
-ghost use Rattle.nt_core.specs.Accepts.{IsFresh, IsFree, IsServedAfter, IsActMade, IsJudged};
+ghost use Rattle.nt_core.specs.Accepts.{IsFresh, IsServedAfter, IsActOfAny};
 ghost use Rattle.nt_calls.specs.declared.call.Act.{Act};
-ghost use Rattle.nt_calls.specs.Refusals.{release_causes};
-ghost use Rattle.nt_status.specs.Access.{modify_state};
 
 use crate::machine::Machine;
-use nt_calls::{MODIFY_STATE, Reply, judged, opened, release_refusal};
+use nt_calls::{Reply, semaphore_named};
 use nt_objects::Object;
 use nt_status::{Handle, Refusal};
 
@@ -18,25 +16,12 @@ impl Machine {
     /// CreateSemaphore.
     pub(crate) fn create_semaphore(&mut self, initial: i32, maximum: i32) -> Result<Reply, Refusal>
         requires fresh { IsFresh self.old }
-        ensures { (t : ℕ) → IsFree (state self.old) t
-            → IsActMade self.old self.new t (Act.CreateSemaphore initial maximum) result }
+        ensures { IsActOfAny self.old self.new (Act.CreateSemaphore initial maximum) result }
     {
         let Ok(semaphore) = Object::new_semaphore(initial, maximum) else {
             return Err(Refusal::InvalidParameter);
         };
         self.create(semaphore)
-    }
-
-    /// The semaphore that the handle names, for a release by this count.
-    pub(crate) fn semaphore(&self, handle: Handle, count: i32) -> Result<Handle, Refusal>
-        ensures { IsJudged self.now handle modify_state
-            (λ denied h. release_causes self.now.objects denied h count) result }
-    {
-        let (semaphore, denied) = opened(&self.handles, handle, MODIFY_STATE);
-        judged(
-            semaphore,
-            release_refusal(self.objects.as_slice(), denied, semaphore, count),
-        )
     }
 
     /// The semaphore counts so many more from now on; answers its count before.
@@ -79,10 +64,9 @@ impl Machine {
         count: i32,
     ) -> Result<Reply, Refusal>
         requires fresh { IsFresh self.old }
-        ensures { (t : ℕ) → IsFree (state self.old) t
-            → IsActMade self.old self.new t (Act.ReleaseSemaphore semaphore count) result }
+        ensures { IsActOfAny self.old self.new (Act.ReleaseSemaphore semaphore count) result }
     {
-        let semaphore = self.semaphore(semaphore, count)?;
+        let semaphore = semaphore_named(&self.handles, &self.objects, semaphore, count)?;
         Ok(Reply::Previous(self.raise_count(semaphore, count)))
     }
 }

@@ -9,7 +9,7 @@ ghost use Rattle.nt_alarms.specs.Alarms.{NoneAt};
 ghost use Rattle.nt_alarms.specs.Marks.{marked_places};
 ghost use Rattle.nt_core.specs.Dispatcher.{state, with_marked};
 ghost use Rattle.nt_calls.specs.Serving.{sequence, Serve};
-ghost use Rattle.nt_core.specs.Visits.{IsVisited, Visits, FitOnlyBy, FitOnlyIn};
+ghost use Rattle.nt_core.specs.Visits.{Visits, FitOnlyBy, FitOnlyIn, HasVisited, HasServed};
 ghost use Rattle.nt_core.specs.Lawful.{IsSound};
 
 use crate::living::let_go;
@@ -24,9 +24,7 @@ impl Machine {
         requires pends { IsTrue (pends (state self.old) thread) }
         requires sound { IsSound self.old }
         requires countable { self.old.table.looked + 1 < 2 ^ 64 }
-        ensures visited { IsVisited self.old self.new thread }
-        ensures prepared { self.new.table.prepared ≡ self.old.table.prepared }
-        ensures sound { IsSound self.new }
+        ensures { HasVisited self.old self.new thread }
     {
         let Some(wait) = self.waits.get(thread) else {
             unreachable!()
@@ -47,10 +45,8 @@ impl Machine {
         requires only { option_map only_of (fin.get self.old.table.pending thread) ≡ Some (Some (handle, all)) }
         requires sound { IsSound self.old }
         requires countable { self.old.table.looked + 1 < 2 ^ 64 }
-        ensures visited { IsVisited self.old self.new thread }
+        ensures visited { HasVisited self.old self.new thread }
         ensures next { result ≡ next_after thread ((state self.old).queues handle) }
-        ensures prepared { self.new.table.prepared ≡ self.old.table.prepared }
-        ensures sound { IsSound self.new }
     {
         self.waits.count_look();
         let Some(status) = try_wait(&mut self.objects, thread, &[handle], all) else {
@@ -71,10 +67,8 @@ impl Machine {
         requires waits { IsMember ((state self.old).queues handle) thread }
         requires sound { IsSound self.old }
         requires countable { self.old.table.looked + 1 < 2 ^ 64 }
-        ensures visited { IsVisited self.old self.new thread }
+        ensures visited { HasVisited self.old self.new thread }
         ensures next { result ≡ next_after thread ((state self.old).queues handle) }
-        ensures prepared { self.new.table.prepared ≡ self.old.table.prepared }
-        ensures sound { IsSound self.new }
     {
         if let Some((_, all)) = self.waits.only(thread) {
             return self.visit_one(thread, handle, all);
@@ -88,9 +82,7 @@ impl Machine {
     fn serve_on(&mut self, handle: Handle)
         requires sound { IsSound self.old }
         requires countable { self.old.table.looked + length ((state self.old).queues handle) < 2 ^ 64 }
-        ensures visits { Visits ((state self.old).queues handle) self.old self.new }
-        ensures prepared { self.new.table.prepared ≡ self.old.table.prepared }
-        ensures sound { IsSound self.new }
+        ensures { HasServed ((state self.old).queues handle) self.old self.new }
     {
         let mut at = self.waits.first_on(handle);
         while let Some(thread) = at {
@@ -124,9 +116,7 @@ impl Machine {
         requires first { slice_get ((state self.old).queues handle) 0 ≡ Some first }
         requires needed { FitOnlyBy handle (state self.old) }
         requires countable { self.old.table.looked + length ((state self.old).queues handle) < 2 ^ 64 }
-        ensures visits { Visits ((state self.old).queues handle) self.old self.new }
-        ensures prepared { self.new.table.prepared ≡ self.old.table.prepared }
-        ensures sound { IsSound self.new }
+        ensures { HasServed ((state self.old).queues handle) self.old self.new }
     {
         let mut next = Some(first);
         while let Some(thread) = next {
@@ -148,7 +138,6 @@ impl Machine {
         requires needed { FitOnlyBy handle (state self.old) }
         requires first { self.old.grants ≡ [] }
         requires anew { self.old.table.looked ≡ 0 }
-        requires countable { length (sequence (state self.old) (handle ∷ [])) < 2 ^ 64 }
         ensures served { Serve (sequence (state self.old) (handle ∷ [])) (state self.old) self.new.grants
             (state self.new) }
         ensures prepared { self.new.table.prepared ≡ self.old.table.prepared }

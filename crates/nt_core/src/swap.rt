@@ -1,20 +1,19 @@
 //! SignalObjectAndWait: one object is signaled, the others are served, and then the caller waits.
-ghost use Rattle.std.specs.Prelude.{◌≡◌, ◌≢◌, ◌∷◌, ◌+◌, ◌<◌, [], false, None, Some, IfOk, IfErr, OnOk, OnErr, IsSome, IsTrue, length, pos, not, ◌==◌};
+ghost use Rattle.std.specs.Prelude.{◌≡◌, ◌≢◌, ◌∷◌, ◌<◌, [], false, None, Some, IfOk, IfErr, OnOk, OnErr, IsSome, IsTrue, length, pos, not, ◌==◌};
 ghost use Rattle.std.specs.Option.{ForSome};
-ghost use Rattle.std.specs.FinMap as map;
 ghost use Rattle.nt_status.specs.declared.refusal.Refusal.TheVariants.{Memory};
 ghost use Rattle.nt_objects.specs.Object.{overflows, is_gone};
-ghost use Rattle.nt_waits.specs.declared.wait.Wait.{Wait};
 ghost use Rattle.nt_calls.specs.State.{object_at, deadline_after, pending_too};
 ghost use Rattle.nt_core.specs.Dispatcher.{state, with_prepared};
 ghost use Rattle.nt_calls.specs.Change.{at, signal};
 ghost use Rattle.nt_calls.specs.Refusals.{may_signal, is_foreign, refusal};
-ghost use Rattle.nt_core.specs.Lawful.{IsSoundWait, IsSound};
-ghost use Rattle.nt_core.specs.Accepts.{IsFresh, IsServedAfter, Accepts, IsFree, IsWaitMade};
+ghost use Rattle.nt_core.specs.Lawful.{IsSound};
+ghost use Rattle.nt_core.specs.Accepts.{IsFresh, IsServedAfter, Accepts, IsFree, IsWaitMade, CanBegin};
 ghost use Rattle.nt_calls.specs.declared.call.Call.{Call};
 ghost use Rattle.nt_calls.specs.declared.call.WaitCall.{WaitCall};
 
 use crate::machine::Machine;
+use crate::waiting::Mode;
 use nt_calls::{
     MODIFY_STATE, Reply, SYNCHRONIZE, deadline_after, is_swap_denied, opened, swap_refusal,
 };
@@ -43,35 +42,29 @@ impl Machine {
     }
 
     /// Makes all the room that the caller's wait for this object may need. With a timeout of 0 it needs none.
-    fn prepare(
-        &mut self,
-        thread: ThreadId,
-        object: Handle,
-        ms: u32,
-        alertable: bool,
-    ) -> Result<(), Refusal>
-        ensures ready { OnOk result (ms ≢ 0
+    fn prepare(&mut self, thread: ThreadId, object: Handle, mode: Mode) -> Result<(), Refusal>
+        ensures ready { OnOk result (mode.ms ≢ 0
             → self.new.table.prepared ≡ Some (
               thread,
               record {
                 handles = object ∷ [];
                 all = false;
-                alertable = alertable;
+                alertable = mode.alertable;
                 deadline = deadline_after
-                    self.old.now ms;
+                    self.old.now mode.ms;
               },
             )) }
         ensures kept { self.new ≡ with_prepared self.old self.new.table.prepared }
-        ensures grows { OnErr result (IsTrue (not (ms == 0))) }
+        ensures grows { OnErr result (IsTrue (not (mode.ms == 0))) }
         ensures memory { IfErr result (λ refusal. refusal ≡ Memory) }
         ensures err { OnErr result (self.new ≡ self.old) }
     {
-        if ms == 0 {
+        if mode.ms == 0 {
             return Ok(());
         }
         let about = About {
-            alertable,
-            deadline: deadline_after(self.moment, ms),
+            alertable: mode.alertable,
+            deadline: deadline_after(self.moment, mode.ms),
         };
         self.waits.prepare(thread, object, about)
     }
@@ -86,9 +79,7 @@ impl Machine {
     /// The prepared wait pends from now on.
     fn pend_prepared(&mut self)
         requires there { IsSome self.old.table.prepared }
-        requires idle { ForSome self.old.table.prepared (λ p. map.get self.old.table.pending p.0 ≡ None) }
-        requires able { ForSome self.old.table.prepared (λ p. IsSoundWait self.old.threads self.old.objects p.0 p.1) }
-        requires room { length self.old.grants + map.len self.old.table.pending < self.old.threads }
+        requires can { ForSome self.old.table.prepared (λ p. CanBegin self.old p.0 p.1) }
         requires sound { IsSound self.old }
         ensures state { ForSome self.old.table.prepared (λ p. state self.new ≡ pending_too (state self.old) p.0 p.1) }
         ensures sound { IsSound self.new }
@@ -107,23 +98,22 @@ impl Machine {
         thread: ThreadId,
         signal: Handle,
         object: Handle,
-        ms: u32,
-        alertable: bool,
+        mode: Mode,
     ) -> Result<Reply, Refusal>
         requires fresh { IsFresh self.old }
-        requires free { refusal (state self.old) thread false (Call.Wait (WaitCall.Swap signal object ms alertable)) ≡
+        requires free { refusal (state self.old) thread false (Call.Wait (WaitCall.Swap signal object mode.ms mode.alertable)) ≡
             None }
         requires living { object < length self.old.objects → is_gone (object_at self.old.objects object) ≡ false }
         ensures ok { IfOk result (λ reply.
-            Accepts self.old self.new thread (Call.Wait (WaitCall.Swap signal object ms alertable)) reply) }
+            Accepts self.old self.new thread (Call.Wait (WaitCall.Swap signal object mode.ms mode.alertable)) reply) }
         ensures prepared { OnOk result (self.new.table.prepared ≡ None) }
-        ensures grows { OnErr result (IsTrue (not (ms == 0))) }
+        ensures grows { OnErr result (IsTrue (not (mode.ms == 0))) }
         ensures memory { IfErr result (λ refusal. refusal ≡ Memory) }
         ensures err { OnErr result (self.new ≡ self.old) }
     {
-        self.prepare(thread, object, ms, alertable)?;
+        self.prepare(thread, object, mode)?;
         self.signal(thread, signal);
-        if let Some(status) = self.end_at_once(thread, &[object], false, ms, alertable) {
+        if let Some(status) = self.end_at_once(thread, &[object], Mode { all: false, ..mode }) {
             self.forget_prepared();
             return Ok(Reply::Status(status));
         }
@@ -137,12 +127,11 @@ impl Machine {
         thread: ThreadId,
         signal: Handle,
         object: Handle,
-        ms: u32,
-        alertable: bool,
+        mode: Mode,
     ) -> Result<Reply, Refusal>
         requires fresh { IsFresh self.old }
         requires caller { IsFree (state self.old) thread }
-        ensures { IsWaitMade self.old self.new thread (WaitCall.Swap signal object ms alertable) result }
+        ensures { IsWaitMade self.old self.new thread (WaitCall.Swap signal object mode.ms mode.alertable) result }
     {
         let (signaled, no_signal) = opened(&self.handles, signal, MODIFY_STATE);
         let (awaited, no_wait) = opened(&self.handles, object, SYNCHRONIZE);
@@ -150,7 +139,7 @@ impl Machine {
         let denied = is_swap_denied(objects, signaled, no_signal, no_wait);
         match swap_refusal(objects, thread, denied, signaled, awaited) {
             Some(refusal) => Err(refusal),
-            None => self.swap(thread, signaled, awaited, ms, alertable),
+            None => self.swap(thread, signaled, awaited, mode),
         }
     }
 }

@@ -1,22 +1,19 @@
 //! Calls on timers, and their expiry.
-ghost use Rattle.std.specs.Prelude.{◌≡◌, ◌≤◌, ◌<◌, pos, ◌≤ℤ◌, false, ℕ, length, slice_set, is_some, None, Some, IfSome, IsSomeAnd, IsTrue, OnOk, OnErr};
+ghost use Rattle.std.specs.Prelude.{◌≡◌, ◌≤◌, ◌<◌, pos, ◌≤ℤ◌, false, length, slice_set, is_some, None, Some, IfSome, IsSomeAnd, IsTrue, OnOk, OnErr};
 ghost use Rattle.nt_objects.specs.Object.{is_timer, has_ended, due_of, owner_of};
 ghost use Rattle.nt_apc.specs.Queues.{withdrawn, place_of};
 ghost use Rattle.nt_calls.specs.State.{object_at};
 ghost use Rattle.nt_calls.specs.Change.{notified, expired, armed_anew, due_moment, routine_for};
 ghost use Rattle.nt_core.specs.Dispatcher.{state, with_queues};
-ghost use Rattle.std.specs.FinMap as map;
 ghost use Rattle.nt_core.specs.Lawful.{IsSound};
-ghost use Rattle.nt_core.specs.Accepts.{IsFresh, IsFree, IsPromised, IsActMade, Accepts, IsJudged};
+ghost use Rattle.nt_core.specs.Accepts.{IsFresh, IsFree, IsPromised, IsActMade, Accepts, IsActOfAny, IsRunning, KeepsWaits};
 ghost use Rattle.nt_calls.specs.declared.call.Act.{Act};
 ghost use Rattle.nt_calls.specs.declared.call.Call.{Call};
 ghost use Rattle.nt_calls.specs.declared.call.Reply.{Reply};
-ghost use Rattle.nt_calls.specs.Refusals.{arm_causes, kind_causes};
-ghost use Rattle.nt_status.specs.Access.{modify_state};
 
 use crate::machine::Machine;
 use nt_apc::Apc;
-use nt_calls::{MODIFY_STATE, Reply, arm_refusal, due_moment, judged, opened, routine_for};
+use nt_calls::{Reply, due_moment, routine_for, timer_named, timer_to_arm};
 use nt_objects::{Armed, Object, Routine};
 use nt_status::{Handle, Moment, OptionalMoment, Refusal, ThreadId, TimerFlags};
 use std::alloc::AllocError;
@@ -25,42 +22,12 @@ impl Machine {
     /// CreateWaitableTimer.
     pub(crate) fn create_timer(&mut self, flags: u32) -> Result<Reply, Refusal>
         requires fresh { IsFresh self.old }
-        ensures { (t : ℕ) → IsFree (state self.old) t
-            → IsActMade self.old self.new t (Act.CreateTimer flags) result }
+        ensures { IsActOfAny self.old self.new (Act.CreateTimer flags) result }
     {
         let Some(flags) = TimerFlags::from_bits(flags) else {
             return Err(Refusal::InvalidParameter);
         };
         self.create(Object::new_timer(flags))
-    }
-
-    /// The timer that the handle names, to be armed with this period.
-    pub(crate) fn timer_to_arm(&self, handle: Handle, period: i32) -> Result<Handle, Refusal>
-        ensures { IsJudged self.now handle modify_state
-            (λ denied h. arm_causes self.now.objects denied h period) result }
-    {
-        let (timer, denied) = opened(&self.handles, handle, MODIFY_STATE);
-        judged(
-            timer,
-            arm_refusal(self.objects.as_slice(), denied, timer, period),
-        )
-    }
-
-    /// The timer that the handle names, to be cancelled.
-    pub(crate) fn timer_to_cancel(&self, handle: Handle) -> Result<Handle, Refusal>
-        ensures { IsJudged self.now handle modify_state (kind_causes is_timer self.now.objects) result }
-    {
-        let (timer, denied) = opened(&self.handles, handle, MODIFY_STATE);
-        match self.objects.as_slice().get(timer.get() as usize) {
-            Some(object) if object.is_timer() => {
-                if denied {
-                    Err(Refusal::AccessDenied)
-                } else {
-                    Ok(timer)
-                }
-            }
-            _ => Err(Refusal::InvalidHandle),
-        }
     }
 
     /// Puts the timer in its place, and its alarm at its due moment.
@@ -115,9 +82,7 @@ impl Machine {
         requires due { IsSomeAnd (due_of (object_at self.old.objects timer)) (λ due. due ≤ now) }
         ensures expired { state self.new ≡ expired now (state self.old) timer }
         ensures sound { IsSound self.new }
-        ensures grants { self.new.grants ≡ self.old.grants }
-        ensures table { self.new.table ≡ self.old.table }
-        ensures marked { self.new.marked ≡ self.old.marked }
+        ensures kept { KeepsWaits self.old self.new }
     {
         let mut object = self.object(timer);
         let Some(due) = object.due() else {
@@ -152,9 +117,7 @@ impl Machine {
             (λ r. (r.thread < self.old.threads) × (has_ended (object_at self.old.objects r.thread) ≡ false)) }
         ensures armed { OnOk result (state self.new ≡ armed_anew (state self.old) timer armed) }
         ensures sound { OnOk result (IsSound self.new) }
-        ensures grants { OnOk result (self.new.grants ≡ self.old.grants) }
-        ensures table { OnOk result (self.new.table ≡ self.old.table) }
-        ensures marked { OnOk result (self.new.marked ≡ self.old.marked) }
+        ensures kept { OnOk result (KeepsWaits self.old self.new) }
         ensures needs { OnErr result (IsTrue (is_some armed.routine)) }
         ensures err { OnErr result (self.new ≡ self.old) }
     {
@@ -177,9 +140,7 @@ impl Machine {
         routine: Option<(u64, u64)>,
     ) -> Result<(), AllocError>
         requires fresh { IsFresh self.old }
-        requires idle { map.get self.old.table.pending thread ≡ None }
-        requires known { thread < self.old.threads }
-        requires runs { has_ended (object_at self.old.objects thread) ≡ false }
+        requires running { IsRunning self.old thread }
         requires kind { IsTrue (is_timer (object_at self.old.objects timer)) }
         requires period { pos 0 ≤ℤ period }
         ensures ok { OnOk result (Accepts self.old self.new thread
@@ -217,12 +178,9 @@ impl Machine {
     ) -> Result<Reply, Refusal>
         requires fresh { IsFresh self.old }
         requires free { IsFree (state self.old) thread }
-        requires idle { map.get self.old.table.pending thread ≡ None }
-        requires known { thread < self.old.threads }
-        requires runs { has_ended (object_at self.old.objects thread) ≡ false }
         ensures { IsActMade self.old self.new thread (Act.SetTimer timer due period routine) result }
     {
-        let timer = self.timer_to_arm(timer, period)?;
+        let timer = timer_to_arm(&self.handles, &self.objects, timer, period)?;
         self.start(thread, timer, due, period, routine)?;
         Ok(Reply::Done)
     }
@@ -230,9 +188,9 @@ impl Machine {
     /// CancelWaitableTimer: the timer is stopped, and its queued APC withdrawn. Whether it is set stays.
     pub(crate) fn cancel_timer(&mut self, timer: Handle) -> Result<Reply, Refusal>
         requires fresh { IsFresh self.old }
-        ensures { (t : ℕ) → IsFree (state self.old) t → IsActMade self.old self.new t (Act.CancelTimer timer) result }
+        ensures { IsActOfAny self.old self.new (Act.CancelTimer timer) result }
     {
-        let timer = self.timer_to_cancel(timer)?;
+        let timer = timer_named(&self.handles, &self.objects, timer)?;
         self.withdraw(timer);
         let mut object = self.object(timer);
         object.cancel();

@@ -1,7 +1,6 @@
 //! How a thread's own wait begins.
-ghost use Rattle.std.specs.Prelude.{ℕ, ◌≡◌, ◌≢◌, ◌&&◌, ◌+◌, ◌<◌, [], None, false, OnErr, IfOk, IfErr, is_some, IfSome, IfNone, IsTrue, length, slice_set};
+ghost use Rattle.std.specs.Prelude.{ℕ, ◌≡◌, ◌≢◌, ◌&&◌, ◌<◌, [], None, false, OnErr, IfOk, IfErr, is_some, IfSome, IfNone, IsTrue, length, slice_set};
 ghost use Rattle.std.specs.Option.{OnSome};
-ghost use Rattle.std.specs.FinMap as fin;
 ghost use Rattle.nt_status.specs.declared.refusal.Refusal.TheVariants.{Memory};
 ghost use Rattle.nt_status.specs.Lists.{IsMember};
 ghost use Rattle.nt_objects.specs.Object.{is_gone};
@@ -11,9 +10,9 @@ ghost use Rattle.nt_core.specs.Dispatcher.{state};
 ghost use Rattle.nt_calls.specs.Serving.{late_status, wait_for, fits, status, taken_by};
 ghost use Rattle.nt_calls.specs.declared.call.Call.{Call};
 ghost use Rattle.nt_calls.specs.declared.call.WaitCall.{WaitCall};
-ghost use Rattle.nt_core.specs.Lawful.{IsSoundWait, IsSound, IsSteady};
+ghost use Rattle.nt_core.specs.Lawful.{IsSound, IsSteady};
 ghost use Rattle.nt_calls.specs.declared.call.Reply.{Reply};
-ghost use Rattle.nt_core.specs.Accepts.{IsFresh, IsFree, HasBegun, reply_of, replied, begins_pending, IsMade, IsWaitMade};
+ghost use Rattle.nt_core.specs.Accepts.{IsFresh, IsFree, HasBegun, reply_of, replied, begins_pending, objects_call, IsMade, IsWaitMade, CanBegin};
 
 use crate::machine::Machine;
 use nt_calls::{
@@ -23,9 +22,33 @@ use nt_calls::{
 use nt_status::{Handle, MAX_WAIT_OBJECTS, Refusal, Status, ThreadId};
 use nt_waits::About;
 
-/// The reply of a waiting call, from the status with which the wait ended, or none where it pends. What makes a wait answers no more than
-/// that: a reply is large, and a function that may get one clears room for it at each call.
-fn replied(ended: Result<Option<Status>, Refusal>) -> Result<Reply, Refusal>
+/// How a thread asks to wait.
+#[derive(Clone, Copy)]
+pub(crate) struct Mode {
+    /// For all of the objects at once, or for any of them.
+    pub(crate) all: bool,
+    /// Whether APCs that are queued for the thread end the wait.
+    pub(crate) alertable: bool,
+    /// For how many milliseconds at most: for none at 0, and to no end at INFINITE, which is 0xFFFFFFFF.
+    pub(crate) ms: u32,
+}
+
+impl Mode {
+    /// The parts of a waiting call that say how.
+    #[inline(always)]
+    fn new(all: bool, ms: u32, alertable: bool) -> Mode
+        ensures { result ≡ record { all = all; alertable = alertable; ms = ms } }
+    {
+        Mode { all, alertable, ms }
+    }
+}
+
+/// The status with which a wait ended at once, or none where it pends. What begins a wait answers no more than that: a reply is large, and
+/// a function that may get one clears room for it at each call.
+type Begun = Result<Option<Status>, Refusal>;
+
+/// The reply of a waiting call, from how its wait began.
+fn replied(ended: Begun) -> Result<Reply, Refusal>
     ensures { result ≡ replied ended }
 {
     match ended {
@@ -58,8 +81,7 @@ impl Machine {
     /// Where the objects satisfy the caller's wait, takes them, and answers its status.
     #[inline(always)]
     fn take_now(&mut self, thread: ThreadId, handles: &[Handle], all: bool) -> Option<Status>
-        requires idle { fin.get self.old.table.pending thread ≡ None }
-        requires able { IsSoundWait self.old.threads self.old.objects thread (wait_for handles.now all) }
+        requires can { CanBegin self.old thread (wait_for handles.now all) }
         requires steady { IsSteady self.old }
         ensures fits { is_some result ≡ fits self.old.objects thread (wait_for handles.now all) }
         ensures status { IfSome result (λ code. code ≡ status self.old.objects thread (wait_for handles.now all)) }
@@ -81,30 +103,27 @@ impl Machine {
         &mut self,
         thread: ThreadId,
         handles: &[Handle],
-        all: bool,
-        ms: u32,
-        alertable: bool,
+        mode: Mode,
     ) -> Option<Status>
-        requires idle { fin.get self.old.table.pending thread ≡ None }
-        requires able { IsSoundWait self.old.threads self.old.objects thread (wait_for handles.now all) }
+        requires can { CanBegin self.old thread (wait_for handles.now mode.all) }
         requires steady { IsSteady self.old }
         ensures begun { IfSome result (λ code.
-            HasBegun (state self.old) (state self.new) thread handles.now all alertable ms (Reply.Status code)) }
-        ensures pends { IfNone result ((fits self.old.objects thread (wait_for handles.now all) ≡ false)
-            × ((alertable && has_apc self.old.apcs.queues thread) ≡ false) × (ms ≢ 0)) }
+            HasBegun (state self.old) (state self.new) thread handles.now mode (Reply.Status code)) }
+        ensures pends { IfNone result ((fits self.old.objects thread (wait_for handles.now mode.all) ≡ false)
+            × ((mode.alertable && has_apc self.old.apcs.queues thread) ≡ false) × (mode.ms ≢ 0)) }
         ensures steady { IsSteady self.new }
         ensures grants { self.new.grants ≡ self.old.grants }
         ensures table { self.new.table ≡ self.old.table }
         ensures none { IfNone result (self.new ≡ self.old) }
     {
-        if let Some(status) = self.take_now(thread, handles, all) {
+        if let Some(status) = self.take_now(thread, handles, mode.all) {
             return Some(status);
         }
-        if self.is_alerted(thread, alertable) {
+        if self.is_alerted(thread, mode.alertable) {
             self.hand(thread, true);
             return Some(Status::IO_COMPLETION);
         }
-        if ms == 0 {
+        if mode.ms == 0 {
             self.hand(thread, false);
             return Some(late_status(handles.is_empty()));
         }
@@ -114,55 +133,37 @@ impl Machine {
     /// Begins the caller's wait for these handles, none for a sleep: it ends at once, with a status, or pends. Where memory is
     /// refused nothing changes.
     #[inline(always)]
-    pub(crate) fn begin_wait(
-        &mut self,
-        thread: ThreadId,
-        handles: &[Handle],
-        all: bool,
-        ms: u32,
-        alertable: bool,
-    ) -> Result<Option<Status>, Refusal>
-        requires idle { fin.get self.old.table.pending thread ≡ None }
-        requires able { IsSoundWait self.old.threads self.old.objects thread (wait_for handles.now all) }
-        requires room { length self.old.grants + fin.len self.old.table.pending < self.old.threads }
+    pub(crate) fn begin_wait(&mut self, thread: ThreadId, handles: &[Handle], mode: Mode) -> Begun
+        requires can { CanBegin self.old thread (wait_for handles.now mode.all) }
         requires steady { IsSteady self.old }
         ensures begun { IfOk result (λ ended.
-            HasBegun (state self.old) (state self.new) thread handles.now all alertable ms (reply_of ended)) }
+            HasBegun (state self.old) (state self.new) thread handles.now mode (reply_of ended)) }
         ensures steady { IsSteady self.new }
         ensures grants { self.new.grants ≡ self.old.grants }
         ensures looked { self.new.table.looked ≡ self.old.table.looked }
-        ensures grows { OnErr result (IsTrue (begins_pending (state self.old) thread handles.now all alertable ms)) }
+        ensures grows { OnErr result (IsTrue (begins_pending (state self.old) thread handles.now mode)) }
         ensures memory { IfErr result (λ refusal. refusal ≡ Memory) }
         ensures err { OnErr result (self.new ≡ self.old) }
     {
-        if let Some(status) = self.end_at_once(thread, handles, all, ms, alertable) {
+        if let Some(status) = self.end_at_once(thread, handles, mode) {
             return Ok(Some(status));
         }
-        self.pend(thread, handles, all, ms, alertable)?;
+        self.pend(thread, handles, mode)?;
         Ok(None)
     }
 
     /// The caller's wait for the objects with these numbers, begun or refused by its own causes.
     #[inline(always)]
-    fn wait_for(
-        &mut self,
-        thread: ThreadId,
-        denied: bool,
-        numbers: &[Handle],
-        all: bool,
-        ms: u32,
-        alertable: bool,
-    ) -> Result<Option<Status>, Refusal>
+    fn wait_for(&mut self, thread: ThreadId, denied: bool, numbers: &[Handle], mode: Mode) -> Begun
         requires fresh { IsFresh self.old }
         requires caller { IsFree (state self.old) thread }
         requires living { (h : ℕ) → IsMember numbers.now h → h < length self.old.objects
             → is_gone (object_at self.old.objects h) ≡ false }
-        ensures { IsMade self.old self.new thread denied (Call.Wait (WaitCall.Objects all alertable ms numbers.now))
-            (replied result) }
+        ensures { IsMade self.old self.new thread denied (Call.Wait (objects_call mode numbers.now)) (replied result) }
     {
         match objects_refusal(self.objects.as_slice(), thread, denied, numbers) {
             Some(refusal) => Err(refusal),
-            None => self.begin_wait(thread, numbers, all, ms, alertable),
+            None => self.begin_wait(thread, numbers, mode),
         }
     }
 
@@ -172,41 +173,32 @@ impl Machine {
         &mut self,
         thread: ThreadId,
         these: &[Handle],
-        all: bool,
-        ms: u32,
-        alertable: bool,
+        mode: Mode,
     ) -> Result<Reply, Refusal>
         requires fresh { IsFresh self.old }
         requires caller { IsFree (state self.old) thread }
-        ensures { IsWaitMade self.old self.new thread (WaitCall.Objects all alertable ms these.now) result }
+        ensures { IsWaitMade self.old self.new thread (objects_call mode these.now) result }
     {
         if let [handle] = these {
             let (object, denied) = opened(&self.handles, *handle, SYNCHRONIZE);
-            return replied(self.wait_for(thread, denied, &[object], all, ms, alertable));
+            return replied(self.wait_for(thread, denied, &[object], mode));
         }
-        replied(self.wait_for_several(thread, these, all, ms, alertable))
+        replied(self.wait_for_several(thread, these, mode))
     }
 
     /// The same for any number of handles. It stands apart, since the list of their objects lies in its own frame.
     #[inline(never)]
-    fn wait_for_several(
-        &mut self,
-        thread: ThreadId,
-        these: &[Handle],
-        all: bool,
-        ms: u32,
-        alertable: bool,
-    ) -> Result<Option<Status>, Refusal>
+    fn wait_for_several(&mut self, thread: ThreadId, these: &[Handle], mode: Mode) -> Begun
         requires fresh { IsFresh self.old }
         requires caller { IsFree (state self.old) thread }
-        ensures { IsWaitMade self.old self.new thread (WaitCall.Objects all alertable ms these.now) (replied result) }
+        ensures { IsWaitMade self.old self.new thread (objects_call mode these.now) (replied result) }
     {
         if these.len() > MAX_WAIT_OBJECTS {
             return Err(Refusal::InvalidParameter);
         }
         let mut numbers = NamedObjects::new();
         let denied = name_all(&self.handles, these, &mut numbers);
-        self.wait_for(thread, denied, numbers.as_slice(), all, ms, alertable)
+        self.wait_for(thread, denied, numbers.as_slice(), mode)
     }
 
     /// A waiting call, begun or refused by its own causes.
@@ -222,16 +214,20 @@ impl Machine {
                 all,
                 ms,
                 alertable,
-            } => self.wait_for_objects(thread, handles.as_slice(), *all, *ms, *alertable),
+            } => self.wait_for_objects(
+                thread,
+                handles.as_slice(),
+                Mode::new(*all, *ms, *alertable),
+            ),
             WaitCall::Sleep { ms, alertable } => {
-                replied(self.begin_wait(thread, &[], false, *ms, *alertable))
+                replied(self.begin_wait(thread, &[], Mode::new(false, *ms, *alertable)))
             }
             WaitCall::Swap {
                 signal,
                 object,
                 ms,
                 alertable,
-            } => self.signal_and_wait(thread, *signal, *object, *ms, *alertable),
+            } => self.signal_and_wait(thread, *signal, *object, Mode::new(false, *ms, *alertable)),
         }
     }
 }

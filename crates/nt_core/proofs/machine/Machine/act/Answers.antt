@@ -1,4 +1,8 @@
-use Rattle.std.proofs.Common.{rules}
+use Rattle.std.proofs.Common.{rules, refl, false}
+use Rattle.nt_calls.specs.declared.call.Act.{Act}
+use Rattle.nt_calls.specs.declared.call.Call.{Call}
+use Rattle.nt_core.proofs.Making.{accepted_made}
+use Rattle.nt_core.proofs.Running.{free_runs}
 use Rattle.nt_core.proofs.machine.Machine.act.Goals as goal
 
 pub returns-in-CreateEvent : goal.returns-in-CreateEvent
@@ -33,3 +37,10 @@ returns-in-CreateSemaphore c = let made = c.create_semaphore.ensures c.args.thre
 
 pub returns-in-ReleaseSemaphore : goal.returns-in-ReleaseSemaphore
 returns-in-ReleaseSemaphore c = let made = c.release_semaphore.ensures c.args.thread c.requires.free in search (rules, made)
+
+pub next_apc-requires-clause-running : goal.next_apc-requires-clause-running
+next_apc-requires-clause-running c = free_runs c.args.self.now c.args.thread c.requires.free
+
+pub returns-in-NextApc : goal.returns-in-NextApc
+returns-in-NextApc c =
+    rw c.in-NextApc.is (accepted_made c.args.self.now c.next_apc.new.self c.args.thread false (Call.Act Act.NextApc) c.next_apc.result c.requires.free refl c.next_apc.ensures)

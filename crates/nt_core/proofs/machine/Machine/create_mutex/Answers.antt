@@ -8,6 +8,7 @@ use Rattle.nt_calls.specs.declared.call.Call.{Call}
 use Rattle.nt_core.proofs.Owned.{new_owner}
 use Rattle.nt_core.proofs.Replacing.{mutex_undue, mutex_no_thread, mutex_lives}
 use Rattle.nt_core.proofs.Making.{refused_made, unlawful_creation, unknown_bits, created_made, created_as}
+use Rattle.nt_core.proofs.Running.{free_runs}
 use Rattle.nt_core.proofs.machine.Machine.create_mutex.Goals as goal
 
 pub returns-in_default : goal.returns-in_default
@@ -28,4 +29,4 @@ returns c =
     c.create.ensures.few c.create.ensures.handle (created_as c.create.result old new c.new_mutex.result o is_o c.create.ensures.ok) c.create.ensures.refused c.create.ensures.err
 
 pub create-requires-clause-owner : goal.create-requires-clause-owner
-create-requires-clause-owner c t owns = new_owner c.in-Some.flags c.args.thread t c.args.self.now.threads c.requires.known (subst (λ (o : Object). owned_by o t ≡ true) (c.new_mutex.ensures.mutex) owns)
+create-requires-clause-owner c t owns = new_owner c.in-Some.flags c.args.thread t c.args.self.now.threads (free_runs c.args.self.now c.args.thread c.requires.free).known (subst (λ (o : Object). owned_by o t ≡ true) (c.new_mutex.ensures.mutex) owns)

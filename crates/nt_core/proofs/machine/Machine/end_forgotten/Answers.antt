@@ -24,9 +24,9 @@ loop-place-preserved c =
     (c.end_marked.ensures.becomes ∙ ap (λ (k : ℕ). if is_forgotten (state c.loop-place.self) k then gone (state c.loop-place.self) k else state c.loop-place.self) c.new.ensures)
     (c.end_marked.ensures.leaving ∙ ap (λ (k : ℕ). slice_set c.loop-place.self.leaving k None) c.new.ensures)
     c.end_marked.ensures.sound
-    c.end_marked.ensures.grants
-    c.end_marked.ensures.table
-    c.end_marked.ensures.marked
+    c.end_marked.ensures.kept.grants
+    c.end_marked.ensures.kept.table
+    c.end_marked.ensures.kept.marked
 
 pub returns : goal.returns
 returns c =

@@ -21,7 +21,7 @@ returns c =
     let last = the_view c.self-2.inside in
     let new = record last { marked = record last.marked { changed = c.set.new.self } } in
     let placed : new ≡ marks t last = ap (λ (xs : List (Option ℕ)). record last { marked = record last.marked { changed = xs } }) (c.set.ensures ∙ ap (λ (k : ℕ). set last.marked.changed k (Some 0)) c.get-2.ensures) in
-    let all = own_ended old new t apcs c.requires.sound c.requires.idle c.requires.known c.requires.runs c.requires.unset
+    let all = own_ended old new t apcs c.requires.sound c.requires.running.idle c.requires.running.known c.requires.running.runs c.requires.unset
     (placed ∙ ap (marks t) (c.self-2.view_is ∙ (c.mark.ensures ∙ (ap (λ (h : ℕ). record mid { leaving = set mid.leaving h (Some 0) }) own ∙ ap (λ (d : Dispatcher). record d { leaving = set d.leaving t (Some 0) }) ended))))
     (c.clear.ensures.queues ∙ ap (λ (d : Dispatcher). cleared d.apcs.queues t) before)
     (λ m. c.clear.ensures.places m ∙ ap (λ (d : Dispatcher). given_up t (place_of d.apcs.places m)) before) in

@@ -13,7 +13,7 @@ use Rattle.nt_core.proofs.Places.{serving_whole}
 use Rattle.nt_core.proofs.machine.Machine.exit.Goals as goal
 
 pub leave-requires : goal.leave-requires
-leave-requires c = record { sound = c.requires.fresh.steady.sound; unmarked = c.requires.fresh.steady.unmarked; idle = c.requires.idle; known = c.requires.known; runs = c.requires.runs }
+leave-requires c = record { sound = c.requires.fresh.steady.sound; unmarked = c.requires.fresh.steady.unmarked; running = c.requires.running }
 
 pub serve_marked-requires : goal.serve_marked-requires
 serve_marked-requires c =
@@ -35,7 +35,7 @@ returns c =
     let left = c.leave.ensures.left in
     let handles = marked_places mid.marked.changed in
     let changed : AreRising (IsChanged old.objects (objects_left old.objects t)) handles = exited_places old mid t left in
-    let fit : FitOnlyIn (sequence (state mid) handles) (state mid) = subst (λ (s : State). FitOnlyIn (sequence s handles) s) (sym left.becomes) (exited_fit old t handles c.requires.fresh.steady c.requires.known c.requires.runs changed) in
+    let fit : FitOnlyIn (sequence (state mid) handles) (state mid) = subst (λ (s : State). FitOnlyIn (sequence s handles) s) (sym left.becomes) (exited_fit old t handles c.requires.fresh.steady c.requires.running.known c.requires.running.runs changed) in
     let whole = serving_whole (sequence (state mid) handles) (with_marked mid new.marked) new (left.grants ∙ c.requires.fresh.no_grants) (ap (λ (w : Waits). w.looked) left.table ∙ c.requires.fresh.untested) fit c.serve_marked.ensures.visits in
     exited_accepted old mid new t handles c.requires.fresh left changed whole.0 c.serve_marked.ensures.sound whole.1 whole.2
     (record { changed = c.serve_marked.ensures.served; alerted = subst (λ marks. NoneAt marks 0) (sym (c.serve_marked.ensures.alerted ∙ left.alerted)) c.requires.fresh.steady.unmarked.alerted })

@@ -45,7 +45,7 @@ loop-place-smaller c =
     let timer : c.new-timer.result ≡ c.in-Some.place = c.new-timer.ensures in
     let marked : c.mark_due.new.self ≡ due_marked now c.in-Some.place = c.mark_due.ensures ∙ ap (λ (k : ℕ). due_marked now k) timer in
     let same : length c.expire.new.self.objects ≡ length now.objects = ap (λ (s : State). length s.objects) c.expire.ensures.expired ∙ (length_expired (state c.mark_due.new.self) c.args.m (c.new-timer.result ∷ []) ∙ ap (λ (d : Dispatcher). length d.objects) marked) in
-    let less : length c.expire.new.self.objects - length (marked_places c.expire.new.self.marked.changed) < length now.objects - length (marked_places now.marked.changed) = expired_fewer c.args.self.now now c.mark_due.new.self c.expire.new.self c.args.m c.args.u c.in-Some.place far lowest marked c.expire.ensures.marked same in
+    let less : length c.expire.new.self.objects - length (marked_places c.expire.new.self.marked.changed) < length now.objects - length (marked_places now.marked.changed) = expired_fewer c.args.self.now now c.mark_due.new.self c.expire.new.self c.args.m c.args.u c.in-Some.place far lowest marked c.expire.ensures.kept.marked same in
     less
 
 pub loop-place-preserved : goal.loop-place-preserved
@@ -56,7 +56,7 @@ loop-place-preserved c =
     let timer : c.new-timer.result ≡ c.in-Some.place = c.new-timer.ensures in
     let marked : c.mark_due.new.self ≡ due_marked now c.in-Some.place = c.mark_due.ensures ∙ ap (λ (k : ℕ). due_marked now k) timer in
     expired_marked c.args.self.now now c.mark_due.new.self c.expire.new.self c.args.m c.args.u c.in-Some.place c.requires.within far lowest marked
-    (c.expire.ensures.expired ∙ ap (λ (k : ℕ). expired c.args.m (state c.mark_due.new.self) k) timer) c.expire.ensures.grants c.expire.ensures.table c.expire.ensures.marked c.expire.ensures.sound
+    (c.expire.ensures.expired ∙ ap (λ (k : ℕ). expired c.args.m (state c.mark_due.new.self) k) timer) c.expire.ensures.kept.grants c.expire.ensures.kept.table c.expire.ensures.kept.marked c.expire.ensures.sound
 
 pub returns-clause-expired : goal.returns-clause-expired
 returns-clause-expired c =

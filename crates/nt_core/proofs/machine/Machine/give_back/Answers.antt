@@ -1,7 +1,7 @@
 use Rattle.nt_objects.specs.Object.{unlocked}
 use Rattle.nt_calls.specs.State.{object_at}
 use Rattle.nt_core.proofs.Replacing.{known_mutex, unlocked_differs}
-use Rattle.nt_core.proofs.Exchanging.{may_unlock, exchanged_sound, exchanged_fit, exchanged_needed, exchanged_few, exchanged_served, exchanged_prepared}
+use Rattle.nt_core.proofs.Exchanging.{may_unlock, exchanged_sound, exchanged_fit, exchanged_needed, exchanged_served, exchanged_prepared}
 use Rattle.nt_core.proofs.machine.Machine.give_back.Goals as goal
 
 pub unlock-requires-clause-known : goal.unlock-requires-clause-known
@@ -15,9 +15,6 @@ serve_one-requires-clause-local c = exchanged_fit c.args.self.now c.unlock.new.s
 
 pub serve_one-requires-clause-needed : goal.serve_one-requires-clause-needed
 serve_one-requires-clause-needed c = exchanged_needed c.args.self.now c.unlock.new.self c.args.mutex (unlocked (object_at c.args.self.now.objects c.args.mutex)) c.requires.fresh (may_unlock c.args.self.now c.args.mutex c.args.thread c.requires.fresh c.requires.owner) (c.unlock.ensures)
-
-pub serve_one-requires-clause-countable : goal.serve_one-requires-clause-countable
-serve_one-requires-clause-countable c = exchanged_few c.args.self.now c.unlock.new.self c.args.mutex (unlocked (object_at c.args.self.now.objects c.args.mutex)) c.requires.fresh (c.unlock.ensures)
 
 pub returns-clause-served : goal.returns-clause-served
 returns-clause-served c =

@@ -20,7 +20,7 @@ abandon_all-requires c = c.requires.sound
 pub stop_all-requires : goal.stop_all-requires
 stop_all-requires c = record {
   sound = freed_sound c.args.self.now c.abandon_all.new.self c.args.thread c.requires.sound c.abandon_all.ensures.marked.count c.abandon_all.ensures.abandoned;
-  known = let known = c.requires.known in let threads : c.abandon_all.new.self.threads ≡ c.args.self.now.threads = ap (λ (d : Dispatcher). d.threads) c.abandon_all.ensures.abandoned in omega (arith, known, threads);
+  known = let known = c.requires.running.known in let threads : c.abandon_all.new.self.threads ≡ c.args.self.now.threads = ap (λ (d : Dispatcher). d.threads) c.abandon_all.ensures.abandoned in omega (arith, known, threads);
 }
 
 pub end_own-requires : goal.end_own-requires
@@ -32,9 +32,11 @@ end_own-requires c =
     let rest = stops.rest in
     record {
       sound = c.stop_all.ensures.sound;
-      idle = ap (λ (d : Dispatcher). fin.get d.table.pending c.args.thread) rest ∙ (ap (λ (d : Dispatcher). fin.get d.table.pending c.args.thread) c.abandon_all.ensures.abandoned ∙ c.requires.idle);
-      known = let known = c.requires.known in let threads : stopped.threads ≡ old.threads = ap (λ (d : Dispatcher). d.threads) rest ∙ ap (λ (d : Dispatcher). d.threads) c.abandon_all.ensures.abandoned in omega (arith, known, threads);
-      runs = ap has_ended (stopped_own old mid stopped c.args.thread c.requires.sound c.requires.known c.requires.runs c.abandon_all.ensures.abandoned stops);
+      running = record {
+        idle = ap (λ (d : Dispatcher). fin.get d.table.pending c.args.thread) rest ∙ (ap (λ (d : Dispatcher). fin.get d.table.pending c.args.thread) c.abandon_all.ensures.abandoned ∙ c.requires.running.idle);
+        known = let known = c.requires.running.known in let threads : stopped.threads ≡ old.threads = ap (λ (d : Dispatcher). d.threads) rest ∙ ap (λ (d : Dispatcher). d.threads) c.abandon_all.ensures.abandoned in omega (arith, known, threads);
+        runs = ap has_ended (stopped_own old mid stopped c.args.thread c.requires.sound c.requires.running.known c.requires.running.runs c.abandon_all.ensures.abandoned stops);
+      };
       unset = none_set mid stopped c.args.thread stops;
     }
 
@@ -52,7 +54,7 @@ returns-clause-left c =
     let marks : AreMarked old t mid.marked.changed stopped.marked.changed new.marked.changed = record { none = c.requires.unmarked.changed; mutexes = c.abandon_all.ensures.marked; timers = timers; own = ap (λ (m : Marked). m.changed) c.end_own.ensures.marked } in
     record {
       becomes = becomes;
-      changed = λ h. subst (λ (os : List Object). (alarm_at new.marked.changed h ≡ Some 0) ↔ IsChanged old.objects os h) (sym objects) (marked_changed old t mid.marked.changed stopped.marked.changed new.marked.changed c.requires.sound c.requires.known c.requires.runs marks h);
+      changed = λ h. subst (λ (os : List Object). (alarm_at new.marked.changed h ≡ Some 0) ↔ IsChanged old.objects os h) (sym objects) (marked_changed old t mid.marked.changed stopped.marked.changed new.marked.changed c.requires.sound c.requires.running.known c.requires.running.runs marks h);
       grants = c.end_own.ensures.grants ∙ (ap (λ (d : Dispatcher). d.grants) stops.rest ∙ ap (λ (d : Dispatcher). d.grants) c.abandon_all.ensures.abandoned);
       table = c.end_own.ensures.table ∙ (ap (λ (d : Dispatcher). d.table) stops.rest ∙ ap (λ (d : Dispatcher). d.table) c.abandon_all.ensures.abandoned);
       alerted = ap (λ (m : Marked). m.alerted) c.end_own.ensures.marked ∙ (ap (λ (d : Dispatcher). d.marked.alerted) stops.rest ∙ ap (λ (d : Dispatcher). d.marked.alerted) c.abandon_all.ensures.abandoned);

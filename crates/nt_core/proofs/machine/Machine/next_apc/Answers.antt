@@ -18,7 +18,7 @@ returns-then-may_take c =
     let may : may_take (state old) c.args.thread ≡ true = sym c.may_take.ensures ∙ c.if-may_take.true in
     subst (λ (d : Dispatcher). Accepts old d c.args.thread (Call.Act Act.NextApc) (Reply.Apc c.take_apc.result)) (sym c.take_apc.ensures.taken)
     (subst (λ (a : Option Apc). Accepts old (record old { apcs = record old.apcs { queues = taken old.apcs.queues c.args.thread } }) c.args.thread (Call.Act Act.NextApc) (Reply.Apc a)) (sym c.take_apc.ensures.oldest)
-    (taken_accepted old c.args.thread c.requires.fresh c.requires.idle may))
+    (taken_accepted old c.args.thread c.requires.fresh c.requires.running.idle may))
 
 pub returns-else-may_take : goal.returns-else-may_take
 returns-else-may_take c =

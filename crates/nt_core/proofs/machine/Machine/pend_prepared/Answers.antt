@@ -21,9 +21,9 @@ returns-clause-sound c =
     let t = found.0.0 in
     let w = found.0.1 in
     let sound : IsSound d = subst IsSound (sym c.self.view_is) c.requires.sound in
-    let able : IsSoundWait d.threads d.objects t w = subst (λ (x : Dispatcher). IsSoundWait x.threads x.objects t w) (sym c.self.view_is) (c.requires.able found.0 found.1) in
-    let idle : fin.get d.table.pending t ≡ None = subst (λ (x : Dispatcher). fin.get x.table.pending t ≡ None) (sym c.self.view_is) (c.requires.idle found.0 found.1) in
-    let room : length d.grants + fin.len d.table.pending < d.threads = subst (λ (x : Dispatcher). length x.grants + fin.len x.table.pending < x.threads) (sym c.self.view_is) c.requires.room in
+    let able : IsSoundWait d.threads d.objects t w = subst (λ (x : Dispatcher). IsSoundWait x.threads x.objects t w) (sym c.self.view_is) (c.requires.can found.0 found.1).able in
+    let idle : fin.get d.table.pending t ≡ None = subst (λ (x : Dispatcher). fin.get x.table.pending t ≡ None) (sym c.self.view_is) (c.requires.can found.0 found.1).idle in
+    let room : length d.grants + fin.len d.table.pending < d.threads = subst (λ (x : Dispatcher). length x.grants + fin.len x.table.pending < x.threads) (sym c.self.view_is) (c.requires.can found.0 found.1).room in
     let done = c.begin_prepared.ensures.begins found.0 (ap (λ (x : Dispatcher). x.table.prepared) c.self.view_is ∙ found.1) in
     sound_begun d c.begin_prepared.new.self t w sound able idle room done.pending c.begin_prepared.ensures.agrees (queues_longer d.table c.begin_prepared.new.self t w done.joined done.queues_kept)
 

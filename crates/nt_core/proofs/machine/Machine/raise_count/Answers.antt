@@ -3,7 +3,7 @@ use Rattle.std.proofs.lemmas.Int.{to_z-of_z}
 use Rattle.nt_objects.specs.Object.{released}
 use Rattle.nt_calls.specs.State.{object_at}
 use Rattle.nt_core.proofs.Replacing.{known_semaphore, released_differs}
-use Rattle.nt_core.proofs.Exchanging.{may_count_more, exchanged_alone, exchanged_sound, exchanged_fit, exchanged_needed, exchanged_few, exchanged_served, exchanged_prepared}
+use Rattle.nt_core.proofs.Exchanging.{may_count_more, exchanged_alone, exchanged_sound, exchanged_fit, exchanged_needed, exchanged_served, exchanged_prepared}
 use Rattle.nt_core.proofs.machine.Machine.raise_count.Goals as goal
 
 pub count-previous-requires-clause-known : goal.count-previous-requires-clause-known
@@ -17,9 +17,6 @@ serve_one-requires-clause-local c = exchanged_fit c.args.self.now c.count-previo
 
 pub serve_one-requires-clause-needed : goal.serve_one-requires-clause-needed
 serve_one-requires-clause-needed c = exchanged_needed c.args.self.now c.count-previous.new.self c.args.semaphore (released c.args.count (object_at c.args.self.now.objects c.args.semaphore)) c.requires.fresh (may_count_more c.args.self.now c.args.semaphore c.args.count c.requires.fresh c.requires.kind c.requires.positive c.requires.within) (exchanged_alone c.args.self.now c.count-previous.new.self c.args.semaphore (released c.args.count (object_at c.args.self.now.objects c.args.semaphore)) (rw (to_z-of_z w32 c.args.count c.ranges.count) at c.count-previous.ensures.becomes))
-
-pub serve_one-requires-clause-countable : goal.serve_one-requires-clause-countable
-serve_one-requires-clause-countable c = exchanged_few c.args.self.now c.count-previous.new.self c.args.semaphore (released c.args.count (object_at c.args.self.now.objects c.args.semaphore)) c.requires.fresh (exchanged_alone c.args.self.now c.count-previous.new.self c.args.semaphore (released c.args.count (object_at c.args.self.now.objects c.args.semaphore)) (rw (to_z-of_z w32 c.args.count c.ranges.count) at c.count-previous.ensures.becomes))
 
 pub returns-clause-served : goal.returns-clause-served
 returns-clause-served c =

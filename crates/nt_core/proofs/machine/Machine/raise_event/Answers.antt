@@ -4,7 +4,7 @@ use Rattle.nt_calls.specs.State.{object_at}
 use Rattle.nt_core.specs.Dispatcher.{Dispatcher}
 use Rattle.nt_core.proofs.Changing.{known_event}
 use Rattle.nt_core.proofs.Replacing.{set_may_replace}
-use Rattle.nt_core.proofs.Exchanging.{exchanged_alone, exchanged_sound, exchanged_fit, exchanged_needed, exchanged_few, exchanged_served, exchanged_prepared, raised_differs, raised_already}
+use Rattle.nt_core.proofs.Exchanging.{exchanged_alone, exchanged_sound, exchanged_fit, exchanged_needed, exchanged_served, exchanged_prepared, raised_differs, raised_already}
 use Rattle.nt_core.proofs.machine.Machine.raise_event.Goals as goal
 
 pub set-requires-clause-known : goal.set-requires-clause-known
@@ -18,9 +18,6 @@ serve_one-requires-clause-local c = exchanged_fit c.args.self.now c.set.new.self
 
 pub serve_one-requires-clause-needed : goal.serve_one-requires-clause-needed
 serve_one-requires-clause-needed c = exchanged_needed c.args.self.now c.set.new.self c.args.event (with_set true (object_at c.args.self.now.objects c.args.event)) c.requires.fresh (set_may_replace true (object_at c.args.self.now.objects c.args.event) c.requires.kind) (exchanged_alone c.args.self.now c.set.new.self c.args.event (with_set true (object_at c.args.self.now.objects c.args.event)) c.set.ensures.becomes)
-
-pub serve_one-requires-clause-countable : goal.serve_one-requires-clause-countable
-serve_one-requires-clause-countable c = exchanged_few c.args.self.now c.set.new.self c.args.event (with_set true (object_at c.args.self.now.objects c.args.event)) c.requires.fresh (exchanged_alone c.args.self.now c.set.new.self c.args.event (with_set true (object_at c.args.self.now.objects c.args.event)) c.set.ensures.becomes)
 
 pub returns-then-set-clause-served : goal.returns-then-set-clause-served
 returns-then-set-clause-served c =

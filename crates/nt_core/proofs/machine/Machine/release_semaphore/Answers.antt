@@ -1,5 +1,5 @@
 use Rattle.std.proofs.Common.{◌≡◌, ℕ, refl, sym, ◌∙◌, subst, w32, rules}
-use Rattle.std.specs.Prelude.{Ok}
+use Rattle.std.specs.Prelude.{Ok, Err}
 use Rattle.nt_calls.specs.declared.call.Act.{Act}
 use Rattle.nt_calls.specs.declared.call.Call.{Call}
 use Rattle.nt_calls.specs.declared.call.Reply.{Reply}
@@ -15,6 +15,9 @@ use Rattle.nt_core.specs.Accepts.{Accepts}
 use Rattle.nt_core.proofs.Replacing.{replaced_accepted}
 use Rattle.nt_core.proofs.Exchanging.{may_count_more}
 use Rattle.nt_core.proofs.Making.{refused_with, accepted_made, release_free}
+use Rattle.nt_calls.specs.Refusals.{IsJudged, release_causes}
+use Rattle.nt_status.specs.Access.{modify_state}
+use Rattle.nt_core.specs.Dispatcher.{Dispatcher}
 use Rattle.nt_core.proofs.machine.Machine.release_semaphore.Goals as goal
 
 pub returns-in_err-semaphore : goal.returns-in_err-semaphore
@@ -22,7 +25,7 @@ returns-in_err-semaphore c t free =
     let old = c.args.self.now in
     let counted : to_z w32 (of_z w32 c.args.count) ≡ c.args.count = to_z-of_z w32 c.args.count c.ranges.count in
     let act = Act.ReleaseSemaphore c.args.semaphore c.args.count in
-    refused_with old t (act_denied old.handles act) (Call.Act (act_named old.handles act)) c.in_err-semaphore.field-0.0 c.from_residual.result c.from_residual.ensures.1 c.requires.fresh free (rw counted at c.in_err-semaphore.ensures)
+    refused_with old t (act_denied old.handles act) (Call.Act (act_named old.handles act)) c.in_err-semaphore.field-0.0 c.from_residual.result c.from_residual.ensures.1 c.requires.fresh free (subst (λ (x : Dispatcher). IsJudged x.handles c.args.semaphore modify_state (λ denied h. release_causes x.objects denied h c.args.count) (Err c.in_err-semaphore.field-0.0)) c.self.view_is (rw counted at c.in_err-semaphore.ensures))
 
 pub returns : goal.returns
 returns c t free =
@@ -31,7 +34,7 @@ returns c t free =
     let counted : to_z w32 (of_z w32 c.args.count) ≡ c.args.count = to_z-of_z w32 c.args.count c.ranges.count in
     let act = Act.ReleaseSemaphore c.args.semaphore c.args.count in
     let semaphore = c.in_ok-semaphore.semaphore in
-    let judged = (rw counted at c.in_ok-semaphore.ensures) in
+    let judged = (subst (λ (x : Dispatcher). IsJudged x.handles c.args.semaphore modify_state (λ denied h. release_causes x.objects denied h c.args.count) (Ok c.in_ok-semaphore.semaphore)) c.self.view_is (rw counted at c.in_ok-semaphore.ensures)) in
     let o = object_at old.objects semaphore in
     let may = release_free old.objects (act_denied old.handles act) semaphore c.args.count judged.1 in
     let more = may_count_more old semaphore c.args.count c.requires.fresh may.0 may.1 may.2 in

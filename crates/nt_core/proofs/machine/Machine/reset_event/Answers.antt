@@ -2,7 +2,7 @@ use Rattle.std.proofs.Common.{ℕ, sym, subst}
 use Rattle.nt_calls.specs.declared.call.Act.{Act}
 use Rattle.nt_calls.specs.declared.call.Call.{Call}
 use Rattle.nt_calls.specs.declared.call.Reply.{Reply}
-use Rattle.std.specs.Prelude.{Ok}
+use Rattle.std.specs.Prelude.{Ok, Err}
 use Rattle.nt_calls.specs.Naming.{act_named}
 use Rattle.nt_calls.specs.Rights.{act_denied}
 use Rattle.nt_core.specs.Accepts.{IsMade}
@@ -11,13 +11,15 @@ use Rattle.nt_core.specs.Dispatcher.{Dispatcher}
 use Rattle.nt_core.specs.Accepts.{Accepts}
 use Rattle.nt_core.proofs.Replacing.{reset_accepted}
 use Rattle.nt_core.proofs.Making.{refused_with, accepted_made, kind_free}
+use Rattle.nt_calls.specs.Refusals.{IsJudged, kind_causes}
+use Rattle.nt_status.specs.Access.{modify_state}
 use Rattle.nt_core.proofs.machine.Machine.reset_event.Goals as goal
 
 pub returns-in_err-event : goal.returns-in_err-event
 returns-in_err-event c t free =
     let old = c.args.self.now in
     let act = Act.ResetEvent c.args.event in
-    refused_with old t (act_denied old.handles act) (Call.Act (act_named old.handles act)) c.in_err-event.field-0.0 c.from_residual.result c.from_residual.ensures.1 c.requires.fresh free c.in_err-event.ensures
+    refused_with old t (act_denied old.handles act) (Call.Act (act_named old.handles act)) c.in_err-event.field-0.0 c.from_residual.result c.from_residual.ensures.1 c.requires.fresh free (subst (λ (x : Dispatcher). IsJudged x.handles c.args.event modify_state (kind_causes is_event x.objects) (Err c.in_err-event.field-0.0)) c.self.view_is c.in_err-event.ensures)
 
 pub returns : goal.returns
 returns c t free =
@@ -25,7 +27,7 @@ returns c t free =
     let new = c.unset.new.self in
     let act = Act.ResetEvent c.args.event in
     let event = c.in_ok-event.event in
-    let judged = c.in_ok-event.ensures in
+    let judged = (subst (λ (x : Dispatcher). IsJudged x.handles c.args.event modify_state (kind_causes is_event x.objects) (Ok c.in_ok-event.event)) c.self.view_is c.in_ok-event.ensures) in
     let accepted = subst (λ (d : Dispatcher). Accepts old d t (Call.Act (Act.ResetEvent event)) Reply.Done) (sym c.unset.ensures)
     (reset_accepted old t event c.requires.fresh (kind_free is_event old.objects (act_denied old.handles (Act.ResetEvent c.args.event)) event judged.1)) in
     subst (λ (h : ℕ). IsMade old new t (act_denied old.handles act) (Call.Act (Act.ResetEvent h)) (Ok Reply.Done)) judged.0

@@ -30,45 +30,50 @@ pub loop-next-preserved : goal.loop-next-preserved
 loop-next-preserved c = (
   at_next c.args.handle c.args.self.now c.loop-next.self c.visit-next.new.self c.in-Some.thread c.visit-next.result
       (here (goal.at.loop-next-preserved c).In-Some)
-      c.visit-next.ensures.visited
-      c.visit-next.ensures.sound
+      c.visit-next.ensures.visited.visited
+      c.visit-next.ensures.visited.sound
       c.visit-next.ensures.next,
-  c.visit-next.ensures.prepared ∙ c.loop-next.invariant.1,
-  by_visited c.args.handle c.loop-next.self c.visit-next.new.self c.in-Some.thread c.visit-next.ensures.visited c.loop-next.invariant.2,
+  c.visit-next.ensures.visited.prepared ∙ c.loop-next.invariant.1,
+  by_visited c.args.handle c.loop-next.self c.visit-next.new.self c.in-Some.thread c.visit-next.ensures.visited.visited c.loop-next.invariant.2,
 )
 
 pub loop-next-preserved-else-not-is_ready : goal.loop-next-preserved-else-not-is_ready
 loop-next-preserved-else-not-is_ready c = (
   subst (λ (at : Option ℕ). IsAt c.args.handle c.args.self.now c.visit-next.new.self at) c.in-Some-next.is (at_next c.args.handle c.args.self.now c.loop-next.self c.visit-next.new.self c.in-Some.thread c.visit-next.result
       (here (goal.at.loop-next-preserved-else-not-is_ready c).In-Some)
-      c.visit-next.ensures.visited
-      c.visit-next.ensures.sound
+      c.visit-next.ensures.visited.visited
+      c.visit-next.ensures.visited.sound
       c.visit-next.ensures.next),
-  c.visit-next.ensures.prepared ∙ c.loop-next.invariant.1,
-  by_visited c.args.handle c.loop-next.self c.visit-next.new.self c.in-Some.thread c.visit-next.ensures.visited c.loop-next.invariant.2,
+  c.visit-next.ensures.visited.prepared ∙ c.loop-next.invariant.1,
+  by_visited c.args.handle c.loop-next.self c.visit-next.new.self c.in-Some.thread c.visit-next.ensures.visited.visited c.loop-next.invariant.2,
 )
 
 pub loop-next-smaller : goal.loop-next-smaller
 loop-next-smaller c =
     let more = at_countable c.args.handle c.args.self.now c.loop-next.self c.in-Some.thread (here (goal.at.loop-next-smaller c).In-Some) in
-    let looked = looked_visited c.loop-next.self c.visit-next.new.self c.in-Some.thread c.visit-next.ensures.visited in
+    let looked = looked_visited c.loop-next.self c.visit-next.new.self c.in-Some.thread c.visit-next.ensures.visited.visited in
     let less : (c.args.self.now.table.looked + length ((state c.args.self.now).queues c.args.handle)) - c.visit-next.new.self.table.looked < (c.args.self.now.table.looked + length ((state c.args.self.now).queues c.args.handle)) - c.loop-next.self.table.looked = omega (arith, more, looked) in
     less
 
-pub returns-clause-visits : goal.returns-clause-visits
-returns-clause-visits c =
-    at_end c.args.handle c.args.self.now c.loop-next.self (subst (λ (at : Option ℕ). IsAt c.args.handle c.args.self.now c.loop-next.self at) c.in_default.is c.loop-next.invariant.0)
+pub returns : goal.returns
+returns c =
+    let end = subst (λ (at : Option ℕ). IsAt c.args.handle c.args.self.now c.loop-next.self at) c.in_default.is c.loop-next.invariant.0 in
+    record { visits = at_end c.args.handle c.args.self.now c.loop-next.self end; prepared = c.loop-next.invariant.1; sound = end.sound }
 
 -- nothing that is left fits
-pub returns-then-not-is_ready-clause-visits : goal.returns-then-not-is_ready-clause-visits
-returns-then-not-is_ready-clause-visits c =
+pub returns-then-not-is_ready : goal.returns-then-not-is_ready
+returns-then-not-is_ready c =
     let unready : is_ready c.visit-next.new.self.objects c.in-Some-next.after c.args.handle ≡ false =
     ap (λ (d : Dispatcher). is_ready d.objects c.in-Some-next.after c.args.handle) (sym c.self.view_is)
     ∙ (ap (λ (os : List Object). is_ready os c.in-Some-next.after c.args.handle) (sym c.as_slice.ensures) ∙ (sym c.is_ready.ensures ∙ c.if-not-is_ready.true)) in
     let at = at_next c.args.handle c.args.self.now c.loop-next.self c.visit-next.new.self c.in-Some.thread c.visit-next.result
-    (here (goal.at.returns-then-not-is_ready-clause-visits c).In-Some)
-    c.visit-next.ensures.visited
-    c.visit-next.ensures.sound
+    (here (goal.at.returns-then-not-is_ready c).In-Some)
+    c.visit-next.ensures.visited.visited
+    c.visit-next.ensures.visited.sound
     c.visit-next.ensures.next in
-    let by = by_visited c.args.handle c.loop-next.self c.visit-next.new.self c.in-Some.thread c.visit-next.ensures.visited c.loop-next.invariant.2 in
-    at_stop c.args.handle c.args.self.now c.visit-next.new.self c.visit-next.result at (by_none c.args.handle (state c.visit-next.new.self) c.in-Some-next.after by unready)
+    let by = by_visited c.args.handle c.loop-next.self c.visit-next.new.self c.in-Some.thread c.visit-next.ensures.visited.visited c.loop-next.invariant.2 in
+    record {
+      visits = at_stop c.args.handle c.args.self.now c.visit-next.new.self c.visit-next.result at (by_none c.args.handle (state c.visit-next.new.self) c.in-Some-next.after by unready);
+      prepared = c.visit-next.ensures.visited.prepared ∙ c.loop-next.invariant.1;
+      sound = c.visit-next.ensures.visited.sound;
+    }

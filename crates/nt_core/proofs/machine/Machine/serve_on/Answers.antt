@@ -28,16 +28,16 @@ pub loop-at-preserved : goal.loop-at-preserved
 loop-at-preserved c = (
   at_next c.args.handle c.args.self.now c.loop-at.self c.visit-at.new.self c.in-Some.thread c.visit-at.result
       (here (goal.at.loop-at-preserved c).In-Some)
-      c.visit-at.ensures.visited
-      c.visit-at.ensures.sound
+      c.visit-at.ensures.visited.visited
+      c.visit-at.ensures.visited.sound
       c.visit-at.ensures.next,
-  c.visit-at.ensures.prepared ∙ c.loop-at.invariant.1,
+  c.visit-at.ensures.visited.prepared ∙ c.loop-at.invariant.1,
 )
 
 pub loop-at-smaller : goal.loop-at-smaller
 loop-at-smaller c =
     let more = at_countable c.args.handle c.args.self.now c.loop-at.self c.in-Some.thread (here (goal.at.loop-at-smaller c).In-Some) in
-    let looked = looked_visited c.loop-at.self c.visit-at.new.self c.in-Some.thread c.visit-at.ensures.visited in
+    let looked = looked_visited c.loop-at.self c.visit-at.new.self c.in-Some.thread c.visit-at.ensures.visited.visited in
     let less : (c.args.self.now.table.looked + length ((state c.args.self.now).queues c.args.handle)) - c.visit-at.new.self.table.looked < (c.args.self.now.table.looked + length ((state c.args.self.now).queues c.args.handle)) - c.loop-at.self.table.looked = omega (arith, more, looked) in
     less
 

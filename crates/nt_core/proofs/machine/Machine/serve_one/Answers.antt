@@ -1,6 +1,7 @@
 use Rattle.std.proofs.Common.{None, sym, ap, ◌∙◌}
 use Rattle.std.specs.Prelude.{slice_get}
 use Rattle.nt_core.specs.Dispatcher.{Dispatcher, state}
+use Rattle.nt_core.proofs.Replacing.{one_few}
 use Rattle.nt_core.proofs.Stopping.{one_served, one_most, one_least, one_countable}
 use Rattle.nt_core.proofs.Walks.{at_first, at_end}
 use Rattle.nt_core.proofs.machine.Machine.serve_one.Goals as goal
@@ -10,7 +11,7 @@ serve_first-requires-clause-first c =
     sym (ap (λ (d : Dispatcher). slice_get ((state d).queues c.args.handle) 0) c.self.view_is) ∙ (sym c.first_on.ensures.first ∙ c.in-Some.is)
 
 pub serve_first-requires-clause-countable : goal.serve_first-requires-clause-countable
-serve_first-requires-clause-countable c = one_countable c.args.self.now c.args.handle c.requires.anew c.requires.countable
+serve_first-requires-clause-countable c = one_countable c.args.self.now c.args.handle c.requires.anew (one_few c.args.self.now c.args.handle c.requires.sound)
 
 pub returns-in-Some-clause-served : goal.returns-in-Some-clause-served
 returns-in-Some-clause-served c = one_served c.args.self.now c.serve_first.new.self c.args.handle c.requires.first c.requires.local c.serve_first.ensures.visits

@@ -32,7 +32,7 @@ made_as old new t found denied signaled h awaited object ms alertable result by_
 pub swap-requires-clause-free : goal.swap-requires-clause-free
 swap-requires-clause-free c =
     let t = c.args.thread in
-    let call = Call.Wait (WaitCall.Swap c.opened-signaled.result.0 c.opened-awaited.result.0 c.args.ms c.args.alertable) in
+    let call = Call.Wait (WaitCall.Swap c.opened-signaled.result.0 c.opened-awaited.result.0 c.args.mode.ms c.args.mode.alertable) in
     let judged = c.swap_refusal.ensures ∙ (ap (λ (os : List Object). first_of_causes (swap_causes os t c.is_swap_denied-denied.result c.opened-signaled.result.0 c.opened-awaited.result.0)) c.as_slice-objects.ensures ∙ ap (λ (x : Dispatcher). first_of_causes (swap_causes x.objects t c.is_swap_denied-denied.result c.opened-signaled.result.0 c.opened-awaited.result.0)) c.self.view_is) in
     undenied (state c.args.self.now) t c.is_swap_denied-denied.result call (c.requires.caller c.is_swap_denied-denied.result call ∙ (sym judged ∙ c.in-None.is))
 
@@ -46,9 +46,9 @@ pub returns-in-Some : goal.returns-in-Some
 returns-in-Some c =
     let old = c.args.self.now in
     let t = c.args.thread in
-    let call = Call.Wait (WaitCall.Swap c.opened-signaled.result.0 c.opened-awaited.result.0 c.args.ms c.args.alertable) in
+    let call = Call.Wait (WaitCall.Swap c.opened-signaled.result.0 c.opened-awaited.result.0 c.args.mode.ms c.args.mode.alertable) in
     let judged = c.swap_refusal.ensures ∙ (ap (λ (os : List Object). first_of_causes (swap_causes os t c.is_swap_denied-denied.result c.opened-signaled.result.0 c.opened-awaited.result.0)) c.as_slice-objects.ensures ∙ ap (λ (x : Dispatcher). first_of_causes (swap_causes x.objects t c.is_swap_denied-denied.result c.opened-signaled.result.0 c.opened-awaited.result.0)) c.self.view_is) in
-    made_as old old t c.is_swap_denied-denied.result _ c.opened-signaled.result.0 _ c.opened-awaited.result.0 _ c.args.ms c.args.alertable (Err c.in-Some.refusal)
+    made_as old old t c.is_swap_denied-denied.result _ c.opened-signaled.result.0 _ c.opened-awaited.result.0 _ c.args.mode.ms c.args.mode.alertable (Err c.in-Some.refusal)
     (denied_as old _ c.args.signal c.args.object c.opened-signaled.result.0 c.as_slice-objects.result.now c.opened-signaled.result.1 c.opened-awaited.result.1 c.is_swap_denied-denied.result c.self.view_is c.as_slice-objects.ensures c.opened-signaled.ensures.object c.opened-signaled.ensures.denied c.opened-awaited.ensures.denied c.is_swap_denied-denied.ensures)
     (c.opened-signaled.ensures.object ∙ ap (λ (x : Dispatcher). object_named x.handles c.args.signal) c.self.view_is)
     (c.opened-awaited.ensures.object ∙ ap (λ (x : Dispatcher). object_named x.handles c.args.object) c.self.view_is)
@@ -59,9 +59,9 @@ returns-in-None c =
     let old = c.args.self.now in
     let new = c.swap.new.self in
     let t = c.args.thread in
-    let call = Call.Wait (WaitCall.Swap c.opened-signaled.result.0 c.opened-awaited.result.0 c.args.ms c.args.alertable) in
+    let call = Call.Wait (WaitCall.Swap c.opened-signaled.result.0 c.opened-awaited.result.0 c.args.mode.ms c.args.mode.alertable) in
     let judged = c.swap_refusal.ensures ∙ (ap (λ (os : List Object). first_of_causes (swap_causes os t c.is_swap_denied-denied.result c.opened-signaled.result.0 c.opened-awaited.result.0)) c.as_slice-objects.ensures ∙ ap (λ (x : Dispatcher). first_of_causes (swap_causes x.objects t c.is_swap_denied-denied.result c.opened-signaled.result.0 c.opened-awaited.result.0)) c.self.view_is) in
-    made_as old new t c.is_swap_denied-denied.result _ c.opened-signaled.result.0 _ c.opened-awaited.result.0 _ c.args.ms c.args.alertable c.swap.result
+    made_as old new t c.is_swap_denied-denied.result _ c.opened-signaled.result.0 _ c.opened-awaited.result.0 _ c.args.mode.ms c.args.mode.alertable c.swap.result
     (denied_as old _ c.args.signal c.args.object c.opened-signaled.result.0 c.as_slice-objects.result.now c.opened-signaled.result.1 c.opened-awaited.result.1 c.is_swap_denied-denied.result c.self.view_is c.as_slice-objects.ensures c.opened-signaled.ensures.object c.opened-signaled.ensures.denied c.opened-awaited.ensures.denied c.is_swap_denied-denied.ensures)
     (c.opened-signaled.ensures.object ∙ ap (λ (x : Dispatcher). object_named x.handles c.args.signal) c.self.view_is)
     (c.opened-awaited.ensures.object ∙ ap (λ (x : Dispatcher). object_named x.handles c.args.object) c.self.view_is)

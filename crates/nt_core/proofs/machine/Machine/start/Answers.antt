@@ -7,7 +7,6 @@ use Rattle.nt_objects.specs.declared.object.Armed.{Armed}
 use Rattle.nt_objects.specs.Object.{signaled}
 use Rattle.nt_calls.specs.Change.{due_moment}
 use Rattle.nt_core.specs.Dispatcher.{Dispatcher}
-use Rattle.nt_core.proofs.Replacing.{one_few}
 use Rattle.nt_core.proofs.Arming.{asked, anew_due, set_local, set_needed, set_ahead, set_at_once, set_and_served}
 use Rattle.nt_core.proofs.machine.Machine.start.Goals as goal
 
@@ -25,9 +24,6 @@ serve_one-requires-clause-needed c =
     let armed : Armed = record { due = c.due_moment-due.result; period = c.unsigned_abs-period.result; routine = c.routine_for.result } in
     set_needed old c.arm.new.self c.expire.new.self c.args.timer c.self.inside.moment armed c.requires.fresh c.requires.kind now c.in_ok-arm.ensures.armed c.expire.ensures.expired
 
-pub serve_one-requires-clause-countable : goal.serve_one-requires-clause-countable
-serve_one-requires-clause-countable c = one_few c.expire.new.self c.args.timer c.expire.ensures.sound
-
 pub returns-then-not-was_set-clause-ok : goal.returns-then-not-was_set-clause-ok
 returns-then-not-was_set-clause-ok c =
     let old = c.args.self.now in
@@ -38,7 +34,7 @@ returns-then-not-was_set-clause-ok c =
     let same : armed ≡ asked old.now c.args.thread c.args.due c.args.period c.args.routine = λ i. record { due = due i; period = period i; routine = c.routine_for.ensures i } in
     let past : c.due_moment-due.result ≤ c.self.inside.moment = let h = c.if-due-get.true in let k = c.get.ensures.value in omega (arith, h, k) in
     let was = ap (λ (o : Object). signaled o c.args.thread) (sym c.object.ensures) ∙ sym c.signaled_for-was_set.ensures in
-    set_and_served old c.arm.new.self c.expire.new.self c.serve_one.new.self c.args.thread c.args.timer c.self.inside.moment c.args.due c.args.period c.args.routine armed c.requires.fresh c.requires.idle c.requires.kind same now past (was ∙ c.if-not-was_set.true) c.in_ok-arm.ensures.armed c.expire.ensures.expired c.serve_one.ensures.served c.serve_one.ensures.sound c.serve_one.ensures.most c.serve_one.ensures.least (c.serve_one.ensures.marked ∙ (c.expire.ensures.marked ∙ c.in_ok-arm.ensures.marked))
+    set_and_served old c.arm.new.self c.expire.new.self c.serve_one.new.self c.args.thread c.args.timer c.self.inside.moment c.args.due c.args.period c.args.routine armed c.requires.fresh c.requires.running.idle c.requires.kind same now past (was ∙ c.if-not-was_set.true) c.in_ok-arm.ensures.armed c.expire.ensures.expired c.serve_one.ensures.served c.serve_one.ensures.sound c.serve_one.ensures.most c.serve_one.ensures.least (c.serve_one.ensures.marked ∙ (c.expire.ensures.kept.marked ∙ c.in_ok-arm.ensures.kept.marked))
 
 pub returns-else-not-was_set-clause-ok : goal.returns-else-not-was_set-clause-ok
 returns-else-not-was_set-clause-ok c =
@@ -50,7 +46,7 @@ returns-else-not-was_set-clause-ok c =
     let same : armed ≡ asked old.now c.args.thread c.args.due c.args.period c.args.routine = λ i. record { due = due i; period = period i; routine = c.routine_for.ensures i } in
     let past : c.due_moment-due.result ≤ c.self.inside.moment = let h = c.if-due-get.true in let k = c.get.ensures.value in omega (arith, h, k) in
     let was = ap (λ (o : Object). signaled o c.args.thread) (sym c.object.ensures) ∙ sym c.signaled_for-was_set.ensures in
-    set_at_once old c.arm.new.self c.expire.new.self c.args.thread c.args.timer c.self.inside.moment c.args.due c.args.period c.args.routine armed c.requires.fresh c.requires.idle c.requires.kind same now past (was ∙ c.if-not-was_set.false) c.in_ok-arm.ensures.armed c.expire.ensures.expired c.expire.ensures.sound (c.expire.ensures.grants ∙ c.in_ok-arm.ensures.grants) (c.expire.ensures.table ∙ c.in_ok-arm.ensures.table) (c.expire.ensures.marked ∙ c.in_ok-arm.ensures.marked)
+    set_at_once old c.arm.new.self c.expire.new.self c.args.thread c.args.timer c.self.inside.moment c.args.due c.args.period c.args.routine armed c.requires.fresh c.requires.running.idle c.requires.kind same now past (was ∙ c.if-not-was_set.false) c.in_ok-arm.ensures.armed c.expire.ensures.expired c.expire.ensures.sound (c.expire.ensures.kept.grants ∙ c.in_ok-arm.ensures.kept.grants) (c.expire.ensures.kept.table ∙ c.in_ok-arm.ensures.kept.table) (c.expire.ensures.kept.marked ∙ c.in_ok-arm.ensures.kept.marked)
 
 pub returns-else-due-get-clause-ok : goal.returns-else-due-get-clause-ok
 returns-else-due-get-clause-ok c =
@@ -61,7 +57,7 @@ returns-else-due-get-clause-ok c =
     let period : c.unsigned_abs-period.result ≡ unsigned_abs c.args.period = c.unsigned_abs-period.ensures.value ∙ ap (λ (z : ℤ). unsigned_abs z) (to_z-of_z w32 c.args.period c.ranges.period) in
     let same : armed ≡ asked old.now c.args.thread c.args.due c.args.period c.args.routine = λ i. record { due = due i; period = period i; routine = c.routine_for.ensures i } in
     let ahead : old.now < c.due_moment-due.result = let h = c.if-due-get.false in let k = c.get.ensures.value in omega (arith, h, k, now) in
-    set_ahead old c.arm.new.self c.args.thread c.args.timer c.args.due c.args.period c.args.routine armed c.requires.fresh c.requires.idle c.requires.kind same ahead c.in_ok-arm.ensures.armed c.in_ok-arm.ensures.sound c.in_ok-arm.ensures.grants c.in_ok-arm.ensures.table c.in_ok-arm.ensures.marked
+    set_ahead old c.arm.new.self c.args.thread c.args.timer c.args.due c.args.period c.args.routine armed c.requires.fresh c.requires.running.idle c.requires.kind same ahead c.in_ok-arm.ensures.armed c.in_ok-arm.ensures.sound c.in_ok-arm.ensures.kept.grants c.in_ok-arm.ensures.kept.table c.in_ok-arm.ensures.kept.marked
 
 pub expire-requires-clause-due : goal.expire-requires-clause-due
 expire-requires-clause-due c =

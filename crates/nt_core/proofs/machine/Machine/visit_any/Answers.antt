@@ -42,8 +42,8 @@ try_wait-requires-clause-known c =
     let own = sound.waits c.args.thread c.in-Some.wait.now (sym c.in-Some.ensures.value) in
     rw c.self.invariant.2 own.known
 
-pub returns-in_default-try_wait-clause-visited : goal.returns-in_default-try_wait-clause-visited
-returns-in_default-try_wait-clause-visited c =
+pub returns-in_default-try_wait : goal.returns-in_default-try_wait
+returns-in_default-try_wait c =
     let d = dispatcher_of c.self.inside.threads c.self.inside.handles.opened c.self.inside.objects.items c.self.inside.objects.owned c.self.inside.waits c.self.inside.apcs c.self.inside.handing.items c.self.inside.moment c.self.inside.grants.items c.self.inside.alarms c.self.inside.leaving c.self.inside.changed c.self.inside.alerted in
     let sound : IsSound d = subst IsSound (sym c.self.view_is) c.requires.sound in
     let small : d.table.looked + 1 < 2 ^ 64 = subst (λ (x : Dispatcher). x.table.looked + 1 < 2 ^ 64) (sym c.self.view_is) c.requires.countable in
@@ -53,20 +53,11 @@ returns-in_default-try_wait-clause-visited c =
     let tried : IsTried c.self.inside.objects.items c.try_wait.new.objects.items c.args.thread c.in-Some.wait.now None =
     (subst (λ (hs : List ℕ). IsTried c.self.inside.objects.items c.try_wait.new.objects.items c.args.thread (wait_for hs c.in-Some.wait.now.all) None) handles c.in_default-try_wait.ensures.tried) in
     let result = visit_passed d c.args.thread c.in-Some.wait.now objects owned c.get.follows.lender-at-none sound small c.in-Some.ensures.value tried.0 tried.1 (ap (λ (o : Objects). o.owned) c.in_default-try_wait.ensures.none) c.get.follows.holds-at-none in
-    subst (λ (x : Dispatcher). IsVisited x (record d { objects = objects; owned = owned; table = c.get.follows.lender-at-none }) c.args.thread) c.self.view_is result.0
-
-pub returns-in_default-try_wait-clause-sound : goal.returns-in_default-try_wait-clause-sound
-returns-in_default-try_wait-clause-sound c =
-    let d = dispatcher_of c.self.inside.threads c.self.inside.handles.opened c.self.inside.objects.items c.self.inside.objects.owned c.self.inside.waits c.self.inside.apcs c.self.inside.handing.items c.self.inside.moment c.self.inside.grants.items c.self.inside.alarms c.self.inside.leaving c.self.inside.changed c.self.inside.alerted in
-    let sound : IsSound d = subst IsSound (sym c.self.view_is) c.requires.sound in
-    let small : d.table.looked + 1 < 2 ^ 64 = subst (λ (x : Dispatcher). x.table.looked + 1 < 2 ^ 64) (sym c.self.view_is) c.requires.countable in
-    let objects = c.try_wait.new.objects.items in
-    let owned = c.try_wait.new.objects.owned in
-    let handles = c.as_slice-handles.ensures in
-    let tried : IsTried c.self.inside.objects.items c.try_wait.new.objects.items c.args.thread c.in-Some.wait.now None =
-    (subst (λ (hs : List ℕ). IsTried c.self.inside.objects.items c.try_wait.new.objects.items c.args.thread (wait_for hs c.in-Some.wait.now.all) None) handles c.in_default-try_wait.ensures.tried) in
-    let result = visit_passed d c.args.thread c.in-Some.wait.now objects owned c.get.follows.lender-at-none sound small c.in-Some.ensures.value tried.0 tried.1 (ap (λ (o : Objects). o.owned) c.in_default-try_wait.ensures.none) c.get.follows.holds-at-none in
-    result.1
+    record {
+      visited = subst (λ (x : Dispatcher). IsVisited x (record d { objects = objects; owned = owned; table = c.get.follows.lender-at-none }) c.args.thread) c.self.view_is result.0;
+      prepared = ap (λ (v : Waits). v.prepared) c.get.follows.holds-at-none ∙ ap (λ (x : Dispatcher). x.table.prepared) c.self.view_is;
+      sound = result.1;
+    }
 
 pub index_mut-requires : goal.index_mut-requires
 index_mut-requires c =
@@ -96,8 +87,8 @@ let_go-requires c o member =
     let count = sound.marks.count in
     omega (arith, known, count)
 
-pub returns-clause-visited : goal.returns-clause-visited
-returns-clause-visited c =
+pub returns : goal.returns
+returns c =
     let d = dispatcher_of c.self.inside.threads c.self.inside.handles.opened c.self.inside.objects.items c.self.inside.objects.owned c.self.inside.waits c.self.inside.apcs c.self.inside.handing.items c.self.inside.moment c.self.inside.grants.items c.self.inside.alarms c.self.inside.leaving c.self.inside.changed c.self.inside.alerted in
     let sound : IsSound d = subst IsSound (sym c.self.view_is) c.requires.sound in
     let small : d.table.looked + 1 < 2 ^ 64 = subst (λ (x : Dispatcher). x.table.looked + 1 < 2 ^ 64) (sym c.self.view_is) c.requires.countable in
@@ -123,40 +114,8 @@ returns-clause-visited c =
     c.end_in_place.ensures.agrees
     c.push_reserved.ensures.items
     (let_go_agree (record d { objects = objects; owned = owned; table = table; handing = set d.handing c.args.thread false; grants = grants }) wait.handles leaving unmarked lets) in
-    subst (λ (k : ℕ). IsVisited c.args.self.now (record d { objects = objects; owned = owned; table = table; handing = set d.handing k false; grants = grants; leaving = leaving }) c.args.thread) (sym c.get-2.ensures)
-    (subst (λ (x : Dispatcher). IsVisited x new c.args.thread) c.self.view_is result.0)
-
-pub returns-clause-sound : goal.returns-clause-sound
-returns-clause-sound c =
-    let d = dispatcher_of c.self.inside.threads c.self.inside.handles.opened c.self.inside.objects.items c.self.inside.objects.owned c.self.inside.waits c.self.inside.apcs c.self.inside.handing.items c.self.inside.moment c.self.inside.grants.items c.self.inside.alarms c.self.inside.leaving c.self.inside.changed c.self.inside.alerted in
-    let sound : IsSound d = subst IsSound (sym c.self.view_is) c.requires.sound in
-    let small : d.table.looked + 1 < 2 ^ 64 = subst (λ (x : Dispatcher). x.table.looked + 1 < 2 ^ 64) (sym c.self.view_is) c.requires.countable in
-    let wait = c.in-Some.wait.now in
-    let objects = c.try_wait.new.objects.items in
-    let owned = c.try_wait.new.objects.owned in
-    let table = c.end_in_place.new.self in
-    let grants = c.push_reserved.new.self.items in
-    let leaving = c.let_go.new.leaving in
-    let left = c.get.follows.holds-at-none in
-    let tried : IsTried c.self.inside.objects.items objects c.args.thread wait (Some c.in-Some-try_wait.status) =
-    subst (λ (hs : List ℕ). IsTried c.self.inside.objects.items objects c.args.thread (wait_for hs wait.all) (Some c.in-Some-try_wait.status)) c.as_slice-handles.ensures c.in-Some-try_wait.ensures.tried in
-    let queues : (h : ℕ) → queue_of table h ≡ others c.args.thread (queue_of d.table h) = λ h. c.end_in_place.ensures.queues h ∙ ap (λ (v : Waits). others c.args.thread (queue_of v h)) left in
-    let unmarked : MarksAgreeBut wait.handles (record d { objects = objects; owned = owned; table = table; handing = set d.handing c.args.thread false; grants = grants }) =
-    visit_unmarked d c.args.thread c.in-Some-try_wait.status wait objects owned table grants sound c.in-Some.ensures.value tried queues in
-    let lets : LetsGoBut [] d.handles wait.handles d.leaving leaving = subst (λ (hs : List ℕ). LetsGoBut [] d.handles hs d.leaving leaving) c.as_slice-handles.ensures c.let_go.ensures in
-    let new : Dispatcher = record d { objects = objects; owned = owned; table = table; handing = set d.handing c.args.thread false; grants = grants; leaving = leaving } in
-    let result : IsVisited d new c.args.thread × IsSound new = visit_granted d c.args.thread c.in-Some-try_wait.status wait objects owned table grants leaving sound c.in-Some.ensures.value
-    tried
-    (c.end_in_place.ensures.pending ∙ ap (λ (v : Waits). map.remove v.pending c.args.thread) left)
-    queues
-    (c.end_in_place.ensures.looked ∙ (ap (λ (v : Waits). v.looked) left ∙ counted d.table.looked small))
-    c.end_in_place.ensures.agrees
-    c.push_reserved.ensures.items
-    (let_go_agree (record d { objects = objects; owned = owned; table = table; handing = set d.handing c.args.thread false; grants = grants }) wait.handles leaving unmarked lets) in
-    subst (λ (k : ℕ). IsSound (record d { objects = objects; owned = owned; table = table; handing = set d.handing k false; grants = grants; leaving = leaving })) (sym c.get-2.ensures) result.1
-
-pub returns-in_default-try_wait-clause-prepared : goal.returns-in_default-try_wait-clause-prepared
-returns-in_default-try_wait-clause-prepared c = ap (λ (v : Waits). v.prepared) c.get.follows.holds-at-none ∙ ap (λ (x : Dispatcher). x.table.prepared) c.self.view_is
-
-pub returns-clause-prepared : goal.returns-clause-prepared
-returns-clause-prepared c = c.end_in_place.ensures.prepared ∙ (ap (λ (v : Waits). v.prepared) c.get.follows.holds-at-none ∙ ap (λ (x : Dispatcher). x.table.prepared) c.self.view_is)
+    record {
+      visited = subst (λ (k : ℕ). IsVisited c.args.self.now (record d { objects = objects; owned = owned; table = table; handing = set d.handing k false; grants = grants; leaving = leaving }) c.args.thread) (sym c.get-2.ensures) (subst (λ (x : Dispatcher). IsVisited x new c.args.thread) c.self.view_is result.0);
+      prepared = c.end_in_place.ensures.prepared ∙ (ap (λ (v : Waits). v.prepared) c.get.follows.holds-at-none ∙ ap (λ (x : Dispatcher). x.table.prepared) c.self.view_is);
+      sound = subst (λ (k : ℕ). IsSound (record d { objects = objects; owned = owned; table = table; handing = set d.handing k false; grants = grants; leaving = leaving })) (sym c.get-2.ensures) result.1;
+    }

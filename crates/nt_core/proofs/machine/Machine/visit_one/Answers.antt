@@ -51,21 +51,11 @@ returns-in_default-clause-visited c =
     let tried : IsTried c.self.inside.objects.items c.try_wait.new.objects.items c.args.thread w.0 (None) =
     subst (λ (p : List ℕ × Bool). IsTried c.self.inside.objects.items c.try_wait.new.objects.items c.args.thread (wait_for p.0 p.1) (None)) (sym w.2) c.in_default.ensures.tried in
     let result = visit_passed d c.args.thread w.0 objects owned c.count_look.new.self sound small w.1 tried.0 tried.1 (ap (λ (o : Objects). o.owned) c.in_default.ensures.none) (c.count_look.ensures ∙ ap (λ (n : ℕ). record c.self.inside.waits { looked = n }) (sym (counted d.table.looked small))) in
-    subst (λ (x : Dispatcher). IsVisited x (record d { objects = objects; owned = owned; table = c.count_look.new.self }) c.args.thread) c.self.view_is result.0
-
-pub returns-in_default-clause-sound : goal.returns-in_default-clause-sound
-returns-in_default-clause-sound c =
-    let d = dispatcher_of c.self.inside.threads c.self.inside.handles.opened c.self.inside.objects.items c.self.inside.objects.owned c.self.inside.waits c.self.inside.apcs c.self.inside.handing.items c.self.inside.moment c.self.inside.grants.items c.self.inside.alarms c.self.inside.leaving c.self.inside.changed c.self.inside.alerted in
-    let sound : IsSound d = subst IsSound (sym c.self.view_is) c.requires.sound in
-    let w = only_wait (map.get d.table.pending c.args.thread) c.args.handle c.args.all (subst (λ (x : Dispatcher). option_map only_of (map.get x.table.pending c.args.thread) ≡ Some (Some (c.args.handle, c.args.all))) (sym c.self.view_is) c.requires.only) in
-    let own = sound.waits c.args.thread w.0 (sym w.1) in
-    let small : d.table.looked + 1 < 2 ^ 64 = subst (λ (x : Dispatcher). x.table.looked + 1 < 2 ^ 64) (sym c.self.view_is) c.requires.countable in
-    let objects = c.try_wait.new.objects.items in
-    let owned = c.try_wait.new.objects.owned in
-    let tried : IsTried c.self.inside.objects.items c.try_wait.new.objects.items c.args.thread w.0 (None) =
-    subst (λ (p : List ℕ × Bool). IsTried c.self.inside.objects.items c.try_wait.new.objects.items c.args.thread (wait_for p.0 p.1) (None)) (sym w.2) c.in_default.ensures.tried in
-    let result = visit_passed d c.args.thread w.0 objects owned c.count_look.new.self sound small w.1 tried.0 tried.1 (ap (λ (o : Objects). o.owned) c.in_default.ensures.none) (c.count_look.ensures ∙ ap (λ (n : ℕ). record c.self.inside.waits { looked = n }) (sym (counted d.table.looked small))) in
-    result.1
+    record {
+      visited = subst (λ (x : Dispatcher). IsVisited x (record d { objects = objects; owned = owned; table = c.count_look.new.self }) c.args.thread) c.self.view_is result.0;
+      prepared = ap (λ (v : Waits). v.prepared) c.count_look.ensures ∙ ap (λ (x : Dispatcher). x.table.prepared) c.self.view_is;
+      sound = result.1;
+    }
 
 pub index_mut-requires : goal.index_mut-requires
 index_mut-requires c =
@@ -116,35 +106,8 @@ returns-clause-visited c =
     c.end_one-next.ensures.agrees
     c.push_reserved.ensures.items
     (let_go_agree (record d { objects = objects; owned = owned; table = table; handing = set d.handing c.args.thread false; grants = grants }) w.0.handles leaving unmarked lets) in
-    subst (λ (k : ℕ). IsVisited c.args.self.now (record d { objects = objects; owned = owned; table = table; handing = set d.handing k false; grants = grants; leaving = leaving }) c.args.thread) (sym c.get-place.ensures)
-    (subst (λ (x : Dispatcher). IsVisited x new c.args.thread) c.self.view_is result.0)
-
-pub returns-clause-sound : goal.returns-clause-sound
-returns-clause-sound c =
-    let d = dispatcher_of c.self.inside.threads c.self.inside.handles.opened c.self.inside.objects.items c.self.inside.objects.owned c.self.inside.waits c.self.inside.apcs c.self.inside.handing.items c.self.inside.moment c.self.inside.grants.items c.self.inside.alarms c.self.inside.leaving c.self.inside.changed c.self.inside.alerted in
-    let sound : IsSound d = subst IsSound (sym c.self.view_is) c.requires.sound in
-    let w = only_wait (map.get d.table.pending c.args.thread) c.args.handle c.args.all (subst (λ (x : Dispatcher). option_map only_of (map.get x.table.pending c.args.thread) ≡ Some (Some (c.args.handle, c.args.all))) (sym c.self.view_is) c.requires.only) in
-    let own = sound.waits c.args.thread w.0 (sym w.1) in
-    let small : d.table.looked + 1 < 2 ^ 64 = subst (λ (x : Dispatcher). x.table.looked + 1 < 2 ^ 64) (sym c.self.view_is) c.requires.countable in
-    let objects = c.try_wait.new.objects.items in
-    let owned = c.try_wait.new.objects.owned in
-    let table = c.end_one-next.new.self in
-    let grants = c.push_reserved.new.self.items in
-    let leaving = c.let_go.new.leaving in
-    let looked = c.count_look.ensures in
-    let tried : IsTried c.self.inside.objects.items c.try_wait.new.objects.items c.args.thread w.0 (Some c.in-Some.status) =
-    subst (λ (p : List ℕ × Bool). IsTried c.self.inside.objects.items c.try_wait.new.objects.items c.args.thread (wait_for p.0 p.1) (Some c.in-Some.status)) (sym w.2) c.in-Some.ensures.tried in
-    let queues : (h : ℕ) → queue_of table h ≡ others c.args.thread (queue_of d.table h) = λ h. c.end_one-next.ensures.queues h ∙ ap (λ (v : Waits). others c.args.thread (queue_of v h)) looked in
-    let unmarked : MarksAgreeBut w.0.handles (record d { objects = objects; owned = owned; table = table; handing = set d.handing c.args.thread false; grants = grants }) =
-    visit_unmarked d c.args.thread c.in-Some.status w.0 objects owned table grants sound w.1 tried queues in
-    let lets : LetsGoBut [] d.handles w.0.handles d.leaving leaving = subst (λ (p : List ℕ × Bool). LetsGoBut [] d.handles p.0 d.leaving leaving) (sym w.2) c.let_go.ensures in
-    let new : Dispatcher = record d { objects = objects; owned = owned; table = table; handing = set d.handing c.args.thread false; grants = grants; leaving = leaving } in
-    let result : IsVisited d new c.args.thread × IsSound new = visit_granted d c.args.thread c.in-Some.status w.0 objects owned table grants leaving sound w.1
-    tried
-    (c.end_one-next.ensures.pending ∙ ap (λ (v : Waits). map.remove v.pending c.args.thread) looked)
-    queues
-    (c.end_one-next.ensures.looked ∙ ap (λ (v : Waits). v.looked) looked)
-    c.end_one-next.ensures.agrees
-    c.push_reserved.ensures.items
-    (let_go_agree (record d { objects = objects; owned = owned; table = table; handing = set d.handing c.args.thread false; grants = grants }) w.0.handles leaving unmarked lets) in
-    subst (λ (k : ℕ). IsSound (record d { objects = objects; owned = owned; table = table; handing = set d.handing k false; grants = grants; leaving = leaving })) (sym c.get-place.ensures) result.1
+    record {
+      visited = subst (λ (k : ℕ). IsVisited c.args.self.now (record d { objects = objects; owned = owned; table = table; handing = set d.handing k false; grants = grants; leaving = leaving }) c.args.thread) (sym c.get-place.ensures) (subst (λ (x : Dispatcher). IsVisited x new c.args.thread) c.self.view_is result.0);
+      prepared = c.end_one-next.ensures.prepared ∙ (ap (λ (v : Waits). v.prepared) c.count_look.ensures ∙ ap (λ (x : Dispatcher). x.table.prepared) c.self.view_is);
+      sound = subst (λ (k : ℕ). IsSound (record d { objects = objects; owned = owned; table = table; handing = set d.handing k false; grants = grants; leaving = leaving })) (sym c.get-place.ensures) result.1;
+    }

@@ -8,43 +8,24 @@ use Rattle.nt_calls.specs.Serving.{wait_for}
 use Rattle.nt_calls.specs.Steps.{begun}
 use Rattle.nt_core.specs.Accepts.{Accepts, reply_of}
 use Rattle.nt_calls.specs.Refusals.{first_of_causes, objects_causes, refusal}
-use Rattle.nt_core.proofs.Accepting.{ok_then, free_caller, sound_objects, wait_accepted}
-use Rattle.nt_core.proofs.Beginning.{room_to_begin}
+use Rattle.nt_core.proofs.Accepting.{ok_then, sound_objects, wait_accepted}
+use Rattle.nt_core.proofs.Running.{free_can}
 use Rattle.nt_core.proofs.Judging.{undenied}
 use Rattle.nt_core.proofs.Making.{refused_made, waited_made}
 use Rattle.nt_core.proofs.machine.Machine.wait_for.Goals as goal
 
-pub begin_wait-requires-clause-idle : goal.begin_wait-requires-clause-idle
-begin_wait-requires-clause-idle c =
+pub begin_wait-requires-clause-can : goal.begin_wait-requires-clause-can
+begin_wait-requires-clause-can c =
     let d = c.args.self.now in
-    let call = Call.Wait (WaitCall.Objects c.args.all c.args.alertable c.args.ms c.args.numbers.now) in
+    let call = Call.Wait (WaitCall.Objects c.args.mode.all c.args.mode.alertable c.args.mode.ms c.args.numbers.now) in
     let judged = c.objects_refusal.ensures ∙ (ap (λ (os : List Object). first_of_causes (objects_causes os c.args.thread c.args.denied c.args.numbers.now)) c.as_slice.ensures ∙ ap (λ (x : Dispatcher). first_of_causes (objects_causes x.objects c.args.thread c.args.denied c.args.numbers.now)) c.self.view_is) in
     let free : refusal (state d) c.args.thread false call ≡ None = undenied (state d) c.args.thread c.args.denied call (c.requires.caller c.args.denied call ∙ (sym judged ∙ c.in-None.is)) in
-    (free_caller (state d) c.args.thread call free).2
-
-pub begin_wait-requires-clause-able : goal.begin_wait-requires-clause-able
-begin_wait-requires-clause-able c =
-    let d = c.args.self.now in
-    let call = Call.Wait (WaitCall.Objects c.args.all c.args.alertable c.args.ms c.args.numbers.now) in
-    let judged = c.objects_refusal.ensures ∙ (ap (λ (os : List Object). first_of_causes (objects_causes os c.args.thread c.args.denied c.args.numbers.now)) c.as_slice.ensures ∙ ap (λ (x : Dispatcher). first_of_causes (objects_causes x.objects c.args.thread c.args.denied c.args.numbers.now)) c.self.view_is) in
-    let free : refusal (state d) c.args.thread false call ≡ None = undenied (state d) c.args.thread c.args.denied call (c.requires.caller c.args.denied call ∙ (sym judged ∙ c.in-None.is)) in
-    sound_objects (state d) c.args.thread c.args.numbers.now c.args.all c.args.alertable c.args.ms c.requires.living free
-
-pub begin_wait-requires-clause-room : goal.begin_wait-requires-clause-room
-begin_wait-requires-clause-room c =
-    let d = c.args.self.now in
-    let call = Call.Wait (WaitCall.Objects c.args.all c.args.alertable c.args.ms c.args.numbers.now) in
-    let judged = c.objects_refusal.ensures ∙ (ap (λ (os : List Object). first_of_causes (objects_causes os c.args.thread c.args.denied c.args.numbers.now)) c.as_slice.ensures ∙ ap (λ (x : Dispatcher). first_of_causes (objects_causes x.objects c.args.thread c.args.denied c.args.numbers.now)) c.self.view_is) in
-    let free : refusal (state d) c.args.thread false call ≡ None = undenied (state d) c.args.thread c.args.denied call (c.requires.caller c.args.denied call ∙ (sym judged ∙ c.in-None.is)) in
-    let caller = free_caller (state d) c.args.thread call free in
-    let room = room_to_begin d c.args.thread (wait_for [] false) c.requires.fresh.steady.sound caller.0 caller.2 in
-    let first : length d.grants ≡ 0 = ap (λ gs. length gs) c.requires.fresh.no_grants in
-    omega (arith, room, first)
+    free_can d c.args.thread (wait_for c.args.numbers.now c.args.mode.all) c.requires.fresh c.requires.caller (sound_objects (state d) c.args.thread c.args.numbers.now c.args.mode.all c.args.mode.alertable c.args.mode.ms c.requires.living free)
 
 pub returns-in-Some : goal.returns-in-Some
 returns-in-Some c =
     let d = c.args.self.now in
-    let call = Call.Wait (WaitCall.Objects c.args.all c.args.alertable c.args.ms c.args.numbers.now) in
+    let call = Call.Wait (WaitCall.Objects c.args.mode.all c.args.mode.alertable c.args.mode.ms c.args.numbers.now) in
     let judged = c.objects_refusal.ensures ∙ (ap (λ (os : List Object). first_of_causes (objects_causes os c.args.thread c.args.denied c.args.numbers.now)) c.as_slice.ensures ∙ ap (λ (x : Dispatcher). first_of_causes (objects_causes x.objects c.args.thread c.args.denied c.args.numbers.now)) c.self.view_is) in
     refused_made d c.args.thread c.args.denied call c.in-Some.refusal c.requires.fresh c.requires.caller (sym judged ∙ c.in-Some.is)
 
@@ -54,11 +35,11 @@ returns-in-None c =
     let new = c.begin_wait.new.self in
     let t = c.args.thread in
     let began = c.begin_wait.ensures in
-    let asked = WaitCall.Objects c.args.all c.args.alertable c.args.ms c.args.numbers.now in
+    let asked = WaitCall.Objects c.args.mode.all c.args.mode.alertable c.args.mode.ms c.args.numbers.now in
     let judged = c.objects_refusal.ensures ∙ (ap (λ (os : List Object). first_of_causes (objects_causes os t c.args.denied c.args.numbers.now)) c.as_slice.ensures ∙ ap (λ (x : Dispatcher). first_of_causes (objects_causes x.objects t c.args.denied c.args.numbers.now)) c.self.view_is) in
     waited_made old new t c.args.denied (Call.Wait asked) c.begin_wait.result c.requires.fresh c.requires.caller (sym judged ∙ c.in-None.is)
     (ok_then
-    (λ ended. (reply_of ended, state new) ≡ begun (state old) t (record { handles = c.args.numbers.now; all = c.args.all; alertable = c.args.alertable; deadline = deadline_after old.now c.args.ms }) c.args.ms)
+    (λ ended. (reply_of ended, state new) ≡ begun (state old) t (record { handles = c.args.numbers.now; all = c.args.mode.all; alertable = c.args.mode.alertable; deadline = deadline_after old.now c.args.mode.ms }) c.args.mode.ms)
     (λ ended. Accepts old new t (Call.Wait asked) (reply_of ended))
     (λ ended begins. wait_accepted old new t asked (reply_of ended) c.requires.fresh began.grants began.looked began.steady refl begins)
     c.begin_wait.result began.begun)
