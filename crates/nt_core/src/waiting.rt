@@ -1,9 +1,8 @@
 //! How a thread's own wait begins.
-ghost use Rattle.std.specs.Prelude.{ℕ, ◌≡◌, ◌≢◌, ◌&&◌, ◌+◌, ◌<◌, [], None, false, OnErr, IfOk, IfErr, is_some, IfSome, IfNone, IsTrue, length, slice_set};
+ghost use Rattle.std.specs.Prelude.{ℕ, ◌≡◌, ◌≢◌, ◌&&◌, ◌+◌, ◌<◌, [], None, false, OnErr, IfOk, IfErr, is_some, IfSome, IfNone, IsTrue, length, slice_set, Contains};
 ghost use Rattle.std.specs.Option.{OnSome};
 ghost use Rattle.std.specs.FinMap as fin;
 ghost use Rattle.nt_status.specs.declared.refusal.Refusal.TheVariants.{Memory};
-ghost use Rattle.nt_status.specs.Lists.{IsMember};
 ghost use Rattle.nt_objects.specs.Object.{is_gone};
 ghost use Rattle.nt_apc.specs.Queues.{has_apc};
 ghost use Rattle.nt_calls.specs.State.{object_at};
@@ -155,7 +154,7 @@ impl Machine {
     ) -> Result<Option<Status>, Refusal>
         requires fresh { IsFresh self.old }
         requires caller { IsFree (state self.old) thread }
-        requires living { (h : ℕ) → IsMember numbers.now h → h < length self.old.objects
+        requires living { (h : ℕ) → Contains numbers.now h → h < length self.old.objects
             → is_gone (object_at self.old.objects h) ≡ false }
         ensures { IsMade self.old self.new thread denied (Call.Wait (WaitCall.Objects all alertable ms numbers.now))
             (replied result) }
