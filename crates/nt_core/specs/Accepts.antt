@@ -1,5 +1,5 @@
 -- What an accepted call does to the dispatcher.
-use Rattle.std.specs.Prelude.{◌≡◌, ℕ, ◌+◌, ◌≢◌, ◌<◌, ◌≤◌, ◌⊎◌, ◌↔◌, Bool, true, not, ◌&&◌, ◌==◌, List, [], ◌∷◌, ◌++◌, length, Option, Some, None, IfSome, Result, Ok, Err, IfErr, OnOk, OnErr, ⊤, Contains}
+use Rattle.std.specs.Prelude.{◌≡◌, ℕ, ◌+◌, ◌≢◌, ◌<◌, ◌≤◌, ◌⊎◌, ◌↔◌, Bool, true, not, ◌&&◌, ◌==◌, List, [], ◌∷◌, ◌++◌, length, Option, Some, None, IfSome, Result, Ok, Err, IfErr, OnOk, OnErr, ⊤}
 use Rattle.std.specs.List.{filter}
 use Rattle.std.specs.FinMap.{len, get}
 use Rattle.nt_status.specs.Status.{io_completion_code, timeout_code}
@@ -16,6 +16,7 @@ use Rattle.nt_objects.specs.declared.object.Routine.{Routine}
 use Rattle.nt_alarms.specs.Alarms.{alarm_at}
 use Rattle.nt_alarms.specs.Marks.{AddsMarks}
 use Rattle.nt_apc.specs.Queues.{withdrawn, place_of}
+use Rattle.std.specs.List.{Contains}
 use Rattle.nt_calls.specs.State.{State, object_at, wait_over, pending_too}
 use Rattle.nt_calls.specs.Serving.{IsChanged, sequence, sleeps, Serve, IsAlerted, Alert, ending, TimeOut, IsLate}
 use Rattle.nt_calls.specs.Change.{change, all_expired, exited, IsTimerDue}

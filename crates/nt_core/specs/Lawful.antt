@@ -1,6 +1,6 @@
 -- What every call and tick leaves true.
 use Rattle.std.specs.declared.option.Option.{Option}
-use Rattle.std.specs.Prelude.{◌≡◌, ℕ, ◌<◌, ◌≤◌, ◌+◌, ◌⊎◌, true, false, not, ◌&&◌, List, [], length, Some, nat_eq, Contains}
+use Rattle.std.specs.Prelude.{◌≡◌, ℕ, ◌<◌, ◌≤◌, ◌+◌, ◌⊎◌, true, false, not, ◌&&◌, List, [], length, Some, nat_eq}
 use Rattle.std.specs.FinMap as map
 use Rattle.std.specs.FinMap.{get}
 use Rattle.nt_status.specs.declared.limits.TheConstants.{MAX_HANDLES, MAX_THREADS, MAX_WAIT_OBJECTS}
@@ -10,6 +10,7 @@ use Rattle.nt_objects.specs.Handles.{opened_at, count_named}
 use Rattle.nt_owners.specs.Objects.{OwnersAgree}
 use Rattle.nt_objects.specs.Object.{IsLawfulObject, owned_by, has_room, has_ended, is_thread, is_gone, due_of, setter_of}
 use Rattle.nt_waits.specs.declared.wait.Wait.{Wait}
+use Rattle.std.specs.List.{Contains}
 use Rattle.nt_waits.specs.Waits.{Names, Agrees}
 use Rattle.std.specs.List.{IsDistinct}
 use Rattle.nt_alarms.specs.Alarms.{alarm_at, NoneAt}

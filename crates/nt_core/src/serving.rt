@@ -1,7 +1,8 @@
 //! The serving of pending waits: after objects changed, the waits that they satisfy end, in the order in which they began.
-ghost use Rattle.std.specs.Prelude.{◌≡◌, ◌+◌, ◌≤◌, ◌<◌, ◌^◌, [], ◌∷◌, length, slice_get, IsTrue, Some, Contains};
+ghost use Rattle.std.specs.Prelude.{◌≡◌, ◌+◌, ◌≤◌, ◌<◌, ◌^◌, [], ◌∷◌, length, slice_get, IsTrue, Some};
 ghost use Rattle.std.specs.Option.{option_map};
 ghost use Rattle.std.specs.FinMap as fin;
+ghost use Rattle.std.specs.List.{Contains};
 ghost use Rattle.nt_waits.specs.Waits.{next_after, only_of};
 ghost use Rattle.nt_calls.specs.State.{pends};
 ghost use Rattle.nt_alarms.specs.Alarms.{NoneAt};
