@@ -1,5 +1,5 @@
 -- From the parts of an accepted call to the whole.
-use Rattle.std.proofs.Common.{◌≡◌, ◌<◌, ◌≤◌, ℕ, zero, suc, Bool, true, false, cond, List, [], ◌∷◌, length, refl, sym, ap, ◌∙◌, subst, arith, Option, Some, None, inl, inr}
+use Rattle.std.proofs.Common.{◌≡◌, ◌<◌, ◌≤◌, ℕ, zero, suc, Bool, true, false, cond, List, [], ◌∷◌, length, refl, sym, ap, ◌∙◌, subst, arith, Option, Some, None, inl, inr, Contains}
 use Rattle.std.specs.Prelude.{slice_index, replicate}
 use Rattle.std.specs.List.{filter}
 use Rattle.std.specs.FinMap as fin
@@ -7,7 +7,6 @@ use Rattle.std.specs.Ordering.{nat_cmp}
 use Rattle.std.proofs.lemmas.Bool.{false≢true}
 use Rattle.std.proofs.lemmas.List.{append-nil, length-replicate}
 use Rattle.nt_waits.specs.declared.wait.Wait.{Wait}
-use Rattle.nt_status.specs.Lists.{IsMember}
 use Rattle.nt_waits.specs.Waits.{Waits, Agrees, Names}
 use Rattle.nt_objects.specs.declared.object.Object.{Object}
 use Rattle.nt_objects.specs.declared.object.Object.TheVariants.{Thread}
@@ -33,6 +32,7 @@ use Rattle.std.proofs.Common.{◌||◌, is_some, ◌==◌, nat_lt}
 use Rattle.std.specs.Prelude.{nat_le, nat_eq, Result, Ok, Err, IfOk}
 use Rattle.std.specs.List.{list_any, IsDistinct, AllByRecursion}
 use Rattle.std.proofs.lemmas.Bool.Decides.{nat_tests}
+use Rattle.nt_status.proofs.Lists.{contains_none}
 use Rattle.nt_status.specs.declared.refusal.Refusal.{Refusal}
 use Rattle.nt_status.specs.declared.refusal.Refusal.TheVariants.{InvalidHandle, InvalidParameter, ThreadWaiting, ThreadEnded, UnknownThread, RecursionLimit}
 use Rattle.nt_objects.specs.Object.{has_ended, is_gone}
@@ -111,7 +111,7 @@ settled_after threads s new gs serve calm none = record {
 pub no_alert : (s new : State) → new ≡ s → IsCalm s → Alert s [] new
 no_alert s new is calm = record {
   threads = [];
-  alerted = record { rising = tt; exactly = λ t. (λ m. absurd m, λ a. calm t a) };
+  alerted = record { rising = tt; exactly = λ t. (λ m. absurd (contains_none t m), λ a. absurd (calm t a)) };
   ends = refl;
   leaves = is;
 }
@@ -310,7 +310,7 @@ all_unless_any p [] e j below = absurd (omega (arith, below))
 all_unless_any p (x ∷ xs) e zero below = (or_false (p x) (list_any p xs) e).0
 all_unless_any p (x ∷ xs) e (suc j) below = all_unless_any p xs (or_false (p x) (list_any p xs) e).1 j (omega (arith, below))
 
-pub sound_objects : (s : State) (t : ℕ) (handles : List ℕ) (all alertable : Bool) (ms : ℕ) → ((h : ℕ) → IsMember handles h → h < length s.objects → is_gone (object_at s.objects h) ≡ false) → refusal s t false (Call.Wait (WaitCall.Objects all alertable ms handles)) ≡ None → IsSoundWait s.threads s.objects t (wait_for handles all)
+pub sound_objects : (s : State) (t : ℕ) (handles : List ℕ) (all alertable : Bool) (ms : ℕ) → ((h : ℕ) → Contains handles h → h < length s.objects → is_gone (object_at s.objects h) ≡ false) → refusal s t false (Call.Wait (WaitCall.Objects all alertable ms handles)) ≡ None → IsSoundWait s.threads s.objects t (wait_for handles all)
 sound_objects s t handles all alertable ms alive none =
     let caller = free_caller s t (Call.Wait (WaitCall.Objects all alertable ms handles)) none in
     let own = own_causes s t (Call.Wait (WaitCall.Objects all alertable ms handles)) none in

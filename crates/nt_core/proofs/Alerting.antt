@@ -1,5 +1,5 @@
 -- Waits that end for an APC.
-use Rattle.std.proofs.Common.{◌≡◌, ◌≢◌, ◌<◌, ◌≤◌, ℕ, ◌+◌, Bool, true, false, ◌&&◌, List, [], ◌∷◌, ◌++◌, length, length-append, set, refl, sym, ap, ◌∙◌, subst, arith, Option, Some, None, is_some, inl, inr, ◌⊎◌, map}
+use Rattle.std.proofs.Common.{◌≡◌, ◌≢◌, ◌<◌, ◌≤◌, ℕ, ◌+◌, Bool, true, false, ◌&&◌, List, [], ◌∷◌, ◌++◌, length, length-append, set, refl, sym, ap, ◌∙◌, subst, arith, Option, Some, None, is_some, inl, inr, ◌⊎◌, map, Contains}
 use Rattle.std.specs.List.{filter, list_any}
 use Rattle.std.specs.Option.{option_map}
 use Rattle.nt_waits.specs.declared.wait.About.{About}
@@ -9,7 +9,6 @@ use Rattle.std.proofs.lemmas.Bool.{cases_eq, false≢true}
 use Rattle.std.proofs.lemmas.List.{get_or-set_other, length-set, append-nil}
 use Rattle.nt_status.specs.Status.{io_completion_code}
 use Rattle.nt_waits.specs.declared.wait.Wait.{Wait}
-use Rattle.nt_status.specs.Lists.{IsMember}
 use Rattle.nt_waits.specs.Waits.{Waits, queue_of, others, Agrees}
 use Rattle.nt_apc.specs.declared.apc.Queued.{Queued}
 use Rattle.nt_apc.specs.Queues.{queue_of as inbox_of, has_apc, pushed, taken, oldest, apc_of, without_oldest}
@@ -33,6 +32,7 @@ use Rattle.nt_core.proofs.Replacing.{idle_served}
 use Rattle.nt_calls.specs.Change.{change, may_take}
 use Rattle.nt_calls.specs.Steps.{after_serving, answered}
 use Rattle.std.specs.Prelude.{if◌then◌else◌}
+use Rattle.nt_status.proofs.Lists.{contains_none, contains_first, contains_cases}
 
 -- ---- one wait ends
 
@@ -82,8 +82,8 @@ one_alerted old new t here alone over grants looked unmarked = record {
   alerts = record {
     threads = t ∷ [];
     alerted = record {
-      rising = (λ y m. absurd m, tt);
-      exactly = λ u. (λ m. member u m, λ alerted. inl (sym (alone u alerted)));
+      rising = (λ y m. absurd (contains_none y m), tt);
+      exactly = λ u. (λ m. member u m, λ alerted. contains_first t [] u (sym (alone u alerted)));
     };
     ends = refl;
     leaves = over;
@@ -93,16 +93,18 @@ one_alerted old new t here alone over grants looked unmarked = record {
   unmarked = unmarked;
 }
   where
-    member : (u : ℕ) → (t ≡ u) ⊎ ⊥ → IsAlerted (state old) u
-    member u (inl same) = subst (λ (k : ℕ). IsAlerted (state old) k) same here
-    member u (inr m) = absurd m
+    member : (u : ℕ) → Contains (t ∷ []) u → IsAlerted (state old) u
+    member u m = elim (contains_cases t [] u m) [
+      | inl same ↦ subst (λ (k : ℕ). IsAlerted (state old) k) same here
+      | inr none ↦ absurd (contains_none u none)
+    ]
 
 pub none_alerted : (old : Dispatcher) → IsCalm (state old) → IsUnmarked old.marked → IsAlertedAfter old old
 none_alerted old calm unmarked = record {
   ended = [];
   alerts = record {
     threads = [];
-    alerted = record { rising = tt; exactly = λ t. (λ m. absurd m, λ a. calm t a) };
+    alerted = record { rising = tt; exactly = λ t. (λ m. absurd (contains_none t m), λ a. absurd (calm t a)) };
     ends = refl;
     leaves = refl;
   };
@@ -149,14 +151,14 @@ alerted_here s t a some test =
 
 -- ---- what is left once waits are over
 
-pub over_pending : (s : State) (ts : List ℕ) (may : Bool) (u : ℕ) (v : Wait) → fin.get (waits_over s ts may).waits u ≡ Some v → (fin.get s.waits u ≡ Some v) × (IsMember ts u → ⊥)
-over_pending s [] may u v e = (e, λ m. m)
+pub over_pending : (s : State) (ts : List ℕ) (may : Bool) (u : ℕ) (v : Wait) → fin.get (waits_over s ts may).waits u ≡ Some v → (fin.get s.waits u ≡ Some v) × (Contains ts u → ⊥)
+over_pending s [] may u v e = (e, λ m. contains_none u m)
 over_pending s (t ∷ ts) may u v e =
     let rest = over_pending (wait_over s t may) ts may u v e in
     let before = get_removed s.waits t u v rest.0 in
-    (before.1, λ m. apart before.0 rest.1 m)
+    (before.1, λ m. apart before.0 rest.1 (contains_cases t ts u m))
   where
-    apart : u ≢ t → (IsMember ts u → ⊥) → (t ≡ u) ⊎ IsMember ts u → ⊥
+    apart : u ≢ t → (Contains ts u → ⊥) → (t ≡ u) ⊎ Contains ts u → ⊥
     apart differs absent (inl same) = differs (sym same)
     apart differs absent (inr later) = absent later
 

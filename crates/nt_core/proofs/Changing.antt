@@ -1,12 +1,10 @@
 -- What changes where objects are changed, and what then stays true.
-use Rattle.std.proofs.Common.{◌≡◌, ◌≢◌, ◌<◌, ℕ, zero, suc, Bool, true, false, not, ◌&&◌, List, [], ◌∷◌, ◌++◌, length, length-append, get_or, set, refl, sym, ap, ◌∙◌, subst, arith, Option, Some, None, inl, inr, ◌⊎◌}
+use Rattle.std.proofs.Common.{◌≡◌, ◌≢◌, ◌<◌, ℕ, zero, suc, Bool, true, false, not, ◌&&◌, List, [], ◌∷◌, ◌++◌, length, length-append, get_or, set, refl, sym, ap, ◌∙◌, subst, arith, Option, Some, None, inl, inr, ◌⊎◌, Contains}
 use Rattle.std.specs.List.{list_any, list_all, flat_map}
 use Rattle.std.specs.FinMap as fin
 use Rattle.std.proofs.lemmas.Bool.{cases_eq, false≢true}
 use Rattle.std.proofs.lemmas.List.{get_or-set_other, length-set}
 use Rattle.nt_waits.specs.declared.wait.Wait.{Wait}
-use Rattle.nt_status.specs.Lists.{IsMember}
-use Rattle.nt_status.proofs.Lists.{member_of_first, member_of_last}
 use Rattle.nt_objects.specs.declared.object.Object.{Object}
 use Rattle.nt_objects.specs.declared.object.Object.TheVariants.{Event, Semaphore, Mutex, Timer, Thread, Gone}
 use Rattle.nt_objects.specs.Object.{signaled, is_event, is_thread, is_gone, has_ended, has_room, owned_by, due_of, setter_of, IsLawfulObject}
@@ -25,6 +23,8 @@ use Rattle.nt_core.proofs.Keeping.{timers_kept, own_kept}
 use Rattle.nt_core.proofs.Marking.{marks_same, marks_created}
 use Rattle.nt_alarms.specs.Alarms.{alarm_at}
 use Rattle.std.proofs.lemmas.Bool.Decides.{nat_tests}
+use Rattle.std.proofs.lemmas.List.Elements.{Contains-append_left, Contains-append_right}
+use Rattle.nt_status.proofs.Lists.{contains_none, contains_first, contains_cases}
 
 -- ---- one object among the others
 
@@ -61,44 +61,46 @@ known_event os h is = known_object os h (event_is_no_thread (object_at os h) is)
 -- ---- which objects a change alters
 
 pub none_changed : (os : List Object) → AreRising (IsChanged os os) []
-none_changed os = record { rising = tt; exactly = λ x. (λ m. absurd m, λ changed. absurd (changed.1 refl)) }
+none_changed os = record { rising = tt; exactly = λ x. (λ m. absurd (contains_none x m), λ changed. absurd (changed.1 refl)) }
 
 pub same_changed : (os new : List Object) → new ≡ os → AreRising (IsChanged os new) []
 same_changed os new is = subst (λ (xs : List Object). AreRising (IsChanged os xs) []) (sym is) (none_changed os)
 
 pub one_changed : (os : List Object) (h : ℕ) (o : Object) → h < length os → o ≢ object_at os h → AreRising (IsChanged os (set os h o)) (h ∷ [])
 one_changed os h o known differs = record {
-  rising = (λ y m. absurd m, tt);
+  rising = (λ y m. absurd (contains_none y m), tt);
   exactly = λ x. (λ m. there x m, λ changed. here x changed);
 }
   where
-    there : (x : ℕ) → (h ≡ x) ⊎ ⊥ → IsChanged os (set os h o) x
-    there x (inl is) =
-        let changed : IsChanged os (set os h o) h = (known, λ e. differs (sym (object_at-set_same os h o known) ∙ e)) in
-        subst (λ (k : ℕ). IsChanged os (set os h o) k) is changed
-    there x (inr m) = absurd m
+    there : (x : ℕ) → Contains (h ∷ []) x → IsChanged os (set os h o) x
+    there x m = elim (contains_cases h [] x m) [
+      | inl is ↦
+          let changed : IsChanged os (set os h o) h = (known, λ e. differs (sym (object_at-set_same os h o known) ∙ e)) in
+          subst (λ (k : ℕ). IsChanged os (set os h o) k) is changed
+      | inr none ↦ absurd (contains_none x none)
+    ]
 
-    here : (x : ℕ) → IsChanged os (set os h o) x → IsMember (h ∷ []) x
+    here : (x : ℕ) → IsChanged os (set os h o) x → Contains (h ∷ []) x
     here x changed = elim (cases_eq x h) [
-      | inl same ↦ inl (sym same)
+      | inl same ↦ contains_first h [] x (sym same)
       | inr other ↦ absurd (changed.1 (object_at-set_other os h x o other))
     ]
 
 pub none_created : (os : List Object) (o : Object) → AreRising (IsChanged os (os ++ o ∷ [])) []
 none_created os o = record {
   rising = tt;
-  exactly = λ x. (λ m. absurd m, λ changed. absurd (changed.1 (object_at-append os (o ∷ []) x changed.0)));
+  exactly = λ x. (λ m. absurd (contains_none x m), λ changed. absurd (changed.1 (object_at-append os (o ∷ []) x changed.0)));
 }
 
 -- ---- only waits that name a changed object can fit after a change
 
 -- each object that was there and is outside of this list is as it was
 abbrev pub ChangedOnlyAt : List ℕ → List Object → List Object → Type 0
-ChangedOnlyAt changed old new = (h : ℕ) → h < length old → (object_at new h ≡ object_at old h) ⊎ IsMember changed h
+ChangedOnlyAt changed old new = (h : ℕ) → h < length old → (object_at new h ≡ object_at old h) ⊎ Contains changed h
 
 -- one of these handles is changed
 abbrev NamesOne : List ℕ → List ℕ → Type 0
-NamesOne changed hs = (j : ℕ) × (j < length hs) × IsMember changed (get_or hs j 0)
+NamesOne changed hs = (j : ℕ) × (j < length hs) × Contains changed (get_or hs j 0)
 
 -- the same objects are ready at these handles
 abbrev ReadyAlike : List Object → List Object → ℕ → List ℕ → Type 0
@@ -109,7 +111,7 @@ same_or_one changed old new t only [] known = inl (refl, refl)
 same_or_one changed old new t only (h ∷ hs) known =
     go (only h (known 0 (omega arith))) (same_or_one changed old new t only hs (λ j below. known (suc j) (omega (arith, below))))
   where
-    go : (object_at new h ≡ object_at old h) ⊎ IsMember changed h → ReadyAlike old new t hs ⊎ NamesOne changed hs → ReadyAlike old new t (h ∷ hs) ⊎ NamesOne changed (h ∷ hs)
+    go : (object_at new h ≡ object_at old h) ⊎ Contains changed h → ReadyAlike old new t hs ⊎ NamesOne changed hs → ReadyAlike old new t (h ∷ hs) ⊎ NamesOne changed (h ∷ hs)
     go (inr here) rest = inr (zero, omega arith, here)
     go (inl same) (inr one) = inr (suc one.0, omega (arith, one.1), one.2)
     go (inl same) (inl rest) =
@@ -119,16 +121,18 @@ same_or_one changed old new t only (h ∷ hs) known =
 fits_same : (old new : List Object) (t : ℕ) (w : Wait) → ReadyAlike old new t w.handles → fits new t w ≡ fits old t w
 fits_same old new t w alike = rw (alike.0, alike.1) refl
 
-in_sequence : (s : State) (changed : List ℕ) (h t : ℕ) → IsMember changed h → IsMember (s.queues h) t → IsMember (sequence s changed) t
-in_sequence s [] h t named member = absurd named
-in_sequence s (k ∷ ks) h t (inl here) member = member_of_first (s.queues k) (flat_map s.queues ks) t (subst (λ (i : ℕ). IsMember (s.queues i) t) (sym here) member)
-in_sequence s (k ∷ ks) h t (inr later) member = member_of_last (s.queues k) (flat_map s.queues ks) t (in_sequence s ks h t later member)
+in_sequence : (s : State) (changed : List ℕ) (h t : ℕ) → Contains changed h → Contains (s.queues h) t → Contains (sequence s changed) t
+in_sequence s [] h t named member = absurd (contains_none h named)
+in_sequence s (k ∷ ks) h t named member = elim (contains_cases k ks h named) [
+  | inl here ↦ Contains-append_left (s.queues k) (flat_map s.queues ks) t (subst (λ (i : ℕ). Contains (s.queues i) t) (sym here) member)
+  | inr later ↦ Contains-append_right (s.queues k) (flat_map s.queues ks) t (in_sequence s ks h t later member)
+]
 
 -- before the change no wait fitted: so one that fits now names a changed object, and stands in the sequence
 pub fit_only_in : (changed : List ℕ) (old : Dispatcher) (objects : List Object) → IsSound old → IsServed (state old) → ChangedOnlyAt changed old.objects objects → FitOnlyIn (sequence (state old) changed) (state (record old { objects = objects }))
 fit_only_in changed old objects sound served only t due = go (fin.get old.table.pending t) refl due
   where
-    go : (o : Option Wait) → fin.get old.table.pending t ≡ o → satisfied objects t o ≡ true → IsMember (sequence (state old) changed) t
+    go : (o : Option Wait) → fin.get old.table.pending t ≡ o → satisfied objects t o ≡ true → Contains (sequence (state old) changed) t
     go None e fit = let h : false ≡ true = fit in (cc)
     go (Some w) e fit = elim (same_or_one changed old.objects objects t only w.handles (λ j below. ((sound.waits t w e).named (get_or w.handles j 0) (j, below, refl)).0)) [
       | inl alike ↦
@@ -143,7 +147,7 @@ pub served_unchanged : (old : Dispatcher) (objects : List Object) → IsSound ol
 served_unchanged old objects sound served only t = go (is_due (state (record old { objects = objects })) t) refl
   where
     go : (b : Bool) → is_due (state (record old { objects = objects })) t ≡ b → b ≡ false
-    go true is = absurd (fit_only_in [] old objects sound served only t is)
+    go true is = absurd (contains_none t (fit_only_in [] old objects sound served only t is))
     go false is = refl
 
 -- where fewer objects are signaled, no wait fits
@@ -156,7 +160,7 @@ served_fewer s objects served fewer t = go (fin.get s.waits t) (served t)
 
 pub changed_at_one : (os : List Object) (h : ℕ) (o : Object) → ChangedOnlyAt (h ∷ []) os (set os h o)
 changed_at_one os h o k known = elim (cases_eq k h) [
-  | inl same ↦ inr (inl (sym same))
+  | inl same ↦ inr (contains_first h [] k (sym same))
   | inr differs ↦ inl (object_at-set_other os h k o differs)
 ]
 

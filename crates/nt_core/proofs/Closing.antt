@@ -1,14 +1,14 @@
 -- A handle is closed, and what open handles name lives.
-use Rattle.std.proofs.Common.{◌≡◌, ◌≢◌, ℕ, zero, suc, ◌<◌, ◌==◌, true, false, cond, List, [], ◌∷◌, length, map, set, refl, sym, ap, ◌∙◌, subst, arith, Option, Some, None, is_some, inl, inr}
+use Rattle.std.proofs.Common.{◌≡◌, ◌≢◌, ℕ, zero, suc, ◌<◌, ◌==◌, true, false, cond, List, [], ◌∷◌, length, map, set, refl, sym, ap, ◌∙◌, subst, arith, Option, Some, None, is_some, inl, inr, Contains}
 use Rattle.std.specs.Prelude.{nat_lt, is_none}
 use Rattle.std.proofs.lemmas.Bool.{cases_eq, false≢true}
 use Rattle.std.proofs.lemmas.Bool.Decides.{nat_tests}
 use Rattle.std.proofs.lemmas.List.{length-set, get_or-set_same, get_or-set_other}
+use Rattle.nt_status.proofs.Lists.{contains_none, contains_cases}
 use Rattle.nt_status.specs.declared.refusal.Refusal.TheVariants.{InvalidHandle}
 use Rattle.nt_objects.specs.declared.handles.Opened.{Opened}
 use Rattle.nt_objects.specs.Handles.{opened_at, count_named, names}
 use Rattle.nt_objects.specs.Object.{is_gone}
-use Rattle.nt_status.specs.Lists.{IsMember}
 use Rattle.nt_alarms.specs.Alarms.{alarm_at}
 use Rattle.nt_calls.specs.declared.call.Call.{Call}
 use Rattle.nt_calls.specs.declared.call.Act.{Act}
@@ -39,10 +39,12 @@ named_living d h sound known = go (opened_at d.handles h) refl
         absurd (omega (arith, known, none, few, enough))
     go (Some opened) is = ap (λ (o : Option Opened). is_gone (object_at d.objects (object_in o))) is ∙ sound.marks.living h opened is
 
-pub all_living : (d : Dispatcher) (hs : List ℕ) → IsSound d → (o : ℕ) → IsMember (map (object_named d.handles) hs) o → o < length d.objects → is_gone (object_at d.objects o) ≡ false
-all_living d [] sound o m known = absurd m
-all_living d (h ∷ hs) sound o (inl here) known = ap (λ (k : ℕ). is_gone (object_at d.objects k)) (sym here) ∙ named_living d h sound (subst (λ (k : ℕ). k < length d.objects) (sym here) known)
-all_living d (h ∷ hs) sound o (inr m) known = all_living d hs sound o m known
+pub all_living : (d : Dispatcher) (hs : List ℕ) → IsSound d → (o : ℕ) → Contains (map (object_named d.handles) hs) o → o < length d.objects → is_gone (object_at d.objects o) ≡ false
+all_living d [] sound o m known = absurd (contains_none o m)
+all_living d (h ∷ hs) sound o m known = elim (contains_cases (object_named d.handles h) (map (object_named d.handles) hs) o m) [
+  | inl here ↦ ap (λ (k : ℕ). is_gone (object_at d.objects k)) (sym here) ∙ named_living d h sound (subst (λ (k : ℕ). k < length d.objects) (sym here) known)
+  | inr later ↦ all_living d hs sound o later known
+]
 
 -- ---- a handle is closed
 
@@ -89,10 +91,10 @@ marks_closed d h opened is known marks = record {
     | inl here ↦ inl (ap (λ (k : ℕ). alarm_at (set d.leaving opened.object (Some 0)) k) here ∙ get_or-set_same d.leaving opened.object (Some 0) None (let count = marks.count in omega (arith, known, count)))
     | inr other ↦ elim (marks.marked o (before o other (parts (handle_closed (state d) h) o forgotten))) [
       | inl mark ↦ inl (get_or-set_other d.leaving opened.object o (Some 0) None other ∙ mark)
-      | inr none ↦ absurd none
+      | inr none ↦ absurd (contains_none o none)
     ]
   ];
-  known = λ o m. absurd m;
+  known = λ o m. absurd (contains_none o m);
 }
   where
     before : (o : ℕ) → o ≢ opened.object → IsForgotten (handle_closed (state d) h) o → is_forgotten (state d) o ≡ true

@@ -1,13 +1,13 @@
 -- A tick: its moments, one after another.
-use Rattle.std.proofs.Common.{◌≡◌, ◌<◌, ◌≤◌, ◌^◌, ℕ, zero, suc, ◌+◌, Bool, true, false, not, ◌&&◌, List, [], ◌∷◌, ◌++◌, length, length-append, map, refl, sym, ap, ◌∙◌, subst, arith, Option, Some, None, inl, inr}
+use Rattle.std.proofs.Common.{◌≡◌, ◌<◌, ◌≤◌, ◌^◌, ℕ, zero, suc, ◌+◌, Bool, true, false, not, ◌&&◌, List, [], ◌∷◌, ◌++◌, length, length-append, map, refl, sym, ap, ◌∙◌, subst, arith, Option, Some, None, inl, inr, Contains}
 use Rattle.std.specs.Prelude.{Ok, if◌then◌else◌}
 use Rattle.std.specs.List.{filter}
 use Rattle.std.specs.FinMap as fin
 use Rattle.std.proofs.lemmas.Bool.{false≢true}
 use Rattle.std.proofs.lemmas.Bool.Decides.{nat_tests}
+use Rattle.nt_status.proofs.Lists.{contains_none, contains_first, contains_later, contains_cases}
 use Rattle.nt_status.specs.Status.{io_completion_code}
 use Rattle.nt_waits.specs.declared.wait.Wait.{Wait}
-use Rattle.nt_status.specs.Lists.{IsMember}
 use Rattle.nt_objects.specs.declared.object.Object.{Object}
 use Rattle.nt_objects.specs.Object.{due_of}
 use Rattle.nt_calls.specs.declared.call.Grant.{Grant}
@@ -140,12 +140,12 @@ late_no_objects : (sleeping : Bool) → (is_by_objects (ending (late_status slee
 late_no_objects true = refl
 late_no_objects false = refl
 
-no_lates : (s woken : State) (ts : List ℕ) → ((t : ℕ) → IsMember ts t → sleeps (fin.get woken.waits t) ≡ sleeps (fin.get s.waits t)) → length (filter (ended_by_objects s) (map (λ t. ending (late_status (sleeps (fin.get woken.waits t))) t) ts)) ≡ 0
+no_lates : (s woken : State) (ts : List ℕ) → ((t : ℕ) → Contains ts t → sleeps (fin.get woken.waits t) ≡ sleeps (fin.get s.waits t)) → length (filter (ended_by_objects s) (map (λ t. ending (late_status (sleeps (fin.get woken.waits t))) t) ts)) ≡ 0
 no_lates s woken [] same = refl
 no_lates s woken (t ∷ ts) same =
     let here : ended_by_objects s (ending (late_status (sleeps (fin.get woken.waits t))) t) ≡ false =
-    ap (λ b. is_by_objects (ending (late_status b) t) && not (sleeps (fin.get s.waits t))) (same t (inl refl)) ∙ late_no_objects (sleeps (fin.get s.waits t)) in
-    rw here (no_lates s woken ts (λ x m. same x (inr m)))
+    ap (λ b. is_by_objects (ending (late_status b) t) && not (sleeps (fin.get s.waits t))) (same t (contains_first t ts t refl)) ∙ late_no_objects (sleeps (fin.get s.waits t)) in
+    rw here (no_lates s woken ts (λ x m. same x (contains_later t ts x m)))
 
 passed_least : (first old new : State) (m u : ℕ) (gs : List Grant) → (passes : MomentPasses old m u gs new) → ((t : ℕ) (w : Wait) → fin.get old.waits t ≡ Some w → fin.get first.waits t ≡ Some w) → length (filter (ended_by_objects first) gs) ≤ length passes.served
 passed_least first old new m u gs passes kept =
@@ -194,8 +194,8 @@ tick_next old now new m u far next after =
 abbrev pub left_to_come : ℕ → Dispatcher → ℕ
 left_to_come m d = due_weight (λ _. 1) m 0 d.objects + fin.len d.table.pending
 
-some_weight : (hs : List ℕ) (h : ℕ) → IsMember hs h → 0 < total_weight (λ _. 1) hs
-some_weight [] h member = absurd member
+some_weight : (hs : List ℕ) (h : ℕ) → Contains hs h → 0 < total_weight (λ _. 1) hs
+some_weight [] h member = absurd (contains_none h member)
 some_weight (x ∷ hs) h member = omega arith
 
 pending_fewer : (old new : Dispatcher) (m u : ℕ) → IsPassedAfter old m u new → fin.len new.table.pending ≤ fin.len old.table.pending
@@ -230,25 +230,27 @@ abbrev due_list : ℕ → ℕ → List Object → List ℕ
 due_list m k [] = []
 due_list m k (o ∷ os) = if is_up_to m (due_of o) then k ∷ due_list m (k + 1) os else due_list m (k + 1) os
 
-due_to : (m k : ℕ) (os : List Object) (x : ℕ) → IsMember (due_list m k os) x → (j : ℕ) × (x ≡ k + j) × (is_up_to m (due_of (object_at os j)) ≡ true)
-due_to m k [] x member = absurd member
+due_to : (m k : ℕ) (os : List Object) (x : ℕ) → Contains (due_list m k os) x → (j : ℕ) × (x ≡ k + j) × (is_up_to m (due_of (object_at os j)) ≡ true)
+due_to m k [] x member = absurd (contains_none x member)
 due_to m k (o ∷ os) x member = go (is_up_to m (due_of o)) refl (due_to m (k + 1) os x) member
   where
     later : (j : ℕ) × (x ≡ k + 1 + j) × (is_up_to m (due_of (object_at os j)) ≡ true) → (j : ℕ) × (x ≡ k + j) × (is_up_to m (due_of (object_at (o ∷ os) j)) ≡ true)
     later own = (suc own.0, let e = own.1 in omega (arith, e), own.2)
 
-    go : (b : Bool) → is_up_to m (due_of o) ≡ b → (IsMember (due_list m (k + 1) os) x → (j : ℕ) × (x ≡ k + 1 + j) × (is_up_to m (due_of (object_at os j)) ≡ true)) → IsMember (if b then k ∷ due_list m (k + 1) os else due_list m (k + 1) os) x → (j : ℕ) × (x ≡ k + j) × (is_up_to m (due_of (object_at (o ∷ os) j)) ≡ true)
-    go true is rest (inl same) = (zero, omega (arith, same), is)
-    go true is rest (inr member) = later (rest member)
+    go : (b : Bool) → is_up_to m (due_of o) ≡ b → (Contains (due_list m (k + 1) os) x → (j : ℕ) × (x ≡ k + 1 + j) × (is_up_to m (due_of (object_at os j)) ≡ true)) → Contains (if b then k ∷ due_list m (k + 1) os else due_list m (k + 1) os) x → (j : ℕ) × (x ≡ k + j) × (is_up_to m (due_of (object_at (o ∷ os) j)) ≡ true)
+    go true is rest member = elim (contains_cases k (due_list m (k + 1) os) x member) [
+      | inl same ↦ (zero, omega (arith, same), is)
+      | inr behind ↦ later (rest behind)
+    ]
     go false is rest member = later (rest member)
 
-due_from : (m k : ℕ) (os : List Object) (j x : ℕ) → x ≡ k + j → is_up_to m (due_of (object_at os j)) ≡ true → IsMember (due_list m k os) x
+due_from : (m k : ℕ) (os : List Object) (j x : ℕ) → x ≡ k + j → is_up_to m (due_of (object_at os j)) ≡ true → Contains (due_list m k os) x
 due_from m k [] j x is due = absurd (false≢true due)
-due_from m k (o ∷ os) zero x is due = rw due (inl (omega (arith, is)))
+due_from m k (o ∷ os) zero x is due = rw due (contains_first k (due_list m (k + 1) os) x (omega (arith, is)))
 due_from m k (o ∷ os) (suc j) x is due = go (is_up_to m (due_of o)) (due_from m (k + 1) os j x (omega (arith, is)) due)
   where
-    go : (b : Bool) → IsMember (due_list m (k + 1) os) x → IsMember (if b then k ∷ due_list m (k + 1) os else due_list m (k + 1) os) x
-    go true member = inr member
+    go : (b : Bool) → Contains (due_list m (k + 1) os) x → Contains (if b then k ∷ due_list m (k + 1) os else due_list m (k + 1) os) x
+    go true member = contains_later k (due_list m (k + 1) os) x member
     go false member = member
 
 due_rises : (m k : ℕ) (os : List Object) → IsRising (due_list m k os)

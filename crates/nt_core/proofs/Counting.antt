@@ -1,13 +1,13 @@
 -- A call ends no more waits than pended before it, and begins one at most; a tick ends as many as are gone after it.
-use Rattle.std.proofs.Common.{◌≡◌, ◌≢◌, ℕ, ◌+◌, ◌-◌, ◌≤◌, ◌<◌, Bool, true, false, cond, List, [], ◌∷◌, ◌++◌, length, length-append, refl, sym, ap, ◌∙◌, arith, Option, Some, None, Ok, Err, Result, is_some, ◌&&◌, ◌==◌, inl, inr}
+use Rattle.std.proofs.Common.{◌≡◌, ◌≢◌, ℕ, ◌+◌, ◌-◌, ◌≤◌, ◌<◌, Bool, true, false, cond, List, [], ◌∷◌, ◌++◌, length, length-append, refl, sym, ap, ◌∙◌, arith, Option, Some, None, Ok, Err, Result, is_some, ◌&&◌, ◌==◌, Contains}
 use Rattle.std.proofs.lemmas.List.{length-map}
 use Rattle.std.proofs.lemmas.Bool.{le-ltb, ne_eqb}
 use Rattle.std.specs.Ordering.{nat_cmp, eq_by_cmp}
 use Rattle.std.specs.Cmp.{nat_cmp_total}
 use Rattle.std.specs.FinMap as map
+use Rattle.nt_status.proofs.Lists.{contains_first, contains_later}
 use Rattle.nt_status.specs.declared.refusal.Refusal.{Refusal}
 use Rattle.nt_waits.specs.declared.wait.Wait.{Wait}
-use Rattle.nt_status.specs.Lists.{IsMember}
 use Rattle.nt_apc.specs.Queues.{has_apc}
 use Rattle.nt_calls.specs.declared.call.Act.{Act}
 use Rattle.nt_calls.specs.declared.call.Call.{Call}
@@ -55,13 +55,13 @@ still_pends : (s : State) (t x : ℕ) (may : Bool) → t < x → Pends s x → P
 unfolding Pends
 still_pends s t x may h p = (p.0, map.get-remove nat_cmp_total s.waits t x ∙ rw (other_thread t x h) p.1)
 
-waits_over-len : (ts : List ℕ) (s : State) (may : Bool) → IsRising ts → ((x : ℕ) → IsMember ts x → Pends s x) → length ts + map.len (waits_over s ts may).waits ≡ map.len s.waits
+waits_over-len : (ts : List ℕ) (s : State) (may : Bool) → IsRising ts → ((x : ℕ) → Contains ts x → Pends s x) → length ts + map.len (waits_over s ts may).waits ≡ map.len s.waits
 unfolding Pends
 waits_over-len [] s may rising pend = omega arith
 waits_over-len (t ∷ ts) s may rising pend =
-    let here = pend t (inl refl) in
+    let here = pend t (contains_first t ts t refl) in
     let one = len_removed s.waits t here.0 here.1 in
-    let rest = waits_over-len ts (wait_over s t may) may rising.1 (λ x member. still_pends s t x may (rising.0 x member) (pend x (inr member))) in
+    let rest = waits_over-len ts (wait_over s t may) may rising.1 (λ x member. still_pends s t x may (rising.0 x member) (pend x (contains_later t ts x member))) in
     omega (arith, one, rest)
 
 alert-len : (old new : State) (grants : List Grant) → Alert old grants new → length grants + map.len new.waits ≡ map.len old.waits

@@ -5,6 +5,7 @@ use Rattle.std.specs.FinMap.{get}
 use Rattle.std.proofs.lemmas.Bool.{cases_eq, false≢true}
 use Rattle.std.proofs.lemmas.Bool.Decides.{nat_tests}
 use Rattle.std.proofs.lemmas.List.{length-set, get_or-set_other}
+use Rattle.nt_status.proofs.Lists.{contains_none, contains_first}
 use Rattle.nt_objects.specs.declared.handles.Opened.{Opened}
 use Rattle.nt_objects.specs.declared.object.Object.{Object}
 use Rattle.nt_objects.specs.declared.object.Object.TheVariants.{Gone}
@@ -64,7 +65,7 @@ gone_sound d o owned apcs sound forgotten len places = record {
     living = λ h opened is. ap is_gone (object_at-set_other d.objects o opened.object Gone (named h opened is)) ∙ sound.marks.living h opened is;
     count = sound.marks.count ∙ sym count;
     marked = λ x left. sound.marks.marked x (still_forgotten (state d) (o ∷ []) x left).0;
-    known = λ x m. absurd m;
+    known = λ x m. absurd (contains_none x m);
   };
   places = record { changed = sound.places.changed ∙ sym count; alerted = sound.places.alerted };
   room = sound.room;
@@ -157,10 +158,10 @@ unmarked_sound d o sound needless = record {
       | inl here ↦ absurd (false≢true (sym needless ∙ (ap (λ (k : ℕ). is_forgotten (state d) k) (sym here) ∙ forgotten)))
       | inr other ↦ elim (sound.marks.marked x forgotten) [
         | inl mark ↦ inl (cleared_other d.leaving o x other ∙ mark)
-        | inr none ↦ absurd none
+        | inr none ↦ absurd (contains_none x none)
       ]
     ];
-    known = λ x m. absurd m;
+    known = λ x m. absurd (contains_none x m);
   };
   places = sound.places;
   room = sound.room;
@@ -172,4 +173,4 @@ gone_needless s o known = go (is_forgotten (gone s o) o) refl
   where
     go : (b : Bool) → is_forgotten (gone s o) o ≡ b → b ≡ false
     go false is = refl
-    go true is = absurd ((still_forgotten s (o ∷ []) o is).1 (inl refl))
+    go true is = absurd ((still_forgotten s (o ∷ []) o is).1 (contains_first o [] o refl))

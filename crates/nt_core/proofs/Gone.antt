@@ -1,9 +1,9 @@
 -- The loop that ends the objects that nothing keeps any more.
-use Rattle.std.proofs.Common.{◌≡◌, ◌≢◌, ℕ, ◌<◌, ◌++◌, Bool, true, false, cond, List, [], ◌∷◌, refl, sym, ap, ◌∙◌, subst, arith, Option, Some, None, inl, inr, ◌⊎◌}
+use Rattle.std.proofs.Common.{◌≡◌, ◌≢◌, ℕ, ◌<◌, ◌++◌, Bool, true, false, cond, List, [], ◌∷◌, refl, sym, ap, ◌∙◌, subst, arith, Option, Some, None, inl, inr, ◌⊎◌, Contains}
 use Rattle.std.specs.Prelude.{slice_set}
 use Rattle.std.proofs.lemmas.Bool.{cases_eq}
-use Rattle.nt_status.specs.Lists.{IsMember}
-use Rattle.nt_status.proofs.Lists.{member_or_not, member_push_cases}
+use Rattle.std.proofs.lemmas.List.Elements.{Contains-push_cases}
+use Rattle.nt_status.proofs.Lists.{contains_none, contains_or_not}
 use Rattle.nt_alarms.specs.Alarms.{alarm_at, NoneAt, IsLowestAt}
 use Rattle.nt_calls.specs.Rising.{IsRising}
 use Rattle.nt_calls.specs.State.{State}
@@ -24,9 +24,9 @@ gone_append s (p ∷ os) o = gone_append (gone s p) os o
 pub record GoneSoFar (old now : Dispatcher) : Type 0 where
   pub objects : List ℕ
   pub rising : IsRising objects
-  pub forgotten : (x : ℕ) → IsMember objects x → is_forgotten (state old) x ≡ true
+  pub forgotten : (x : ℕ) → Contains objects x → is_forgotten (state old) x ≡ true
   pub over : state now ≡ all_gone (state old) objects
-  pub above : (x : ℕ) → alarm_at now.leaving x ≡ Some 0 → (y : ℕ) → IsMember objects y → y < x
+  pub above : (x : ℕ) → alarm_at now.leaving x ≡ Some 0 → (y : ℕ) → Contains objects y → y < x
   pub sound : IsSound now
   pub grants : now.grants ≡ old.grants
   pub table : now.table ≡ old.table
@@ -36,9 +36,9 @@ pub gone_none : (d : Dispatcher) → IsSound d → GoneSoFar d d
 gone_none d sound = record {
   objects = [];
   rising = tt;
-  forgotten = λ x m. absurd m;
+  forgotten = λ x m. absurd (contains_none x m);
   over = refl;
-  above = λ x is y m. absurd m;
+  above = λ x is y m. absurd (contains_none y m);
   sound = sound;
   grants = refl;
   table = refl;
@@ -57,7 +57,7 @@ gone_next old now new t far lowest becomes leaving sound grants table marked = g
     no_mark_here : (x : ℕ) → x ≡ t → alarm_at new.leaving x ≡ None
     no_mark_here x same = ap (λ (k : ℕ). alarm_at new.leaving k) same ∙ (ap (λ (m : List (Option ℕ)). alarm_at m t) leaving ∙ cleared_here now.leaving t)
 
-    after : (x : ℕ) → alarm_at new.leaving x ≡ Some 0 → (x ≡ t) ⊎ (x ≢ t) → (y : ℕ) → IsMember far.objects y ⊎ (t ≡ y) → y < x
+    after : (x : ℕ) → alarm_at new.leaving x ≡ Some 0 → (x ≡ t) ⊎ (x ≢ t) → (y : ℕ) → Contains far.objects y ⊎ (t ≡ y) → y < x
     after x is (inl same) y m = no_mark 0 (sym (no_mark_here x same) ∙ is)
     after x is (inr other) y (inl earlier) = far.above x (sym (mark_before x other) ∙ is) y earlier
     after x is (inr other) y (inr last) = let least = lowest_least now.leaving t x lowest (sym (mark_before x other) ∙ is) in omega (arith, least, other, last)
@@ -68,12 +68,12 @@ gone_next old now new t far lowest becomes leaving sound grants table marked = g
         record {
           objects = far.objects ++ t ∷ [];
           rising = rising_append far.objects t far.rising (far.above t lowest.here);
-          forgotten = λ x m. elim (member_push_cases far.objects t x m) [
+          forgotten = λ x m. elim (Contains-push_cases far.objects t x m) [
             | inl earlier ↦ far.forgotten x earlier
             | inr last ↦ subst (λ (k : ℕ). is_forgotten (state old) k ≡ true) last before.0
           ];
           over = next ∙ (ap (λ (s : State). gone s t) far.over ∙ sym (gone_append (state old) far.objects t));
-          above = λ x mark y m. after x mark (cases_eq x t) y (member_push_cases far.objects t y m);
+          above = λ x mark y m. after x mark (cases_eq x t) y (Contains-push_cases far.objects t y m);
           sound = sound;
           grants = grants ∙ far.grants;
           table = table ∙ far.table;
@@ -98,11 +98,11 @@ gone_end old now far none = record {
     rising = far.rising;
     exactly = λ x. (
       λ m. far.forgotten x m,
-      λ is. elim (member_or_not far.objects x) [
+      λ is. elim (contains_or_not far.objects x) [
         | inl member ↦ member
         | inr never ↦ elim (far.sound.marks.marked x (subst (λ (s : State). is_forgotten s x ≡ true) (sym far.over) (forgotten_as (state old) far.objects x (stays (state old) far.objects x never) ∙ is))) [
           | inl mark ↦ absurd (none x mark)
-          | inr other ↦ absurd other
+          | inr other ↦ absurd (contains_none x other)
         ]
       ],
     );

@@ -3,8 +3,8 @@ use Rattle.std.proofs.Common.{◌≡◌, ◌≢◌, ◌<◌, ℕ, true, List, []
 use Rattle.std.specs.Prelude.{Contains, ◌↔◌}
 use Rattle.std.proofs.lemmas.Bool.{cases_eq}
 use Rattle.std.proofs.lemmas.List.{length-set, get_or-set_other}
-use Rattle.nt_status.specs.Lists.{IsMember}
-use Rattle.nt_status.proofs.Lists.{member_push_cases, member_of_first, member_of_last, member_or_not}
+use Rattle.std.proofs.lemmas.List.Elements.{Contains-push_cases, Contains-append_left, Contains-append_right}
+use Rattle.nt_status.proofs.Lists.{contains_first, contains_or_not}
 use Rattle.nt_objects.specs.declared.object.Object.{Object}
 use Rattle.nt_objects.specs.declared.object.Object.TheVariants.{Event, Semaphore, Mutex, Timer, Thread, Gone}
 use Rattle.nt_objects.specs.Object.{is_timer, setter_of, due_of, armed_with}
@@ -17,7 +17,6 @@ use Rattle.nt_core.specs.Lawful.{IsSound}
 use Rattle.nt_core.specs.Accepts.{IsSetBy, IsSetAmong, AreStopped}
 use Rattle.nt_core.proofs.Changing.{object_at-set_same, object_at-set_other}
 use Rattle.nt_core.proofs.Timing.{known_timer, retimed_sound}
-use Rattle.nt_core.proofs.Listing.{contained}
 use Rattle.nt_core.proofs.Places.{adds_as, set_mark, set_kept}
 
 -- ---- timers that a thread armed with a routine
@@ -100,7 +99,7 @@ pub record StoppedSoFar (t : ℕ) (timers : List ℕ) (old now : List Object) (o
   pub sound : (d : Dispatcher) → IsSound (record d { objects = old; alarms = old_alarms }) → IsSound (record d { objects = now; alarms = alarms })
 
 -- a timer that is the thread's now was so before, and is none of those that are stopped
-set_before : (t : ℕ) (timers : List ℕ) (old now : List Object) (h : ℕ) → AreStopped (IsSetAmong timers old t) old now → IsSetBy now t h → IsSetBy old t h × (IsMember timers h → ⊥)
+set_before : (t : ℕ) (timers : List ℕ) (old now : List Object) (h : ℕ) → AreStopped (IsSetAmong timers old t) old now → IsSetBy now t h → IsSetBy old t h × (Contains timers h → ⊥)
 set_before t timers old now h stops sets = (was, never was)
   where
     was : IsSetBy old t h
@@ -109,7 +108,7 @@ set_before t timers old now h stops sets = (was, never was)
       | inr none ↦ ap setter_of (sym (stops.others h (λ has. none has.1))) ∙ sets
     ]
 
-    never : IsSetBy old t h → IsMember timers h → ⊥
+    never : IsSetBy old t h → Contains timers h → ⊥
     never is member = stopped_unset (object_at old h) t (ap setter_of (sym (stops.stopped h (member, is))) ∙ sets)
 
 -- the next timer is the thread's: it is stopped and marked
@@ -130,26 +129,26 @@ stopped_next t timers h old now old_alarms alarms old_marks marks sets place far
       (stopped_sound (record d { objects = now; alarms = alarms }) h (far.sound d sound) (setter_timer (object_at now h) t sets));
 }
   where
-    before : IsSetBy old t h × (IsMember timers h → ⊥)
+    before : IsSetBy old t h × (Contains timers h → ⊥)
     before = set_before t timers old now h far.stopped sets
 
     same_here : object_at now h ≡ object_at old h
     same_here = far.stopped.others h (λ has. before.1 has.0)
 
     first : (k : ℕ) → IsSetAmong timers old t k → IsSetAmong (timers ++ h ∷ []) old t k
-    first k has = (member_of_first timers (h ∷ []) k has.0, has.1)
+    first k has = (Contains-append_left timers (h ∷ []) k has.0, has.1)
 
     last : (k : ℕ) → k ≡ h → IsSetAmong (timers ++ h ∷ []) old t k
-    last k same = (member_of_last timers (h ∷ []) k (inl (sym same)), subst (λ (n : ℕ). IsSetBy old t n) (sym same) before.0)
+    last k same = (Contains-append_right timers (h ∷ []) k (contains_first h [] k (sym same)), subst (λ (n : ℕ). IsSetBy old t n) (sym same) before.0)
 
     stop : (k : ℕ) → IsSetAmong (timers ++ h ∷ []) old t k → (k ≡ h) ⊎ (k ≢ h) → object_at (set now h (armed_with None (object_at now h))) k ≡ armed_with None (object_at old k)
     stop k has (inl same) =
         ap (λ (n : ℕ). object_at (set now h (armed_with None (object_at now h))) n) same
         ∙ (object_at-set_same now h (armed_with None (object_at now h)) (set_timer_known now t h sets)
         ∙ (ap (armed_with None) same_here ∙ ap (λ (n : ℕ). armed_with None (object_at old n)) (sym same)))
-    stop k has (inr differs) = object_at-set_other now h k (armed_with None (object_at now h)) differs ∙ earlier (member_push_cases timers h k has.0)
+    stop k has (inr differs) = object_at-set_other now h k (armed_with None (object_at now h)) differs ∙ earlier (Contains-push_cases timers h k has.0)
       where
-        earlier : IsMember timers k ⊎ (h ≡ k) → object_at now k ≡ armed_with None (object_at old k)
+        earlier : Contains timers k ⊎ (h ≡ k) → object_at now k ≡ armed_with None (object_at old k)
         earlier (inl member) = far.stopped.stopped k (member, has.1)
         earlier (inr same) = absurd (differs (sym same))
 
@@ -162,7 +161,7 @@ stopped_next t timers h old now old_alarms alarms old_marks marks sets place far
 
     from : (k : ℕ) → (alarm_at old_marks k ≡ Some 0) ⊎ IsSetAmong (timers ++ h ∷ []) old t k → alarm_at (set marks h (Some 0)) k ≡ Some 0
     from k (inl was) = set_kept marks h k ((far.marked.exactly k).1 (inl was))
-    from k (inr has) = elim (member_push_cases timers h k has.0) [
+    from k (inr has) = elim (Contains-push_cases timers h k has.0) [
       | inl member ↦ set_kept marks h k ((far.marked.exactly k).1 (inr (member, has.1)))
       | inr same ↦ subst (λ (n : ℕ). alarm_at (set marks h (Some 0)) n ≡ Some 0) same (set_mark marks h place)
     ]
@@ -176,16 +175,16 @@ stopped_not t timers h old now old_alarms alarms old_marks marks none far = reco
   sound = far.sound;
 }
   where
-    among : (k : ℕ) → IsSetBy old t k → IsMember timers k ⊎ (h ≡ k) → IsSetAmong timers old t k
+    among : (k : ℕ) → IsSetBy old t k → Contains timers k ⊎ (h ≡ k) → IsSetAmong timers old t k
     among k sets (inl member) = (member, sets)
-    among k sets (inr last) = elim (member_or_not timers k) [
+    among k sets (inr last) = elim (contains_or_not timers k) [
       | inl member ↦ (member, sets)
       | inr never ↦ absurd (none (subst (λ (n : ℕ). IsSetBy now t n) (sym last) (ap setter_of (far.stopped.others k (λ has. never has.0)) ∙ sets)))
     ]
 
     same : (k : ℕ) → IsSetAmong timers old t k ↔ IsSetAmong (timers ++ h ∷ []) old t k
-    same k = (λ has. (member_of_first timers (h ∷ []) k has.0, has.1), λ has. among k has.1 (member_push_cases timers h k has.0))
+    same k = (λ has. (Contains-append_left timers (h ∷ []) k has.0, has.1), λ has. among k has.1 (Contains-push_cases timers h k has.0))
 
 -- all that the thread armed with a routine have a place in its queue
 pub set_among : (d : Dispatcher) (t : ℕ) (timers : List ℕ) → IsSound d → ((m : ℕ) → Contains timers m ↔ (place_of d.apcs.places m ≡ Some t)) → (k : ℕ) → IsSetAmong timers d.objects t k ↔ IsSetBy d.objects t k
-set_among d t timers sound placed k = (λ has. has.1, λ sets. (contained timers k ((placed k).1 (sound.timers.placed k t sets)), sets))
+set_among d t timers sound placed k = (λ has. has.1, λ sets. ((placed k).1 (sound.timers.placed k t sets), sets))

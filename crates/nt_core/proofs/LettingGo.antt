@@ -1,10 +1,10 @@
 -- Marks for what a wait that ended named.
-use Rattle.std.proofs.Common.{◌≡◌, ◌<◌, ℕ, zero, suc, true, false, Option, length, [], List, ◌∷◌, set, refl, sym, ap, ◌∙◌, subst, arith, Some, None, inl, inr}
+use Rattle.std.proofs.Common.{◌≡◌, ◌<◌, ℕ, zero, suc, true, false, Option, length, [], List, ◌∷◌, set, refl, sym, ap, ◌∙◌, subst, arith, Some, None, inl, inr, Contains}
 use Rattle.std.specs.Prelude.{nat_lt, drop}
-use Rattle.nt_status.specs.Lists.{IsMember}
 use Rattle.std.proofs.lemmas.Bool.{cases_eq, false≢true}
 use Rattle.std.proofs.lemmas.Bool.Decides.{nat_tests}
 use Rattle.std.proofs.lemmas.List.{length-set, get_or-set_same, get_or-set_other}
+use Rattle.nt_status.proofs.Lists.{contains_none, contains_first, contains_later, contains_cases}
 use Rattle.nt_objects.specs.declared.handles.Opened.{Opened}
 use Rattle.nt_objects.specs.Handles.{count_named}
 use Rattle.nt_alarms.specs.Alarms.{alarm_at}
@@ -18,7 +18,7 @@ let_go_named handles ended old now o left far named = record {
   count = far.count;
   marked = λ k member none. elim (far.marked k member none) [
     | inl mark ↦ inl mark
-    | inr here_or_later ↦ elim here_or_later [
+    | inr here_or_later ↦ elim (contains_cases o left k here_or_later) [
       | inl here ↦ absurd (let zero : count_named handles o ≡ 0 = ap (count_named handles) here ∙ none in false≢true (sym (ap (λ n. nat_lt 0 n) zero) ∙ named))
       | inr later ↦ inr later
     ]
@@ -37,7 +37,7 @@ let_go_marked handles ended old now o left far known =
         | inl same ↦ inl (ap (λ j. alarm_at (set now o (Some 0)) j) same ∙ here)
         | inr other ↦ elim (far.marked k member none) [
           | inl mark ↦ inl (get_or-set_other now o k (Some 0) None other ∙ mark)
-          | inr here_or_later ↦ elim here_or_later [
+          | inr here_or_later ↦ elim (contains_cases o left k here_or_later) [
             | inl is ↦ absurd (other (sym is))
             | inr later ↦ inr later
           ]
@@ -58,14 +58,14 @@ let_go_agree d ended leaving marks lets = record {
     | inl mark ↦ inl (lets.kept o mark)
     | inr member ↦ lets.marked o member (none_named (count_named d.handles o) (parts (state d) o forgotten).unopened)
   ];
-  known = λ o none. absurd none;
+  known = λ o none. absurd (contains_none o none);
 }
   where
     none_named : (n : ℕ) → nat_lt 0 n ≡ false → n ≡ 0
     none_named n unopened = grind (arith, nat_tests, unopened)
 
 -- what a list has from some place on stands in it
-pub dropped_member : (i : ℕ) (xs : List ℕ) (h : ℕ) (rest : List ℕ) → drop i xs ≡ h ∷ rest → IsMember xs h
-dropped_member zero xs h rest is = subst (λ (ys : List ℕ). IsMember ys h) (sym is) (inl refl)
+pub dropped_member : (i : ℕ) (xs : List ℕ) (h : ℕ) (rest : List ℕ) → drop i xs ≡ h ∷ rest → Contains xs h
+dropped_member zero xs h rest is = subst (λ (ys : List ℕ). Contains ys h) (sym is) (contains_first h rest h refl)
 dropped_member (suc i) [] h rest is = let none = ap (λ (ys : List ℕ). length ys) is in absurd (omega (arith, none))
-dropped_member (suc i) (x ∷ xs) h rest is = inr (dropped_member i xs h rest is)
+dropped_member (suc i) (x ∷ xs) h rest is = contains_later x xs h (dropped_member i xs h rest is)

@@ -1,10 +1,7 @@
 -- Lists of handles, each once: put together, counted, and sorted.
 use Rattle.std.proofs.Common.{◌≡◌, ◌≢◌, ◌<◌, ◌+◌, ◌==◌, ℕ, true, false, List, [], ◌∷◌, ◌++◌, length, get_or, take, sym, ap, ◌∙◌, arith}
-use Rattle.std.specs.Prelude.{Contains}
 use Rattle.std.proofs.lemmas.Bool.Decides.{nat_tests}
 use Rattle.std.proofs.lemmas.List.{take_more}
-use Rattle.nt_status.specs.Lists.{IsMember}
-use Rattle.nt_status.proofs.Lists.{member_at}
 
 -- ---- tests of numbers
 
@@ -13,11 +10,6 @@ same_yes a b e = grind (arith, nat_tests, e)
 
 pub same_no : (a b : ℕ) → a ≢ b → (a == b) ≡ false
 same_no a b e = grind (arith, nat_tests, e)
-
--- ---- members
-
-pub contained : (xs : List ℕ) (h : ℕ) → Contains xs h → IsMember xs h
-contained xs h has = member_at xs has.0 h h has.1 has.2
 
 -- ---- the first ones of a list
 

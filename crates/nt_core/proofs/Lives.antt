@@ -1,5 +1,5 @@
 -- What the end of objects leaves.
-use Rattle.std.proofs.Common.{◌≡◌, ℕ, zero, suc, ◌<◌, ◌==◌, Bool, true, false, not, ◌&&◌, ◌||◌, cond, List, [], ◌∷◌, length, refl, sym, ap, ◌∙◌, subst, arith, Option, Some, None, inl, inr, ◌⊎◌}
+use Rattle.std.proofs.Common.{◌≡◌, ℕ, zero, suc, ◌<◌, ◌==◌, Bool, true, false, not, ◌&&◌, ◌||◌, cond, List, [], ◌∷◌, length, refl, sym, ap, ◌∙◌, subst, arith, Option, Some, None, inl, inr, ◌⊎◌, Contains}
 use Rattle.std.specs.Prelude.{nat_lt}
 use Rattle.std.proofs.lemmas.Bool.{false≢true}
 use Rattle.std.proofs.lemmas.Bool.Decides.{nat_tests}
@@ -8,7 +8,6 @@ use Rattle.nt_objects.specs.declared.object.Object.{Object}
 use Rattle.nt_objects.specs.declared.object.Object.TheVariants.{Event, Semaphore, Mutex, Timer, Thread, Gone}
 use Rattle.nt_objects.specs.Handles.{opened_at, count_named, names}
 use Rattle.nt_objects.specs.Object.{has_ended, is_gone}
-use Rattle.nt_status.specs.Lists.{IsMember}
 use Rattle.nt_waits.specs.Waits.{queue_of}
 use Rattle.nt_calls.specs.State.{State, object_at}
 use Rattle.nt_core.specs.Dispatcher.{Dispatcher, state}
@@ -40,13 +39,13 @@ gone_lives_not : (s : State) (o : ℕ) → object_at s.objects o ≡ Gone → li
 gone_lives_not s o there = ap (λ x. nat_lt o (length s.objects) && not (is_gone x)) there ∙ and_not (nat_lt o (length s.objects))
 
 -- what is forgotten after some are gone was before, and is none of them
-pub still_forgotten : (s : State) (os : List ℕ) (o : ℕ) → is_forgotten (all_gone s os) o ≡ true → (is_forgotten s o ≡ true) × (IsMember os o → ⊥)
+pub still_forgotten : (s : State) (os : List ℕ) (o : ℕ) → is_forgotten (all_gone s os) o ≡ true → (is_forgotten s o ≡ true) × (Contains os o → ⊥)
 still_forgotten s os o is =
     let living = (both (lives (all_gone s os) o) (not (is_kept (all_gone s os) o)) is).0 in
     let test = (both (nat_lt o (length (all_gone s os).objects)) (not (is_gone (object_at (all_gone s os).objects o))) living).0 in
     let count = same_count s os in
     let known : o < length s.objects = (let below : o < length (all_gone s os).objects = grind (arith, nat_tests, test) in omega (arith, below, count)) in
-    let never : IsMember os o → ⊥ = λ m. false≢true (sym (gone_lives_not (all_gone s os) o (goes s os o m known)) ∙ living) in
+    let never : Contains os o → ⊥ = λ m. false≢true (sym (gone_lives_not (all_gone s os) o (goes s os o m known)) ∙ living) in
     (sym (forgotten_as s os o (stays s os o never)) ∙ is, never)
 
 -- ---- what keeps an object lives

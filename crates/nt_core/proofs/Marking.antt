@@ -1,18 +1,18 @@
 -- Which objects have a mark.
-use Rattle.std.proofs.Common.{◌≡◌, ◌≢◌, ℕ, zero, suc, ◌<◌, Bool, true, false, not, ◌&&◌, ◌||◌, List, [], ◌∷◌, ◌++◌, length, length-append, set, refl, sym, ap, ◌∙◌, subst, arith, Option, Some, None, inl, inr, ◌⊎◌}
+use Rattle.std.proofs.Common.{◌≡◌, ◌≢◌, ℕ, zero, suc, ◌<◌, Bool, true, false, not, ◌&&◌, ◌||◌, List, [], ◌∷◌, ◌++◌, length, length-append, set, refl, sym, ap, ◌∙◌, subst, arith, Option, Some, None, inl, inr, ◌⊎◌, Contains}
 use Rattle.std.specs.Prelude.{nat_lt, replicate}
 use Rattle.std.specs.FinMap.{get}
 use Rattle.std.proofs.lemmas.Bool.{cases_eq, false≢true}
 use Rattle.std.proofs.lemmas.Bool.Decides.{nat_tests}
 use Rattle.std.proofs.lemmas.List.{length-replicate, length-set, get_or-set_same, get_or-set_other}
+use Rattle.std.proofs.lemmas.List.Elements.{at_from_Contains}
 use Rattle.nt_objects.specs.declared.handles.Opened.{Opened}
 use Rattle.nt_objects.specs.declared.object.Object.{Object}
 use Rattle.nt_objects.specs.declared.object.Object.TheVariants.{Thread}
 use Rattle.nt_objects.specs.Handles.{opened_at, count_named, full_access}
 use Rattle.nt_objects.specs.Object.{has_ended, is_gone}
 use Rattle.nt_waits.specs.declared.wait.Wait.{Wait}
-use Rattle.nt_status.specs.Lists.{IsMember}
-use Rattle.nt_status.proofs.Lists.{member_or_not, member_place, member_at}
+use Rattle.nt_status.proofs.Lists.{contains_none, contains_at, contains_or_not}
 use Rattle.nt_waits.specs.Waits.{Names, Waits, queue_of, others}
 use Rattle.nt_alarms.specs.Alarms.{alarm_at}
 use Rattle.nt_apc.specs.Queues.{Apcs}
@@ -38,14 +38,14 @@ forgotten_same s r o count gone ended threads opened queue =
 
 -- ---- marks stay
 
-pub marks_from : (old new : Dispatcher) (left : List ℕ) → new.handles ≡ old.handles → new.leaving ≡ old.leaving → length new.objects ≡ length old.objects → ((o : ℕ) → is_gone (object_at new.objects o) ≡ is_gone (object_at old.objects o)) → ((o : ℕ) → is_forgotten (state new) o ≡ true → (is_forgotten (state old) o ≡ true) ⊎ IsMember left o) → ((o : ℕ) → IsMember left o → o < length new.objects) → MarksAgreeBut [] old → MarksAgreeBut left new
+pub marks_from : (old new : Dispatcher) (left : List ℕ) → new.handles ≡ old.handles → new.leaving ≡ old.leaving → length new.objects ≡ length old.objects → ((o : ℕ) → is_gone (object_at new.objects o) ≡ is_gone (object_at old.objects o)) → ((o : ℕ) → is_forgotten (state new) o ≡ true → (is_forgotten (state old) o ≡ true) ⊎ Contains left o) → ((o : ℕ) → Contains left o → o < length new.objects) → MarksAgreeBut [] old → MarksAgreeBut left new
 marks_from old new left handles leaving count gone before known marks = record {
   living = λ h opened is. gone opened.object ∙ marks.living h opened (ap (λ hs. opened_at hs h) (sym handles) ∙ is);
   count = ap (λ m. length m) leaving ∙ (marks.count ∙ sym count);
   marked = λ o forgotten. elim (before o forgotten) [
     | inl earlier ↦ elim (marks.marked o earlier) [
       | inl mark ↦ inl (ap (λ m. alarm_at m o) leaving ∙ mark)
-      | inr none ↦ absurd none
+      | inr none ↦ absurd (contains_none o none)
     ]
     | inr member ↦ inr member
   ];
@@ -57,7 +57,7 @@ pub marks_same : (old new : Dispatcher) → new.threads ≡ old.threads → new.
 marks_same old new threads handles leaving queues count gone ended marks =
     marks_from old new [] handles leaving count gone
     (λ o forgotten. inl (sym (forgotten_same (state old) (state new) o count (gone o) (ended o) threads (ap (λ hs. nat_lt 0 (count_named hs o)) handles) (ap (λ q. length q) (queues o))) ∙ forgotten))
-    (λ o m. absurd m) marks
+    (λ o m. absurd (contains_none o m)) marks
 
 -- where no object changes, nor what keeps it
 pub marks_along : {old new : Dispatcher} → new.threads ≡ old.threads → new.handles ≡ old.handles → new.leaving ≡ old.leaving → ((o : ℕ) → queue_of new.table o ≡ queue_of old.table o) → new.objects ≡ old.objects → MarksAgreeBut [] old → MarksAgreeBut [] new
@@ -75,7 +75,7 @@ marks_opening d objects leaving running = record {
       let below : o < d.threads = omega (arith, known, count) in
       let test : nat_lt o d.threads ≡ true = grind (arith, nat_tests, below) in
       absurd (false≢true (sym is.idle ∙ (ap (λ b. b && not (has_ended (object_at d.objects o))) test ∙ ap (λ x. not (has_ended x)) (running o))));
-  known = λ o m. absurd m;
+  known = λ o m. absurd (contains_none o m);
 }
   where
     count : length d.objects ≡ d.threads
@@ -85,7 +85,7 @@ marks_opening d objects leaving running = record {
 
 -- no queue is shorter
 pub marks_begun : (old : Dispatcher) (table : Waits) → ((o : ℕ) → nat_lt 0 (length (queue_of old.table o)) ≡ true → nat_lt 0 (length (queue_of table o)) ≡ true) → MarksAgreeBut [] old → MarksAgreeBut [] (record old { table = table })
-marks_begun old table more marks = marks_from old new [] refl refl refl (λ o. refl) (λ o forgotten. inl (before o (parts (state new) o forgotten))) (λ o m. absurd m) marks
+marks_begun old table more marks = marks_from old new [] refl refl refl (λ o. refl) (λ o forgotten. inl (before o (parts (state new) o forgotten))) (λ o m. absurd (contains_none o m)) marks
   where
     new : Dispatcher
     new = record old { table = table }
@@ -122,7 +122,7 @@ marks_opened d object access alive marks = record {
   ];
   count = marks.count;
   marked = λ o forgotten. marks.marked o (before o (parts (state (record d { handles = d.handles ++ Some new ∷ [] })) o forgotten));
-  known = λ o m. absurd m;
+  known = λ o m. absurd (contains_none o m);
 }
   where
     new : Opened
@@ -157,9 +157,9 @@ marks_created d o owned agree alive marks = record {
   count = let objects = length-append d.objects (o ∷ []) in let places = length-append d.leaving (None ∷ []) in let before = marks.count in omega (arith, objects, places, before);
   marked = λ x forgotten. elim (marks.marked x (before x (parts (state (with_created d o owned)) x forgotten))) [
     | inl mark ↦ inl (mark_created d.leaving x ∙ mark)
-    | inr none ↦ absurd none
+    | inr none ↦ absurd (contains_none x none)
   ];
-  known = λ x m. absurd m;
+  known = λ x m. absurd (contains_none x m);
 }
   where
     new : Opened
@@ -185,11 +185,11 @@ marks_created d o owned agree alive marks = record {
 
 -- ---- a wait ends
 
-pub named_member : (hs : List ℕ) (w : Wait) (o : ℕ) → w.handles ≡ hs → Names w o → IsMember hs o
-named_member hs w o is named = subst (λ (xs : List ℕ). IsMember xs o) is (member_at w.handles named.0 0 o named.1 named.2)
+pub named_member : (hs : List ℕ) (w : Wait) (o : ℕ) → w.handles ≡ hs → Names w o → Contains hs o
+named_member hs w o is named = subst (λ (xs : List ℕ). Contains xs o) is (contains_at w.handles named.0 0 o named.1 named.2)
 
-pub member_named : (w : Wait) (o : ℕ) → IsMember w.handles o → Names w o
-member_named w o m = let place = member_place w.handles o m in (place.0, place.1, place.2 0)
+pub member_named : (w : Wait) (o : ℕ) → Contains w.handles o → Names w o
+member_named w o m = let place = at_from_Contains w.handles o m in (place.0, place.1, place.2 0)
 
 -- the wait of thread t is over, and perhaps it took objects: what it named may lack its mark
 pub marks_ended : (old new : Dispatcher) (t : ℕ) (w : Wait) → IsSound old → get old.table.pending t ≡ Some w → new.threads ≡ old.threads → new.handles ≡ old.handles → new.leaving ≡ old.leaving → ((o : ℕ) → queue_of new.table o ≡ others t (queue_of old.table o)) → length new.objects ≡ length old.objects → ((o : ℕ) → is_gone (object_at new.objects o) ≡ is_gone (object_at old.objects o)) → ((o : ℕ) → has_ended (object_at new.objects o) ≡ has_ended (object_at old.objects o)) → MarksAgreeBut w.handles new
@@ -197,11 +197,11 @@ marks_ended old new t w sound pends threads handles leaving queues count gone en
     marks_from old new w.handles handles leaving count gone before
     (λ o m. subst (λ (n : ℕ). o < n) (sym count) ((sound.waits t w pends).named o (member_named w o m)).0) sound.marks
   where
-    before : (o : ℕ) → is_forgotten (state new) o ≡ true → (is_forgotten (state old) o ≡ true) ⊎ IsMember w.handles o
-    before o forgotten = elim (member_or_not w.handles o) [
+    before : (o : ℕ) → is_forgotten (state new) o ≡ true → (is_forgotten (state old) o ≡ true) ⊎ Contains w.handles o
+    before o forgotten = elim (contains_or_not w.handles o) [
       | inl member ↦ inr member
       | inr never ↦
-          let absent : IsMember (queue_of old.table o) t → ⊥ = λ m.
+          let absent : Contains (queue_of old.table o) t → ⊥ = λ m.
           let named = sound.blocks.named t o m in
           never (named_member w.handles w o refl (subst (λ (v : Wait). Names v o) (same_wait named.0 w (sym named.1 ∙ pends)) named.2)) in
           inl (sym (forgotten_same (state old) (state new) o count (gone o) (ended o) threads (ap (λ hs. nat_lt 0 (count_named hs o)) handles) (ap (λ q. length q) (queues o ∙ others_absent t (queue_of old.table o) absent))) ∙ forgotten)
@@ -219,10 +219,10 @@ marks_ending d t apcs known alive marks = record {
     | inl here ↦ inl (ap (λ (k : ℕ). alarm_at (set d.leaving t (Some 0)) k) here ∙ get_or-set_same d.leaving t (Some 0) None (let count = marks.count in omega (arith, known, count)))
     | inr other ↦ elim (marks.marked o (sym (forgotten_same (state d) (state new) o (length-set d.objects t (Thread true)) (gone o) (ap has_ended (get_or-set_other d.objects t o (Thread true) (Thread false) other)) refl refl refl) ∙ forgotten)) [
       | inl mark ↦ inl (get_or-set_other d.leaving t o (Some 0) None other ∙ mark)
-      | inr none ↦ absurd none
+      | inr none ↦ absurd (contains_none o none)
     ]
   ];
-  known = λ o m. absurd m;
+  known = λ o m. absurd (contains_none o m);
 }
   where
     new : Dispatcher

@@ -1,12 +1,11 @@
 -- What one moment of a tick leaves.
-use Rattle.std.proofs.Common.{◌≡◌, ◌<◌, ◌≤◌, ◌^◌, ℕ, suc, ◌+◌, ◌*◌, Bool, true, false, ◌&&◌, List, [], ◌∷◌, ◌++◌, length, length-append, refl, sym, ap, ◌∙◌, subst, arith, Option, Some, None, inl, inr, ◌⊎◌, append_assoc, is_some}
+use Rattle.std.proofs.Common.{◌≡◌, ◌<◌, ◌≤◌, ◌^◌, ℕ, suc, ◌+◌, ◌*◌, Bool, true, false, ◌&&◌, List, [], ◌∷◌, ◌++◌, length, length-append, refl, sym, ap, ◌∙◌, subst, arith, Option, Some, None, inl, inr, ◌⊎◌, append_assoc, is_some, Contains}
 use Rattle.std.specs.Prelude.{if◌then◌else◌, ◌==◌}
 use Rattle.std.specs.List.{flat_map}
 use Rattle.std.specs.FinMap as fin
 use Rattle.std.specs.Cmp.{nat_cmp_total}
 use Rattle.nt_waits.specs.declared.wait.Wait.{Wait}
-use Rattle.nt_status.specs.Lists.{IsMember}
-use Rattle.nt_status.proofs.Lists.{member_or_not}
+use Rattle.nt_status.proofs.Lists.{contains_first, contains_or_not}
 use Rattle.nt_waits.specs.Waits.{Waits, others, queue_of}
 use Rattle.nt_objects.specs.declared.object.Object.{Object}
 use Rattle.nt_objects.specs.declared.object.Armed.{Armed}
@@ -164,9 +163,9 @@ expired_remarked old new m u timers marks marked after = record {
 pub expired_fit : (old new : Dispatcher) (m u : ℕ) (timers : List ℕ) (marks : List (Option ℕ)) → IsSound old → IsServed (state old) → IsExpiredAfter old m u new timers marks → FitOnlyIn (sequence (state new) timers) (state new)
 expired_fit old new m u timers marks sound served after =
     subst (λ (v : Waits). FitOnlyIn (flat_map (λ h. queue_of v h) timers) (state (record new { table = v }))) (sym after.table)
-    (fit_only_in timers old new.objects sound served (λ h known. in_or_same h (member_or_not timers h)))
+    (fit_only_in timers old new.objects sound served (λ h known. in_or_same h (contains_or_not timers h)))
   where
-    in_or_same : (h : ℕ) → IsMember timers h ⊎ (IsMember timers h → ⊥) → (object_at new.objects h ≡ object_at old.objects h) ⊎ IsMember timers h
+    in_or_same : (h : ℕ) → Contains timers h ⊎ (Contains timers h → ⊥) → (object_at new.objects h ≡ object_at old.objects h) ⊎ Contains timers h
     in_or_same h (inl member) = inr member
     in_or_same h (inr out) = inl (after.others h out)
 
@@ -198,7 +197,7 @@ late_fewer d1 d2 d3 d4 u threads gs has rouse timed t late = by_grants gs has
         let same : fin.len (state d3).waits ≡ fin.len (state d2).waits = ap (λ (s : State). fin.len s.waits) calm in
         omega (arith, fewer, same)
     by_alerts (x ∷ ts) some late =
-        let own = ((rouse.alerts.alerted).exactly x).0 (subst (λ (l : List ℕ). IsMember l x) (sym some) (inl refl)) in
+        let own = ((rouse.alerts.alerted).exactly x).0 (subst (λ (l : List ℕ). Contains l x) (sym some) (contains_first x ts x refl)) in
         let one = len_removed (state d2).waits x own.0 own.1 in
         let rest = over_len (wait_over (state d2) x true) ts true in
         let same : fin.len (state d3).waits ≡ fin.len (waits_over (wait_over (state d2) x true) ts true).waits = ap (λ (s : State). fin.len s.waits) (rouse.alerts.leaves ∙ ap (λ l. waits_over (state d2) l true) some) in

@@ -1,15 +1,15 @@
 -- What a call or a tick does to each thread's pending wait, and to the present moment.
-use Rattle.std.proofs.Common.{◌≡◌, ◌+◌, ◌<◌, ◌≤◌, ℕ, Bool, true, false, cond, ◌&&◌, ◌==◌, eqb, eq-eqb, ne_eqb, List, [], ◌∷◌, ◌++◌, map, refl, sym, ap, ◌∙◌, subst, arith, Option, Some, None, is_some, inl, inr, Result, Ok, Err}
+use Rattle.std.proofs.Common.{◌≡◌, ◌+◌, ◌<◌, ◌≤◌, ℕ, Bool, true, false, cond, ◌&&◌, ◌==◌, eqb, eq-eqb, ne_eqb, List, [], ◌∷◌, ◌++◌, map, refl, sym, ap, ◌∙◌, subst, arith, Option, Some, None, is_some, Result, Ok, Err, Contains}
 use Rattle.std.specs.Prelude.{nat_le}
 use Rattle.std.specs.FinMap.{get, insert, remove, get-insert}
 use Rattle.std.specs.Ordering.{nat_cmp, eq_by_cmp}
 use Rattle.std.specs.Cmp.{nat_cmp_total, unsigned_tied}
 use Rattle.std.proofs.lemmas.Bool.{false≢true}
+use Rattle.nt_status.proofs.Lists.{contains_first, contains_later}
 use native.Mathlib.Decide.{ℕ_discrete}
 use Rattle.nt_status.specs.declared.refusal.Refusal.{Refusal}
 use Rattle.nt_status.specs.Status.{io_completion_code}
 use Rattle.nt_waits.specs.declared.wait.Wait.{Wait}
-use Rattle.nt_status.specs.Lists.{IsMember}
 use Rattle.nt_objects.specs.declared.object.Armed.{Armed}
 use Rattle.nt_objects.specs.Object.{setting_of}
 use Rattle.nt_apc.specs.Queues.{has_apc}
@@ -94,12 +94,12 @@ grants_keep threads (g ∷ gs) old new h = grants_keep threads gs (granted old g
 still_pends : (s : State) (t x : ℕ) (may : Bool) → t < x → pends s x ≡ true → pends (wait_over s t may) x ≡ true
 still_pends s t x may h p = ap (λ (o : Option Wait). is_some o) (get_other s.waits t x (λ e. absurd (omega arith))) ∙ p
 
-over_counts : (t : ℕ) (f : ℕ → ℕ) (ts : List ℕ) (s : State) (may : Bool) → IsRising ts → ((x : ℕ) → IsMember ts x → pends s x ≡ true)
+over_counts : (t : ℕ) (f : ℕ → ℕ) (ts : List ℕ) (s : State) (may : Bool) → IsRising ts → ((x : ℕ) → Contains ts x → pends s x ≡ true)
     → one_if (pends (waits_over s ts may) t) + granted_to t (map (λ x. ending (f x) x) ts) ≡ one_if (pends s t)
 over_counts t f [] s may rising pend = omega arith
 over_counts t f (x ∷ xs) s may rising pend =
-    let one = gone s.waits x t (pend x (inl refl)) in
-    let rest = over_counts t f xs (wait_over s x may) may rising.1 (λ y member. still_pends s x y may (rising.0 y member) (pend y (inr member))) in
+    let one = gone s.waits x t (pend x (contains_first x xs x refl)) in
+    let rest = over_counts t f xs (wait_over s x may) may rising.1 (λ y member. still_pends s x y may (rising.0 y member) (pend y (contains_later x xs y member))) in
     omega (arith, one, rest)
 
 over_keep : (ts : List ℕ) (s : State) (may : Bool) → kept (waits_over s ts may) ≡ kept s

@@ -1,11 +1,12 @@
 -- One moment of a tick: timers expire, waits are served, alerted and timed out.
-use Rattle.std.proofs.Common.{◌≡◌, ◌≢◌, ◌<◌, ◌≤◌, ◌-◌, ℕ, zero, suc, ◌+◌, Bool, true, false, ◌&&◌, List, [], ◌∷◌, ◌++◌, length, length-append, set, refl, sym, ap, ◌∙◌, subst, arith, Option, Some, None, inl, inr, ◌⊎◌}
+use Rattle.std.proofs.Common.{◌≡◌, ◌≢◌, ◌<◌, ◌≤◌, ◌-◌, ℕ, zero, suc, ◌+◌, Bool, true, false, ◌&&◌, List, [], ◌∷◌, ◌++◌, length, length-append, set, refl, sym, ap, ◌∙◌, subst, arith, Option, Some, None, inl, inr, ◌⊎◌, Contains, nat_eq}
 use Rattle.std.specs.Prelude.{nat_le, IsSomeAnd}
 use Rattle.std.proofs.lemmas.Bool.{cases_eq, false≢true}
 use Rattle.std.proofs.lemmas.Bool.Decides.{nat_tests}
 use Rattle.std.proofs.lemmas.List.{length-set}
-use Rattle.nt_status.specs.Lists.{IsMember, AreOnce}
-use Rattle.nt_status.proofs.Lists.{few_below, member_or_not, member_push_cases, member_of_first, member_of_last}
+use Rattle.std.specs.List.{IsDistinct}
+use Rattle.std.proofs.lemmas.List.Elements.{Contains-push_cases, Contains-append_left, Contains-append_right}
+use Rattle.nt_status.proofs.Lists.{contains_none, contains_first, contains_or_not, distinct_cons, distinct_none, few_below}
 use Rattle.nt_objects.specs.declared.object.Object.{Object}
 use Rattle.nt_objects.specs.declared.object.Object.TheVariants.{Timer}
 use Rattle.nt_objects.specs.declared.object.Armed.{Armed}
@@ -38,13 +39,13 @@ all_expired_append v s (k ∷ timers) h = all_expired_append v (expired v s k) t
 -- the timers that have expired so far; those that are due still have greater handles
 pub record ExpiredSoFar (old now : Dispatcher) (m u : ℕ) (timers : List ℕ) (marks : List (Option ℕ)) : Type 0 where
   pub rising : IsRising timers
-  pub due : (h : ℕ) → IsMember timers h → IsTimerDue (state old) u h
+  pub due : (h : ℕ) → Contains timers h → IsTimerDue (state old) u h
   pub expired : state now ≡ all_expired m (state old) timers
-  pub others : (h : ℕ) → (IsMember timers h → ⊥) → object_at now.objects h ≡ object_at old.objects h
-  pub above : (h : ℕ) → IsTimerDue (state now) u h → (k : ℕ) → IsMember timers k → k < h
+  pub others : (h : ℕ) → (Contains timers h → ⊥) → object_at now.objects h ≡ object_at old.objects h
+  pub above : (h : ℕ) → IsTimerDue (state now) u h → (k : ℕ) → Contains timers k → k < h
   pub none_before : NoneBefore now.alarms u
   pub marked : (t : ℕ) → IsAlerted (state now) t → alarm_at marks t ≡ Some 0
-  pub known : (h : ℕ) → IsMember timers h → h < length old.objects
+  pub known : (h : ℕ) → Contains timers h → h < length old.objects
   pub fewer : (weight : ℕ → ℕ) → due_weight weight m 0 now.objects + total_weight weight timers ≡ due_weight weight m 0 old.objects
   pub count : length now.objects ≡ length old.objects
   pub grants : now.grants ≡ old.grants
@@ -54,13 +55,13 @@ pub record ExpiredSoFar (old now : Dispatcher) (m u : ℕ) (timers : List ℕ) (
 pub expired_none : (d : Dispatcher) (m u : ℕ) (marks : List (Option ℕ)) → IsSound d → IsCalm (state d) → NoneBefore d.alarms u → ExpiredSoFar d d m u [] marks
 expired_none d m u marks sound calm before = record {
   rising = tt;
-  due = λ h member. absurd member;
+  due = λ h member. absurd (contains_none h member);
   expired = refl;
   others = λ h out. refl;
-  above = λ h due k member. absurd member;
+  above = λ h due k member. absurd (contains_none k member);
   none_before = before;
   marked = λ t alerted. absurd (calm t alerted);
-  known = λ h member. absurd member;
+  known = λ h member. absurd (contains_none h member);
   fewer = λ weight. omega arith;
   count = refl;
   grants = refl;
@@ -79,9 +80,9 @@ pub lowest_due : (d : Dispatcher) (u h : ℕ) → IsSound d → IsLowestAt d.ala
 lowest_due d u h sound lowest = sym (sound.timers.alarm h) ∙ lowest.here
 
 -- a rising list has no number twice
-pub rising_once : (xs : List ℕ) → IsRising xs → AreOnce xs
-rising_once [] rising = tt
-rising_once (x ∷ xs) rising = (λ member. let less = rising.0 x member in absurd (omega (arith, less)), rising_once xs rising.1)
+pub rising_once : (xs : List ℕ) → IsRising xs → IsDistinct nat_eq xs
+rising_once [] rising = distinct_none
+rising_once (x ∷ xs) rising = distinct_cons x xs (λ member. let less = rising.0 x member in absurd (omega (arith, less))) (rising_once xs rising.1)
 
 -- ---- the weights of the timers that are due
 
@@ -159,7 +160,7 @@ expired_next old now new m u h timers marks marked le far lowest mark becomes gr
     let armed = own.0 in
     let objects : new.objects ≡ set now.objects h (Timer own.1 true (rearmed m armed)) = ap (λ (s : State). s.objects) (becomes ∙ own.5) in
     let known : h < length now.objects = known_timer now.objects h (ap is_timer own.3) in
-    let out : IsMember timers h → ⊥ = λ member. let lt = far.above h due h member in absurd (omega (arith, lt)) in
+    let out : Contains timers h → ⊥ = λ member. let lt = far.above h due h member in absurd (omega (arith, lt)) in
     let count : length new.objects ≡ length now.objects = ap (λ os. length os) objects ∙ length-set now.objects h (Timer own.1 true (rearmed m armed)) in
     let elsewhere : (k : ℕ) → k ≢ h → object_at new.objects k ≡ object_at now.objects k = λ k other. ap (λ os. object_at os k) objects ∙ object_at-set_other now.objects h k (Timer own.1 true (rearmed m armed)) other in
     let here : object_at new.objects h ≡ Timer own.1 true (rearmed m armed) = ap (λ os. object_at os h) objects ∙ object_at-set_same now.objects h (Timer own.1 true (rearmed m armed)) known in
@@ -167,19 +168,19 @@ expired_next old now new m u h timers marks marked le far lowest mark becomes gr
     let later : (v : ℕ) → due_of (object_at new.objects h) ≡ Some v → m < v = λ v is. later_rung m own.1 armed past v (sym (ap due_of here) ∙ is) in
     record {
       rising = rising_append timers h far.rising (far.above h due);
-      due = λ k member. elim (member_push_cases timers h k member) [
+      due = λ k member. elim (Contains-push_cases timers h k member) [
         | inl before ↦ far.due k before
         | inr last ↦ subst (λ (j : ℕ). IsTimerDue (state old) u j) last (sym (ap due_of (far.others h out)) ∙ due)
       ];
       expired = becomes ∙ (ap (λ (s : State). expired m s h) far.expired ∙ sym (all_expired_append m (state old) timers h));
-      others = λ k outside. elsewhere k (λ same. outside (member_of_last timers (h ∷ []) k (inl (sym same)))) ∙ far.others k (λ member. outside (member_of_first timers (h ∷ []) k member));
-      above = λ k is j member. above_more k is j (member_push_cases timers h j member) (cases_eq k h) later elsewhere due;
+      others = λ k outside. elsewhere k (λ same. outside (Contains-append_right timers (h ∷ []) k (contains_first h [] k (sym same)))) ∙ far.others k (λ member. outside (Contains-append_left timers (h ∷ []) k member));
+      above = λ k is j member. above_more k is j (Contains-push_cases timers h j member) (cases_eq k h) later elsewhere due;
       none_before = λ k v is. before k v (sym (sound.timers.alarm k) ∙ is) (cases_eq k h) later elsewhere;
       marked = λ t alerted. elim (alerted_before m (state now) h u t due (subst (λ (s : State). IsAlerted s t) becomes alerted)) [
         | inl setter ↦ mark.own t setter
         | inr before ↦ mark.kept t (far.marked t before)
       ];
-      known = λ k member. elim (member_push_cases timers h k member) [
+      known = λ k member. elim (Contains-push_cases timers h k member) [
         | inl before ↦ far.known k before
         | inr last ↦ let same = far.count in omega (arith, same, known, last)
       ];
@@ -196,7 +197,7 @@ expired_next old now new m u h timers marks marked le far lowest mark becomes gr
       sound = sound;
     }
   where
-    above_more : (k : ℕ) → IsTimerDue (state new) u k → (j : ℕ) → IsMember timers j ⊎ (h ≡ j) → (k ≡ h) ⊎ (k ≢ h) → ((v : ℕ) → due_of (object_at new.objects h) ≡ Some v → m < v) → ((i : ℕ) → i ≢ h → object_at new.objects i ≡ object_at now.objects i) → due_of (object_at now.objects h) ≡ Some u → j < k
+    above_more : (k : ℕ) → IsTimerDue (state new) u k → (j : ℕ) → Contains timers j ⊎ (h ≡ j) → (k ≡ h) ⊎ (k ≢ h) → ((v : ℕ) → due_of (object_at new.objects h) ≡ Some v → m < v) → ((i : ℕ) → i ≢ h → object_at new.objects i ≡ object_at now.objects i) → due_of (object_at now.objects h) ≡ Some u → j < k
     above_more k is j member (inl same) later elsewhere due = let lt = later u (ap (λ (i : ℕ). due_of (object_at new.objects i)) (sym same) ∙ is) in absurd (omega (arith, lt, le))
     above_more k is j (inl member) (inr other) later elsewhere due = far.above k (sym (ap due_of (elsewhere k other)) ∙ is) j member
     above_more k is j (inr last) (inr other) later elsewhere due =
@@ -218,7 +219,7 @@ expired_next old now new m u h timers marks marked le far lowest mark becomes gr
 -- none is due then any more
 pub expired_end : (old now : Dispatcher) (m u : ℕ) (timers : List ℕ) (marks : List (Option ℕ)) → ExpiredSoFar old now m u timers marks → NoneAt now.alarms u → IsExpiredAfter old m u now timers marks
 expired_end old now m u timers marks far none = record {
-  due = record { rising = far.rising; exactly = λ h. (λ member. far.due h member, λ due. listed h due (member_or_not timers h)) };
+  due = record { rising = far.rising; exactly = λ h. (λ member. far.due h member, λ due. listed h due (contains_or_not timers h)) };
   expired = far.expired;
   marked = far.marked;
   grants = far.grants;
@@ -227,7 +228,7 @@ expired_end old now m u timers marks far none = record {
   table = far.table;
 }
   where
-    listed : (h : ℕ) → IsTimerDue (state old) u h → IsMember timers h ⊎ (IsMember timers h → ⊥) → IsMember timers h
+    listed : (h : ℕ) → IsTimerDue (state old) u h → Contains timers h ⊎ (Contains timers h → ⊥) → Contains timers h
     listed h due (inl member) = member
     listed h due (inr out) = absurd (none h (far.sound.timers.alarm h ∙ (ap due_of (far.others h out) ∙ due)))
 
@@ -238,7 +239,7 @@ room_more old now m u h timers marks far lowest =
     let known = alarm_known now.alarms h u lowest.here in
     let clocks = far.sound.timers.count in
     let count = far.count in
-    let few = few_below (length old.objects) (timers ++ h ∷ []) (rising_once (timers ++ h ∷ []) (rising_append timers h far.rising (far.above h due))) (λ x member. elim (member_push_cases timers h x member) [
+    let few = few_below (length old.objects) (timers ++ h ∷ []) (rising_once (timers ++ h ∷ []) (rising_append timers h far.rising (far.above h due))) (λ x member. elim (Contains-push_cases timers h x member) [
       | inl before ↦ far.known x before
       | inr last ↦ omega (arith, last, known, clocks, count)
     ]) in

@@ -1,9 +1,9 @@
 -- Which places are marked, as a list; objects that are marked as changed are served one after another.
-use Rattle.std.proofs.Common.{◌≡◌, ◌<◌, ◌≤◌, ◌^◌, ℕ, zero, suc, ◌+◌, List, [], ◌∷◌, ◌++◌, length, length-append, set, refl, sym, ap, ◌∙◌, subst, arith, append_assoc, Option, Some, None, inl, inr}
+use Rattle.std.proofs.Common.{◌≡◌, ◌<◌, ◌≤◌, ◌^◌, ℕ, zero, suc, ◌+◌, List, [], ◌∷◌, ◌++◌, length, length-append, set, refl, sym, ap, ◌∙◌, subst, arith, append_assoc, Option, Some, None, inl, inr, Contains}
 use Rattle.std.specs.Prelude.{◌↔◌}
 use Rattle.std.proofs.lemmas.List.{append-nil, length-set}
 use Rattle.std.proofs.lemmas.Grind.{flat_map-append}
-use Rattle.nt_status.specs.Lists.{IsMember}
+use Rattle.nt_status.proofs.Lists.{contains_none, contains_first, contains_later, contains_cases, contains_same}
 use Rattle.nt_alarms.specs.Alarms.{alarm_at, NoneAt, IsLowestAt}
 use Rattle.nt_alarms.specs.Marks.{AddsMarks, marked_from, marked_places}
 use Rattle.nt_calls.specs.Rising.{IsRising, AreRising}
@@ -49,24 +49,23 @@ lowest_from k (Some (suc n) ∷ marks) (suc h) lowest = lowest_from (k + 1) mark
 pub lowest_first : (marks : List (Option ℕ)) (h : ℕ) → IsLowestAt marks 0 h → marked_places marks ≡ h ∷ marked_places (set marks h None)
 lowest_first marks h lowest = lowest_from 0 marks h lowest ∙ ap (λ (n : ℕ). n ∷ marked_places (set marks h None)) (omega arith)
 
-from_member : (k : ℕ) (marks : List (Option ℕ)) (x : ℕ) → IsMember (marked_from k marks) x → (place : ℕ) × (x ≡ k + place) × (alarm_at marks place ≡ Some 0)
-from_member k [] x m = absurd m
+from_member : (k : ℕ) (marks : List (Option ℕ)) (x : ℕ) → Contains (marked_from k marks) x → (place : ℕ) × (x ≡ k + place) × (alarm_at marks place ≡ Some 0)
+from_member k [] x m = absurd (contains_none x m)
 from_member k (None ∷ marks) x m = let rest = from_member (k + 1) marks x m in (suc rest.0, let e = rest.1 in omega (arith, e), rest.2)
-from_member k (Some zero ∷ marks) x (inl same) = (0, omega (arith, same), refl)
-from_member k (Some zero ∷ marks) x (inr m) = let rest = from_member (k + 1) marks x m in (suc rest.0, let e = rest.1 in omega (arith, e), rest.2)
+from_member k (Some zero ∷ marks) x m = elim (contains_cases k (marked_from (k + 1) marks) x m) [
+  | inl same ↦ (0, omega (arith, same), refl)
+  | inr later ↦ let rest = from_member (k + 1) marks x later in (suc rest.0, let e = rest.1 in omega (arith, e), rest.2)
+]
 from_member k (Some (suc n) ∷ marks) x m = let rest = from_member (k + 1) marks x m in (suc rest.0, let e = rest.1 in omega (arith, e), rest.2)
 
-moved : (xs : List ℕ) (a b : ℕ) → a ≡ b → IsMember xs a → IsMember xs b
-moved xs a b same m = subst (λ (x : ℕ). IsMember xs x) same m
-
-member_from : (k : ℕ) (marks : List (Option ℕ)) (place : ℕ) → alarm_at marks place ≡ Some 0 → IsMember (marked_from k marks) (k + place)
+member_from : (k : ℕ) (marks : List (Option ℕ)) (place : ℕ) → alarm_at marks place ≡ Some 0 → Contains (marked_from k marks) (k + place)
 member_from k [] place at = unmarked_here 0 at
 member_from k (None ∷ marks) zero at = unmarked_here 0 at
-member_from k (Some zero ∷ marks) zero at = inl (omega arith)
+member_from k (Some zero ∷ marks) zero at = contains_first k (marked_from (k + 1) marks) (k + zero) (omega arith)
 member_from k (Some (suc n) ∷ marks) zero at = other_alarm n 0 refl at
-member_from k (None ∷ marks) (suc place) at = moved (marked_from (k + 1) marks) (k + 1 + place) (k + suc place) (omega arith) (member_from (k + 1) marks place at)
-member_from k (Some zero ∷ marks) (suc place) at = inr (moved (marked_from (k + 1) marks) (k + 1 + place) (k + suc place) (omega arith) (member_from (k + 1) marks place at))
-member_from k (Some (suc n) ∷ marks) (suc place) at = moved (marked_from (k + 1) marks) (k + 1 + place) (k + suc place) (omega arith) (member_from (k + 1) marks place at)
+member_from k (None ∷ marks) (suc place) at = contains_same (marked_from (k + 1) marks) (k + 1 + place) (k + suc place) (omega arith) (member_from (k + 1) marks place at)
+member_from k (Some zero ∷ marks) (suc place) at = contains_later k (marked_from (k + 1) marks) (k + suc place) (contains_same (marked_from (k + 1) marks) (k + 1 + place) (k + suc place) (omega arith) (member_from (k + 1) marks place at))
+member_from k (Some (suc n) ∷ marks) (suc place) at = contains_same (marked_from (k + 1) marks) (k + 1 + place) (k + suc place) (omega arith) (member_from (k + 1) marks place at)
 
 from_rising : (k : ℕ) (marks : List (Option ℕ)) → IsRising (marked_from k marks)
 from_rising k [] = tt
@@ -74,10 +73,10 @@ from_rising k (None ∷ marks) = from_rising (k + 1) marks
 from_rising k (Some zero ∷ marks) = (λ y m. let place = from_member (k + 1) marks y m in let e = place.1 in omega (arith, e), from_rising (k + 1) marks)
 from_rising k (Some (suc n) ∷ marks) = from_rising (k + 1) marks
 
-pub place_member : (marks : List (Option ℕ)) (h : ℕ) → alarm_at marks h ≡ Some 0 → IsMember (marked_places marks) h
-place_member marks h at = moved (marked_places marks) (0 + h) h (omega arith) (member_from 0 marks h at)
+pub place_member : (marks : List (Option ℕ)) (h : ℕ) → alarm_at marks h ≡ Some 0 → Contains (marked_places marks) h
+place_member marks h at = contains_same (marked_places marks) (0 + h) h (omega arith) (member_from 0 marks h at)
 
-pub member_marked : (marks : List (Option ℕ)) (h : ℕ) → IsMember (marked_places marks) h → alarm_at marks h ≡ Some 0
+pub member_marked : (marks : List (Option ℕ)) (h : ℕ) → Contains (marked_places marks) h → alarm_at marks h ≡ Some 0
 member_marked marks h m = let place = from_member 0 marks h m in ap (λ (k : ℕ). alarm_at marks k) (let e = place.1 in let same : h ≡ place.0 = omega (arith, e) in same) ∙ place.2
 
 -- where exactly those are marked that have a property, the list is theirs
@@ -87,28 +86,28 @@ places_rising property marks exactly = record {
   exactly = λ h. (λ m. (exactly h).0 (member_marked marks h m), λ has. place_member marks h ((exactly h).1 has));
 }
 
-last_from : (k : ℕ) (marks : List (Option ℕ)) (h : ℕ) → h < length marks → ((x : ℕ) → IsMember (marked_from k marks) x → x < k + h) → marked_from k (set marks h (Some 0)) ≡ marked_from k marks ++ (k + h) ∷ []
+last_from : (k : ℕ) (marks : List (Option ℕ)) (h : ℕ) → h < length marks → ((x : ℕ) → Contains (marked_from k marks) x → x < k + h) → marked_from k (set marks h (Some 0)) ≡ marked_from k marks ++ (k + h) ∷ []
 last_from k [] h known below = absurd (omega (arith, known))
 last_from k (None ∷ marks) zero known below = over k (marked_from (k + 1) marks) (λ x m. let lt = below x m in let place = from_member (k + 1) marks x m in let e = place.1 in omega (arith, lt, e))
   where
-    over : (k : ℕ) (rest : List ℕ) → ((x : ℕ) → IsMember rest x → ⊥) → k ∷ rest ≡ rest ++ (k + 0) ∷ []
+    over : (k : ℕ) (rest : List ℕ) → ((x : ℕ) → Contains rest x → ⊥) → k ∷ rest ≡ rest ++ (k + 0) ∷ []
     over k [] none = ap (λ (n : ℕ). n ∷ []) (omega arith)
-    over k (x ∷ rest) none = absurd (none x (inl refl))
-last_from k (Some zero ∷ marks) zero known below = let lt = below k (inl refl) in absurd (omega (arith, lt))
+    over k (x ∷ rest) none = absurd (none x (contains_first x rest x refl))
+last_from k (Some zero ∷ marks) zero known below = let lt = below k (contains_first k (marked_from (k + 1) marks) k refl) in absurd (omega (arith, lt))
 last_from k (Some (suc n) ∷ marks) zero known below = over k (marked_from (k + 1) marks) (λ x m. let lt = below x m in let place = from_member (k + 1) marks x m in let e = place.1 in omega (arith, lt, e))
   where
-    over : (k : ℕ) (rest : List ℕ) → ((x : ℕ) → IsMember rest x → ⊥) → k ∷ rest ≡ rest ++ (k + 0) ∷ []
+    over : (k : ℕ) (rest : List ℕ) → ((x : ℕ) → Contains rest x → ⊥) → k ∷ rest ≡ rest ++ (k + 0) ∷ []
     over k [] none = ap (λ (n : ℕ). n ∷ []) (omega arith)
-    over k (x ∷ rest) none = absurd (none x (inl refl))
+    over k (x ∷ rest) none = absurd (none x (contains_first x rest x refl))
 last_from k (None ∷ marks) (suc h) known below =
     last_from (k + 1) marks h (omega (arith, known)) (λ x m. let lt = below x m in omega (arith, lt)) ∙ ap (λ (n : ℕ). marked_from (k + 1) marks ++ n ∷ []) (omega arith)
 last_from k (Some zero ∷ marks) (suc h) known below =
-    ap (λ (xs : List ℕ). k ∷ xs) (last_from (k + 1) marks h (omega (arith, known)) (λ x m. let lt = below x (inr m) in omega (arith, lt)) ∙ ap (λ (n : ℕ). marked_from (k + 1) marks ++ n ∷ []) (omega arith))
+    ap (λ (xs : List ℕ). k ∷ xs) (last_from (k + 1) marks h (omega (arith, known)) (λ x m. let lt = below x (contains_later k (marked_from (k + 1) marks) x m) in omega (arith, lt)) ∙ ap (λ (n : ℕ). marked_from (k + 1) marks ++ n ∷ []) (omega arith))
 last_from k (Some (suc n) ∷ marks) (suc h) known below =
     last_from (k + 1) marks h (omega (arith, known)) (λ x m. let lt = below x m in omega (arith, lt)) ∙ ap (λ (n : ℕ). marked_from (k + 1) marks ++ n ∷ []) (omega arith)
 
 -- a place above all that are marked comes last, once it is marked
-pub marked_last : (marks : List (Option ℕ)) (h : ℕ) → h < length marks → ((x : ℕ) → IsMember (marked_places marks) x → x < h) → marked_places (set marks h (Some 0)) ≡ marked_places marks ++ h ∷ []
+pub marked_last : (marks : List (Option ℕ)) (h : ℕ) → h < length marks → ((x : ℕ) → Contains (marked_places marks) x → x < h) → marked_places (set marks h (Some 0)) ≡ marked_places marks ++ h ∷ []
 marked_last marks h known below =
     last_from 0 marks h known (λ x m. let lt = below x m in omega (arith, lt)) ∙ ap (λ (n : ℕ). marked_places marks ++ n ∷ []) (omega arith)
 

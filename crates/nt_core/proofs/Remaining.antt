@@ -1,13 +1,13 @@
 -- What the end of objects leaves of a state.
-use Rattle.std.proofs.Common.{◌≡◌, ℕ, zero, suc, ◌<◌, ◌==◌, Bool, true, false, not, ◌&&◌, ◌||◌, cond, List, [], ◌∷◌, length, refl, sym, ap, ◌∙◌, subst, arith, Option, Some, None, inl, inr, eqb-true}
+use Rattle.std.proofs.Common.{◌≡◌, ℕ, zero, suc, ◌<◌, ◌==◌, Bool, true, false, not, ◌&&◌, ◌||◌, cond, List, [], ◌∷◌, length, refl, sym, ap, ◌∙◌, subst, arith, Option, Some, None, inl, inr, eqb-true, Contains}
 use Rattle.std.specs.Prelude.{nat_lt, slice_set}
 use Rattle.std.proofs.lemmas.Bool.{false≢true}
 use Rattle.std.proofs.lemmas.Bool.Decides.{nat_tests}
 use Rattle.std.proofs.lemmas.List.{length-set, get_or-set_other}
+use Rattle.nt_status.proofs.Lists.{contains_none, contains_first, contains_later, contains_cases}
 use Rattle.nt_objects.specs.declared.object.Object.{Object}
 use Rattle.nt_objects.specs.declared.object.Object.TheVariants.{Thread, Gone}
 use Rattle.nt_objects.specs.Object.{has_ended, is_gone}
-use Rattle.nt_status.specs.Lists.{IsMember}
 use Rattle.nt_objects.specs.declared.handles.Opened.{Opened}
 use Rattle.nt_objects.specs.Handles.{opened_at, count_named}
 use Rattle.nt_calls.specs.State.{State, object_at}
@@ -61,10 +61,10 @@ pub same_count : (s : State) (os : List ℕ) → length (all_gone s os).objects 
 same_count s [] = refl
 same_count s (o ∷ os) = same_count (gone s o) os ∙ length-set s.objects o Gone
 
-pub stays : (s : State) (os : List ℕ) (o : ℕ) → (IsMember os o → ⊥) → object_at (all_gone s os).objects o ≡ object_at s.objects o
+pub stays : (s : State) (os : List ℕ) (o : ℕ) → (Contains os o → ⊥) → object_at (all_gone s os).objects o ≡ object_at s.objects o
 stays s [] o none = refl
 stays s (p ∷ os) o none =
-    stays (gone s p) os o (λ m. none (inr m)) ∙ get_or-set_other s.objects p o Gone (Thread false) (λ e. none (inl (sym e)))
+    stays (gone s p) os o (λ m. none (contains_later p os o m)) ∙ get_or-set_other s.objects p o Gone (Thread false) (λ e. none (contains_first p os o (sym e)))
 
 -- ---- what goes
 
@@ -84,10 +84,12 @@ stays_gone : (s : State) (os : List ℕ) (o : ℕ) → object_at s.objects o ≡
 stays_gone s [] o is = is
 stays_gone s (p ∷ os) o is = stays_gone (gone s p) os o (set_again s.objects p o is)
 
-pub goes : (s : State) (os : List ℕ) (o : ℕ) → IsMember os o → o < length s.objects → object_at (all_gone s os).objects o ≡ Gone
-goes s [] o m known = absurd m
-goes s (p ∷ os) o (inl e) known = stays_gone (gone s p) os o (ap (λ q. object_at (slice_set s.objects q Gone) o) e ∙ set_here s.objects o known)
-goes s (p ∷ os) o (inr m) known = goes (gone s p) os o m (let same = length-set s.objects p Gone in omega (arith, known, same))
+pub goes : (s : State) (os : List ℕ) (o : ℕ) → Contains os o → o < length s.objects → object_at (all_gone s os).objects o ≡ Gone
+goes s [] o m known = absurd (contains_none o m)
+goes s (p ∷ os) o m known = elim (contains_cases p os o m) [
+  | inl e ↦ stays_gone (gone s p) os o (ap (λ q. object_at (slice_set s.objects q Gone) o) e ∙ set_here s.objects o known)
+  | inr later ↦ goes (gone s p) os o later (let same = length-set s.objects p Gone in omega (arith, known, same))
+]
 
 -- the end of objects ends no wait
 pub ends_waits : (left new : State) → Ends left new → new.waits ≡ left.waits
@@ -107,9 +109,9 @@ some_handle (Some opened ∷ hs) o is = go (opened.object == o) refl (λ less. s
         let less : nat_lt 0 (count_named hs o) ≡ true = subst (λ n. nat_lt 0 n ≡ true) (let w : ◌≡◌ {A = ℕ} (cond (opened.object == o) 1 0) 0 = ap (λ b. cond b 1 0) e in omega (arith, w)) is in
         let found = rest less in (suc found.0, found.1, found.2, found.3)
 
-pub some_member : (queue : List ℕ) → nat_lt 0 (length queue) ≡ true → (t : ℕ) × IsMember queue t
+pub some_member : (queue : List ℕ) → nat_lt 0 (length queue) ≡ true → (t : ℕ) × Contains queue t
 some_member [] is = absurd (false≢true is)
-some_member (t ∷ queue) is = (t, inl refl)
+some_member (t ∷ queue) is = (t, contains_first t queue t refl)
 
 -- ---- after the end of objects each lives exactly while something keeps it, where what is kept lived before
 

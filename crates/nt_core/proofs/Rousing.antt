@@ -1,14 +1,14 @@
 -- Alerts of threads with a mark, one after another.
-use Rattle.std.proofs.Common.{◌≡◌, ◌≢◌, ◌<◌, ◌≤◌, ℕ, zero, suc, ◌+◌, Bool, true, false, ◌&&◌, List, [], ◌∷◌, ◌++◌, set, map, refl, sym, ap, ◌∙◌, subst, arith, Option, Some, None, inl, inr, ◌⊎◌, append_assoc}
+use Rattle.std.proofs.Common.{◌≡◌, ◌≢◌, ◌<◌, ◌≤◌, ℕ, zero, suc, ◌+◌, Bool, true, false, ◌&&◌, List, [], ◌∷◌, ◌++◌, set, map, refl, sym, ap, ◌∙◌, subst, arith, Option, Some, None, inl, inr, ◌⊎◌, append_assoc, Contains}
 use Rattle.std.specs.Prelude.{nat_le}
 use Rattle.std.specs.FinMap as fin
 use Rattle.std.proofs.lemmas.Bool.{cases_eq}
 use Rattle.std.proofs.lemmas.Bool.Decides.{nat_tests}
 use Rattle.std.proofs.lemmas.List.{append-nil, length-set}
+use Rattle.std.proofs.lemmas.List.Elements.{Contains-push_cases}
+use Rattle.nt_status.proofs.Lists.{contains_none, contains_first}
 use Rattle.nt_status.specs.Status.{io_completion_code}
 use Rattle.nt_waits.specs.declared.wait.Wait.{Wait}
-use Rattle.nt_status.specs.Lists.{IsMember}
-use Rattle.nt_status.proofs.Lists.{member_push_cases}
 use Rattle.nt_alarms.specs.Alarms.{alarm_at, NoneAt, IsLowestAt}
 use Rattle.nt_apc.specs.declared.apc.Queued.{Queued}
 use Rattle.nt_apc.specs.Queues.{has_apc}
@@ -51,10 +51,10 @@ cleared_here (a ∷ marks) (suc t) = cleared_here marks t
 pub record AlertedSoFar (old now : Dispatcher) (marks : List (Option ℕ)) : Type 0 where
   pub threads : List ℕ
   pub rising : IsRising threads
-  pub alerted : (x : ℕ) → IsMember threads x → IsAlerted (state old) x
+  pub alerted : (x : ℕ) → Contains threads x → IsAlerted (state old) x
   pub grants : now.grants ≡ old.grants ++ map (ending io_completion_code) threads
   pub over : state now ≡ waits_over (state old) threads true
-  pub above : (x : ℕ) → alarm_at marks x ≡ Some 0 → (y : ℕ) → IsMember threads y → y < x
+  pub above : (x : ℕ) → alarm_at marks x ≡ Some 0 → (y : ℕ) → Contains threads y → y < x
   pub marked : (x : ℕ) → IsAlerted (state now) x → alarm_at marks x ≡ Some 0
   pub looked : now.table.looked ≡ old.table.looked
   pub stays : now.marked ≡ record old.marked { alerted = marks }
@@ -64,10 +64,10 @@ pub alerted_none : (d : Dispatcher) → IsSound d → ((t : ℕ) → IsAlerted (
 alerted_none d sound marked = record {
   threads = [];
   rising = tt;
-  alerted = λ x m. absurd m;
+  alerted = λ x m. absurd (contains_none x m);
   grants = sym (append-nil d.grants);
   over = refl;
-  above = λ x is y m. absurd m;
+  above = λ x is y m. absurd (contains_none y m);
   marked = marked;
   looked = refl;
   stays = refl;
@@ -75,7 +75,7 @@ alerted_none d sound marked = record {
 }
 
 -- who is to be alerted after waits are over was before, and is none of those threads
-pub still_alerted : (s : State) (ts : List ℕ) (may : Bool) (x : ℕ) → IsAlerted (waits_over s ts may) x → IsAlerted s x × (IsMember ts x → ⊥)
+pub still_alerted : (s : State) (ts : List ℕ) (may : Bool) (x : ℕ) → IsAlerted (waits_over s ts may) x → IsAlerted s x × (Contains ts x → ⊥)
 still_alerted s ts may x alerted =
     let before = over_pending s ts may x alerted.0 alerted.1 in
     ((alerted.0, before.0, subst (λ (qs : List (List Queued)). ((alerted.0).alertable && has_apc qs x) ≡ true) (over_apcs s ts may) alerted.2), before.1)
@@ -93,16 +93,16 @@ alerted_next old now new marks t far lowest (inl roused) sound =
     record {
       threads = far.threads ++ t ∷ [];
       rising = rising_append far.threads t far.rising (far.above t lowest.here);
-      alerted = λ x m. elim (member_push_cases far.threads t x m) [
+      alerted = λ x m. elim (Contains-push_cases far.threads t x m) [
         | inl earlier ↦ far.alerted x earlier
         | inr last ↦ subst (λ (k : ℕ). IsAlerted (state old) k) last before.0
       ];
       grants = roused.2 ∙ (ap (λ gs. gs ++ ending io_completion_code t ∷ []) far.grants ∙ (append_assoc old.grants (map (ending io_completion_code) far.threads) (ending io_completion_code t ∷ []) ∙ ap (λ gs. old.grants ++ gs) (sym (map_append (ending io_completion_code) far.threads t))));
       over = roused.1 ∙ (ap (λ (s : State). wait_over s t true) far.over ∙ sym (over_append (state old) far.threads t true));
-      above = λ x is y m. after x is (cases_eq x t) y (member_push_cases far.threads t y m);
+      above = λ x is y m. after x is (cases_eq x t) y (Contains-push_cases far.threads t y m);
       marked = λ x alerted.
           let still = still_alerted (state now) (t ∷ []) true x (subst (λ (s : State). IsAlerted s x) roused.1 alerted) in
-          cleared_other marks t x (λ e. still.1 (inl (sym e))) ∙ far.marked x still.0;
+          cleared_other marks t x (λ e. still.1 (contains_first t [] x (sym e))) ∙ far.marked x still.0;
       looked = roused.3 ∙ far.looked;
       stays = roused.4 ∙ ap (λ (m : Marked). record m { alerted = set marks t None }) far.stays;
       sound = sound;
@@ -111,7 +111,7 @@ alerted_next old now new marks t far lowest (inl roused) sound =
     no_mark : {P : Type 0} (n : ℕ) → None ≡ Some n → P
     no_mark n e = (cc)
 
-    after : (x : ℕ) → alarm_at (set marks t None) x ≡ Some 0 → (x ≡ t) ⊎ (x ≢ t) → (y : ℕ) → IsMember far.threads y ⊎ (t ≡ y) → y < x
+    after : (x : ℕ) → alarm_at (set marks t None) x ≡ Some 0 → (x ≡ t) ⊎ (x ≢ t) → (y : ℕ) → Contains far.threads y ⊎ (t ≡ y) → y < x
     after x is (inl same) y m = no_mark 0 (sym (cleared_here marks t) ∙ (ap (λ (k : ℕ). alarm_at (set marks t None) k) (sym same) ∙ is))
     after x is (inr other) y (inl earlier) = far.above x (sym (cleared_other marks t x other) ∙ is) y earlier
     after x is (inr other) y (inr last) = let least = lowest_least marks t x lowest (sym (cleared_other marks t x other) ∙ is) in omega (arith, least, other, last)
@@ -134,7 +134,7 @@ alerted_next old now new marks t far lowest (inr idle) sound = subst (λ (d : Di
     no_mark : {P : Type 0} (n : ℕ) → None ≡ Some n → P
     no_mark n e = (cc)
 
-    after : (x : ℕ) → alarm_at (set marks t None) x ≡ Some 0 → (x ≡ t) ⊎ (x ≢ t) → (y : ℕ) → IsMember far.threads y → y < x
+    after : (x : ℕ) → alarm_at (set marks t None) x ≡ Some 0 → (x ≡ t) ⊎ (x ≢ t) → (y : ℕ) → Contains far.threads y → y < x
     after x is (inl same) y m = no_mark 0 (sym (cleared_here marks t) ∙ (ap (λ (k : ℕ). alarm_at (set marks t None) k) (sym same) ∙ is))
     after x is (inr other) y m = far.above x (sym (cleared_other marks t x other) ∙ is) y m
 
@@ -161,7 +161,7 @@ alerted_end old now marks far none served = record {
   unmarked = subst IsUnmarked (sym far.stays) (record { changed = served; alerted = none });
 }
   where
-    gone : (x : ℕ) → IsAlerted (state old) x → (o : Option Wait) → fin.get now.table.pending x ≡ o → IsMember far.threads x
+    gone : (x : ℕ) → IsAlerted (state old) x → (o : Option Wait) → fin.get now.table.pending x ≡ o → Contains far.threads x
     gone x alerted None e = gone_member (state old) far.threads true x alerted.0 alerted.1 (ap (λ (s : State). fin.get s.waits x) (sym far.over) ∙ e)
     gone x alerted (Some v) e =
         let before = over_pending (state old) far.threads true x v (ap (λ (s : State). fin.get s.waits x) (sym far.over) ∙ e) in

@@ -1,5 +1,5 @@
 -- The end of objects that nothing keeps leaves a settled state settled: nobody has to be served again.
-use Rattle.std.proofs.Common.{◌≡◌, ℕ, zero, suc, ◌<◌, Bool, true, false, not, ◌&&◌, ◌||◌, cond, List, [], ◌∷◌, length, get_or, refl, sym, ap, ◌∙◌, subst, arith, Option, Some, None, inl, inr}
+use Rattle.std.proofs.Common.{◌≡◌, ℕ, zero, suc, ◌<◌, Bool, true, false, not, ◌&&◌, ◌||◌, cond, List, [], ◌∷◌, length, get_or, refl, sym, ap, ◌∙◌, subst, arith, Option, Some, None, inl, inr, Contains}
 use Rattle.std.specs.Prelude.{nat_lt}
 use Rattle.std.specs.List.{list_any, list_all}
 use Rattle.std.specs.FinMap.{get}
@@ -10,8 +10,7 @@ use Rattle.nt_objects.specs.Object.{is_gone, due_of}
 use Rattle.nt_apc.specs.declared.apc.Queued.{Queued}
 use Rattle.nt_apc.specs.Queues.{has_apc, withdrawn, without_from}
 use Rattle.nt_waits.specs.declared.wait.Wait.{Wait}
-use Rattle.nt_status.specs.Lists.{IsMember}
-use Rattle.nt_status.proofs.Lists.{member_or_not}
+use Rattle.nt_status.proofs.Lists.{contains_none, contains_or_not}
 use Rattle.nt_waits.specs.Waits.{Names, Agrees, queue_of}
 use Rattle.nt_calls.specs.State.{State, Pending, object_at}
 use Rattle.nt_core.specs.Dispatcher.{Dispatcher, state}
@@ -23,8 +22,8 @@ use Rattle.nt_core.proofs.Remaining.{same_waits, stays, goes, both, turned}
 
 -- ---- what waits name stays
 
-pub queue_there : (queue : List ℕ) (t : ℕ) → IsMember queue t → nat_lt 0 (length queue) ≡ true
-queue_there [] t m = absurd m
+pub queue_there : (queue : List ℕ) (t : ℕ) → Contains queue t → nat_lt 0 (length queue) ≡ true
+queue_there [] t m = absurd (contains_none t m)
 queue_there (x ∷ queue) t m = let some : 0 < length (x ∷ queue) = omega arith in grind (arith, nat_tests, some)
 
 middle : (a b c : Bool) → b ≡ true → (a || (b || c)) ≡ true
@@ -32,7 +31,7 @@ middle true b c e = refl
 middle false true c e = refl
 middle false false c e = absurd (false≢true e)
 
-named_stays : (d : Dispatcher) (os : List ℕ) → Agrees d.table.pending d.table.queues → ((x : ℕ) → IsMember os x → is_forgotten (state d) x ≡ true) → (t : ℕ) (w : Wait) → get d.table.pending t ≡ Some w → (o : ℕ) → Names w o → object_at (all_gone (state d) os).objects o ≡ object_at d.objects o
+named_stays : (d : Dispatcher) (os : List ℕ) → Agrees d.table.pending d.table.queues → ((x : ℕ) → Contains os x → is_forgotten (state d) x ≡ true) → (t : ℕ) (w : Wait) → get d.table.pending t ≡ Some w → (o : ℕ) → Names w o → object_at (all_gone (state d) os).objects o ≡ object_at d.objects o
 named_stays d os blocks forgotten t w pends o named =
     stays (state d) os o (λ m.
     let left = turned (is_kept (state d) o) (both (lives (state d) o) (not (is_kept (state d) o)) (forgotten o m)).1 in
@@ -81,7 +80,7 @@ ends_settled d new blocks settled ends = subst IsSettled (sym ends.leaves) (reco
     left : State
     left = all_gone (state d) ends.objects
 
-    forgotten : (x : ℕ) → IsMember ends.objects x → is_forgotten (state d) x ≡ true
+    forgotten : (x : ℕ) → Contains ends.objects x → is_forgotten (state d) x ≡ true
     forgotten x m = (ends.forgotten.exactly x).0 m
 
     waits : left.waits ≡ (state d).waits
@@ -103,7 +102,7 @@ ends_settled d new blocks settled ends = subst IsSettled (sym ends.leaves) (reco
         settled.alerted t (is.0, ap (λ (ws : Pending). get ws t) (sym waits) ∙ is.1, ap (λ b. b && has_apc (state d).apcs t) two.0 ∙ fewer_apcs (state d) ends.objects t two.1)
 
     due_before : (h v : ℕ) → due_of (object_at left.objects h) ≡ Some v → due_of (object_at d.objects h) ≡ Some v
-    due_before h v due = elim (member_or_not ends.objects h) [
+    due_before h v due = elim (contains_or_not ends.objects h) [
       | inl member ↦
           let living = (both (lives (state d) h) (not (is_kept (state d) h)) (forgotten h member)).0 in
           let test = (both (nat_lt h (length d.objects)) (not (is_gone (object_at d.objects h))) living).0 in

@@ -1,13 +1,11 @@
 -- Deadlines that come.
-use Rattle.std.proofs.Common.{◌≡◌, ◌≢◌, ◌<◌, ◌≤◌, ℕ, ◌+◌, Bool, true, false, List, [], ◌∷◌, ◌++◌, length, length-append, append_assoc, refl, sym, ap, ◌∙◌, subst, arith, Option, Some, None, inl, inr, ◌⊎◌, map}
+use Rattle.std.proofs.Common.{◌≡◌, ◌≢◌, ◌<◌, ◌≤◌, ℕ, ◌+◌, Bool, true, false, List, [], ◌∷◌, ◌++◌, length, length-append, append_assoc, refl, sym, ap, ◌∙◌, subst, arith, Option, Some, None, inl, inr, ◌⊎◌, map, Contains}
 use Rattle.std.specs.FinMap as fin
 use Rattle.std.proofs.lemmas.Bool.{cases_eq}
 use Rattle.std.proofs.lemmas.List.{append-nil}
 use Rattle.std.specs.Prelude.{nat_le}
 use Rattle.std.proofs.lemmas.Bool.Decides.{nat_tests}
 use Rattle.nt_waits.specs.declared.wait.Wait.{Wait}
-use Rattle.nt_status.specs.Lists.{IsMember}
-use Rattle.nt_status.proofs.Lists.{member_place, member_push_cases}
 use Rattle.nt_waits.specs.Deadlines.{deadline_in, deadline_of, NoneEarlier, NoneWithDeadline, IsEarliestDeadline, IsFirstWithDeadline, NoDeadline}
 use Rattle.nt_calls.specs.declared.call.Grant.{Grant}
 use Rattle.nt_calls.specs.Rising.{IsRising}
@@ -18,6 +16,8 @@ use Rattle.nt_calls.specs.Steps.{IsAwaited, IsNextMoment, NothingDue, MomentPass
 use Rattle.nt_core.specs.Lawful.{IsSound}
 use Rattle.nt_core.specs.Accepts.{IsTimedOutAfter}
 use Rattle.std.specs.Prelude.{MatchOption, if◌then◌else◌}
+use Rattle.std.proofs.lemmas.List.Elements.{Contains-push_cases}
+use Rattle.nt_status.proofs.Lists.{contains_none, contains_first, contains_later}
 use Rattle.nt_alarms.specs.Alarms.{alarm_at, IsQuiet, IsEarliest}
 use Rattle.nt_core.specs.Due.{earlier}
 use Rattle.nt_core.proofs.Visiting.{len_removed}
@@ -101,22 +101,22 @@ next_of d (Some a) (Some b) sound first second = go (nat_le a b) refl
 pub record LateSoFar (old now : Dispatcher) (u : ℕ) : Type 0 where
   pub threads : List ℕ
   pub rising : IsRising threads
-  pub late : (x : ℕ) → IsMember threads x → IsLate (state old) u x
+  pub late : (x : ℕ) → Contains threads x → IsLate (state old) u x
   pub grants : now.grants ≡ old.grants ++ map (λ t. ending (late_status (sleeps (fin.get old.table.pending t))) t) threads
   pub over : state now ≡ waits_over (state old) threads false
-  pub above : (x : ℕ) → IsLate (state now) u x → (y : ℕ) → IsMember threads y → y < x
+  pub above : (x : ℕ) → IsLate (state now) u x → (y : ℕ) → Contains threads y → y < x
   pub looked : now.table.looked ≡ old.table.looked
   pub count : fin.len now.table.pending + length threads ≡ fin.len old.table.pending
   pub marked : now.marked ≡ old.marked
   pub sound : IsSound now
 
-pub rising_append : (xs : List ℕ) (t : ℕ) → IsRising xs → ((y : ℕ) → IsMember xs y → y < t) → IsRising (xs ++ t ∷ [])
-rising_append [] t rising below = (λ y m. absurd m, tt)
-rising_append (x ∷ xs) t rising below = (λ y m. after y (member_push_cases xs t y m), rising_append xs t rising.1 (λ y m. below y (inr m)))
+pub rising_append : (xs : List ℕ) (t : ℕ) → IsRising xs → ((y : ℕ) → Contains xs y → y < t) → IsRising (xs ++ t ∷ [])
+rising_append [] t rising below = (λ y m. absurd (contains_none y m), tt)
+rising_append (x ∷ xs) t rising below = (λ y m. after y (Contains-push_cases xs t y m), rising_append xs t rising.1 (λ y m. below y (contains_later x xs y m)))
   where
-    after : (y : ℕ) → IsMember xs y ⊎ (t ≡ y) → x < y
+    after : (y : ℕ) → Contains xs y ⊎ (t ≡ y) → x < y
     after y (inl m) = rising.0 y m
-    after y (inr same) = subst (λ (k : ℕ). x < k) same (below x (inl refl))
+    after y (inr same) = subst (λ (k : ℕ). x < k) same (below x (contains_first x xs x refl))
 
 pub over_append : (s : State) (ts : List ℕ) (t : ℕ) (may : Bool) → waits_over s (ts ++ t ∷ []) may ≡ wait_over (waits_over s ts may) t may
 over_append s [] t may = refl
@@ -140,7 +140,7 @@ late_next old now new u t far first over grants looked marked sound =
     record {
       threads = far.threads ++ t ∷ [];
       rising = rising_append far.threads t far.rising (far.above t here);
-      late = λ x m. elim (member_push_cases far.threads t x m) [
+      late = λ x m. elim (Contains-push_cases far.threads t x m) [
         | inl earlier ↦ far.late x earlier
         | inr last ↦ subst (λ (k : ℕ). IsLate (state old) u k) last (here.0, before.0, here.2)
       ];
@@ -148,10 +148,10 @@ late_next old now new u t far first over grants looked marked sound =
       over = over ∙ (ap (λ (s : State). wait_over s t false) far.over ∙ sym (over_append (state old) far.threads t false));
       above = λ x late y m.
           let still = over_pending (state now) (t ∷ []) false x late.0 (ap (λ (s : State). fin.get s.waits x) (sym over) ∙ late.1) in
-          let differs : x ≢ t = λ e. still.1 (inl (sym e)) in
+          let differs : x ≢ t = λ e. still.1 (contains_first t [] x (sym e)) in
           let lates : IsLate (state now) u x = (late.0, still.0, late.2) in
           let least : t ≤ x = not_below first x (deadline_late (state now) u x lates) in
-          elim (member_push_cases far.threads t y m) [
+          elim (Contains-push_cases far.threads t y m) [
             | inl earlier ↦ far.above x lates y earlier
             | inr last ↦ subst (λ (k : ℕ). k < x) last (omega (arith, least, differs))
           ];
@@ -169,14 +169,14 @@ late_next old now new u t far first over grants looked marked sound =
         go false gt = let below : x < t = grind (arith, nat_tests, gt) in absurd (is.none_below x below has)
 
 -- who waits no more had timed out
-pub gone_member : (s : State) (ts : List ℕ) (may : Bool) (x : ℕ) (v : Wait) → fin.get s.waits x ≡ Some v → fin.get (waits_over s ts may).waits x ≡ None → IsMember ts x
+pub gone_member : (s : State) (ts : List ℕ) (may : Bool) (x : ℕ) (v : Wait) → fin.get s.waits x ≡ Some v → fin.get (waits_over s ts may).waits x ≡ None → Contains ts x
 gone_member s [] may x v has none = let h : Some v ≡ None = sym has ∙ none in absurd_some h
   where
     absurd_some : {P : Type 0} → Some v ≡ None → P
     absurd_some h = (cc)
 gone_member s (t ∷ ts) may x v has none = elim (cases_eq x t) [
-  | inl same ↦ inl (sym same)
-  | inr differs ↦ inr (gone_member (wait_over s t may) ts may x v (get_other s.waits t x differs ∙ has) none)
+  | inl same ↦ contains_first t ts x (sym same)
+  | inr differs ↦ contains_later t ts x (gone_member (wait_over s t may) ts may x v (get_other s.waits t x differs ∙ has) none)
 ]
 
 -- none is late any more
@@ -195,7 +195,7 @@ late_end old now u far none = record {
   fewer = λ t late. some t (gone t late (fin.get now.table.pending t) refl) far.count;
 }
   where
-    gone : (x : ℕ) → IsLate (state old) u x → (o : Option Wait) → fin.get now.table.pending x ≡ o → IsMember far.threads x
+    gone : (x : ℕ) → IsLate (state old) u x → (o : Option Wait) → fin.get now.table.pending x ≡ o → Contains far.threads x
     gone x late None e = gone_member (state old) far.threads false x late.0 late.1 (ap (λ (s : State). fin.get s.waits x) (sym far.over) ∙ e)
     gone x late (Some v) e =
         let before = over_pending (state old) far.threads false x v (ap (λ (s : State). fin.get s.waits x) (sym far.over) ∙ e) in
@@ -203,8 +203,8 @@ late_end old now u far none = record {
         let same : v ≡ late.0 = (cc) in
         absurd (none x (ap deadline_in e ∙ (ap (λ (w : Wait). w.deadline) same ∙ late.2)))
 
-    some : (x : ℕ) → IsMember far.threads x → fin.len now.table.pending + length far.threads ≡ fin.len old.table.pending → fin.len now.table.pending < fin.len old.table.pending
-    some x m count = let longer = (member_place far.threads x m).1 in omega (arith, longer, count)
+    some : (x : ℕ) → Contains far.threads x → fin.len now.table.pending + length far.threads ≡ fin.len old.table.pending → fin.len now.table.pending < fin.len old.table.pending
+    some x m count = let longer = m.1 in omega (arith, longer, count)
 
 pub none_earlier_kept : (old now : Dispatcher) (u : ℕ) → LateSoFar old now u → NoneEarlier old.table.pending u → NoneEarlier now.table.pending u
 none_earlier_kept old now u far none t v has =

@@ -1,5 +1,5 @@
 -- What one visit does, from what the code of it says.
-use Rattle.std.proofs.Common.{◌≡◌, ◌≢◌, ℕ, ◌+◌, ◌<◌, ◌-◌, ◌^◌, Bool, true, false, List, [], ◌∷◌, ◌++◌, length, length-append, set, refl, sym, ap, ◌∙◌, subst, arith, Option, Some, None, is_some}
+use Rattle.std.proofs.Common.{◌≡◌, ◌≢◌, ℕ, ◌+◌, ◌<◌, ◌-◌, ◌^◌, Bool, true, false, List, [], ◌∷◌, ◌++◌, length, length-append, set, refl, sym, ap, ◌∙◌, subst, arith, Option, Some, None, is_some, Contains}
 use Rattle.std.proofs.lemmas.List.{length-set}
 use Rattle.std.proofs.lemmas.Bool.{false≢true}
 use Rattle.std.specs.Ordering.{nat_cmp}
@@ -7,7 +7,7 @@ use Rattle.std.specs.Cmp.{nat_cmp_total}
 use Rattle.std.specs.FinMap as map
 use Rattle.nt_waits.specs.declared.wait.Wait.{Wait}
 use Rattle.nt_waits.specs.Waits.{Waits, queue_of, others, Agrees, counted_once, only_among, only_of}
-use Rattle.std.specs.Option.{option_map}
+use Rattle.std.specs.Option.{option_map, IsSome}
 use Rattle.std.proofs.lemmas.Option.{same_Some}
 use Rattle.nt_objects.specs.declared.object.Object.{Object}
 use Rattle.nt_calls.specs.declared.call.Grant.{Grant}
@@ -21,9 +21,10 @@ use Rattle.nt_objects.specs.declared.object.Object.TheVariants.{Event, Semaphore
 use Rattle.std.proofs.lemmas.Bool.Decides.{nat_tests}
 use Rattle.std.specs.Prelude.{slice_index}
 use Rattle.std.proofs.Common.{not, ◌&&◌, inl, inr}
+use Rattle.nt_status.proofs.Lists.{contains_none, contains_cases}
 use Rattle.nt_core.proofs.Handling.{handles_along}
 use Rattle.nt_core.proofs.Keeping.{TakesWell, objects_taken_well, taken_timers, own_kept}
-use Rattle.nt_core.proofs.Marking.{marks_along, marks_ended}
+use Rattle.nt_core.proofs.Marking.{marks_along, marks_ended, named_member}
 use Rattle.nt_core.proofs.Walks.{get_removed}
 
 pub counted : (n : ℕ) → n + 1 < 2 ^ 64 → counted_once n ≡ n + 1
@@ -117,6 +118,22 @@ state_same s r threads handles objects waits queues apcs handing now =
 
 pub same_wait : (v w : Wait) → Some v ≡ Some w → v ≡ w
 same_wait v w e = (cc)
+
+-- whoever stands in a queue has a wait
+pub stands_waits : (d : Dispatcher) (t h : ℕ) → IsSound d → Contains (queue_of d.table h) t → IsSome (map.get d.table.pending t)
+stands_waits d t h sound stands = ap is_some (sound.blocks.named t h stands).1
+
+-- where that wait names one handle alone, it is this one
+pub only_this : (d : Dispatcher) (t h only : ℕ) (all : Bool) → IsSound d → Contains (queue_of d.table h) t → option_map only_of (map.get d.table.pending t) ≡ Some (Some (only, all)) → option_map only_of (map.get d.table.pending t) ≡ Some (Some (h, all))
+only_this d t h only all sound stands told =
+    let named = sound.blocks.named t h stands in
+    let w = only_wait (map.get d.table.pending t) only all told in
+    let same : named.0 ≡ w.0 = same_wait named.0 w.0 (sym named.1 ∙ sym w.1) in
+    let one : Contains (only ∷ []) h = named_member (only ∷ []) named.0 h (ap (λ (v : Wait). v.handles) same ∙ ap (λ (p : List ℕ × Bool). p.0) w.2) named.2 in
+    elim (contains_cases only [] h one) [
+      | inl here ↦ subst (λ (k : ℕ). option_map only_of (map.get d.table.pending t) ≡ Some (Some (k, all))) here told
+      | inr none ↦ absurd (contains_none h none)
+    ]
 
 -- after it what it named may lack its mark
 pub visit_unmarked : (old : Dispatcher) (t code : ℕ) (w : Wait) (objects : List Object) (owned : List (List ℕ)) (table : Waits) (grants : List Grant) → IsSound old → Some w ≡ map.get old.table.pending t → IsTried old.objects objects t w (Some code) → ((h : ℕ) → queue_of table h ≡ others t (queue_of old.table h)) → MarksAgreeBut w.handles (record old { objects = objects; owned = owned; table = table; handing = set old.handing t false; grants = grants })

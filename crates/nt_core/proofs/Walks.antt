@@ -1,6 +1,6 @@
 -- Visits one after another.
-use Rattle.std.proofs.Common.{◌≡◌, ◌≢◌, ℕ, suc, ◌+◌, ◌≤◌, Bool, true, false, eqb, List, [], ◌∷◌, ◌++◌, length, length-append, append_assoc, refl, sym, ap, ◌∙◌, subst, arith, Option, Some, None, is_some, inl, inr}
-use Rattle.std.specs.List.{find, filter}
+use Rattle.std.proofs.Common.{◌≡◌, ◌≢◌, ℕ, suc, ◌+◌, ◌≤◌, Bool, true, false, eqb, List, [], ◌∷◌, ◌++◌, length, length-append, append_assoc, refl, sym, ap, ◌∙◌, subst, arith, Option, Some, None, is_some, inl, inr, Contains, nat_eq}
+use Rattle.std.specs.List.{find, filter, IsDistinct}
 use Rattle.std.specs.Prelude.{slice_get}
 use Rattle.std.specs.Ordering.{nat_cmp, eq_by_cmp}
 use Rattle.std.specs.Cmp.{unsigned_tied, nat_cmp_total}
@@ -8,9 +8,10 @@ use Rattle.std.specs.FinMap as map
 use Rattle.std.proofs.lemmas.Bool.{cases_eq}
 use Rattle.std.proofs.lemmas.List.{append-nil}
 use Rattle.std.proofs.lemmas.Bool.Decides.{nat_tests}
+use Rattle.std.proofs.lemmas.List.Elements.{Contains-append_right}
+use Rattle.std.proofs.lemmas.Map.Keys.{IsDistinct-tail}
+use Rattle.nt_status.proofs.Lists.{contains_first, contains_later, distinct_first}
 use Rattle.nt_waits.specs.declared.wait.Wait.{Wait}
-use Rattle.nt_status.specs.Lists.{IsMember, AreOnce}
-use Rattle.nt_status.proofs.Lists.{member_of_last}
 use Rattle.nt_waits.specs.Waits.{others, next_after, Agrees}
 use Rattle.nt_waits.proofs.OthersLemmas.{others_absent}
 use Rattle.nt_calls.specs.declared.call.Grant.{Grant}
@@ -103,17 +104,17 @@ eqb_other : (a b : ℕ) → a ≢ b → eqb a b ≡ false
 eqb_other a b e = grind (arith, nat_tests, e)
 
 -- the others are those that still pend
-pub others_pend : (s : State) (t : ℕ) (w : Wait) (q : List ℕ) → ((u : ℕ) → IsMember q u → pends s u ≡ true) → others t q ≡ filter (pends (granted s t w)) q
+pub others_pend : (s : State) (t : ℕ) (w : Wait) (q : List ℕ) → ((u : ℕ) → Contains q u → pends s u ≡ true) → others t q ≡ filter (pends (granted s t w)) q
 others_pend s t w [] all = refl
 others_pend s t w (x ∷ q) all = elim (cases_eq x t) [
-  | inl same ↦ rw (eqb_same x t same, ap is_some (ap (λ y. map.get (map.remove s.waits t) y) same ∙ get_same s.waits t)) (others_pend s t w q (λ u m. all u (inr m)))
-  | inr differs ↦ rw (eqb_other x t differs, ap is_some (get_other s.waits t x differs), all x (inl refl)) (ap (λ ys. x ∷ ys) (others_pend s t w q (λ u m. all u (inr m))))
+  | inl same ↦ rw (eqb_same x t same, ap is_some (ap (λ y. map.get (map.remove s.waits t) y) same ∙ get_same s.waits t)) (others_pend s t w q (λ u m. all u (contains_later x q u m)))
+  | inr differs ↦ rw (eqb_other x t differs, ap is_some (get_other s.waits t x differs), all x (contains_first x q x refl)) (ap (λ ys. x ∷ ys) (others_pend s t w q (λ u m. all u (contains_later x q u m))))
 ]
 
 -- ---- one visit
 
 -- who stands in a queue pends
-pub waiters_pend : (d : Dispatcher) (h u : ℕ) → Agrees d.table.pending d.table.queues → IsMember ((state d).queues h) u → pends (state d) u ≡ true
+pub waiters_pend : (d : Dispatcher) (h u : ℕ) → Agrees d.table.pending d.table.queues → Contains ((state d).queues h) u → pends (state d) u ≡ true
 waiters_pend d h u blocks member = let own = blocks.named u h member in ap is_some own.1
 
 -- no visit at all
@@ -171,17 +172,17 @@ no_rest : (rest : List ℕ) → None ≡ slice_get rest 0 → rest ≡ []
 no_rest [] e = refl
 no_rest (x ∷ more) e = let h : None ≡ Some x = e in (cc)
 
-others_split : (kept rest : List ℕ) (t : ℕ) → AreOnce (kept ++ t ∷ rest) → others t (kept ++ t ∷ rest) ≡ kept ++ rest
-others_split [] rest t once = rw (eqb_same t t refl) (others_absent t rest once.0)
+others_split : (kept rest : List ℕ) (t : ℕ) → IsDistinct nat_eq (kept ++ t ∷ rest) → others t (kept ++ t ∷ rest) ≡ kept ++ rest
+others_split [] rest t once = rw (eqb_same t t refl) (others_absent t rest (distinct_first t rest once))
 others_split (x ∷ kept) rest t once =
-    let differs : x ≢ t = λ e. once.0 (subst (λ y. IsMember (kept ++ t ∷ rest) y) (sym e) (member_of_last kept (t ∷ rest) t (inl refl))) in
-    rw (eqb_other x t differs) (ap (λ ys. x ∷ ys) (others_split kept rest t once.1))
+    let differs : x ≢ t = λ e. distinct_first x (kept ++ t ∷ rest) once (subst (λ y. Contains (kept ++ t ∷ rest) y) (sym e) (Contains-append_right kept (t ∷ rest) t (contains_first t rest t refl))) in
+    rw (eqb_other x t differs) (ap (λ ys. x ∷ ys) (others_split kept rest t (IsDistinct-tail nat_eq x (kept ++ t ∷ rest) once)))
 
-next_split : (kept rest : List ℕ) (t : ℕ) → AreOnce (kept ++ t ∷ rest) → next_after t (kept ++ t ∷ rest) ≡ slice_get rest 0
+next_split : (kept rest : List ℕ) (t : ℕ) → IsDistinct nat_eq (kept ++ t ∷ rest) → next_after t (kept ++ t ∷ rest) ≡ slice_get rest 0
 next_split [] rest t once = rw (eqb_same t t refl) refl
 next_split (x ∷ kept) rest t once =
-    let differs : x ≢ t = λ e. once.0 (subst (λ y. IsMember (kept ++ t ∷ rest) y) (sym e) (member_of_last kept (t ∷ rest) t (inl refl))) in
-    rw (eqb_other x t differs) (next_split kept rest t once.1)
+    let differs : x ≢ t = λ e. distinct_first x (kept ++ t ∷ rest) once (subst (λ y. Contains (kept ++ t ∷ rest) y) (sym e) (Contains-append_right kept (t ∷ rest) t (contains_first t rest t refl))) in
+    rw (eqb_other x t differs) (next_split kept rest t (IsDistinct-tail nat_eq x (kept ++ t ∷ rest) once))
 
 -- the walk over the queue of h that began at `old` has visited some threads, and comes to `at` next
 pub record IsAt (h : ℕ) (old now : Dispatcher) (at : Option ℕ) : Type 0 where
@@ -212,10 +213,10 @@ at_end h old now a =
     let all : a.passed ≡ (state old).queues h = sym (a.split ∙ (ap (λ r. a.passed ++ r) (no_rest a.rest a.next) ∙ append-nil a.passed)) in
     subst (λ (q : List ℕ). Visits q old now) all a.visits
 
-pub at_member : (h : ℕ) (old now : Dispatcher) (t : ℕ) → IsAt h old now (Some t) → IsMember ((state now).queues h) t
+pub at_member : (h : ℕ) (old now : Dispatcher) (t : ℕ) → IsAt h old now (Some t) → Contains ((state now).queues h) t
 at_member h old now t a =
     let more = rest_of a.rest t a.next in
-    subst (λ (q : List ℕ). IsMember q t) (sym (a.left ∙ ap (λ r. a.kept ++ r) more.1)) (member_of_last a.kept (t ∷ more.0) t (inl refl))
+    subst (λ (q : List ℕ). Contains q t) (sym (a.left ∙ ap (λ r. a.kept ++ r) more.1)) (Contains-append_right a.kept (t ∷ more.0) t (contains_first t more.0 t refl))
 
 -- one look at least is left
 pub at_countable : (h : ℕ) (old now : Dispatcher) (t : ℕ) → IsAt h old now (Some t) → now.table.looked + 1 ≤ old.table.looked + length ((state old).queues h)
@@ -230,7 +231,7 @@ pub at_next : (h : ℕ) (old mid new : Dispatcher) (t : ℕ) (at : Option ℕ) �
 at_next h old mid new t at a visit sound is =
     let more = rest_of a.rest t a.next in
     let here : (state mid).queues h ≡ a.kept ++ t ∷ more.0 = a.left ∙ ap (λ r. a.kept ++ r) more.1 in
-    let once = subst AreOnce here (a.sound.blocks.once h) in
+    let once = subst (IsDistinct nat_eq) here (a.sound.blocks.once h) in
     let pending : pends (state mid) t ≡ true = waiters_pend mid h t a.sound.blocks (at_member h old mid t a) in
     let one : filter (pends (state mid)) (t ∷ []) ≡ t ∷ [] = rw pending refl in
     let after = left_after a.kept more.0 visit here once in
@@ -245,7 +246,7 @@ at_next h old mid new t at a visit sound is =
       sound = sound;
     }
   where
-    left_after : (kept more : List ℕ) → IsVisited mid new t → (state mid).queues h ≡ kept ++ t ∷ more → AreOnce (kept ++ t ∷ more) → (kept' : List ℕ) × ((state new).queues h ≡ kept' ++ more)
+    left_after : (kept more : List ℕ) → IsVisited mid new t → (state mid).queues h ≡ kept ++ t ∷ more → IsDistinct nat_eq (kept ++ t ∷ more) → (kept' : List ℕ) × ((state new).queues h ≡ kept' ++ more)
     left_after kept more (inl g) here once = (kept, ap (λ (s : State). s.queues h) g.becomes ∙ (ap (λ q. others t q) here ∙ others_split kept more t once))
     left_after kept more (inr p) here once = (kept ++ t ∷ [], ap (λ (s : State). s.queues h) p.stays ∙ (here ∙ sym (append_assoc kept (t ∷ []) more)))
 

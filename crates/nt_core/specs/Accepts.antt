@@ -17,7 +17,7 @@ use Rattle.nt_objects.specs.declared.object.Routine.{Routine}
 use Rattle.nt_alarms.specs.Alarms.{alarm_at}
 use Rattle.nt_alarms.specs.Marks.{AddsMarks}
 use Rattle.nt_apc.specs.Queues.{withdrawn, place_of}
-use Rattle.nt_status.specs.Lists.{IsMember}
+use Rattle.std.specs.List.{Contains}
 use Rattle.nt_calls.specs.State.{State, object_at, wait_over, pending_too}
 use Rattle.nt_calls.specs.Serving.{IsChanged, sequence, sleeps, Serve, IsAlerted, Alert, ending, TimeOut, IsLate}
 use Rattle.nt_calls.specs.Change.{change, all_expired, exited, IsTimerDue}
@@ -81,7 +81,7 @@ pub record IsExpiredAfter (old : Dispatcher) (m u : ℕ) (new : Dispatcher) (tim
   pub due : AreRising (IsTimerDue (state old) u) timers
   pub expired : state new ≡ all_expired m (state old) timers
   pub marked : (t : ℕ) → IsAlerted (state new) t → alarm_at marks t ≡ Some 0
-  pub others : (h : ℕ) → (IsMember timers h → ⊥) → object_at new.objects h ≡ object_at old.objects h
+  pub others : (h : ℕ) → (Contains timers h → ⊥) → object_at new.objects h ≡ object_at old.objects h
   -- of the timers that are due up to m these are gone
   pub fewer : (weight : ℕ → ℕ) → due_weight weight m 0 new.objects + total_weight weight timers ≡ due_weight weight m 0 old.objects
   pub grants : new.grants ≡ old.grants
@@ -128,7 +128,7 @@ IsSetBy objects t h = setter_of (object_at objects h) ≡ Some t
 
 -- this is one of these timers, and the thread armed it with a routine
 abbrev pub IsSetAmong : List ℕ → List Object → ℕ → ℕ → Type 0
-IsSetAmong timers objects t h = IsMember timers h × IsSetBy objects t h
+IsSetAmong timers objects t h = Contains timers h × IsSetBy objects t h
 
 -- the timers with this property are not armed any more, and no other object changed
 pub record AreStopped (property : ℕ → Type 0) (old new : List Object) : Type 0 where

@@ -10,7 +10,7 @@ use Rattle.nt_objects.specs.Handles.{opened_at, count_named}
 use Rattle.nt_owners.specs.Objects.{OwnersAgree}
 use Rattle.nt_objects.specs.Object.{IsLawfulObject, owned_by, has_room, has_ended, is_thread, is_gone, due_of, setter_of}
 use Rattle.nt_waits.specs.declared.wait.Wait.{Wait}
-use Rattle.nt_status.specs.Lists.{IsMember}
+use Rattle.std.specs.List.{Contains}
 use Rattle.nt_waits.specs.Waits.{Names, Agrees}
 use Rattle.std.specs.List.{IsDistinct}
 use Rattle.nt_alarms.specs.Alarms.{alarm_at, NoneAt}
@@ -55,13 +55,13 @@ pub record HandlesAgree (count : ℕ) (handles : List (Option Opened)) : Type 0 
 pub record MarksAgreeBut (unmarked : List ℕ) (d : Dispatcher) : Type 0 where
   pub living : (h : ℕ) (opened : Opened) → opened_at d.handles h ≡ Some opened → is_gone (object_at d.objects opened.object) ≡ false
   pub count : length d.leaving ≡ length d.objects
-  pub marked : (o : ℕ) → is_forgotten (state d) o ≡ true → (alarm_at d.leaving o ≡ Some 0) ⊎ IsMember unmarked o
-  pub known : (o : ℕ) → IsMember unmarked o → o < length d.objects
+  pub marked : (o : ℕ) → is_forgotten (state d) o ≡ true → (alarm_at d.leaving o ≡ Some 0) ⊎ Contains unmarked o
+  pub known : (o : ℕ) → Contains unmarked o → o < length d.objects
 
 -- each of these objects that no handle names has a mark now, but for those that are left; no mark is gone
 pub record LetsGoBut (left : List ℕ) (handles : List (Option Opened)) (ended : List ℕ) (old new : List (Option ℕ)) : Type 0 where
   pub count : length new ≡ length old
-  pub marked : (o : ℕ) → IsMember ended o → count_named handles o ≡ 0 → (alarm_at new o ≡ Some 0) ⊎ IsMember left o
+  pub marked : (o : ℕ) → Contains ended o → count_named handles o ≡ 0 → (alarm_at new o ≡ Some 0) ⊎ Contains left o
   pub kept : (o : ℕ) → alarm_at old o ≡ Some 0 → alarm_at new o ≡ Some 0
 
 -- there is a place for the mark of each object and of each thread

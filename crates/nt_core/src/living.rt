@@ -2,7 +2,7 @@
 ghost use Rattle.std.specs.Prelude.{◌≡◌, ◌≢◌, ◌<◌, [], ℕ, None, Some, true, false, length, slice_set, IsSome, if◌then◌else◌};
 ghost use Rattle.std.specs.Option.{ForSome};
 ghost use Rattle.nt_objects.specs.Handles.{opened_at};
-ghost use Rattle.nt_status.specs.Lists.{IsMember};
+ghost use Rattle.std.specs.List.{Contains};
 ghost use Rattle.nt_apc.specs.Queues.{withdrawn, place_of};
 ghost use Rattle.nt_core.specs.Dispatcher.{state};
 ghost use Rattle.nt_core.specs.Lawful.{IsSound, IsSteady, MarksAgreeBut, LetsGoBut};
@@ -18,7 +18,7 @@ use nt_status::{Handle, Refusal};
 
 /// Marks those of the objects of a wait, which ends, that no handle names.
 pub(crate) fn let_go(handles: &HandleTable, leaving: &mut Marks, ended: &[Handle])
-    requires { (o : ℕ) → IsMember ended.now o → o < length leaving.old }
+    requires { (o : ℕ) → Contains ended.now o → o < length leaving.old }
     ensures { LetsGoBut [] handles.now.opened ended.now leaving.old leaving.new }
 {
     for object in ended {

@@ -2,7 +2,7 @@
 ghost use Rattle.std.specs.Prelude.{◌≡◌, ◌+◌, ◌≤◌, ◌<◌, ◌^◌, [], ◌∷◌, length, slice_get, IsTrue, Some};
 ghost use Rattle.std.specs.Option.{option_map};
 ghost use Rattle.std.specs.FinMap as fin;
-ghost use Rattle.nt_status.specs.Lists.{IsMember};
+ghost use Rattle.std.specs.List.{Contains};
 ghost use Rattle.nt_waits.specs.Waits.{next_after, only_of};
 ghost use Rattle.nt_calls.specs.State.{pends};
 ghost use Rattle.nt_alarms.specs.Alarms.{NoneAt};
@@ -64,7 +64,7 @@ impl Machine {
     /// on the handle began next.
     #[inline(always)]
     fn visit(&mut self, thread: ThreadId, handle: Handle) -> Option<ThreadId>
-        requires waits { IsMember ((state self.old).queues handle) thread }
+        requires waits { Contains ((state self.old).queues handle) thread }
         requires sound { IsSound self.old }
         requires countable { self.old.table.looked + 1 < 2 ^ 64 }
         ensures visited { HasVisited self.old self.new thread }

@@ -2,7 +2,7 @@
 ghost use Rattle.std.specs.Prelude.{ℕ, ◌≡◌, ◌≢◌, ◌&&◌, ◌<◌, [], None, false, OnErr, IfOk, IfErr, is_some, IfSome, IfNone, IsTrue, length, slice_set};
 ghost use Rattle.std.specs.Option.{OnSome};
 ghost use Rattle.nt_status.specs.declared.refusal.Refusal.TheVariants.{Memory};
-ghost use Rattle.nt_status.specs.Lists.{IsMember};
+ghost use Rattle.std.specs.List.{Contains};
 ghost use Rattle.nt_objects.specs.Object.{is_gone};
 ghost use Rattle.nt_apc.specs.Queues.{has_apc};
 ghost use Rattle.nt_calls.specs.State.{object_at};
@@ -157,7 +157,7 @@ impl Machine {
     fn wait_for(&mut self, thread: ThreadId, denied: bool, numbers: &[Handle], mode: Mode) -> Begun
         requires fresh { IsFresh self.old }
         requires caller { IsFree (state self.old) thread }
-        requires living { (h : ℕ) → IsMember numbers.now h → h < length self.old.objects
+        requires living { (h : ℕ) → Contains numbers.now h → h < length self.old.objects
             → is_gone (object_at self.old.objects h) ≡ false }
         ensures { IsMade self.old self.new thread denied (Call.Wait (objects_call mode numbers.now)) (replied result) }
     {

@@ -1,5 +1,5 @@
 -- Over every run an object lives exactly while something keeps it.
-use Rattle.std.proofs.Common.{◌≡◌, ◌<◌, ℕ, zero, suc, Bool, true, false, not, ◌&&◌, ◌||◌, ◌==◌, List, [], ◌∷◌, length, refl, sym, ap, ◌∙◌, subst, arith, Option, Some, None, inl, inr}
+use Rattle.std.proofs.Common.{◌≡◌, ◌<◌, ℕ, zero, suc, Bool, true, false, not, ◌&&◌, ◌||◌, ◌==◌, List, [], ◌∷◌, length, refl, sym, ap, ◌∙◌, subst, arith, Option, Some, None, inl, inr, Contains}
 use Rattle.std.specs.Prelude.{◌↔◌, pos, nat_lt, map, replicate, slice_index}
 use Rattle.std.specs.List.{list_any}
 use Rattle.std.specs.FinMap.{get}
@@ -7,11 +7,11 @@ use Rattle.std.specs.declared.result.Result.TheVariants.{Ok, Err}
 use Rattle.std.proofs.lemmas.Bool.{false≢true}
 use Rattle.std.proofs.lemmas.Bool.Decides.{nat_tests}
 use Rattle.std.proofs.lemmas.List.{length-replicate}
+use Rattle.nt_status.proofs.Lists.{contains_none}
 use Rattle.nt_status.specs.Flags.{has_flag}
 use Rattle.nt_status.specs.Access.{synchronize}
 use Rattle.nt_status.specs.declared.refusal.Refusal.TheVariants.{AccessDenied, InvalidHandle, InvalidParameter, NotOwner, TooManyPosts, RecursionLimit}
 use Rattle.nt_waits.specs.declared.wait.Wait.{Wait}
-use Rattle.nt_status.specs.Lists.{IsMember}
 use Rattle.nt_waits.specs.Waits.{Names}
 use Rattle.nt_objects.specs.declared.object.Object.TheVariants.{Thread}
 use Rattle.nt_objects.specs.declared.handles.Opened.{Opened}
@@ -177,8 +177,8 @@ ends_stand old new sound ends = (stands, living)
     count : length new.objects ≡ length old.objects
     count = ap (λ (s : State). length s.objects) ends.leaves ∙ same_count old ends.objects
 
-    listed : (t o : ℕ) (w : Wait) → get new.waits t ≡ Some w → Names w o → IsMember (new.queues o) t
-    listed t o w is named = subst (λ (qs : ℕ → List ℕ). IsMember (qs o) t) (sym queues) (sound.listed t o w (ap (λ (m : _). get m t) (sym waits) ∙ is) named)
+    listed : (t o : ℕ) (w : Wait) → get new.waits t ≡ Some w → Names w o → Contains (new.queues o) t
+    listed t o w is named = subst (λ (qs : ℕ → List ℕ). Contains (qs o) t) (sym queues) (sound.listed t o w (ap (λ (m : _). get m t) (sym waits) ∙ is) named)
 
     stands : Stands new
     stands =
@@ -190,7 +190,7 @@ ends_stand old new sound ends = (stands, living)
           own = omega (arith, own, threads, count);
           listed = listed;
           pends = λ t o member.
-              let wait = sound.pends t o (subst (λ (qs : ℕ → List ℕ). IsMember (qs o) t) queues member) in
+              let wait = sound.pends t o (subst (λ (qs : ℕ → List ℕ). Contains (qs o) t) queues member) in
               (wait.0, ap (λ (m : _). get m t) waits ∙ wait.1, wait.2);
           named = λ h opened is.
               living opened.object ∙ ap (λ b. b || (is_awaited new opened.object || runs new opened.object)) (counted_opened new.handles h opened is);
@@ -226,7 +226,7 @@ opening_stands n =
       enough = opening_enough n;
       own = omega (arith, count);
       listed = λ t o w is named. nothing_pends t w is;
-      pends = λ t o member. absurd member;
+      pends = λ t o member. absurd (contains_none t member);
       named = λ h opened is.
           let below = own_named n (full_access (Thread false)) h opened is in
           lives_there (replicate n (Thread false)) opened.object (Thread false) (omega (arith, below, count)) (object_at-replicate n opened.object) refl;

@@ -1,13 +1,13 @@
 -- Steps, ticks and runs leave no choice.
-use Rattle.std.proofs.Common.{Bool, ◌≡◌, ℕ, true, false, List, [], ◌∷◌, ◌++◌, refl, sym, ap, ◌∙◌, subst, arith, Option, Some, None, inl, inr}
+use Rattle.std.proofs.Common.{Bool, ◌≡◌, ℕ, true, false, List, [], ◌∷◌, ◌++◌, refl, sym, ap, ◌∙◌, subst, arith, Option, Some, None, inl, inr, Contains}
 use Rattle.std.specs.Prelude.{map, IsTrue}
 use Rattle.std.specs.declared.result.Result.{Result}
 use Rattle.std.specs.declared.result.Result.TheVariants.{Ok, Err}
 use Rattle.std.specs.FinMap.{get}
+use Rattle.nt_status.proofs.Lists.{contains_none, contains_first, contains_later, contains_cases}
 use Rattle.nt_status.specs.Status.{io_completion_code}
 use Rattle.nt_status.specs.declared.refusal.Refusal.{Refusal}
 use Rattle.nt_status.specs.declared.refusal.Refusal.TheVariants.{Memory}
-use Rattle.nt_status.specs.Lists.{IsMember}
 use Rattle.nt_calls.specs.declared.call.Call.{Call}
 use Rattle.nt_calls.specs.declared.call.Reply.{Reply}
 use Rattle.nt_calls.specs.declared.call.Grant.{Grant}
@@ -26,24 +26,30 @@ use Rattle.nt_laws.proofs.Unique.{serve_unique}
 
 -- ---- rising lists
 
-first_same : (x y : ℕ) (xs ys : List ℕ) → IsRising (x ∷ xs) → IsRising (y ∷ ys) → IsMember (y ∷ ys) x → IsMember (x ∷ xs) y → x ≡ y
-first_same x y xs ys rx ry (inl e) _ = sym e
-first_same x y xs ys rx ry (inr m) (inl e) = e
-first_same x y xs ys rx ry (inr m) (inr k) = let p = rx.0 y k in let q = ry.0 x m in absurd (omega (arith, p, q))
+first_same : (x y : ℕ) (xs ys : List ℕ) → IsRising (x ∷ xs) → IsRising (y ∷ ys) → Contains (y ∷ ys) x → Contains (x ∷ xs) y → x ≡ y
+first_same x y xs ys rx ry mine yours = elim (contains_cases y ys x mine) [
+  | inl e ↦ sym e
+  | inr m ↦ elim (contains_cases x xs y yours) [
+    | inl e ↦ e
+    | inr k ↦ let p = rx.0 y k in let q = ry.0 x m in absurd (omega (arith, p, q))
+  ]
+]
 
-rest_within : (x y z : ℕ) (xs ys : List ℕ) → IsRising (x ∷ xs) → x ≡ y → IsMember xs z → IsMember (y ∷ ys) z → IsMember ys z
-rest_within x y z xs ys rx e m (inl h) = let p = rx.0 z m in absurd (omega (arith, p, e, h))
-rest_within x y z xs ys rx e m (inr h) = h
+rest_within : (x y z : ℕ) (xs ys : List ℕ) → IsRising (x ∷ xs) → x ≡ y → Contains xs z → Contains (y ∷ ys) z → Contains ys z
+rest_within x y z xs ys rx e m has = elim (contains_cases y ys z has) [
+  | inl h ↦ let p = rx.0 z m in absurd (omega (arith, p, e, h))
+  | inr h ↦ h
+]
 
-rising_same : (xs ys : List ℕ) → IsRising xs → IsRising ys → ((x : ℕ) → IsMember xs x → IsMember ys x) → ((x : ℕ) → IsMember ys x → IsMember xs x) → xs ≡ ys
+rising_same : (xs ys : List ℕ) → IsRising xs → IsRising ys → ((x : ℕ) → Contains xs x → Contains ys x) → ((x : ℕ) → Contains ys x → Contains xs x) → xs ≡ ys
 rising_same [] [] rx ry to from = refl
-rising_same [] (y ∷ ys) rx ry to from = absurd (from y (inl refl))
-rising_same (x ∷ xs) [] rx ry to from = absurd (to x (inl refl))
+rising_same [] (y ∷ ys) rx ry to from = absurd (contains_none y (from y (contains_first y ys y refl)))
+rising_same (x ∷ xs) [] rx ry to from = absurd (contains_none x (to x (contains_first x xs x refl)))
 rising_same (x ∷ xs) (y ∷ ys) rx ry to from =
-    let same = first_same x y xs ys rx ry (to x (inl refl)) (from y (inl refl)) in
+    let same = first_same x y xs ys rx ry (to x (contains_first x xs x refl)) (from y (contains_first y ys y refl)) in
     let rest = rising_same xs ys rx.1 ry.1
-    (λ z m. rest_within x y z xs ys rx same m (to z (inr m)))
-    (λ z m. rest_within y x z ys xs ry (sym same) m (from z (inr m))) in
+    (λ z m. rest_within x y z xs ys rx same m (to z (contains_later x xs z m)))
+    (λ z m. rest_within y x z ys xs ry (sym same) m (from z (contains_later y ys z m))) in
     ap (λ z. z ∷ xs) same ∙ ap (λ zs. y ∷ zs) rest
 
 -- exactly the numbers with a property, rising: there is one such list

@@ -1,13 +1,11 @@
 -- Handles and waits name objects that live, whatever calls and ticks do.
-use Rattle.std.proofs.Common.{◌≡◌, ◌≢◌, ◌≤◌, ◌<◌, ℕ, zero, suc, ◌+◌, Bool, true, false, cond, not, ◌&&◌, List, [], ◌∷◌, ◌++◌, length, length-append, refl, sym, ap, ◌∙◌, subst, arith, Option, Some, None, inl, inr, ◌⊎◌}
+use Rattle.std.proofs.Common.{◌≡◌, ◌≢◌, ◌≤◌, ◌<◌, ℕ, zero, suc, ◌+◌, Bool, true, false, cond, not, ◌&&◌, List, [], ◌∷◌, ◌++◌, length, length-append, refl, sym, ap, ◌∙◌, subst, arith, Option, Some, None, inl, inr, ◌⊎◌, Contains}
 use Rattle.std.specs.Prelude.{nat_lt}
 use Rattle.std.specs.FinMap.{get, insert, remove, get-insert, get-remove}
 use Rattle.std.specs.Cmp.{unsigned_tied, nat_cmp_total}
 use Rattle.std.specs.Ordering.{nat_cmp, eq_by_cmp}
 use Rattle.std.proofs.lemmas.Bool.Decides.{nat_tests}
 use Rattle.nt_waits.specs.declared.wait.Wait.{Wait}
-use Rattle.nt_status.specs.Lists.{IsMember}
-use Rattle.nt_status.proofs.Lists.{member_push_cases, member_of_first, member_of_last}
 use Rattle.nt_waits.specs.Waits.{Names}
 use Rattle.nt_objects.specs.declared.object.Object.{Object}
 use Rattle.nt_objects.specs.declared.handles.Opened.{Opened}
@@ -24,6 +22,7 @@ use Rattle.nt_laws.proofs.Lasting.{SameLife, Lasts}
 use Rattle.nt_laws.proofs.CallKinds.{IsCreated, IsDuplicated, IsSame, Kind}
 use Rattle.nt_laws.proofs.Numbers.{opened_more, opened_still}
 use Rattle.std.proofs.lemmas.List.{length-set}
+use Rattle.std.proofs.lemmas.List.Elements.{Contains-push, Contains-push_cases, Contains-append_left}
 
 -- there is an object with this number, which is not gone
 abbrev pub is_living : List Object → ℕ → Bool
@@ -35,8 +34,8 @@ pub record IsSound (threads : ℕ) (handles : List (Option Opened)) (objects : L
   pub enough : length objects ≤ length handles
   pub own : threads ≤ length objects
   -- a thread stands in the queue of an object exactly where its pending wait names it
-  pub listed : (t o : ℕ) (w : Wait) → get waits t ≡ Some w → Names w o → IsMember (queues o) t
-  pub pends : (t o : ℕ) → IsMember (queues o) t → (w : Wait) × (get waits t ≡ Some w) × Names w o
+  pub listed : (t o : ℕ) (w : Wait) → get waits t ≡ Some w → Names w o → Contains (queues o) t
+  pub pends : (t o : ℕ) → Contains (queues o) t → (w : Wait) × (get waits t ≡ Some w) × Names w o
   pub named : (h : ℕ) (opened : Opened) → opened_at handles h ≡ Some opened → is_living objects opened.object ≡ true
   pub awaited : (t o : ℕ) (w : Wait) → get waits t ≡ Some w → Names w o → is_living objects o ≡ true
 
@@ -166,26 +165,26 @@ stands_pending s t w sound idle living = record {
   ];
 }
   where
-    listed : (u o : ℕ) (v : Wait) → ((u ≡ t) × (w ≡ v)) ⊎ (get s.waits u ≡ Some v) → Names v o → (b : Bool) → names w o ≡ b → IsMember (cond (names w o) (s.queues o ++ t ∷ []) (s.queues o)) u
-    listed u o v (inl own) named true is = rw is (subst (λ k. IsMember (s.queues o ++ t ∷ []) k) (sym own.0) (member_of_last (s.queues o) (t ∷ []) t (inl refl)))
+    listed : (u o : ℕ) (v : Wait) → ((u ≡ t) × (w ≡ v)) ⊎ (get s.waits u ≡ Some v) → Names v o → (b : Bool) → names w o ≡ b → Contains (cond (names w o) (s.queues o ++ t ∷ []) (s.queues o)) u
+    listed u o v (inl own) named true is = rw is (subst (λ k. Contains (s.queues o ++ t ∷ []) k) (sym own.0) (Contains-push (s.queues o) t))
     listed u o v (inl own) named false is =
         let mine : Names w o = subst (λ (x : Wait). Names x o) (sym own.1) named in
         absurd (names_no w.handles o is mine.0 mine.1 mine.2)
-    listed u o v (inr before) named true is = rw is (member_of_first (s.queues o) (t ∷ []) u (sound.listed u o v before named))
+    listed u o v (inr before) named true is = rw is (Contains-append_left (s.queues o) (t ∷ []) u (sound.listed u o v before named))
     listed u o v (inr before) named false is = rw is (sound.listed u o v before named)
 
     waits_not : {P : Type 0} (v : Wait) → None ≡ Some v → P
     waits_not v e = (cc)
 
-    kept : (u o : ℕ) → IsMember (s.queues o) u → (v : Wait) × (get (insert s.waits t w) u ≡ Some v) × Names v o
+    kept : (u o : ℕ) → Contains (s.queues o) u → (v : Wait) × (get (insert s.waits t w) u ≡ Some v) × Names v o
     kept u o member =
         let wait = sound.pends u o member in
         (wait.0, inserted_other s.waits t u w (λ same. waits_not wait.0 (sym idle ∙ (ap (λ k. get s.waits k) (sym same) ∙ wait.1))) ∙ wait.1, wait.2)
 
-    pends : (u o : ℕ) (b : Bool) → names w o ≡ b → IsMember (cond (names w o) (s.queues o ++ t ∷ []) (s.queues o)) u → (v : Wait) × (get (insert s.waits t w) u ≡ Some v) × Names v o
+    pends : (u o : ℕ) (b : Bool) → names w o ≡ b → Contains (cond (names w o) (s.queues o ++ t ∷ []) (s.queues o)) u → (v : Wait) × (get (insert s.waits t w) u ≡ Some v) × Names v o
     pends u o true is member =
-        let there : IsMember (s.queues o ++ t ∷ []) u = rw is at member in
-        elim (member_push_cases (s.queues o) t u there) [
+        let there : Contains (s.queues o ++ t ∷ []) u = rw is at member in
+        elim (Contains-push_cases (s.queues o) t u there) [
           | inl before ↦ kept u o before
           | inr here ↦ (w, subst (λ k. get (insert s.waits t w) k ≡ Some w) here (inserted_here s.waits t w), names_yes w.handles o is)
         ]

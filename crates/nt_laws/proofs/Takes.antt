@@ -1,13 +1,13 @@
 -- What grants and replies tell is what was taken.
-use Rattle.std.proofs.Common.{◌≡◌, ◌≢◌, ℕ, zero, suc, ◌+◌, ◌-◌, ◌≤◌, ◌<◌, Bool, true, false, cond, not, ◌&&◌, ◌==◌, List, [], ◌∷◌, ◌++◌, length, get_or, append_assoc, refl, sym, ap, ◌∙◌, subst, arith, Option, Some, None, inl, inr}
+use Rattle.std.proofs.Common.{◌≡◌, ◌≢◌, ℕ, zero, suc, ◌+◌, ◌-◌, ◌≤◌, ◌<◌, Bool, true, false, cond, not, ◌&&◌, ◌==◌, List, [], ◌∷◌, ◌++◌, length, get_or, append_assoc, refl, sym, ap, ◌∙◌, subst, arith, Option, Some, None, inl, inr, Contains}
 use Rattle.std.specs.Prelude.{map, nat_le, nat_eq, slice_index}
 use Rattle.std.specs.List.{list_any, list_all, IsDistinct}
 use Rattle.std.specs.FinMap.{get}
 use Rattle.std.proofs.lemmas.Bool.{cases_eq, eqb-true}
 use Rattle.std.proofs.lemmas.Bool.Decides.{nat_tests}
+use Rattle.nt_status.proofs.Lists.{contains_first, contains_later}
 use Rattle.nt_status.specs.Status.{io_completion_code}
 use Rattle.nt_waits.specs.declared.wait.Wait.{Wait}
-use Rattle.nt_status.specs.Lists.{IsMember}
 use Rattle.nt_objects.specs.declared.object.Object.{Object}
 use Rattle.nt_objects.specs.Object.{signaled, taken}
 use Rattle.nt_calls.specs.declared.call.Grant.{Grant}
@@ -185,11 +185,11 @@ late_told w = go (is_sleep w) refl
     go true e = none w.all w.handles (no_length w.handles e)
     go false e = refl
 
-pub timed_told : (old : State) (u : ℕ) (waits : Pending) (ts : List ℕ) → IsWithin old.waits waits → ((t : ℕ) → IsMember ts t → IsLate old u t) → grants_took waits (map (λ t. ending (late_status (sleeps (get old.waits t))) t) ts) ≡ []
+pub timed_told : (old : State) (u : ℕ) (waits : Pending) (ts : List ℕ) → IsWithin old.waits waits → ((t : ℕ) → Contains ts t → IsLate old u t) → grants_took waits (map (λ t. ending (late_status (sleeps (get old.waits t))) t) ts) ≡ []
 timed_told old u waits [] within late = refl
 timed_told old u waits (t ∷ ts) within late =
-    let own = late t (inl refl) in
+    let own = late t (contains_first t ts t refl) in
     let here : grant_took (get waits t) (ending (late_status (sleeps (get old.waits t))) t) ≡ takes_of t (handles_told own.0 (late_status (is_sleep own.0))) =
     ap (λ o. grant_took o (ending (late_status (sleeps (get old.waits t))) t)) (within t own.0 own.1) ∙ ap (λ o. grant_took (Some own.0) (ending (late_status (sleeps o)) t)) own.1 in
-    let rest = timed_told old u waits ts within (λ x m. late x (inr m)) in
+    let rest = timed_told old u waits ts within (λ x m. late x (contains_later t ts x m)) in
     ap (λ ks. ks ++ grants_took waits (map (λ t. ending (late_status (sleeps (get old.waits t))) t) ts)) (here ∙ ap (λ ks. takes_of t ks) (late_told own.0)) ∙ rest

@@ -1,14 +1,14 @@
 -- A thread's mutexes are abandoned and marked, one after another.
-use Rattle.std.proofs.Common.{◌≡◌, ◌≢◌, ◌<◌, ◌⊎◌, ℕ, set, zero, suc, false, List, [], ◌∷◌, length, map, Option, refl, sym, ap, ◌∙◌, subst, inl, inr, arith, Some, None}
+use Rattle.std.proofs.Common.{◌≡◌, ◌≢◌, ◌<◌, ◌⊎◌, ℕ, set, zero, suc, false, List, [], ◌∷◌, length, map, Option, refl, sym, ap, ◌∙◌, subst, inl, inr, arith, Some, None, Contains}
 use Rattle.std.specs.Prelude.{◌↔◌, IsTrue}
 use Rattle.std.proofs.lemmas.Bool.{cases_eq}
 use Rattle.std.proofs.lemmas.List.{length-set, length-map, get_or-set_same, get_or-set_other}
 use Rattle.nt_objects.specs.declared.object.Object.{Object}
 use Rattle.nt_objects.specs.declared.object.Object.TheVariants.{Event, Semaphore, Mutex, Timer, Thread, Gone}
 use Rattle.nt_objects.specs.Object.{owned_by, abandoned_by}
-use Rattle.nt_status.specs.Lists.{IsMember}
 use Rattle.nt_alarms.specs.Alarms.{alarm_at}
 use Rattle.nt_alarms.specs.Marks.{AddsMarks}
+use Rattle.nt_status.proofs.Lists.{contains_none}
 use Rattle.nt_owners.specs.Owned.{list_of}
 use Rattle.nt_owners.specs.Objects.{object_at, OwnersAgree}
 use Rattle.nt_owners.proofs.ListLemmas.{same_test, other_test}
@@ -114,4 +114,4 @@ none_abandoned [] t free = refl
 none_abandoned (o ∷ objects) t free = λ i. unowned_same t o (free zero) i ∷ none_abandoned objects t (λ m. free (suc m)) i
 
 pub none_owned : (objects : List Object) (lists : List (List ℕ)) (t : ℕ) → OwnersAgree objects lists → list_of lists t ≡ [] → (m : ℕ) → Owns objects t m → ⊥
-none_owned objects lists t agree none m owns = subst (λ (list : List ℕ). IsMember list m) none ((agree.named t m).1 owns)
+none_owned objects lists t agree none m owns = contains_none m (subst (λ (list : List ℕ). Contains list m) none ((agree.named t m).1 owns))

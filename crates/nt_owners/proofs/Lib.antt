@@ -3,3 +3,4 @@ pub mod ChainLemmas
 pub mod SoundLemmas
 pub mod PassLemmas
 pub mod AbandonLemmas
+pub mod KeptLemmas

@@ -1,14 +1,14 @@
 -- A mutex passes from one owner's list to another's, and the lists agree with the objects still.
-use Rattle.std.proofs.Common.{◌≡◌, ◌≢◌, ◌<◌, ◌⊎◌, ℕ, set, true, false, List, [], ◌∷◌, ◌++◌, length, zero, suc, refl, sym, ap, ◌∙◌, subst, inl, inr, Option, Some, None}
+use Rattle.std.proofs.Common.{◌≡◌, ◌≢◌, ◌<◌, ◌⊎◌, ℕ, set, true, false, List, [], ◌∷◌, ◌++◌, length, zero, suc, refl, sym, ap, ◌∙◌, subst, inl, inr, Option, Some, None, Contains, nat_eq}
 use Rattle.std.specs.Prelude.{◌↔◌, IsTrue, IfSome, slice_get}
 use Rattle.std.proofs.lemmas.Bool.{cases_eq, cases_lt, false≢true}
 use Rattle.std.proofs.lemmas.Option.{same_Some, none-some}
 use Rattle.std.proofs.lemmas.List.{get_or-set_same, get_or-set_other, get_or_past}
+use Rattle.std.specs.List.{IsDistinct}
 use Rattle.nt_objects.specs.declared.object.Object.{Object}
 use Rattle.nt_objects.specs.declared.object.Object.TheVariants.{Event, Semaphore, Mutex, Timer, Thread, Gone}
 use Rattle.nt_objects.specs.Object.{owner_of, owned_by, abandoned_by}
-use Rattle.nt_status.specs.Lists.{IsMember, AreOnce}
-use Rattle.nt_status.proofs.Lists.{first_member}
+use Rattle.nt_status.proofs.Lists.{contains_front}
 use Rattle.nt_owners.specs.Owned.{list_of, after_first, removed}
 use Rattle.nt_owners.specs.Objects.{object_at, OwnersAgree, IsPassed}
 use Rattle.nt_owners.proofs.SoundLemmas.{without_head}
@@ -16,7 +16,7 @@ use Rattle.nt_owners.proofs.ListLemmas.{same_test, other_test, listed_known, rem
 
 -- ---- lists
 
-pub removed_passed : (lists : List (List ℕ)) (t m : ℕ) → ((u : ℕ) → IsMember (list_of lists u) m ↔ (Some t ≡ Some u)) → ((u : ℕ) → AreOnce (list_of lists u)) → IsPassed lists (removed lists t m) m None
+pub removed_passed : (lists : List (List ℕ)) (t m : ℕ) → ((u : ℕ) → Contains (list_of lists u) m ↔ (Some t ≡ Some u)) → ((u : ℕ) → IsDistinct nat_eq (list_of lists u)) → IsPassed lists (removed lists t m) m None
 removed_passed lists t m itself once =
     let known : t < length lists = listed_known lists t m ((itself t).1 refl) in
     record {
@@ -40,14 +40,14 @@ owned_owner (Thread ended) t = ((λ is. absurd (false≢true is)), λ e. absurd 
 owned_owner Gone t = ((λ is. absurd (false≢true is)), λ e. absurd (none-some t e))
 
 -- the mutex at a handle stands in the list of its owner alone
-pub agree_owner : (objects : List Object) (lists : List (List ℕ)) (m : ℕ) → OwnersAgree objects lists → (t : ℕ) → IsMember (list_of lists t) m ↔ (owner_of (object_at objects m) ≡ Some t)
+pub agree_owner : (objects : List Object) (lists : List (List ℕ)) (m : ℕ) → OwnersAgree objects lists → (t : ℕ) → Contains (list_of lists t) m ↔ (owner_of (object_at objects m) ≡ Some t)
 agree_owner objects lists m agree t =
     ((λ has. (owned_owner (object_at objects m) t).0 ((agree.named t m).0 has)), λ e. (agree.named t m).1 ((owned_owner (object_at objects m) t).1 e))
 
 pub agree_passed : (old new : List Object) (lists lists' : List (List ℕ)) (m : ℕ) (to : Option ℕ) → OwnersAgree old lists → IsPassed lists lists' m to → owner_of (object_at new m) ≡ to → ((k : ℕ) → k ≢ m → object_at new k ≡ object_at old k) → OwnersAgree new lists'
 agree_passed old new lists lists' m to agree passed here others = record {
   named = λ t k. elim (cases_eq k m) [
-    | inl same ↦ subst (λ (n : ℕ). IsMember (list_of lists' t) n ↔ IsTrue (owned_by (object_at new n) t)) (sym same)
+    | inl same ↦ subst (λ (n : ℕ). Contains (list_of lists' t) n ↔ IsTrue (owned_by (object_at new n) t)) (sym same)
         ((λ has. (owned_owner (object_at new m) t).1 (here ∙ (passed.itself t).0 has)), λ is. (passed.itself t).1 (sym here ∙ (owned_owner (object_at new m) t).0 is))
     | inr differs ↦ (
       (λ has. subst (λ (o : Object). IsTrue (owned_by o t)) (sym (others k differs)) ((agree.named t k).0 ((passed.others t k differs).0 has))),
@@ -88,7 +88,7 @@ agree_added objects lists lists' o agree passed =
 -- ---- the mutex that came last leaves its owner's list
 
 pub first_owner : (objects : List Object) (lists : List (List ℕ)) (t m : ℕ) → OwnersAgree objects lists → slice_get (list_of lists t) 0 ≡ Some m → owner_of (object_at objects m) ≡ Some t
-first_owner objects lists t m agree is = (agree_owner objects lists m agree t).0 (first_member (list_of lists t) m is)
+first_owner objects lists t m agree is = (agree_owner objects lists m agree t).0 (contains_front (list_of lists t) m is)
 
 pub owned_below : (objects : List Object) (t m : ℕ) → owner_of (object_at objects m) ≡ Some t → m < length objects
 owned_below objects t m owned = elim (cases_lt m (length objects)) [
@@ -135,6 +135,6 @@ heir_known objects lists m o agree heir t e = elim (heir t ((owned_owner o t).1 
 
 pub agree_freed : (objects : List Object) (lists : List (List ℕ)) (t m : ℕ) (freed : Object) → OwnersAgree objects lists → owner_of (object_at objects m) ≡ Some t → owner_of freed ≡ None → OwnersAgree (set objects m freed) (removed lists t m)
 agree_freed objects lists t m freed agree owner free =
-    let itself : (u : ℕ) → IsMember (list_of lists u) m ↔ (Some t ≡ Some u) = λ u. ((λ has. sym owner ∙ (agree_owner objects lists m agree u).0 has), λ e. (agree_owner objects lists m agree u).1 (owner ∙ e)) in
+    let itself : (u : ℕ) → Contains (list_of lists u) m ↔ (Some t ≡ Some u) = λ u. ((λ has. sym owner ∙ (agree_owner objects lists m agree u).0 has), λ e. (agree_owner objects lists m agree u).1 (owner ∙ e)) in
     agree_put objects lists (removed lists t m) m freed (owned_below objects t m owner) agree
     (subst (λ (to : Option ℕ). IsPassed lists (removed lists t m) m to) (sym free) (removed_passed lists t m itself agree.once))

@@ -1,12 +1,12 @@
 -- All lists after one of them changed.
-use Rattle.std.proofs.Common.{◌≡◌, ◌≢◌, ◌⊎◌, ◌≤◌, ◌<◌, ℕ, zero, suc, List, [], ◌∷◌, ◌++◌, length, map, replicate, get_or, set, Option, Some, None, refl, sym, ap, ◌∙◌, subst, inl, inr, arith}
+use Rattle.std.proofs.Common.{◌≡◌, ◌≢◌, ◌⊎◌, ◌≤◌, ◌<◌, ℕ, zero, suc, List, [], ◌∷◌, ◌++◌, length, map, replicate, get_or, set, Option, Some, None, refl, sym, ap, ◌∙◌, subst, inl, inr, arith, Contains, nat_eq}
 use Rattle.std.proofs.lemmas.Bool.{cases_eq, cases_lt}
 use Rattle.std.proofs.lemmas.List.{get_or-set_same, get_or-set_other, length-set, length-map, ext_get_or, get_or_past}
 use Rattle.std.proofs.lemmas.Option.{same_Some, none-some}
 use Rattle.std.specs.Prelude.{slice_get}
-use Rattle.nt_status.proofs.Lists.{member_same, few_below}
+use Rattle.std.specs.List.{IsDistinct}
+use Rattle.nt_status.proofs.Lists.{contains_none, contains_first, contains_cases, contains_same, distinct_none, distinct_cons, few_below}
 use Rattle.nt_owners.specs.declared.links.Link.{Link}
-use Rattle.nt_status.specs.Lists.{IsMember, AreOnce}
 use Rattle.nt_owners.specs.Owned.{Owned, IsUnowned, list_of, without, after_first}
 use Rattle.nt_owners.specs.Links.{alone, link_at, first_at, next_at, previous_at, with_first, with_next, with_previous, walk, list_in, lists_in, IsChain, IsListed, IsSound}
 use Rattle.nt_owners.proofs.ListLemmas.{same_test, without_member, without_once}
@@ -39,12 +39,12 @@ lists_are firsts links lists long listed =
     ext_get_or [] (lists_in firsts links) lists (length-map firsts (walk links (length links)) ∙ sym long) (λ t below. list-view firsts links t ∙ walked firsts links (λ u. get_or lists u []) listed t)
 
 -- a thread that has a list is there
-pub listed_thread : (firsts : List (Option ℕ)) (links : List Link) (t m : ℕ) → IsMember (list_in firsts links t) m → t < length firsts
+pub listed_thread : (firsts : List (Option ℕ)) (links : List Link) (t m : ℕ) → Contains (list_in firsts links t) m → t < length firsts
 listed_thread firsts links t m has = elim (cases_lt t (length firsts)) [
   | inl below ↦ below
   | inr past ↦
       let none : list_in firsts links t ≡ [] = ap (walk links (length links)) (get_or_past firsts t None past) ∙ walk-none links (length links) in
-      absurd (subst (λ (list : List ℕ). IsMember list m) none has)
+      absurd (contains_none m (subst (λ (list : List ℕ). Contains list m) none has))
 ]
 
 -- ---- one link changed
@@ -103,15 +103,15 @@ previous-with_previous_other links (Some m) to k differs = ap (λ (l : Link). l.
 
 -- ---- a mutex comes first
 
-first_in : (next : Option ℕ → Option ℕ) (previous : ℕ → Option ℕ) (at : Option ℕ) (list : List ℕ) (k : ℕ) → IsChain next previous at list → next at ≡ Some k → IsMember list k
+first_in : (next : Option ℕ → Option ℕ) (previous : ℕ → Option ℕ) (at : Option ℕ) (list : List ℕ) (k : ℕ) → IsChain next previous at list → next at ≡ Some k → Contains list k
 first_in next previous at [] k chain e = absurd (none-some k (sym chain ∙ e))
-first_in next previous at (x ∷ list) k chain e = inl (same_Some x k (sym chain.0 ∙ e))
+first_in next previous at (x ∷ list) k chain e = contains_first x list k (same_Some x k (sym chain.0 ∙ e))
 
 -- the first mutex of a thread, and that its list holds it
 pub first_below : (firsts : List (Option ℕ)) (links : List Link) → IsSound firsts links → (t k : ℕ) → first_at firsts t ≡ Some k → k < length links
 first_below firsts links sound t k e = sound.below t k (first_in (next_at firsts links t) (previous_at links) None (list_in firsts links t) k (sound.chain t) e)
 
-module _ (firsts : List (Option ℕ)) (links : List Link) (t m : ℕ) (sound : IsSound firsts links) (thread : t < length firsts) (room : m < length links) (unowned : (u : ℕ) → IsMember (list_in firsts links u) m → ⊥) where
+module _ (firsts : List (Option ℕ)) (links : List Link) (t m : ℕ) (sound : IsSound firsts links) (thread : t < length firsts) (room : m < length links) (unowned : (u : ℕ) → Contains (list_in firsts links u) m → ⊥) where
   abbrev placed : List Link
   placed = set links m (record { previous = None; next = first_at firsts t })
 
@@ -136,7 +136,7 @@ module _ (firsts : List (Option ℕ)) (links : List Link) (t m : ℕ) (sound : I
   elsewhere : (u : ℕ) → u ≢ t → get_or entered_lists u [] ≡ list_in firsts links u
   elsewhere u differs = get_or-set_other (lists_in firsts links) t u (m ∷ list_in firsts links t) [] differs ∙ list-view firsts links u
 
-  first_owned : (k : ℕ) → first_at firsts t ≡ Some k → IsMember (list_in firsts links t) k
+  first_owned : (k : ℕ) → first_at firsts t ≡ Some k → Contains (list_in firsts links t) k
   first_owned k e = first_in (next_at firsts links t) (previous_at links) None (list_in firsts links t) k (sound.chain t) e
 
   first_other : first_at firsts t ≢ Some m
@@ -148,8 +148,8 @@ module _ (firsts : List (Option ℕ)) (links : List Link) (t m : ℕ) (sound : I
   previous_kept : (k : ℕ) → k ≢ m → first_at firsts t ≢ Some k → previous_at entered_links k ≡ previous_at links k
   previous_kept k differs apart = previous-with_previous_other placed (first_at firsts t) (Some m) k apart ∙ ap (λ (l : Link). l.previous) (get_or-set_other links m k (record { previous = None; next = first_at firsts t }) alone differs)
 
-  owned_other : (u k : ℕ) → IsMember (list_in firsts links u) k → k ≢ m
-  owned_other u k has e = unowned u (member_same (list_in firsts links u) k m e has)
+  owned_other : (u k : ℕ) → Contains (list_in firsts links u) k → k ≢ m
+  owned_other u k has e = unowned u (contains_same (list_in firsts links u) k m e has)
 
   chain_here : IsChain (next_at entered_firsts entered_links t) (previous_at entered_links) None (m ∷ list_in firsts links t)
   chain_here = chain_entered (next_at firsts links t) (previous_at links) (next_at entered_firsts entered_links t) (previous_at entered_links) m (list_in firsts links t)
@@ -168,17 +168,16 @@ module _ (firsts : List (Option ℕ)) (links : List Link) (t m : ℕ) (sound : I
       (λ k has. (next_kept k (owned_other u k has), previous_kept k (owned_other u k has) (λ e. differs (sound.apart u t k has (first_owned k e)))))
       (sound.chain u)
 
-  entered_member : (u k : ℕ) → IsMember (get_or entered_lists u []) k → ((u ≡ t) × (k ≡ m)) ⊎ IsMember (list_in firsts links u) k
+  entered_member : (u k : ℕ) → Contains (get_or entered_lists u []) k → ((u ≡ t) × (k ≡ m)) ⊎ Contains (list_in firsts links u) k
   entered_member u k has = elim (cases_eq u t) [
-    | inl same ↦ first_or same (subst (λ (list : List ℕ). IsMember list k) (ap (λ v. get_or entered_lists v []) same ∙ here) has)
-    | inr differs ↦ inr (subst (λ (list : List ℕ). IsMember list k) (elsewhere u differs) has)
+    | inl same ↦ elim (contains_cases m (list_in firsts links t) k (subst (λ (list : List ℕ). Contains list k) (ap (λ v. get_or entered_lists v []) same ∙ here) has)) [
+      | inl e ↦ inl (same, sym e)
+      | inr later ↦ inr (subst (λ (v : ℕ). Contains (list_in firsts links v) k) (sym same) later)
+    ]
+    | inr differs ↦ inr (subst (λ (list : List ℕ). Contains list k) (elsewhere u differs) has)
   ]
-    where
-      first_or : u ≡ t → IsMember (m ∷ list_in firsts links t) k → ((u ≡ t) × (k ≡ m)) ⊎ IsMember (list_in firsts links u) k
-      first_or same (inl e) = inl (same, sym e)
-      first_or same (inr later) = inr (subst (λ (v : ℕ). IsMember (list_in firsts links v) k) (sym same) later)
 
-  entered_apart : (u v k : ℕ) → ((u ≡ t) × (k ≡ m)) ⊎ IsMember (list_in firsts links u) k → ((v ≡ t) × (k ≡ m)) ⊎ IsMember (list_in firsts links v) k → u ≡ v
+  entered_apart : (u v k : ℕ) → ((u ≡ t) × (k ≡ m)) ⊎ Contains (list_in firsts links u) k → ((v ≡ t) × (k ≡ m)) ⊎ Contains (list_in firsts links v) k → u ≡ v
   entered_apart u v k (inl a) (inl b) = a.0 ∙ sym b.0
   entered_apart u v k (inl a) (inr b) = absurd (owned_other v k b a.1)
   entered_apart u v k (inr a) (inl b) = absurd (owned_other u k a b.1)
@@ -191,8 +190,8 @@ module _ (firsts : List (Option ℕ)) (links : List Link) (t m : ℕ) (sound : I
       | inr differs ↦ subst (λ (list : List ℕ). IsChain (next_at entered_firsts entered_links u) (previous_at entered_links) None list) (sym (elsewhere u differs)) (chain_elsewhere u differs)
     ];
     once = λ u. elim (cases_eq u t) [
-      | inl same ↦ subst AreOnce (sym (ap (λ v. get_or entered_lists v []) same ∙ here)) (unowned t, sound.once t)
-      | inr differs ↦ subst AreOnce (sym (elsewhere u differs)) (sound.once u)
+      | inl same ↦ subst (IsDistinct nat_eq) (sym (ap (λ v. get_or entered_lists v []) same ∙ here)) (distinct_cons m (list_in firsts links t) (unowned t) (sound.once t))
+      | inr differs ↦ subst (IsDistinct nat_eq) (sym (elsewhere u differs)) (sound.once u)
     ];
     apart = λ u v k a b. entered_apart u v k (entered_member u k a) (entered_member v k b);
     below = λ u k has. elim (entered_member u k has) [
@@ -209,7 +208,7 @@ module _ (firsts : List (Option ℕ)) (links : List Link) (t m : ℕ) (sound : I
 
 -- ---- a mutex leaves
 
-module _ (firsts : List (Option ℕ)) (links : List Link) (t m : ℕ) (sound : IsSound firsts links) (owned : IsMember (list_in firsts links t) m) where
+module _ (firsts : List (Option ℕ)) (links : List Link) (t m : ℕ) (sound : IsSound firsts links) (owned : Contains (list_in firsts links t) m) where
   abbrev before : Option ℕ
   before = previous_at links m
 
@@ -231,10 +230,10 @@ module _ (firsts : List (Option ℕ)) (links : List Link) (t m : ℕ) (sound : I
   pub left_room : m < length links
   left_room = sound.below t m owned
 
-  after_owned : (k : ℕ) → after ≡ Some k → IsMember (list_in firsts links t) k
+  after_owned : (k : ℕ) → after ≡ Some k → Contains (list_in firsts links t) k
   after_owned k e = next_in (next_at firsts links t) (previous_at links) None (list_in firsts links t) m k (sound.chain t) owned e
 
-  before_owned : (k : ℕ) → before ≡ Some k → IsMember (list_in firsts links t) k
+  before_owned : (k : ℕ) → before ≡ Some k → Contains (list_in firsts links t) k
   before_owned k e = elim (previous_in (next_at firsts links t) (previous_at links) None (list_in firsts links t) m k (sound.chain t) owned e) [
     | inl none ↦ absurd (none-some k none)
     | inr within ↦ within
@@ -275,10 +274,10 @@ module _ (firsts : List (Option ℕ)) (links : List Link) (t m : ℕ) (sound : I
       (λ k has. (next_left u (Some k) (λ e. differs (sound.apart u t k has (before_owned k (sym e)))), previous_left k (λ e. differs (sound.apart u t k has (after_owned k e)))))
       (sound.chain u)
 
-  left_member : (u k : ℕ) → IsMember (get_or left_lists u []) k → IsMember (list_in firsts links u) k
+  left_member : (u k : ℕ) → Contains (get_or left_lists u []) k → Contains (list_in firsts links u) k
   left_member u k has = elim (cases_eq u t) [
-    | inl same ↦ subst (λ (v : ℕ). IsMember (list_in firsts links v) k) (sym same) (without_member m k (list_in firsts links t) (subst (λ (list : List ℕ). IsMember list k) (ap (λ v. get_or left_lists v []) same ∙ here_left) has))
-    | inr differs ↦ subst (λ (list : List ℕ). IsMember list k) (elsewhere_left u differs) has
+    | inl same ↦ subst (λ (v : ℕ). Contains (list_in firsts links v) k) (sym same) (without_member m k (list_in firsts links t) (subst (λ (list : List ℕ). Contains list k) (ap (λ v. get_or left_lists v []) same ∙ here_left) has))
+    | inr differs ↦ subst (λ (list : List ℕ). Contains list k) (elsewhere_left u differs) has
   ]
 
   left : IsListed left_firsts left_links (λ u. get_or left_lists u [])
@@ -288,8 +287,8 @@ module _ (firsts : List (Option ℕ)) (links : List Link) (t m : ℕ) (sound : I
       | inr differs ↦ subst (λ (list : List ℕ). IsChain (next_at left_firsts left_links u) (previous_at left_links) None list) (sym (elsewhere_left u differs)) (left_elsewhere u differs)
     ];
     once = λ u. elim (cases_eq u t) [
-      | inl same ↦ subst AreOnce (sym (ap (λ v. get_or left_lists v []) same ∙ here_left)) (without_once m (list_in firsts links t) (sound.once t))
-      | inr differs ↦ subst AreOnce (sym (elsewhere_left u differs)) (sound.once u)
+      | inl same ↦ subst (IsDistinct nat_eq) (sym (ap (λ v. get_or left_lists v []) same ∙ here_left)) (without_once m (list_in firsts links t) (sound.once t))
+      | inr differs ↦ subst (IsDistinct nat_eq) (sym (elsewhere_left u differs)) (sound.once u)
     ];
     apart = λ u v k a b. sound.apart u v k (left_member u k a) (left_member v k b);
     below = λ u k has. subst (λ (n : ℕ). k < n) (sym long_left) (sound.below u k (left_member u k has));
@@ -346,9 +345,14 @@ view_changed owned firsts firsts' links links' t f view long lists =
     here ∙ ap (with_list t f) view
 
 -- what nobody owns stands in no list
-pub unowned_in : (owned : Owned) (firsts : List (Option ℕ)) (links : List Link) (m : ℕ) → record { lists = lists_in firsts links; room = length links } ≡ owned → IsUnowned owned.lists m → (t : ℕ) → IsMember (list_in firsts links t) m → ⊥
+pub unowned_in : (owned : Owned) (firsts : List (Option ℕ)) (links : List Link) (m : ℕ) → record { lists = lists_in firsts links; room = length links } ≡ owned → IsUnowned owned.lists m → (t : ℕ) → Contains (list_in firsts links t) m → ⊥
 unowned_in owned firsts links m view unowned t has =
-    unowned t (subst (λ (o : Owned). IsMember (list_of o.lists t) m) view (subst (λ (list : List ℕ). IsMember list m) (sym (list-view firsts links t)) has))
+    unowned t (subst (λ (o : Owned). Contains (list_of o.lists t) m) view (subst (λ (list : List ℕ). Contains list m) (sym (list-view firsts links t)) has))
+
+-- what stands in a list that callers see stands in the links' list
+pub listed_in : (owned : Owned) (firsts : List (Option ℕ)) (links : List Link) (t m : ℕ) → record { lists = lists_in firsts links; room = length links } ≡ owned → Contains (list_of owned.lists t) m → Contains (list_in firsts links t) m
+listed_in owned firsts links t m view has =
+    subst (λ (list : List ℕ). Contains list m) (list-view firsts links t) (subst (λ (o : Owned). Contains (list_of o.lists t) m) (sym view) has)
 
 -- the first of a list
 pub first-list : (firsts : List (Option ℕ)) (links : List Link) (t : ℕ) → IsSound firsts links → first_at firsts t ≡ slice_get (list_of (lists_in firsts links) t) 0
@@ -373,9 +377,9 @@ first-none (suc n) (suc t) = first-none n t
 pub none_sound : (n : ℕ) → IsSound (replicate n None) []
 none_sound n = record {
   chain = λ t. first-none n t;
-  once = λ t. tt;
-  apart = λ t u m has. absurd has;
-  below = λ t m has. absurd has;
+  once = λ t. distinct_none;
+  apart = λ t u m has. absurd (contains_none m has);
+  below = λ t m has. absurd (contains_none m has);
 }
 
 pub none_lists : (n : ℕ) → lists_in (replicate n None) [] ≡ replicate n []

@@ -1,7 +1,7 @@
 -- How the lists lie in the links. No public clause cites this module.
-use Rattle.std.specs.Prelude.{◌≡◌, ℕ, zero, suc, ◌<◌, List, [], ◌∷◌, map, length, slice_index_or, slice_set, Option, Some, None}
+use Rattle.std.specs.Prelude.{◌≡◌, ℕ, zero, suc, ◌<◌, List, [], ◌∷◌, map, length, slice_index_or, slice_set, Option, Some, None, Contains, nat_eq}
+use Rattle.std.specs.List.{IsDistinct}
 use Rattle.nt_owners.specs.declared.links.Link.{Link}
-use Rattle.nt_status.specs.Lists.{IsMember, AreOnce}
 
 -- the link of a mutex that stands alone
 abbrev pub alone : Link
@@ -64,9 +64,9 @@ IsChain next previous at (mutex ∷ list) = (next at ≡ Some mutex) × (previou
 -- each thread has this list, and no mutex stands in two, or twice in one
 pub record IsListed (firsts : List (Option ℕ)) (links : List Link) (owned : ℕ → List ℕ) : Type 0 where
   pub chain : (t : ℕ) → IsChain (next_at firsts links t) (previous_at links) None (owned t)
-  pub once : (t : ℕ) → AreOnce (owned t)
-  pub apart : (t u m : ℕ) → IsMember (owned t) m → IsMember (owned u) m → t ≡ u
-  pub below : (t m : ℕ) → IsMember (owned t) m → m < length links
+  pub once : (t : ℕ) → IsDistinct nat_eq (owned t)
+  pub apart : (t u m : ℕ) → Contains (owned t) m → Contains (owned u) m → t ≡ u
+  pub below : (t m : ℕ) → Contains (owned t) m → m < length links
 
 abbrev pub IsSound : List (Option ℕ) → List Link → Type 0
 IsSound firsts links = IsListed firsts links (list_in firsts links)

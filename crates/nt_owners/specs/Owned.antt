@@ -1,6 +1,5 @@
 -- What callers see of `Owners`.
-use Rattle.std.specs.Prelude.{ℕ, ◌==◌, List, [], ◌∷◌, if◌then◌else◌, slice_index_or, slice_set}
-use Rattle.nt_status.specs.Lists.{IsMember}
+use Rattle.std.specs.Prelude.{ℕ, ◌==◌, List, [], ◌∷◌, if◌then◌else◌, slice_index_or, slice_set, Contains}
 
 -- for each thread the mutexes that it owns, the one that came last first; each mutex below `room` may come to a list
 pub record Owned : Type 0 where
@@ -13,7 +12,7 @@ list_of lists thread = slice_index_or lists thread []
 
 -- the mutex stands in no thread's list
 abbrev pub IsUnowned : List (List ℕ) → ℕ → Type 0
-IsUnowned lists mutex = (thread : ℕ) → IsMember (list_of lists thread) mutex → ⊥
+IsUnowned lists mutex = (thread : ℕ) → Contains (list_of lists thread) mutex → ⊥
 
 -- the list without this mutex, in the same order
 abbrev pub without : ℕ → List ℕ → List ℕ

@@ -1,7 +1,6 @@
 //! The links of mutexes, and the changes of one list.
-ghost use Rattle.std.specs.Prelude.{◌≡◌, ℕ, ◌<◌, ◌≤◌, ◌∷◌, None, IfOk, length, replicate, slice_set, vec_len, vec_capacity};
+ghost use Rattle.std.specs.Prelude.{◌≡◌, ℕ, ◌<◌, ◌≤◌, ◌∷◌, None, IfOk, length, replicate, slice_set, vec_len, vec_capacity, Contains};
 ghost use Rattle.std.specs.Option.{ForSome};
-ghost use Rattle.nt_status.specs.Lists.{IsMember};
 ghost use Rattle.nt_owners.specs.Owned.{without};
 ghost use Rattle.nt_owners.specs.Links.{link_at, first_at, with_first, with_next, with_previous, list_in, lists_in, IsSound};
 
@@ -77,7 +76,7 @@ pub fn enter(firsts: &mut [OptionalMutex], links: &mut [Link], thread: ThreadId,
     requires sound { IsSound firsts.old links.old }
     requires thread { thread < length firsts.old }
     requires room { mutex < length links.old }
-    requires unowned { (t : ℕ) → IsMember (list_in firsts.old links.old t) mutex → ⊥ }
+    requires unowned { (t : ℕ) → Contains (list_in firsts.old links.old t) mutex → ⊥ }
     ensures sound { IsSound firsts.new links.new }
     ensures lists { lists_in firsts.new links.new ≡ slice_set (lists_in firsts.old links.old) thread (mutex ∷ list_in firsts.old links.old thread) }
 {
@@ -93,7 +92,7 @@ pub fn enter(firsts: &mut [OptionalMutex], links: &mut [Link], thread: ThreadId,
 /// Takes a mutex out of the thread's list.
 pub fn leave(firsts: &mut [OptionalMutex], links: &mut [Link], thread: ThreadId, mutex: Handle)
     requires sound { IsSound firsts.old links.old }
-    requires owned { IsMember (list_in firsts.old links.old thread) mutex }
+    requires owned { Contains (list_in firsts.old links.old thread) mutex }
     ensures sound { IsSound firsts.new links.new }
     ensures lists { lists_in firsts.new links.new ≡ slice_set (lists_in firsts.old links.old) thread (without mutex (list_in firsts.old links.old thread)) }
 {

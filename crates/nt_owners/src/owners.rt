@@ -1,5 +1,4 @@
-ghost use Rattle.std.specs.Prelude.{◌≡◌, ◌<◌, ◌≤◌, [], length, replicate, slice_get, slice_set, IfOk, OnOk, OnErr};
-ghost use Rattle.nt_status.specs.Lists.{IsMember};
+ghost use Rattle.std.specs.Prelude.{◌≡◌, ◌<◌, ◌≤◌, [], length, replicate, slice_get, slice_set, IfOk, OnOk, OnErr, Contains};
 ghost use Rattle.nt_owners.specs.Owned.{Owned, list_of, IsUnowned, after_first, added, removed};
 
 use crate::links::{Link, add_links, enter, first_of, leave, no_firsts};
@@ -70,7 +69,7 @@ impl Owners {
 
     /// The thread owns this mutex no more.
     pub fn remove(&mut self, thread: ThreadId, mutex: Handle)
-        requires { IsMember (list_of self.old.lists thread) mutex }
+        requires { Contains (list_of self.old.lists thread) mutex }
         ensures { self.new ≡ record self.old { lists = removed self.old.lists thread mutex } }
     {
         leave(&mut self.firsts, &mut self.links, thread, mutex);

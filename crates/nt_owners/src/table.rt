@@ -1,12 +1,12 @@
 //! The objects by handle, with the lists of those that are owned.
-ghost use Rattle.std.specs.Prelude.{◌≡◌, ◌<◌, ◌≤◌, ◌⊎◌, ◌+◌, ◌↔◌, ◌++◌, ◌∷◌, ◌^◌, ℕ, [], true, false, None, Some, length, map, replicate, slice_set, vec_len, vec_capacity, not, IsTrue, IsOk, IfOk, IfErr, IfSome, IfNone, OnOk, OnErr, is_some};
+ghost use Rattle.std.specs.Prelude.{◌≡◌, ◌<◌, ◌≤◌, ◌⊎◌, ◌+◌, ◌↔◌, ◌++◌, ◌∷◌, ◌^◌, ℕ, [], true, false, None, Some, length, map, replicate, slice_set, vec_len, vec_capacity, not, IsTrue, IsOk, IfOk, IfErr, IfSome, IfNone, OnOk, OnErr, is_some, Contains, nat_eq};
 ghost use Rattle.std.specs.Option.{ForSome, OnSome};
 ghost use Rattle.nt_objects.specs.declared.object.Object.TheVariants.{Thread};
+ghost use Rattle.std.specs.List.{IsDistinct};
 ghost use Rattle.std.specs.Result.{result_err};
 ghost use Rattle.nt_objects.specs.Object.{is_event, is_semaphore, is_mutex, count_of, owner_of, owned_by, abandoned_by};
 ghost use Rattle.nt_objects.specs.Object.{signaled, taken, has_room, TellsAbandoned};
 ghost use Rattle.nt_objects.specs.Object.{with_set, released, release_refusal, unlocked};
-ghost use Rattle.nt_status.specs.Lists.{IsMember, AreOnce};
 ghost use Rattle.nt_alarms.specs.Marks.{AddsMarks};
 ghost use Rattle.nt_owners.specs.Owned.{list_of, IsUnowned};
 ghost use Rattle.nt_owners.specs.Objects.{object_at, OwnersAgree, IsPassed};
@@ -48,8 +48,8 @@ fn add_object(objects: &mut Vec<Object>, object: Object)
 
 /// The mutex is in no list from now on.
 fn leave_list(owners: &mut Owners, mutex: Handle, from: Option<ThreadId>)
-    requires from { (t : ℕ) → IsMember (list_of owners.old.lists t) mutex ↔ (from ≡ Some t) }
-    requires once { (t : ℕ) → AreOnce (list_of owners.old.lists t) }
+    requires from { (t : ℕ) → Contains (list_of owners.old.lists t) mutex ↔ (from ≡ Some t) }
+    requires once { (t : ℕ) → IsDistinct nat_eq (list_of owners.old.lists t) }
     ensures passed { IsPassed owners.old.lists owners.new.lists mutex None }
     ensures room { owners.new.room ≡ owners.old.room }
     ensures threads { length owners.new.lists ≡ length owners.old.lists }
@@ -64,7 +64,7 @@ fn join_list(owners: &mut Owners, mutex: Handle, to: Option<ThreadId>)
     requires room { mutex < owners.old.room }
     requires unowned { IsUnowned owners.old.lists mutex }
     requires to { ForSome to (λ t. t < length owners.old.lists) }
-    requires once { (t : ℕ) → AreOnce (list_of owners.old.lists t) }
+    requires once { (t : ℕ) → IsDistinct nat_eq (list_of owners.old.lists t) }
     ensures passed { IsPassed owners.old.lists owners.new.lists mutex to }
     ensures room { owners.new.room ≡ owners.old.room }
     ensures threads { length owners.new.lists ≡ length owners.old.lists }
@@ -77,9 +77,9 @@ fn join_list(owners: &mut Owners, mutex: Handle, to: Option<ThreadId>)
 /// The mutex is in the list of its new owner from now on, and no more in that of its owner before.
 fn pass(owners: &mut Owners, mutex: Handle, from: Option<ThreadId>, to: Option<ThreadId>)
     requires room { mutex < owners.old.room }
-    requires from { (t : ℕ) → IsMember (list_of owners.old.lists t) mutex ↔ (from ≡ Some t) }
+    requires from { (t : ℕ) → Contains (list_of owners.old.lists t) mutex ↔ (from ≡ Some t) }
     requires to { ForSome to (λ t. t < length owners.old.lists) }
-    requires once { (t : ℕ) → AreOnce (list_of owners.old.lists t) }
+    requires once { (t : ℕ) → IsDistinct nat_eq (list_of owners.old.lists t) }
     ensures passed { IsPassed owners.old.lists owners.new.lists mutex to }
     ensures kept { from ≡ to → owners.new ≡ owners.old }
     ensures room { owners.new.room ≡ owners.old.room }

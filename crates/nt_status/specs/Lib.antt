@@ -1,6 +1,5 @@
 pub mod Access
 pub mod Flags
-pub mod Lists
 pub mod Moment
 pub mod Refusal
 pub mod Status

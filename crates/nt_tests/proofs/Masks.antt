@@ -1,5 +1,5 @@
 -- Handles that rise, and who stands in a queue.
-use Rattle.std.proofs.Common.{◌≡◌, ◌≢◌, ◌<◌, ◌≤◌, ◌+◌, ℕ, List, [], ◌∷◌, ◌++◌, length, get_or, Some, true, false, cond, eqb, refl, inl, inr, arith}
+use Rattle.std.proofs.Common.{◌≡◌, ◌≢◌, ◌<◌, ◌≤◌, ◌+◌, ℕ, List, [], ◌∷◌, ◌++◌, length, get_or, Some, true, false, cond, eqb, refl, inl, inr, arith, Contains}
 use Rattle.std.proofs.lemmas.Bool.{cases_eq}
 use Rattle.std.proofs.lemmas.Bool.Decides.{nat_tests}
 use Rattle.std.proofs.lemmas.List.{get_or_push, get_or_append_left, length_push}
@@ -7,8 +7,7 @@ use Rattle.std.proofs.lemmas.Map.Keys.{IsDistinct-from_apart, apart_from_distinc
 use Rattle.std.proofs.lemmas.Option.{none-some}
 use Rattle.std.specs.Prelude.{nat_eq, slice_get}
 use Rattle.std.specs.List.{IsDistinct}
-use Rattle.nt_status.specs.Lists.{IsMember}
-use Rattle.nt_status.proofs.Lists.{first_member}
+use Rattle.nt_status.proofs.Lists.{contains_later, contains_front}
 use Rattle.nt_waits.specs.Waits.{next_after}
 
 other_test : (a b : ℕ) → a ≢ b → eqb a b ≡ false
@@ -56,9 +55,9 @@ below_pushed handles number b = record {
 }
 
 -- who is next in a queue stands in it
-pub next_member : (t : ℕ) (queue : List ℕ) (u : ℕ) → next_after t queue ≡ Some u → IsMember queue u
+pub next_member : (t : ℕ) (queue : List ℕ) (u : ℕ) → next_after t queue ≡ Some u → Contains queue u
 next_member t [] u = λ e. absurd (none-some u e)
-next_member t (first ∷ queue) u = elim (eqb first t) as (λ b. cond b (slice_get queue 0) (next_after t queue) ≡ Some u → IsMember (first ∷ queue) u) [
-  | true ↦ λ e. inr (first_member queue u e)
-  | false ↦ λ e. inr (next_member t queue u e)
+next_member t (first ∷ queue) u = elim (eqb first t) as (λ b. cond b (slice_get queue 0) (next_after t queue) ≡ Some u → Contains (first ∷ queue) u) [
+  | true ↦ λ e. contains_later first queue u (contains_front queue u e)
+  | false ↦ λ e. contains_later first queue u (next_member t queue u e)
 ]

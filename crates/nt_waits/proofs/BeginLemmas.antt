@@ -1,18 +1,17 @@
 -- The table after one thread's blocks were linked.
-use Rattle.std.proofs.Common.{◌≡◌, ◌≢◌, ◌<◌, ◌≤◌, ◌⊎◌, ℕ, List, [], ◌∷◌, ◌++◌, length, get_or, set, Option, Some, None, refl, sym, ap, ◌∙◌, inl, inr, arith, length-set}
+use Rattle.std.proofs.Common.{◌≡◌, ◌≢◌, ◌<◌, ◌≤◌, ◌⊎◌, ℕ, List, [], ◌∷◌, ◌++◌, length, get_or, set, Option, Some, None, refl, sym, ap, ◌∙◌, inl, inr, arith, length-set, Contains}
 use Rattle.std.proofs.lemmas.Bool.{cases_eq}
 use Rattle.std.proofs.lemmas.List.{get_or-set_same, get_or-set_other, map-append, length-map}
 use Rattle.std.proofs.lemmas.Option.{same_Some, none-some}
 use Rattle.std.specs.Prelude.{◌^◌, IsSome, nat_eq}
-use Rattle.std.specs.List.{IsDistinct as NoneTwice}
+use Rattle.std.specs.List.{IsDistinct}
 use Rattle.nt_status.specs.declared.limits.TheConstants.{MAX_WAIT_OBJECTS}
 use Rattle.nt_waits.specs.declared.pending.Pending.{Pending}
 use Rattle.nt_waits.specs.Link.{Link, AreNumbersOnce}
 use Rattle.nt_waits.specs.Queues.{Lists, list_at}
 use Rattle.nt_waits.specs.Steps.{AreLinked}
 use Rattle.nt_waits.specs.Table.{HasLink, threads, slot_at, IsLinked, IsTable}
-use Rattle.nt_status.specs.Lists.{IsMember, AreOnce}
-use Rattle.nt_status.proofs.Lists.{once_push, few_below}
+use Rattle.nt_status.proofs.Lists.{distinct_push, few_below}
 use Rattle.nt_waits.specs.Waits.{Names}
 use Rattle.nt_waits.proofs.TableLemmas.{link_of_member, find_place, slot_within}
 
@@ -34,7 +33,7 @@ HasLink-cases (first ∷ ls) last link (inr later) = elim (HasLink-cases ls last
 -- no queue has more threads than there are places
 pub length-list : (queues : Lists) (slots : List (Option Pending)) → IsTable queues slots → (h : ℕ) → length (list_at queues h) < 2 ^ 32
 length-list queues slots table h =
-    let below : (x : ℕ) → IsMember (threads (list_at queues h)) x → x < length slots = λ x member.
+    let below : (x : ℕ) → Contains (threads (list_at queues h)) x → x < length slots = λ x member.
     let link = link_of_member (list_at queues h) x member in
     let owner = table.owned h link.0 link.1 in
     let there : IsSome (slot_at slots x) = rw (← link.2, owner.1) refl in
@@ -50,7 +49,7 @@ module _ (old new : Lists) (slots : List (Option Pending)) (thread : ℕ) (pendi
     (within : thread < length slots)
     (same_length : length pending.numbers.items ≡ length pending.wait.handles)
     (few : length pending.wait.handles ≤ MAX_WAIT_OBJECTS)
-    (apart : NoneTwice nat_eq pending.wait.handles)
+    (apart : IsDistinct nat_eq pending.wait.handles)
     (linked : AreLinked old new thread pending.wait.handles pending.numbers.items (length pending.wait.handles))
     (distinct : (h : ℕ) → AreNumbersOnce (list_at new h)) where
   -- no block is of the thread yet
@@ -107,11 +106,11 @@ module _ (old new : Lists) (slots : List (Option Pending)) (thread : ℕ) (pendi
     | inr kept ↦ owned_before h link (rw kept at has)
   ]
 
-  once_now : (h : ℕ) → AreOnce (threads (list_at new h))
+  once_now : (h : ℕ) → IsDistinct nat_eq (threads (list_at new h))
   once_now h = elim (queue_now h) [
     | inl named ↦
-        let fresh : IsMember (threads (list_at old h)) thread → ⊥ = λ member. let link = link_of_member (list_at old h) thread member in owner_differs h link.0 link.1 link.2 in
-        rw (named.3, map-append (λ (l : Link). l.thread) (list_at old h) _) (once_push (threads (list_at old h)) thread (table.once h) fresh)
+        let fresh : Contains (threads (list_at old h)) thread → ⊥ = λ member. let link = link_of_member (list_at old h) thread member in owner_differs h link.0 link.1 link.2 in
+        rw (named.3, map-append (λ (l : Link). l.thread) (list_at old h) _) (distinct_push (threads (list_at old h)) thread (table.once h) fresh)
     | inr kept ↦ rw kept (table.once h)
   ]
 
@@ -140,6 +139,6 @@ table_same old new slots slots' lists_same slots_same small table = record {
 }
 
 -- one handle is named once
-pub one_once : (handle : ℕ) → NoneTwice nat_eq (handle ∷ [])
-unfolding NoneTwice
+pub one_once : (handle : ℕ) → IsDistinct nat_eq (handle ∷ [])
+unfolding IsDistinct
 one_once handle = (tt, tt)

@@ -1,16 +1,17 @@
 -- The table after the blocks of one thread were unlinked.
-use Rattle.std.proofs.Common.{◌≡◌, ◌≢◌, ◌<◌, ◌⊎◌, ℕ, zero, suc, List, [], ◌∷◌, length, get_or, set, Option, Some, None, refl, sym, ap, ◌∙◌, inl, inr, arith, length-set}
+use Rattle.std.proofs.Common.{◌≡◌, ◌≢◌, ◌<◌, ◌⊎◌, ℕ, zero, suc, List, [], ◌∷◌, length, get_or, set, Option, Some, None, refl, sym, ap, ◌∙◌, inl, inr, arith, length-set, Contains, nat_eq}
 use Rattle.std.proofs.lemmas.Bool.{cases_lt, cases_eq, false≢true}
 use Rattle.std.proofs.lemmas.List.{get_or-set_same, get_or-set_other, get_or_past}
+use Rattle.std.proofs.lemmas.Map.Keys.{IsDistinct-tail}
 use Rattle.std.proofs.lemmas.Option.{same_Some, none-some}
 use Rattle.std.specs.Prelude.{IsSome}
+use Rattle.std.specs.List.{IsDistinct}
 use Rattle.nt_waits.specs.declared.pending.Pending.{Pending}
 use Rattle.nt_waits.specs.Link.{Link, HasNumber, AreNumbersOnce, without}
 use Rattle.nt_waits.specs.Queues.{Lists, list_at}
 use Rattle.nt_waits.specs.Steps.{IsOutside, AreUnlinked}
 use Rattle.nt_waits.specs.Table.{HasLink, threads, slot_at, IsLinked, IsTable}
-use Rattle.nt_status.specs.Lists.{IsMember, AreOnce}
-use Rattle.nt_status.proofs.Lists.{member_same}
+use Rattle.nt_status.proofs.Lists.{contains_none, contains_first, contains_later, contains_cases, contains_same, distinct_first}
 use Rattle.nt_waits.specs.Waits.{others}
 use Rattle.nt_waits.proofs.ChainLemmas.{same_test, other_test}
 use Rattle.nt_waits.proofs.OthersLemmas.{others_absent, once_others}
@@ -20,15 +21,17 @@ HasNumber-link [] link has = absurd has
 HasNumber-link (first ∷ ls) link (inl here) = inl (ap (λ l. l.number) here)
 HasNumber-link (first ∷ ls) link (inr later) = inr (HasNumber-link ls link later)
 
-pub IsMember-link : (ls : List Link) (link : Link) → HasLink ls link → IsMember (threads ls) link.thread
-IsMember-link [] link has = absurd has
-IsMember-link (first ∷ ls) link (inl here) = inl (ap (λ l. l.thread) here)
-IsMember-link (first ∷ ls) link (inr later) = inr (IsMember-link ls link later)
+pub Contains-link : (ls : List Link) (link : Link) → HasLink ls link → Contains (threads ls) link.thread
+Contains-link [] link has = absurd has
+Contains-link (first ∷ ls) link (inl here) = contains_first first.thread (threads ls) link.thread (ap (λ l. l.thread) here)
+Contains-link (first ∷ ls) link (inr later) = contains_later first.thread (threads ls) link.thread (Contains-link ls link later)
 
-pub link_of_member : (ls : List Link) (thread : ℕ) → IsMember (threads ls) thread → (link : Link) × HasLink ls link × (link.thread ≡ thread)
-link_of_member [] thread member = absurd member
-link_of_member (first ∷ ls) thread (inl here) = (first, inl refl, here)
-link_of_member (first ∷ ls) thread (inr later) = let found = link_of_member ls thread later in (found.0, inr found.1, found.2)
+pub link_of_member : (ls : List Link) (thread : ℕ) → Contains (threads ls) thread → (link : Link) × HasLink ls link × (link.thread ≡ thread)
+link_of_member [] thread member = absurd (contains_none thread member)
+link_of_member (first ∷ ls) thread member = elim (contains_cases first.thread (threads ls) thread member) [
+  | inl here ↦ (first, inl refl, here)
+  | inr later ↦ let found = link_of_member ls thread later in (found.0, inr found.1, found.2)
+]
 
 -- a link that stays is an old one, and not the one that was taken out
 pub HasLink-without : (number : ℕ) (ls : List Link) (link : Link) → AreNumbersOnce ls → HasLink (without number ls) link → HasLink ls link × (link.number ≢ number)
@@ -50,16 +53,16 @@ HasLink-stays number (first ∷ ls) link differs has = elim (cases_eq first.numb
 ]
 
 -- without its block, a thread is out of the queue, and the others keep their order
-pub threads-without : (number thread : ℕ) (ls : List Link) → HasLink ls (record { number = number; thread = thread }) → AreNumbersOnce ls → AreOnce (threads ls) → threads (without number ls) ≡ others thread (threads ls)
+pub threads-without : (number thread : ℕ) (ls : List Link) → HasLink ls (record { number = number; thread = thread }) → AreNumbersOnce ls → IsDistinct nat_eq (threads ls) → threads (without number ls) ≡ others thread (threads ls)
 threads-without number thread [] has distinct once = absurd has
 threads-without number thread (first ∷ ls) (inl here) distinct once =
     let same : first.thread ≡ thread = ap (λ l. l.thread) here in
-    rw (same_test first.number number (ap (λ l. l.number) here), same_test first.thread thread same) (sym (others_absent thread (threads ls) (λ m. once.0 (member_same (threads ls) thread first.thread (sym same) m))))
+    rw (same_test first.number number (ap (λ l. l.number) here), same_test first.thread thread same) (sym (others_absent thread (threads ls) (λ m. distinct_first first.thread (threads ls) once (contains_same (threads ls) thread first.thread (sym same) m))))
 threads-without number thread (first ∷ ls) (inr later) distinct once =
     let link : Link = record { number = number; thread = thread } in
     let apart : first.number ≢ number = λ e. distinct.0 (rw e (HasNumber-link ls link later)) in
-    let differs : first.thread ≢ thread = λ e. once.0 (member_same (threads ls) thread first.thread (sym e) (IsMember-link ls link later)) in
-    rw (other_test first.number number apart, other_test first.thread thread differs) (ap (λ q. first.thread ∷ q) (threads-without number thread ls later distinct.1 once.1))
+    let differs : first.thread ≢ thread = λ e. distinct_first first.thread (threads ls) once (contains_same (threads ls) thread first.thread (sym e) (Contains-link ls link later)) in
+    rw (other_test first.number number apart, other_test first.thread thread differs) (ap (λ q. first.thread ∷ q) (threads-without number thread ls later distinct.1 (IsDistinct-tail nat_eq first.thread (threads ls) once)))
 
 -- two links with one number, or of one thread, are one
 link_of_number : (ls : List Link) (a b : Link) → AreNumbersOnce ls → HasLink ls a → HasLink ls b → a.number ≡ b.number → a ≡ b
@@ -69,12 +72,12 @@ link_of_number (first ∷ ls) a b distinct (inl here) (inr there) same = absurd 
 link_of_number (first ∷ ls) a b distinct (inr here) (inl there) same = absurd (distinct.0 (rw (ap (λ l. l.number) there, ← same) (HasNumber-link ls a here)))
 link_of_number (first ∷ ls) a b distinct (inr here) (inr there) same = link_of_number ls a b distinct.1 here there same
 
-link_of_thread : (ls : List Link) (a b : Link) → AreOnce (threads ls) → HasLink ls a → HasLink ls b → a.thread ≡ b.thread → a ≡ b
+link_of_thread : (ls : List Link) (a b : Link) → IsDistinct nat_eq (threads ls) → HasLink ls a → HasLink ls b → a.thread ≡ b.thread → a ≡ b
 link_of_thread [] a b once has_a has_b same = absurd has_a
 link_of_thread (first ∷ ls) a b once (inl here) (inl there) same = sym here ∙ there
-link_of_thread (first ∷ ls) a b once (inl here) (inr there) same = absurd (once.0 (rw (ap (λ l. l.thread) here, same) (IsMember-link ls b there)))
-link_of_thread (first ∷ ls) a b once (inr here) (inl there) same = absurd (once.0 (rw (ap (λ l. l.thread) there, ← same) (IsMember-link ls a here)))
-link_of_thread (first ∷ ls) a b once (inr here) (inr there) same = link_of_thread ls a b once.1 here there same
+link_of_thread (first ∷ ls) a b once (inl here) (inr there) same = absurd (distinct_first first.thread (threads ls) once (rw (ap (λ l. l.thread) here, same) (Contains-link ls b there)))
+link_of_thread (first ∷ ls) a b once (inr here) (inl there) same = absurd (distinct_first first.thread (threads ls) once (rw (ap (λ l. l.thread) there, ← same) (Contains-link ls a here)))
+link_of_thread (first ∷ ls) a b once (inr here) (inr there) same = link_of_thread ls a b (IsDistinct-tail nat_eq first.thread (threads ls) once) here there same
 
 -- one of the first handles is this one, or none is
 pub find_place : (handles : List ℕ) (count handle : ℕ) → ((j : ℕ) × (j < count) × (get_or handles j 0 ≡ handle)) ⊎ IsOutside handles count handle
@@ -109,7 +112,7 @@ module _ (old new : Lists) (slots : List (Option Pending)) (thread : ℕ) (pendi
   mine = table.linked thread pending there
 
   -- the queue of each handle: one block less where the wait names it, and as it was elsewhere
-  queue_cases : (h : ℕ) → ((j : ℕ) × (j < length pending.wait.handles) × (get_or pending.wait.handles j 0 ≡ h) × (list_at new h ≡ without (get_or pending.numbers.items j 0) (list_at old h)) × HasLink (list_at old h) (record { number = get_or pending.numbers.items j 0; thread = thread })) ⊎ ((list_at new h ≡ list_at old h) × (IsMember (threads (list_at old h)) thread → ⊥))
+  queue_cases : (h : ℕ) → ((j : ℕ) × (j < length pending.wait.handles) × (get_or pending.wait.handles j 0 ≡ h) × (list_at new h ≡ without (get_or pending.numbers.items j 0) (list_at old h)) × HasLink (list_at old h) (record { number = get_or pending.numbers.items j 0; thread = thread })) ⊎ ((list_at new h ≡ list_at old h) × (Contains (threads (list_at old h)) thread → ⊥))
   queue_cases h = elim (find_place pending.wait.handles (length pending.wait.handles) h) [
     | inl found ↦ inl (found.0, found.1, found.2, rw (← found.2) (unlinked.done found.0 found.1), rw (← found.2) (mine.linked found.0 found.1))
     | inr outside ↦ inr (
@@ -160,7 +163,7 @@ module _ (old new : Lists) (slots : List (Option Pending)) (thread : ℕ) (pendi
         (rest.0, λ e. rest.1 (ap (λ l. l.number) (link_of_thread (list_at old h) link mine_there (table.once h) rest.0 named.4 e)))
     | inr kept ↦
         let was : HasLink (list_at old h) link = rw kept.0 at has in
-        (was, λ e. kept.1 (rw (← e) (IsMember-link (list_at old h) link was)))
+        (was, λ e. kept.1 (rw (← e) (Contains-link (list_at old h) link was)))
   ]
 
   pub table_ended : IsTable new (set slots thread None)

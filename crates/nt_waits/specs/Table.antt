@@ -13,7 +13,6 @@ use Rattle.std.specs.List.{IsDistinct}
 use Rattle.std.specs.Option.{option_map, ForSome}
 use Rattle.nt_alarms.specs.Alarms.{alarm_at}
 use Rattle.nt_waits.specs.Deadlines.{deadline_in}
-use Rattle.nt_status.specs.Lists.{AreOnce}
 use Rattle.nt_waits.specs.Waits.{Names}
 
 -- the link stands in the list
@@ -51,7 +50,7 @@ pub record IsTable (queues : Lists) (slots : List (Option Pending)) : Type 0 whe
   pub linked : (thread : ℕ) (pending : Pending) → slot_at slots thread ≡ Some pending → IsLinked queues thread pending
   pub owned : (handle : ℕ) (link : Link) → HasLink (list_at queues handle) link → (pending : Pending) × (slot_at slots link.thread ≡ Some pending) × Names pending.wait handle
   pub distinct : (handle : ℕ) → AreNumbersOnce (list_at queues handle)
-  pub once : (handle : ℕ) → AreOnce (threads (list_at queues handle))
+  pub once : (handle : ℕ) → IsDistinct nat_eq (threads (list_at queues handle))
   pub small : length slots ≤ 65536
 
 -- blocks and waits name each other, the waits are counted, the alarm of each thread is the deadline of its wait, and a prepared wait has its room

@@ -1,9 +1,9 @@
 -- What callers see of a `WaitTable`.
-use Rattle.std.specs.Prelude.{◌≡◌, ℕ, ◌+◌, ◌-◌, ◌*◌, ◌≤◌, ◌^◌, min, ◌<◌, Bool, ◌==◌, List, [], ◌∷◌, ◌++◌, length, if◌then◌else◌, Option, Some, None, slice_get, slice_index, slice_index_or, refl}
+use Rattle.std.specs.Prelude.{◌≡◌, ℕ, ◌+◌, ◌-◌, ◌*◌, ◌≤◌, ◌^◌, min, ◌<◌, Bool, ◌==◌, List, [], ◌∷◌, ◌++◌, length, if◌then◌else◌, Option, Some, None, slice_get, slice_index, slice_index_or, refl, Contains, nat_eq}
 use Rattle.std.specs.Ordering.{nat_cmp}
-use Rattle.nt_status.specs.Lists.{IsMember, AreOnce}
 use Rattle.std.specs.FinMap as map
 use Rattle.std.specs.Coded.{Coded, code_by, coded×, coded_ℕ, coded_bool, coded_list, coded_option}
+use Rattle.std.specs.List.{IsDistinct}
 use Rattle.nt_waits.specs.declared.wait.About.{About}
 use Rattle.nt_waits.specs.declared.wait.Wait.{Wait}
 
@@ -57,9 +57,9 @@ Names wait handle = (j : ℕ) × (j < length wait.handles) × (slice_index wait.
 
 -- a thread stands in the queue of a handle exactly where its pending wait names it, and once
 pub record Agrees (pending : map.FinMap nat_cmp Wait) (queues : List (List ℕ)) : Type 0 where
-  pub listed : (thread handle : ℕ) (wait : Wait) → map.get pending thread ≡ Some wait → Names wait handle → IsMember (slice_index_or queues handle []) thread
-  pub named : (thread handle : ℕ) → IsMember (slice_index_or queues handle []) thread → (wait : Wait) × (map.get pending thread ≡ Some wait) × Names wait handle
-  pub once : (handle : ℕ) → AreOnce (slice_index_or queues handle [])
+  pub listed : (thread handle : ℕ) (wait : Wait) → map.get pending thread ≡ Some wait → Names wait handle → Contains (slice_index_or queues handle []) thread
+  pub named : (thread handle : ℕ) → Contains (slice_index_or queues handle []) thread → (wait : Wait) × (map.get pending thread ≡ Some wait) × Names wait handle
+  pub once : (handle : ℕ) → IsDistinct nat_eq (slice_index_or queues handle [])
 
 -- the thread's wait pends from now on, last in the queue of each handle that it names, and no wait is prepared any more
 pub record Begins (old new : Waits) (thread : ℕ) (wait : Wait) : Type 0 where

@@ -1,5 +1,5 @@
 //! The pending waits of all threads.
-ghost use Rattle.std.specs.Prelude.{nat_eq, ◌≡◌, ℕ, ◌+◌, ◌<◌, ◌≤◌, ◌*◌, ◌^◌, ◌∷◌, [], false, length, slice_get, IsSome, Some, None, IfOk, OnOk, OnErr, IfErr, MatchOption};
+ghost use Rattle.std.specs.Prelude.{nat_eq, ◌≡◌, ℕ, ◌+◌, ◌<◌, ◌≤◌, ◌*◌, ◌^◌, ◌∷◌, [], false, length, slice_get, IsSome, Some, None, IfOk, OnOk, OnErr, IfErr, MatchOption, Contains};
 ghost use Rattle.std.specs.List.{IsDistinct};
 ghost use Rattle.std.specs.FinMap as map;
 ghost use Rattle.std.specs.Option.{option_copied, option_map, ForSome};
@@ -58,7 +58,6 @@ impl Model for WaitTable {
 impl WaitTable {
     ghost use Rattle.nt_waits.specs.Looking.{LeavesLooked};
     ghost use Rattle.nt_waits.specs.Deadlines.{NoDeadline, NoneEarlier, IsEarliestDeadline, NoneWithDeadline, IsFirstWithDeadline};
-    ghost use Rattle.nt_status.specs.Lists.{IsMember};
     ghost use Rattle.nt_waits.specs.Waits.{Begins, wait_of, wait_for, queue_of, about_of, only_of, others, Agrees, IsTouched, next_after};
 
     /// A table with no wait.
@@ -346,7 +345,7 @@ impl WaitTable {
     /// The thread whose wait on the handle began next after this thread's.
     #[inline(always)]
     pub fn next_on(&self, handle: Handle, t: ThreadId) -> Option<ThreadId>
-        requires { IsMember (queue_of self.now handle) t }
+        requires { Contains (queue_of self.now handle) t }
         ensures { result ≡ next_after t (queue_of self.now handle) }
     {
         // Mostly one thread waits on it, and then its place among the handles of its wait need not be found.

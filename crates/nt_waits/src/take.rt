@@ -1,11 +1,10 @@
 //! The end of a wait, over the queues and the places of the threads.
-ghost use Rattle.std.specs.Prelude.{◌≡◌, ◌∷◌, [], IsSome, Some, ◌==◌};
+ghost use Rattle.std.specs.Prelude.{◌≡◌, ◌∷◌, [], IsSome, Some, ◌==◌, Contains};
 ghost use Rattle.std.specs.Option.{option_map, option_copied, ForSome};
 ghost use Rattle.nt_waits.specs.Queues.{list_at};
 ghost use Rattle.std.specs.List.{position};
 ghost use Rattle.nt_waits.specs.Table.{threads, slot_at, IsTable};
 ghost use Rattle.nt_waits.specs.Ended.{IsEnded};
-ghost use Rattle.nt_status.specs.Lists.{IsMember};
 ghost use Rattle.nt_waits.specs.Waits.{IsTouched, next_after, only_of};
 
 use crate::pending::Pending;
@@ -95,7 +94,7 @@ fn place_of(handles: &[Handle], handle: Handle) -> Option<usize>
 /// The thread after this one in the queue of the handle.
 pub fn next_in(queues: &Queues, waits: &[Slot], handle: Handle, t: ThreadId) -> Option<ThreadId>
     requires table { IsTable queues.now waits.now }
-    requires there { IsMember (threads (list_at queues.now handle)) t }
+    requires there { Contains (threads (list_at queues.now handle)) t }
     ensures { result ≡ next_after t (threads (list_at queues.now handle)) }
 {
     let Some(pending) = pending_in(waits, t) else {

@@ -42,3 +42,7 @@ returns-clause-lists c =
     (c.set_next.ensures.firsts ∙ ap (λ (l : Link). with_first c.args.firsts.now c.args.thread l.previous l.next) link_is)
     (c.set_previous.ensures ∙ (ap (λ (ls : List Link). with_previous ls c.index-links-get.result.next c.index-links-get.result.previous) c.set_next.ensures.links ∙ ap (λ (l : Link). with_previous (with_next links l.previous l.next) l.next l.previous) link_is))
     ∙ left_lists_are c.args.firsts.now links c.args.thread c.args.mutex c.requires.sound c.requires.owned
+
+pub bounds-links-get : goal.bounds-links-get
+bounds-links-get c =
+    rw c.get.ensures (left_room c.args.firsts.now c.args.links.now c.args.thread c.args.mutex c.requires.sound c.requires.owned)

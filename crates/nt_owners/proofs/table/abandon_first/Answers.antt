@@ -8,6 +8,7 @@ use Rattle.nt_objects.specs.Object.{owner_of, abandoned_by}
 use Rattle.nt_owners.specs.Owned.{Owned}
 use Rattle.nt_owners.specs.Objects.{object_at, OwnersAgree}
 use Rattle.nt_owners.proofs.PassLemmas.{first_owner, owned_below, abandoned_is, agree_abandoned}
+use Rattle.nt_owners.proofs.KeptLemmas.{none_popped}
 use Rattle.nt_owners.proofs.table.abandon_first.Goals as goal
 
 pub bounds-objects-get : goal.bounds-objects-get
@@ -44,3 +45,8 @@ returns-clause-agree c =
     subst (λ (os : List Object). OwnersAgree os c.pop.new.self.lists) (λ i. set objects (sym c.get.ensures i) (sym is i))
     (subst (λ (owned : Owned). OwnersAgree (set objects mutex (abandoned_by c.args.thread (object_at objects mutex))) owned.lists) (sym c.pop.ensures.rest)
     (agree_abandoned objects c.args.owners.now.lists c.args.thread mutex c.requires.agree first))
+
+pub returns-in_err-mutex-clause-agree : goal.returns-in_err-mutex-clause-agree
+returns-in_err-mutex-clause-agree c =
+    subst (λ (owned : Owned). OwnersAgree c.args.objects.now owned.lists) (sym c.pop.ensures.rest)
+    (none_popped c.args.objects.now c.args.owners.now.lists c.args.thread (sym c.pop.ensures.first ∙ c.in_err-mutex.was) c.requires.agree)

@@ -1,8 +1,7 @@
-use Rattle.std.proofs.Common.{◌≡◌, ◌+◌, ◌≤◌, ◌<◌, ◌^◌, ℕ, List, [], Some, None, length, sym, subst, ap, ◌∙◌, arith, false, set}
+use Rattle.std.proofs.Common.{◌≡◌, ◌+◌, ◌≤◌, ◌<◌, ◌^◌, ℕ, List, [], Some, None, length, sym, subst, ap, ◌∙◌, arith, false, set, Contains}
 use Rattle.std.specs.FinMap as map
 use Rattle.std.specs.Vec.{vec_capacity}
 use Rattle.nt_owners.specs.Objects.{Objects}
-use Rattle.nt_status.specs.Lists.{IsMember}
 use Rattle.nt_waits.specs.Waits.{Waits, queue_of, others}
 use Rattle.nt_core.specs.Dispatcher.{Dispatcher, dispatcher_of}
 use Rattle.nt_calls.specs.Serving.{IsTried, CanTake, wait_for}
@@ -83,7 +82,7 @@ let_go-requires c o member =
     let d = dispatcher_of c.self.inside.threads c.self.inside.handles.opened c.self.inside.objects.items c.self.inside.objects.owned c.self.inside.waits c.self.inside.apcs c.self.inside.handing.items c.self.inside.moment c.self.inside.grants.items c.self.inside.alarms c.self.inside.leaving c.self.inside.changed c.self.inside.alerted in
     let sound : IsSound d = subst IsSound (sym c.self.view_is) c.requires.sound in
     let own = sound.waits c.args.thread c.in-Some.wait.now (sym c.in-Some.ensures.value) in
-    let known = (own.named o (member_named c.in-Some.wait.now o (subst (λ (hs : List ℕ). IsMember hs o) c.as_slice-handles.ensures member))).0 in
+    let known = (own.named o (member_named c.in-Some.wait.now o (subst (λ (hs : List ℕ). Contains hs o) c.as_slice-handles.ensures member))).0 in
     let count = sound.marks.count in
     omega (arith, known, count)
 

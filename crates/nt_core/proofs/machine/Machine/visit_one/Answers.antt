@@ -1,18 +1,29 @@
-use Rattle.std.proofs.Common.{◌≡◌, ◌+◌, ◌≤◌, ◌<◌, ◌^◌, ℕ, Bool, List, [], Some, None, length, sym, subst, ap, ◌∙◌, arith, false, set}
+use Rattle.std.proofs.Common.{◌≡◌, ◌+◌, ◌≤◌, ◌<◌, ◌^◌, ℕ, Bool, List, [], Some, None, length, sym, subst, ap, ◌∙◌, arith, false, set, Contains, refl}
 use Rattle.std.specs.Option.{option_map}
 use Rattle.std.specs.FinMap as map
 use Rattle.std.specs.Vec.{vec_capacity}
 use Rattle.nt_owners.specs.Objects.{Objects}
 use Rattle.std.specs.List.{IsDistinct}
 use Rattle.std.specs.Prelude.{nat_eq}
-use Rattle.nt_waits.specs.Waits.{Waits, queue_of, others, only_of}
+use Rattle.nt_status.proofs.Lists.{contains_first}
+use Rattle.nt_waits.specs.Waits.{Waits, Names, queue_of, others, only_of}
 use Rattle.nt_core.specs.Dispatcher.{Dispatcher, dispatcher_of}
 use Rattle.nt_calls.specs.Serving.{IsTried, CanTake, wait_for}
 use Rattle.nt_core.specs.Visits.{IsVisited}
 use Rattle.nt_core.specs.Lawful.{IsSound, MarksAgreeBut, LetsGoBut}
+use Rattle.nt_core.proofs.Marking.{member_named}
 use Rattle.nt_core.proofs.LettingGo.{let_go_agree}
 use Rattle.nt_core.proofs.Visiting.{only_wait, visit_granted, visit_unmarked, visit_passed, can_take, counted, room_for}
 use Rattle.nt_core.proofs.machine.Machine.visit_one.Goals as goal
+
+pub next_on-requires : goal.next_on-requires
+next_on-requires c =
+    let d = dispatcher_of c.self.inside.threads c.self.inside.handles.opened c.self.inside.objects.items c.self.inside.objects.owned c.self.inside.waits c.self.inside.apcs c.self.inside.handing.items c.self.inside.moment c.self.inside.grants.items c.self.inside.alarms c.self.inside.leaving c.self.inside.changed c.self.inside.alerted in
+    let sound : IsSound d = subst IsSound (sym c.self.view_is) c.requires.sound in
+    let w = only_wait (map.get d.table.pending c.args.thread) c.args.handle c.args.all (subst (λ (x : Dispatcher). option_map only_of (map.get x.table.pending c.args.thread) ≡ Some (Some (c.args.handle, c.args.all))) (sym c.self.view_is) c.requires.only) in
+    let named : Names w.0 c.args.handle = member_named w.0 c.args.handle (subst (λ (p : List ℕ × Bool). Contains p.0 c.args.handle) (sym w.2) (contains_first c.args.handle [] c.args.handle refl)) in
+    let there : Contains (queue_of d.table c.args.handle) c.args.thread = sound.blocks.listed c.args.thread c.args.handle w.0 (sym w.1) named in
+    subst (λ (v : Waits). Contains (queue_of v c.args.handle) c.args.thread) (sym c.count_look.ensures) there
 
 pub try_wait-requires-clause-apart : goal.try_wait-requires-clause-apart
 try_wait-requires-clause-apart c =

@@ -1,11 +1,10 @@
-use Rattle.std.proofs.Common.{◌≡◌, ◌<◌, ◌||◌, ◌==◌, ℕ, Bool, List, ◌∷◌, [], length, map, nat_lt, true, false, ap, sym, ◌∙◌, subst, arith}
+use Rattle.std.proofs.Common.{◌≡◌, ◌<◌, ◌||◌, ◌==◌, ℕ, Bool, List, ◌∷◌, [], length, map, nat_lt, true, false, ap, sym, ◌∙◌, subst, arith, Contains}
 use Rattle.std.specs.List.{list_any}
 use Rattle.std.proofs.lemmas.List.{length-map}
 use Rattle.std.proofs.lemmas.Bool.Decides.{nat_tests}
 use Rattle.nt_status.specs.declared.limits.TheConstants.{MAX_WAIT_OBJECTS}
 use Rattle.nt_status.specs.declared.refusal.Refusal.TheVariants.{AccessDenied, InvalidHandle, InvalidParameter, RecursionLimit}
 use Rattle.nt_objects.specs.Object.{is_gone}
-use Rattle.nt_status.specs.Lists.{IsMember}
 use Rattle.nt_calls.specs.State.{object_at}
 use Rattle.nt_core.specs.Dispatcher.{Dispatcher}
 use Rattle.nt_calls.specs.Naming.{object_named, lacks}
@@ -33,4 +32,4 @@ wait_for-requires-clause-living c =
     let d = c.args.self.now in
     let numbers : c.as_slice.result.now ≡ map (object_named d.handles) c.args.these.now =
     c.as_slice.ensures.value ∙ (c.name_all-denied.ensures.items ∙ ap (λ (x : Dispatcher). map (object_named x.handles) c.args.these.now) c.self.view_is) in
-    subst (λ (list : List ℕ). (h : ℕ) → IsMember list h → h < length d.objects → is_gone (object_at d.objects h) ≡ false) (sym numbers) (all_living d c.args.these.now c.requires.fresh.steady.sound)
+    subst (λ (list : List ℕ). (h : ℕ) → Contains list h → h < length d.objects → is_gone (object_at d.objects h) ≡ false) (sym numbers) (all_living d c.args.these.now c.requires.fresh.steady.sound)

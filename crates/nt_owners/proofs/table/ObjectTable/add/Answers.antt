@@ -5,6 +5,7 @@ use Rattle.nt_objects.specs.declared.object.Object.{Object}
 use Rattle.nt_objects.specs.Object.{owner_of}
 use Rattle.nt_owners.specs.Objects.{Objects, OwnersAgree, IsPassed}
 use Rattle.nt_owners.proofs.PassLemmas.{owner_known, agree_added}
+use Rattle.nt_owners.proofs.KeptLemmas.{unlisted, next_unowned}
 use Rattle.nt_owners.proofs.table.ObjectTable.add.Goals as goal
 
 pub pass-requires-clause-to : goal.pass-requires-clause-to
@@ -23,3 +24,10 @@ invariant_of-self c =
     let room = c.pass.ensures.room in
     let long : length c.add_object.new.objects.items ≡ length items + 1 = ap (λ (os : List Object). length os) c.add_object.ensures ∙ length-append items (c.args.object ∷ []) in
     (subst (λ (os : List Object). OwnersAgree os c.pass.new.owners.lists) (sym c.add_object.ensures) (agree_added items lists c.pass.new.owners.lists c.args.object c.self.invariant.0 passed), omega (arith, within, long, room))
+
+pub pass-requires-clause-from : goal.pass-requires-clause-from
+pass-requires-clause-from c =
+    let items = c.self.inside.objects.items in
+    let lists = c.self.inside.owners.lists in
+    let count : c.new-handle.result ≡ length items = search rules in
+    rw count (unlisted lists (length items) (next_unowned items lists c.self.invariant.0))

@@ -1,8 +1,10 @@
-use Rattle.std.proofs.Common.{◌≡◌, ◌<◌, ◌⊎◌, true, ℕ, ◌≤◌, set, length, sym, ◌∙◌, subst}
-use Rattle.std.proofs.lemmas.List.{length-set}
+use Rattle.std.proofs.Common.{◌↔◌, false, ap, Option, Some, Contains, ◌≡◌, ◌<◌, ◌⊎◌, true, ℕ, ◌≤◌, set, length, sym, ◌∙◌, subst}
+use Rattle.std.proofs.lemmas.List.{length-set, get_or_read}
+use Rattle.nt_objects.specs.declared.object.Object.TheVariants.{Thread}
+use Rattle.nt_owners.specs.Owned.{list_of}
 use Rattle.nt_objects.specs.Object.{owner_of, owned_by}
 use Rattle.nt_owners.specs.Objects.{Objects, object_at, OwnersAgree, IsPassed}
-use Rattle.nt_owners.proofs.PassLemmas.{heir_known, agree_put}
+use Rattle.nt_owners.proofs.PassLemmas.{heir_known, agree_put, agree_owner}
 use Rattle.nt_owners.proofs.table.ObjectTable.put.Goals as goal
 
 pub pass-requires-clause-to : goal.pass-requires-clause-to
@@ -21,3 +23,11 @@ invariant_of-self c =
     let agree : OwnersAgree (set items c.args.handle c.args.object) c.pass.new.owners.lists = agree_put items c.self.inside.owners.lists c.pass.new.owners.lists c.args.handle c.args.object known c.self.invariant.0 passed in
     let room : length items ≤ c.pass.new.owners.room = rw c.pass.ensures.room c.self.invariant.1 in
     (rw c.get-place.ensures agree, rw (length-set items c.get-place.result c.args.object) room)
+
+pub pass-requires-clause-from : goal.pass-requires-clause-from
+pass-requires-clause-from c =
+    let items = c.self.inside.objects.items in
+    let lists = c.self.inside.owners.lists in
+    let known : c.args.handle < length items = subst (λ (t : Objects). c.args.handle < length t.items) (sym c.self.view_is) c.requires.known in
+    let read : c.index.result.now ≡ object_at items c.args.handle = get_or_read items c.args.handle c.index.result.now known (rw c.get-place.ensures at c.index.ensures) (Thread false) in
+    subst (λ (owner : Option ℕ). (t : ℕ) → Contains (list_of lists t) c.args.handle ↔ (owner ≡ Some t)) (sym (c.owner-from.ensures ∙ ap owner_of read)) (agree_owner items lists c.args.handle c.self.invariant.0)

@@ -1,4 +1,4 @@
-use Rattle.std.proofs.Common.{◌≡◌, ◌<◌, ◌≤◌, false, Some, None, set, length, refl, sym, subst, rules}
+use Rattle.std.proofs.Common.{◌≡◌, ◌∙◌, ◌<◌, ◌≤◌, false, Some, None, set, length, refl, sym, subst, rules}
 use Rattle.std.specs.Prelude.{IsTrue}
 use Rattle.std.proofs.lemmas.List.{length-set, get_or_read}
 use Rattle.nt_objects.specs.declared.object.Object.{Object}
@@ -7,6 +7,7 @@ use Rattle.nt_objects.specs.Object.{owner_of, owned_by, TellsOwner}
 use Rattle.nt_owners.specs.Owned.{Owned, removed}
 use Rattle.nt_owners.specs.Objects.{Objects, object_at, OwnersAgree}
 use Rattle.nt_owners.proofs.PassLemmas.{owned_owner, agree_freed}
+use Rattle.nt_owners.proofs.KeptLemmas.{owner_kept}
 use Rattle.nt_owners.proofs.table.ObjectTable.unlock.Goals as goal
 
 pub invariant_of-self-then-eq : goal.invariant_of-self-then-eq
@@ -24,3 +25,13 @@ invariant_of-self-then-eq c =
       subst (λ (o : Owned). OwnersAgree (set items c.get.result c.release_mutex.new.self) o.lists) (sym c.remove.ensures) (rw c.get.ensures agree),
       rw (length-set items c.get.result c.release_mutex.new.self) room,
     )
+
+pub invariant_of-self-else-eq : goal.invariant_of-self-else-eq
+invariant_of-self-else-eq c =
+    let items = c.self.inside.objects.items in
+    let known : c.args.mutex < length items = subst (λ (t : Objects). c.args.mutex < length t.items) (sym c.self.view_is) c.requires.known in
+    let owns : IsTrue (owned_by c.index_mut.result.now c.args.thread) = c.in_ok-released.ensures.owner.0 refl in
+    let told : TellsOwner c.in_ok-released.released c.args.thread c.release_mutex.new.self = c.in_ok-released.ensures.answer in
+    let still : owner_of c.release_mutex.new.self ≡ Some c.args.thread = search (rules, told) in
+    owner_kept items c.self.inside.owners.lists c.args.mutex c.get.result c.self.inside.owners.room c.index_mut.result.now c.release_mutex.new.self c.get.ensures known c.index_mut.ensures.value
+    (still ∙ sym ((owned_owner c.index_mut.result.now c.args.thread).0 owns)) c.self.invariant
