@@ -76,7 +76,6 @@ pub fn semaphore_named(
 }
 
 /// The mutex that the handle names, for its release by this thread, which needs no right.
-#[inline(always)]
 pub fn mutex_named(
     handles: &HandleTable,
     objects: &ObjectTable,

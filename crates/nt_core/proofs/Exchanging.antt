@@ -1,5 +1,5 @@
 -- One object was exchanged for another that satisfies more waits, where it stands; what the serving after it is told, and tells.
-use Rattle.std.proofs.Common.{◌≡◌, ◌≢◌, ◌<◌, ◌≤◌, ◌^◌, ℕ, Bool, true, false, [], ◌∷◌, length, set, refl, sym, ap, ◌∙◌, subst}
+use Rattle.std.proofs.Common.{◌≡◌, ◌≢◌, ◌<◌, ◌≤◌, ◌^◌, ℕ, Bool, true, false, [], ◌∷◌, length, set, refl, sym, ap, ◌∙◌, subst, List}
 use Rattle.std.proofs.Common.{arith}
 use Rattle.std.specs.Prelude.{not, ℤ, pos, ◌<ℤ◌}
 use Rattle.std.proofs.lemmas.Int.{ints}
@@ -26,6 +26,18 @@ IsExchanged old h o mid = mid ≡ record old { objects = set old.objects h o; ow
 pub exchanged_alone : (old mid : Dispatcher) (h : ℕ) (o : Object) → mid ≡ record old { objects = set old.objects h o } → IsExchanged old h o mid
 exchanged_alone old mid h o is = is ∙ (λ i. record old { objects = set old.objects h o; owned = ap (λ (x : Dispatcher). x.owned) (sym is) i })
 
+-- the object was changed in the list that the dispatcher keeps
+pub exchanged_in : (v old : Dispatcher) (h : ℕ) (change : Object → Object) (items : List Object) (owned : List (List ℕ)) → v ≡ old → items ≡ set v.objects h (change (object_at v.objects h)) → IsExchanged old h (change (object_at old.objects h)) (record v { objects = items; owned = owned })
+exchanged_in v old h change items owned same is =
+    ap (λ (os : List Object). record v { objects = os; owned = owned }) is
+    ∙ ap (λ (x : Dispatcher). record x { objects = set x.objects h (change (object_at x.objects h)); owned = owned }) same
+
+-- and the lists of the owners are as they were
+pub exchanged_whole : (v old : Dispatcher) (h : ℕ) (change : Object → Object) (items : List Object) (owned : List (List ℕ)) → v ≡ old → items ≡ set v.objects h (change (object_at v.objects h)) → owned ≡ v.owned → record v { objects = items; owned = owned } ≡ record old { objects = set old.objects h (change (object_at old.objects h)) }
+exchanged_whole v old h change items owned same is lists =
+    (λ i. record v { objects = is i; owned = lists i })
+    ∙ ap (λ (x : Dispatcher). record x { objects = set x.objects h (change (object_at x.objects h)) }) same
+
 pub exchanged_sound : (old mid : Dispatcher) (h : ℕ) (o : Object) → IsFresh old → MayReplace (object_at old.objects h) o → IsExchanged old h o mid → IsSound mid
 exchanged_sound old mid h o fresh may is = subst IsSound (sym is) (sound_replaced old h o mid.owned fresh.steady.sound may)
 
@@ -34,9 +46,6 @@ exchanged_fit old mid h o fresh is = subst (λ (x : Dispatcher). FitOnlyIn (sequ
 
 pub exchanged_needed : (old mid : Dispatcher) (h : ℕ) (o : Object) → IsFresh old → MayReplace (object_at old.objects h) o → IsExchanged old h o mid → FitOnlyBy h (state mid)
 exchanged_needed old mid h o fresh may is = subst (λ (x : Dispatcher). FitOnlyBy h (state x)) (sym is) (by_replaced (state old) h o fresh.steady.settled.served may.owner)
-
-pub exchanged_few : (old mid : Dispatcher) (h : ℕ) (o : Object) → IsFresh old → IsExchanged old h o mid → length (sequence (state mid) (h ∷ [])) < 2 ^ 64
-exchanged_few old mid h o fresh is = subst (λ (x : Dispatcher). length (sequence (state x) (h ∷ [])) < 2 ^ 64) (sym is) (one_few old h fresh.steady.sound)
 
 pub exchanged_served : (old mid new : Dispatcher) (h : ℕ) (o : Object) → IsFresh old → h < length old.objects → o ≢ object_at old.objects h → IsExchanged old h o mid → Serve (sequence (state mid) (h ∷ [])) (state mid) new.grants (state new) → IsSound new → new.table.looked ≤ length (sequence (state mid) (h ∷ [])) → length new.grants ≤ new.table.looked → new.marked ≡ mid.marked → IsServedAfter old (at (state old) h (λ _. o)) new
 exchanged_served old mid new h o fresh known differs is serve sound most least marked =

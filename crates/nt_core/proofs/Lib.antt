@@ -8,6 +8,7 @@ pub mod Changing
 pub mod Accepting
 mod Replacing
 mod Running
+mod Queueing
 pub mod Beginning
 pub mod Handling
 pub mod Remaining

@@ -1,7 +1,7 @@
 //! Calls on events.
-ghost use Rattle.std.specs.Prelude.{◌≡◌, ◌<◌, ℕ, length, true, false, not, IsTrue};
-ghost use Rattle.nt_objects.specs.Object.{is_event, signaled, with_set};
-ghost use Rattle.nt_calls.specs.State.{object_at, with_object};
+ghost use Rattle.std.specs.Prelude.{◌≡◌, ◌<◌, true, not, IsTrue};
+ghost use Rattle.nt_objects.specs.Object.{is_event, with_set};
+ghost use Rattle.nt_calls.specs.State.{object_at};
 ghost use Rattle.nt_calls.specs.Change.{at};
 ghost use Rattle.nt_core.specs.Dispatcher.{state};
 ghost use Rattle.nt_core.specs.Accepts.{IsFresh, IsServedAfter, IsActOfAny};
@@ -24,25 +24,6 @@ impl Machine {
         self.create(Object::new_event(flags))
     }
 
-    /// The event is set from now on; answers whether it was not before.
-    fn set(&mut self, event: Handle) -> bool
-        requires known { event < length self.old.objects }
-        requires kind { IsTrue (is_event (object_at self.old.objects event)) }
-        ensures becomes { self.new ≡ record self.old { objects = with_object self.old.objects event (with_set true) } }
-        ensures answer { (t : ℕ) → result ≡ not (signaled (object_at self.old.objects event) t) }
-    {
-        self.objects.set(event)
-    }
-
-    /// The event is not set from now on.
-    fn unset(&mut self, event: Handle)
-        requires known { event < length self.old.objects }
-        requires kind { IsTrue (is_event (object_at self.old.objects event)) }
-        ensures { self.new ≡ record self.old { objects = with_object self.old.objects event (with_set false) } }
-    {
-        self.objects.reset(event);
-    }
-
     /// The event is set from now on. Where it was not, the waits that name it are served.
     pub(crate) fn raise_event(&mut self, event: Handle)
         requires fresh { IsFresh self.old }
@@ -50,7 +31,7 @@ impl Machine {
         ensures served { IsServedAfter self.old (at (state self.old) event (with_set true)) self.new }
         ensures prepared { self.new.table.prepared ≡ self.old.table.prepared }
     {
-        if self.set(event) {
+        if self.objects.set(event) {
             self.serve_one(event);
         }
     }
@@ -71,7 +52,7 @@ impl Machine {
         ensures { IsActOfAny self.old self.new (Act.ResetEvent event) result }
     {
         let event = event_named(&self.handles, &self.objects, event)?;
-        self.unset(event);
+        self.objects.reset(event);
         Ok(Reply::Done)
     }
 
@@ -82,7 +63,7 @@ impl Machine {
     {
         let event = event_named(&self.handles, &self.objects, event)?;
         self.raise_event(event);
-        self.unset(event);
+        self.objects.reset(event);
         Ok(Reply::Done)
     }
 }

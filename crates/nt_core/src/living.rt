@@ -1,7 +1,5 @@
 //! When an object lives, and the end of those that nothing keeps any more.
-ghost use Rattle.std.specs.Prelude.{◌≡◌, ◌≢◌, ◌<◌, [], ℕ, None, Some, true, false, length, slice_set, IsSome, if◌then◌else◌};
-ghost use Rattle.std.specs.Option.{ForSome};
-ghost use Rattle.nt_objects.specs.Handles.{opened_at};
+ghost use Rattle.std.specs.Prelude.{◌≡◌, ◌≢◌, ◌<◌, [], ℕ, None, Some, true, false, length, slice_set, if◌then◌else◌};
 ghost use Rattle.std.specs.List.{Contains};
 ghost use Rattle.nt_apc.specs.Queues.{withdrawn, place_of};
 ghost use Rattle.nt_core.specs.Dispatcher.{state};
@@ -67,18 +65,9 @@ impl Machine {
         if let Some(refusal) = close_refusal(&self.handles, handle) {
             return Err(refusal);
         }
-        let object = self.close_handle(handle);
+        let object = self.handles.close(handle);
         self.mark(object);
         Ok(Reply::Done)
-    }
-
-    /// The handle names nothing any more. Answers the object that it named.
-    fn close_handle(&mut self, handle: Handle) -> Handle
-        requires { IsSome (opened_at self.old.handles handle) }
-        ensures object { ForSome (opened_at self.old.handles handle) (λ opened. result ≡ opened.object) }
-        ensures closed { self.new ≡ record self.old { handles = slice_set self.old.handles handle None } }
-    {
-        self.handles.close(handle)
     }
 
     /// Withdraws the object's queued APC, if it is a timer that has one, and gives up its place.
@@ -108,14 +97,6 @@ impl Machine {
         self.objects.put(object, Object::Gone);
     }
 
-    /// Takes the mark of the object away.
-    fn unmark(&mut self, object: Handle)
-        requires { object < length self.old.leaving }
-        ensures { self.new ≡ record self.old { leaving = slice_set self.old.leaving object None } }
-    {
-        self.leaving.clear(object.get() as usize);
-    }
-
     /// An object that has a mark is gone where nothing keeps it any more, and has no mark then.
     #[inline(never)]
     fn end_marked(&mut self, object: Handle)
@@ -130,7 +111,7 @@ impl Machine {
         if self.is_forgotten(object) {
             self.end_object(object);
         }
-        self.unmark(object);
+        self.leaving.clear(object.get() as usize);
     }
 
     /// Ends each object that nothing keeps any more, and looks at none that has no mark.

@@ -1,7 +1,7 @@
 //! Calls on mutexes.
-ghost use Rattle.std.specs.Prelude.{◌≡◌, ◌<◌, length, IsTrue};
+ghost use Rattle.std.specs.Prelude.{◌≡◌, ◌<◌, IsTrue};
 ghost use Rattle.nt_objects.specs.Object.{owned_by, unlocked};
-ghost use Rattle.nt_calls.specs.State.{object_at, with_object};
+ghost use Rattle.nt_calls.specs.State.{object_at};
 ghost use Rattle.nt_calls.specs.Change.{at};
 ghost use Rattle.nt_core.specs.Dispatcher.{state};
 ghost use Rattle.nt_core.specs.Accepts.{IsFresh, IsFree, IsServedAfter, IsActMade};
@@ -25,18 +25,6 @@ impl Machine {
         self.create(Object::new_mutex(flags, thread))
     }
 
-    /// The mutex is held one level less deep from now on, and free after the last.
-    fn unlock(&mut self, thread: ThreadId, mutex: Handle)
-        requires known { mutex < length self.old.objects }
-        requires owner { IsTrue (owned_by (object_at self.old.objects mutex) thread) }
-        ensures { self.new ≡ record self.old
-            { objects = with_object self.old.objects mutex unlocked; owned = self.new.owned } }
-    {
-        let Ok(_released) = self.objects.unlock(mutex, thread) else {
-            unreachable!()
-        };
-    }
-
     /// The mutex is held one level less deep, and where that was the last the waits that name it are served.
     #[inline(always)]
     pub(crate) fn give_back(&mut self, thread: ThreadId, mutex: Handle)
@@ -45,7 +33,9 @@ impl Machine {
         ensures served { IsServedAfter self.old (at (state self.old) mutex unlocked) self.new }
         ensures prepared { self.new.table.prepared ≡ self.old.table.prepared }
     {
-        self.unlock(thread, mutex);
+        let Ok(_released) = self.objects.unlock(mutex, thread) else {
+            unreachable!()
+        };
         self.serve_one(mutex);
     }
 

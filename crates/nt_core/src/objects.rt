@@ -1,5 +1,5 @@
 //! The list of objects, and the creation of more.
-ghost use Rattle.std.specs.Prelude.{◌≡◌, ◌<◌, ℕ, ◌∷◌, ◌++◌, [], true, false, Some, IfOk, IfErr, OnOk, OnErr, MatchBool, length, slice_set};
+ghost use Rattle.std.specs.Prelude.{slice_set, ◌≡◌, ◌<◌, ℕ, true, false, Some, IfOk, IfErr, OnOk, OnErr, MatchBool, length};
 ghost use Rattle.nt_status.specs.declared.refusal.Refusal.TheVariants.{HandleLimit, Memory};
 ghost use Rattle.nt_objects.specs.Object.{owner_of, owned_by};
 ghost use Rattle.nt_calls.specs.State.{object_at};
@@ -14,7 +14,6 @@ use crate::machine::Machine;
 use nt_calls::{Reply, object_to_share};
 use nt_objects::{Object, Opened};
 use nt_status::{Access, Handle, MAX_HANDLES, Refusal};
-use std::alloc::AllocError;
 
 impl Machine {
     /// Adds an object with a handle that has all rights of its kind, and answers the handle, unless no handle number is left or
@@ -32,19 +31,6 @@ impl Machine {
         if self.handles.len() >= MAX_HANDLES {
             return Err(Refusal::HandleLimit);
         }
-        Ok(Reply::Handle(self.add(object)?))
-    }
-
-    /// Adds an object with a handle that has all rights of its kind, and answers the handle. Where memory is refused nothing
-    /// changes.
-    fn add(&mut self, object: Object) -> Result<Handle, AllocError>
-        requires agree { HandlesAgree (length self.old.objects) self.old.handles }
-        requires few { is_full self.old.handles ≡ false }
-        requires owner { (t : ℕ) → owned_by object t ≡ true → t < self.old.threads }
-        ensures handle { IfOk result (λ handle. handle ≡ length self.old.handles) }
-        ensures ok { OnOk result (self.new ≡ with_created self.old object self.new.owned) }
-        ensures err { OnErr result (self.new ≡ self.old) }
-    {
         let count = self.objects.as_slice().len();
         let access = object.full_access();
         self.objects.make_room()?;
@@ -52,7 +38,7 @@ impl Machine {
         self.alarms.add_with(&mut self.leaving, &mut self.changed)?;
         self.objects.add(object);
         let object = Handle::new(count as u32);
-        Ok(self.handles.add(Opened { object, access }))
+        Ok(Reply::Handle(self.handles.add(Opened { object, access })))
     }
 
     /// DuplicateHandle: one handle more for this object, with these rights. Where memory is refused nothing changes.
@@ -64,21 +50,8 @@ impl Machine {
         let Some(access) = Access::from_bits(access) else {
             unreachable!()
         };
-        Ok(Reply::Handle(self.open(object, access)?))
-    }
-
-    /// One handle more for this object.
-    fn open(&mut self, object: Handle, access: Access) -> Result<Handle, AllocError>
-        requires agree { HandlesAgree (length self.old.objects) self.old.handles }
-        requires few { is_full self.old.handles ≡ false }
-        requires known { object < length self.old.objects }
-        ensures handle { IfOk result (λ handle. handle ≡ length self.old.handles) }
-        ensures ok { OnOk result (self.new ≡
-            record self.old { handles = self.old.handles ++ Some (record { object = object; access = access }) ∷ [] }) }
-        ensures err { OnErr result (self.new ≡ self.old) }
-    {
         self.handles.make_room()?;
-        Ok(self.handles.add(Opened { object, access }))
+        Ok(Reply::Handle(self.handles.add(Opened { object, access })))
     }
 
     /// The object at this handle.

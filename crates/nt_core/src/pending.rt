@@ -69,7 +69,8 @@ impl Machine {
     {
         match handles {
             [handle] => self.pend_one(thread, *handle, mode.all, mode.ms, mode.alertable),
-            _ => self.pend_any(thread, handles, mode),
+            // A copy: a value that a function takes whole is packed into one word, and its parts are taken out of that at each use.
+            _ => self.pend_any(thread, handles, Mode { ..mode }),
         }
     }
 }

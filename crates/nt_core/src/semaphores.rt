@@ -1,7 +1,7 @@
 //! Calls on semaphores.
-ghost use Rattle.std.specs.Prelude.{◌≡◌, ◌<◌, length, pos, ◌<ℤ◌, false, IsTrue};
+ghost use Rattle.std.specs.Prelude.{◌≡◌, ◌<◌, pos, ◌<ℤ◌, false, IsTrue};
 ghost use Rattle.nt_objects.specs.Object.{is_semaphore, count_of, overflows, released};
-ghost use Rattle.nt_calls.specs.State.{object_at, with_object};
+ghost use Rattle.nt_calls.specs.State.{object_at};
 ghost use Rattle.nt_calls.specs.Change.{at};
 ghost use Rattle.nt_core.specs.Dispatcher.{state};
 ghost use Rattle.nt_core.specs.Accepts.{IsFresh, IsServedAfter, IsActOfAny};
@@ -24,22 +24,6 @@ impl Machine {
         self.create(semaphore)
     }
 
-    /// The semaphore counts so many more from now on; answers its count before.
-    fn count(&mut self, semaphore: Handle, count: i32) -> i32
-        requires known { semaphore < length self.old.objects }
-        requires kind { IsTrue (is_semaphore (object_at self.old.objects semaphore)) }
-        requires positive { pos 0 <ℤ count }
-        requires within { overflows count (object_at self.old.objects semaphore) ≡ false }
-        ensures becomes { self.new ≡ record self.old
-            { objects = with_object self.old.objects semaphore (released count) } }
-        ensures previous { result ≡ count_of (object_at self.old.objects semaphore) }
-    {
-        let Ok(previous) = self.objects.release(semaphore, count) else {
-            unreachable!()
-        };
-        previous
-    }
-
     /// The semaphore counts so many more, and the waits that name it are served. Answers the count before.
     #[inline(always)]
     pub(crate) fn raise_count(&mut self, semaphore: Handle, count: i32) -> i32
@@ -51,7 +35,9 @@ impl Machine {
         ensures prepared { self.new.table.prepared ≡ self.old.table.prepared }
         ensures previous { result ≡ count_of (object_at self.old.objects semaphore) }
     {
-        let previous = self.count(semaphore, count);
+        let Ok(previous) = self.objects.release(semaphore, count) else {
+            unreachable!()
+        };
         self.serve_one(semaphore);
         previous
     }

@@ -69,13 +69,6 @@ impl Machine {
         self.waits.prepare(thread, object, about)
     }
 
-    /// The prepared wait did not pend.
-    fn forget_prepared(&mut self)
-        ensures { self.new ≡ with_prepared self.old None }
-    {
-        self.waits.forget_prepared();
-    }
-
     /// The prepared wait pends from now on.
     fn pend_prepared(&mut self)
         requires there { IsSome self.old.table.prepared }
@@ -114,7 +107,7 @@ impl Machine {
         self.prepare(thread, object, mode)?;
         self.signal(thread, signal);
         if let Some(status) = self.end_at_once(thread, &[object], Mode { all: false, ..mode }) {
-            self.forget_prepared();
+            self.waits.forget_prepared();
             return Ok(Reply::Status(status));
         }
         self.pend_prepared();

@@ -183,21 +183,30 @@ impl Machine {
             let (object, denied) = opened(&self.handles, *handle, SYNCHRONIZE);
             return replied(self.wait_for(thread, denied, &[object], mode));
         }
-        replied(self.wait_for_several(thread, these, mode))
+        replied(self.wait_for_several(thread, these, mode.all, mode.ms, mode.alertable))
     }
 
-    /// The same for any number of handles. It stands apart, since the list of their objects lies in its own frame.
+    /// The same for any number of handles. It stands apart, since the list of their objects lies in its own frame, and the parts of the mode
+    /// come one by one, as to `pend_one`.
     #[inline(never)]
-    fn wait_for_several(&mut self, thread: ThreadId, these: &[Handle], mode: Mode) -> Begun
+    fn wait_for_several(
+        &mut self,
+        thread: ThreadId,
+        these: &[Handle],
+        all: bool,
+        ms: u32,
+        alertable: bool,
+    ) -> Begun
         requires fresh { IsFresh self.old }
         requires caller { IsFree (state self.old) thread }
-        ensures { IsWaitMade self.old self.new thread (objects_call mode these.now) (replied result) }
+        ensures { IsWaitMade self.old self.new thread (WaitCall.Objects all alertable ms these.now) (replied result) }
     {
         if these.len() > MAX_WAIT_OBJECTS {
             return Err(Refusal::InvalidParameter);
         }
         let mut numbers = NamedObjects::new();
         let denied = name_all(&self.handles, these, &mut numbers);
+        let mode = Mode { all, alertable, ms };
         self.wait_for(thread, denied, numbers.as_slice(), mode)
     }
 

@@ -15,6 +15,8 @@ use Rattle.nt_core.specs.Lawful.{IsSoundWait, IsSteady}
 use Rattle.nt_core.specs.Accepts.{IsFresh, Accepts, CanBegin}
 use Rattle.nt_core.proofs.Beginning.{began_pending, begun_pends}
 use Rattle.nt_core.proofs.Swapping.{fresh_prepared, steady_prepared, calm_steady, calm_idle, calm_now, calm_able, calm_room, swap_accepted, accepts_prepared}
+use Rattle.nt_core.specs.contracts.machine.Machine.{the_view}
+use Rattle.nt_waits.specs.Waits.{Waits}
 use Rattle.nt_core.proofs.machine.Machine.swap.Goals as goal
 use Rattle.nt_core.proofs.machine.Machine.swap.Goals.{In_ok-prepare, In_default}
 
@@ -59,7 +61,7 @@ returns-in-Some-clause-ok c =
     let accepted = swap_accepted mid calm c.args.thread c.args.signal c.args.object c.args.mode.ms c.args.mode.alertable (fresh here) (free here) (living here) c.signal.ensures.served new (Reply.Status c.in-Some.status)
     c.end_at_once.ensures.grants (ap (λ v. v.looked) c.end_at_once.ensures.table) (steady_prepared ended None c.end_at_once.ensures.steady) c.in-Some.ensures.begun in
     let from_old : Accepts old new c.args.thread call (Reply.Status c.in-Some.status) = accepts_prepared old new mid.table.prepared c.args.thread call (Reply.Status c.in-Some.status) (subst (λ (d : Dispatcher). Accepts d new c.args.thread call (Reply.Status c.in-Some.status)) c.prepare.ensures.kept accepted) in
-    subst (λ (d : Dispatcher). Accepts old d c.args.thread call (Reply.Status c.in-Some.status)) (sym c.forget_prepared.ensures) from_old
+    subst (λ (d : Dispatcher). Accepts old d c.args.thread call (Reply.Status c.in-Some.status)) (sym (ap (λ (w : Waits). record (the_view c.self.inside) { table = w }) c.forget_prepared.ensures ∙ ap (λ (d : Dispatcher). with_prepared d None) c.self.view_is)) from_old
 
 -- which wait is prepared still
 prepared : (c : In_default) → c.end_at_once.new.self.table.prepared ≡ Some (c.args.thread, record { handles = c.args.object ∷ []; all = false; alertable = c.args.mode.alertable; deadline = deadline_after c.args.self.now.now c.args.mode.ms })
