@@ -167,6 +167,12 @@ none_set mid stopped t stops h sets =
     let objects = stopped_objects mid.objects stopped.objects t stops.stopped in
     unset_all t (object_at mid.objects h) (sym (ap setter_of (ap (λ (os : List Object). object_at os h) objects ∙ mapped_at (unset_by t) refl mid.objects h)) ∙ sets)
 
+-- the mutexes of the thread were freed and marked in the lists that the dispatcher keeps
+pub freed_in : (v old : Dispatcher) (t : ℕ) (items : List Object) (owned : List (List ℕ)) (changed : List (Option ℕ)) → v ≡ old → items ≡ map (abandoned_by t) v.objects → record v { objects = items; owned = owned; marked = record v.marked { changed = changed } } ≡ record old { objects = map (abandoned_by t) old.objects; owned = owned; marked = record old.marked { changed = changed } }
+freed_in v old t items owned changed same is =
+    ap (λ (os : List Object). record v { objects = os; owned = owned; marked = record v.marked { changed = changed } }) is
+    ∙ ap (λ (x : Dispatcher). record x { objects = map (abandoned_by t) x.objects; owned = owned; marked = record x.marked { changed = changed } }) same
+
 pub freed_sound : (old mid : Dispatcher) (t : ℕ) → IsSound old → length mid.marked.changed ≡ length old.marked.changed → IsFreed old t mid → IsSound mid
 freed_sound old mid t sound count frees =
     subst IsSound (sym frees)

@@ -10,10 +10,10 @@ ghost use Rattle.nt_calls.specs.Serving.{ending};
 ghost use Rattle.nt_core.specs.Lawful.{IsSound};
 ghost use Rattle.nt_core.specs.Accepts.{IsFresh, IsRoused, Accepts, IsActOfAny, IsRunning};
 
-use crate::machine::Machine;
+use crate::machine::{Answer, Machine};
 use nt_apc::Apc;
 use nt_calls::{Grant, Reply, running_thread};
-use nt_status::{Handle, OptionalMoment, Refusal, Status, ThreadId};
+use nt_status::{Handle, OptionalMoment, Status, ThreadId};
 
 impl Machine {
     /// Where this thread's wait pends, is alertable and an APC is queued for it, ends the wait.
@@ -48,12 +48,7 @@ impl Machine {
     }
 
     /// QueueUserAPC: the APC stands last in the thread's queue, and an alertable wait of it ends.
-    pub(crate) fn queue_apc(
-        &mut self,
-        target: Handle,
-        routine: u64,
-        arg: u64,
-    ) -> Result<Reply, Refusal>
+    pub(crate) fn queue_apc(&mut self, target: Handle, routine: u64, arg: u64) -> Answer
         requires fresh { IsFresh self.old }
         ensures { IsActOfAny self.old self.new (Act.QueueApc target routine arg) result }
     {

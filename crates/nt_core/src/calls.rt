@@ -10,7 +10,7 @@ ghost use Rattle.nt_core.specs.Lawful.{IsSteady};
 ghost use Rattle.nt_calls.specs.Living.{LivesWhileKept};
 ghost use Rattle.nt_core.specs.Accepts.{IsFresh, IsFree, IsLocal, IsActMade};
 
-use crate::machine::Machine;
+use crate::machine::{Answer, Machine};
 use nt_calls::{Act, Call, Reply};
 use nt_status::{Refusal, ThreadId};
 
@@ -38,7 +38,7 @@ impl Machine {
 
     /// An act, made or refused by its own causes.
     #[inline(always)]
-    fn act(&mut self, thread: ThreadId, act: &Act) -> Result<Reply, Refusal>
+    fn act(&mut self, thread: ThreadId, act: &Act) -> Answer
         requires fresh { IsFresh self.old }
         requires free { IsFree (state self.old) thread }
         ensures { IsActMade self.old self.new thread act.now result }
@@ -75,7 +75,7 @@ impl Machine {
 
     /// Makes the call of this thread, or refuses it, and ends no object.
     #[inline(always)]
-    fn make(&mut self, who: u32, call: &Call) -> Result<Reply, Refusal>
+    fn make(&mut self, who: u32, call: &Call) -> Answer
         requires steady { IsSteady self.old }
         ensures made { Made (state self.old) who (is_denied (state self.old) call.now)
             (call_named self.old.handles call.now) result self.new.grants (state self.new) }
@@ -101,7 +101,7 @@ impl Machine {
 
     /// Makes the call of this thread, or refuses it, and ends the objects that nothing keeps any more.
     #[inline(always)]
-    pub fn call(&mut self, who: u32, call: &Call) -> Result<Reply, Refusal>
+    pub fn call(&mut self, who: u32, call: &Call) -> Answer
         requires steady { IsSteady self.old }
         requires living { LivesWhileKept (state self.old) }
         ensures called { Called (state self.old) who call.now result self.new.grants (state self.new) }

@@ -1,5 +1,5 @@
 //! Calls on events.
-ghost use Rattle.std.specs.Prelude.{◌≡◌, ◌<◌, true, not, IsTrue};
+ghost use Rattle.std.specs.Prelude.{◌≡◌, true, not, IsTrue};
 ghost use Rattle.nt_objects.specs.Object.{is_event, with_set};
 ghost use Rattle.nt_calls.specs.State.{object_at};
 ghost use Rattle.nt_calls.specs.Change.{at};
@@ -7,14 +7,14 @@ ghost use Rattle.nt_core.specs.Dispatcher.{state};
 ghost use Rattle.nt_core.specs.Accepts.{IsFresh, IsServedAfter, IsActOfAny};
 ghost use Rattle.nt_calls.specs.declared.call.Act.{Act};
 
-use crate::machine::Machine;
+use crate::machine::{Answer, Machine};
 use nt_calls::{Reply, event_named};
 use nt_objects::Object;
 use nt_status::{EventFlags, Handle, Refusal};
 
 impl Machine {
     /// CreateEvent.
-    pub(crate) fn create_event(&mut self, flags: u32) -> Result<Reply, Refusal>
+    pub(crate) fn create_event(&mut self, flags: u32) -> Answer
         requires fresh { IsFresh self.old }
         ensures { IsActOfAny self.old self.new (Act.CreateEvent flags) result }
     {
@@ -37,7 +37,7 @@ impl Machine {
     }
 
     /// SetEvent.
-    pub(crate) fn set_event(&mut self, event: Handle) -> Result<Reply, Refusal>
+    pub(crate) fn set_event(&mut self, event: Handle) -> Answer
         requires fresh { IsFresh self.old }
         ensures { IsActOfAny self.old self.new (Act.SetEvent event) result }
     {
@@ -47,7 +47,7 @@ impl Machine {
     }
 
     /// ResetEvent: no wait is granted.
-    pub(crate) fn reset_event(&mut self, event: Handle) -> Result<Reply, Refusal>
+    pub(crate) fn reset_event(&mut self, event: Handle) -> Answer
         requires fresh { IsFresh self.old }
         ensures { IsActOfAny self.old self.new (Act.ResetEvent event) result }
     {
@@ -57,7 +57,7 @@ impl Machine {
     }
 
     /// PulseEvent: sets the event, grants what fits then, and leaves it not set.
-    pub(crate) fn pulse_event(&mut self, event: Handle) -> Result<Reply, Refusal>
+    pub(crate) fn pulse_event(&mut self, event: Handle) -> Answer
         requires fresh { IsFresh self.old }
         ensures { IsActOfAny self.old self.new (Act.PulseEvent event) result }
     {

@@ -1,7 +1,7 @@
 //! A thread ends.
-ghost use Rattle.std.specs.Prelude.{◌≡◌, ◌≢◌, ◌<◌, ℕ, None, Some, true, length, map, slice_set};
+ghost use Rattle.std.specs.Prelude.{◌≡◌, ◌≢◌, ◌<◌, ℕ, None, Some, true, length, slice_set};
 ghost use Rattle.nt_objects.specs.declared.object.Object.TheVariants.{Thread};
-ghost use Rattle.nt_objects.specs.Object.{is_timer, owned_by, setter_of, abandoned_by, armed_with};
+ghost use Rattle.nt_objects.specs.Object.{is_timer, setter_of, armed_with};
 ghost use Rattle.nt_alarms.specs.Marks.{AddsMarks};
 ghost use Rattle.nt_apc.specs.Queues.{cleared};
 ghost use Rattle.nt_calls.specs.State.{object_at};
@@ -61,20 +61,6 @@ fn stop_each(
 }
 
 impl Machine {
-    /// Frees each mutex that the thread owns, as abandoned, and marks it: the waits on it are to be served.
-    fn abandon_all(&mut self, thread: ThreadId)
-        requires { IsSound self.old }
-        ensures abandoned { self.new ≡ record self.old {
-          objects = map (abandoned_by thread) self.old.objects;
-          owned = self.new.owned;
-          marked = record self.old.marked { changed = self.new.marked.changed };
-        } }
-        ensures marked { AddsMarks (λ m. owned_by (object_at self.old.objects m) thread ≡ true)
-            self.old.marked.changed self.new.marked.changed }
-    {
-        self.objects.abandon_all(thread, &mut self.changed);
-    }
-
     /// Stops each timer that the thread armed with a routine, and marks it: the waits on it are to be served.
     fn stop_all(&mut self, thread: ThreadId)
         requires sound { IsSound self.old }
@@ -122,7 +108,7 @@ impl Machine {
         ensures left { IsExitedAfter self.old thread self.new }
         ensures sound { IsSound self.new }
     {
-        self.abandon_all(thread);
+        self.objects.abandon_all(thread, &mut self.changed);
         self.stop_all(thread);
         self.end_own(thread);
     }

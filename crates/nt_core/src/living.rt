@@ -8,11 +8,11 @@ ghost use Rattle.nt_calls.specs.Living.{is_forgotten, gone, living, Ends, LivesW
 ghost use Rattle.nt_core.specs.Accepts.{IsFresh, IsActOfAny, KeepsWaits};
 ghost use Rattle.nt_calls.specs.declared.call.Act.{Act};
 
-use crate::machine::Machine;
+use crate::machine::{Answer, Machine};
 use nt_alarms::Marks;
 use nt_calls::{Reply, close_refusal};
 use nt_objects::{HandleTable, Object};
-use nt_status::{Handle, Refusal};
+use nt_status::Handle;
 
 /// Marks those of the objects of a wait, which ends, that no handle names.
 pub(crate) fn let_go(handles: &HandleTable, leaving: &mut Marks, ended: &[Handle])
@@ -58,7 +58,7 @@ impl Machine {
     }
 
     /// CloseHandle: the handle names nothing any more, and what it named may be kept by nothing.
-    pub(crate) fn close(&mut self, handle: Handle) -> Result<Reply, Refusal>
+    pub(crate) fn close(&mut self, handle: Handle) -> Answer
         requires fresh { IsFresh self.old }
         ensures { IsActOfAny self.old self.new (Act.Close handle) result }
     {

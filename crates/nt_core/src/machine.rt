@@ -9,13 +9,16 @@ ghost use Rattle.nt_core.specs.Accepts.{IsFresh};
 
 use nt_alarms::{Alarms, Marks};
 use nt_apc::ApcQueues;
-use nt_calls::Grant;
+use nt_calls::{Grant, Reply};
 use nt_objects::{HandleTable, Object};
 use nt_owners::ObjectTable;
 use nt_status::{MAX_THREADS, Moment, Refusal};
 use nt_waits::WaitTable;
 use std::alloc::{AllocError, Global};
 use std::marker::Model;
+
+/// What a call answers: its reply, or why it is refused.
+pub(crate) type Answer = Result<Reply, Refusal>;
 
 /// For each of so many threads that it may not take APCs.
 fn none_handing(alloc: Global, count: usize) -> Result<Vec<bool>, AllocError>

@@ -1,5 +1,5 @@
 //! Calls on mutexes.
-ghost use Rattle.std.specs.Prelude.{◌≡◌, ◌<◌, IsTrue};
+ghost use Rattle.std.specs.Prelude.{◌≡◌, IsTrue};
 ghost use Rattle.nt_objects.specs.Object.{owned_by, unlocked};
 ghost use Rattle.nt_calls.specs.State.{object_at};
 ghost use Rattle.nt_calls.specs.Change.{at};
@@ -7,14 +7,14 @@ ghost use Rattle.nt_core.specs.Dispatcher.{state};
 ghost use Rattle.nt_core.specs.Accepts.{IsFresh, IsFree, IsServedAfter, IsActMade};
 ghost use Rattle.nt_calls.specs.declared.call.Act.{Act};
 
-use crate::machine::Machine;
+use crate::machine::{Answer, Machine};
 use nt_calls::{Reply, mutex_named};
 use nt_objects::Object;
 use nt_status::{Handle, MutexFlags, Refusal, ThreadId};
 
 impl Machine {
     /// CreateMutex.
-    pub(crate) fn create_mutex(&mut self, thread: ThreadId, flags: u32) -> Result<Reply, Refusal>
+    pub(crate) fn create_mutex(&mut self, thread: ThreadId, flags: u32) -> Answer
         requires fresh { IsFresh self.old }
         requires free { IsFree (state self.old) thread }
         ensures { IsActMade self.old self.new thread (Act.CreateMutex flags) result }
@@ -41,11 +41,7 @@ impl Machine {
 
     /// ReleaseMutex.
     #[inline(always)]
-    pub(crate) fn release_mutex(
-        &mut self,
-        thread: ThreadId,
-        mutex: Handle,
-    ) -> Result<Reply, Refusal>
+    pub(crate) fn release_mutex(&mut self, thread: ThreadId, mutex: Handle) -> Answer
         requires fresh { IsFresh self.old }
         requires free { IsFree (state self.old) thread }
         ensures { IsActMade self.old self.new thread (Act.ReleaseMutex mutex) result }

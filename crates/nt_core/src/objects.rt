@@ -10,7 +10,7 @@ ghost use Rattle.nt_core.specs.Accepts.{IsFresh, IsActOfAny};
 ghost use Rattle.nt_calls.specs.declared.call.Act.{Act};
 ghost use Rattle.nt_calls.specs.declared.call.Reply.{Reply};
 
-use crate::machine::Machine;
+use crate::machine::{Answer, Machine};
 use nt_calls::{Reply, object_to_share};
 use nt_objects::{Object, Opened};
 use nt_status::{Access, Handle, MAX_HANDLES, Refusal};
@@ -18,7 +18,7 @@ use nt_status::{Access, Handle, MAX_HANDLES, Refusal};
 impl Machine {
     /// Adds an object with a handle that has all rights of its kind, and answers the handle, unless no handle number is left or
     /// memory is refused: then nothing changes.
-    pub(crate) fn create(&mut self, object: Object) -> Result<Reply, Refusal>
+    pub(crate) fn create(&mut self, object: Object) -> Answer
         requires agree { HandlesAgree (length self.old.objects) self.old.handles }
         requires owner { (t : ℕ) → owned_by object t ≡ true → t < self.old.threads }
         ensures few { OnOk result (is_full self.old.handles ≡ false) }
@@ -42,7 +42,7 @@ impl Machine {
     }
 
     /// DuplicateHandle: one handle more for this object, with these rights. Where memory is refused nothing changes.
-    pub(crate) fn duplicate(&mut self, handle: Handle, access: u32) -> Result<Reply, Refusal>
+    pub(crate) fn duplicate(&mut self, handle: Handle, access: u32) -> Answer
         requires fresh { IsFresh self.old }
         ensures { IsActOfAny self.old self.new (Act.Duplicate handle access) result }
     {

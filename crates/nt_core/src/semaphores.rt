@@ -7,14 +7,14 @@ ghost use Rattle.nt_core.specs.Dispatcher.{state};
 ghost use Rattle.nt_core.specs.Accepts.{IsFresh, IsServedAfter, IsActOfAny};
 ghost use Rattle.nt_calls.specs.declared.call.Act.{Act};
 
-use crate::machine::Machine;
+use crate::machine::{Answer, Machine};
 use nt_calls::{Reply, semaphore_named};
 use nt_objects::Object;
 use nt_status::{Handle, Refusal};
 
 impl Machine {
     /// CreateSemaphore.
-    pub(crate) fn create_semaphore(&mut self, initial: i32, maximum: i32) -> Result<Reply, Refusal>
+    pub(crate) fn create_semaphore(&mut self, initial: i32, maximum: i32) -> Answer
         requires fresh { IsFresh self.old }
         ensures { IsActOfAny self.old self.new (Act.CreateSemaphore initial maximum) result }
     {
@@ -44,11 +44,7 @@ impl Machine {
 
     /// ReleaseSemaphore. Answers the count before.
     #[inline(always)]
-    pub(crate) fn release_semaphore(
-        &mut self,
-        semaphore: Handle,
-        count: i32,
-    ) -> Result<Reply, Refusal>
+    pub(crate) fn release_semaphore(&mut self, semaphore: Handle, count: i32) -> Answer
         requires fresh { IsFresh self.old }
         ensures { IsActOfAny self.old self.new (Act.ReleaseSemaphore semaphore count) result }
     {

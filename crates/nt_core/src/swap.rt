@@ -5,14 +5,15 @@ ghost use Rattle.nt_status.specs.declared.refusal.Refusal.TheVariants.{Memory};
 ghost use Rattle.nt_objects.specs.Object.{overflows, is_gone};
 ghost use Rattle.nt_calls.specs.State.{object_at, deadline_after, pending_too};
 ghost use Rattle.nt_core.specs.Dispatcher.{state, with_prepared};
+ghost use Rattle.nt_calls.specs.Calls.{wait_of};
 ghost use Rattle.nt_calls.specs.Change.{at, signal};
 ghost use Rattle.nt_calls.specs.Refusals.{may_signal, is_foreign, refusal};
 ghost use Rattle.nt_core.specs.Lawful.{IsSound};
-ghost use Rattle.nt_core.specs.Accepts.{IsFresh, IsServedAfter, Accepts, IsFree, IsWaitMade, CanBegin};
+ghost use Rattle.nt_core.specs.Accepts.{objects_call, IsFresh, IsServedAfter, Accepts, IsFree, IsWaitMade, CanBegin};
 ghost use Rattle.nt_calls.specs.declared.call.Call.{Call};
 ghost use Rattle.nt_calls.specs.declared.call.WaitCall.{WaitCall};
 
-use crate::machine::Machine;
+use crate::machine::{Answer, Machine};
 use crate::waiting::Mode;
 use nt_calls::{
     MODIFY_STATE, Reply, SYNCHRONIZE, deadline_after, is_swap_denied, opened, swap_refusal,
@@ -43,17 +44,8 @@ impl Machine {
 
     /// Makes all the room that the caller's wait for this object may need. With a timeout of 0 it needs none.
     fn prepare(&mut self, thread: ThreadId, object: Handle, mode: Mode) -> Result<(), Refusal>
-        ensures ready { OnOk result (mode.ms ≢ 0
-            → self.new.table.prepared ≡ Some (
-              thread,
-              record {
-                handles = object ∷ [];
-                all = false;
-                alertable = mode.alertable;
-                deadline = deadline_after
-                    self.old.now mode.ms;
-              },
-            )) }
+        ensures ready { OnOk result (mode.ms ≢ 0 → self.new.table.prepared
+            ≡ Some (thread, wait_of self.old.now (objects_call (record mode { all = false }) (object ∷ [])))) }
         ensures kept { self.new ≡ with_prepared self.old self.new.table.prepared }
         ensures grows { OnErr result (IsTrue (not (mode.ms == 0))) }
         ensures memory { IfErr result (λ refusal. refusal ≡ Memory) }
@@ -86,13 +78,7 @@ impl Machine {
 
     /// SignalObjectAndWait: signals one object, serves the others, and begins the caller's wait for the other object. All memory
     /// comes first, so where it is refused nothing changes.
-    fn swap(
-        &mut self,
-        thread: ThreadId,
-        signal: Handle,
-        object: Handle,
-        mode: Mode,
-    ) -> Result<Reply, Refusal>
+    fn swap(&mut self, thread: ThreadId, signal: Handle, object: Handle, mode: Mode) -> Answer
         requires fresh { IsFresh self.old }
         requires free { refusal (state self.old) thread false (Call.Wait (WaitCall.Swap signal object mode.ms mode.alertable)) ≡
             None }
@@ -121,7 +107,7 @@ impl Machine {
         signal: Handle,
         object: Handle,
         mode: Mode,
-    ) -> Result<Reply, Refusal>
+    ) -> Answer
         requires fresh { IsFresh self.old }
         requires caller { IsFree (state self.old) thread }
         ensures { IsWaitMade self.old self.new thread (WaitCall.Swap signal object mode.ms mode.alertable) result }

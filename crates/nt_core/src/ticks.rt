@@ -13,7 +13,7 @@ ghost use Rattle.nt_core.specs.Lawful.{IsSound, IsSteady, IsUnmarked};
 ghost use Rattle.nt_calls.specs.Living.{LivesWhileKept};
 ghost use Rattle.nt_core.specs.Accepts.{IsTimedOutAfter, IsAlertedAfter, IsExpiredAfter, IsPassedAfter, IsTickLocal};
 
-use crate::machine::Machine;
+use crate::machine::{Answer, Machine};
 use nt_calls::{Grant, Reply, late_status};
 use nt_status::{Handle, Moment, Refusal, ThreadId};
 
@@ -117,7 +117,7 @@ impl Machine {
     }
 
     /// Lets all moments up to `m` pass.
-    pub fn tick(&mut self, m: Moment) -> Result<Reply, Refusal>
+    pub fn tick(&mut self, m: Moment) -> Answer
         requires steady { IsSteady self.old }
         requires living { LivesWhileKept (state self.old) }
         ensures ticked { Ticked (state self.old) m result self.new.grants (state self.new) }

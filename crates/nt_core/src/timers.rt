@@ -11,7 +11,7 @@ ghost use Rattle.nt_calls.specs.declared.call.Act.{Act};
 ghost use Rattle.nt_calls.specs.declared.call.Call.{Call};
 ghost use Rattle.nt_calls.specs.declared.call.Reply.{Reply};
 
-use crate::machine::Machine;
+use crate::machine::{Answer, Machine};
 use nt_apc::Apc;
 use nt_calls::{Reply, due_moment, routine_for, timer_named, timer_to_arm};
 use nt_objects::{Armed, Object, Routine};
@@ -20,7 +20,7 @@ use std::alloc::AllocError;
 
 impl Machine {
     /// CreateWaitableTimer.
-    pub(crate) fn create_timer(&mut self, flags: u32) -> Result<Reply, Refusal>
+    pub(crate) fn create_timer(&mut self, flags: u32) -> Answer
         requires fresh { IsFresh self.old }
         ensures { IsActOfAny self.old self.new (Act.CreateTimer flags) result }
     {
@@ -175,7 +175,7 @@ impl Machine {
         due: i64,
         period: i32,
         routine: Option<(u64, u64)>,
-    ) -> Result<Reply, Refusal>
+    ) -> Answer
         requires fresh { IsFresh self.old }
         requires free { IsFree (state self.old) thread }
         ensures { IsActMade self.old self.new thread (Act.SetTimer timer due period routine) result }
@@ -186,7 +186,7 @@ impl Machine {
     }
 
     /// CancelWaitableTimer: the timer is stopped, and its queued APC withdrawn. Whether it is set stays.
-    pub(crate) fn cancel_timer(&mut self, timer: Handle) -> Result<Reply, Refusal>
+    pub(crate) fn cancel_timer(&mut self, timer: Handle) -> Answer
         requires fresh { IsFresh self.old }
         ensures { IsActOfAny self.old self.new (Act.CancelTimer timer) result }
     {

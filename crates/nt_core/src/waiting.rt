@@ -14,7 +14,7 @@ ghost use Rattle.nt_core.specs.Lawful.{IsSound, IsSteady};
 ghost use Rattle.nt_calls.specs.declared.call.Reply.{Reply};
 ghost use Rattle.nt_core.specs.Accepts.{IsFresh, IsFree, HasBegun, reply_of, replied, begins_pending, objects_call, IsMade, IsWaitMade, CanBegin};
 
-use crate::machine::Machine;
+use crate::machine::{Answer, Machine};
 use nt_calls::{
     NamedObjects, Reply, SYNCHRONIZE, WaitCall, late_status, name_all, objects_refusal, opened,
     try_wait,
@@ -48,7 +48,7 @@ impl Mode {
 type Begun = Result<Option<Status>, Refusal>;
 
 /// The reply of a waiting call, from how its wait began.
-fn replied(ended: Begun) -> Result<Reply, Refusal>
+fn replied(ended: Begun) -> Answer
     ensures { result ≡ replied ended }
 {
     match ended {
@@ -133,7 +133,7 @@ impl Machine {
     /// Begins the caller's wait for these handles, none for a sleep: it ends at once, with a status, or pends. Where memory is
     /// refused nothing changes.
     #[inline(always)]
-    pub(crate) fn begin_wait(&mut self, thread: ThreadId, handles: &[Handle], mode: Mode) -> Begun
+    fn begin_wait(&mut self, thread: ThreadId, handles: &[Handle], mode: Mode) -> Begun
         requires can { CanBegin self.old thread (wait_for handles.now mode.all) }
         requires steady { IsSteady self.old }
         ensures begun { IfOk result (λ ended.
@@ -169,12 +169,7 @@ impl Machine {
 
     /// The caller's wait for the objects that these handles name, begun or refused by its own causes.
     #[inline(always)]
-    fn wait_for_objects(
-        &mut self,
-        thread: ThreadId,
-        these: &[Handle],
-        mode: Mode,
-    ) -> Result<Reply, Refusal>
+    fn wait_for_objects(&mut self, thread: ThreadId, these: &[Handle], mode: Mode) -> Answer
         requires fresh { IsFresh self.old }
         requires caller { IsFree (state self.old) thread }
         ensures { IsWaitMade self.old self.new thread (objects_call mode these.now) result }
@@ -212,7 +207,7 @@ impl Machine {
 
     /// A waiting call, begun or refused by its own causes.
     #[inline(always)]
-    pub(crate) fn wait(&mut self, thread: ThreadId, call: &WaitCall) -> Result<Reply, Refusal>
+    pub(crate) fn wait(&mut self, thread: ThreadId, call: &WaitCall) -> Answer
         requires fresh { IsFresh self.old }
         requires caller { IsFree (state self.old) thread }
         ensures { IsWaitMade self.old self.new thread call.now result }
