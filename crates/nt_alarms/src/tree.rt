@@ -66,7 +66,8 @@ fn first_of(alarms: &[Option<u64>], firsts: &[Option<Alarm>], place: usize) -> O
 pub fn mend(alarms: &[Option<u64>], firsts: &mut [Option<Alarm>], place: usize)
     requires same_length { length alarms.now ≡ length firsts.old }
     requires in_range { place < length alarms.now }
-    requires others { (i : ℕ) → i ≢ place → i < length alarms.now → IsFirst alarms.now firsts.old i (first_kept firsts.old i) }
+    requires others { (i : ℕ) → i ≢ place → i < length alarms.now
+        → IsFirst alarms.now firsts.old i (first_kept firsts.old i) }
     ensures tree { IsTree alarms.now firsts.new }
 {
     let mut at = place;

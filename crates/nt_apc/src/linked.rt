@@ -15,7 +15,8 @@ use std::alloc::{AllocError, Global};
 pub fn push(inboxes: &mut [Inbox], t: ThreadId, apc: Apc) -> Result<(), AllocError>
     requires { t < length inboxes.old }
     ensures sound { KeepsSound inboxes.old inboxes.new }
-    ensures ok { OnOk result (queues_in inboxes.new ≡ pushed (queues_in inboxes.old) t (record { apc = apc; timer = None })) }
+    ensures ok { OnOk result (queues_in inboxes.new
+        ≡ pushed (queues_in inboxes.old) t (record { apc = apc; timer = None })) }
     ensures err { OnErr result (queues_in inboxes.new ≡ queues_in inboxes.old) }
 {
     inboxes[t.get() as usize].push(apc)?;
@@ -34,7 +35,8 @@ pub fn push_promised(
     requires placed { thread_of (place_at places.old timer) ≡ Some t }
     requires none { has_from timer (inbox_at inboxes.old t).queue ≡ false }
     ensures sound { IsSound inboxes.new places.new }
-    ensures queues { queues_in inboxes.new ≡ pushed (queues_in inboxes.old) t (record { apc = apc; timer = Some timer }) }
+    ensures queues { queues_in inboxes.new
+        ≡ pushed (queues_in inboxes.old) t (record { apc = apc; timer = Some timer }) }
     ensures threads { threads_in places.new ≡ threads_in places.old }
 {
     inboxes[t.get() as usize].push_promised(timer, apc);
@@ -155,7 +157,8 @@ fn give_up(inboxes: &mut [Inbox], places: &mut [Option<Place>], timer: Handle)
     requires { IsSound inboxes.old places.old }
     ensures sound { IsSound inboxes.new places.new }
     ensures queues { queues_in inboxes.new ≡ withdrawn (queues_in inboxes.old) timer }
-    ensures inboxes { (u : ℕ) → is_at u (place_of (threads_in places.old) timer) ≡ false → inbox_at inboxes.new u ≡ inbox_at inboxes.old u }
+    ensures inboxes { (u : ℕ) → is_at u (place_of (threads_in places.old) timer) ≡ false
+        → inbox_at inboxes.new u ≡ inbox_at inboxes.old u }
     ensures gone { place_at places.new timer ≡ None }
     ensures others { (m : ℕ) → m ≢ timer → place_of (threads_in places.new) m ≡ place_of (threads_in places.old) m }
 {
@@ -213,8 +216,10 @@ pub fn promise(
     ensures sound { IsSound inboxes.new places.new.items }
     ensures queues { OnOk result (queues_in inboxes.new ≡ withdrawn (queues_in inboxes.old) timer) }
     ensures here { OnOk result (place_of (threads_in places.new.items) timer ≡ Some t) }
-    ensures others { OnOk result ((m : ℕ) → m ≢ timer → place_of (threads_in places.new.items) m ≡ place_of (threads_in places.old.items) m) }
-    ensures err { OnErr result ((queues_in inboxes.new ≡ queues_in inboxes.old) × (threads_in places.new.items ≡ threads_in places.old.items)) }
+    ensures others { OnOk result ((m : ℕ) → m ≢ timer
+        → place_of (threads_in places.new.items) m ≡ place_of (threads_in places.old.items) m) }
+    ensures err { OnErr result ((queues_in inboxes.new ≡ queues_in inboxes.old)
+        × (threads_in places.new.items ≡ threads_in places.old.items)) }
 {
     make_room(inboxes, places, t, timer)?;
     // Nothing can fail from here on.

@@ -71,7 +71,8 @@ impl ApcQueues {
     /// APC; one in another queue is given up, and its APC removed.
     pub fn promise(&mut self, t: ThreadId, timer: Handle) -> Result<(), AllocError>
         requires { t < length self.old.queues }
-        ensures queues { OnOk result (self.new.queues ≡ (if is_at t (place_of self.old.places timer) then self.old.queues else withdrawn self.old.queues timer)) }
+        ensures queues { OnOk result (self.new.queues ≡
+            (if is_at t (place_of self.old.places timer) then self.old.queues else withdrawn self.old.queues timer)) }
         ensures place { OnOk result (place_of self.new.places timer ≡ Some t) }
         ensures others { OnOk result ((m : ℕ) → m ≢ timer → place_of self.new.places m ≡ place_of self.old.places m) }
         ensures keeps { KeepsPlaces self.new }

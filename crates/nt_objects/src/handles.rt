@@ -91,7 +91,10 @@ impl Model for HandleTable {
 
     ghost Value = { Handles };
 
-    ghost view = { λ t. record { opened = t.handles.items; room = min (vec_capacity t.handles) (vec_capacity t.counts) } };
+    ghost view = { λ t. record {
+      opened = t.handles.items;
+      room = min (vec_capacity t.handles) (vec_capacity t.counts);
+    } };
 
     ghost invariant = { λ t. IsCounted t.handles.items t.counts.items };
 }
