@@ -78,7 +78,8 @@ pub fn enter(firsts: &mut [OptionalMutex], links: &mut [Link], thread: ThreadId,
     requires room { mutex < length links.old }
     requires unowned { (t : ℕ) → Contains (list_in firsts.old links.old t) mutex → ⊥ }
     ensures sound { IsSound firsts.new links.new }
-    ensures lists { lists_in firsts.new links.new ≡ slice_set (lists_in firsts.old links.old) thread (mutex ∷ list_in firsts.old links.old thread) }
+    ensures lists { lists_in firsts.new links.new
+        ≡ slice_set (lists_in firsts.old links.old) thread (mutex ∷ list_in firsts.old links.old thread) }
 {
     let first = firsts[thread.get() as usize];
     links[mutex.get() as usize] = Link {
@@ -94,7 +95,8 @@ pub fn leave(firsts: &mut [OptionalMutex], links: &mut [Link], thread: ThreadId,
     requires sound { IsSound firsts.old links.old }
     requires owned { Contains (list_in firsts.old links.old thread) mutex }
     ensures sound { IsSound firsts.new links.new }
-    ensures lists { lists_in firsts.new links.new ≡ slice_set (lists_in firsts.old links.old) thread (without mutex (list_in firsts.old links.old thread)) }
+    ensures lists { lists_in firsts.new links.new
+        ≡ slice_set (lists_in firsts.old links.old) thread (without mutex (list_in firsts.old links.old thread)) }
 {
     let link = links[mutex.get() as usize];
     set_next(firsts, links, thread, link.previous, link.next);

@@ -85,7 +85,8 @@ impl Owners {
     /// Takes away the mutex that came last of those that the thread owns.
     pub fn pop(&mut self, thread: ThreadId) -> Option<Handle>
         ensures first { result ≡ slice_get (list_of self.old.lists thread) 0 }
-        ensures rest { self.new ≡ record self.old { lists = slice_set self.old.lists thread (after_first (list_of self.old.lists thread)) } }
+        ensures rest { self.new ≡
+            record self.old { lists = slice_set self.old.lists thread (after_first (list_of self.old.lists thread)) } }
     {
         let first = self.first(thread)?;
         self.remove(thread, first);

@@ -98,8 +98,10 @@ fn abandon_first(objects: &mut [Object], owners: &mut Owners, thread: ThreadId) 
     ensures agree { OwnersAgree objects.new owners.new.lists }
     ensures none { IfNone result ((objects.new ≡ objects.old) × (list_of owners.new.lists thread ≡ [])) }
     ensures owned { IfSome result (λ mutex. IsTrue (owned_by (object_at objects.old mutex) thread)) }
-    ensures free { IfSome result (λ mutex. objects.new ≡ slice_set objects.old mutex (abandoned_by thread (object_at objects.old mutex))) }
-    ensures fewer { IfSome result (λ mutex. length (list_of owners.new.lists thread) < length (list_of owners.old.lists thread)) }
+    ensures free { IfSome result (λ mutex.
+        objects.new ≡ slice_set objects.old mutex (abandoned_by thread (object_at objects.old mutex))) }
+    ensures fewer { IfSome result (λ mutex.
+        length (list_of owners.new.lists thread) < length (list_of owners.old.lists thread)) }
     ensures room { owners.new.room ≡ owners.old.room }
     ensures threads { length owners.new.lists ≡ length owners.old.lists }
 {
@@ -199,7 +201,8 @@ impl ObjectTable {
     /// Puts an object in the place of the one at this handle. Where both have the same owner, or none, the lists stay.
     pub fn put(&mut self, handle: Handle, object: Object)
         requires known { handle < length self.old.items }
-        requires owner { (t : ℕ) → owned_by object t ≡ true → (owned_by (object_at self.old.items handle) t ≡ true) ⊎ (t < length self.old.owned) }
+        requires owner { (t : ℕ) → owned_by object t ≡ true
+            → (owned_by (object_at self.old.items handle) t ≡ true) ⊎ (t < length self.old.owned) }
         ensures items { self.new.items ≡ slice_set self.old.items handle object }
         ensures threads { length self.new.owned ≡ length self.old.owned }
         ensures kept { owner_of object ≡ owner_of (object_at self.old.items handle) → self.new.owned ≡ self.old.owned }
@@ -215,7 +218,8 @@ impl ObjectTable {
     pub fn set(&mut self, event: Handle) -> bool
         requires known { event < length self.old.items }
         requires kind { IsTrue (is_event (object_at self.old.items event)) }
-        ensures items { self.new.items ≡ slice_set self.old.items event (with_set true (object_at self.old.items event)) }
+        ensures items { self.new.items
+            ≡ slice_set self.old.items event (with_set true (object_at self.old.items event)) }
         ensures owned { self.new.owned ≡ self.old.owned }
         ensures answer { (t : ℕ) → result ≡ not (signaled (object_at self.old.items event) t) }
     {
@@ -226,7 +230,8 @@ impl ObjectTable {
     pub fn reset(&mut self, event: Handle)
         requires known { event < length self.old.items }
         requires kind { IsTrue (is_event (object_at self.old.items event)) }
-        ensures items { self.new.items ≡ slice_set self.old.items event (with_set false (object_at self.old.items event)) }
+        ensures items { self.new.items
+            ≡ slice_set self.old.items event (with_set false (object_at self.old.items event)) }
         ensures owned { self.new.owned ≡ self.old.owned }
     {
         self.objects[event.get() as usize].reset();
@@ -240,7 +245,8 @@ impl ObjectTable {
         requires kind { IsTrue (is_semaphore (object_at self.old.items semaphore)) }
         ensures refusal { result_err result ≡ release_refusal count (object_at self.old.items semaphore) }
         ensures previous { IfOk result (λ before. before ≡ count_of (object_at self.old.items semaphore)) }
-        ensures items { OnOk result (self.new.items ≡ slice_set self.old.items semaphore (released count (object_at self.old.items semaphore))) }
+        ensures items { OnOk result (self.new.items
+            ≡ slice_set self.old.items semaphore (released count (object_at self.old.items semaphore))) }
         ensures owned { self.new.owned ≡ self.old.owned }
         ensures err { OnErr result (self.new ≡ self.old) }
     {
@@ -254,7 +260,8 @@ impl ObjectTable {
         requires known { mutex < length self.old.items }
         requires kind { IsTrue (is_mutex (object_at self.old.items mutex)) }
         ensures owner { IsOk result ↔ IsTrue (owned_by (object_at self.old.items mutex) thread) }
-        ensures items { OnOk result (self.new.items ≡ slice_set self.old.items mutex (unlocked (object_at self.old.items mutex))) }
+        ensures items { OnOk result (self.new.items
+            ≡ slice_set self.old.items mutex (unlocked (object_at self.old.items mutex))) }
         ensures threads { length self.new.owned ≡ length self.old.owned }
         ensures refused { IfErr result (λ refusal. refusal ≡ Refusal.NotOwner) }
         ensures err { OnErr result (self.new ≡ self.old) }
@@ -296,7 +303,8 @@ impl ObjectTable {
         requires signaled { IsTrue (signaled (object_at self.old.items handle) thread) }
         requires room { IsTrue (has_room (object_at self.old.items handle)) }
         requires thread { thread < length self.old.owned }
-        ensures items { self.new.items ≡ slice_set self.old.items handle (taken (object_at self.old.items handle) thread) }
+        ensures items { self.new.items
+            ≡ slice_set self.old.items handle (taken (object_at self.old.items handle) thread) }
         ensures answer { TellsAbandoned result (object_at self.old.items handle) }
         ensures threads { length self.new.owned ≡ length self.old.owned }
     {
@@ -310,7 +318,8 @@ impl ObjectTable {
     pub fn abandon_all(&mut self, thread: ThreadId, changed: &mut Marks)
         requires { length self.old.items ≤ length changed.old }
         ensures items { self.new.items ≡ map (abandoned_by thread) self.old.items }
-        ensures marked { AddsMarks (λ m. IsTrue (owned_by (object_at self.old.items m) thread)) changed.old changed.new }
+        ensures marked { AddsMarks (λ m. IsTrue (owned_by (object_at self.old.items m) thread))
+            changed.old changed.new }
         ensures threads { length self.new.owned ≡ length self.old.owned }
     {
         abandon_each(&mut self.objects, &mut self.owners, thread, changed);

@@ -109,7 +109,8 @@ pub fn detach(
     requires linked { HasNumber (links blocks.old ends.old) number }
     requires countable { touched.old + 3 < 2 ^ 64 }
     ensures queue { IsQueue blocks.new ends.new handle (without number (links blocks.old ends.old)) }
-    ensures elsewhere { (k : ℕ) → ((thread : ℕ) → owner_at blocks.old k ≢ Some (thread, handle)) → get blocks.new k ≡ get blocks.old k }
+    ensures elsewhere { (k : ℕ) → ((thread : ℕ) → owner_at blocks.old k ≢ Some (thread, handle))
+        → get blocks.new k ≡ get blocks.old k }
     ensures len { slab_len blocks.new + 1 ≡ slab_len blocks.old }
     ensures capacity { blocks.new.capacity ≡ blocks.old.capacity }
     ensures counted { touched.new ≤ touched.old + 3 }
@@ -133,8 +134,10 @@ pub fn attach(
     requires queue { IsQueue blocks.old ends.old handle (links blocks.old ends.old) }
     requires room { HasRoomFor blocks.old 1 }
     requires countable { ends.old.count + 1 < 2 ^ 64 }
-    ensures queue { IsQueue blocks.new ends.new handle (links blocks.old ends.old ++ record { number = result; thread = thread } ∷ []) }
-    ensures elsewhere { (k : ℕ) → k ≢ result → ((thread : ℕ) → owner_at blocks.old k ≢ Some (thread, handle)) → get blocks.new k ≡ get blocks.old k }
+    ensures queue { IsQueue blocks.new ends.new handle
+        (links blocks.old ends.old ++ record { number = result; thread = thread } ∷ []) }
+    ensures elsewhere { (k : ℕ) → k ≢ result → ((thread : ℕ) → owner_at blocks.old k ≢ Some (thread, handle))
+        → get blocks.new k ≡ get blocks.old k }
     ensures fresh { get blocks.old result ≡ None }
     ensures len { slab_len blocks.new ≡ slab_len blocks.old + 1 }
     ensures capacity { blocks.new.capacity ≡ blocks.old.capacity }

@@ -77,7 +77,8 @@ impl Queues {
         requires there { handle < length self.old.lists }
         requires room { HasRoomFor self.old 1 }
         requires countable { length (list_at self.old handle) + 1 < 2 ^ 64 }
-        ensures lists { self.new.lists ≡ slice_set self.old.lists handle (list_at self.old handle ++ record { number = result; thread = thread } ∷ []) }
+        ensures lists { self.new.lists ≡ slice_set self.old.lists handle
+            (list_at self.old handle ++ record { number = result; thread = thread } ∷ []) }
         ensures used { self.new.used ≡ self.old.used + 1 }
         ensures capacity { self.new.capacity ≡ self.old.capacity }
         ensures touched { self.new.touched ≡ self.old.touched }

@@ -151,7 +151,8 @@ impl WaitTable {
     /// Makes all the room that the thread's wait for this handle needs, and keeps in mind which it is. Until it begins waits may end,
     /// and the room stays. Refused only where memory is, and then nothing changes.
     pub fn prepare(&mut self, thread: ThreadId, handle: Handle, about: About) -> Result<(), Refusal>
-        ensures ok { OnOk result (self.new ≡ record self.old { prepared = Some (thread, wait_for (handle ∷ []) false about) }) }
+        ensures ok { OnOk result
+            (self.new ≡ record self.old { prepared = Some (thread, wait_for (handle ∷ []) false about) }) }
         ensures memory { IfErr result (λ refusal. refusal ≡ Refusal.Memory) }
         ensures err { OnErr result (self.new ≡ self.old) }
     {
@@ -328,7 +329,8 @@ impl WaitTable {
     /// The lowest thread whose pending wait has this deadline, where none has an earlier one.
     pub fn first_with_deadline(&self, moment: u64) -> Option<ThreadId>
         requires { NoneEarlier self.now.pending moment }
-        ensures { MatchOption result (NoneWithDeadline self.now.pending moment) (IsFirstWithDeadline self.now.pending moment) }
+        ensures { MatchOption result
+            (NoneWithDeadline self.now.pending moment) (IsFirstWithDeadline self.now.pending moment) }
     {
         let place = self.deadlines.first_at(moment)?;
         Some(ThreadId::new(place as u16))
