@@ -23,7 +23,6 @@ mod readers;
 // The parts, and the way of a call through them.
 mod calls;
 mod machine;
-mod marked;
 // Waits: how they begin, and are served.
 mod pending;
 mod serving;

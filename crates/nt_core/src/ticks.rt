@@ -1,12 +1,13 @@
 //! Ticks: moments pass, and the waits end whose deadlines come.
-ghost use Rattle.std.specs.Prelude.{◌≡◌, ◌≤◌, ◌<◌, ◌+◌, ◌^◌, ℕ, ◌∷◌, ◌++◌, [], false, Some, length, IsTrue, MatchOption, OnOk, OnErr};
+ghost use Rattle.std.specs.Prelude.{◌≡◌, ◌≤◌, ◌<◌, ◌+◌, ◌^◌, ℕ, ◌∷◌, ◌++◌, [], false, Some, length, IsTrue, MatchOption, OnOk, OnErr, slice_set};
 ghost use Rattle.nt_alarms.specs.Alarms.{alarm_at, NoneAt, NoneBefore};
-ghost use Rattle.nt_alarms.specs.Marks.{marked_places};
+ghost use Rattle.nt_alarms.specs.Marks.{marked_places, with_mark};
+ghost use Rattle.nt_objects.specs.Object.{setter_of};
 ghost use Rattle.nt_core.specs.Due.{earlier, due_weight};
 ghost use Rattle.std.specs.FinMap as map;
 ghost use Rattle.nt_waits.specs.Deadlines.{NoneEarlier};
-ghost use Rattle.nt_calls.specs.State.{pends, wait_over};
-ghost use Rattle.nt_core.specs.Dispatcher.{state};
+ghost use Rattle.nt_calls.specs.State.{object_at, pends, wait_over};
+ghost use Rattle.nt_core.specs.Dispatcher.{state, with_marked};
 ghost use Rattle.nt_calls.specs.Serving.{ending, late_status, sleeps, IsServed, IsAlerted};
 ghost use Rattle.nt_calls.specs.Steps.{IsNextMoment, NothingDue, Ticked};
 ghost use Rattle.nt_core.specs.Lawful.{IsSound, IsSteady, IsUnmarked};
@@ -38,6 +39,22 @@ impl Machine {
         if next <= m.get() { Some(next) } else { None }
     }
 
+    /// The waits on the timer, which expires, are to be served, and the thread that armed it with a routine, if one did, may have
+    /// to be alerted.
+    pub(crate) fn mark_due(&mut self, timer: Handle)
+        requires sound { IsSound self.old }
+        requires known { timer < length self.old.objects }
+        ensures { self.new ≡ with_marked self.old (record {
+          changed = slice_set self.old.marked.changed timer (Some 0);
+          alerted = with_mark (setter_of (object_at self.old.objects timer)) self.old.marked.alerted;
+        }) }
+    {
+        if let Some(thread) = self.object(timer).setter() {
+            self.alerted.set(thread.get() as usize);
+        }
+        self.changed.set(timer.get() as usize);
+    }
+
     /// Expires the timers that are due at moment `u` of a tick to `m`, and marks them, and the threads whose APCs they queue.
     fn expire_all(&mut self, u: u64, m: Moment)
         requires sound { IsSound self.old }
@@ -64,8 +81,9 @@ impl Machine {
         ensures alerted { IsAlertedAfter self.old self.new }
         ensures sound { IsSound self.new }
     {
-        while let Some(thread) = self.take_alerted() {
-            self.rouse(thread);
+        while let Some(place) = self.alerted.first() {
+            self.alerted.clear(place);
+            self.rouse(ThreadId::new(place as u16));
         }
     }
 
