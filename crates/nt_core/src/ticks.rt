@@ -1,21 +1,20 @@
 //! Ticks: moments pass, and the waits end whose deadlines come.
-ghost use Rattle.std.specs.Prelude.{◌≡◌, ◌≤◌, ◌<◌, ◌+◌, ◌^◌, ℕ, ◌∷◌, ◌++◌, [], false, Some, length, IsTrue, MatchOption, OnOk, OnErr, slice_set};
+ghost use Rattle.std.specs.Prelude.{◌≡◌, ◌≤◌, ◌<◌, ◌+◌, ◌^◌, ℕ, false, Some, length, MatchOption, OnOk, OnErr, slice_set};
 ghost use Rattle.nt_alarms.specs.Alarms.{alarm_at, NoneAt, NoneBefore};
 ghost use Rattle.nt_alarms.specs.Marks.{marked_places, with_mark};
 ghost use Rattle.nt_objects.specs.Object.{setter_of};
 ghost use Rattle.nt_core.specs.Due.{earlier, due_weight};
-ghost use Rattle.std.specs.FinMap as map;
 ghost use Rattle.nt_waits.specs.Deadlines.{NoneEarlier};
-ghost use Rattle.nt_calls.specs.State.{object_at, pends, wait_over};
+ghost use Rattle.nt_calls.specs.State.{object_at};
 ghost use Rattle.nt_core.specs.Dispatcher.{state, with_marked};
-ghost use Rattle.nt_calls.specs.Serving.{ending, late_status, sleeps, IsServed, IsAlerted};
+ghost use Rattle.nt_calls.specs.Serving.{IsServed, IsAlerted};
 ghost use Rattle.nt_calls.specs.Steps.{IsNextMoment, NothingDue, Ticked};
 ghost use Rattle.nt_core.specs.Lawful.{IsSound, IsSteady, IsUnmarked};
 ghost use Rattle.nt_calls.specs.Living.{LivesWhileKept};
 ghost use Rattle.nt_core.specs.Accepts.{IsTimedOutAfter, IsAlertedAfter, IsExpiredAfter, IsPassedAfter, IsTickLocal};
 
 use crate::machine::{Answer, Machine};
-use nt_calls::{Grant, Reply, late_status};
+use nt_calls::Reply;
 use nt_status::{Handle, Moment, Refusal, ThreadId};
 
 /// The earlier of two moments.
@@ -104,24 +103,6 @@ impl Machine {
         self.time_out_all(u);
     }
 
-    /// Ends this thread's pending wait because its interval has passed.
-    fn time_out(&mut self, thread: ThreadId)
-        requires sound { IsSound self.old }
-        requires pends { IsTrue (pends (state self.old) thread) }
-        ensures over { state self.new ≡ wait_over (state self.old) thread false }
-        ensures grants { self.new.grants ≡ self.old.grants
-            ++ ending (late_status (sleeps (map.get self.old.table.pending thread))) thread ∷ [] }
-        ensures looked { self.new.table.looked ≡ self.old.table.looked }
-        ensures marked { self.new.marked ≡ self.old.marked }
-        ensures sound { IsSound self.new }
-    {
-        let ended = self.waits.end(thread);
-        let status = late_status(ended.handles.as_slice().is_empty());
-        self.handing[thread.get() as usize] = false;
-        self.grants.push_reserved(Grant { thread, status });
-        self.let_go(ended.handles.as_slice());
-    }
-
     /// Ends the waits with this deadline, the earliest of all, by rising thread number.
     fn time_out_all(&mut self, deadline: u64)
         requires sound { IsSound self.old }
@@ -130,7 +111,7 @@ impl Machine {
         ensures sound { IsSound self.new }
     {
         while let Some(thread) = self.waits.first_with_deadline(deadline) {
-            self.time_out(thread);
+            self.end_wait(thread, false);
         }
     }
 
