@@ -1,5 +1,5 @@
 -- What an accepted call does to the dispatcher.
-use Rattle.std.specs.Prelude.{◌≡◌, ℕ, ◌+◌, ◌≢◌, ◌<◌, ◌≤◌, ◌⊎◌, ◌↔◌, Bool, true, false, not, ◌&&◌, ◌==◌, List, [], ◌∷◌, ◌++◌, length, Option, Some, None, IfSome, Result, Ok, Err, IfErr, OnOk, OnErr, ⊤}
+use Rattle.std.specs.Prelude.{◌≡◌, ℕ, ◌+◌, ◌≢◌, ◌<◌, ◌≤◌, ◌⊎◌, ◌↔◌, Bool, true, false, not, ◌&&◌, ◌==◌, List, [], ◌∷◌, ◌++◌, length, Option, Some, None, IfSome, Result, Ok, Err, IfErr, OnOk, OnErr, ⊤, if◌then◌else◌}
 use Rattle.std.specs.List.{filter}
 use Rattle.std.specs.FinMap.{len, get}
 use Rattle.nt_status.specs.Status.{io_completion_code, timeout_code}
@@ -19,7 +19,7 @@ use Rattle.nt_alarms.specs.Marks.{AddsMarks}
 use Rattle.nt_apc.specs.Queues.{withdrawn, place_of}
 use Rattle.std.specs.List.{Contains}
 use Rattle.nt_calls.specs.State.{State, object_at, wait_over, pending_too}
-use Rattle.nt_calls.specs.Serving.{IsChanged, sequence, sleeps, Serve, IsAlerted, Alert, ending, TimeOut, IsLate}
+use Rattle.nt_calls.specs.Serving.{late_status, IsChanged, sequence, sleeps, Serve, IsAlerted, Alert, ending, TimeOut, IsLate}
 use Rattle.nt_calls.specs.Change.{change, all_expired, exited, IsTimerDue}
 use Rattle.nt_calls.specs.Naming.{object_named, lacks, act_named, wait_named}
 use Rattle.nt_calls.specs.Rights.{act_denied, wait_denied}
@@ -86,6 +86,10 @@ pub record IsExpiredAfter (old : Dispatcher) (m u : ℕ) (new : Dispatcher) (tim
   pub fewer : (weight : ℕ → ℕ) → due_weight weight m 0 new.objects + total_weight weight timers ≡ due_weight weight m 0 old.objects
   pub grants : new.grants ≡ old.grants
   pub table : new.table ≡ old.table
+
+-- the status of a wait that ends for queued APCs, or else since its interval has passed
+abbrev pub unmet_status : Bool → Bool → ℕ
+unmet_status alerted sleeps = if alerted then io_completion_code else late_status sleeps
 
 -- the thread was to be alerted and its wait has ended, or it was not and nothing changed
 abbrev pub IsRoused : Dispatcher → Dispatcher → ℕ → Type 0

@@ -4,16 +4,28 @@ ghost use Rattle.nt_calls.specs.declared.call.Act.{Act};
 ghost use Rattle.nt_calls.specs.declared.call.Call.{Call};
 ghost use Rattle.nt_apc.specs.Queues.{oldest};
 ghost use Rattle.nt_calls.specs.Change.{may_take};
+ghost use Rattle.std.specs.FinMap as map;
 ghost use Rattle.nt_calls.specs.State.{pends, wait_over};
 ghost use Rattle.nt_core.specs.Dispatcher.{state};
-ghost use Rattle.nt_calls.specs.Serving.{ending};
+ghost use Rattle.nt_calls.specs.Serving.{ending, sleeps};
 ghost use Rattle.nt_core.specs.Lawful.{IsSound};
-ghost use Rattle.nt_core.specs.Accepts.{IsFresh, IsRoused, Accepts, IsActOfAny, IsRunning};
+ghost use Rattle.nt_core.specs.Accepts.{unmet_status, IsFresh, IsRoused, Accepts, IsActOfAny, IsRunning};
 
 use crate::machine::{Answer, Machine};
 use nt_apc::Apc;
-use nt_calls::{Grant, Reply, running_thread};
+use nt_calls::{Grant, Reply, late_status, running_thread};
 use nt_status::{Handle, OptionalMoment, Status, ThreadId};
+
+/// The status of a wait, a sleep or not, that ends for queued APCs, or else since its interval has passed.
+fn unmet_status(alerted: bool, sleeps: bool) -> Status
+    ensures { result ≡ unmet_status alerted sleeps }
+{
+    if alerted {
+        Status::IO_COMPLETION
+    } else {
+        late_status(sleeps)
+    }
+}
 
 impl Machine {
     /// Where this thread's wait pends, is alertable and an APC is queued for it, ends the wait.
@@ -28,21 +40,24 @@ impl Machine {
         if !self.is_alerted(thread, about.alertable) {
             return;
         }
-        self.end_wait(thread, Status::IO_COMPLETION, true);
+        self.end_wait(thread, true);
     }
 
-    /// Ends this thread's pending wait with a status, and says whether it may take its APCs then.
-    pub(crate) fn end_wait(&mut self, thread: ThreadId, status: Status, may: bool)
+    /// Ends this thread's pending wait, which its objects do not end: for queued APCs, which the thread may take then, or since its
+    /// interval has passed.
+    pub(crate) fn end_wait(&mut self, thread: ThreadId, alerted: bool)
         requires sound { IsSound self.old }
         requires pends { IsTrue (pends (state self.old) thread) }
-        ensures over { state self.new ≡ wait_over (state self.old) thread may }
-        ensures grants { self.new.grants ≡ self.old.grants ++ ending status thread ∷ [] }
+        ensures over { state self.new ≡ wait_over (state self.old) thread alerted }
+        ensures grants { self.new.grants ≡ self.old.grants
+            ++ ending (unmet_status alerted (sleeps (map.get self.old.table.pending thread))) thread ∷ [] }
         ensures looked { self.new.table.looked ≡ self.old.table.looked }
         ensures marked { self.new.marked ≡ self.old.marked }
         ensures sound { IsSound self.new }
     {
         let ended = self.waits.end(thread);
-        self.handing[thread.get() as usize] = may;
+        let status = unmet_status(alerted, ended.handles.as_slice().is_empty());
+        self.handing[thread.get() as usize] = alerted;
         self.grants.push_reserved(Grant { thread, status });
         self.let_go(ended.handles.as_slice());
     }

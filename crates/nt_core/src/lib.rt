@@ -6,7 +6,7 @@
 //! **The life of a wait.** It begins (`begin_wait`): where its objects let it, it takes them and is over at once; else it pends, last in the
 //! queue of each object that it names. A later call changes an object, and the waits in that object's queue are visited in the order in
 //! which they began (`serve_one`, `visit`): each that fits takes its objects, leaves its queues, and is told among `grants()`. Or an APC
-//! comes for a wait that is alertable (`rouse`), or its moment passes (`time_out`).
+//! comes for a wait that is alertable (`rouse`), or its moment passes (`time_out_all`).
 //!
 //! **The way of one call.** `Core::call` judges the caller, and one match hands the call to the function for it. That function finds its
 //! object once, answers the first cause that refuses the call, and else makes the change where the object stands; then the waits that the
@@ -23,7 +23,6 @@ mod readers;
 // The parts, and the way of a call through them.
 mod calls;
 mod machine;
-mod marked;
 // Waits: how they begin, and are served.
 mod pending;
 mod serving;

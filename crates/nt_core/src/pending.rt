@@ -26,8 +26,8 @@ impl Machine {
         Ok(())
     }
 
-    /// The same for one handle, as most waits are. It stands apart, so that the compiler knows that there is one, and the parts of the mode
-    /// come one by one, each in a register of its own.
+    /// The same for one handle, as most waits are. It stands apart, so that the compiler knows that there is one. The parts of
+    /// the mode come one by one: a value that is passed whole is packed into one word, and each use takes its part out again.
     #[inline(never)]
     fn pend_one(
         &mut self,
@@ -47,12 +47,20 @@ impl Machine {
 
     /// The same for any number of handles.
     #[inline(never)]
-    fn pend_any(&mut self, thread: ThreadId, handles: &[Handle], mode: Mode) -> Result<(), Refusal>
-        requires can { CanBegin self.old thread (wait_for handles.now mode.all) }
+    fn pend_any(
+        &mut self,
+        thread: ThreadId,
+        handles: &[Handle],
+        all: bool,
+        ms: u32,
+        alertable: bool,
+    ) -> Result<(), Refusal>
+        requires can { CanBegin self.old thread (wait_for handles.now all) }
         requires sound { IsSound self.old }
-        ensures { HasPended self.old self.new thread handles.now mode result }
+        ensures { HasPended self.old self.new thread handles.now
+            (record { all = all; alertable = alertable; ms = ms }) result }
     {
-        self.pend_for(thread, handles, mode)
+        self.pend_for(thread, handles, Mode { all, alertable, ms })
     }
 
     /// The thread's wait for these handles pends from now on. Where memory is refused nothing changes.
@@ -69,8 +77,7 @@ impl Machine {
     {
         match handles {
             [handle] => self.pend_one(thread, *handle, mode.all, mode.ms, mode.alertable),
-            // A copy: a value that a function takes whole is packed into one word, and its parts are taken out of that at each use.
-            _ => self.pend_any(thread, handles, Mode { ..mode }),
+            _ => self.pend_any(thread, handles, mode.all, mode.ms, mode.alertable),
         }
     }
 }

@@ -103,8 +103,9 @@ impl Machine {
         ensures prepared { self.new.table.prepared ≡ self.old.table.prepared }
         ensures sound { IsSound self.new }
     {
-        while let Some(object) = self.take_changed() {
-            self.serve_on(object);
+        while let Some(place) = self.changed.first() {
+            self.changed.clear(place);
+            self.serve_on(Handle::new(place as u32));
         }
     }
 

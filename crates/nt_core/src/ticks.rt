@@ -1,20 +1,20 @@
 //! Ticks: moments pass, and the waits end whose deadlines come.
-ghost use Rattle.std.specs.Prelude.{◌≡◌, ◌≤◌, ◌<◌, ◌+◌, ◌^◌, ℕ, ◌∷◌, ◌++◌, [], false, Some, length, IsTrue, MatchOption, OnOk, OnErr};
+ghost use Rattle.std.specs.Prelude.{◌≡◌, ◌≤◌, ◌<◌, ◌+◌, ◌^◌, ℕ, false, Some, length, MatchOption, OnOk, OnErr, slice_set};
 ghost use Rattle.nt_alarms.specs.Alarms.{alarm_at, NoneAt, NoneBefore};
-ghost use Rattle.nt_alarms.specs.Marks.{marked_places};
+ghost use Rattle.nt_alarms.specs.Marks.{marked_places, with_mark};
+ghost use Rattle.nt_objects.specs.Object.{setter_of};
 ghost use Rattle.nt_core.specs.Due.{earlier, due_weight};
-ghost use Rattle.std.specs.FinMap as map;
 ghost use Rattle.nt_waits.specs.Deadlines.{NoneEarlier};
-ghost use Rattle.nt_calls.specs.State.{pends, wait_over};
-ghost use Rattle.nt_core.specs.Dispatcher.{state};
-ghost use Rattle.nt_calls.specs.Serving.{ending, late_status, sleeps, IsServed, IsAlerted};
+ghost use Rattle.nt_calls.specs.State.{object_at};
+ghost use Rattle.nt_core.specs.Dispatcher.{state, with_marked};
+ghost use Rattle.nt_calls.specs.Serving.{IsServed, IsAlerted};
 ghost use Rattle.nt_calls.specs.Steps.{IsNextMoment, NothingDue, Ticked};
 ghost use Rattle.nt_core.specs.Lawful.{IsSound, IsSteady, IsUnmarked};
 ghost use Rattle.nt_calls.specs.Living.{LivesWhileKept};
 ghost use Rattle.nt_core.specs.Accepts.{IsTimedOutAfter, IsAlertedAfter, IsExpiredAfter, IsPassedAfter, IsTickLocal};
 
 use crate::machine::{Answer, Machine};
-use nt_calls::{Grant, Reply, late_status};
+use nt_calls::Reply;
 use nt_status::{Handle, Moment, Refusal, ThreadId};
 
 /// The earlier of two moments.
@@ -36,6 +36,22 @@ impl Machine {
     {
         let next = earlier(self.alarms.earliest(), self.waits.earliest_deadline())?;
         if next <= m.get() { Some(next) } else { None }
+    }
+
+    /// The waits on the timer, which expires, are to be served, and the thread that armed it with a routine, if one did, may have
+    /// to be alerted.
+    pub(crate) fn mark_due(&mut self, timer: Handle)
+        requires sound { IsSound self.old }
+        requires known { timer < length self.old.objects }
+        ensures { self.new ≡ with_marked self.old (record {
+          changed = slice_set self.old.marked.changed timer (Some 0);
+          alerted = with_mark (setter_of (object_at self.old.objects timer)) self.old.marked.alerted;
+        }) }
+    {
+        if let Some(thread) = self.object(timer).setter() {
+            self.alerted.set(thread.get() as usize);
+        }
+        self.changed.set(timer.get() as usize);
     }
 
     /// Expires the timers that are due at moment `u` of a tick to `m`, and marks them, and the threads whose APCs they queue.
@@ -64,8 +80,9 @@ impl Machine {
         ensures alerted { IsAlertedAfter self.old self.new }
         ensures sound { IsSound self.new }
     {
-        while let Some(thread) = self.take_alerted() {
-            self.rouse(thread);
+        while let Some(place) = self.alerted.first() {
+            self.alerted.clear(place);
+            self.rouse(ThreadId::new(place as u16));
         }
     }
 
@@ -86,24 +103,6 @@ impl Machine {
         self.time_out_all(u);
     }
 
-    /// Ends this thread's pending wait because its interval has passed.
-    fn time_out(&mut self, thread: ThreadId)
-        requires sound { IsSound self.old }
-        requires pends { IsTrue (pends (state self.old) thread) }
-        ensures over { state self.new ≡ wait_over (state self.old) thread false }
-        ensures grants { self.new.grants ≡ self.old.grants
-            ++ ending (late_status (sleeps (map.get self.old.table.pending thread))) thread ∷ [] }
-        ensures looked { self.new.table.looked ≡ self.old.table.looked }
-        ensures marked { self.new.marked ≡ self.old.marked }
-        ensures sound { IsSound self.new }
-    {
-        let ended = self.waits.end(thread);
-        let status = late_status(ended.handles.as_slice().is_empty());
-        self.handing[thread.get() as usize] = false;
-        self.grants.push_reserved(Grant { thread, status });
-        self.let_go(ended.handles.as_slice());
-    }
-
     /// Ends the waits with this deadline, the earliest of all, by rising thread number.
     fn time_out_all(&mut self, deadline: u64)
         requires sound { IsSound self.old }
@@ -112,7 +111,7 @@ impl Machine {
         ensures sound { IsSound self.new }
     {
         while let Some(thread) = self.waits.first_with_deadline(deadline) {
-            self.time_out(thread);
+            self.end_wait(thread, false);
         }
     }
 

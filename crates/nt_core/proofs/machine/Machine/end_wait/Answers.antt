@@ -1,10 +1,10 @@
-use Rattle.std.proofs.Common.{◌≡◌, ◌<◌, ◌≤◌, ℕ, true, List, [], length, set, sym, ap, ◌∙◌, subst, arith}
+use Rattle.std.proofs.Common.{◌≡◌, ◌<◌, ◌≤◌, ℕ, true, false, List, [], length, set, sym, ap, ◌∙◌, subst, arith}
 use Rattle.std.specs.Vec.{vec_capacity}
-use Rattle.nt_calls.specs.State.{pends}
+use Rattle.nt_calls.specs.State.{pends, wait_over}
 use Rattle.nt_core.specs.Dispatcher.{Dispatcher, dispatcher_of, state}
 use Rattle.nt_core.specs.Lawful.{IsSound, MarksAgreeBut}
 use Rattle.nt_core.proofs.Visiting.{room_for}
-use Rattle.nt_core.proofs.Alerting.{pending_wait, ended_sound, ended_unmarked}
+use Rattle.nt_core.proofs.Alerting.{pending_wait, ended_sound, ended_unmarked, ended_over}
 use Rattle.nt_core.proofs.machine.Machine.end_wait.Goals as goal
 
 pub index_mut-requires : goal.index_mut-requires
@@ -31,9 +31,19 @@ let_go-requires c =
     let d = dispatcher_of c.self.inside.threads c.self.inside.handles.opened c.self.inside.objects.items c.self.inside.objects.owned c.self.inside.waits c.self.inside.apcs c.self.inside.handing.items c.self.inside.moment c.self.inside.grants.items c.self.inside.alarms c.self.inside.leaving c.self.inside.changed c.self.inside.alerted in
     let sound : IsSound d = subst IsSound (sym c.self.view_is) c.requires.sound in
     let ended = c.end-ended.ensures in
-    subst (λ (k : ℕ). MarksAgreeBut c.as_slice.result.now (record d { table = c.end-ended.new.self; handing = set d.handing k c.args.may; grants = c.push_reserved.new.self.items })) (sym c.get.ensures)
-    (subst (λ (hs : List ℕ). MarksAgreeBut hs (record d { table = c.end-ended.new.self; handing = set d.handing c.args.thread c.args.may; grants = c.push_reserved.new.self.items })) (sym c.as_slice.ensures)
-    (ended_unmarked d c.end-ended.new.self c.args.thread c.args.may c.end-ended.result c.push_reserved.new.self.items sound (sym ended.wait) ended.queues))
+    subst (λ (k : ℕ). MarksAgreeBut c.as_slice-2.result.now (record d { table = c.end-ended.new.self; handing = set d.handing k c.args.alerted; grants = c.push_reserved.new.self.items })) (sym c.get.ensures)
+    (subst (λ (hs : List ℕ). MarksAgreeBut hs (record d { table = c.end-ended.new.self; handing = set d.handing c.args.thread c.args.alerted; grants = c.push_reserved.new.self.items })) (sym c.as_slice-2.ensures)
+    (ended_unmarked d c.end-ended.new.self c.args.thread c.args.alerted c.end-ended.result c.push_reserved.new.self.items sound (sym ended.wait) ended.queues))
+
+pub returns-clause-over : goal.returns-clause-over
+returns-clause-over c =
+    let d = dispatcher_of c.self.inside.threads c.self.inside.handles.opened c.self.inside.objects.items c.self.inside.objects.owned c.self.inside.waits c.self.inside.apcs c.self.inside.handing.items c.self.inside.moment c.self.inside.grants.items c.self.inside.alarms c.self.inside.leaving c.self.inside.changed c.self.inside.alerted in
+    let ended = c.end-ended.ensures in
+    let leaving = c.let_go.new.self.leaving in
+    let is : c.let_go.new.self ≡ record d { table = c.end-ended.new.self; handing = set d.handing c.args.thread c.args.alerted; grants = c.push_reserved.new.self.items; leaving = leaving } =
+    c.let_go.ensures.rest ∙ ap (λ (k : ℕ). record d { table = c.end-ended.new.self; handing = set d.handing k c.args.alerted; grants = c.push_reserved.new.self.items; leaving = leaving }) c.get.ensures in
+    subst (λ (x : Dispatcher). state c.let_go.new.self ≡ wait_over (state x) c.args.thread c.args.alerted) c.self.view_is
+    (ap (λ (x : Dispatcher). state x) is ∙ ended_over d c.end-ended.new.self c.args.thread c.args.alerted c.push_reserved.new.self.items ended.pending ended.queues)
 
 pub returns-clause-sound : goal.returns-clause-sound
 returns-clause-sound c =
@@ -41,8 +51,8 @@ returns-clause-sound c =
     let sound : IsSound d = subst IsSound (sym c.self.view_is) c.requires.sound in
     let ended = c.end-ended.ensures in
     let leaving = c.let_go.new.self.leaving in
-    let is : c.let_go.new.self ≡ record d { table = c.end-ended.new.self; handing = set d.handing c.args.thread c.args.may; grants = c.push_reserved.new.self.items; leaving = leaving } =
-    c.let_go.ensures.rest ∙ ap (λ (k : ℕ). record d { table = c.end-ended.new.self; handing = set d.handing k c.args.may; grants = c.push_reserved.new.self.items; leaving = leaving }) c.get.ensures in
+    let is : c.let_go.new.self ≡ record d { table = c.end-ended.new.self; handing = set d.handing c.args.thread c.args.alerted; grants = c.push_reserved.new.self.items; leaving = leaving } =
+    c.let_go.ensures.rest ∙ ap (λ (k : ℕ). record d { table = c.end-ended.new.self; handing = set d.handing k c.args.alerted; grants = c.push_reserved.new.self.items; leaving = leaving }) c.get.ensures in
     subst IsSound (sym is)
-    (ended_sound d c.end-ended.new.self c.args.thread c.args.status c.args.may c.end-ended.result c.push_reserved.new.self.items leaving sound (sym ended.wait) ended.pending ended.agrees c.push_reserved.ensures.items
+    (ended_sound d c.end-ended.new.self c.args.thread c.unmet_status-status.result c.args.alerted c.end-ended.result c.push_reserved.new.self.items leaving sound (sym ended.wait) ended.pending ended.agrees c.push_reserved.ensures.items
     (subst (λ (x : Dispatcher). MarksAgreeBut [] x) is c.let_go.ensures.marks))

@@ -2,9 +2,9 @@ use Rattle.nt_core.proofs.Places.{ServedSoFar}
 use Rattle.nt_core.proofs.Rousing.{marks_left}
 use Rattle.nt_core.proofs.machine.Machine.serve_marked.Given as goal
 
-abbrev pub invariant-loop-object : goal.invariant-loop-object
-invariant-loop-object l = ServedSoFar l.initial.self l.self
+abbrev pub invariant-loop-place : goal.invariant-loop-place
+invariant-loop-place l = ServedSoFar l.initial.self l.self
 
 -- marks that are left
-abbrev pub decreases-loop-object : goal.decreases-loop-object
-decreases-loop-object l = marks_left l.self.marked.changed
+abbrev pub decreases-loop-place : goal.decreases-loop-place
+decreases-loop-place l = marks_left l.self.marked.changed

@@ -18,15 +18,15 @@ loop-thread-smaller c =
     let first : IsFirstWithDeadline before.table.pending c.args.deadline c.in-Some.thread = subst (λ (x : Dispatcher). IsFirstWithDeadline x.table.pending c.args.deadline c.in-Some.thread) c.self.view_is c.in-Some.ensures in
     let late = late_of (state before) c.args.deadline c.in-Some.thread first.has in
     let fewer = len_removed before.table.pending c.in-Some.thread late.0 late.1 in
-    let same : fin.len c.time_out.new.self.table.pending ≡ fin.len (fin.remove before.table.pending c.in-Some.thread) = ap (λ (s : State). fin.len s.waits) c.time_out.ensures.over in
-    let less : fin.len c.time_out.new.self.table.pending < fin.len before.table.pending = omega (arith, fewer, same) in
+    let same : fin.len c.end_wait.new.self.table.pending ≡ fin.len (fin.remove before.table.pending c.in-Some.thread) = ap (λ (s : State). fin.len s.waits) c.end_wait.ensures.over in
+    let less : fin.len c.end_wait.new.self.table.pending < fin.len before.table.pending = omega (arith, fewer, same) in
     less
 
 pub loop-thread-preserved : goal.loop-thread-preserved
 loop-thread-preserved c =
     let first : IsFirstWithDeadline c.loop-thread.self.table.pending c.args.deadline c.in-Some.thread = subst (λ (x : Dispatcher). IsFirstWithDeadline x.table.pending c.args.deadline c.in-Some.thread) c.self.view_is c.in-Some.ensures in
-    let out = c.time_out.ensures in
-    late_next c.args.self.now c.loop-thread.self c.time_out.new.self c.args.deadline c.in-Some.thread c.loop-thread.invariant first out.over out.grants out.looked out.marked out.sound
+    let out = c.end_wait.ensures in
+    late_next c.args.self.now c.loop-thread.self c.end_wait.new.self c.args.deadline c.in-Some.thread c.loop-thread.invariant first out.over out.grants out.looked out.marked out.sound
 
 pub returns-clause-timed : goal.returns-clause-timed
 returns-clause-timed c =
