@@ -1,5 +1,5 @@
 -- One object was exchanged for another that satisfies more waits, where it stands; what the serving after it is told, and tells.
-use Rattle.std.proofs.Common.{◌≡◌, ◌≢◌, ◌<◌, ◌≤◌, ◌^◌, ℕ, Bool, true, false, [], ◌∷◌, length, set, refl, sym, ap, ◌∙◌, subst, List}
+use Rattle.std.proofs.Common.{◌≡◌, ◌≢◌, ◌<◌, ◌≤◌, ℕ, Bool, true, false, [], ◌∷◌, length, set, refl, sym, ap, ◌∙◌, subst, List}
 use Rattle.std.proofs.Common.{arith}
 use Rattle.std.specs.Prelude.{not, ℤ, pos, ◌<ℤ◌}
 use Rattle.std.proofs.lemmas.Int.{ints}
@@ -16,7 +16,7 @@ use Rattle.nt_core.specs.Lawful.{IsSound, MayReplace, IsUnmarked}
 use Rattle.nt_core.specs.Accepts.{IsFresh, IsServedAfter}
 use Rattle.nt_core.proofs.Changing.{sound_replaced}
 use Rattle.nt_core.proofs.Stopping.{by_replaced}
-use Rattle.nt_core.proofs.Replacing.{replaced_fit, one_few, replaced_served, set_differs, raised_same, raised_idle, released_may_replace, unlocked_may_replace}
+use Rattle.nt_core.proofs.Replacing.{replaced_fit, replaced_served, set_differs, raised_same, raised_idle, released_may_replace, unlocked_may_replace}
 
 -- between the change and the serving: the object at h is o, and an owner's list may differ
 abbrev pub IsExchanged : Dispatcher → ℕ → Object → Dispatcher → Type 0

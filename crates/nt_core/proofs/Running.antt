@@ -1,5 +1,5 @@
 -- What a caller whose calls are refused by their own causes alone may do.
-use Rattle.std.proofs.Common.{◌≡◌, ℕ, List, false, length, ap, arith}
+use Rattle.std.proofs.Common.{◌≡◌, ℕ, false, length, ap, arith}
 use Rattle.nt_waits.specs.declared.wait.Wait.{Wait}
 use Rattle.nt_calls.specs.declared.call.Call.{Call}
 use Rattle.nt_core.specs.Dispatcher.{Dispatcher, state}

@@ -21,9 +21,9 @@ use Rattle.std.specs.List.{Contains}
 use Rattle.nt_calls.specs.State.{State, object_at, wait_over, pending_too}
 use Rattle.nt_calls.specs.Serving.{late_status, IsChanged, sequence, sleeps, Serve, IsAlerted, Alert, ending, TimeOut, IsLate}
 use Rattle.nt_calls.specs.Change.{change, all_expired, exited, IsTimerDue}
-use Rattle.nt_calls.specs.Naming.{object_named, lacks, act_named, wait_named}
+use Rattle.nt_calls.specs.Naming.{act_named, wait_named}
 use Rattle.nt_calls.specs.Rights.{act_denied, wait_denied}
-use Rattle.nt_calls.specs.Refusals.{Cause, first_of_causes, call_causes, refusal, would_pend}
+use Rattle.nt_calls.specs.Refusals.{first_of_causes, call_causes, refusal, would_pend}
 use Rattle.nt_calls.specs.Steps.{Step, MomentPasses, Made, begun, wait_of}
 use Rattle.nt_core.specs.declared.waiting.Mode.{Mode}
 use Rattle.nt_core.specs.Dispatcher.{Dispatcher, state}

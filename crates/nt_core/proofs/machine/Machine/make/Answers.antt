@@ -1,10 +1,8 @@
-use Rattle.std.proofs.Common.{◌≡◌, ℕ, None, false, sym, subst}
-use Rattle.std.specs.FinMap.{get}
-use Rattle.nt_objects.specs.Object.{has_ended}
+use Rattle.std.proofs.Common.{ℕ, sym, subst}
 use Rattle.nt_calls.specs.declared.call.Call.{Call}
 use Rattle.nt_calls.specs.Naming.{wait_named, call_named}
 use Rattle.nt_calls.specs.Rights.{wait_denied, is_denied}
-use Rattle.nt_calls.specs.State.{State, object_at}
+use Rattle.nt_calls.specs.State.{State}
 use Rattle.nt_core.specs.Dispatcher.{state}
 use Rattle.nt_calls.specs.Steps.{Made}
 use Rattle.nt_core.specs.Accepts.{IsRunning}

@@ -2,8 +2,7 @@ use Rattle.std.proofs.Common.{Option, ◌≡◌, ℕ, None, refl, sym, ◌∙◌
 use Rattle.std.specs.Prelude.{Ok, Err}
 use Rattle.nt_apc.specs.Queues.{pushed, Apcs}
 use Rattle.nt_apc.specs.declared.apc.Queued.{Queued}
-use Rattle.nt_core.specs.Dispatcher.{Dispatcher, state, with_queues}
-use Rattle.nt_calls.specs.Serving.{IsAlerted}
+use Rattle.nt_core.specs.Dispatcher.{Dispatcher, with_queues}
 use Rattle.nt_core.specs.Lawful.{IsSound}
 use Rattle.nt_calls.specs.declared.call.Act.{Act}
 use Rattle.nt_calls.specs.declared.call.Call.{Call}

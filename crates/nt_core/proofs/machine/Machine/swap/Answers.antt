@@ -1,6 +1,5 @@
-use Rattle.std.proofs.Common.{◌≡◌, ◌+◌, ◌<◌, ℕ, [], ◌∷◌, length, Option, Some, None, false, refl, sym, ap, ◌∙◌, subst}
+use Rattle.std.proofs.Common.{◌≡◌, ◌<◌, ℕ, [], ◌∷◌, length, Option, Some, None, false, refl, sym, ap, ◌∙◌, subst}
 use Rattle.std.proofs.lemmas.Option.{same_Some}
-use Rattle.std.specs.FinMap as fin
 use Rattle.nt_objects.specs.Object.{is_gone}
 use Rattle.nt_waits.specs.declared.wait.Wait.{Wait}
 use Rattle.nt_calls.specs.declared.call.Call.{Call}
@@ -11,7 +10,7 @@ use Rattle.nt_core.specs.Dispatcher.{Dispatcher, state, with_prepared}
 use Rattle.nt_calls.specs.Serving.{wait_for}
 use Rattle.nt_calls.specs.Refusals.{refusal}
 use Rattle.nt_calls.specs.Steps.{begun, wait_of}
-use Rattle.nt_core.specs.Lawful.{IsSoundWait, IsSteady}
+use Rattle.nt_core.specs.Lawful.{IsSteady}
 use Rattle.nt_core.specs.Accepts.{IsFresh, Accepts, CanBegin}
 use Rattle.nt_core.proofs.Beginning.{began_pending, begun_pends}
 use Rattle.nt_core.proofs.Swapping.{fresh_prepared, steady_prepared, calm_steady, calm_idle, calm_now, calm_able, calm_room, swap_accepted, accepts_prepared}

@@ -1,4 +1,4 @@
-use Rattle.std.proofs.Common.{◌≡◌, [], length, arith, sym, ap, subst, refl, false, IsTrue, IfOk, OnErr}
+use Rattle.std.proofs.Common.{◌≡◌, [], sym, subst, refl, false, IsTrue, IfOk, OnErr}
 use Rattle.nt_calls.specs.declared.call.Call.{Call}
 use Rattle.nt_calls.specs.declared.call.WaitCall.{WaitCall}
 use Rattle.nt_calls.specs.State.{deadline_after}

@@ -1,4 +1,4 @@
-use Rattle.std.proofs.Common.{◌≡◌, List, [], length, arith, sym, ap, ◌∙◌, refl, false, None}
+use Rattle.std.proofs.Common.{◌≡◌, List, sym, ap, ◌∙◌, refl, false, None}
 use Rattle.nt_objects.specs.declared.object.Object.{Object}
 use Rattle.nt_calls.specs.declared.call.Call.{Call}
 use Rattle.nt_calls.specs.declared.call.WaitCall.{WaitCall}
