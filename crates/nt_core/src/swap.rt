@@ -80,8 +80,8 @@ impl Machine {
     /// comes first, so where it is refused nothing changes.
     fn swap(&mut self, thread: ThreadId, signal: Handle, object: Handle, mode: Mode) -> Answer
         requires fresh { IsFresh self.old }
-        requires free { refusal (state self.old) thread false (Call.Wait (WaitCall.Swap signal object mode.ms mode.alertable)) ≡
-            None }
+        requires free { refusal (state self.old) thread false
+            (Call.Wait (WaitCall.Swap signal object mode.ms mode.alertable)) ≡ None }
         requires living { object < length self.old.objects → is_gone (object_at self.old.objects object) ≡ false }
         ensures ok { IfOk result (λ reply.
             Accepts self.old self.new thread (Call.Wait (WaitCall.Swap signal object mode.ms mode.alertable)) reply) }
