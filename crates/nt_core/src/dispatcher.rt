@@ -1,3 +1,4 @@
+//! The dispatcher as a caller sees it.
 ghost use Rattle.std.specs.Prelude.{◌≡◌, ◌≤◌, ◌+◌, ℕ, true, false, [], length, IfOk, IfErr, OnOk, OnErr, MatchBool, nat_le, ◌&&◌};
 ghost use Rattle.std.specs.FinMap as map;
 ghost use Rattle.nt_status.specs.declared.refusal.Refusal.TheVariants.{InvalidParameter, Memory};
@@ -45,6 +46,7 @@ impl Core {
     pub fn new(alloc: Global, threads: u32) -> Result<Core, Refusal>
         ensures ok { IfOk result (λ core. (1 ≤ threads) × (threads ≤ MAX_THREADS) × (state core ≡ opening threads)
             × (core.grants ≡ [])) }
+        ensures untested { IfOk result (λ core. core.table.looked ≡ 0) }
         ensures lawful { IfOk result (λ core. IsLawful core) }
         ensures err { IfErr result (λ r.
             MatchBool (nat_le 1 threads && nat_le threads MAX_THREADS) (r ≡ Memory) (r ≡ InvalidParameter)) }

@@ -71,6 +71,7 @@ impl Machine {
         requires { threads ≤ MAX_THREADS }
         ensures opening { IfOk result (λ m. state m ≡ opening threads) }
         ensures grants { IfOk result (λ m. m.grants ≡ []) }
+        ensures untested { IfOk result (λ m. m.table.looked ≡ 0) }
         ensures steady { IfOk result (λ m. IsSteady m) }
         ensures living { IfOk result (λ m. LivesWhileKept (state m)) }
         ensures memory { IfErr result (λ refusal. refusal ≡ Memory) }

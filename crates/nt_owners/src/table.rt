@@ -174,9 +174,10 @@ impl ObjectTable {
         let _ = &self.objects;
     }
 
-    /// Makes room for one object more. Where memory is refused nothing is lost.
+    /// Makes room for one object more. Where memory is refused nothing is lost; room that there was stays in any case.
     pub fn make_room(&mut self) -> Result<(), AllocError>
         ensures room { OnOk result (length self.new.items < self.new.room) }
+        ensures kept { self.old.room ≤ self.new.room }
         ensures items { self.new.items ≡ self.old.items }
         ensures owned { self.new.owned ≡ self.old.owned }
     {
