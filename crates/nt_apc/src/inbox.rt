@@ -26,7 +26,8 @@ impl Model for Inbox {
     ghost view = { λ i. record {
       queue = i.queue.items;
       timers = i.timers.items;
-      room = min (deque_capacity i.queue - (plain_count i.queue.items + length i.timers.items)) (vec_capacity i.timers - length i.timers.items);
+      room = min (deque_capacity i.queue - (plain_count i.queue.items + length i.timers.items))
+          (vec_capacity i.timers - length i.timers.items);
     } };
 
     ghost invariant = { λ i. plain_count i.queue.items + length i.timers.items ≤ deque_capacity i.queue };

@@ -11,7 +11,8 @@ impl Cell {
     /// The dispatcher with its list. When the borrow ends, the cell has what became of it.
     pub fn driver_mut(&mut self) -> &mut Driver
         requires { IsTrue (is_some self.old.core) }
-        ensures* writes_back { sem 𝓛 (follows the_row driver_row self.entry.ghost_name result.ghost_name (λ core. record self.old { core = Some core })) }
+        ensures* writes_back { sem 𝓛 (follows the_row driver_row self.entry.ghost_name result.ghost_name
+            (λ core. record self.old { core = Some core })) }
         ensures value { self.old.core ≡ Some result.now }
     {
         let at = self.at as *mut Driver;

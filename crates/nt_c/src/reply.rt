@@ -26,7 +26,8 @@ pub struct NtReply {
 /// A reply that tells a number, or none.
 #[inline(always)]
 fn plain(kind: u32, number: u32) -> NtReply
-    ensures { result ≡ record { kind = kind; number = number; previous = pos 0; timed = false; routine = 0; arg = 0; at = 0 } }
+    ensures { result
+        ≡ record { kind = kind; number = number; previous = pos 0; timed = false; routine = 0; arg = 0; at = 0 } }
 {
     NtReply {
         kind,

@@ -57,7 +57,8 @@ pub extern "C" fn nt_set_timer_apc(
 ) -> u32
     requires fit { IsFit nt.old }
     ensures fit { IsFit nt.new }
-    ensures answers { Acts nt.old who (Act.SetTimer timer due period (Some (routine, arg))) result out.old out.new nt.new }
+    ensures answers { Acts nt.old who
+        (Act.SetTimer timer due period (Some (routine, arg))) result out.old out.new nt.new }
 {
     let act = Act::SetTimer {
         timer: Handle::new(timer),

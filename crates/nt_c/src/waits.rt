@@ -23,7 +23,8 @@ pub extern "C" fn nt_wait_objects(
 ) -> u32
     requires fit { IsFit nt.old }
     ensures fit { IsFit nt.new }
-    ensures answers { WaitsForObjects nt.old who (WaitCall.Objects all alertable ms handles.now) result out.old out.new nt.new }
+    ensures answers { WaitsForObjects nt.old who
+        (WaitCall.Objects all alertable ms handles.now) result out.old out.new nt.new }
 {
     if !nt.live {
         return NO_DISPATCHER;
@@ -45,7 +46,8 @@ pub extern "C" fn nt_wait_object(
 ) -> u32
     requires fit { IsFit nt.old }
     ensures fit { IsFit nt.new }
-    ensures answers { WaitsForObjects nt.old who (WaitCall.Objects false alertable ms (handle ∷ [])) result out.old out.new nt.new }
+    ensures answers { WaitsForObjects nt.old who
+        (WaitCall.Objects false alertable ms (handle ∷ [])) result out.old out.new nt.new }
 {
     let wait = WaitCall::Objects {
         handles: Handles::from_one(alloc, Handle::new(handle)),

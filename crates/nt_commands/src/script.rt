@@ -23,8 +23,10 @@ pub fn script_over<R: Source, W: Sink, E: Sink>(
 ) -> u8
     requires read_failures { R.failed reader.old < 2 ^ 64 - 1 }
     requires write_failures { W.failed writer.old < 2 ^ 64 - 1 }
-    ensures { ScriptEnds (R.remaining reader.old) (R.remaining reader.new) (W.contents writer.old) (W.contents writer.new) (R.failed reader.old) (R.failed reader.new)
-        (W.failed writer.old) (W.failed writer.new) (W.handed_on writer.new) (E.contents errors.old) (E.contents errors.new) (E.failed errors.old) (E.failed errors.new) result }
+    ensures { ScriptEnds (R.remaining reader.old) (R.remaining reader.new)
+        (W.contents writer.old) (W.contents writer.new) (R.failed reader.old) (R.failed reader.new)
+        (W.failed writer.old) (W.failed writer.new) (W.handed_on writer.new)
+        (E.contents errors.old) (E.contents errors.new) (E.failed errors.old) (E.failed errors.new) result }
 {
     match run_and_flush(alloc, reader, writer) {
         Ok(_) => 0,
@@ -44,7 +46,9 @@ pub fn run_file<F: Files + AllocGlobal, W: Sink, E: Sink>(
     errors: &mut E,
 ) -> u8
     requires { W.failed writer.old < 2 ^ 64 - 1 }
-    ensures { FileEnds (W.contents writer.old) (W.contents writer.new) (W.failed writer.old) (W.failed writer.new) (W.handed_on writer.new) (E.contents errors.old) (E.contents errors.new) (E.failed errors.old) (E.failed errors.new) result }
+    ensures { FileEnds (W.contents writer.old) (W.contents writer.new) (W.failed writer.old) (W.failed writer.new)
+        (W.handed_on writer.new) (E.contents errors.old) (E.contents errors.new) (E.failed errors.old)
+        (E.failed errors.new) result }
 {
     match fs::open(files, path) {
         Ok(file) => script_over(files.alloc(), &mut Counted::new(file), writer, errors),
@@ -60,7 +64,9 @@ fn run_and_flush<R: Source, W: Sink>(
 ) -> Result<Summary, RunFault>
     requires read_failures { R.failed reader.old < 2 ^ 64 - 1 }
     requires write_failures { W.failed writer.old < 2 ^ 64 - 1 }
-    ensures { Outcome (R.remaining reader.old) (R.remaining reader.new) (W.contents writer.old) (W.contents writer.new) (W.failed writer.old) (W.failed writer.new) (W.handed_on writer.new) result × CountsReads (R.failed reader.old) (R.failed reader.new) result }
+    ensures { Outcome (R.remaining reader.old) (R.remaining reader.new) (W.contents writer.old) (W.contents writer.new)
+        (W.failed writer.old) (W.failed writer.new) (W.handed_on writer.new) result
+        × CountsReads (R.failed reader.old) (R.failed reader.new) result }
 {
     match run(alloc, reader, writer) {
         Ok(summary) => hand_on(summary, writer),
@@ -76,8 +82,10 @@ fn run_and_flush<R: Source, W: Sink>(
 fn hand_on<W: Sink>(summary: Summary, writer: &mut W) -> Result<Summary, RunFault>
     requires lines { summary.lines < 2 ^ 64 - 1 }
     ensures kept { Keeps (W.contents writer.old) (W.contents writer.new) }
-    ensures ok { IfOk result (λ told. (told ≡ summary) × (W.failed writer.new ≡ W.failed writer.old) × (W.handed_on writer.new ≡ true)) }
-    ensures err { IfErr result (λ fault. (fault ≡ Write (summary.lines + 1)) × (W.failed writer.new ≡ one_more (W.failed writer.old)) × (W.handed_on writer.new ≡ false)) }
+    ensures ok { IfOk result (λ told. (told ≡ summary) × (W.failed writer.new ≡ W.failed writer.old)
+        × (W.handed_on writer.new ≡ true)) }
+    ensures err { IfErr result (λ fault. (fault ≡ Write (summary.lines + 1))
+        × (W.failed writer.new ≡ one_more (W.failed writer.old)) × (W.handed_on writer.new ≡ false)) }
 {
     match writer.flush_counted() {
         Ok(()) => Ok(summary),

@@ -24,7 +24,8 @@ pub fn threads_over<R: Threads + Wait + Sync, W: Sink, E: Sink>(
     writer: &mut W,
     errors: &mut E,
 ) -> u8
-    ensures { ThreadsEnd workers rounds (W.contents writer.old) (W.contents writer.new) (W.failed writer.old) (W.failed writer.new) (W.handed_on writer.new)
+    ensures { ThreadsEnd workers rounds (W.contents writer.old) (W.contents writer.new)
+        (W.failed writer.old) (W.failed writer.new) (W.handed_on writer.new)
         (E.contents errors.old) (E.contents errors.new) (E.failed errors.old) (E.failed errors.new) result }
 {
     if !are_lawful(workers, rounds) {
@@ -40,7 +41,8 @@ const WRITE_FAILED: &str = "ntrun: write failed";
 
 /// Writes the lines and hands them on, and answers the exit status. Why it is not 0 is said on `errors`.
 fn tell_lines<W: Sink, E: Sink>(lines: &[u8], writer: &mut W, errors: &mut E) -> u8
-    ensures { TellsLines lines.now (W.contents writer.old) (W.contents writer.new) (W.failed writer.old) (W.failed writer.new) (W.handed_on writer.new)
+    ensures { TellsLines lines.now (W.contents writer.old) (W.contents writer.new)
+        (W.failed writer.old) (W.failed writer.new) (W.handed_on writer.new)
         (E.contents errors.old) (E.contents errors.new) (E.failed errors.old) (E.failed errors.new) result }
 {
     match hand(writer, lines) {
@@ -58,7 +60,8 @@ fn are_lawful(workers: u32, rounds: u32) -> bool
 
 /// Writes the lines, and hands them on. After a failed write nothing more is written.
 fn hand<W: Sink>(writer: &mut W, lines: &[u8]) -> Result<(), WriteFailed>
-    ensures { Hands (W.contents writer.old) (W.contents writer.new) (W.failed writer.old) (W.failed writer.new) (W.handed_on writer.new) lines.now result }
+    ensures { Hands (W.contents writer.old) (W.contents writer.new) (W.failed writer.old) (W.failed writer.new)
+        (W.handed_on writer.new) lines.now result }
 {
     match write_whole(writer, lines) {
         Ok(()) => match writer.flush_counted() {

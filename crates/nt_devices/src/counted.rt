@@ -60,7 +60,8 @@ impl<T> Counted<T> {
 impl<R: Read> Counted<R> {
     fn read_once(&mut self, buf: &mut [u8]) -> io::Result<usize>
         ensures bound { ReadsAtMost result buf.new }
-        ensures bytes { ReadConsumes (R.remaining (device_of self.old)) (R.remaining (device_of self.new)) result buf.new }
+        ensures bytes { ReadConsumes (R.remaining (device_of self.old))
+            (R.remaining (device_of self.new)) result buf.new }
         ensures counted { Counts (failures_of self.old) (failures_of self.new) result }
     {
         let result = self.device.read(buf);
@@ -92,7 +93,8 @@ impl<R: Read> Source for Counted<R> {
 impl<W: Write> Counted<W> {
     fn write_once(&mut self, buf: &[u8]) -> io::Result<usize>
         ensures bound { WritesAtMost result buf.now }
-        ensures bytes { WriteAppends (W.contents (device_of self.old)) (W.contents (device_of self.new)) result buf.now }
+        ensures bytes { WriteAppends (W.contents (device_of self.old))
+            (W.contents (device_of self.new)) result buf.now }
         ensures some { 0 < length buf.now → IfOk result (λ n. 0 < n) }
         ensures counted { Counts (failures_of self.old) (failures_of self.new) result }
         ensures unflushed { flushes_of self.new ≡ flushes_of self.old }

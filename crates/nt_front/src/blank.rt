@@ -42,7 +42,8 @@ impl Model for Blank {
 
     ghost view = { λ b. prepared b.mail b.threads b.room };
 
-    ghost invariant = { λ b. IsBlank (prepared b.mail b.threads b.room) b.seats b.core b.journal.items (vec_capacity b.journal) };
+    ghost invariant = { λ b. IsBlank (prepared b.mail b.threads b.room) b.seats b.core b.journal.items
+        (vec_capacity b.journal) };
 }
 
 /// Makes what a front for these threads needs, with this room in its journal.
@@ -51,7 +52,8 @@ impl Model for Blank {
 /// refused.
 pub fn prepare(alloc: Global, threads: u32, journal_room: usize) -> Result<Blank, Refusal>
     ensures ok { IfOk result (λ b. (b.threads ≡ threads) × (b.room ≡ journal_room)) }
-    ensures err { IfErr result (λ r. MatchBool (is_lawful_front threads journal_room) (r ≡ Memory) (r ≡ InvalidParameter)) }
+    ensures err { IfErr result (λ r. MatchBool (is_lawful_front threads journal_room) (r ≡ Memory)
+        (r ≡ InvalidParameter)) }
 {
     if !is_lawful(threads, journal_room) {
         return Err(Refusal::InvalidParameter);
@@ -168,7 +170,8 @@ fn parts(alloc: Global, threads: u32, room: usize) -> Result<Blank, Refusal>
 /// Gives each thread its pass.
 fn hand_out<N: Named>(mail: &Mail, seats: &mut JoinedSeats, threads: u16, passes: &mut Vec<Pass<N>>)
     requires mail { (mail.now ≡ N.front.table) × (mail.now.words ≡ threads + 1) }
-    requires seats { seats.old ≡ record { table = mail.now; written = []; published = []; parts = newcomers 0 threads } }
+    requires seats { seats.old
+        ≡ record { table = mail.now; written = []; published = []; parts = newcomers 0 threads } }
     requires room { (passes.old.items ≡ []) × (threads ≤ vec_capacity passes.old) }
     ensures seats { seats.new ≡ record { table = mail.now; written = []; published = []; parts = [] } }
     ensures passes { passes.new.items ≡ new_threads threads }

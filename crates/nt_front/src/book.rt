@@ -54,7 +54,8 @@ impl<N: Named> Model for Book<N> {
 
     ghost view = { λ b. ledger b.core b.base b.dispatcher.written b.first b.journal.items b.room };
 
-    ghost invariant = { λ b. IsBook (ledger b.core b.base b.dispatcher.written b.first b.journal.items b.room) b.threads (vec_capacity b.journal) b.dispatcher N.front };
+    ghost invariant = { λ b. IsBook (ledger b.core b.base b.dispatcher.written b.first b.journal.items b.room) b.threads
+        (vec_capacity b.journal) b.dispatcher N.front };
 }
 
 impl<N: Named> Book<N> {
@@ -275,10 +276,12 @@ impl<N: Named> Book<N> {
 
     /// The rest of the journal, and the seat that knows all entries.
     pub(crate) fn into_history(self) -> (History, DispatcherSeat)
-        ensures history { (result.0.first ≡ self.first) × (result.0.base ≡ self.base) × (result.0.entries.items ≡ self.journal) }
+        ensures history { (result.0.first ≡ self.first) × (result.0.base ≡ self.base)
+            × (result.0.entries.items ≡ self.journal) }
         ensures stands { Stands self }
         ensures threads { self.core.threads ≡ N.front.threads }
-        ensures seat { result.1 ≡ record { table = N.front.table; written = self.written; published = accepted self.written } }
+        ensures seat { result.1
+            ≡ record { table = N.front.table; written = self.written; published = accepted self.written } }
     {
         let Book {
             core,

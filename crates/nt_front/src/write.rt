@@ -23,7 +23,8 @@ pub(crate) fn write_call(
     requires room { vec_len journal.old < vec_capacity journal.old }
     ensures carried_out { IsCarriedOut core.old who call result core.new }
     ensures journal { journal.new.items ≡ journal.old.items ++ Called who call result ∷ [] }
-    ensures room { (vec_len journal.new ≡ vec_len journal.old + 1) × (vec_capacity journal.new ≡ vec_capacity journal.old) }
+    ensures room { (vec_len journal.new ≡ vec_len journal.old + 1)
+        × (vec_capacity journal.new ≡ vec_capacity journal.old) }
 {
     let result = core.call(u32::from(who.get()), &call);
     let told = result;
@@ -43,7 +44,8 @@ pub(crate) fn tell(
 )
     requires table { (dispatcher.old.table ≡ mail.now) × (caller.old.table ≡ mail.now) }
     requires entry { IsOwn caller.old.known.thread entry.now }
-    requires armed { one_if (is_armed caller.old.known.thread dispatcher.old.written) + one_if (arms entry.now) ≡ one_if armed }
+    requires armed { one_if (is_armed caller.old.known.thread dispatcher.old.written) + one_if (arms entry.now)
+        ≡ one_if armed }
     requires number { (number ≡ length dispatcher.old.written + 1) × (number < 2 ^ 54) }
     ensures written { dispatcher.new ≡ record dispatcher.old { written = dispatcher.old.written ++ entry.now ∷ [] } }
     ensures made { caller.new ≡ seated mail.now (with_call number entry.now caller.old.known) }
@@ -65,7 +67,8 @@ pub(crate) fn publish(
 )
     requires table { dispatcher.old.table ≡ mail.now }
     requires moment { IfOk answer.now (λ _. latest 0 dispatcher.old.published ≤ moment) }
-    ensures { dispatcher.new ≡ record dispatcher.old { published = dispatcher.old.published ++ accepted_if moment answer.now } }
+    ensures { dispatcher.new
+        ≡ record dispatcher.old { published = dispatcher.old.published ++ accepted_if moment answer.now } }
 {
     if answer.is_ok() {
         mail.publish_moment(dispatcher, moment);
@@ -83,11 +86,13 @@ pub(crate) fn send(
 )
     requires table { dispatcher.old.table ≡ mail.now }
     requires next { next ≡ length dispatcher.old.written + 1 }
-    requires room { (vec_len journal.old + length grants.now ≤ vec_capacity journal.old) × (next + length grants.now ≤ 2 ^ 54) }
+    requires room { (vec_len journal.old + length grants.now ≤ vec_capacity journal.old)
+        × (next + length grants.now ≤ 2 ^ 54) }
     requires armed { AreArmed (mail.now.words - 1) dispatcher.old.written grants.now }
     ensures journal { journal.new.items ≡ journal.old.items ++ map granted grants.now }
     ensures capacity { vec_capacity journal.new ≡ vec_capacity journal.old }
-    ensures written { dispatcher.new ≡ record dispatcher.old { written = dispatcher.old.written ++ map granted grants.now } }
+    ensures written { dispatcher.new
+        ≡ record dispatcher.old { written = dispatcher.old.written ++ map granted grants.now } }
 {
     if !grants.is_empty() {
         send_all(mail, dispatcher, journal, next, grants);
@@ -105,11 +110,13 @@ fn send_all(
 )
     requires table { dispatcher.old.table ≡ mail.now }
     requires next { next ≡ length dispatcher.old.written + 1 }
-    requires room { (vec_len journal.old + length grants.now ≤ vec_capacity journal.old) × (next + length grants.now ≤ 2 ^ 54) }
+    requires room { (vec_len journal.old + length grants.now ≤ vec_capacity journal.old)
+        × (next + length grants.now ≤ 2 ^ 54) }
     requires armed { AreArmed (mail.now.words - 1) dispatcher.old.written grants.now }
     ensures journal { journal.new.items ≡ journal.old.items ++ map granted grants.now }
     ensures capacity { vec_capacity journal.new ≡ vec_capacity journal.old }
-    ensures written { dispatcher.new ≡ record dispatcher.old { written = dispatcher.old.written ++ map granted grants.now } }
+    ensures written { dispatcher.new
+        ≡ record dispatcher.old { written = dispatcher.old.written ++ map granted grants.now } }
 {
     let mut number = next;
     for grant in grants {

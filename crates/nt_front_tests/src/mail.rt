@@ -76,7 +76,8 @@ fn granted_words_alone_tell(rt: HostRuntime) {
 /// A mail of two threads, with a second try where memory is refused.
 fn open(rt: &impl Host) -> Result<Opened, AllocError>
     ensures words { IfOk result (λ o. o.mail.words ≡ 3) }
-    ensures seats { IfOk result (λ o. o.seats ≡ record { table = o.mail; written = []; published = []; parts = newcomers 0 2 }) }
+    ensures seats { IfOk result (λ o. o.seats
+        ≡ record { table = o.mail; written = []; published = []; parts = newcomers 0 2 }) }
 {
     match Mail::new(rt.alloc(), 2) {
         Ok(opened) => Ok(opened),
@@ -114,7 +115,11 @@ fn note(
     requires reply { pended (Ok reply) ≡ false }
     requires idle { is_armed caller.old.known.thread dispatcher.old.written ≡ false }
     requires number { (number ≡ length dispatcher.old.written + 1) × (number < 2 ^ 54) }
-    ensures written { dispatcher.new ≡ record dispatcher.old { written = dispatcher.old.written ++ Called caller.old.known.thread (Call.Act act) (Ok reply) ∷ [] } }
+    ensures written { dispatcher.new
+        ≡ record dispatcher.old {
+          written = dispatcher.old.written ++ Called caller.old.known.thread (Call.Act act)
+              (Ok reply) ∷ [];
+        } }
     ensures caller { (caller.new.table ≡ mail.now) × (caller.new.known.thread ≡ caller.old.known.thread) }
 {
     let entry = Entry::Called {
@@ -136,7 +141,11 @@ fn arm(
     requires table { (dispatcher.old.table ≡ mail.now) × (caller.old.table ≡ mail.now) }
     requires idle { is_armed caller.old.known.thread dispatcher.old.written ≡ false }
     requires number { (number ≡ length dispatcher.old.written + 1) × (number < 2 ^ 54) }
-    ensures written { dispatcher.new ≡ record dispatcher.old { written = dispatcher.old.written ++ Called caller.old.known.thread (Call.Wait wait) (Ok Reply.Pended) ∷ [] } }
+    ensures written { dispatcher.new
+        ≡ record dispatcher.old {
+          written = dispatcher.old.written ++ Called caller.old.known.thread (Call.Wait wait)
+              (Ok Reply.Pended) ∷ [];
+        } }
     ensures caller { (caller.new.table ≡ mail.now) × (caller.new.known.thread ≡ caller.old.known.thread) }
 {
     let entry = Entry::Called {
@@ -232,7 +241,8 @@ fn tick(
 /// Both threads do their parts on this mail, and it is closed.
 fn told_on(opened: Opened, wait: WaitCall, moment: Moment) -> Told
     requires words { opened.mail.words ≡ 3 }
-    requires seats { opened.seats ≡ record { table = opened.mail; written = []; published = []; parts = newcomers 0 2 } }
+    requires seats { opened.seats
+        ≡ record { table = opened.mail; written = []; published = []; parts = newcomers 0 2 } }
 {
     let Opened { mail, mut seats } = opened;
     let mut setter = mail.part(&mut seats, ThreadId::new(0));

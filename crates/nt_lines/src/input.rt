@@ -143,8 +143,10 @@ impl Input {
         line: &mut Vec<u8>,
     ) -> Result<Ending, ReadFault>
         requires { 4097 ≤ vec_capacity line.old }
-        ensures ok { IfOk result (ReadsLine (to_come self.old (R.remaining reader.old)) (to_come self.new (R.remaining reader.new)) line.new.items) }
-        ensures err { IfErr result (StopsInLine (to_come self.old (R.remaining reader.old)) (to_come self.new (R.remaining reader.new)) line.new.items) }
+        ensures ok { IfOk result (ReadsLine (to_come self.old (R.remaining reader.old))
+            (to_come self.new (R.remaining reader.new)) line.new.items) }
+        ensures err { IfErr result (StopsInLine (to_come self.old (R.remaining reader.old))
+            (to_come self.new (R.remaining reader.new)) line.new.items) }
         ensures nothing_ahead { result ≡ Err ReadFault.Failed → self.new ≡ [] }
         ensures counted { CountsReadFault (R.failed reader.old) (R.failed reader.new) result }
         ensures room { vec_capacity line.old ≤ vec_capacity line.new }

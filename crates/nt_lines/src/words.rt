@@ -153,7 +153,8 @@ pub fn name_of(word: &[u8]) -> Option<&str>
 
 /// What a line says before a comment, if each of its bytes may stand there.
 pub fn text_of(line: &[u8]) -> Option<&[u8]>
-    ensures { option_map (λ text. text.now) result ≡ (if list_all is_plain (text_of line.now) then Some (text_of line.now) else None) }
+    ensures { option_map (λ text. text.now) result
+        ≡ (if list_all is_plain (text_of line.now) then Some (text_of line.now) else None) }
 {
     let text = before_comment(without_return(line));
     if are_plain(text) { Some(text) } else { None }

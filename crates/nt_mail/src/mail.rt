@@ -42,7 +42,8 @@ impl Mail {
     /// A mail for threads that have made no call. Only memory may be refused.
     pub fn new(alloc: Global, threads: u32) -> Result<Opened, AllocError>
         ensures words { IfOk result (λ o. o.mail.words ≡ threads + 1) }
-        ensures seats { IfOk result (λ o. o.seats ≡ record { table = o.mail; written = []; published = []; parts = newcomers 0 threads }) }
+        ensures seats { IfOk result (λ o. o.seats
+            ≡ record { table = o.mail; written = []; published = []; parts = newcomers 0 threads }) }
     {
         let words = Vec::from_elem(alloc, 0u64, threads as usize + 1)?;
         let (table, seat) = Letters::of_words(alloc, words.as_slice(), &u64::from(threads))?;

@@ -44,7 +44,8 @@ impl<W: Writing> Play<(), View> for Writes<W> {
     ghost use Rattle.nt_mail.specs.Knowledge.{IsEarlier};
     ghost use Rattle.nt_mail.specs.Views.{with_entry};
 
-    ghost then = { λ step before found after. (after ≡ (with_entry W.entry before.0, before.1)) × Each (IsEarlier (suc (length before.0.written))) before.0.parts };
+    ghost then = { λ step before found after. (after ≡ (with_entry W.entry before.0, before.1))
+        × Each (IsEarlier (suc (length before.0.written))) before.0.parts };
 }
 
 /// A thread reads its word.
@@ -57,7 +58,8 @@ impl Play<(), View> for Polls {
     ghost use Rattle.nt_mail.specs.Rule.{IsWordFor};
     ghost use Rattle.nt_mail.specs.Views.{with_parts};
 
-    ghost then = { λ step before found after. (after ≡ (with_parts (with_polled found) before.0, before.1)) × Each (λ k. IsWordFor k found) before.0.parts };
+    ghost then = { λ step before found after. (after ≡ (with_parts (with_polled found) before.0, before.1))
+        × Each (λ k. IsWordFor k found) before.0.parts };
 }
 
 /// A thread takes the grant that it read in its word, where the word is still that one.
@@ -70,7 +72,8 @@ impl Play<(), View> for Takes {
     ghost use Rattle.nt_mail.specs.Rule.{IsWordFor};
     ghost use Rattle.nt_mail.specs.Views.{with_parts};
 
-    ghost then = { λ step before found after. (after ≡ (with_parts (after_take step.first found) before.0, before.1)) × Each (λ k. IsWordFor k found) before.0.parts };
+    ghost then = { λ step before found after. (after ≡ (with_parts (after_take step.first found) before.0, before.1))
+        × Each (λ k. IsWordFor k found) before.0.parts };
 }
 
 /// The dispatcher publishes a moment.
@@ -105,7 +108,8 @@ impl Play<(), View> for Looks {
     ghost use Rattle.nt_mail.specs.Entries.{Each};
     ghost use Rattle.nt_mail.specs.Rule.{IsTold};
 
-    ghost then = { λ step before found after. (after ≡ before) × Each (IsTold before.0.written before.0.published) before.0.parts };
+    ghost then = { λ step before found after. (after ≡ before)
+        × Each (IsTold before.0.written before.0.published) before.0.parts };
 }
 
 /// Parts a seat that knows nothing.

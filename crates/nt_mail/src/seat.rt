@@ -18,7 +18,11 @@ impl Model for DispatcherSeat {
 
     ghost Value = { Dispatcher };
 
-    ghost view = { λ s. record { table = s.seat.table_id; written = s.seat.me.0.written; published = s.seat.me.0.published } };
+    ghost view = { λ s. record {
+      table = s.seat.table_id;
+      written = s.seat.me.0.written;
+      published = s.seat.me.0.published;
+    } };
 
     ghost invariant = { λ s. s.seat.me ≡ (keeper s.seat.me.0.written s.seat.me.0.published [], []) };
 }
@@ -26,7 +30,8 @@ impl Model for DispatcherSeat {
 impl DispatcherSeat {
     /// The same seat, to which threads' seats can be joined.
     pub fn gather(self) -> JoinedSeats
-        ensures { result ≡ record { table = self.table; written = self.written; published = self.published; parts = [] } }
+        ensures { result
+            ≡ record { table = self.table; written = self.written; published = self.published; parts = [] } }
     {
         let DispatcherSeat { seat } = self;
         JoinedSeats { seat }
@@ -50,7 +55,8 @@ impl Model for ThreadSeat {
 
     ghost view = { λ s. record { table = s.seat.table_id; known = known_in s.seat.me.0 } };
 
-    ghost invariant = { λ s. (s.seat.me ≡ (holder (known_in s.seat.me.0), [])) × ((known_in s.seat.me.0).thread ≡ s.thread) × (s.thread + 1 < s.seat.table_id.words) × (s.thread < 2 ^ 16) };
+    ghost invariant = { λ s. (s.seat.me ≡ (holder (known_in s.seat.me.0), []))
+        × ((known_in s.seat.me.0).thread ≡ s.thread) × (s.thread + 1 < s.seat.table_id.words) × (s.thread < 2 ^ 16) };
 }
 
 impl ThreadSeat {
@@ -75,7 +81,12 @@ impl Model for JoinedSeats {
 
     ghost Value = { Gathered };
 
-    ghost view = { λ s. record { table = s.seat.table_id; written = s.seat.me.0.written; published = s.seat.me.0.published; parts = s.seat.me.0.parts } };
+    ghost view = { λ s. record {
+      table = s.seat.table_id;
+      written = s.seat.me.0.written;
+      published = s.seat.me.0.published;
+      parts = s.seat.me.0.parts;
+    } };
 
     ghost invariant = { λ s. s.seat.me ≡ (keeper s.seat.me.0.written s.seat.me.0.published s.seat.me.0.parts, []) };
 }

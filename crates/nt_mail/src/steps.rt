@@ -34,7 +34,8 @@ impl Mail {
         requires entry { IsOwn caller.old.known.thread entry.now }
         requires idle { (is_armed caller.old.known.thread dispatcher.old.written ≡ false) × (arms entry.now ≡ false) }
         requires number { (number ≡ length dispatcher.old.written + 1) × (number < 2 ^ 54) }
-        ensures written { dispatcher.new ≡ record dispatcher.old { written = dispatcher.old.written ++ entry.now ∷ [] } }
+        ensures written { dispatcher.new
+            ≡ record dispatcher.old { written = dispatcher.old.written ++ entry.now ∷ [] } }
         ensures made { caller.new ≡ seated self.now (with_call number entry.now caller.old.known) }
         ensures earlier { IsEarlier number caller.old.known }
     {
@@ -52,9 +53,11 @@ impl Mail {
     )
         requires table { (dispatcher.old.table ≡ self.now) × (caller.old.table ≡ self.now) }
         requires entry { IsOwn caller.old.known.thread entry.now }
-        requires pending { one_if (is_armed caller.old.known.thread dispatcher.old.written) + one_if (arms entry.now) ≡ 1 }
+        requires pending { one_if (is_armed caller.old.known.thread dispatcher.old.written) + one_if (arms entry.now)
+            ≡ 1 }
         requires number { (number ≡ length dispatcher.old.written + 1) × (number < 2 ^ 54) }
-        ensures written { dispatcher.new ≡ record dispatcher.old { written = dispatcher.old.written ++ entry.now ∷ [] } }
+        ensures written { dispatcher.new
+            ≡ record dispatcher.old { written = dispatcher.old.written ++ entry.now ∷ [] } }
         ensures made { caller.new ≡ seated self.now (with_call number entry.now caller.old.known) }
         ensures earlier { IsEarlier number caller.old.known }
     {
@@ -73,9 +76,11 @@ impl Mail {
     )
         requires table { (dispatcher.old.table ≡ self.now) × (caller.old.table ≡ self.now) }
         requires entry { IsOwn caller.old.known.thread entry.now }
-        requires armed { one_if (is_armed caller.old.known.thread dispatcher.old.written) + one_if (arms entry.now) ≡ one_if armed }
+        requires armed { one_if (is_armed caller.old.known.thread dispatcher.old.written) + one_if (arms entry.now)
+            ≡ one_if armed }
         requires number { (number ≡ length dispatcher.old.written + 1) × (number < 2 ^ 54) }
-        ensures written { dispatcher.new ≡ record dispatcher.old { written = dispatcher.old.written ++ entry.now ∷ [] } }
+        ensures written { dispatcher.new
+            ≡ record dispatcher.old { written = dispatcher.old.written ++ entry.now ∷ [] } }
         ensures made { caller.new ≡ seated self.now (with_call number entry.now caller.old.known) }
         ensures earlier { IsEarlier number caller.old.known }
     {
@@ -105,7 +110,8 @@ impl Mail {
         requires table { (dispatcher.old.table ≡ self.now) × (thread + 1 < self.now.words) }
         requires armed { is_armed thread dispatcher.old.written ≡ true }
         requires number { (number ≡ length dispatcher.old.written + 1) × (number < 2 ^ 54) }
-        ensures { dispatcher.new ≡ record dispatcher.old { written = dispatcher.old.written ++ Granted thread status ∷ [] } }
+        ensures { dispatcher.new
+            ≡ record dispatcher.old { written = dispatcher.old.written ++ Granted thread status ∷ [] } }
     {
         let thread = usize::from(thread.get());
         store_grant::<Brand>(&self.table, &mut dispatcher.seat, thread, status, number);
@@ -153,7 +159,8 @@ impl Mail {
         requires table { seat.old.table ≡ self.now }
         requires granted { 2 ≤ word % 1024 }
         ensures ok { OnOk result (seat.new ≡ seated self.now (with_got (grant_in word) seat.old.known)) }
-        ensures err { IfErr result (λ found. (found ≢ word) × (seat.new ≡ seated self.now (with_polled found seat.old.known))) }
+        ensures err { IfErr result (λ found. (found ≢ word)
+            × (seat.new ≡ seated self.now (with_polled found seat.old.known))) }
         ensures tells { IfErr result (IsWordFor seat.old.known) }
     {
         let idle = idle_of(word);
@@ -191,7 +198,11 @@ fn store_call<W: Writing>(
     requires table { (seat.old.table_id ≡ table.now.shared.table_id) × (thread + 1 < seat.old.table_id.words) }
     requires thread { thread < 2 ^ 16 }
     requires entry { (entry.now ≡ W.entry) × IsOwn thread entry.now }
-    requires view { seat.old.me ≡ (keeper seat.old.me.0.written seat.old.me.0.published (known_in seat.old.me.0 ∷ []), []) }
+    requires view { seat.old.me ≡ (
+      keeper seat.old.me.0.written seat.old.me.0.published
+          (known_in seat.old.me.0 ∷ []),
+      [],
+    ) }
     requires caller { (known_in seat.old.me.0).thread ≡ thread }
     requires armed { one_if (is_armed thread seat.old.me.0.written) + one_if (arms entry.now) ≡ one_if armed }
     requires number { (number ≡ length seat.old.me.0.written + 1) × (number < 2 ^ 54) }
@@ -227,7 +238,11 @@ fn store_grant<W: Writing>(
 // One load, by the dispatcher and the thread that is joined to it.
 fn load_all(table: &Letters, seat: &mut Place)
     requires table { (seat.old.table_id ≡ table.now.shared.table_id) × (0 < seat.old.table_id.words) }
-    requires view { seat.old.me ≡ (keeper seat.old.me.0.written seat.old.me.0.published (known_in seat.old.me.0 ∷ []), []) }
+    requires view { seat.old.me ≡ (
+      keeper seat.old.me.0.written seat.old.me.0.published
+          (known_in seat.old.me.0 ∷ []),
+      [],
+    ) }
     ensures table { (seat.new.table_id ≡ seat.old.table_id) × (seat.new.id ≡ seat.old.id) }
     ensures view { seat.new.me ≡ seat.old.me }
     ensures told { IsTold seat.old.me.0.written seat.old.me.0.published (known_in seat.old.me.0) }

@@ -64,7 +64,8 @@ pub(crate) fn idle_of(bits: u64) -> u64
 /// The entry's number and the reply that a granted word tells. None where the bits are of no granted word.
 pub fn told_by(bits: u64) -> Option<(u64, Reply)>
     ensures some { IfSome result (λ told. TellsGrant bits told.0 told.1) }
-    ensures none { IfNone result ((n status : ℕ) → IsLawfulWord (Word.Granted n status) → granted_word n status ≢ bits) }
+    ensures none { IfNone result ((n status : ℕ) → IsLawfulWord (Word.Granted n status)
+        → granted_word n status ≢ bits) }
 {
     let (entry, low) = (bits / 1024, bits % 1024);
     if entry == 0 || low < 2 {

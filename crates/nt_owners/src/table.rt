@@ -140,7 +140,11 @@ impl Model for ObjectTable {
 
     ghost Value = { Objects };
 
-    ghost view = { λ o. record { items = o.objects.items; owned = o.owners.lists; room = min (vec_capacity o.objects) o.owners.room } };
+    ghost view = { λ o. record {
+      items = o.objects.items;
+      owned = o.owners.lists;
+      room = min (vec_capacity o.objects) o.owners.room;
+    } };
 
     ghost invariant = { λ o. OwnersAgree o.objects.items o.owners.lists × (length o.objects.items ≤ o.owners.room) };
 }

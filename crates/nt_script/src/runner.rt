@@ -55,8 +55,11 @@ impl Runner {
         ensures line { 4097 ≤ vec_capacity self.new.line }
         ensures ahead { IfErr result (NothingAhead self.new.input) }
         ensures unflushed { W.flushes writer.new ≡ W.flushes writer.old }
-        ensures next { TakesNext number (progress_of self.old.session) (progress_of self.new.session) (to_come self.old.input (R.remaining reader.old)) (to_come self.new.input (R.remaining reader.new)) (W.contents writer.old) (W.contents writer.new) result }
-        ensures counts { CountsFaults (R.failed reader.old) (R.failed reader.new) (W.failed writer.old) (W.failed writer.new) result }
+        ensures next { TakesNext number (progress_of self.old.session) (progress_of self.new.session)
+            (to_come self.old.input (R.remaining reader.old)) (to_come self.new.input (R.remaining reader.new))
+            (W.contents writer.old) (W.contents writer.new) result }
+        ensures counts { CountsFaults (R.failed reader.old) (R.failed reader.new) (W.failed writer.old)
+            (W.failed writer.new) result }
     {
         match self.input.read_line(reader, &mut self.line) {
             Ok(Ending::Feed) => {
@@ -103,7 +106,8 @@ impl Runner {
         ensures lines { IfOk result (λ summary. summary.lines ≡ lines) }
         ensures unflushed { W.flushes writer.new ≡ W.flushes writer.old }
         ensures held { OnOk result (W.handed_on writer.new ≡ false) }
-        ensures ends { Ends lines (progress_of self.old.session) (W.contents writer.old) (W.contents writer.new) result }
+        ensures ends { Ends lines (progress_of self.old.session) (W.contents writer.old)
+            (W.contents writer.new) result }
         ensures counts { CountsFaults 0 0 (W.failed writer.old) (W.failed writer.new) result }
     {
         let line = lines + 1;
@@ -131,8 +135,10 @@ impl Runner {
         requires input { self.old.input ≡ [] }
         requires session { self.old.session ≡ None }
         requires line { 4097 ≤ vec_capacity self.old.line }
-        ensures answers { Answers (R.remaining reader.old) (R.remaining reader.new) (W.contents writer.old) (W.contents writer.new) result }
-        ensures counts { CountsFaults (R.failed reader.old) (R.failed reader.new) (W.failed writer.old) (W.failed writer.new) result }
+        ensures answers { Answers (R.remaining reader.old) (R.remaining reader.new) (W.contents writer.old)
+            (W.contents writer.new) result }
+        ensures counts { CountsFaults (R.failed reader.old) (R.failed reader.new) (W.failed writer.old)
+            (W.failed writer.new) result }
         ensures unflushed { W.flushes writer.new ≡ W.flushes writer.old }
         ensures held { OnOk result (W.handed_on writer.new ≡ false) }
         ensures lines { IfOk result (λ summary. summary.lines < 2 ^ 64 - 1) }
@@ -161,7 +167,8 @@ fn write_line<W: Sink>(
     requires short { length line.now ≤ 4096 }
     requires counted { AreCounted number (progress_of session.old) }
     ensures unflushed { W.flushes writer.new ≡ W.flushes writer.old }
-    ensures line { WritesLine number line.now (progress_of session.old) (progress_of session.new) (W.contents writer.old) (W.contents writer.new) result }
+    ensures line { WritesLine number line.now (progress_of session.old) (progress_of session.new)
+        (W.contents writer.old) (W.contents writer.new) result }
     ensures counts { CountsFaults 0 0 (W.failed writer.old) (W.failed writer.new) result }
 {
     match carry_out(session, alloc, number, line, out) {
@@ -178,7 +185,8 @@ fn write_line<W: Sink>(
 fn write_output<W: Sink>(number: u64, output: &[u8], writer: &mut W) -> Result<(), RunFault>
     ensures unflushed { W.flushes writer.new ≡ W.flushes writer.old }
     ensures held { 0 < length output.now → W.handed_on writer.new ≡ false }
-    ensures output { WritesOutput number output.now (W.contents writer.old) (W.contents writer.new) (W.failed writer.old) (W.failed writer.new) result }
+    ensures output { WritesOutput number output.now (W.contents writer.old) (W.contents writer.new)
+        (W.failed writer.old) (W.failed writer.new) result }
 {
     match write_whole(writer, output) {
         Ok(()) => Ok(()),
@@ -192,8 +200,10 @@ fn run_lines<R: Source, W: Sink>(
     reader: &mut R,
     writer: &mut W,
 ) -> Result<Summary, RunFault>
-    ensures answers { Answers (R.remaining reader.old) (R.remaining reader.new) (W.contents writer.old) (W.contents writer.new) result }
-    ensures counts { CountsFaults (R.failed reader.old) (R.failed reader.new) (W.failed writer.old) (W.failed writer.new) result }
+    ensures answers { Answers (R.remaining reader.old) (R.remaining reader.new) (W.contents writer.old)
+        (W.contents writer.new) result }
+    ensures counts { CountsFaults (R.failed reader.old) (R.failed reader.new) (W.failed writer.old)
+        (W.failed writer.new) result }
     ensures unflushed { W.flushes writer.new ≡ W.flushes writer.old }
     ensures held { OnOk result (W.handed_on writer.new ≡ false) }
     ensures lines { IfOk result (λ summary. summary.lines < 2 ^ 64 - 1) }
@@ -221,8 +231,10 @@ pub fn run<R: Source, W: Sink>(
 ) -> Result<Summary, RunFault>
     requires read_failures { R.failed reader.old < 2 ^ 64 - 1 }
     requires write_failures { W.failed writer.old < 2 ^ 64 - 1 }
-    ensures answers { Answers (R.remaining reader.old) (R.remaining reader.new) (W.contents writer.old) (W.contents writer.new) result }
-    ensures failures { CountsFailures (R.failed reader.old) (R.failed reader.new) (W.failed writer.old) (W.failed writer.new) result }
+    ensures answers { Answers (R.remaining reader.old) (R.remaining reader.new) (W.contents writer.old)
+        (W.contents writer.new) result }
+    ensures failures { CountsFailures (R.failed reader.old) (R.failed reader.new) (W.failed writer.old)
+        (W.failed writer.new) result }
     ensures unflushed { W.flushes writer.new ≡ W.flushes writer.old }
     ensures held { OnOk result (W.handed_on writer.new ≡ false) }
     ensures lines { IfOk result (λ summary. summary.lines < 2 ^ 64 - 1) }

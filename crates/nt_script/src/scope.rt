@@ -22,7 +22,10 @@ impl Model for Bindings {
 
     ghost Value = { Bound };
 
-    ghost view = { λ b. record { scope = record { threads = b.threads; names = map (λ entry. (entry.0.items, entry.1)) b.names.entries }; room = spare b.names } };
+    ghost view = { λ b. record {
+      scope = record { threads = b.threads; names = map (λ entry. (entry.0.items, entry.1)) b.names.entries };
+      room = spare b.names;
+    } };
 }
 
 impl Bindings {

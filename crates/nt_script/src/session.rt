@@ -142,7 +142,8 @@ impl Session {
         requires room { (2 + len (state self.old.core).waits) * 96 ≤ vec_capacity out.old }
         ensures step { Called (state self.old.core) who call.now result self.new.core.grants (state self.new.core) }
         ensures text { out.new.items ≡ turn_text number result self.new.core.grants }
-        ensures tally { self.new.tally ≡ add_tally self.old.tally (tally_of (Calls who call.now result self.new.core.grants ∷ [])) }
+        ensures tally { self.new.tally ≡ add_tally self.old.tally
+            (tally_of (Calls who call.now result self.new.core.grants ∷ [])) }
         ensures counted { IsCounted (number + 1) (progress self.new) }
         ensures bindings { self.new.bindings ≡ self.old.bindings }
     {
@@ -161,7 +162,8 @@ impl Session {
         requires room { (2 + len (state self.old.core).waits) * 96 ≤ vec_capacity out.old }
         ensures step { Ticked (state self.old.core) moment result self.new.core.grants (state self.new.core) }
         ensures text { out.new.items ≡ turn_text number result self.new.core.grants }
-        ensures tally { self.new.tally ≡ add_tally self.old.tally (tally_of (Ticks 0 moment result self.new.core.grants ∷ [])) }
+        ensures tally { self.new.tally ≡ add_tally self.old.tally
+            (tally_of (Ticks 0 moment result self.new.core.grants ∷ [])) }
         ensures counted { IsCounted (number + 1) (progress self.new) }
         ensures bindings { self.new.bindings ≡ self.old.bindings }
     {
@@ -187,9 +189,11 @@ impl Session {
         requires room { (2 + len (state self.old.core).waits) * 96 ≤ vec_capacity out.old }
         requires place { 0 < self.old.bindings.room }
         requires free { bound_in self.old.bindings.scope.names name ≡ None }
-        ensures step { Called (state self.old.core) who (Call.Act act) result self.new.core.grants (state self.new.core) }
+        ensures step { Called (state self.old.core) who (Call.Act act) result self.new.core.grants
+            (state self.new.core) }
         ensures text { out.new.items ≡ turn_text number result self.new.core.grants }
-        ensures tally { self.new.tally ≡ add_tally self.old.tally (tally_of (Calls who (Call.Act act) result self.new.core.grants ∷ [])) }
+        ensures tally { self.new.tally ≡ add_tally self.old.tally
+            (tally_of (Calls who (Call.Act act) result self.new.core.grants ∷ [])) }
         ensures counted { IsCounted (number + 1) (progress self.new) }
         ensures scope { self.new.bindings.scope ≡ binds name (handle_of result) self.old.bindings.scope }
     {
@@ -212,7 +216,8 @@ impl Session {
         requires counted { IsCounted number (progress self.old) }
         requires number { number < 2 ^ 64 }
         requires empty { out.old.items ≡ [] }
-        ensures { LineAnswers number line.now (Some (progress self.old)) result out.new.items (Some (progress self.new)) }
+        ensures { LineAnswers number line.now (Some (progress self.old)) result out.new.items
+            (Some (progress self.new)) }
     {
         let statement = self.read(alloc, line)?;
         self.make_room(out)?;
@@ -272,7 +277,8 @@ impl Session {
     /// Puts the names of the threads that still wait, where there is room for them.
     fn put_waiting(&self, out: &mut Vec<u8>)
         requires { vec_len out.old + 22 * self.now.bindings.scope.threads ≤ vec_capacity out.old }
-        ensures items { out.new.items ≡ out.old.items ++ waiting_text (state self.now.core) self.now.bindings.scope.threads }
+        ensures items { out.new.items
+            ≡ out.old.items ++ waiting_text (state self.now.core) self.now.bindings.scope.threads }
         ensures len { vec_len out.new ≤ vec_len out.old + 22 * self.now.bindings.scope.threads }
         ensures room { vec_capacity out.old ≤ vec_capacity out.new }
     {

@@ -24,7 +24,8 @@ fn put_status(out: &mut Vec<u8>, status: Status)
 
 fn put_apc(out: &mut Vec<u8>, apc: &Apc)
     requires { vec_len out.old + 70 ≤ vec_capacity out.old }
-    ensures items { out.new.items ≡ out.old.items ++ (codes "apc " ++ decimal apc.now.routine ++ codes " " ++ decimal apc.now.arg ++ moment_text apc.now.at) }
+    ensures items { out.new.items ≡ out.old.items
+        ++ (codes "apc " ++ decimal apc.now.routine ++ codes " " ++ decimal apc.now.arg ++ moment_text apc.now.at) }
     ensures len { vec_len out.new ≤ vec_len out.old + 70 }
     ensures room { vec_capacity out.old ≤ vec_capacity out.new }
 {

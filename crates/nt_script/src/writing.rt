@@ -52,7 +52,8 @@ pub fn write_line(
     call: &Call,
     answer: &Result<Reply, Refusal>,
 ) -> Result<(), Unwritten>
-    ensures ok { OnOk result (IsWritten (statement_for who call.now (handle_of answer.now)) out.old.items out.new.items) }
+    ensures ok { OnOk result (IsWritten
+        (statement_for who call.now (handle_of answer.now)) out.old.items out.new.items) }
     ensures err { IfErr result (IsUnwritten (statement_for who call.now (handle_of answer.now))) }
     ensures unchanged { OnErr result (out.new.items ≡ out.old.items) }
 {
@@ -85,7 +86,8 @@ fn has_words(call: &Call) -> bool
 /// Room for a call's line, or none where it has too many objects for any.
 fn room_for(call: &Call) -> Option<usize>
     ensures some { IfSome result (λ room. room ≡ room_of call.now) }
-    ensures none { result ≡ None → (who : ℕ) (created : Option ℕ) → 4096 < length (statement_text (statement_for who call.now created)) }
+    ensures none { result ≡ None → (who : ℕ) (created : Option ℕ)
+        → 4096 < length (statement_text (statement_for who call.now created)) }
 {
     let count = objects_in(call);
     if count <= LINE_BYTES {

@@ -90,7 +90,8 @@ fn put_semaphore(
     created: Option<Handle>,
 )
     requires { vec_len out.old + 192 ≤ vec_capacity out.old }
-    ensures put { IsPut out.old.items (statement_for who (Call.Act (Act.CreateSemaphore initial maximum)) created) out.new.items }
+    ensures put { IsPut out.old.items
+        (statement_for who (Call.Act (Act.CreateSemaphore initial maximum)) created) out.new.items }
     ensures len { vec_len out.new < vec_len out.old + 192 }
     ensures room { vec_capacity out.old ≤ vec_capacity out.new }
 {
@@ -132,7 +133,8 @@ fn put_duplicate(
     created: Option<Handle>,
 )
     requires { vec_len out.old + 192 ≤ vec_capacity out.old }
-    ensures put { IsPut out.old.items (statement_for who (Call.Act (Act.Duplicate handle access)) created) out.new.items }
+    ensures put { IsPut out.old.items
+        (statement_for who (Call.Act (Act.Duplicate handle access)) created) out.new.items }
     ensures len { vec_len out.new < vec_len out.old + 192 }
     ensures room { vec_capacity out.old ≤ vec_capacity out.new }
 {

@@ -34,7 +34,8 @@ impl<D: Door> Promise<Worked<D>> for Works<D> {
     ghost use Rattle.std.specs.Prelude.{◌≡◌, ◌++◌, true};
     ghost use Rattle.nt_threads.specs.Plans.{work_of};
 
-    ghost kept_by = { λ p r. (D.thread_of r.door ≡ D.thread_of p.door.value) × (r.whole ≡ true → D.made_of r.door ≡ D.made_of p.door.value ++ work_of p.objects p.rounds) };
+    ghost kept_by = { λ p r. (D.thread_of r.door ≡ D.thread_of p.door.value)
+        × (r.whole ≡ true → D.made_of r.door ≡ D.made_of p.door.value ++ work_of p.objects p.rounds) };
 }
 
 /// Carries out the plan by a thread for each door, this one for the first.
@@ -54,7 +55,8 @@ pub fn drive<D: Door + Send, R: Threads + Wait + Sync>(
     requires threads { vec_len doors ≤ MAX_THREADS }
     requires releases { vec_len doors * rounds < 2 ^ 31 }
     ensures threads { map D.thread_of result.doors.items ≡ map D.thread_of doors.items }
-    ensures whole { result.whole ≡ true → (o : Objects) × (map D.made_of result.doors.items ≡ carried_out D.made_of o rounds doors.items) }
+    ensures whole { result.whole ≡ true → (o : Objects)
+        × (map D.made_of result.doors.items ≡ carried_out D.made_of o rounds doors.items) }
 {
     let Some((mut first, others)) = parted(doors) else {
         return Driven {
@@ -104,7 +106,8 @@ fn start_all<D: Door + Send, R: Threads + Wait + Sync>(
 ) -> Driven<D>
     requires back { (back.items ≡ []) × (vec_len others + 1 ≤ vec_capacity back) }
     ensures threads { map D.thread_of result.doors.items ≡ D.thread_of first ∷ map D.thread_of others.items }
-    ensures whole { result.whole ≡ true → map D.made_of result.doors.items ≡ led D.made_of plan.now.objects plan.now.workers plan.now.rounds first others.items }
+    ensures whole { result.whole ≡ true → map D.made_of result.doors.items
+        ≡ led D.made_of plan.now.objects plan.now.workers plan.now.rounds first others.items }
 {
     thread::scope(
         thread::scope_env(),
@@ -112,7 +115,8 @@ fn start_all<D: Door + Send, R: Threads + Wait + Sync>(
         move |scope| -> Driven<D>
             requires { (back.items ≡ []) × (vec_len others + 1 ≤ vec_capacity back) }
             ensures threads { map D.thread_of result.doors.items ≡ D.thread_of first ∷ map D.thread_of others.items }
-            ensures whole { result.whole ≡ true → map D.made_of result.doors.items ≡ led D.made_of plan.entry.now.objects plan.entry.now.workers plan.entry.now.rounds first others.items }
+            ensures whole { result.whole ≡ true → map D.made_of result.doors.items
+                ≡ led D.made_of plan.entry.now.objects plan.entry.now.workers plan.entry.now.rounds first others.items }
         { start_each(scope, rt, plan, first, others, back) },
     )
 }
@@ -129,7 +133,8 @@ fn start_each<'s, 'e: 's, D: Door + Send + 'e, R: Threads + Wait + Sync>(
 ) -> Driven<D>
     requires back { (back.items ≡ []) × (vec_len others + 1 ≤ vec_capacity back) }
     ensures threads { map D.thread_of result.doors.items ≡ D.thread_of first ∷ map D.thread_of others.items }
-    ensures whole { result.whole ≡ true → map D.made_of result.doors.items ≡ led D.made_of plan.now.objects plan.now.workers plan.now.rounds first others.items }
+    ensures whole { result.whole ≡ true → map D.made_of result.doors.items
+        ≡ led D.made_of plan.now.objects plan.now.workers plan.now.rounds first others.items }
     ensures count { vec_len result.doors ≡ vec_len others + 1 }
     ensures capacity { vec_capacity result.doors ≡ vec_capacity back }
 {

@@ -170,7 +170,8 @@ fn make_rounds<D: Door, R: Wait>(
 /// Waits for the start, and makes the rounds of a worker.
 fn start_and_work<D: Door, R: Wait>(rt: &R, door: &mut D, plan: &Plan) -> Result<(), Refusal>
     ensures thread { D.thread_of door.new ≡ D.thread_of door.old }
-    ensures made { OnOk result (D.made_of door.new ≡ D.made_of door.old ++ wait_for plan.now.objects.start ∷ rounds_of plan.now.objects plan.now.rounds) }
+    ensures made { OnOk result (D.made_of door.new
+        ≡ D.made_of door.old ++ wait_for plan.now.objects.start ∷ rounds_of plan.now.objects plan.now.rounds) }
 {
     wait_for(rt, plan.alloc, door, plan.objects.start)?;
     make_rounds(rt, plan.alloc, door, &plan.objects, plan.rounds)
@@ -179,7 +180,8 @@ fn start_and_work<D: Door, R: Wait>(rt: &R, door: &mut D, plan: &Plan) -> Result
 /// A worker: it makes its rounds and ends. It ends at once after a refusal, or where the plan is stopped.
 pub(crate) fn work<D: Door, R: Wait>(rt: &R, door: D, plan: &Plan) -> Worked<D>
     ensures thread { D.thread_of result.door ≡ D.thread_of door }
-    ensures made { result.whole ≡ true → D.made_of result.door ≡ D.made_of door ++ work_of plan.now.objects plan.now.rounds }
+    ensures made { result.whole ≡ true
+        → D.made_of result.door ≡ D.made_of door ++ work_of plan.now.objects plan.now.rounds }
 {
     let mut door = door;
     let whole = !plan.stopped.load(Ordering::SeqCst) && start_and_work(rt, &mut door, plan).is_ok();
@@ -194,7 +196,8 @@ pub(crate) fn work<D: Door, R: Wait>(rt: &R, door: D, plan: &Plan) -> Worked<D>
 /// it ends at once.
 pub(crate) fn lead<D: Door, R: Wait>(rt: &R, door: D, plan: &Plan) -> Worked<D>
     ensures thread { D.thread_of result.door ≡ D.thread_of door }
-    ensures made { result.whole ≡ true → D.made_of result.door ≡ D.made_of door ++ lead_of plan.now.objects plan.now.workers }
+    ensures made { result.whole ≡ true
+        → D.made_of result.door ≡ D.made_of door ++ lead_of plan.now.objects plan.now.workers }
 {
     let mut door = door;
     let whole = door.act(rt, Act::SetEvent(plan.objects.start)).is_ok()

@@ -144,7 +144,8 @@ fn run<N: Named + Send + Sync, R: Threads + Wait + Sync>(
     requires threads { (0 < blank.threads) × (blank.threads ≤ 65) }
     requires rounds { rounds ≤ 1000 }
     ensures comes { IfOk result (λ r. r.whole ≡ true → ComesOfRun blank.threads r.history.entries.items) }
-    ensures whole { IfOk result (λ r. r.whole ≡ true → IsCarriedOut (blank.threads - 1) rounds r.history.entries.items) }
+    ensures whole { IfOk result (λ r. r.whole ≡ true
+        → IsCarriedOut (blank.threads - 1) rounds r.history.entries.items) }
 {
     match Room::new(alloc, 65) {
         Ok(room) => run_in::<N, R>(rt, alloc, blank, room, rounds),
@@ -170,7 +171,8 @@ fn run_in<N: Named + Send + Sync, R: Threads + Wait + Sync>(
     requires back { (room.back.items ≡ []) × (65 ≤ vec_capacity room.back) }
     requires holds { (room.holds.items ≡ []) × (65 ≤ vec_capacity room.holds) }
     ensures comes { IfOk result (λ r. r.whole ≡ true → ComesOfRun blank.threads r.history.entries.items) }
-    ensures whole { IfOk result (λ r. r.whole ≡ true → IsCarriedOut (blank.threads - 1) rounds r.history.entries.items) }
+    ensures whole { IfOk result (λ r. r.whole ≡ true
+        → IsCarriedOut (blank.threads - 1) rounds r.history.entries.items) }
 {
     match open::<N>(alloc, blank) {
         Ok((front, passes)) => Ok(run_on(rt, alloc, front, passes, room, rounds)),
@@ -224,7 +226,8 @@ fn drive_on<'f, N: Named + Send + Sync, R: Threads + Wait + Sync>(
     requires back { (room.back.items ≡ []) × (vec_len passes ≤ vec_capacity room.back) }
     requires holds { (room.holds.items ≡ []) × (vec_len passes ≤ vec_capacity room.holds) }
     ensures threads { map (λ h. (knowledge_of h).thread) result.0.items ≡ map (λ p. p.thread) passes.items }
-    ensures whole { result.1 ≡ true → (o : Objects) × (map calls_of_hold result.0.items ≡ carried_out (λ p. accepted_calls p.made) o rounds passes.items) }
+    ensures whole { result.1 ≡ true → (o : Objects)
+        × (map calls_of_hold result.0.items ≡ carried_out (λ p. accepted_calls p.made) o rounds passes.items) }
 {
     let Room { doors, back, holds } = room;
     let doors = doors_of(front, passes, doors);
