@@ -25,7 +25,6 @@ impl Machine {
     }
 
     /// The semaphore counts so many more, and the waits that name it are served. Answers the count before.
-    #[inline(always)]
     pub(crate) fn raise_count(&mut self, semaphore: Handle, count: i32) -> i32
         requires fresh { IsFresh self.old }
         requires kind { IsTrue (is_semaphore (object_at self.old.objects semaphore)) }
@@ -43,7 +42,6 @@ impl Machine {
     }
 
     /// ReleaseSemaphore. Answers the count before.
-    #[inline(always)]
     pub(crate) fn release_semaphore(&mut self, semaphore: Handle, count: i32) -> Answer
         requires fresh { IsFresh self.old }
         ensures { IsActOfAny self.old self.new (Act.ReleaseSemaphore semaphore count) result }
