@@ -7,7 +7,7 @@ use Rattle.nt_apc.specs.declared.apc.Queued.{Queued}
 pub record Apcs : Type 0 where
   -- by thread, its queued APCs, the oldest first
   pub queues : List (List Queued)
-  -- by handle, the thread in whose queue this timer's APC has a place
+  -- by number, the thread in whose queue this timer's APC has a place
   pub places : List (Option ℕ)
 
 -- ---- queues

@@ -1,6 +1,6 @@
 ghost use Rattle.std.specs.Prelude.{◌≡◌};
 
-use nt_status::{Handle, OptionalMoment};
+use nt_status::{ObjectNumber, OptionalMoment};
 
 /// An APC as its thread takes it, as QueueUserAPC or SetWaitableTimer queued it.
 #[derive(Clone, Copy, PartialEq, Eq, Debug)]
@@ -15,7 +15,7 @@ pub struct Apc {
 #[derive(Clone, Copy, PartialEq, Eq, Debug)]
 pub struct Queued {
     pub apc: Apc,
-    pub timer: Option<Handle>,
+    pub timer: Option<ObjectNumber>,
 }
 
 impl Queued {
@@ -23,7 +23,7 @@ impl Queued {
     ghost use Rattle.nt_apc.specs.Queues.{is_from};
 
     /// Whether it is this timer's.
-    pub fn is_from(&self, timer: Handle) -> bool
+    pub fn is_from(&self, timer: ObjectNumber) -> bool
         ensures { result ≡ is_from timer self.now.timer }
     {
         match self.timer {

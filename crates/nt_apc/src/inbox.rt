@@ -4,7 +4,7 @@ ghost use Rattle.nt_apc.specs.Queues.{oldest, without_oldest, without_from};
 ghost use Rattle.nt_apc.specs.Inbox.{timed_count, GivesUp};
 
 use crate::apc::{Apc, Queued};
-use nt_status::Handle;
+use nt_status::ObjectNumber;
 use std::alloc::{AllocError, Global};
 use std::collections::VecDeque;
 use std::marker::Model;
@@ -13,7 +13,7 @@ use std::marker::Model;
 #[derive(Drop)]
 pub struct Inbox {
     queue: VecDeque<Queued>,
-    timers: Vec<Handle>,
+    timers: Vec<ObjectNumber>,
 }
 
 impl Model for Inbox {
@@ -67,7 +67,7 @@ impl Inbox {
     }
 
     /// Promises this timer's APC a place.
-    pub fn promise(&mut self, timer: Handle)
+    pub fn promise(&mut self, timer: ObjectNumber)
         requires { 0 < self.old.room }
         ensures queue { self.new.queue ≡ self.old.queue }
         ensures timers { self.new.timers ≡ self.old.timers ++ timer ∷ [] }
@@ -76,7 +76,7 @@ impl Inbox {
     }
 
     /// Queues a timer's APC, last, in the place that was promised.
-    pub fn push_promised(&mut self, timer: Handle, apc: Apc)
+    pub fn push_promised(&mut self, timer: ObjectNumber, apc: Apc)
         requires { timed_count self.old.queue < length self.old.timers }
         ensures queue { self.new.queue ≡ self.old.queue ++ record { apc = apc; timer = Some timer } ∷ [] }
         ensures timers { self.new.timers ≡ self.old.timers }
@@ -88,7 +88,7 @@ impl Inbox {
     }
 
     /// Removes this timer's APC. Its place stays.
-    pub fn withdraw(&mut self, timer: Handle)
+    pub fn withdraw(&mut self, timer: ObjectNumber)
         ensures queue { self.new.queue ≡ without_from timer self.old.queue }
         ensures timers { self.new.timers ≡ self.old.timers }
     {
@@ -96,7 +96,7 @@ impl Inbox {
     }
 
     /// Gives up the place of the timer at this index. The last timer takes the index, and is answered.
-    pub fn give_up(&mut self, index: usize) -> Option<Handle>
+    pub fn give_up(&mut self, index: usize) -> Option<ObjectNumber>
         requires { index < length self.old.timers }
         ensures moved { result ≡ slice_get self.new.timers index }
         ensures queue { self.new.queue ≡ self.old.queue }
@@ -135,7 +135,7 @@ impl Inbox {
     }
 
     /// The timers whose APC has a place.
-    pub fn timers(&self) -> &[Handle]
+    pub fn timers(&self) -> &[ObjectNumber]
         ensures { result.now ≡ self.now.timers }
     {
         self.timers.as_slice()

@@ -8,7 +8,7 @@ use crate::inbox::Inbox;
 use crate::place::{
     self, Place, index_at, is_queued, mark, place_of, set_index, vacate, vacate_all,
 };
-use nt_status::{Handle, ThreadId};
+use nt_status::{ObjectNumber, ThreadId};
 use std::alloc::{AllocError, Global};
 
 /// Queues an APC that is no timer's to t, last.
@@ -28,7 +28,7 @@ pub fn push_promised(
     inboxes: &mut [Inbox],
     places: &mut [Option<Place>],
     t: ThreadId,
-    timer: Handle,
+    timer: ObjectNumber,
     apc: Apc,
 )
     requires sound { IsSound inboxes.old places.old }
@@ -44,7 +44,12 @@ pub fn push_promised(
 }
 
 /// Removes the timer's APC from t's queue. Its place stays.
-pub fn withdraw(inboxes: &mut [Inbox], places: &mut [Option<Place>], t: ThreadId, timer: Handle)
+pub fn withdraw(
+    inboxes: &mut [Inbox],
+    places: &mut [Option<Place>],
+    t: ThreadId,
+    timer: ObjectNumber,
+)
     requires { IsSound inboxes.old places.old }
     ensures sound { IsSound inboxes.new places.new }
     ensures queues { queues_in inboxes.new ≡ withdrawn_at (queues_in inboxes.old) t timer }
@@ -83,7 +88,7 @@ fn unlist(
     inboxes: &mut [Inbox],
     places: &mut [Option<Place>],
     t: ThreadId,
-    timer: Handle,
+    timer: ObjectNumber,
     index: usize,
 )
     requires sound { IsSound inboxes.old places.old }
@@ -103,7 +108,7 @@ fn unlist(
 }
 
 /// Gives up the timer's place in t's queue, and removes its APC there.
-pub fn forget(inboxes: &mut [Inbox], places: &mut [Option<Place>], t: ThreadId, timer: Handle)
+pub fn forget(inboxes: &mut [Inbox], places: &mut [Option<Place>], t: ThreadId, timer: ObjectNumber)
     requires { IsSound inboxes.old places.old }
     ensures sound { IsSound inboxes.new places.new }
     ensures queues { queues_in inboxes.new ≡ withdrawn_at (queues_in inboxes.old) t timer }
@@ -119,7 +124,7 @@ pub fn forget(inboxes: &mut [Inbox], places: &mut [Option<Place>], t: ThreadId, 
 }
 
 /// Notes a new place of the timer in t's inbox, for which there is room.
-fn list(inboxes: &mut [Inbox], places: &mut [Option<Place>], t: ThreadId, timer: Handle)
+fn list(inboxes: &mut [Inbox], places: &mut [Option<Place>], t: ThreadId, timer: ObjectNumber)
     requires sound { IsSound inboxes.old places.old }
     requires thread { t < length inboxes.old }
     requires there { timer < length places.old }
@@ -153,7 +158,7 @@ pub fn clear(inboxes: &mut [Inbox], places: &mut [Option<Place>], t: ThreadId)
 }
 
 /// Gives up the timer's place, in whose queue it may be, and removes its APC there.
-fn give_up(inboxes: &mut [Inbox], places: &mut [Option<Place>], timer: Handle)
+fn give_up(inboxes: &mut [Inbox], places: &mut [Option<Place>], timer: ObjectNumber)
     requires { IsSound inboxes.old places.old }
     ensures sound { IsSound inboxes.new places.new }
     ensures queues { queues_in inboxes.new ≡ withdrawn (queues_in inboxes.old) timer }
@@ -172,7 +177,7 @@ fn make_room(
     inboxes: &mut [Inbox],
     places: &mut Vec<Option<Place>>,
     t: ThreadId,
-    timer: Handle,
+    timer: ObjectNumber,
 ) -> Result<(), AllocError>
     requires { t < length inboxes.old }
     ensures sound { KeepsSound inboxes.old inboxes.new }
@@ -187,7 +192,7 @@ fn make_room(
 }
 
 /// Moves the timer's place to t's inbox, for which there is room.
-fn move_place(inboxes: &mut [Inbox], places: &mut [Option<Place>], t: ThreadId, timer: Handle)
+fn move_place(inboxes: &mut [Inbox], places: &mut [Option<Place>], t: ThreadId, timer: ObjectNumber)
     requires sound { IsSound inboxes.old places.old }
     requires thread { t < length inboxes.old }
     requires there { timer < length places.old }
@@ -208,7 +213,7 @@ pub fn promise(
     inboxes: &mut [Inbox],
     places: &mut Vec<Option<Place>>,
     t: ThreadId,
-    timer: Handle,
+    timer: ObjectNumber,
 ) -> Result<(), AllocError>
     requires sound { IsSound inboxes.old places.old.items }
     requires thread { t < length inboxes.old }

@@ -1,8 +1,8 @@
-//! Where each timer's APC has its place, by the timer's handle.
+//! Where each timer's APC has its place, by the timer's number.
 ghost use Rattle.std.specs.Prelude.{◌≡◌, ℕ, ◌<◌, ◌+◌, None, OnOk, length, vec_len, vec_capacity};
 ghost use Rattle.nt_apc.specs.Place.{place_at, threads_in, marked, moved_to, stands_at, index_at, vacated, all_vacated};
 
-use nt_status::{Handle, ThreadId};
+use nt_status::{ObjectNumber, ThreadId};
 use std::alloc::AllocError;
 
 /// The place of a timer's APC.
@@ -16,7 +16,7 @@ pub struct Place {
 }
 
 /// The place of this timer's APC, where it has one.
-pub fn place_of(places: &[Option<Place>], timer: Handle) -> Option<Place>
+pub fn place_of(places: &[Option<Place>], timer: ObjectNumber) -> Option<Place>
     ensures { result ≡ place_at places.now timer }
 {
     let at = timer.get() as usize;
@@ -24,7 +24,7 @@ pub fn place_of(places: &[Option<Place>], timer: Handle) -> Option<Place>
 }
 
 /// Whether this timer's APC stands in t's queue.
-pub fn is_queued(places: &[Option<Place>], t: ThreadId, timer: Handle) -> bool
+pub fn is_queued(places: &[Option<Place>], t: ThreadId, timer: ObjectNumber) -> bool
     ensures { result ≡ stands_at t (place_at places.now timer) }
 {
     match place_of(places, timer) {
@@ -34,7 +34,7 @@ pub fn is_queued(places: &[Option<Place>], t: ThreadId, timer: Handle) -> bool
 }
 
 /// Where t's inbox names this timer.
-pub fn index_at(places: &[Option<Place>], t: ThreadId, timer: Handle) -> Option<usize>
+pub fn index_at(places: &[Option<Place>], t: ThreadId, timer: ObjectNumber) -> Option<usize>
     ensures { result ≡ index_at t (place_at places.now timer) }
 {
     match place_of(places, timer) {
@@ -44,7 +44,7 @@ pub fn index_at(places: &[Option<Place>], t: ThreadId, timer: Handle) -> Option<
 }
 
 /// Takes this timer's place away.
-pub fn vacate(places: &mut [Option<Place>], timer: Handle)
+pub fn vacate(places: &mut [Option<Place>], timer: ObjectNumber)
     ensures { places.new ≡ vacated places.old timer }
 {
     let at = timer.get() as usize;
@@ -54,7 +54,7 @@ pub fn vacate(places: &mut [Option<Place>], timer: Handle)
 }
 
 /// Takes these timers' places away.
-pub fn vacate_all(places: &mut [Option<Place>], timers: &[Handle])
+pub fn vacate_all(places: &mut [Option<Place>], timers: &[ObjectNumber])
     ensures { places.new ≡ all_vacated places.old timers.now }
 {
     for timer in timers {
@@ -63,7 +63,7 @@ pub fn vacate_all(places: &mut [Option<Place>], timers: &[Handle])
 }
 
 /// Notes whether this timer's APC stands in its queue.
-pub fn mark(places: &mut [Option<Place>], timer: Handle, queued: bool)
+pub fn mark(places: &mut [Option<Place>], timer: ObjectNumber, queued: bool)
     ensures places { places.new ≡ marked places.old timer queued }
     ensures threads { threads_in places.new ≡ threads_in places.old }
 {
@@ -73,7 +73,7 @@ pub fn mark(places: &mut [Option<Place>], timer: Handle, queued: bool)
 }
 
 /// Notes where the thread's inbox names this timer now.
-pub fn set_index(places: &mut [Option<Place>], timer: Handle, index: usize)
+pub fn set_index(places: &mut [Option<Place>], timer: ObjectNumber, index: usize)
     ensures places { places.new ≡ moved_to places.old timer index }
     ensures threads { threads_in places.new ≡ threads_in places.old }
 {
@@ -83,7 +83,7 @@ pub fn set_index(places: &mut [Option<Place>], timer: Handle, index: usize)
 }
 
 /// Makes room for the place of this timer.
-pub fn reserve(places: &mut Vec<Option<Place>>, timer: Handle) -> Result<(), AllocError>
+pub fn reserve(places: &mut Vec<Option<Place>>, timer: ObjectNumber) -> Result<(), AllocError>
     ensures items { places.new.items ≡ places.old.items }
     ensures room { OnOk result (timer < vec_capacity places.new) }
 {
@@ -95,7 +95,7 @@ pub fn reserve(places: &mut Vec<Option<Place>>, timer: Handle) -> Result<(), All
 }
 
 /// Adds empty places up to this timer's.
-pub fn extend(places: &mut Vec<Option<Place>>, timer: Handle)
+pub fn extend(places: &mut Vec<Option<Place>>, timer: ObjectNumber)
     requires { timer < vec_capacity places.old }
     ensures there { timer < vec_len places.new }
     ensures kept { (m : ℕ) → place_at places.new.items m ≡ place_at places.old.items m }

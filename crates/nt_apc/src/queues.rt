@@ -5,7 +5,7 @@ use crate::apc::Apc;
 use crate::inbox::Inbox;
 use crate::linked;
 use crate::place::{self, Place};
-use nt_status::{Handle, ThreadId};
+use nt_status::{ObjectNumber, ThreadId};
 use std::alloc::{AllocError, Global};
 use std::marker::Model;
 
@@ -69,7 +69,7 @@ impl ApcQueues {
 
     /// Promises the timer's APC a place in `t`'s queue. A place that stands there is kept, with its
     /// APC; one in another queue is given up, and its APC removed.
-    pub fn promise(&mut self, t: ThreadId, timer: Handle) -> Result<(), AllocError>
+    pub fn promise(&mut self, t: ThreadId, timer: ObjectNumber) -> Result<(), AllocError>
         requires { t < length self.old.queues }
         ensures queues { OnOk result (self.new.queues ≡
             (if is_at t (place_of self.old.places timer) then self.old.queues else withdrawn self.old.queues timer)) }
@@ -86,7 +86,7 @@ impl ApcQueues {
     }
 
     /// Queues the APC of a timer, last, in the place that was promised in `t`'s queue.
-    pub fn push_promised(&mut self, t: ThreadId, timer: Handle, apc: Apc)
+    pub fn push_promised(&mut self, t: ThreadId, timer: ObjectNumber, apc: Apc)
         requires place { place_of self.old.places timer ≡ Some t }
         requires none { has_from timer (queue_of self.old.queues t) ≡ false }
         ensures queues { self.new.queues ≡ pushed self.old.queues t (record { apc = apc; timer = Some timer }) }
@@ -97,7 +97,7 @@ impl ApcQueues {
     }
 
     /// Whether the timer's APC is in `t`'s queue.
-    pub fn queued(&self, t: ThreadId, timer: Handle) -> bool
+    pub fn queued(&self, t: ThreadId, timer: ObjectNumber) -> bool
         ensures here { result ≡ has_from timer (queue_of self.now.queues t) }
         ensures anywhere { place_of self.now.places timer ≡ Some t → result ≡ is_queued self.now.queues timer }
     {
@@ -105,7 +105,7 @@ impl ApcQueues {
     }
 
     /// Removes the timer's APC from `t`'s queue. The promise stays.
-    pub fn withdraw(&mut self, t: ThreadId, timer: Handle)
+    pub fn withdraw(&mut self, t: ThreadId, timer: ObjectNumber)
         ensures queues { self.new.queues ≡ withdrawn_at self.old.queues t timer }
         ensures anywhere { place_of self.old.places timer ≡ Some t → self.new.queues ≡ withdrawn self.old.queues timer }
         ensures places { self.new.places ≡ self.old.places }
@@ -115,7 +115,7 @@ impl ApcQueues {
     }
 
     /// Gives up the timer's place in `t`'s queue, and removes its APC there.
-    pub fn forget(&mut self, t: ThreadId, timer: Handle)
+    pub fn forget(&mut self, t: ThreadId, timer: ObjectNumber)
         ensures queues { self.new.queues ≡ withdrawn_at self.old.queues t timer }
         ensures anywhere { place_of self.old.places timer ≡ Some t → self.new.queues ≡ withdrawn self.old.queues timer }
         ensures place { place_of self.new.places timer ≡ given_up t (place_of self.old.places timer) }
@@ -158,7 +158,7 @@ impl ApcQueues {
     }
 
     /// The thread in whose queue the timer's APC has a place.
-    pub fn place_of(&self, timer: Handle) -> Option<ThreadId>
+    pub fn place_of(&self, timer: ObjectNumber) -> Option<ThreadId>
         ensures place { result ≡ place_of self.now.places timer }
         ensures keeps { KeepsPlaces self.now }
     {
@@ -169,7 +169,7 @@ impl ApcQueues {
     }
 
     /// The timers whose APC has a place in `t`'s queue, each once.
-    pub fn timers_of(&self, t: ThreadId) -> &[Handle]
+    pub fn timers_of(&self, t: ThreadId) -> &[ObjectNumber]
         requires { t < length self.now.queues }
         ensures distinct { AllPairs (λ a b. a ≢ b) result.now }
         ensures listed { (m : ℕ) → Contains result.now m ↔ (place_of self.now.places m ≡ Some t) }

@@ -133,7 +133,7 @@ or_zero (Some n) = n
 
 -- a pending wait as C sees it
 abbrev pub wait_in : Wait → NtPendingWait
-wait_in wait = record { count = length wait.handles; all = wait.all; alertable = wait.alertable; timed = is_some wait.deadline; deadline = or_zero wait.deadline }
+wait_in wait = record { count = length wait.objects; all = wait.all; alertable = wait.alertable; timed = is_some wait.deadline; deadline = or_zero wait.deadline }
 
 -- what is read of the pending wait of the thread, or 259 is answered where none pends, or 536870915 where no thread has this number
 abbrev ReadsOfWait : (A : Type 0) → ℕ → (Wait → Option A) → Nt → ℕ → A → A → Type 0
@@ -152,7 +152,7 @@ ReadsWait thread nt number before after = ReadsOfWait NtPendingWait thread (λ w
 
 -- the object at this index among those that the pending wait of the thread names is told, or 259 is answered past the last
 abbrev pub ReadsObject : ℕ → ℕ → Nt → ℕ → ℕ → ℕ → Type 0
-ReadsObject thread index nt number before after = ReadsOfWait ℕ thread (λ wait. slice_get wait.handles index) nt number before after
+ReadsObject thread index nt number before after = ReadsOfWait ℕ thread (λ wait. slice_get wait.objects index) nt number before after
 
 -- a grant as C sees it
 abbrev grant_in : Grant → NtGrant

@@ -28,7 +28,7 @@ fn in_numbers(wait: &Wait) -> NtPendingWait
         None => (false, 0),
     };
     NtPendingWait {
-        count: wait.handles.as_slice().len(),
+        count: wait.objects.as_slice().len(),
         all: wait.all,
         alertable: wait.alertable,
         timed,
@@ -81,7 +81,7 @@ pub extern "C" fn nt_waited_object(nt: &mut Nt, thread: u32, index: usize, out: 
     let Some(wait) = core.waits_for(thread) else {
         return NO_MORE;
     };
-    let Some(object) = wait.handles.as_slice().get(index) else {
+    let Some(object) = wait.objects.as_slice().get(index) else {
         return NO_MORE;
     };
     *out = object.get();

@@ -10,7 +10,7 @@ use Rattle.nt_objects.specs.Object.{signaled}
 use Rattle.nt_calls.specs.State.{object_at}
 use Rattle.nt_calls.specs.Serving.{is_ready, has_mark, least, status, status_at, take_at, take_each, IsTried}
 
-pub tried_any : (old new : List Object) (t : ℕ) (w : Wait) (ended : ℕ) → w.all ≡ false → list_any (is_ready old t) w.handles ≡ true → ended ≡ status_at (has_mark old (get_or w.handles (least old t w) 0)) (least old t w) → new ≡ take_at old t (get_or w.handles (least old t w) 0) → IsTried old new t w (Some ended)
+pub tried_any : (old new : List Object) (t : ℕ) (w : Wait) (ended : ℕ) → w.all ≡ false → list_any (is_ready old t) w.objects ≡ true → ended ≡ status_at (has_mark old (get_or w.objects (least old t w) 0)) (least old t w) → new ≡ take_at old t (get_or w.objects (least old t w) 0) → IsTried old new t w (Some ended)
 tried_any old new t w ended any ready status taken = (rw any ready, status ∙ rw any refl, taken ∙ rw any refl)
 
 -- ---- taking one after another
@@ -32,6 +32,6 @@ ready_other objects t h k differs = ap (λ o. signaled o t) (object_other object
 pub object_taken_other : (objects : List Object) (t h k : ℕ) → k ≢ h → object_at (take_at objects t h) k ≡ object_at objects k
 object_taken_other objects t h k differs = object_other objects t h k differs
 
--- distinct handles differ at any two places
-pub differ : (handles : List ℕ) (i j : ℕ) → IsDistinct nat_eq handles → i < j → j < length handles → get_or handles i 0 ≢ get_or handles j 0
-differ handles i j distinct before within same = false≢true (sym (apart_from_distinct nat_eq handles i j 0 distinct before within) ∙ eq-eqb _ _ same)
+-- distinct numbers differ at any two places
+pub differ : (numbers : List ℕ) (i j : ℕ) → IsDistinct nat_eq numbers → i < j → j < length numbers → get_or numbers i 0 ≢ get_or numbers j 0
+differ numbers i j distinct before within same = false≢true (sym (apart_from_distinct nat_eq numbers i j 0 distinct before within) ∙ eq-eqb _ _ same)

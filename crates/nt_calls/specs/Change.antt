@@ -58,7 +58,7 @@ abbrev pub all_expired : ℕ → State → List ℕ → State
 all_expired v s [] = s
 all_expired v s (timer ∷ timers) = all_expired v (expired v s timer) timers
 
--- the timer at this handle is armed for this moment
+-- the timer of this number is armed for this moment
 abbrev pub IsTimerDue : State → ℕ → ℕ → Type 0
 IsTimerDue s u h = due_of (object_at s.objects h) ≡ Some u
 

@@ -13,26 +13,26 @@ use Rattle.nt_calls.specs.declared.call.Grant.{Grant}
 use Rattle.nt_calls.specs.State.{State, object_at, with_object, pending_no_more, with_handing, waits_over}
 use Rattle.nt_calls.specs.Rising.{AreRising}
 
--- whether the object at this handle is signaled for thread t
+-- whether the object of this number is signaled for thread t
 abbrev pub is_ready : List Object → ℕ → ℕ → Bool
 is_ready objects t h = signaled (object_at objects h) t
 
 -- a wait for no object
 abbrev pub is_sleep : Wait → Bool
-is_sleep w = length w.handles == 0
+is_sleep w = length w.objects == 0
 
 -- whether the objects satisfy this wait of thread t: some object that it names is signaled, or for a wait-all each is
 abbrev pub fits : List Object → ℕ → Wait → Bool
 fits objects t w =
     if w.all
-    then not (is_sleep w) && list_all (is_ready objects t) w.handles
-    else list_any (is_ready objects t) w.handles
+    then not (is_sleep w) && list_all (is_ready objects t) w.objects
+    else list_any (is_ready objects t) w.objects
 
 -- the smallest index whose object is signaled for t
 abbrev pub least : List Object → ℕ → Wait → ℕ
-least objects t w = position_or_len (is_ready objects t) w.handles
+least objects t w = position_or_len (is_ready objects t) w.objects
 
--- whether at this handle stands a mutex with the mark
+-- whether the object of this number is a mutex with the mark
 abbrev pub has_mark : List Object → ℕ → Bool
 has_mark objects h = is_abandoned (object_at objects h)
 
@@ -43,10 +43,10 @@ status_at marked i = if marked then abandoned_code i else object_code i
 abbrev pub status : List Object → ℕ → Wait → ℕ
 status objects t w =
     if w.all
-    then status_at (list_any (has_mark objects) w.handles) 0
-    else status_at (has_mark objects (slice_index w.handles (least objects t w))) (least objects t w)
+    then status_at (list_any (has_mark objects) w.objects) 0
+    else status_at (has_mark objects (slice_index w.objects (least objects t w))) (least objects t w)
 
--- the objects once t has taken the one at this handle
+-- the objects once t has taken the one of this number
 abbrev pub take_at : List Object → ℕ → ℕ → List Object
 take_at objects t h = with_object objects h (λ o. taken o t)
 
@@ -58,12 +58,12 @@ take_each objects t (h ∷ hs) = take_each (take_at objects t h) t hs
 abbrev pub objects_taken : List Object → ℕ → Wait → List Object
 objects_taken objects t w =
     if w.all
-    then take_each objects t w.handles
-    else take_at objects t (slice_index w.handles (least objects t w))
+    then take_each objects t w.objects
+    else take_at objects t (slice_index w.objects (least objects t w))
 
--- a wait for these handles, as far as the objects are concerned
+-- a wait for these objects, as far as the objects are concerned
 abbrev pub wait_for : List ℕ → Bool → Wait
-wait_for handles all = record { handles = handles; all = all; alertable = false; deadline = None }
+wait_for objects all = record { objects = objects; all = all; alertable = false; deadline = None }
 
 -- t can take each of these objects that is signaled for it: none is a mutex at the greatest depth
 abbrev pub CanTake : List Object → ℕ → List ℕ → Type 0
@@ -105,7 +105,7 @@ pub record IsDue (s : State) (g : Grant) (w : Wait) : Type 0 where
 
 -- ---- serving
 
--- the handles whose object the change altered
+-- the numbers of the objects that the change altered
 abbrev pub IsChanged : List Object → List Object → ℕ → Type 0
 IsChanged old new h = (h < length old) × (object_at new h ≢ object_at old h)
 

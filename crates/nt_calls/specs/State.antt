@@ -29,7 +29,7 @@ pub record State : Type 0 where
   pub objects : List Object
   -- the waits that pend
   pub waits : Pending
-  -- for each handle the threads whose pending waits name it, in the order in which those waits began
+  -- for each object the threads whose pending waits name it, in the order in which those waits began
   pub queues : ℕ → List ℕ
   -- each thread's queued APCs, the oldest first
   pub apcs : List (List Queued)
@@ -59,11 +59,11 @@ with_object objects h f = slice_set objects h (f (object_at objects h))
 abbrev pub pends : State → ℕ → Bool
 pends s t = is_some (get s.waits t)
 
--- whether the wait names the handle
+-- whether the wait names the object
 abbrev pub names : Wait → ℕ → Bool
-names w h = list_any (λ named. named == h) w.handles
+names w h = list_any (λ named. named == h) w.objects
 
--- t's wait pends from now on, last in the queue of each handle that it names
+-- t's wait pends from now on, last in the queue of each object that it names
 abbrev pub pending_too : State → ℕ → Wait → State
 pending_too s t w =
     record s {

@@ -49,13 +49,13 @@ answered old s t Call.Exit = (Reply.Done, s)
 
 -- one accepted call, whose handles are the numbers of their objects here: its change, serving of the waits on changed objects, alerts, and the caller's own wait
 pub record Step (old : State) (t : ℕ) (call : Call) (reply : Reply) (grants : List Grant) (new : State) : Type 0 where
-  pub handles : List ℕ
+  pub numbers : List ℕ
   pub served : List Grant
   pub calm : State
   pub alerted : List Grant
   pub woken : State
-  pub changed : AreRising (IsChanged old.objects (change old t call).objects) handles
-  pub serves : Serve (sequence old handles) (change old t call) served calm
+  pub changed : AreRising (IsChanged old.objects (change old t call).objects) numbers
+  pub serves : Serve (sequence old numbers) (change old t call) served calm
   pub alerts : Alert (after_serving call calm) alerted woken
   pub in_order : grants ≡ served ++ alerted
   pub answers : (reply, new) ≡ answered old woken t call

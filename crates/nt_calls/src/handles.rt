@@ -9,7 +9,7 @@ ghost use Rattle.nt_calls.specs.Naming.{object_named, lacks};
 
 use arrayvec::ArrayVec;
 use nt_objects::{HandleTable, Object};
-use nt_status::{Handle, MAX_HANDLES, MAX_WAIT_OBJECTS};
+use nt_status::{Handle, MAX_HANDLES, MAX_WAIT_OBJECTS, ObjectNumber};
 
 /// A number that no object has: the numbers of objects are below it.
 const NO_OBJECT: u32 = MAX_HANDLES as u32;
@@ -24,27 +24,27 @@ pub const MODIFY_STATE: u32 = 0x0002;
 pub const SET_CONTEXT: u32 = 0x0010;
 
 /// The numbers of the objects that a wait names, at most as many as it may name. They lie in the value itself.
-pub type NamedObjects = ArrayVec<Handle, MAX_WAIT_OBJECTS>;
+pub type NamedObjects = ArrayVec<ObjectNumber, MAX_WAIT_OBJECTS>;
 
 /// The number of the object that the handle names, and one that no object has where it names none.
-pub fn object_named(handles: &HandleTable, handle: Handle) -> Handle
+pub fn object_named(handles: &HandleTable, handle: Handle) -> ObjectNumber
     ensures { result ≡ object_named handles.now.opened handle }
 {
     match handles.get(handle) {
         Some(opened) => opened.object,
-        None => Handle::new(NO_OBJECT),
+        None => ObjectNumber::new(NO_OBJECT),
     }
 }
 
 /// What the handle names: the number of its object, and one that no object has where it names none. Answers also whether the
 /// handle lacks one of these rights.
-pub fn opened(handles: &HandleTable, handle: Handle, access: u32) -> (Handle, bool)
+pub fn opened(handles: &HandleTable, handle: Handle, access: u32) -> (ObjectNumber, bool)
     ensures object { result.0 ≡ object_named handles.now.opened handle }
     ensures denied { result.1 ≡ lacks access handles.now.opened handle }
 {
     let (object, held) = match handles.get(handle) {
         Some(opened) => (opened.object, opened.access.bits()),
-        None => (Handle::new(NO_OBJECT), 0),
+        None => (ObjectNumber::new(NO_OBJECT), 0),
     };
     (object, held & access != access)
 }
@@ -60,7 +60,7 @@ pub fn name_all(handles: &HandleTable, these: &[Handle], named: &mut NamedObject
     for handle in these {
         let (object, held) = match handles.get(*handle) {
             Some(opened) => (opened.object, opened.access.bits()),
-            None => (Handle::new(NO_OBJECT), 0),
+            None => (ObjectNumber::new(NO_OBJECT), 0),
         };
         named.push(object);
         denied = denied || held & SYNCHRONIZE != SYNCHRONIZE;
@@ -69,10 +69,10 @@ pub fn name_all(handles: &HandleTable, these: &[Handle], named: &mut NamedObject
 }
 
 /// The object with this number, or none.
-pub fn named(objects: &[Object], handle: Handle) -> Option<&Object>
-    ensures object { option_copied result ≡ slice_get objects.now handle }
-    ensures known { is_some result ≡ nat_lt handle (length objects.now) }
-    ensures none { IfNone result (object_at objects.now handle ≡ Thread false) }
+pub fn named(objects: &[Object], number: ObjectNumber) -> Option<&Object>
+    ensures object { option_copied result ≡ slice_get objects.now number }
+    ensures known { is_some result ≡ nat_lt number (length objects.now) }
+    ensures none { IfNone result (object_at objects.now number ≡ Thread false) }
 {
-    objects.get(handle.get() as usize)
+    objects.get(number.get() as usize)
 }

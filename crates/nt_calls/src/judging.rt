@@ -10,10 +10,10 @@ use crate::refusals::{
 };
 use nt_objects::HandleTable;
 use nt_owners::ObjectTable;
-use nt_status::{Handle, Refusal, ThreadId};
+use nt_status::{Handle, ObjectNumber, Refusal, ThreadId};
 
 /// The number of the object that a handle names, or why the call is refused.
-pub type Judged = Result<Handle, Refusal>;
+pub type Judged = Result<ObjectNumber, Refusal>;
 
 /// The event that the handle names, for a call that changes it.
 #[inline(always)]

@@ -4,13 +4,13 @@ ghost use Rattle.nt_objects.specs.Object.{is_gone, setter_of};
 ghost use Rattle.nt_calls.specs.State.{object_at};
 
 use nt_objects::Object;
-use nt_status::{Handle, ThreadId};
+use nt_status::{ObjectNumber, ThreadId};
 
-/// Whether the thread armed the timer at this handle with a routine.
-pub fn is_set_by(objects: &[Object], thread: ThreadId, handle: Handle) -> bool
-    ensures { IsTrue result ↔ (setter_of (object_at objects.now handle) ≡ Some thread) }
+/// Whether the thread armed the timer of this number with a routine.
+pub fn is_set_by(objects: &[Object], thread: ThreadId, number: ObjectNumber) -> bool
+    ensures { IsTrue result ↔ (setter_of (object_at objects.now number) ≡ Some thread) }
 {
-    match objects.get(handle.get() as usize) {
+    match objects.get(number.get() as usize) {
         Some(object) => object.setter() == Some(thread),
         None => false,
     }

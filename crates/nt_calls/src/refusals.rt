@@ -6,10 +6,13 @@ ghost use Rattle.nt_calls.specs.Refusals.{first_of_causes, apc_causes, arm_cause
 
 use crate::handles::named;
 use nt_objects::{HandleTable, Object};
-use nt_status::{Access, Handle, MAX_HANDLES, Refusal, ThreadId};
+use nt_status::{Access, Handle, MAX_HANDLES, ObjectNumber, Refusal, ThreadId};
 
 /// The number of the object, or why it is refused.
-pub(crate) fn judged(object: Handle, refusal: Option<Refusal>) -> Result<Handle, Refusal>
+pub(crate) fn judged(
+    object: ObjectNumber,
+    refusal: Option<Refusal>,
+) -> Result<ObjectNumber, Refusal>
     ensures { MatchOption refusal (result ≡ Ok object) (λ cause. result ≡ Err cause) }
 {
     match refusal {
@@ -18,15 +21,19 @@ pub(crate) fn judged(object: Handle, refusal: Option<Refusal>) -> Result<Handle,
     }
 }
 
-/// Whether the handle names nothing.
-pub(crate) fn is_unknown(objects: &[Object], handle: Handle) -> bool
-    ensures { result ≡ is_unknown objects.now handle }
+/// Whether no object has this number.
+pub(crate) fn is_unknown(objects: &[Object], number: ObjectNumber) -> bool
+    ensures { result ≡ is_unknown objects.now number }
 {
-    named(objects, handle).is_none()
+    named(objects, number).is_none()
 }
 
-/// The refusal of a release of the mutex at this handle.
-pub(crate) fn unlock_refusal(objects: &[Object], thread: ThreadId, mutex: Handle) -> Option<Refusal>
+/// The refusal of a release of the mutex of this number.
+pub(crate) fn unlock_refusal(
+    objects: &[Object],
+    thread: ThreadId,
+    mutex: ObjectNumber,
+) -> Option<Refusal>
     ensures { result ≡ first_of_causes (unlock_causes objects.now thread mutex) }
 {
     match named(objects, mutex) {
@@ -41,11 +48,11 @@ pub(crate) fn unlock_refusal(objects: &[Object], thread: ThreadId, mutex: Handle
     }
 }
 
-/// The refusal of a release of the semaphore at this handle.
+/// The refusal of a release of the semaphore of this number.
 pub(crate) fn release_refusal(
     objects: &[Object],
     denied: bool,
-    semaphore: Handle,
+    semaphore: ObjectNumber,
     count: i32,
 ) -> Option<Refusal>
     ensures { result ≡ first_of_causes (release_causes objects.now denied semaphore count) }
@@ -79,31 +86,31 @@ pub(crate) fn kind_refusal(is_other: bool, denied: bool) -> Option<Refusal>
     }
 }
 
-/// Whether the handle names no event.
-pub(crate) fn is_no_event(objects: &[Object], handle: Handle) -> bool
-    ensures { result ≡ is_no is_event objects.now handle }
+/// Whether no event has this number.
+pub(crate) fn is_no_event(objects: &[Object], number: ObjectNumber) -> bool
+    ensures { result ≡ is_no is_event objects.now number }
 {
-    match named(objects, handle) {
+    match named(objects, number) {
         Some(object) => !object.is_event(),
         None => true,
     }
 }
 
-/// Whether the handle names no timer.
-pub(crate) fn is_no_timer(objects: &[Object], handle: Handle) -> bool
-    ensures { result ≡ is_no is_timer objects.now handle }
+/// Whether no timer has this number.
+pub(crate) fn is_no_timer(objects: &[Object], number: ObjectNumber) -> bool
+    ensures { result ≡ is_no is_timer objects.now number }
 {
-    match named(objects, handle) {
+    match named(objects, number) {
         Some(object) => !object.is_timer(),
         None => true,
     }
 }
 
-/// The refusal of setting the timer at this handle.
+/// The refusal of setting the timer of this number.
 pub(crate) fn arm_refusal(
     objects: &[Object],
     denied: bool,
-    timer: Handle,
+    timer: ObjectNumber,
     period: i32,
 ) -> Option<Refusal>
     ensures { result ≡ first_of_causes (arm_causes objects.now denied timer period) }
@@ -119,8 +126,8 @@ pub(crate) fn arm_refusal(
     }
 }
 
-/// The refusal of an APC for the thread whose object has this handle.
-pub(crate) fn apc_refusal(objects: &[Object], denied: bool, thread: Handle) -> Option<Refusal>
+/// The refusal of an APC for the thread whose object has this number.
+pub(crate) fn apc_refusal(objects: &[Object], denied: bool, thread: ObjectNumber) -> Option<Refusal>
     ensures { result ≡ first_of_causes (apc_causes objects.now denied thread) }
 {
     match named(objects, thread) {
@@ -142,7 +149,7 @@ pub(crate) fn duplicate_refusal(
     handles: &HandleTable,
     objects: &[Object],
     denied: bool,
-    object: Handle,
+    object: ObjectNumber,
     access: u32,
 ) -> Option<Refusal>
     ensures { result ≡ first_of_causes (duplicate_causes handles.now.opened objects.now denied object access) }

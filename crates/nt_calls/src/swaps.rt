@@ -8,15 +8,15 @@ use crate::handles::named;
 use crate::refusals::is_unknown;
 use crate::wait_refusal::is_at_limit;
 use nt_objects::Object;
-use nt_status::{Handle, Refusal, ThreadId};
+use nt_status::{ObjectNumber, Refusal, ThreadId};
 
 /// The refusal of a swap that signals one object and waits for the other, both as they are before it.
 pub fn swap_refusal(
     objects: &[Object],
     thread: ThreadId,
     denied: bool,
-    signal: Handle,
-    object: Handle,
+    signal: ObjectNumber,
+    object: ObjectNumber,
 ) -> Option<Refusal>
     ensures { result ≡ first_of_causes (swap_causes objects.now thread denied signal object) }
 {
@@ -43,7 +43,12 @@ pub fn swap_refusal(
 }
 
 /// Whether a right is lacking that a swap needs: to release a mutex needs none.
-pub fn is_swap_denied(objects: &[Object], signaled: Handle, no_signal: bool, no_wait: bool) -> bool
+pub fn is_swap_denied(
+    objects: &[Object],
+    signaled: ObjectNumber,
+    no_signal: bool,
+    no_wait: bool,
+) -> bool
     ensures { result ≡ (not (is_mutex (object_at objects.now signaled)) && no_signal || no_wait) }
 {
     let is_mutex = match named(objects, signaled) {

@@ -8,51 +8,51 @@ ghost use Rattle.nt_calls.specs.Serving.{is_ready, has_mark, status_at, take_at,
 
 use nt_objects::{Object, Taken};
 use nt_owners::ObjectTable;
-use nt_status::{Handle, MAX_WAIT_OBJECTS, Status, ThreadId};
+use nt_status::{MAX_WAIT_OBJECTS, ObjectNumber, Status, ThreadId};
 
-/// Whether the object at this handle is signaled for the thread. A number that no object has is not.
-pub fn is_ready(objects: &[Object], thread: ThreadId, handle: Handle) -> bool
-    ensures { result ≡ is_ready objects.now thread handle }
+/// Whether the object of this number is signaled for the thread. A number that no object has is not.
+pub fn is_ready(objects: &[Object], thread: ThreadId, number: ObjectNumber) -> bool
+    ensures { result ≡ is_ready objects.now thread number }
 {
-    match objects.get(handle.get() as usize) {
+    match objects.get(number.get() as usize) {
         Some(object) => object.signaled_for(thread),
         None => false,
     }
 }
 
-/// Whether the object at this handle is a mutex with the mark.
-fn has_mark(objects: &[Object], handle: Handle) -> bool
-    ensures { result ≡ has_mark objects.now handle }
+/// Whether the object of this number is a mutex with the mark.
+fn has_mark(objects: &[Object], number: ObjectNumber) -> bool
+    ensures { result ≡ has_mark objects.now number }
 {
-    match objects.get(handle.get() as usize) {
+    match objects.get(number.get() as usize) {
         Some(object) => object.is_abandoned(),
         None => false,
     }
 }
 
-/// The least place of the handles whose object is signaled for the thread.
-fn ready_place(objects: &[Object], thread: ThreadId, handles: &[Handle]) -> Option<usize>
-    ensures { result ≡ position (is_ready objects.now thread) handles.now }
+/// The least place among these numbers whose object is signaled for the thread.
+fn ready_place(objects: &[Object], thread: ThreadId, numbers: &[ObjectNumber]) -> Option<usize>
+    ensures { result ≡ position (is_ready objects.now thread) numbers.now }
 {
-    handles
+    numbers
         .iter()
-        .position(|handle| is_ready(objects, thread, *handle))
+        .position(|number| is_ready(objects, thread, *number))
 }
 
-/// Whether the objects at all handles are signaled for the thread.
-fn are_ready(objects: &[Object], thread: ThreadId, handles: &[Handle]) -> bool
-    ensures { result ≡ list_all (is_ready objects.now thread) handles.now }
+/// Whether the objects of all these numbers are signaled for the thread.
+fn are_ready(objects: &[Object], thread: ThreadId, numbers: &[ObjectNumber]) -> bool
+    ensures { result ≡ list_all (is_ready objects.now thread) numbers.now }
 {
-    handles
+    numbers
         .iter()
-        .all(|handle| is_ready(objects, thread, *handle))
+        .all(|number| is_ready(objects, thread, *number))
 }
 
-/// Whether one of the handles is that of a mutex with the mark.
-fn have_mark(objects: &[Object], handles: &[Handle]) -> bool
-    ensures { result ≡ list_any (has_mark objects.now) handles.now }
+/// Whether one of the objects is a mutex with the mark.
+fn have_mark(objects: &[Object], numbers: &[ObjectNumber]) -> bool
+    ensures { result ≡ list_any (has_mark objects.now) numbers.now }
 {
-    handles.iter().any(|handle| has_mark(objects, *handle))
+    numbers.iter().any(|number| has_mark(objects, *number))
 }
 
 /// How a wait ends that took the object at this place of it.
@@ -66,64 +66,64 @@ fn status_of(taken: Taken, place: u32) -> Status
     }
 }
 
-/// The thread takes the object at this handle, which stands at this place of its wait. Answers how the wait ends.
+/// The thread takes the object of this number, which stands at this place of its wait. Answers how the wait ends.
 #[inline(always)]
-fn take_at(objects: &mut ObjectTable, thread: ThreadId, handle: Handle, place: u32) -> Status
+fn take_at(objects: &mut ObjectTable, thread: ThreadId, number: ObjectNumber, place: u32) -> Status
     requires few { place ≤ 63 }
-    requires ready { IsTrue (is_ready objects.old.items thread handle) }
-    requires room { IsTrue (has_room (object_at objects.old.items handle)) }
+    requires ready { IsTrue (is_ready objects.old.items thread number) }
+    requires room { IsTrue (has_room (object_at objects.old.items number)) }
     requires known { thread < length objects.old.owned }
-    ensures items { objects.new.items ≡ take_at objects.old.items thread handle }
-    ensures status { result ≡ status_at (has_mark objects.old.items handle) place }
+    ensures items { objects.new.items ≡ take_at objects.old.items thread number }
+    ensures status { result ≡ status_at (has_mark objects.old.items number) place }
     ensures threads { length objects.new.owned ≡ length objects.old.owned }
 {
-    status_of(objects.take(handle, thread), place)
+    status_of(objects.take(number, thread), place)
 }
 
-/// The thread takes the objects at these handles.
-fn take_each(objects: &mut ObjectTable, thread: ThreadId, handles: &[Handle])
-    requires ready { list_all (is_ready objects.old.items thread) handles.now ≡ true }
-    requires apart { IsDistinct nat_eq handles.now }
-    requires room { CanTake objects.old.items thread handles.now }
+/// The thread takes the objects of these numbers.
+fn take_each(objects: &mut ObjectTable, thread: ThreadId, numbers: &[ObjectNumber])
+    requires ready { list_all (is_ready objects.old.items thread) numbers.now ≡ true }
+    requires apart { IsDistinct nat_eq numbers.now }
+    requires room { CanTake objects.old.items thread numbers.now }
     requires known { thread < length objects.old.owned }
-    ensures items { objects.new.items ≡ take_each objects.old.items thread handles.now }
+    ensures items { objects.new.items ≡ take_each objects.old.items thread numbers.now }
     ensures threads { length objects.new.owned ≡ length objects.old.owned }
 {
-    for handle in handles {
-        let _status = take_at(objects, thread, *handle, 0);
+    for number in numbers {
+        let _status = take_at(objects, thread, *number, 0);
     }
 }
 
-/// Where the objects satisfy a wait for any of these handles, takes the object at the least, and answers the status.
+/// Where the objects satisfy a wait for any of these objects, takes the one at the least place, and answers the status.
 #[inline(never)]
-fn try_any(objects: &mut ObjectTable, thread: ThreadId, handles: &[Handle]) -> Option<Status>
-    requires few { length handles.now ≤ MAX_WAIT_OBJECTS }
-    requires room { CanTake objects.old.items thread handles.now }
+fn try_any(objects: &mut ObjectTable, thread: ThreadId, numbers: &[ObjectNumber]) -> Option<Status>
+    requires few { length numbers.now ≤ MAX_WAIT_OBJECTS }
+    requires room { CanTake objects.old.items thread numbers.now }
     requires known { thread < length objects.old.owned }
-    ensures tried { IsTried objects.old.items objects.new.items thread (wait_for handles.now false) result }
+    ensures tried { IsTried objects.old.items objects.new.items thread (wait_for numbers.now false) result }
     ensures none { IfNone result (objects.new ≡ objects.old) }
     ensures threads { length objects.new.owned ≡ length objects.old.owned }
 {
-    let place = ready_place(objects.as_slice(), thread, handles)?;
-    let handle = handles[place];
-    Some(take_at(objects, thread, handle, place as u32))
+    let place = ready_place(objects.as_slice(), thread, numbers)?;
+    let number = numbers[place];
+    Some(take_at(objects, thread, number, place as u32))
 }
 
-/// Where the objects satisfy a wait for all these handles, takes them, and answers the status.
+/// Where the objects satisfy a wait for all these objects, takes them, and answers the status.
 #[inline(never)]
-fn try_all(objects: &mut ObjectTable, thread: ThreadId, handles: &[Handle]) -> Option<Status>
-    requires apart { IsDistinct nat_eq handles.now }
-    requires room { CanTake objects.old.items thread handles.now }
+fn try_all(objects: &mut ObjectTable, thread: ThreadId, numbers: &[ObjectNumber]) -> Option<Status>
+    requires apart { IsDistinct nat_eq numbers.now }
+    requires room { CanTake objects.old.items thread numbers.now }
     requires known { thread < length objects.old.owned }
-    ensures tried { IsTried objects.old.items objects.new.items thread (wait_for handles.now true) result }
+    ensures tried { IsTried objects.old.items objects.new.items thread (wait_for numbers.now true) result }
     ensures none { IfNone result (objects.new ≡ objects.old) }
     ensures threads { length objects.new.owned ≡ length objects.old.owned }
 {
-    if handles.is_empty() || !are_ready(objects.as_slice(), thread, handles) {
+    if numbers.is_empty() || !are_ready(objects.as_slice(), thread, numbers) {
         return None;
     }
-    let marked = have_mark(objects.as_slice(), handles);
-    take_each(objects, thread, handles);
+    let marked = have_mark(objects.as_slice(), numbers);
+    take_each(objects, thread, numbers);
     Some(if marked {
         Status::abandoned(0)
     } else {
@@ -131,25 +131,25 @@ fn try_all(objects: &mut ObjectTable, thread: ThreadId, handles: &[Handle]) -> O
     })
 }
 
-/// Where the objects satisfy a wait for any or all of these handles, takes what it takes of them, and answers its status.
+/// Where the objects satisfy a wait for any or all of these objects, takes what it takes of them, and answers its status.
 #[inline(always)]
 pub fn try_wait(
     objects: &mut ObjectTable,
     thread: ThreadId,
-    handles: &[Handle],
+    numbers: &[ObjectNumber],
     all: bool,
 ) -> Option<Status>
-    requires few { length handles.now ≤ MAX_WAIT_OBJECTS }
-    requires apart { IsDistinct nat_eq handles.now }
-    requires room { CanTake objects.old.items thread handles.now }
+    requires few { length numbers.now ≤ MAX_WAIT_OBJECTS }
+    requires apart { IsDistinct nat_eq numbers.now }
+    requires room { CanTake objects.old.items thread numbers.now }
     requires known { thread < length objects.old.owned }
-    ensures tried { IsTried objects.old.items objects.new.items thread (wait_for handles.now all) result }
+    ensures tried { IsTried objects.old.items objects.new.items thread (wait_for numbers.now all) result }
     ensures none { IfNone result (objects.new ≡ objects.old) }
     ensures threads { length objects.new.owned ≡ length objects.old.owned }
 {
-    match handles {
-        [handle] => Some(status_of(objects.try_take(*handle, thread)?, 0)),
-        _ if all => try_all(objects, thread, handles),
-        _ => try_any(objects, thread, handles),
+    match numbers {
+        [number] => Some(status_of(objects.try_take(*number, thread)?, 0)),
+        _ if all => try_all(objects, thread, numbers),
+        _ => try_any(objects, thread, numbers),
     }
 }

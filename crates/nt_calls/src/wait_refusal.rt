@@ -6,46 +6,46 @@ ghost use Rattle.nt_calls.specs.Refusals.{first_of_causes, objects_causes, is_un
 use crate::handles::named;
 use crate::refusals::is_unknown;
 use nt_objects::Object;
-use nt_status::{Handle, MAX_WAIT_OBJECTS, Refusal, ThreadId};
+use nt_status::{MAX_WAIT_OBJECTS, ObjectNumber, Refusal, ThreadId};
 
-/// Whether one of the handles names nothing.
-fn has_unknown(objects: &[Object], handles: &[Handle]) -> bool
-    ensures { result ≡ list_any (is_unknown objects.now) handles.now }
+/// Whether no object has one of these numbers.
+fn has_unknown(objects: &[Object], numbers: &[ObjectNumber]) -> bool
+    ensures { result ≡ list_any (is_unknown objects.now) numbers.now }
 {
-    handles.iter().any(|handle| is_unknown(objects, *handle))
+    numbers.iter().any(|number| is_unknown(objects, *number))
 }
 
-/// Whether the handle is that of a mutex which the thread holds at the greatest depth.
-pub fn is_at_limit(objects: &[Object], thread: ThreadId, handle: Handle) -> bool
-    ensures { result ≡ is_at_limit objects.now thread handle }
+/// Whether the object of this number is a mutex which the thread holds at the greatest depth.
+pub fn is_at_limit(objects: &[Object], thread: ThreadId, number: ObjectNumber) -> bool
+    ensures { result ≡ is_at_limit objects.now thread number }
 {
-    match named(objects, handle) {
+    match named(objects, number) {
         Some(object) => object.is_owned_by(thread) && !object.has_room(),
         None => false,
     }
 }
 
-/// Whether one of the handles is that of a mutex which the thread holds at the greatest depth.
-fn has_limit(objects: &[Object], thread: ThreadId, handles: &[Handle]) -> bool
-    ensures { result ≡ list_any (is_at_limit objects.now thread) handles.now }
+/// Whether one of these objects is a mutex which the thread holds at the greatest depth.
+fn has_limit(objects: &[Object], thread: ThreadId, numbers: &[ObjectNumber]) -> bool
+    ensures { result ≡ list_any (is_at_limit objects.now thread) numbers.now }
 {
-    handles
+    numbers
         .iter()
-        .any(|handle| is_at_limit(objects, thread, *handle))
+        .any(|number| is_at_limit(objects, thread, *number))
 }
 
-/// Whether a handle stands twice.
-fn has_twice(handles: &[Handle]) -> bool
-    ensures { result ≡ has_twice handles.now }
+/// Whether a number stands twice.
+fn has_twice(numbers: &[ObjectNumber]) -> bool
+    ensures { result ≡ has_twice numbers.now }
 {
-    match handles {
+    match numbers {
         [] => false,
         [first, rest @ ..] => rest.contains(first) || has_twice(rest),
     }
 }
 
 /// Whether the numbers rise, the first from above this one: then none of them stands twice.
-fn rises_from(below: Handle, numbers: &[Handle]) -> bool
+fn rises_from(below: ObjectNumber, numbers: &[ObjectNumber]) -> bool
     ensures above { result ≡ true → (x : ℕ) → x ≤ below → list_any (λ other. other == x) numbers.now ≡ false }
     ensures apart { result ≡ true → has_twice numbers.now ≡ false }
 {
@@ -56,7 +56,7 @@ fn rises_from(below: Handle, numbers: &[Handle]) -> bool
 }
 
 /// Whether a number stands twice. Where the numbers rise, one look at each tells.
-fn names_twice(numbers: &[Handle]) -> bool
+fn names_twice(numbers: &[ObjectNumber]) -> bool
     ensures { result ≡ has_twice numbers.now }
 {
     match numbers {
@@ -70,7 +70,7 @@ fn object_refusal(
     objects: &[Object],
     thread: ThreadId,
     denied: bool,
-    object: Handle,
+    object: ObjectNumber,
 ) -> Option<Refusal>
     ensures { result ≡ first_of_causes (objects_causes objects.now thread denied (object ∷ [])) }
 {
@@ -91,7 +91,7 @@ fn list_refusal(
     objects: &[Object],
     thread: ThreadId,
     denied: bool,
-    numbers: &[Handle],
+    numbers: &[ObjectNumber],
 ) -> Option<Refusal>
     ensures { result ≡ first_of_causes (objects_causes objects.now thread denied numbers.now) }
 {
@@ -116,7 +116,7 @@ pub fn objects_refusal(
     objects: &[Object],
     thread: ThreadId,
     denied: bool,
-    numbers: &[Handle],
+    numbers: &[ObjectNumber],
 ) -> Option<Refusal>
     ensures { result ≡ first_of_causes (objects_causes objects.now thread denied numbers.now) }
 {

@@ -72,9 +72,9 @@ reading_taken_each f same t (h ∷ hs) os k = reading_taken_each f same t hs (ta
 pub reading_taken_by : {X : Type 0} (f : Object → X) → ((o : Object) (t : ℕ) → f (taken o t) ≡ f o) → (os : List Object) (t : ℕ) (w : Wait) (k : ℕ) → f (object_at (objects_taken os t w) k) ≡ f (object_at os k)
 reading_taken_by f same os t w k = go w.all
   where
-    go : (all : Bool) → f (object_at (cond all (take_each os t w.handles) (take_at os t (slice_index w.handles (least os t w)))) k) ≡ f (object_at os k)
-    go true = reading_taken_each f same t w.handles os k
-    go false = same_reading f t (λ o. same o t) os (slice_index w.handles (least os t w)) k
+    go : (all : Bool) → f (object_at (cond all (take_each os t w.objects) (take_at os t (slice_index w.objects (least os t w)))) k) ≡ f (object_at os k)
+    go true = reading_taken_each f same t w.objects os k
+    go false = same_reading f t (λ o. same o t) os (slice_index w.objects (least os t w)) k
 
 pub due_taken_by : (os : List Object) (t : ℕ) (w : Wait) (k : ℕ) → due_of (object_at (objects_taken os t w) k) ≡ due_of (object_at os k)
 due_taken_by os t w k = reading_taken_by due_of (λ o u. due_taken o u) os t w k
@@ -122,7 +122,7 @@ no_alert s new is calm = record {
 pub accepted : (old calm new : Dispatcher) (t : ℕ) (call : Call) (reply : Reply) → IsServedAfter old (change (state old) t call) calm → state new ≡ after_serving call (state calm) → new.grants ≡ calm.grants → new.table.looked ≡ calm.table.looked → IsSteady new → (reply, state new) ≡ answered (state old) (state new) t call → Accepts old new t call reply
 accepted old calm new t call reply served after same looked steady answers = record {
   step = record {
-    handles = served.handles;
+    numbers = served.numbers;
     served = calm.grants;
     calm = state calm;
     alerted = [];
@@ -135,7 +135,7 @@ accepted old calm new t call reply served after same looked steady answers = rec
   };
   steady = steady;
   local = record {
-    handles = served.handles;
+    numbers = served.numbers;
     changed = served.changed;
     most = rw looked served.most;
     least = let fewer = length-filter-le is_by_objects new.grants in let len : length new.grants ≡ length calm.grants = ap (λ gs. length gs) same in let least = served.least in omega (arith, fewer, len, least, looked);
@@ -244,7 +244,7 @@ told_anew d table steady is = subst (λ (v : Waits). IsFresh (record d { table =
 pub wait_accepted : (old new : Dispatcher) (t : ℕ) (wait : WaitCall) (reply : Reply) → IsFresh old → new.grants ≡ old.grants → new.table.looked ≡ old.table.looked → IsSteady new → wait_change (state old) wait ≡ state old → (reply, state new) ≡ begun (state old) t (wait_of old.now wait) (timeout_of wait) → Accepts old new t (Call.Wait wait) reply
 wait_accepted old new t wait reply fresh grants looked steady same begins = record {
   step = record {
-    handles = [];
+    numbers = [];
     served = [];
     calm = state old;
     alerted = [];
@@ -257,7 +257,7 @@ wait_accepted old new t wait reply fresh grants looked steady same begins = reco
   };
   steady = steady;
   local = record {
-    handles = [];
+    numbers = [];
     changed = changed;
     most = let none : new.table.looked ≡ 0 = looked ∙ fresh.untested in omega (arith, none);
     least = subst (λ (gs : List Grant). length (filter is_by_objects gs) ≤ new.table.looked) (sym (grants ∙ fresh.no_grants)) (omega arith);

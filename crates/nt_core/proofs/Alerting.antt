@@ -58,7 +58,7 @@ ended_sound old table t code may w grants leaving sound has waits agrees pushed 
     }
 
 -- what it named may lack its mark
-pub ended_unmarked : (old : Dispatcher) (table : Waits) (t : ℕ) (may : Bool) (w : Wait) (grants : List Grant) → IsSound old → Some w ≡ fin.get old.table.pending t → ((h : ℕ) → queue_of table h ≡ others t (queue_of old.table h)) → MarksAgreeBut w.handles (record old { table = table; handing = set old.handing t may; grants = grants })
+pub ended_unmarked : (old : Dispatcher) (table : Waits) (t : ℕ) (may : Bool) (w : Wait) (grants : List Grant) → IsSound old → Some w ≡ fin.get old.table.pending t → ((h : ℕ) → queue_of table h ≡ others t (queue_of old.table h)) → MarksAgreeBut w.objects (record old { table = table; handing = set old.handing t may; grants = grants })
 ended_unmarked old table t may w grants sound has queues =
     marks_ended old (record old { table = table; handing = set old.handing t may; grants = grants }) t w sound (sym has) refl refl refl queues refl (λ o. refl) (λ o. refl)
 
@@ -233,7 +233,7 @@ posted_sound d t q sound = record {
 pub queued_accepted : (old new : Dispatcher) (t h routine arg : ℕ) → IsFresh old → IsSound new → IsAlertedAfter (record old { apcs = record old.apcs { queues = pushed old.apcs.queues h (record { apc = record { routine = routine; arg = arg; at = None }; timer = None }) } }) new → Accepts old new t (Call.Act (Act.QueueApc h routine arg)) Reply.Done
 queued_accepted old new t h routine arg fresh sound after = record {
   step = record {
-    handles = [];
+    numbers = [];
     served = [];
     calm = state mid;
     alerted = after.ended;
@@ -250,7 +250,7 @@ queued_accepted old new t h routine arg fresh sound after = record {
     unmarked = after.unmarked;
   };
   local = record {
-    handles = [];
+    numbers = [];
     changed = none_changed old.objects;
     most = let none : new.table.looked ≡ 0 = after.looked ∙ fresh.untested in omega (arith, none);
     least = subst (λ (gs : List Grant). length (filter is_by_objects gs) ≤ new.table.looked) (sym (after.grants ∙ (ap (λ gs. gs ++ after.ended) fresh.no_grants ∙ after.alerts.ends))) (rw (no_objects after.alerts.threads) (omega arith));

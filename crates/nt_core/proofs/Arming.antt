@@ -186,7 +186,7 @@ set_served old mid new t h due period routine manual a setting queues fresh idle
     let serves : Serve (sequence s (h ∷ [])) s new.grants (state new) = subst (λ (x : State). Serve (sequence x (h ∷ [])) x new.grants (state new)) becomes serve in
     let rose : o ≢ object_at old.objects h = λ e. false≢true (ap (λ (x : Object). signaled x 0) (sym (e ∙ is))) in
     let after : IsServedAfter old s new = record {
-      handles = h ∷ [];
+      numbers = h ∷ [];
       changed = one_changed old.objects h o known rose;
       serves = serves;
       sound = sound;

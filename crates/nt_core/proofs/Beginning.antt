@@ -79,8 +79,8 @@ pends_too old table t w pending joined kept =
     state_same (state (record old { table = table })) (pending_too (state old) t w) refl refl refl pending (λ h. queue h (names w h) refl) refl refl refl
   where
     queue : (h : ℕ) (b : Bool) → names w h ≡ b → queue_of table h ≡ (if names w h then queue_of old.table h ++ t ∷ [] else queue_of old.table h)
-    queue h true is = rw is (joined h (names_yes w.handles h is))
-    queue h false is = rw is (kept h (λ named. names_no w.handles h is named.0 named.1 named.2))
+    queue h true is = rw is (joined h (names_yes w.objects h is))
+    queue h false is = rw is (kept h (λ named. names_no w.objects h is named.0 named.1 named.2))
 
 -- no queue is shorter then
 pub queues_longer : (old table : Waits) (t : ℕ) (w : Wait) → ((h : ℕ) → Names w h → queue_of table h ≡ queue_of old h ++ t ∷ []) → ((h : ℕ) → (Names w h → ⊥) → queue_of table h ≡ queue_of old h) → (h : ℕ) → nat_lt 0 (length (queue_of old h)) ≡ true → nat_lt 0 (length (queue_of table h)) ≡ true
@@ -88,9 +88,9 @@ queues_longer old table t w joined kept h some = go (names w h) refl
   where
     go : (b : Bool) → names w h ≡ b → nat_lt 0 (length (queue_of table h)) ≡ true
     go true is =
-        let longer : length (queue_of table h) ≡ length (queue_of old h) + 1 = ap (λ q. length q) (joined h (names_yes w.handles h is)) ∙ length-append (queue_of old h) (t ∷ []) in
+        let longer : length (queue_of table h) ≡ length (queue_of old h) + 1 = ap (λ q. length q) (joined h (names_yes w.objects h is)) ∙ length-append (queue_of old h) (t ∷ []) in
         grind (arith, nat_tests, longer)
-    go false is = ap (λ q. nat_lt 0 (length q)) (kept h (λ named. names_no w.handles h is named.0 named.1 named.2)) ∙ some
+    go false is = ap (λ q. nat_lt 0 (length q)) (kept h (λ named. names_no w.objects h is named.0 named.1 named.2)) ∙ some
 
 pub sound_begun : (old : Dispatcher) (table : Waits) (t : ℕ) (w : Wait) → IsSound old → IsSoundWait old.threads old.objects t w → fin.get old.table.pending t ≡ None → length old.grants + fin.len old.table.pending < old.threads → table.pending ≡ fin.insert old.table.pending t w → Agrees table.pending table.queues → ((h : ℕ) → nat_lt 0 (length (queue_of old.table h)) ≡ true → nat_lt 0 (length (queue_of table h)) ≡ true) → IsSound (record old { table = table })
 sound_begun old table t w sound able idle room pending agrees more = record {

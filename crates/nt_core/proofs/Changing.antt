@@ -118,7 +118,7 @@ same_or_one changed old new t only (h ∷ hs) known =
         let ready : is_ready new t h ≡ is_ready old t h = ap (λ o. signaled o t) same in
         inl (rw (ready, rest.0) refl, rw (ready, rest.1) refl)
 
-fits_same : (old new : List Object) (t : ℕ) (w : Wait) → ReadyAlike old new t w.handles → fits new t w ≡ fits old t w
+fits_same : (old new : List Object) (t : ℕ) (w : Wait) → ReadyAlike old new t w.objects → fits new t w ≡ fits old t w
 fits_same old new t w alike = rw (alike.0, alike.1) refl
 
 in_sequence : (s : State) (changed : List ℕ) (h t : ℕ) → Contains changed h → Contains (s.queues h) t → Contains (sequence s changed) t
@@ -134,12 +134,12 @@ fit_only_in changed old objects sound served only t due = go (fin.get old.table.
   where
     go : (o : Option Wait) → fin.get old.table.pending t ≡ o → satisfied objects t o ≡ true → Contains (sequence (state old) changed) t
     go None e fit = let h : false ≡ true = fit in (cc)
-    go (Some w) e fit = elim (same_or_one changed old.objects objects t only w.handles (λ j below. ((sound.waits t w e).named (get_or w.handles j 0) (j, below, refl)).0)) [
+    go (Some w) e fit = elim (same_or_one changed old.objects objects t only w.objects (λ j below. ((sound.waits t w e).named (get_or w.objects j 0) (j, below, refl)).0)) [
       | inl alike ↦
           let before : fits old.objects t w ≡ false = sym (ap (λ o. satisfied old.objects t o) e) ∙ served t in
           let h : true ≡ false = sym fit ∙ (fits_same old.objects objects t w alike ∙ before) in
           (cc)
-      | inr one ↦ in_sequence (state old) changed (get_or w.handles one.0 0) t one.2 (sound.blocks.listed t (get_or w.handles one.0 0) w e (one.0, one.1, refl))
+      | inr one ↦ in_sequence (state old) changed (get_or w.objects one.0 0) t one.2 (sound.blocks.listed t (get_or w.objects one.0 0) w e (one.0, one.1, refl))
     ]
 
 -- where no object changes that waits name, no wait fits

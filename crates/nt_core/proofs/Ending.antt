@@ -230,44 +230,44 @@ exited_places old mid t left =
     subst (λ (os : List Object). AreRising (IsChanged old.objects os) (marked_places mid.marked.changed)) (ap (λ (s : State). s.objects) left.becomes)
     (places_rising (IsChanged old.objects mid.objects) mid.marked.changed left.changed)
 
-pub exited_fit : (old : Dispatcher) (t : ℕ) (handles : List ℕ) → IsSteady old → t < old.threads → has_ended (object_at old.objects t) ≡ false → AreRising (IsChanged old.objects (objects_left old.objects t)) handles → FitOnlyIn (sequence (exited (state old) t) handles) (exited (state old) t)
-exited_fit old t handles steady known runs changed = fit_only_in handles old (objects_left old.objects t) steady.sound steady.settled.served only
+pub exited_fit : (old : Dispatcher) (t : ℕ) (numbers : List ℕ) → IsSteady old → t < old.threads → has_ended (object_at old.objects t) ≡ false → AreRising (IsChanged old.objects (objects_left old.objects t)) numbers → FitOnlyIn (sequence (exited (state old) t) numbers) (exited (state old) t)
+exited_fit old t numbers steady known runs changed = fit_only_in numbers old (objects_left old.objects t) steady.sound steady.settled.served only
   where
-    only : ChangedOnlyAt handles old.objects (objects_left old.objects t)
+    only : ChangedOnlyAt numbers old.objects (objects_left old.objects t)
     only h there = elim (altered_or_same old.objects t h) [
       | inl altered ↦ inr ((changed.exactly h).1 (altered_changed old t h steady.sound known runs altered))
       | inr same ↦ inl same
     ]
 
-sequence_few : (s : State) (handles : List ℕ) → ((h : ℕ) → length (s.queues h) ≤ 256) → length (sequence s handles) ≤ 256 * length handles
+sequence_few : (s : State) (numbers : List ℕ) → ((h : ℕ) → length (s.queues h) ≤ 256) → length (sequence s numbers) ≤ 256 * length numbers
 sequence_few s [] few = omega arith
-sequence_few s (h ∷ handles) few =
+sequence_few s (h ∷ numbers) few =
     let here = few h in
-    let rest = sequence_few s handles few in
-    let both = length-append (s.queues h) (flat_map s.queues handles) in
+    let rest = sequence_few s numbers few in
+    let both = length-append (s.queues h) (flat_map s.queues numbers) in
     omega (arith, here, rest, both)
 
-pub exited_few : (old : Dispatcher) (t : ℕ) (handles : List ℕ) → IsSound old → AreRising (IsChanged old.objects (objects_left old.objects t)) handles → length (sequence (exited (state old) t) handles) < 2 ^ 64
-exited_few old t handles sound changed =
-    let few = few_below (length old.objects) handles (rising_once handles changed.rising) (λ h m. ((changed.exactly h).0 m).0) in
-    let most = sequence_few (exited (state old) t) handles (λ h. queue_few old h sound) in
+pub exited_few : (old : Dispatcher) (t : ℕ) (numbers : List ℕ) → IsSound old → AreRising (IsChanged old.objects (objects_left old.objects t)) numbers → length (sequence (exited (state old) t) numbers) < 2 ^ 64
+exited_few old t numbers sound changed =
+    let few = few_below (length old.objects) numbers (rising_once numbers changed.rising) (λ h m. ((changed.exactly h).0 m).0) in
+    let most = sequence_few (exited (state old) t) numbers (λ h. queue_few old h sound) in
     let limit = sound.handles.few in
     omega (arith, few, most, limit)
 
-pub exited_accepted : (old mid new : Dispatcher) (t : ℕ) (handles : List ℕ) → IsFresh old → IsExitedAfter old t mid → AreRising (IsChanged old.objects (objects_left old.objects t)) handles → Serve (sequence (state mid) handles) (state mid) new.grants (state new) → IsSound new → new.table.looked ≤ length (sequence (state mid) handles) → length new.grants ≤ new.table.looked → IsUnmarked new.marked → Accepts old new t Call.Exit Reply.Done
-exited_accepted old mid new t handles fresh after changed serve sound most least unmarked =
-    let served : Serve (sequence (state old) handles) (exited (state old) t) new.grants (state new) = subst (λ (s : State). Serve (sequence s handles) s new.grants (state new)) after.becomes serve in
+pub exited_accepted : (old mid new : Dispatcher) (t : ℕ) (numbers : List ℕ) → IsFresh old → IsExitedAfter old t mid → AreRising (IsChanged old.objects (objects_left old.objects t)) numbers → Serve (sequence (state mid) numbers) (state mid) new.grants (state new) → IsSound new → new.table.looked ≤ length (sequence (state mid) numbers) → length new.grants ≤ new.table.looked → IsUnmarked new.marked → Accepts old new t Call.Exit Reply.Done
+exited_accepted old mid new t numbers fresh after changed serve sound most least unmarked =
+    let served : Serve (sequence (state old) numbers) (exited (state old) t) new.grants (state new) = subst (λ (s : State). Serve (sequence s numbers) s new.grants (state new)) after.becomes serve in
     let steady : IsSteady new = record {
       sound = sound;
-      settled = settled_after (sequence (state old) handles) (exited (state old) t) (state new) new.grants served (calm_exited (state old) t fresh.steady.settled.alerted) (due_exited old t old.now fresh.steady.sound fresh.steady.settled.passed);
+      settled = settled_after (sequence (state old) numbers) (exited (state old) t) (state new) new.grants served (calm_exited (state old) t fresh.steady.settled.alerted) (due_exited old t old.now fresh.steady.sound fresh.steady.settled.passed);
       unmarked = unmarked;
     } in
     accepted old new new t Call.Exit Reply.Done (record {
-      handles = handles;
+      numbers = numbers;
       changed = changed;
       serves = served;
       sound = sound;
-      most = subst (λ (s : State). new.table.looked ≤ length (sequence s handles)) after.becomes most;
+      most = subst (λ (s : State). new.table.looked ≤ length (sequence s numbers)) after.becomes most;
       least = least;
       unmarked = unmarked;
     }) refl refl refl steady refl

@@ -55,20 +55,20 @@ list_any_at p xs e =
     (lt, (first_pass_at p xs lt).1 0)
 
 -- what taking one signaled object keeps, the taking of a wait that fits keeps
-pub taking_keeps : (P : List Object → Type 0) (t : ℕ) → ((os : List Object) (h : ℕ) → is_ready os t h ≡ true → has_room (object_at os h) ≡ true → P os → P (take_at os t h)) → (os : List Object) (w : Wait) → IsDistinct nat_eq w.handles → CanTake os t w.handles → fits os t w ≡ true → P os → P (objects_taken os t w)
+pub taking_keeps : (P : List Object → Type 0) (t : ℕ) → ((os : List Object) (h : ℕ) → is_ready os t h ≡ true → has_room (object_at os h) ≡ true → P os → P (take_at os t h)) → (os : List Object) (w : Wait) → IsDistinct nat_eq w.objects → CanTake os t w.objects → fits os t w ≡ true → P os → P (objects_taken os t w)
 taking_keeps P t kept os w apart room fit has = go w.all fit
   where
-    whole : (b : Bool) → (not b && list_all (is_ready os t) w.handles) ≡ true → list_all (is_ready os t) w.handles ≡ true
+    whole : (b : Bool) → (not b && list_all (is_ready os t) w.objects) ≡ true → list_all (is_ready os t) w.objects ≡ true
     whole true e = let h : false ≡ true = e in (cc)
     whole false e = e
 
-    go : (all : Bool) → cond all (not (is_sleep w) && list_all (is_ready os t) w.handles) (list_any (is_ready os t) w.handles) ≡ true → P (cond all (take_each os t w.handles) (take_at os t (slice_index w.handles (least os t w))))
+    go : (all : Bool) → cond all (not (is_sleep w) && list_all (is_ready os t) w.objects) (list_any (is_ready os t) w.objects) ≡ true → P (cond all (take_each os t w.objects) (take_at os t (slice_index w.objects (least os t w))))
     go true e =
-        let ready = list_all_at (is_ready os t) w.handles (whole (is_sleep w) e) in
-        each_kept P t kept w.handles os (λ i j. differ w.handles i j apart) ready (λ j below. room j below (ready j below)) has
+        let ready = list_all_at (is_ready os t) w.objects (whole (is_sleep w) e) in
+        each_kept P t kept w.objects os (λ i j. differ w.objects i j apart) ready (λ j below. room j below (ready j below)) has
     go false e =
-        let first = list_any_at (is_ready os t) w.handles e in
-        kept os (slice_index w.handles (least os t w)) first.1 (room (least os t w) first.0 first.1) has
+        let first = list_any_at (is_ready os t) w.objects e in
+        kept os (slice_index w.objects (least os t w)) first.1 (room (least os t w) first.0 first.1) has
 
 -- ---- one object
 
@@ -205,7 +205,7 @@ takes_well old os t h ready room so_far = record {
       | inr here ↦ ap (λ o. owned_by o u && not (has_room o)) here.1 ∙ rw (unowned_taken (object_at os h) t u ready other) refl
     ]
 
-pub objects_taken_well : (os : List Object) (t : ℕ) (w : Wait) → IsDistinct nat_eq w.handles → CanTake os t w.handles → fits os t w ≡ true → TakesWell os (objects_taken os t w) t
+pub objects_taken_well : (os : List Object) (t : ℕ) (w : Wait) → IsDistinct nat_eq w.objects → CanTake os t w.objects → fits os t w ≡ true → TakesWell os (objects_taken os t w) t
 objects_taken_well os t w apart room fit =
     taking_keeps (λ new. TakesWell os new t) t (λ new h ready has. takes_well os new t h ready has) os w apart room fit
     (record {

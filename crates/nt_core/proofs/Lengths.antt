@@ -19,9 +19,9 @@ length_taken_each t (h ∷ hs) os = length_taken_each t hs (take_at os t h) ∙ 
 pub length_taken : (os : List Object) (t : ℕ) (w : Wait) → length (objects_taken os t w) ≡ length os
 length_taken os t w = go w.all
   where
-    go : (all : Bool) → length (cond all (take_each os t w.handles) (take_at os t (slice_index w.handles (least os t w)))) ≡ length os
-    go true = length_taken_each t w.handles os
-    go false = length-set os (slice_index w.handles (least os t w)) (taken (object_at os (slice_index w.handles (least os t w))) t)
+    go : (all : Bool) → length (cond all (take_each os t w.objects) (take_at os t (slice_index w.objects (least os t w)))) ≡ length os
+    go true = length_taken_each t w.objects os
+    go false = length-set os (slice_index w.objects (least os t w)) (taken (object_at os (slice_index w.objects (least os t w))) t)
 
 pub Grants_length : (threads : List ℕ) (s new : State) (gs : List Grant) → Grants threads s gs new → length new.objects ≡ length s.objects
 Grants_length threads s new [] is = ap (λ (x : State). length x.objects) is

@@ -185,25 +185,25 @@ marks_created d o owned agree alive marks = record {
 
 -- ---- a wait ends
 
-pub named_member : (hs : List ℕ) (w : Wait) (o : ℕ) → w.handles ≡ hs → Names w o → Contains hs o
-named_member hs w o is named = subst (λ (xs : List ℕ). Contains xs o) is (contains_at w.handles named.0 0 o named.1 named.2)
+pub named_member : (hs : List ℕ) (w : Wait) (o : ℕ) → w.objects ≡ hs → Names w o → Contains hs o
+named_member hs w o is named = subst (λ (xs : List ℕ). Contains xs o) is (contains_at w.objects named.0 0 o named.1 named.2)
 
-pub member_named : (w : Wait) (o : ℕ) → Contains w.handles o → Names w o
-member_named w o m = let place = at_from_Contains w.handles o m in (place.0, place.1, place.2 0)
+pub member_named : (w : Wait) (o : ℕ) → Contains w.objects o → Names w o
+member_named w o m = let place = at_from_Contains w.objects o m in (place.0, place.1, place.2 0)
 
 -- the wait of thread t is over, and perhaps it took objects: what it named may lack its mark
-pub marks_ended : (old new : Dispatcher) (t : ℕ) (w : Wait) → IsSound old → get old.table.pending t ≡ Some w → new.threads ≡ old.threads → new.handles ≡ old.handles → new.leaving ≡ old.leaving → ((o : ℕ) → queue_of new.table o ≡ others t (queue_of old.table o)) → length new.objects ≡ length old.objects → ((o : ℕ) → is_gone (object_at new.objects o) ≡ is_gone (object_at old.objects o)) → ((o : ℕ) → has_ended (object_at new.objects o) ≡ has_ended (object_at old.objects o)) → MarksAgreeBut w.handles new
+pub marks_ended : (old new : Dispatcher) (t : ℕ) (w : Wait) → IsSound old → get old.table.pending t ≡ Some w → new.threads ≡ old.threads → new.handles ≡ old.handles → new.leaving ≡ old.leaving → ((o : ℕ) → queue_of new.table o ≡ others t (queue_of old.table o)) → length new.objects ≡ length old.objects → ((o : ℕ) → is_gone (object_at new.objects o) ≡ is_gone (object_at old.objects o)) → ((o : ℕ) → has_ended (object_at new.objects o) ≡ has_ended (object_at old.objects o)) → MarksAgreeBut w.objects new
 marks_ended old new t w sound pends threads handles leaving queues count gone ended =
-    marks_from old new w.handles handles leaving count gone before
+    marks_from old new w.objects handles leaving count gone before
     (λ o m. subst (λ (n : ℕ). o < n) (sym count) ((sound.waits t w pends).named o (member_named w o m)).0) sound.marks
   where
-    before : (o : ℕ) → is_forgotten (state new) o ≡ true → (is_forgotten (state old) o ≡ true) ⊎ Contains w.handles o
-    before o forgotten = elim (contains_or_not w.handles o) [
+    before : (o : ℕ) → is_forgotten (state new) o ≡ true → (is_forgotten (state old) o ≡ true) ⊎ Contains w.objects o
+    before o forgotten = elim (contains_or_not w.objects o) [
       | inl member ↦ inr member
       | inr never ↦
           let absent : Contains (queue_of old.table o) t → ⊥ = λ m.
           let named = sound.blocks.named t o m in
-          never (named_member w.handles w o refl (subst (λ (v : Wait). Names v o) (same_wait named.0 w (sym named.1 ∙ pends)) named.2)) in
+          never (named_member w.objects w o refl (subst (λ (v : Wait). Names v o) (same_wait named.0 w (sym named.1 ∙ pends)) named.2)) in
           inl (sym (forgotten_same (state old) (state new) o count (gone o) (ended o) threads (ap (λ hs. nat_lt 0 (count_named hs o)) handles) (ap (λ q. length q) (queues o ∙ others_absent t (queue_of old.table o) absent))) ∙ forgotten)
     ]
       where

@@ -54,7 +54,7 @@ replaced_fit d h o steady = fit_only_in (h ∷ []) d (set d.objects h o) steady.
 
 pub replaced_served : (old new : Dispatcher) (h : ℕ) (o : Object) → h < length old.objects → o ≢ object_at old.objects h → Serve (sequence (state old) (h ∷ [])) (state (record old { objects = set old.objects h o })) new.grants (state new) → IsSound new → new.table.looked ≤ length (sequence (state old) (h ∷ [])) → length new.grants ≤ new.table.looked → IsUnmarked new.marked → IsServedAfter old (state (record old { objects = set old.objects h o })) new
 replaced_served old new h o known differs serve sound most least unmarked = record {
-  handles = h ∷ [];
+  numbers = h ∷ [];
   changed = one_changed old.objects h o known differs;
   serves = serve;
   sound = sound;
@@ -67,7 +67,7 @@ replaced_served old new h o known differs serve sound most least unmarked = reco
 pub replaced_settled : (old new : Dispatcher) (h : ℕ) (o : Object) → IsFresh old → MayReplace (object_at old.objects h) o → IsServedAfter old (at (state old) h (λ _. o)) new → IsSteady new
 replaced_settled old new h o fresh may after = record {
   sound = after.sound;
-  settled = settled_after (sequence (state old) after.handles) (at (state old) h (λ _. o)) (state new) new.grants after.serves fresh.steady.settled.alerted
+  settled = settled_after (sequence (state old) after.numbers) (at (state old) h (λ _. o)) (state new) new.grants after.serves fresh.steady.settled.alerted
       (due_replaced (state old) h o old.now may.due fresh.steady.settled.passed);
   unmarked = after.unmarked;
 }
@@ -78,11 +78,11 @@ replaced_accepted old new t h o call reply fresh may changes after answers serve
     accepted old new new t call reply (subst (λ (s : State). IsServedAfter old s new) (sym changes) served) after refl refl (replaced_settled old new h o fresh may served) answers
 
 -- nothing is changed, or nothing that satisfies more waits
-pub idle_served : (old : Dispatcher) (mid : State) (new : Dispatcher) (handles : List ℕ) → IsFresh old → AreRising (IsChanged old.objects mid.objects) handles → new.grants ≡ old.grants → new.table.looked ≡ old.table.looked → state new ≡ mid → IsSteady new → IsServedAfter old mid new
-idle_served old mid new handles fresh changed grants looked is steady = record {
-  handles = handles;
+pub idle_served : (old : Dispatcher) (mid : State) (new : Dispatcher) (numbers : List ℕ) → IsFresh old → AreRising (IsChanged old.objects mid.objects) numbers → new.grants ≡ old.grants → new.table.looked ≡ old.table.looked → state new ≡ mid → IsSteady new → IsServedAfter old mid new
+idle_served old mid new numbers fresh changed grants looked is steady = record {
+  numbers = numbers;
   changed = changed;
-  serves = subst (λ (gs : List Grant). Serve (sequence (state old) handles) mid gs (state new)) (sym (grants ∙ fresh.no_grants)) (is, steady.settled.served);
+  serves = subst (λ (gs : List Grant). Serve (sequence (state old) numbers) mid gs (state new)) (sym (grants ∙ fresh.no_grants)) (is, steady.settled.served);
   sound = steady.sound;
   most = let none : new.table.looked ≡ 0 = looked ∙ fresh.untested in omega (arith, none);
   least = let none : length new.grants ≡ 0 = ap (λ gs. length gs) (grants ∙ fresh.no_grants) in omega (arith, none);
@@ -148,7 +148,7 @@ raised_idle old t h fresh is was =
 pub raised_settled : (old new : Dispatcher) (h : ℕ) → IsFresh old → is_event (object_at old.objects h) ≡ true → IsServedAfter old (at (state old) h (with_set true)) new → IsSteady new
 raised_settled old new h fresh is after = record {
   sound = after.sound;
-  settled = settled_after (sequence (state old) after.handles) (at (state old) h (with_set true)) (state new) new.grants after.serves fresh.steady.settled.alerted
+  settled = settled_after (sequence (state old) after.numbers) (at (state old) h (with_set true)) (state new) new.grants after.serves fresh.steady.settled.alerted
       (due_replaced (state old) h (with_set true (object_at old.objects h)) old.now (due_with_set true (object_at old.objects h) is) fresh.steady.settled.passed);
   unmarked = after.unmarked;
 }
@@ -183,10 +183,10 @@ reset_accepted old t h fresh is = go (signaled (object_at old.objects h) t) refl
     new : Dispatcher
     new = record old { objects = with_object old.objects h (with_set false) }
 
-    whole : (handles : List ℕ) → AreRising (IsChanged old.objects new.objects) handles → Accepts old new t (Call.Act (Act.ResetEvent h)) Reply.Done
-    whole handles changed =
+    whole : (numbers : List ℕ) → AreRising (IsChanged old.objects new.objects) numbers → Accepts old new t (Call.Act (Act.ResetEvent h)) Reply.Done
+    whole numbers changed =
         accepted old new new t (Call.Act (Act.ResetEvent h)) Reply.Done
-        (idle_served old (state new) new handles fresh changed refl refl refl (reset_steady old h fresh.steady is))
+        (idle_served old (state new) new numbers fresh changed refl refl refl (reset_steady old h fresh.steady is))
         refl refl refl (reset_steady old h fresh.steady is) refl
 
     go : (b : Bool) → signaled (object_at old.objects h) t ≡ b → Accepts old new t (Call.Act (Act.ResetEvent h)) Reply.Done
@@ -210,7 +210,7 @@ event_served threads s new (g ∷ gs) h has = event_served threads (granted s g.
 -- it is still an event when waits are served
 pub still_event : (old mid : Dispatcher) (h : ℕ) → is_event (object_at old.objects h) ≡ true → IsServedAfter old (at (state old) h (with_set true)) mid → is_event (object_at mid.objects h) ≡ true
 still_event old mid h is after =
-    event_served (sequence (state old) after.handles) (at (state old) h (with_set true)) (state mid) mid.grants h after.serves.0
+    event_served (sequence (state old) after.numbers) (at (state old) h (with_set true)) (state mid) mid.grants h after.serves.0
     ∙ (ap is_event (object_at-set_same old.objects h (with_set true (object_at old.objects h)) (known_event old.objects h is)) ∙ event_with_set true (object_at old.objects h) is)
 
 -- a pulse is a set, and then the event is not set

@@ -48,10 +48,10 @@ all_same : (p q : ℕ → Bool) (hs : List ℕ) → ((j : ℕ) → j < length hs
 all_same p q [] same = refl
 all_same p q (h ∷ hs) same = ap (λ b. b && list_all p hs) (same 0 (omega arith)) ∙ ap (λ b. q h && b) (all_same p q hs (λ j below. same (suc j) (omega (arith, below))))
 
-fits_same : (old new : List Object) (t : ℕ) (w : Wait) → ((j : ℕ) → j < length w.handles → is_ready new t (get_or w.handles j 0) ≡ is_ready old t (get_or w.handles j 0)) → fits new t w ≡ fits old t w
+fits_same : (old new : List Object) (t : ℕ) (w : Wait) → ((j : ℕ) → j < length w.objects → is_ready new t (get_or w.objects j 0) ≡ is_ready old t (get_or w.objects j 0)) → fits new t w ≡ fits old t w
 fits_same old new t w same =
-    ap (λ b. cond w.all (not (is_sleep w) && b) (list_any (is_ready new t) w.handles)) (all_same (is_ready new t) (is_ready old t) w.handles same)
-    ∙ ap (λ b. cond w.all (not (is_sleep w) && list_all (is_ready old t) w.handles) b) (any_same (is_ready new t) (is_ready old t) w.handles same)
+    ap (λ b. cond w.all (not (is_sleep w) && b) (list_any (is_ready new t) w.objects)) (all_same (is_ready new t) (is_ready old t) w.objects same)
+    ∙ ap (λ b. cond w.all (not (is_sleep w) && list_all (is_ready old t) w.objects) b) (any_same (is_ready new t) (is_ready old t) w.objects same)
 
 -- ---- APCs grow fewer
 
@@ -93,7 +93,7 @@ ends_settled d new blocks settled ends = subst IsSettled (sym ends.leaves) (reco
         go None e = ap (λ x. satisfied left.objects t x) e
         go (Some w) e =
             ap (λ x. satisfied left.objects t x) e
-            ∙ (fits_same d.objects left.objects t w (λ j below. ap (λ (o : Object). is_ready (o ∷ []) t 0) (named_stays d ends.objects blocks forgotten t w e (get_or w.handles j 0) (j, below, refl)))
+            ∙ (fits_same d.objects left.objects t w (λ j below. ap (λ (o : Object). is_ready (o ∷ []) t 0) (named_stays d ends.objects blocks forgotten t w e (get_or w.objects j 0) (j, below, refl)))
             ∙ (ap (λ x. satisfied d.objects t x) (sym e) ∙ settled.served t))
 
     alerted : (t : ℕ) → IsAlerted left t → ⊥

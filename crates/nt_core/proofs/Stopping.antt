@@ -47,9 +47,9 @@ closed_taken_each os t (g ∷ hs) h u k other e = closed_taken_each (take_at os 
 closed_after : (os : List Object) (t : ℕ) (w : Wait) (h u k : ℕ) → u ≢ t → is_ready (with_object os h closed) u k ≡ false → is_ready (with_object (objects_taken os t w) h closed) u k ≡ false
 closed_after os t w h u k other e = go w.all
   where
-    go : (all : Bool) → is_ready (with_object (cond all (take_each os t w.handles) (take_at os t (slice_index w.handles (least os t w)))) h closed) u k ≡ false
-    go true = closed_taken_each os t w.handles h u k other e
-    go false = closed_taken os t (slice_index w.handles (least os t w)) h u k other e
+    go : (all : Bool) → is_ready (with_object (cond all (take_each os t w.objects) (take_at os t (slice_index w.objects (least os t w)))) h closed) u k ≡ false
+    go true = closed_taken_each os t w.objects h u k other e
+    go false = closed_taken os t (slice_index w.objects (least os t w)) h u k other e
 
 by_granted : (h : ℕ) (s : State) (t : ℕ) (w : Wait) → FitOnlyBy h s → FitOnlyBy h (granted s t w)
 by_granted h s t w by u = elim (cases_eq u t) [

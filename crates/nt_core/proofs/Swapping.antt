@@ -203,7 +203,7 @@ module _ (old calm : Dispatcher) (t h object ms : ℕ) (alertable : Bool)
   left : LeavesCaller (at (state old) h signal) (state calm) calm.grants t
   left =
       let sound = sound_replaced old h (signal (object_at old.objects h)) old.owned fresh.steady.sound replaced in
-      serving_leaves old.threads (sequence (state old) served.handles) (at (state old) h signal) (state calm) calm.grants t served.serves.0 (sound.objects, sound.waits) caller.2
+      serving_leaves old.threads (sequence (state old) served.numbers) (at (state old) h signal) (state calm) calm.grants t served.serves.0 (sound.objects, sound.waits) caller.2
 
   pub calm_idle : fin.get calm.table.pending t ≡ None
   calm_idle = left.idle
@@ -211,7 +211,7 @@ module _ (old calm : Dispatcher) (t h object ms : ℕ) (alertable : Bool)
   pub calm_now : calm.now ≡ old.now
   calm_now = left.now
 
-  pub calm_able : (w : Wait) → w.handles ≡ object ∷ [] → IsSoundWait calm.threads calm.objects t w
+  pub calm_able : (w : Wait) → w.objects ≡ object ∷ [] → IsSoundWait calm.threads calm.objects t w
   unfolding IsDistinct
   calm_able w is = record {
     known = subst (λ (n : ℕ). t < n) (sym left.threads) caller.0;
@@ -240,7 +240,7 @@ module _ (old calm : Dispatcher) (t h object ms : ℕ) (alertable : Bool)
   pub swap_accepted : (new : Dispatcher) (reply : Reply) → new.grants ≡ calm.grants → new.table.looked ≡ calm.table.looked → IsSteady new → (reply, state new) ≡ begun (state calm) t (wait_of calm.now (WaitCall.Swap h object ms alertable)) ms → Accepts old new t (Call.Wait (WaitCall.Swap h object ms alertable)) reply
   swap_accepted new reply same looked steady answers = record {
     step = record {
-      handles = served.handles;
+      numbers = served.numbers;
       served = calm.grants;
       calm = state calm;
       alerted = [];
@@ -253,7 +253,7 @@ module _ (old calm : Dispatcher) (t h object ms : ℕ) (alertable : Bool)
     };
     steady = steady;
     local = record {
-      handles = served.handles;
+      numbers = served.numbers;
       changed = served.changed;
       most = rw looked served.most;
       least = let fewer = length-filter-le is_by_objects new.grants in let len : length new.grants ≡ length calm.grants = ap (λ gs. length gs) same in let least = served.least in omega (arith, fewer, len, least, looked);

@@ -27,9 +27,9 @@ unready_taken_each objects t (h ∷ hs) u k e = unready_taken_each (take_at obje
 pub unready_after : (objects : List Object) (t : ℕ) (w : Wait) (u k : ℕ) → is_ready objects u k ≡ false → is_ready (objects_taken objects t w) u k ≡ false
 unready_after objects t w u k e = go w.all
   where
-    go : (all : Bool) → is_ready (cond all (take_each objects t w.handles) (take_at objects t (slice_index w.handles (least objects t w)))) u k ≡ false
-    go true = unready_taken_each objects t w.handles u k e
-    go false = unready_taken objects t (slice_index w.handles (least objects t w)) u k e
+    go : (all : Bool) → is_ready (cond all (take_each objects t w.objects) (take_at objects t (slice_index w.objects (least objects t w)))) u k ≡ false
+    go true = unready_taken_each objects t w.objects u k e
+    go false = unready_taken objects t (slice_index w.objects (least objects t w)) u k e
 
 -- ---- waits that do not fit
 
@@ -57,13 +57,13 @@ list_all_kept p q kept (x ∷ xs) e = go (list_all_kept p q kept xs) (p x) refl
 pub fits_kept : (old new : List Object) (u : ℕ) (w : Wait) → ((k : ℕ) → is_ready old u k ≡ false → is_ready new u k ≡ false) → fits old u w ≡ false → fits new u w ≡ false
 fits_kept old new u w kept e = go w.all e
   where
-    sleeps : (b : Bool) → (not b && list_all (is_ready old u) w.handles) ≡ false → (not b && list_all (is_ready new u) w.handles) ≡ false
+    sleeps : (b : Bool) → (not b && list_all (is_ready old u) w.objects) ≡ false → (not b && list_all (is_ready new u) w.objects) ≡ false
     sleeps true e = refl
-    sleeps false e = list_all_kept (is_ready old u) (is_ready new u) kept w.handles e
+    sleeps false e = list_all_kept (is_ready old u) (is_ready new u) kept w.objects e
 
-    go : (all : Bool) → cond all (not (is_sleep w) && list_all (is_ready old u) w.handles) (list_any (is_ready old u) w.handles) ≡ false → cond all (not (is_sleep w) && list_all (is_ready new u) w.handles) (list_any (is_ready new u) w.handles) ≡ false
+    go : (all : Bool) → cond all (not (is_sleep w) && list_all (is_ready old u) w.objects) (list_any (is_ready old u) w.objects) ≡ false → cond all (not (is_sleep w) && list_all (is_ready new u) w.objects) (list_any (is_ready new u) w.objects) ≡ false
     go true e = sleeps (is_sleep w) e
-    go false e = list_any_kept (is_ready old u) (is_ready new u) kept w.handles e
+    go false e = list_any_kept (is_ready old u) (is_ready new u) kept w.objects e
 
 -- ---- grants
 

@@ -59,9 +59,9 @@ room_of (Timer manual set armed) t lawful below ready = refl
 room_of (Thread ended) t lawful below ready = refl
 room_of Gone t lawful below ready = refl
 
-pub can_take : (objects : List Object) (t threads : ℕ) (w : Wait) → ((h : ℕ) → IsLawfulObject (object_at objects h)) → IsSoundWait threads objects t w → CanTake objects t w.handles
+pub can_take : (objects : List Object) (t threads : ℕ) (w : Wait) → ((h : ℕ) → IsLawfulObject (object_at objects h)) → IsSoundWait threads objects t w → CanTake objects t w.objects
 can_take objects t threads w lawful sound j below ready =
-    let h = slice_index w.handles j in
+    let h = slice_index w.objects j in
     room_of (object_at objects h) t (lawful h) (sound.named h (j, below, refl)).1 ready
 
 -- ---- the visited wait stays
@@ -106,9 +106,9 @@ one_among (x ∷ []) b h all e = let same : ◌≡◌ {A = ℕ × Bool} (x, b) (
 one_among (x ∷ y ∷ hs) b h all e = (cc)
 
 -- it is the thread's pending wait
-pub only_wait : (o : Option Wait) (h : ℕ) (all : Bool) → option_map only_of o ≡ Some (Some (h, all)) → (w : Wait) × (Some w ≡ o) × ◌≡◌ {A = List ℕ × Bool} (w.handles, w.all) (h ∷ [], all)
+pub only_wait : (o : Option Wait) (h : ℕ) (all : Bool) → option_map only_of o ≡ Some (Some (h, all)) → (w : Wait) × (Some w ≡ o) × ◌≡◌ {A = List ℕ × Bool} (w.objects, w.all) (h ∷ [], all)
 only_wait None h all e = (cc)
-only_wait (Some w) h all e = (w, refl, one_among w.handles w.all h all (same_Some (only_of w) (Some (h, all)) e))
+only_wait (Some w) h all e = (w, refl, one_among w.objects w.all h all (same_Some (only_of w) (Some (h, all)) e))
 
 -- ---- the visited wait ends
 
@@ -129,14 +129,14 @@ only_this d t h only all sound stands told =
     let named = sound.blocks.named t h stands in
     let w = only_wait (map.get d.table.pending t) only all told in
     let same : named.0 ≡ w.0 = same_wait named.0 w.0 (sym named.1 ∙ sym w.1) in
-    let one : Contains (only ∷ []) h = named_member (only ∷ []) named.0 h (ap (λ (v : Wait). v.handles) same ∙ ap (λ (p : List ℕ × Bool). p.0) w.2) named.2 in
+    let one : Contains (only ∷ []) h = named_member (only ∷ []) named.0 h (ap (λ (v : Wait). v.objects) same ∙ ap (λ (p : List ℕ × Bool). p.0) w.2) named.2 in
     elim (contains_cases only [] h one) [
       | inl here ↦ subst (λ (k : ℕ). option_map only_of (map.get d.table.pending t) ≡ Some (Some (k, all))) here told
       | inr none ↦ absurd (contains_none h none)
     ]
 
 -- after it what it named may lack its mark
-pub visit_unmarked : (old : Dispatcher) (t code : ℕ) (w : Wait) (objects : List Object) (owned : List (List ℕ)) (table : Waits) (grants : List Grant) → IsSound old → Some w ≡ map.get old.table.pending t → IsTried old.objects objects t w (Some code) → ((h : ℕ) → queue_of table h ≡ others t (queue_of old.table h)) → MarksAgreeBut w.handles (record old { objects = objects; owned = owned; table = table; handing = set old.handing t false; grants = grants })
+pub visit_unmarked : (old : Dispatcher) (t code : ℕ) (w : Wait) (objects : List Object) (owned : List (List ℕ)) (table : Waits) (grants : List Grant) → IsSound old → Some w ≡ map.get old.table.pending t → IsTried old.objects objects t w (Some code) → ((h : ℕ) → queue_of table h ≡ others t (queue_of old.table h)) → MarksAgreeBut w.objects (record old { objects = objects; owned = owned; table = table; handing = set old.handing t false; grants = grants })
 visit_unmarked old t code w objects owned table grants sound has tried queues =
     let own = sound.waits t w (sym has) in
     let well = subst (λ (os : List Object). TakesWell old.objects os t) (sym tried.2) (objects_taken_well old.objects t w own.apart (can_take old.objects t old.threads w sound.objects own) tried.0) in

@@ -37,18 +37,18 @@ is_by_objects g = not (g.status == io_completion_code) && not (g.status == timeo
 -- local wake-ups: the call tested no more pending waits than stand in the queues of the objects that it changed, and
 -- each wait that it ended by objects was tested
 pub record IsLocal (old : State) (t : ℕ) (call : Call) (tested : ℕ) (grants : List Grant) : Type 0 where
-  pub handles : List ℕ
-  pub changed : AreRising (IsChanged old.objects (change old t call).objects) handles
-  pub most : tested ≤ length (sequence old handles)
+  pub numbers : List ℕ
+  pub changed : AreRising (IsChanged old.objects (change old t call).objects) numbers
+  pub most : tested ≤ length (sequence old numbers)
   pub least : length (filter is_by_objects grants) ≤ tested
 
 -- after a change to this state the waits on the changed objects were served, object by object, and no others tested
 pub record IsServedAfter (old : Dispatcher) (changed_to : State) (new : Dispatcher) : Type 0 where
-  pub handles : List ℕ
-  pub changed : AreRising (IsChanged old.objects changed_to.objects) handles
-  pub serves : Serve (sequence (state old) handles) changed_to new.grants (state new)
+  pub numbers : List ℕ
+  pub changed : AreRising (IsChanged old.objects changed_to.objects) numbers
+  pub serves : Serve (sequence (state old) numbers) changed_to new.grants (state new)
   pub sound : IsSound new
-  pub most : new.table.looked ≤ length (sequence (state old) handles)
+  pub most : new.table.looked ≤ length (sequence (state old) numbers)
   pub least : length new.grants ≤ new.table.looked
   pub unmarked : IsUnmarked new.marked
 
@@ -110,7 +110,7 @@ pub record IsPassedAfter (old : Dispatcher) (m u : ℕ) (new : Dispatcher) : Typ
   pub sound : IsSound new
   pub unmarked : IsUnmarked new.marked
 
--- the timer at this handle is armed for a moment up to m
+-- the timer of this number is armed for a moment up to m
 abbrev pub IsDueBy : State → ℕ → ℕ → Type 0
 IsDueBy s m h = (u : ℕ) × IsTimerDue s u h × (u ≤ m)
 
@@ -126,7 +126,7 @@ pub record IsTickLocal (old : State) (m tested : ℕ) (grants : List Grant) : Ty
   pub most : tested ≤ length (sequence old timers)
   pub least : length (filter (ended_by_objects old) grants) ≤ tested
 
--- the thread armed the timer at this handle with a routine
+-- the thread armed the timer of this number with a routine
 abbrev pub IsSetBy : List Object → ℕ → ℕ → Type 0
 IsSetBy objects t h = setter_of (object_at objects h) ≡ Some t
 
@@ -162,11 +162,11 @@ pub record IsFresh (d : Dispatcher) : Type 0 where
 
 -- the wait for these objects that is asked for in this way
 abbrev pub objects_call : Mode → List ℕ → WaitCall
-objects_call mode handles = WaitCall.Objects mode.all mode.alertable mode.ms handles
+objects_call mode named = WaitCall.Objects mode.all mode.alertable mode.ms named
 
 -- the thread's wait for these objects pends from now on, or memory was refused and nothing has changed
-pub record HasPended (old new : Dispatcher) (t : ℕ) (handles : List ℕ) (mode : Mode) (result : Result ⊤ Refusal) : Type 0 where
-  pub state : OnOk result (state new ≡ pending_too (state old) t (wait_of old.now (objects_call mode handles)))
+pub record HasPended (old new : Dispatcher) (t : ℕ) (named : List ℕ) (mode : Mode) (result : Result ⊤ Refusal) : Type 0 where
+  pub state : OnOk result (state new ≡ pending_too (state old) t (wait_of old.now (objects_call mode named)))
   pub sound : IsSound new
   pub grants : new.grants ≡ old.grants
   pub looked : new.table.looked ≡ old.table.looked
@@ -186,11 +186,11 @@ replied (Err refusal) = Err refusal
 
 -- a wait for these objects has begun, and this is its reply
 abbrev pub HasBegun : State → State → ℕ → List ℕ → Mode → Reply → Type 0
-HasBegun old new t handles mode reply = (reply, new) ≡ begun old t (wait_of old.now (objects_call mode handles)) mode.ms
+HasBegun old new t named mode reply = (reply, new) ≡ begun old t (wait_of old.now (objects_call mode named)) mode.ms
 
 -- a wait for these objects does not end at once
 abbrev pub begins_pending : State → ℕ → List ℕ → Mode → Bool
-begins_pending s t handles mode = would_pend s t (wait_of s.now (objects_call mode handles)) mode.ms
+begins_pending s t named mode = would_pend s t (wait_of s.now (objects_call mode named)) mode.ms
 
 -- the thread is known, runs, and waits for nothing
 pub record IsRunning (d : Dispatcher) (t : ℕ) : Type 0 where

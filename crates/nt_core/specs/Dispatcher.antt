@@ -32,7 +32,7 @@ pub record Dispatcher : Type 0 where
   pub now : ℕ
   -- the waits that the last call or tick ended
   pub grants : List Grant
-  -- by handle, the due moment of an armed timer
+  -- by number, the due moment of an armed timer
   pub alarms : List (Option ℕ)
   -- by object number, a mark where nothing may keep the object any more
   pub leaving : List (Option ℕ)

@@ -32,8 +32,8 @@ pub record IsSettled (s : State) : Type 0 where
 pub record IsSoundWait (threads : ℕ) (objects : List Object) (t : ℕ) (w : Wait) : Type 0 where
   pub known : t < threads
   pub runs : has_ended (object_at objects t) ≡ false
-  pub few : length w.handles ≤ MAX_WAIT_OBJECTS
-  pub apart : IsDistinct nat_eq w.handles
+  pub few : length w.objects ≤ MAX_WAIT_OBJECTS
+  pub apart : IsDistinct nat_eq w.objects
   pub named : (h : ℕ) → Names w h → (h < length objects) × (is_at_limit objects t h ≡ false)
   pub living : (h : ℕ) → Names w h → is_gone (object_at objects h) ≡ false
 

@@ -56,18 +56,18 @@ impl Machine {
         ensures sound { IsSound self.new }
     {
         let ended = self.waits.end(thread);
-        let status = unmet_status(alerted, ended.handles.as_slice().is_empty());
+        let status = unmet_status(alerted, ended.objects.as_slice().is_empty());
         self.handing[thread.get() as usize] = alerted;
         self.grants.push_reserved(Grant { thread, status });
-        self.let_go(ended.handles.as_slice());
+        self.let_go(ended.objects.as_slice());
     }
 
     /// QueueUserAPC: the APC stands last in the thread's queue, and an alertable wait of it ends.
-    pub(crate) fn queue_apc(&mut self, target: Handle, routine: u64, arg: u64) -> Answer
+    pub(crate) fn queue_apc(&mut self, handle: Handle, routine: u64, arg: u64) -> Answer
         requires fresh { IsFresh self.old }
-        ensures { IsActOfAny self.old self.new (Act.QueueApc target routine arg) result }
+        ensures { IsActOfAny self.old self.new (Act.QueueApc handle routine arg) result }
     {
-        let target = running_thread(&self.handles, &self.objects, target)?;
+        let target = running_thread(&self.handles, &self.objects, handle)?;
         let target = ThreadId::new(target.get() as u16);
         let apc = Apc {
             routine,

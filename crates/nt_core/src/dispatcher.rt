@@ -14,6 +14,7 @@ ghost use Rattle.nt_calls.specs.Moves.{Moves, IsMomentAfter, pended, is_wait};
 use crate::machine::Machine;
 use nt_calls::{Call, Grant, Reply, count_living};
 use nt_status::{MAX_THREADS, Moment, Refusal};
+use nt_waits::Reader;
 use std::alloc::Global;
 use std::marker::Model;
 
@@ -21,6 +22,8 @@ use std::marker::Model;
 #[derive(Drop)]
 pub struct Core {
     pub(crate) machine: Machine,
+    /// The machine has none, so it sees no pending wait but by a look that is counted.
+    pub(crate) reader: Reader,
 }
 
 impl Model for Core {
@@ -54,9 +57,9 @@ impl Core {
         if threads == 0 || threads > MAX_THREADS {
             return Err(Refusal::InvalidParameter);
         }
-        let machine = Machine::new(alloc, threads)?;
+        let (machine, reader) = Machine::new(alloc, threads)?;
         machine.objects.agree();
-        Ok(Core { machine })
+        Ok(Core { machine, reader })
     }
 
     /// Makes the call of this thread, and answers its reply or why it is refused. The pending waits that it ends are in
@@ -151,6 +154,7 @@ impl Core {
         ensures memory { IfErr result (λ refusal. refusal ≡ Memory) }
     {
         let machine = self.machine.copy()?;
-        Ok(Core { machine })
+        let reader = self.reader;
+        Ok(Core { machine, reader })
     }
 }

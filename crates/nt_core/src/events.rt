@@ -10,7 +10,7 @@ ghost use Rattle.nt_calls.specs.declared.call.Act.{Act};
 use crate::machine::{Answer, Machine};
 use nt_calls::{Reply, event_named};
 use nt_objects::Object;
-use nt_status::{EventFlags, Handle, Refusal};
+use nt_status::{EventFlags, Handle, ObjectNumber, Refusal};
 
 impl Machine {
     /// CreateEvent.
@@ -25,7 +25,7 @@ impl Machine {
     }
 
     /// The event is set from now on. Where it was not, the waits that name it are served.
-    pub(crate) fn raise_event(&mut self, event: Handle)
+    pub(crate) fn raise_event(&mut self, event: ObjectNumber)
         requires fresh { IsFresh self.old }
         requires kind { IsTrue (is_event (object_at self.old.objects event)) }
         ensures served { IsServedAfter self.old (at (state self.old) event (with_set true)) self.new }
@@ -37,31 +37,31 @@ impl Machine {
     }
 
     /// SetEvent.
-    pub(crate) fn set_event(&mut self, event: Handle) -> Answer
+    pub(crate) fn set_event(&mut self, handle: Handle) -> Answer
         requires fresh { IsFresh self.old }
-        ensures { IsActOfAny self.old self.new (Act.SetEvent event) result }
+        ensures { IsActOfAny self.old self.new (Act.SetEvent handle) result }
     {
-        let event = event_named(&self.handles, &self.objects, event)?;
+        let event = event_named(&self.handles, &self.objects, handle)?;
         self.raise_event(event);
         Ok(Reply::Done)
     }
 
     /// ResetEvent: no wait is granted.
-    pub(crate) fn reset_event(&mut self, event: Handle) -> Answer
+    pub(crate) fn reset_event(&mut self, handle: Handle) -> Answer
         requires fresh { IsFresh self.old }
-        ensures { IsActOfAny self.old self.new (Act.ResetEvent event) result }
+        ensures { IsActOfAny self.old self.new (Act.ResetEvent handle) result }
     {
-        let event = event_named(&self.handles, &self.objects, event)?;
+        let event = event_named(&self.handles, &self.objects, handle)?;
         self.objects.reset(event);
         Ok(Reply::Done)
     }
 
     /// PulseEvent: sets the event, grants what fits then, and leaves it not set.
-    pub(crate) fn pulse_event(&mut self, event: Handle) -> Answer
+    pub(crate) fn pulse_event(&mut self, handle: Handle) -> Answer
         requires fresh { IsFresh self.old }
-        ensures { IsActOfAny self.old self.new (Act.PulseEvent event) result }
+        ensures { IsActOfAny self.old self.new (Act.PulseEvent handle) result }
     {
-        let event = event_named(&self.handles, &self.objects, event)?;
+        let event = event_named(&self.handles, &self.objects, handle)?;
         self.raise_event(event);
         self.objects.reset(event);
         Ok(Reply::Done)

@@ -15,10 +15,10 @@ use crate::machine::Machine;
 use nt_alarms::{Alarms, Marks};
 use nt_calls::is_set_by;
 use nt_owners::ObjectTable;
-use nt_status::{Handle, ThreadId};
+use nt_status::{ObjectNumber, ThreadId};
 
 /// Stops the timer, and marks it.
-fn stop(objects: &mut ObjectTable, alarms: &mut Alarms, changed: &mut Marks, timer: Handle)
+fn stop(objects: &mut ObjectTable, alarms: &mut Alarms, changed: &mut Marks, timer: ObjectNumber)
     requires kind { is_timer (object_at objects.old.items timer) ≡ true }
     requires known { timer < length objects.old.items }
     requires clock { timer < length alarms.old }
@@ -43,7 +43,7 @@ fn stop_each(
     alarms: &mut Alarms,
     changed: &mut Marks,
     thread: ThreadId,
-    timers: &[Handle],
+    timers: &[ObjectNumber],
 )
     requires clocks { length alarms.old ≡ length objects.old.items }
     requires places { length changed.old ≡ length objects.old.items }
@@ -91,7 +91,7 @@ impl Machine {
         ensures marked { self.new.marked
             ≡ record self.old.marked { changed = slice_set self.old.marked.changed thread (Some 0) } }
     {
-        let own = Handle::new(thread.get() as u32);
+        let own = ObjectNumber::new(thread.get() as u32);
         let mut object = self.object(own);
         object.end();
         self.exchange(own, object);

@@ -12,10 +12,10 @@ use crate::machine::{Answer, Machine};
 use nt_alarms::Marks;
 use nt_calls::{Reply, close_refusal};
 use nt_objects::{HandleTable, Object};
-use nt_status::Handle;
+use nt_status::{Handle, ObjectNumber};
 
 /// Marks those of the objects of a wait, which ends, that no handle names.
-pub(crate) fn let_go(handles: &HandleTable, leaving: &mut Marks, ended: &[Handle])
+pub(crate) fn let_go(handles: &HandleTable, leaving: &mut Marks, ended: &[ObjectNumber])
     requires { (o : ℕ) → Contains ended.now o → o < length leaving.old }
     ensures { LetsGoBut [] handles.now.opened ended.now leaving.old leaving.new }
 {
@@ -28,7 +28,7 @@ pub(crate) fn let_go(handles: &HandleTable, leaving: &mut Marks, ended: &[Handle
 
 impl Machine {
     /// Whether the object lives and nothing keeps it any more. No list is walked.
-    fn is_forgotten(&self, object: Handle) -> bool
+    fn is_forgotten(&self, object: ObjectNumber) -> bool
         ensures { result ≡ is_forgotten (state self.now) object }
     {
         let Some(there) = self.objects.as_slice().get(object.get() as usize) else {
@@ -41,7 +41,7 @@ impl Machine {
     }
 
     /// From now on nothing may keep the object any more.
-    pub(crate) fn mark(&mut self, object: Handle)
+    pub(crate) fn mark(&mut self, object: ObjectNumber)
         requires { object < length self.old.leaving }
         ensures { self.new ≡ record self.old { leaving = slice_set self.old.leaving object (Some 0) } }
     {
@@ -49,7 +49,7 @@ impl Machine {
     }
 
     /// Marks those of the objects that a wait named which has ended that no handle names.
-    pub(crate) fn let_go(&mut self, ended: &[Handle])
+    pub(crate) fn let_go(&mut self, ended: &[ObjectNumber])
         requires { MarksAgreeBut ended.now self.old }
         ensures rest { self.new ≡ record self.old { leaving = self.new.leaving } }
         ensures marks { MarksAgreeBut [] self.new }
@@ -71,7 +71,7 @@ impl Machine {
     }
 
     /// Withdraws the object's queued APC, if it is a timer that has one, and gives up its place.
-    fn forget(&mut self, object: Handle)
+    fn forget(&mut self, object: ObjectNumber)
         ensures rest { self.new ≡ record self.old { apcs = self.new.apcs } }
         ensures queues { self.new.apcs.queues ≡ withdrawn self.old.apcs.queues object }
         ensures place { place_of self.new.apcs.places object ≡ None }
@@ -83,7 +83,7 @@ impl Machine {
     }
 
     /// The object is gone: a timer is not armed any more and its queued APC is withdrawn, a mutex is nobody's.
-    fn end_object(&mut self, object: Handle)
+    fn end_object(&mut self, object: ObjectNumber)
         requires sound { IsSound self.old }
         requires forgotten { is_forgotten (state self.old) object ≡ true }
         ensures gone { state self.new ≡ gone (state self.old) object }
@@ -99,7 +99,7 @@ impl Machine {
 
     /// An object that has a mark is gone where nothing keeps it any more, and has no mark then.
     #[inline(never)]
-    fn end_marked(&mut self, object: Handle)
+    fn end_marked(&mut self, object: ObjectNumber)
         requires sound { IsSound self.old }
         requires known { object < length self.old.leaving }
         ensures becomes { state self.new ≡
@@ -125,7 +125,7 @@ impl Machine {
         ensures table { self.new.table ≡ self.old.table }
     {
         while let Some(place) = self.leaving.first() {
-            self.end_marked(Handle::new(place as u32));
+            self.end_marked(ObjectNumber::new(place as u32));
         }
     }
 }

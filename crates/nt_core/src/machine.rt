@@ -13,7 +13,7 @@ use nt_calls::{Grant, Reply};
 use nt_objects::{HandleTable, Object};
 use nt_owners::ObjectTable;
 use nt_status::{MAX_THREADS, Moment, Refusal};
-use nt_waits::WaitTable;
+use nt_waits::{Reader, WaitTable};
 use std::alloc::{AllocError, Global};
 use std::marker::Model;
 
@@ -66,14 +66,14 @@ impl Model for Machine {
 }
 
 impl Machine {
-    /// Running threads that wait for nothing.
-    pub fn new(alloc: Global, threads: u32) -> Result<Self, Refusal>
+    /// Running threads that wait for nothing, and the reader of their waits.
+    pub fn new(alloc: Global, threads: u32) -> Result<(Self, Reader), Refusal>
         requires { threads ≤ MAX_THREADS }
-        ensures opening { IfOk result (λ m. state m ≡ opening threads) }
-        ensures grants { IfOk result (λ m. m.grants ≡ []) }
-        ensures untested { IfOk result (λ m. m.table.looked ≡ 0) }
-        ensures steady { IfOk result (λ m. IsSteady m) }
-        ensures living { IfOk result (λ m. LivesWhileKept (state m)) }
+        ensures opening { IfOk result (λ r. state r.0 ≡ opening threads) }
+        ensures grants { IfOk result (λ r. r.0.grants ≡ []) }
+        ensures untested { IfOk result (λ r. r.0.table.looked ≡ 0) }
+        ensures steady { IfOk result (λ r. IsSteady r.0) }
+        ensures living { IfOk result (λ r. LivesWhileKept (state r.0)) }
         ensures memory { IfErr result (λ refusal. refusal ≡ Memory) }
     {
         let count = threads as usize;
@@ -84,8 +84,8 @@ impl Machine {
         let objects = ObjectTable::new(alloc, count)?;
         let alerted = Marks::with_places(alloc, count)?;
         let (alarms, leaving, changed) = Alarms::with_marks(alloc, count)?;
-        let waits = WaitTable::new(alloc);
-        Ok(Machine {
+        let (waits, reader) = WaitTable::with_reader(alloc);
+        let machine = Machine {
             threads,
             handles,
             objects,
@@ -98,7 +98,8 @@ impl Machine {
             leaving,
             changed,
             alerted,
-        })
+        };
+        Ok((machine, reader))
     }
 
     /// Nothing is told yet of the call or tick that comes.

@@ -10,7 +10,7 @@ ghost use Rattle.nt_calls.specs.declared.call.Act.{Act};
 use crate::machine::{Answer, Machine};
 use nt_calls::{Reply, mutex_named};
 use nt_objects::Object;
-use nt_status::{Handle, MutexFlags, Refusal, ThreadId};
+use nt_status::{Handle, MutexFlags, ObjectNumber, Refusal, ThreadId};
 
 impl Machine {
     /// CreateMutex.
@@ -27,7 +27,7 @@ impl Machine {
 
     /// The mutex is held one level less deep, and where that was the last the waits that name it are served.
     #[inline(always)]
-    pub(crate) fn give_back(&mut self, thread: ThreadId, mutex: Handle)
+    pub(crate) fn give_back(&mut self, thread: ThreadId, mutex: ObjectNumber)
         requires fresh { IsFresh self.old }
         requires owner { IsTrue (owned_by (object_at self.old.objects mutex) thread) }
         ensures served { IsServedAfter self.old (at (state self.old) mutex unlocked) self.new }
@@ -41,12 +41,12 @@ impl Machine {
 
     /// ReleaseMutex.
     #[inline(always)]
-    pub(crate) fn release_mutex(&mut self, thread: ThreadId, mutex: Handle) -> Answer
+    pub(crate) fn release_mutex(&mut self, thread: ThreadId, handle: Handle) -> Answer
         requires fresh { IsFresh self.old }
         requires free { IsFree (state self.old) thread }
-        ensures { IsActMade self.old self.new thread (Act.ReleaseMutex mutex) result }
+        ensures { IsActMade self.old self.new thread (Act.ReleaseMutex handle) result }
     {
-        let mutex = mutex_named(&self.handles, &self.objects, mutex, thread)?;
+        let mutex = mutex_named(&self.handles, &self.objects, handle, thread)?;
         self.give_back(thread, mutex);
         Ok(Reply::Done)
     }

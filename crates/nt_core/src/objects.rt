@@ -13,7 +13,7 @@ ghost use Rattle.nt_calls.specs.declared.call.Reply.{Reply};
 use crate::machine::{Answer, Machine};
 use nt_calls::{Reply, object_to_share};
 use nt_objects::{Object, Opened};
-use nt_status::{Access, Handle, MAX_HANDLES, Refusal};
+use nt_status::{Access, Handle, MAX_HANDLES, ObjectNumber, Refusal};
 
 impl Machine {
     /// Adds an object with a handle that has all rights of its kind, and answers the handle, unless no handle number is left or
@@ -37,7 +37,7 @@ impl Machine {
         self.handles.make_room()?;
         self.alarms.add_with(&mut self.leaving, &mut self.changed)?;
         self.objects.add(object);
-        let object = Handle::new(count as u32);
+        let object = ObjectNumber::new(count as u32);
         Ok(Reply::Handle(self.handles.add(Opened { object, access })))
     }
 
@@ -54,20 +54,20 @@ impl Machine {
         Ok(Reply::Handle(self.handles.add(Opened { object, access })))
     }
 
-    /// The object at this handle.
-    pub(crate) fn object(&self, handle: Handle) -> Object
-        requires { handle < length self.now.objects }
-        ensures { result ≡ object_at self.now.objects handle }
+    /// The object of this number.
+    pub(crate) fn object(&self, number: ObjectNumber) -> Object
+        requires { number < length self.now.objects }
+        ensures { result ≡ object_at self.now.objects number }
     {
-        self.objects.as_slice()[handle.get() as usize]
+        self.objects.as_slice()[number.get() as usize]
     }
 
-    /// Puts an object in the place of the one at this handle, which had the same owner, or none like this one.
-    pub(crate) fn exchange(&mut self, handle: Handle, object: Object)
-        requires known { handle < length self.old.objects }
-        requires owner { owner_of object ≡ owner_of (object_at self.old.objects handle) }
-        ensures { self.new ≡ record self.old { objects = slice_set self.old.objects handle object } }
+    /// Puts an object in the place of the one of this number, which had the same owner, or none like this one.
+    pub(crate) fn exchange(&mut self, number: ObjectNumber, object: Object)
+        requires known { number < length self.old.objects }
+        requires owner { owner_of object ≡ owner_of (object_at self.old.objects number) }
+        ensures { self.new ≡ record self.old { objects = slice_set self.old.objects number object } }
     {
-        self.objects.put(handle, object);
+        self.objects.put(number, object);
     }
 }

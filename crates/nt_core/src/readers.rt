@@ -36,7 +36,9 @@ impl Core {
         if self.machine.threads <= thread {
             return None;
         }
-        self.machine.waits.peek(ThreadId::new(thread as u16))
+        self.machine
+            .waits
+            .peek(self.reader, ThreadId::new(thread as u16))
     }
 
     /// The next moment up to `up_to` at which a timer is due or a wait's deadline comes, counted in 100 ns; none where nothing is due

@@ -10,7 +10,7 @@ ghost use Rattle.nt_calls.specs.declared.call.Act.{Act};
 use crate::machine::{Answer, Machine};
 use nt_calls::{Reply, semaphore_named};
 use nt_objects::Object;
-use nt_status::{Handle, Refusal};
+use nt_status::{Handle, ObjectNumber, Refusal};
 
 impl Machine {
     /// CreateSemaphore.
@@ -25,7 +25,7 @@ impl Machine {
     }
 
     /// The semaphore counts so many more, and the waits that name it are served. Answers the count before.
-    pub(crate) fn raise_count(&mut self, semaphore: Handle, count: i32) -> i32
+    pub(crate) fn raise_count(&mut self, semaphore: ObjectNumber, count: i32) -> i32
         requires fresh { IsFresh self.old }
         requires kind { IsTrue (is_semaphore (object_at self.old.objects semaphore)) }
         requires positive { pos 0 <ℤ count }
@@ -42,11 +42,11 @@ impl Machine {
     }
 
     /// ReleaseSemaphore. Answers the count before.
-    pub(crate) fn release_semaphore(&mut self, semaphore: Handle, count: i32) -> Answer
+    pub(crate) fn release_semaphore(&mut self, handle: Handle, count: i32) -> Answer
         requires fresh { IsFresh self.old }
-        ensures { IsActOfAny self.old self.new (Act.ReleaseSemaphore semaphore count) result }
+        ensures { IsActOfAny self.old self.new (Act.ReleaseSemaphore handle count) result }
     {
-        let semaphore = semaphore_named(&self.handles, &self.objects, semaphore, count)?;
+        let semaphore = semaphore_named(&self.handles, &self.objects, handle, count)?;
         Ok(Reply::Previous(self.raise_count(semaphore, count)))
     }
 }

@@ -9,13 +9,13 @@ ghost use Rattle.nt_alarms.specs.Alarms.{NoneAt};
 ghost use Rattle.nt_alarms.specs.Marks.{marked_places};
 ghost use Rattle.nt_core.specs.Dispatcher.{state, with_marked};
 ghost use Rattle.nt_calls.specs.Serving.{sequence, Serve};
-ghost use Rattle.nt_core.specs.Visits.{Visits, FitOnlyBy, FitOnlyIn, HasVisited, HasServed};
+ghost use Rattle.nt_core.specs.Visits.{Visits, FitOnlyBy, FitOnlyIn, HasVisited, HasServed, uncounted};
 ghost use Rattle.nt_core.specs.Lawful.{IsSound};
 
 use crate::living::let_go;
 use crate::machine::Machine;
 use nt_calls::{Grant, is_ready, try_wait};
-use nt_status::{Handle, ThreadId};
+use nt_status::{ObjectNumber, ThreadId};
 
 impl Machine {
     /// Tests the pending wait of this thread, whatever it names, and ends it where it fits.
@@ -29,64 +29,63 @@ impl Machine {
         let Some(wait) = self.waits.get(thread) else {
             unreachable!()
         };
-        let handles = wait.handles.as_slice();
-        let Some(status) = try_wait(&mut self.objects, thread, handles, wait.all) else {
+        let objects = wait.objects.as_slice();
+        let Some(status) = try_wait(&mut self.objects, thread, objects, wait.all) else {
             return;
         };
-        let_go(&self.handles, &mut self.leaving, handles);
+        let_go(&self.handles, &mut self.leaving, objects);
         self.waits.end_in_place(thread);
         self.handing[thread.get() as usize] = false;
         self.grants.push_reserved(Grant { thread, status });
     }
 
-    /// The same for a wait for this handle alone, as most are. Answers whose wait on the handle began next.
+    /// The same for a wait for this object alone, as most are, which was looked at already. Answers whose wait on the object began next.
     #[inline(always)]
-    fn visit_one(&mut self, thread: ThreadId, handle: Handle, all: bool) -> Option<ThreadId>
-        requires only { option_map only_of (fin.get self.old.table.pending thread) ≡ Some (Some (handle, all)) }
+    fn visit_one(&mut self, thread: ThreadId, object: ObjectNumber, all: bool) -> Option<ThreadId>
+        requires only { option_map only_of (fin.get self.old.table.pending thread) ≡ Some (Some (object, all)) }
         requires sound { IsSound self.old }
-        requires countable { self.old.table.looked + 1 < 2 ^ 64 }
-        ensures visited { HasVisited self.old self.new thread }
-        ensures next { result ≡ next_after thread ((state self.old).queues handle) }
+        requires counted { (0 < self.old.table.looked) × (self.old.table.looked < 2 ^ 64) }
+        ensures visited { HasVisited (uncounted self.old) self.new thread }
+        ensures next { result ≡ next_after thread ((state self.old).queues object) }
     {
-        self.waits.count_look();
-        let Some(status) = try_wait(&mut self.objects, thread, &[handle], all) else {
-            return self.waits.next_on(handle, thread);
+        let Some(status) = try_wait(&mut self.objects, thread, &[object], all) else {
+            return self.waits.next_on(object, thread);
         };
-        let_go(&self.handles, &mut self.leaving, &[handle]);
-        let next = self.waits.end_one(thread, handle);
+        let_go(&self.handles, &mut self.leaving, &[object]);
+        let next = self.waits.end_one(thread, object);
         let place = thread.get() as usize;
         self.handing[place] = false;
         self.grants.push_reserved(Grant { thread, status });
         next
     }
 
-    /// Tests the pending wait of this thread, which stands in the queue of this handle, and ends it where it fits. Answers whose wait
-    /// on the handle began next.
+    /// Tests the pending wait of this thread, which stands in the queue of this object, and ends it where it fits. Answers whose wait
+    /// on the object began next.
     #[inline(always)]
-    fn visit(&mut self, thread: ThreadId, handle: Handle) -> Option<ThreadId>
-        requires waits { Contains ((state self.old).queues handle) thread }
+    fn visit(&mut self, thread: ThreadId, object: ObjectNumber) -> Option<ThreadId>
+        requires waits { Contains ((state self.old).queues object) thread }
         requires sound { IsSound self.old }
         requires countable { self.old.table.looked + 1 < 2 ^ 64 }
         ensures visited { HasVisited self.old self.new thread }
-        ensures next { result ≡ next_after thread ((state self.old).queues handle) }
+        ensures next { result ≡ next_after thread ((state self.old).queues object) }
     {
-        if let Some((_, all)) = self.waits.only(thread) {
-            return self.visit_one(thread, handle, all);
+        if let Some((_, all)) = self.waits.look(thread) {
+            return self.visit_one(thread, object, all);
         }
-        let next = self.waits.next_on(handle, thread);
+        let next = self.waits.next_on(object, thread);
         self.visit_any(thread);
         next
     }
 
-    /// Visits the waits on this handle, in the order in which they began.
-    fn serve_on(&mut self, handle: Handle)
+    /// Visits the waits on this object, in the order in which they began.
+    fn serve_on(&mut self, object: ObjectNumber)
         requires sound { IsSound self.old }
-        requires countable { self.old.table.looked + length ((state self.old).queues handle) < 2 ^ 64 }
-        ensures { HasServed ((state self.old).queues handle) self.old self.new }
+        requires countable { self.old.table.looked + length ((state self.old).queues object) < 2 ^ 64 }
+        ensures { HasServed ((state self.old).queues object) self.old self.new }
     {
-        let mut at = self.waits.first_on(handle);
+        let mut at = self.waits.first_on(object);
         while let Some(thread) = at {
-            at = self.visit(thread, handle);
+            at = self.visit(thread, object);
         }
     }
 
@@ -105,50 +104,50 @@ impl Machine {
     {
         while let Some(place) = self.changed.first() {
             self.changed.clear(place);
-            self.serve_on(Handle::new(place as u32));
+            self.serve_on(ObjectNumber::new(place as u32));
         }
     }
 
-    /// Visits the waits on this handle, the first of which is this thread's, in the order in which they began, until its object is
+    /// Visits the waits on this object, the first of which is this thread's, in the order in which they began, until its object is
     /// signaled for none that is left. The caller knows that a wait that fits needs this object.
     #[inline(never)]
-    fn serve_first(&mut self, handle: Handle, first: ThreadId)
+    fn serve_first(&mut self, object: ObjectNumber, first: ThreadId)
         requires sound { IsSound self.old }
-        requires first { slice_get ((state self.old).queues handle) 0 ≡ Some first }
-        requires needed { FitOnlyBy handle (state self.old) }
-        requires countable { self.old.table.looked + length ((state self.old).queues handle) < 2 ^ 64 }
-        ensures { HasServed ((state self.old).queues handle) self.old self.new }
+        requires first { slice_get ((state self.old).queues object) 0 ≡ Some first }
+        requires needed { FitOnlyBy object (state self.old) }
+        requires countable { self.old.table.looked + length ((state self.old).queues object) < 2 ^ 64 }
+        ensures { HasServed ((state self.old).queues object) self.old self.new }
     {
         let mut next = Some(first);
         while let Some(thread) = next {
-            next = self.visit(thread, handle);
+            next = self.visit(thread, object);
             if let Some(after) = next {
-                if !is_ready(self.objects.as_slice(), after, handle) {
+                if !is_ready(self.objects.as_slice(), after, object) {
                     return;
                 }
             }
         }
     }
 
-    /// Grants what fits after the object at this handle alone changed: mostly no wait is on it. The caller knows that a wait that
+    /// Grants what fits after the object at this object alone changed: mostly no wait is on it. The caller knows that a wait that
     /// fits names it, and needs it.
     #[inline(always)]
-    pub(crate) fn serve_one(&mut self, handle: Handle)
+    pub(crate) fn serve_one(&mut self, object: ObjectNumber)
         requires sound { IsSound self.old }
-        requires local { FitOnlyIn (sequence (state self.old) (handle ∷ [])) (state self.old) }
-        requires needed { FitOnlyBy handle (state self.old) }
+        requires local { FitOnlyIn (sequence (state self.old) (object ∷ [])) (state self.old) }
+        requires needed { FitOnlyBy object (state self.old) }
         requires first { self.old.grants ≡ [] }
         requires anew { self.old.table.looked ≡ 0 }
-        ensures served { Serve (sequence (state self.old) (handle ∷ [])) (state self.old) self.new.grants
+        ensures served { Serve (sequence (state self.old) (object ∷ [])) (state self.old) self.new.grants
             (state self.new) }
         ensures prepared { self.new.table.prepared ≡ self.old.table.prepared }
         ensures marked { self.new.marked ≡ self.old.marked }
         ensures sound { IsSound self.new }
-        ensures most { self.new.table.looked ≤ length (sequence (state self.old) (handle ∷ [])) }
+        ensures most { self.new.table.looked ≤ length (sequence (state self.old) (object ∷ [])) }
         ensures least { length self.new.grants ≤ self.new.table.looked }
     {
-        if let Some(first) = self.waits.first_on(handle) {
-            self.serve_first(handle, first);
+        if let Some(first) = self.waits.first_on(object) {
+            self.serve_first(object, first);
         }
     }
 }

@@ -18,32 +18,32 @@ use crate::waiting::Mode;
 use nt_calls::{
     MODIFY_STATE, Reply, SYNCHRONIZE, deadline_after, is_swap_denied, opened, swap_refusal,
 };
-use nt_status::{Handle, Refusal, ThreadId};
+use nt_status::{Handle, ObjectNumber, Refusal, ThreadId};
 use nt_waits::About;
 
 impl Machine {
     /// Signals the object, and serves the waits that name it: an event is set, a semaphore counts one more, a mutex is held one
     /// level less deep.
-    fn signal(&mut self, thread: ThreadId, handle: Handle)
+    fn signal(&mut self, thread: ThreadId, number: ObjectNumber)
         requires fresh { IsFresh self.old }
-        requires may { IsTrue (may_signal (object_at self.old.objects handle)) }
-        requires owner { is_foreign self.old.objects thread handle ≡ false }
-        requires within { overflows (pos 1) (object_at self.old.objects handle) ≡ false }
-        ensures served { IsServedAfter self.old (at (state self.old) handle signal) self.new }
+        requires may { IsTrue (may_signal (object_at self.old.objects number)) }
+        requires owner { is_foreign self.old.objects thread number ≡ false }
+        requires within { overflows (pos 1) (object_at self.old.objects number) ≡ false }
+        ensures served { IsServedAfter self.old (at (state self.old) number signal) self.new }
         ensures prepared { self.new.table.prepared ≡ self.old.table.prepared }
     {
-        let object = self.object(handle);
+        let object = self.object(number);
         if object.is_event() {
-            self.raise_event(handle);
+            self.raise_event(number);
         } else if object.is_semaphore() {
-            let _previous = self.raise_count(handle, 1);
+            let _previous = self.raise_count(number, 1);
         } else {
-            self.give_back(thread, handle);
+            self.give_back(thread, number);
         }
     }
 
     /// Makes all the room that the caller's wait for this object may need. With a timeout of 0 it needs none.
-    fn prepare(&mut self, thread: ThreadId, object: Handle, mode: Mode) -> Result<(), Refusal>
+    fn prepare(&mut self, thread: ThreadId, object: ObjectNumber, mode: Mode) -> Result<(), Refusal>
         ensures ready { OnOk result (mode.ms ≢ 0 → self.new.table.prepared
             ≡ Some (thread, wait_of self.old.now (objects_call (record mode { all = false }) (object ∷ [])))) }
         ensures kept { self.new ≡ with_prepared self.old self.new.table.prepared }
@@ -78,7 +78,13 @@ impl Machine {
 
     /// SignalObjectAndWait: signals one object, serves the others, and begins the caller's wait for the other object. All memory
     /// comes first, so where it is refused nothing changes.
-    fn swap(&mut self, thread: ThreadId, signal: Handle, object: Handle, mode: Mode) -> Answer
+    fn swap(
+        &mut self,
+        thread: ThreadId,
+        signal: ObjectNumber,
+        object: ObjectNumber,
+        mode: Mode,
+    ) -> Answer
         requires fresh { IsFresh self.old }
         requires free { refusal (state self.old) thread false
             (Call.Wait (WaitCall.Swap signal object mode.ms mode.alertable)) ≡ None }

@@ -15,7 +15,7 @@ ghost use Rattle.nt_core.specs.Accepts.{IsTimedOutAfter, IsAlertedAfter, IsExpir
 
 use crate::machine::{Answer, Machine};
 use nt_calls::Reply;
-use nt_status::{Handle, Moment, Refusal, ThreadId};
+use nt_status::{Moment, ObjectNumber, Refusal, ThreadId};
 
 /// The earlier of two moments.
 fn earlier(first: Option<u64>, second: Option<u64>) -> Option<u64>
@@ -40,7 +40,7 @@ impl Machine {
 
     /// The waits on the timer, which expires, are to be served, and the thread that armed it with a routine, if one did, may have
     /// to be alerted.
-    pub(crate) fn mark_due(&mut self, timer: Handle)
+    pub(crate) fn mark_due(&mut self, timer: ObjectNumber)
         requires sound { IsSound self.old }
         requires known { timer < length self.old.objects }
         ensures { self.new ≡ with_marked self.old (record {
@@ -66,7 +66,7 @@ impl Machine {
         ensures sound { IsSound self.new }
     {
         while let Some(place) = self.alarms.first_at(u) {
-            let timer = Handle::new(place as u32);
+            let timer = ObjectNumber::new(place as u32);
             self.mark_due(timer);
             self.expire(timer, m);
         }

@@ -15,7 +15,7 @@ use crate::machine::{Answer, Machine};
 use nt_apc::Apc;
 use nt_calls::{Reply, due_moment, routine_for, timer_named, timer_to_arm};
 use nt_objects::{Armed, Object, Routine};
-use nt_status::{Handle, Moment, OptionalMoment, Refusal, ThreadId, TimerFlags};
+use nt_status::{Handle, Moment, ObjectNumber, OptionalMoment, Refusal, ThreadId, TimerFlags};
 use std::alloc::AllocError;
 
 impl Machine {
@@ -31,7 +31,7 @@ impl Machine {
     }
 
     /// Puts the timer in its place, and its alarm at its due moment.
-    pub(crate) fn put_timer(&mut self, timer: Handle, object: Object)
+    pub(crate) fn put_timer(&mut self, timer: ObjectNumber, object: Object)
         requires known { timer < length self.old.objects }
         requires clock { timer < length self.old.alarms }
         requires owner { owner_of object ≡ owner_of (object_at self.old.objects timer) }
@@ -49,7 +49,7 @@ impl Machine {
     }
 
     /// Withdraws the timer's queued APC, if there is one.
-    fn withdraw(&mut self, timer: Handle)
+    fn withdraw(&mut self, timer: ObjectNumber)
         ensures { self.new ≡ with_queues self.old (withdrawn self.old.apcs.queues timer) }
     {
         if let Some(thread) = self.apcs.place_of(timer) {
@@ -58,7 +58,7 @@ impl Machine {
     }
 
     /// Queues the APC of a timer that expires, unless one of its is queued already.
-    fn notify(&mut self, timer: Handle, due: Moment, routine: Option<Routine>)
+    fn notify(&mut self, timer: ObjectNumber, due: Moment, routine: Option<Routine>)
         requires { IfSome routine (λ r. place_of self.old.apcs.places timer ≡ Some r.thread) }
         ensures { self.new ≡ with_queues self.old (notified self.old.apcs.queues timer due routine) }
     {
@@ -77,7 +77,7 @@ impl Machine {
     }
 
     /// The timer expires, seen from this moment, which is not before it is due.
-    pub(crate) fn expire(&mut self, timer: Handle, now: Moment)
+    pub(crate) fn expire(&mut self, timer: ObjectNumber, now: Moment)
         requires sound { IsSound self.old }
         requires due { IsSomeAnd (due_of (object_at self.old.objects timer)) (λ due. due ≤ now) }
         ensures expired { state self.new ≡ expired now (state self.old) timer }
@@ -97,7 +97,7 @@ impl Machine {
     }
 
     /// Promises the APC of this routine, if there is one, a place in its thread's queue. Where memory is refused nothing changes.
-    fn promise(&mut self, timer: Handle, routine: Option<Routine>) -> Result<(), AllocError>
+    fn promise(&mut self, timer: ObjectNumber, routine: Option<Routine>) -> Result<(), AllocError>
         requires { IfSome routine (λ r. r.thread < length self.old.apcs.queues) }
         ensures ok { OnOk result (IsPromised self.old timer routine self.new) }
         ensures needs { OnErr result (IsTrue (is_some routine)) }
@@ -110,7 +110,7 @@ impl Machine {
     }
 
     /// Stops the timer, withdraws its queued APC, and arms it anew, not set. Where memory is refused nothing changes.
-    fn arm(&mut self, timer: Handle, armed: Armed) -> Result<(), AllocError>
+    fn arm(&mut self, timer: ObjectNumber, armed: Armed) -> Result<(), AllocError>
         requires sound { IsSound self.old }
         requires kind { IsTrue (is_timer (object_at self.old.objects timer)) }
         requires runs { IfSome armed.routine
@@ -134,7 +134,7 @@ impl Machine {
     fn start(
         &mut self,
         thread: ThreadId,
-        timer: Handle,
+        timer: ObjectNumber,
         due: i64,
         period: i32,
         routine: Option<(u64, u64)>,
@@ -171,26 +171,26 @@ impl Machine {
     pub(crate) fn set_timer(
         &mut self,
         thread: ThreadId,
-        timer: Handle,
+        handle: Handle,
         due: i64,
         period: i32,
         routine: Option<(u64, u64)>,
     ) -> Answer
         requires fresh { IsFresh self.old }
         requires free { IsFree (state self.old) thread }
-        ensures { IsActMade self.old self.new thread (Act.SetTimer timer due period routine) result }
+        ensures { IsActMade self.old self.new thread (Act.SetTimer handle due period routine) result }
     {
-        let timer = timer_to_arm(&self.handles, &self.objects, timer, period)?;
+        let timer = timer_to_arm(&self.handles, &self.objects, handle, period)?;
         self.start(thread, timer, due, period, routine)?;
         Ok(Reply::Done)
     }
 
     /// CancelWaitableTimer: the timer is stopped, and its queued APC withdrawn. Whether it is set stays.
-    pub(crate) fn cancel_timer(&mut self, timer: Handle) -> Answer
+    pub(crate) fn cancel_timer(&mut self, handle: Handle) -> Answer
         requires fresh { IsFresh self.old }
-        ensures { IsActOfAny self.old self.new (Act.CancelTimer timer) result }
+        ensures { IsActOfAny self.old self.new (Act.CancelTimer handle) result }
     {
-        let timer = timer_named(&self.handles, &self.objects, timer)?;
+        let timer = timer_named(&self.handles, &self.objects, handle)?;
         self.withdraw(timer);
         let mut object = self.object(timer);
         object.cancel();

@@ -19,7 +19,7 @@ use nt_calls::{
     NamedObjects, Reply, SYNCHRONIZE, WaitCall, late_status, name_all, objects_refusal, opened,
     try_wait,
 };
-use nt_status::{Handle, MAX_WAIT_OBJECTS, Refusal, Status, ThreadId};
+use nt_status::{Handle, MAX_WAIT_OBJECTS, ObjectNumber, Refusal, Status, ThreadId};
 use nt_waits::About;
 
 /// How a thread asks to wait.
@@ -80,43 +80,43 @@ impl Machine {
 
     /// Where the objects satisfy the caller's wait, takes them, and answers its status.
     #[inline(always)]
-    fn take_now(&mut self, thread: ThreadId, handles: &[Handle], all: bool) -> Option<Status>
-        requires can { CanBegin self.old thread (wait_for handles.now all) }
+    fn take_now(&mut self, thread: ThreadId, objects: &[ObjectNumber], all: bool) -> Option<Status>
+        requires can { CanBegin self.old thread (wait_for objects.now all) }
         requires steady { IsSteady self.old }
-        ensures fits { is_some result ≡ fits self.old.objects thread (wait_for handles.now all) }
-        ensures status { IfSome result (λ code. code ≡ status self.old.objects thread (wait_for handles.now all)) }
-        ensures taken { OnSome result (state self.new ≡ taken_by (state self.old) thread (wait_for handles.now all)) }
+        ensures fits { is_some result ≡ fits self.old.objects thread (wait_for objects.now all) }
+        ensures status { IfSome result (λ code. code ≡ status self.old.objects thread (wait_for objects.now all)) }
+        ensures taken { OnSome result (state self.new ≡ taken_by (state self.old) thread (wait_for objects.now all)) }
         ensures steady { IsSteady self.new }
         ensures grants { self.new.grants ≡ self.old.grants }
         ensures table { self.new.table ≡ self.old.table }
         ensures none { IfNone result (self.new ≡ self.old) }
     {
-        let status = try_wait(&mut self.objects, thread, handles, all)?;
+        let status = try_wait(&mut self.objects, thread, objects, all)?;
         self.handing[thread.get() as usize] = false;
         Some(status)
     }
 
-    /// Where the caller's wait for these handles ends at once, its status: it takes what it fits, or ends for its queued APCs, or
+    /// Where the caller's wait for these objects ends at once, its status: it takes what it fits, or ends for its queued APCs, or
     /// for its timeout of 0.
     #[inline(always)]
     pub(crate) fn end_at_once(
         &mut self,
         thread: ThreadId,
-        handles: &[Handle],
+        objects: &[ObjectNumber],
         mode: Mode,
     ) -> Option<Status>
-        requires can { CanBegin self.old thread (wait_for handles.now mode.all) }
+        requires can { CanBegin self.old thread (wait_for objects.now mode.all) }
         requires steady { IsSteady self.old }
         ensures begun { IfSome result (λ code.
-            HasBegun (state self.old) (state self.new) thread handles.now mode (Reply.Status code)) }
-        ensures pends { IfNone result ((fits self.old.objects thread (wait_for handles.now mode.all) ≡ false)
+            HasBegun (state self.old) (state self.new) thread objects.now mode (Reply.Status code)) }
+        ensures pends { IfNone result ((fits self.old.objects thread (wait_for objects.now mode.all) ≡ false)
             × ((mode.alertable && has_apc self.old.apcs.queues thread) ≡ false) × (mode.ms ≢ 0)) }
         ensures steady { IsSteady self.new }
         ensures grants { self.new.grants ≡ self.old.grants }
         ensures table { self.new.table ≡ self.old.table }
         ensures none { IfNone result (self.new ≡ self.old) }
     {
-        if let Some(status) = self.take_now(thread, handles, mode.all) {
+        if let Some(status) = self.take_now(thread, objects, mode.all) {
             return Some(status);
         }
         if self.is_alerted(thread, mode.alertable) {
@@ -125,36 +125,42 @@ impl Machine {
         }
         if mode.ms == 0 {
             self.hand(thread, false);
-            return Some(late_status(handles.is_empty()));
+            return Some(late_status(objects.is_empty()));
         }
         None
     }
 
-    /// Begins the caller's wait for these handles, none for a sleep: it ends at once, with a status, or pends. Where memory is
+    /// Begins the caller's wait for these objects, none for a sleep: it ends at once, with a status, or pends. Where memory is
     /// refused nothing changes.
     #[inline(always)]
-    fn begin_wait(&mut self, thread: ThreadId, handles: &[Handle], mode: Mode) -> Begun
-        requires can { CanBegin self.old thread (wait_for handles.now mode.all) }
+    fn begin_wait(&mut self, thread: ThreadId, objects: &[ObjectNumber], mode: Mode) -> Begun
+        requires can { CanBegin self.old thread (wait_for objects.now mode.all) }
         requires steady { IsSteady self.old }
         ensures begun { IfOk result (λ ended.
-            HasBegun (state self.old) (state self.new) thread handles.now mode (reply_of ended)) }
+            HasBegun (state self.old) (state self.new) thread objects.now mode (reply_of ended)) }
         ensures steady { IsSteady self.new }
         ensures grants { self.new.grants ≡ self.old.grants }
         ensures looked { self.new.table.looked ≡ self.old.table.looked }
-        ensures grows { OnErr result (IsTrue (begins_pending (state self.old) thread handles.now mode)) }
+        ensures grows { OnErr result (IsTrue (begins_pending (state self.old) thread objects.now mode)) }
         ensures memory { IfErr result (λ refusal. refusal ≡ Memory) }
         ensures err { OnErr result (self.new ≡ self.old) }
     {
-        if let Some(status) = self.end_at_once(thread, handles, mode) {
+        if let Some(status) = self.end_at_once(thread, objects, mode) {
             return Ok(Some(status));
         }
-        self.pend(thread, handles, mode)?;
+        self.pend(thread, objects, mode)?;
         Ok(None)
     }
 
     /// The caller's wait for the objects with these numbers, begun or refused by its own causes.
     #[inline(always)]
-    fn wait_for(&mut self, thread: ThreadId, denied: bool, numbers: &[Handle], mode: Mode) -> Begun
+    fn wait_for(
+        &mut self,
+        thread: ThreadId,
+        denied: bool,
+        numbers: &[ObjectNumber],
+        mode: Mode,
+    ) -> Begun
         requires fresh { IsFresh self.old }
         requires caller { IsFree (state self.old) thread }
         requires living { (h : ℕ) → Contains numbers.now h → h < length self.old.objects

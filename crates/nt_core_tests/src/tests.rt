@@ -10,7 +10,7 @@ mod events;
 mod exits;
 mod free;
 mod handles;
-mod memory;
+pub mod memory;
 mod mutexes;
 mod openings;
 mod plain;

@@ -5,3 +5,4 @@ pub mod Passed
 pub mod Since
 pub mod Closing
 pub mod Marking
+pub mod Belling

@@ -1,5 +1,5 @@
 -- What a poll, a wait that begins, a wait to its end and the end of a thread answer.
-use Rattle.std.specs.Prelude.{◌≡◌, ◌≢◌, ◌⊎◌, ℕ, true, false, Result}
+use Rattle.std.specs.Prelude.{◌≡◌, ◌≢◌, ◌⊎◌, ℕ, true, false, Result, Ok}
 use Rattle.nt_calls.specs.declared.call.Call.{Call}
 use Rattle.nt_calls.specs.declared.call.Reply.{Reply}
 use Rattle.nt_calls.specs.declared.call.WaitCall.{WaitCall}
@@ -11,8 +11,9 @@ use Rattle.nt_front.specs.declared.calls.Begun.{Begun}
 use Rattle.nt_front.specs.declared.waits.Waited.{Waited}
 use Rattle.nt_front.specs.declared.calls.Exited.{Exited}
 use Rattle.nt_mail.specs.declared.word.Word.{Word}
-use Rattle.nt_mail.specs.Words.{IsLawfulWord, granted_word}
-use Rattle.nt_mail.specs.Knowledge.{with_polled, IsEarlier}
+use Rattle.nt_mail.specs.Entries.{given}
+use Rattle.nt_mail.specs.Words.{IsLawfulWord, TellsGrant, granted_word}
+use Rattle.nt_mail.specs.Knowledge.{with_got, with_polled, IsEarlier}
 use Rattle.nt_front.specs.Names.{Prepared}
 use Rattle.nt_front.specs.Books.{WasFull}
 use Rattle.nt_front.specs.Holds.{IsGiven, with_call}
@@ -21,14 +22,26 @@ use Rattle.nt_front.specs.Holds.{IsGiven, with_call}
 abbrev pub IsUngranted : ℕ → Type 0
 IsUngranted word = (n status : ℕ) → IsLawfulWord (Word.Granted n status) → granted_word n status ≢ word
 
--- nothing was found: the one word that was read tells no grant, or it did, and the exchange that was to take it found another word
+-- the word tells a grant
+abbrev pub TellsAny : ℕ → Type 0
+TellsAny word = (number : ℕ) × (reply : Reply) × TellsGrant word number reply
+
+-- nothing was found: the one word that was read tells no grant, or it tells one, and the exchange that was to take it found another word
 abbrev pub IsStill : Knowledge → Knowledge → Type 0
 IsStill old new =
     ((word : ℕ) × IsUngranted word × (new ≡ with_polled word old))
-    ⊎ ((word found : ℕ) × (found ≢ word) × (new ≡ with_polled found (with_polled word old)))
+    ⊎ ((word found : ℕ) × TellsAny word × (found ≢ word) × (new ≡ with_polled found (with_polled word old)))
+
+-- one word was read, which tells the grant with this number and this result, and that grant was taken out of that very word
+pub record IsReady (old : Knowledge) (number : ℕ) (result : Result Reply Refusal) (new : Knowledge) : Type 0 where
+  pub word : ℕ
+  pub reply : Reply
+  pub tells : TellsGrant word number reply
+  pub result_is : result ≡ Ok reply
+  pub taken : new ≡ with_got (given number tells.status) (with_polled word old)
 
 abbrev pub IsPolled : {X : Type 0} → Knowledge → Polled X → Type 0
-IsPolled old (Polled.Ready new receipt) = IsGiven old receipt.entry receipt.result new
+IsPolled old (Polled.Ready new receipt) = IsReady old receipt.entry receipt.result new
 IsPolled old (Polled.Still new) = IsStill old new
 
 -- the call was written under a number above all that the thread had

@@ -1,5 +1,5 @@
 //! How a front is made.
-ghost use Rattle.std.specs.Prelude.{◌≡◌, ◌+◌, ◌≤◌, ◌&&◌, [], vec_len, vec_capacity, IfOk, IfErr, MatchBool, nat_le};
+ghost use Rattle.std.specs.Prelude.{◌≡◌, ◌+◌, ◌≤◌, ◌&&◌, [], vec_len, vec_capacity, IfOk, IfErr, MatchBool, true, nat_le};
 ghost use Rattle.nt_status.specs.declared.refusal.Refusal.TheVariants.{InvalidParameter, Memory};
 ghost use Rattle.nt_calls.specs.State.{opening};
 ghost use Rattle.nt_core.specs.Dispatcher.{state};
@@ -51,7 +51,8 @@ impl Model for Blank {
 /// Refused with 87 unless there are 1 to `MAX_THREADS` threads and room for 1 to 1048576 entries, and with 8 where memory is
 /// refused.
 pub fn prepare(alloc: Global, threads: u32, journal_room: usize) -> Result<Blank, Refusal>
-    ensures ok { IfOk result (λ b. (b.threads ≡ threads) × (b.room ≡ journal_room)) }
+    ensures ok { IfOk result (λ b. (b.threads ≡ threads) × (b.room ≡ journal_room)
+        × (is_lawful_front threads journal_room ≡ true)) }
     ensures err { IfErr result (λ r. MatchBool (is_lawful_front threads journal_room) (r ≡ Memory)
         (r ≡ InvalidParameter)) }
 {
@@ -124,7 +125,7 @@ fn make_rest<N: Named>(alloc: Global, blank: &Blank) -> Result<Made<N>, Refusal>
     ensures memory { IfErr result (λ r. r ≡ Memory) }
 {
     let threads = blank.threads as usize;
-    let bells = Bells::new(alloc, threads)?;
+    let bells = Bells::new(alloc, blank.threads as u16)?;
     let passes = Vec::with_capacity(alloc, threads)?;
     match blank.core.copy() {
         Ok(base) => Ok(Made {

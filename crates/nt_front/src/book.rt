@@ -1,5 +1,5 @@
 //! What lies behind the lock.
-ghost use Rattle.std.specs.Prelude.{◌≡◌, ◌==◌, ◌+◌, ◌-◌, ◌^◌, ◌<◌, ◌≤◌, ◌↔◌, [], length, min, vec_capacity, true, false, IfOk, IfErr, IfNone, IfSome, OnErr, Err, is_err, ◌&&◌};
+ghost use Rattle.std.specs.Prelude.{◌≡◌, ◌+◌, ◌-◌, ◌^◌, ◌<◌, ◌≤◌, ◌↔◌, [], length, min, vec_capacity, true, false, IfOk, IfErr, OnErr, Err, is_err, ◌&&◌};
 ghost use Rattle.std.specs.FinMap as map;
 ghost use Rattle.nt_status.specs.declared.refusal.Refusal.TheVariants.{JournalFull, Memory};
 ghost use Rattle.nt_calls.specs.State.{opening, pends};
@@ -10,13 +10,13 @@ ghost use Rattle.nt_mail.specs.Entries.{accepted};
 ghost use Rattle.nt_mail.specs.Knowledge.{IsEarlier};
 ghost use Rattle.nt_front.specs.Books.{Stands, WritesCall, WritesTick, IsFull, WasFull, HandsOut, WasHandedOut, ledger, next_number};
 ghost use Rattle.nt_front.specs.Holds.{with_call, with_tick};
-ghost use Rattle.nt_front.specs.Marks.{AreMarks};
+ghost use Rattle.nt_front.specs.Wakes.{Wakes};
 
 use crate::hold::Hold;
 use crate::moments::floor_after;
 use crate::named::Named;
 use crate::receipt::{History, Part, Receipt};
-use crate::wake::Marks;
+use crate::wake::ToWake;
 use crate::write::{publish, send, tell, write_call};
 use nt_core::{Call, Core, Reply};
 use nt_mail::{DispatcherSeat, Entry, Mail};
@@ -59,7 +59,7 @@ impl<N: Named> Model for Book<N> {
 }
 
 impl<N: Named> Book<N> {
-    /// Makes a call for the thread of this hold, and writes it with the waits that it ended.
+    /// Makes a call for the thread of this hold, and writes it with the waits that it ended. Answers whom they wake, too.
     ///
     /// Refused with JournalFull where the room left is too small for an entry and one more for each pending wait; nothing changes
     /// then. Every other answer of the dispatcher is written, a refusal too.
@@ -69,13 +69,14 @@ impl<N: Named> Book<N> {
         mail: &Mail,
         caller: &mut Hold<N>,
         call: Call,
-    ) -> Result<Receipt, Refusal>
+    ) -> Result<(Receipt, ToWake), Refusal>
         requires mail { mail.now ≡ N.front.table }
-        ensures book { IfOk result (λ r. WritesCall self.old caller.old.thread call r.result self.new) }
-        ensures entry { IfOk result (λ r. r.entry ≡ next_number self.old) }
-        ensures made { IfOk result (λ r. caller.new ≡ with_call caller.old r.entry call r.result) }
-        ensures earlier { IfOk result (λ r. IsEarlier r.entry caller.old) }
-        ensures waits { IfOk result (λ r. pended r.result ≡ true → is_wait call ≡ true) }
+        ensures book { IfOk result (λ r. WritesCall self.old caller.old.thread call r.0.result self.new) }
+        ensures entry { IfOk result (λ r. r.0.entry ≡ next_number self.old) }
+        ensures made { IfOk result (λ r. caller.new ≡ with_call caller.old r.0.entry call r.0.result) }
+        ensures earlier { IfOk result (λ r. IsEarlier r.0.entry caller.old) }
+        ensures waits { IfOk result (λ r. pended r.0.result ≡ true → is_wait call ≡ true) }
+        ensures wakes { IfOk result (λ r. Wakes r.1 self.new.core.grants) }
         ensures full { (result ≡ Err JournalFull) ↔ IsFull self.old }
         ensures only { IfErr result (λ r. r ≡ JournalFull) }
         ensures told { OnErr result (WasFull N.front caller.old) }
@@ -106,10 +107,11 @@ impl<N: Named> Book<N> {
             entry + 1,
             self.core.grants(),
         );
-        Ok(Receipt { entry, result })
+        let to_wake = ToWake::of(self.core.grants());
+        Ok((Receipt { entry, result }, to_wake))
     }
 
-    /// Makes a tick by the thread of this hold, and writes it with the waits that it ended.
+    /// Makes a tick by the thread of this hold, and writes it with the waits that it ended. Answers whom they wake, too.
     ///
     /// Refused with JournalFull as a call is.
     pub fn tick(
@@ -117,13 +119,14 @@ impl<N: Named> Book<N> {
         mail: &Mail,
         caller: &mut Hold<N>,
         moment: Moment,
-    ) -> Result<Receipt, Refusal>
+    ) -> Result<(Receipt, ToWake), Refusal>
         requires mail { mail.now ≡ N.front.table }
-        ensures book { IfOk result (λ r. WritesTick self.old caller.old.thread moment r.result self.new) }
-        ensures entry { IfOk result (λ r. r.entry ≡ next_number self.old) }
-        ensures made { IfOk result (λ r. caller.new ≡ with_tick caller.old r.entry moment r.result) }
-        ensures earlier { IfOk result (λ r. IsEarlier r.entry caller.old) }
-        ensures waits { IfOk result (λ r. pended r.result ≡ false) }
+        ensures book { IfOk result (λ r. WritesTick self.old caller.old.thread moment r.0.result self.new) }
+        ensures entry { IfOk result (λ r. r.0.entry ≡ next_number self.old) }
+        ensures made { IfOk result (λ r. caller.new ≡ with_tick caller.old r.0.entry moment r.0.result) }
+        ensures earlier { IfOk result (λ r. IsEarlier r.0.entry caller.old) }
+        ensures waits { IfOk result (λ r. pended r.0.result ≡ false) }
+        ensures wakes { IfOk result (λ r. Wakes r.1 self.new.core.grants) }
         ensures full { (result ≡ Err JournalFull) ↔ IsFull self.old }
         ensures only { IfErr result (λ r. r ≡ JournalFull) }
         ensures told { OnErr result (WasFull N.front caller.old) }
@@ -157,7 +160,8 @@ impl<N: Named> Book<N> {
             self.core.grants(),
         );
         publish(mail, &mut self.dispatcher, moment, &result);
-        Ok(Receipt { entry, result })
+        let to_wake = ToWake::of(self.core.grants());
+        Ok((Receipt { entry, result }, to_wake))
     }
 
     /// Hands out the entries since the base, with the base. From then on a copy of the dispatcher is the base, and no entry stands.
@@ -216,27 +220,6 @@ impl<N: Named> Book<N> {
     {
         mail.look(&mut self.dispatcher, &mut caller.seat);
         Refusal::JournalFull
-    }
-
-    /// Whether the last call or tick ended no wait.
-    #[inline(always)]
-    pub(crate) fn ended_none(&self) -> bool
-        ensures { result ≡ (length self.now.core.grants == 0) }
-    {
-        self.core.grants().is_empty()
-    }
-
-    /// A mark for each thread whose wait the last call or tick ended; none where it ended no wait.
-    pub(crate) fn ended(&self) -> Option<Marks>
-        ensures none { IfNone result (self.now.core.grants ≡ []) }
-        ensures marks { IfSome result (λ marks. AreMarks marks.0 self.now.core.grants) }
-    {
-        let grants = self.core.grants();
-        if grants.is_empty() {
-            None
-        } else {
-            Some(Marks::of(grants))
-        }
     }
 
     /// A book with an empty journal, which begins at the opening.

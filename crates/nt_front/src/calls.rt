@@ -1,5 +1,5 @@
 //! What a thread with a pass may do under the lock.
-ghost use Rattle.std.specs.Prelude.{◌≡◌, true, IfOk, IfErr, OnErr};
+ghost use Rattle.std.specs.Prelude.{◌≡◌, ◌++◌, List, true, IfOk, IfErr, OnErr};
 ghost use Rattle.nt_status.specs.declared.refusal.Refusal.TheVariants.{JournalFull, Memory};
 ghost use Rattle.nt_calls.specs.declared.call.Call.{Call};
 ghost use Rattle.nt_core.specs.Dispatcher.{state};
@@ -7,7 +7,8 @@ ghost use Rattle.nt_calls.specs.Moves.{pended, is_wait};
 ghost use Rattle.nt_mail.specs.Knowledge.{IsEarlier};
 ghost use Rattle.nt_front.specs.Books.{WasFull, WasHandedOut};
 ghost use Rattle.nt_front.specs.Held.{IsAllOf};
-ghost use Rattle.nt_front.specs.Runs.{IsLawfulRun};
+ghost use Rattle.nt_front.specs.Runs.{IsLawfulRun, LeadTo};
+ghost use Rattle.nt_mail.specs.declared.entry.Entry.{Entry};
 ghost use Rattle.nt_front.specs.Holds.{with_tick};
 ghost use Rattle.nt_front.specs.Polls.{IsMade, IsBegun, IsExited};
 
@@ -67,8 +68,9 @@ impl<N: Named> Front<N> {
         ensures full { OnErr result (WasFull N.front pass.old) }
     {
         let mut book = self.book.lock(rt);
-        let receipt = book.tick(&self.mail, &mut pass.hold, moment)?;
-        self.leave(book);
+        let (receipt, to_wake) = book.tick(&self.mail, &mut pass.hold, moment)?;
+        drop(book);
+        self.bells.ring(to_wake);
         Ok(receipt)
     }
 
@@ -80,7 +82,8 @@ impl<N: Named> Front<N> {
     #[tactic(auto, using(crate::proofs::Since::part_runs, crate::proofs::Since::part_accounts))]
     pub fn rotate(&self, rt: &impl Wait, pass: &mut Pass<N>) -> Result<Part, Refusal>
         ensures run { IfOk result (λ part. IsLawfulRun part.base part.entries.items) }
-        ensures account { IfOk result (λ part. IsAllOf part.first (state part.base).now part.entries.items pass.old) }
+        ensures account { IfOk result (λ part. (before : List Entry) × LeadTo N.front.threads part.first before (state part.base)
+            × IsAllOf (before ++ part.entries.items) pass.old) }
         ensures book { IfOk result (WasHandedOut N.front pass.old) }
         ensures pass { pass.new ≡ pass.old }
         ensures memory { IfErr result (λ r. r ≡ Memory) }
@@ -127,8 +130,9 @@ impl<N: Named> Front<N> {
         ensures err { OnErr result (caller.new ≡ caller.old) }
     {
         let mut book = self.locked(rt);
-        let receipt = book.call(&self.mail, caller, call)?;
-        self.leave(book);
+        let (receipt, to_wake) = book.call(&self.mail, caller, call)?;
+        drop(book);
+        self.bells.ring(to_wake);
         Ok(receipt)
     }
 
@@ -138,26 +142,6 @@ impl<N: Named> Front<N> {
         match self.book.try_lock() {
             Some(book) => book,
             None => self.book.lock(rt),
-        }
-    }
-
-    /// Gives the lock back, and then wakes the threads whose waits the last call ended.
-    #[inline(always)]
-    pub(crate) fn leave(&self, book: MutexGuard<'_, Book<N>>) {
-        if book.ended_none() {
-            drop(book);
-        } else {
-            self.leave_ringing(book);
-        }
-    }
-
-    /// The same, where it ended some.
-    #[inline(never)]
-    fn leave_ringing(&self, book: MutexGuard<'_, Book<N>>) {
-        let ended = book.ended();
-        drop(book);
-        if let Some(marks) = ended {
-            self.bells.ring(marks);
         }
     }
 }

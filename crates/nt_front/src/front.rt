@@ -1,5 +1,5 @@
 //! The front: the mail, the book behind its lock, and a condition variable for each thread.
-ghost use Rattle.std.specs.Prelude.{◌≡◌, List};
+ghost use Rattle.std.specs.Prelude.{◌≡◌, ◌++◌, List};
 ghost use Rattle.nt_core.specs.Dispatcher.{state};
 ghost use Rattle.nt_mail.specs.declared.entry.Entry.{Entry};
 ghost use Rattle.nt_mail.specs.Entries.{Each};
@@ -24,11 +24,12 @@ pub struct Front<N: Named> {
 }
 
 impl<N: Named> Front<N> {
-    /// Ends the front, and answers the rest of the journal. What each hold knows from its first number on is what stands there.
+    /// Ends the front, and answers the rest of the journal. What each hold knows is what stands there, and in the entries that were handed
+    /// out before.
     pub fn finish(self, mut holds: Vec<Held<N>>) -> History
         ensures run { IsLawfulRun result.base result.entries.items }
-        ensures base { (before : List Entry) × LeadTo N.front.threads result.first before (state result.base) }
-        ensures told { Each (IsAccounted result.first (state result.base).now result.entries.items) holds.items }
+        ensures told { (before : List Entry) × LeadTo N.front.threads result.first before (state result.base)
+            × Each (IsAccounted (before ++ result.entries.items)) holds.items }
     {
         let Front {
             mail,

@@ -9,7 +9,6 @@ use crate::hold::{Pass, Sleeper};
 use crate::named::Named;
 use crate::polls::Polled;
 use crate::receipt::Receipt;
-use crate::wake::{rings_of, sleep_unless_rung};
 use nt_core::{Call, WaitCall};
 use std::hint::spin_loop;
 use std::sync::Wait;
@@ -32,16 +31,16 @@ impl<N: Named> Front<N> {
     {
         let Pass { mut hold } = pass;
         let mut book = self.locked(rt);
-        let Ok(begun) = book.call(&self.mail, &mut hold, Call::Wait(wait)) else {
+        let Ok((begun, to_wake)) = book.call(&self.mail, &mut hold, Call::Wait(wait)) else {
             return Waited::NoRoom(Pass { hold });
         };
+        drop(book);
+        // Whom the signal of a swap granted is woken before this thread sleeps.
+        self.bells.ring(to_wake);
         if has_pended(&begun.result) {
-            // Whom the signal of a swap granted is woken before this thread sleeps.
-            self.leave(book);
             let (pass, granted) = self.sleep(rt, Sleeper { hold });
             return Waited::Granted(pass, begun, granted);
         }
-        self.leave(book);
         Waited::Done(Pass { hold }, begun)
     }
 
@@ -51,12 +50,10 @@ impl<N: Named> Front<N> {
     pub fn sleep(&self, rt: &impl Wait, sleeper: Sleeper<N>) -> (Pass<N>, Receipt)
         ensures { IsGiven sleeper result.1.entry result.1.result result.0 }
     {
-        let bell = self.bells.of(sleeper.thread());
         let mut looks = sleeper.hold.looks();
         let mut sleeper = sleeper;
         for _ in rt.forever() {
-            // A grant is sent before its bell rings: one that the poll does not find rings after this.
-            let rings = rings_of(bell);
+            let ticket = self.bells.ticket(&sleeper);
             match self.poll(sleeper) {
                 Polled::Ready(mut pass, receipt) => {
                     pass.hold.note_looks(looks > 0);
@@ -68,7 +65,7 @@ impl<N: Named> Front<N> {
                 looks -= 1;
                 spin_loop();
             } else {
-                sleep_unless_rung(rt, bell, rings);
+                ticket.sleep(rt, &sleeper);
             }
         }
         unreachable!()

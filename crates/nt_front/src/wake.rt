@@ -1,22 +1,31 @@
-//! Who is woken.
-ghost use Rattle.std.specs.Prelude.{◌≡◌, IfOk, IfErr, is_some, nat_lt, vec_len};
+//! Who is woken, and when a thread may sleep.
+//!
+//! Nothing can be proved of a wake-up, so types keep that none is forgotten. Whoever makes a call or tick is given a `ToWake`, which can't be
+//! let go, and which `Bells::ring` alone takes. A thread sleeps by a `Ticket` alone, which was made before the poll that found no grant.
+ghost use Rattle.std.specs.Prelude.{◌≡◌, [], IfOk, IfErr, IfSome, is_some, nat_lt};
 ghost use Rattle.nt_status.specs.declared.refusal.Refusal.TheVariants.{Memory};
 ghost use Rattle.nt_front.specs.Marks.{IsMarkedToo, AreMarks};
+ghost use Rattle.nt_front.specs.Polls.{IsStill};
+ghost use Rattle.nt_front.specs.Wakes.{Wakes};
 
+use crate::hold::Sleeper;
+use crate::named::Named;
 use nt_core::Grant;
 use nt_status::{MAX_THREADS, Refusal, ThreadId};
 use std::alloc::{AllocError, Global};
+use std::marker::Model;
+use std::snapshot::Snapshot;
 use std::sync::{Condvar, Wait};
 use std::time::Duration;
 
 /// A mark for each thread whose wait ended, 64 threads a number.
-#[derive(Clone, Copy)]
 pub(crate) struct Marks([u64; 4]);
 
 impl Marks {
     /// A mark for each thread that has one of these grants.
     #[tactic(auto, using(crate::proofs::Marking::marks_at_first, crate::proofs::Marking::marks_next, crate::proofs::Marking::marks_all))]
-    pub(crate) fn of(grants: &[Grant]) -> Marks
+    #[inline(never)]
+    fn of(grants: &[Grant]) -> Marks
         ensures { AreMarks result.0 grants.now }
     {
         let mut marks = Marks([0; 4]);
@@ -38,60 +47,141 @@ impl Marks {
     }
 }
 
-/// A condition variable for each thread, on which that thread alone waits.
+/// The threads that a call or tick granted, all of which are to be woken. It must be spent: `Bells::ring` wakes them.
+pub struct ToWake {
+    marks: Option<Marks>,
+}
+
+impl ToWake {
+    /// The threads of these grants. Mostly there are none.
+    #[inline(always)]
+    pub(crate) fn of(grants: &[Grant]) -> ToWake
+        ensures { Wakes result grants.now }
+    {
+        let marks = if grants.is_empty() {
+            None
+        } else {
+            Some(Marks::of(grants))
+        };
+        ToWake { marks }
+    }
+}
+
+/// A condition variable on which the thread with this number alone waits.
 #[derive(Drop)]
-pub(crate) struct Bells(Vec<Condvar>);
+pub(crate) struct Bell {
+    thread: ThreadId,
+    rung: Condvar,
+}
+
+/// A bell for each thread. Contracts see how many there are.
+#[derive(Drop)]
+pub(crate) struct Bells {
+    all: Vec<Bell>,
+}
+
+impl Model for Bells {
+    ghost use Rattle.std.specs.Prelude.{ℕ, vec_len};
+    ghost use Rattle.nt_front.specs.Wakes.{AreNumbered};
+
+    ghost Value = { ℕ };
+
+    ghost view = { λ b. vec_len b.all };
+
+    ghost invariant = { λ b. AreNumbered b.all.items };
+}
 
 impl Bells {
-    /// A condition variable for each of so many threads.
+    /// A bell for each of so many threads.
     ///
     /// Refused with 8 where memory is refused.
-    pub(crate) fn new(alloc: Global, threads: usize) -> Result<Bells, Refusal>
-        ensures count { IfOk result (λ bells. vec_len bells.0 ≡ threads) }
+    #[tactic(auto, using(crate::proofs::Belling::one_bell_more))]
+    pub(crate) fn new(alloc: Global, threads: u16) -> Result<Bells, Refusal>
+        ensures count { IfOk result (λ bells. bells ≡ threads) }
         ensures memory { IfErr result (λ r. r ≡ Memory) }
     {
-        let mut all = Vec::with_capacity(alloc, threads)?;
-        for _ in 0..threads {
-            if let Err(refused) = all.push(Condvar::new()) {
-                return Err(AllocError::from(refused).into());
-            }
+        let mut all = Vec::with_capacity(alloc, usize::from(threads))?;
+        for thread in 0..threads {
+            let bell = Bell {
+                thread: ThreadId::new(thread),
+                rung: Condvar::new(),
+            };
+            all.push_reserved(bell);
         }
-        Ok(Bells(all))
+        Ok(Bells { all })
     }
 
-    /// The condition variable of this thread, where it is one of those that there are bells for.
-    pub(crate) fn of(&self, thread: ThreadId) -> Option<&Condvar>
-        ensures { is_some result ≡ nat_lt thread (vec_len self.now.0) }
+    /// The bell of this thread, where it is one of those that there are bells for.
+    fn of(&self, thread: ThreadId) -> Option<&Bell>
+        ensures there { is_some result ≡ nat_lt thread self.now }
+        ensures own { IfSome result (λ bell. bell.now.thread ≡ thread) }
     {
-        self.0.get(usize::from(thread.get()))
+        self.all.get(usize::from(thread.get()))
     }
 
-    /// Wakes the threads that have a mark, and no others.
-    pub(crate) fn ring(&self, marks: Marks) {
+    /// Wakes these threads, and no others.
+    #[inline(always)]
+    pub(crate) fn ring(&self, threads: ToWake) {
+        let ToWake { marks } = threads;
+        match marks {
+            Some(marks) => self.ring_all(marks),
+            None => {}
+        }
+    }
+
+    /// Wakes the threads that have a mark.
+    #[inline(never)]
+    fn ring_all(&self, marks: Marks) {
+        let Marks(blocks) = marks;
         for block in 0..4 {
-            let mut left = marks.0[block];
+            let mut left = blocks[block];
             for _ in 0..left.count_ones() {
                 let thread = block * 64 + left.trailing_zeros() as usize;
-                if let Some(bell) = self.0.get(thread) {
-                    bell.notify_one();
+                if let Some(bell) = self.all.get(thread) {
+                    bell.rung.notify_one();
                 }
                 left &= left.wrapping_sub(1);
             }
         }
     }
-}
 
-/// How often the bell has rung.
-pub(crate) fn rings_of(bell: Option<&Condvar>) -> u64 {
-    match bell {
-        Some(bell) => bell.notifications(),
-        None => 0,
+    /// A ticket for this thread, of how often its bell has rung by now.
+    pub(crate) fn ticket<N: Named>(&self, sleeper: &Sleeper<N>) -> Ticket<'_, N>
+        ensures before { result.before.value ≡ sleeper.now }
+        ensures bell { IfSome result.bell (λ bell. bell.now.thread ≡ sleeper.now.thread) }
+    {
+        let bell = self.of(sleeper.thread());
+        let rings = match bell {
+            Some(bell) => bell.rung.notifications(),
+            None => 0,
+        };
+        Ticket {
+            bell,
+            rings,
+            before: Snapshot::of(sleeper),
+        }
     }
 }
 
-/// Sleeps until the bell rings, unless it has rung more often than so. It may return before, and takes no lock.
-pub(crate) fn sleep_unless_rung(rt: &impl Wait, bell: Option<&Condvar>, rings: u64) {
-    if let Some(bell) = bell {
-        bell.sleep(rt, rings, Duration::MAX);
+/// How often a thread's bell had rung before the thread looked for its grant, and what the thread knew then.
+///
+/// A grant is sent before its bell rings: one that the look does not find rings after this.
+#[derive(Drop)]
+pub(crate) struct Ticket<'b, N: Named> {
+    bell: Option<&'b Bell>,
+    rings: u64,
+    before: Snapshot<Sleeper<N>>,
+}
+
+impl<N: Named> Ticket<'_, N> {
+    /// Sleeps until the thread's bell rings, unless it has rung since the ticket was made. It may return before, and takes no lock.
+    pub(crate) fn sleep(&self, rt: &impl Wait, sleeper: &Sleeper<N>)
+        requires looked { IsStill self.now.before.value sleeper.now }
+        requires own { IfSome self.now.bell (λ bell. bell.now.thread ≡ sleeper.now.thread) }
+    {
+        let _ = sleeper;
+        if let Some(bell) = self.bell {
+            bell.rung.sleep(rt, self.rings, Duration::MAX);
+        }
     }
 }

@@ -14,3 +14,4 @@ mod runs;
 mod seen;
 mod steps;
 mod told;
+mod wakes;

@@ -127,7 +127,7 @@ step_lasts holds after lasts then old t call reply grants new step pend first = 
     woken =
         subst holds (sym step.alerts.leaves)
         (over_lasts holds lasts (after_serving call step.calm) step.alerts.threads true
-        (after_lasts holds lasts call step.calm (grants_last holds lasts (sequence old step.handles) (change old t call) step.served step.calm step.serves.0 first)))
+        (after_lasts holds lasts call step.calm (grants_last holds lasts (sequence old step.numbers) (change old t call) step.served step.calm step.serves.0 first)))
 
     begins : (s : State) (w : Wait) (ms : ℕ) → holds s → after (pending_too s t w) → after (begun s t w ms).1
     begins s w ms here pending = first_case (fits s.objects t w)

@@ -78,8 +78,8 @@ serve_same xs ys old a b gs hs e x y =
 
 step_same : (old a b : State) (t : ℕ) (call : Call) (r q : Reply) (gs hs : List Grant) → Step old t call r gs a → Step old t call q hs b → (r ≡ q) × (gs ≡ hs) × (a ≡ b)
 step_same old a b t call r q gs hs x y =
-    let handles = are_rising_same _ x.handles y.handles x.changed y.changed in
-    let served = serve_same (sequence old x.handles) (sequence old y.handles) (change old t call) x.calm y.calm x.served y.served (ap (λ zs. sequence old zs) handles) x.serves y.serves in
+    let numbers = are_rising_same _ x.numbers y.numbers x.changed y.changed in
+    let served = serve_same (sequence old x.numbers) (sequence old y.numbers) (change old t call) x.calm y.calm x.served y.served (ap (λ zs. sequence old zs) numbers) x.serves y.serves in
     let alerts : Alert (after_serving call y.calm) x.alerted x.woken = subst (λ (s : State). Alert (after_serving call s) x.alerted x.woken) served.1 x.alerts in
     let alerted = alert_same (after_serving call y.calm) x.woken y.woken x.alerted y.alerted alerts y.alerts in
     let grants : gs ≡ hs = x.in_order ∙ (ap (λ zs. zs ++ x.alerted) served.0 ∙ (ap (λ zs. y.served ++ zs) alerted.0 ∙ sym y.in_order)) in

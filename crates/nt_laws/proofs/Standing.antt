@@ -169,7 +169,7 @@ stands_pending s t w sound idle living = record {
     listed u o v (inl own) named true is = rw is (subst (λ k. Contains (s.queues o ++ t ∷ []) k) (sym own.0) (Contains-push (s.queues o) t))
     listed u o v (inl own) named false is =
         let mine : Names w o = subst (λ (x : Wait). Names x o) (sym own.1) named in
-        absurd (names_no w.handles o is mine.0 mine.1 mine.2)
+        absurd (names_no w.objects o is mine.0 mine.1 mine.2)
     listed u o v (inr before) named true is = rw is (Contains-append_left (s.queues o) (t ∷ []) u (sound.listed u o v before named))
     listed u o v (inr before) named false is = rw is (sound.listed u o v before named)
 
@@ -186,7 +186,7 @@ stands_pending s t w sound idle living = record {
         let there : Contains (s.queues o ++ t ∷ []) u = rw is at member in
         elim (Contains-push_cases (s.queues o) t u there) [
           | inl before ↦ kept u o before
-          | inr here ↦ (w, subst (λ k. get (insert s.waits t w) k ≡ Some w) here (inserted_here s.waits t w), names_yes w.handles o is)
+          | inr here ↦ (w, subst (λ k. get (insert s.waits t w) k ≡ Some w) here (inserted_here s.waits t w), names_yes w.objects o is)
         ]
     pends u o false is member = kept u o (rw is at member)
 

@@ -70,26 +70,26 @@ only_at_index [] i below = absurd (omega (arith, below))
 only_at_index (h ∷ hs) zero below = refl
 only_at_index (h ∷ hs) (suc i) below = only_at_index hs i (omega (arith, below))
 
-told_all : (w : Wait) (marked : Bool) → w.all ≡ true → handles_told w (status_at marked 0) ≡ w.handles
+told_all : (w : Wait) (marked : Bool) → w.all ≡ true → handles_told w (status_at marked 0) ≡ w.objects
 told_all w true all = rw all refl
 told_all w false all = rw all refl
 
-told_any : (w : Wait) (marked : Bool) (i : ℕ) → w.all ≡ false → i < length w.handles → length w.handles ≤ 64 → handles_told w (status_at marked i) ≡ get_or w.handles i 0 ∷ []
+told_any : (w : Wait) (marked : Bool) (i : ℕ) → w.all ≡ false → i < length w.objects → length w.objects ≤ 64 → handles_told w (status_at marked i) ≡ get_or w.objects i 0 ∷ []
 told_any w true i all below few =
     let a : ((128 + i) == 192) ≡ false = same_no (128 + i) 192 (omega arith) in
     let b : ((128 + i) == 258) ≡ false = same_no (128 + i) 258 (omega arith) in
     let c : nat_le 128 (128 + i) ≡ true = grind (arith, nat_tests) in
     let d : (128 + i) - 128 ≡ i = omega arith in
-    rw (a, b, all, c, d) (only_at_index w.handles i below)
+    rw (a, b, all, c, d) (only_at_index w.objects i below)
 told_any w false i all below few =
     let a : (i == 192) ≡ false = same_no i 192 (omega arith) in
     let b : (i == 258) ≡ false = same_no i 258 (omega arith) in
     let c : nat_le 128 i ≡ false = grind (arith, nat_tests, below, few) in
-    rw (a, b, all, c) (only_at_index w.handles i below)
+    rw (a, b, all, c) (only_at_index w.objects i below)
 
 -- a wait of few distinct handles
 abbrev pub IsFair : Wait → Type 0
-IsFair w = (length w.handles ≤ 64) × IsDistinct nat_eq w.handles
+IsFair w = (length w.objects ≤ 64) × IsDistinct nat_eq w.objects
 
 abbrev pub AreFair : Pending → Type 0
 AreFair waits = (t : ℕ) (w : Wait) → get waits t ≡ Some w → IsFair w
@@ -98,7 +98,7 @@ AreFair waits = (t : ℕ) (w : Wait) → get waits t ≡ Some w → IsFair w
 pub wait_taken : (os : List Object) (t : ℕ) (w : Wait) (h : ℕ) → IsFair w → fits os t w ≡ true → TakenBy (object_at os h) (takers h (takes_of t (handles_told w (status os t w)))) (object_at (objects_taken os t w) h)
 wait_taken os t w h fair fit = go w.all refl fit
   where
-    whole : (b : Bool) → (not b && list_all (is_ready os t) w.handles) ≡ true → list_all (is_ready os t) w.handles ≡ true
+    whole : (b : Bool) → (not b && list_all (is_ready os t) w.objects) ≡ true → list_all (is_ready os t) w.objects ≡ true
     whole true e = let h : false ≡ true = e in (cc)
     whole false e = e
 
@@ -111,25 +111,25 @@ wait_taken os t w h fair fit = go w.all refl fit
     alone i k ready zero below = ready
     alone i k ready (suc j) below = absurd (omega (arith, below))
 
-    go : (b : Bool) → w.all ≡ b → cond b (not (is_sleep w) && list_all (is_ready os t) w.handles) (list_any (is_ready os t) w.handles) ≡ true → TakenBy (object_at os h) (takers h (takes_of t (handles_told w (status os t w)))) (object_at (objects_taken os t w) h)
+    go : (b : Bool) → w.all ≡ b → cond b (not (is_sleep w) && list_all (is_ready os t) w.objects) (list_any (is_ready os t) w.objects) ≡ true → TakenBy (object_at os h) (takers h (takes_of t (handles_told w (status os t w)))) (object_at (objects_taken os t w) h)
     go true all fit' =
-        at_these w.handles
-        (ap (λ c. handles_told w c) (status_all all) ∙ told_all w (list_any (has_mark os) w.handles) all)
+        at_these w.objects
+        (ap (λ c. handles_told w c) (status_all all) ∙ told_all w (list_any (has_mark os) w.objects) all)
         (rw all refl)
-        (λ i j before below. differ w.handles i j fair.1 before below)
-        (list_all_at (is_ready os t) w.handles (whole (is_sleep w) fit'))
+        (λ i j before below. differ w.objects i j fair.1 before below)
+        (list_all_at (is_ready os t) w.objects (whole (is_sleep w) fit'))
       where
-        status_all : w.all ≡ true → status os t w ≡ status_at (list_any (has_mark os) w.handles) 0
+        status_all : w.all ≡ true → status os t w ≡ status_at (list_any (has_mark os) w.objects) 0
         status_all all = rw all refl
     go false any fit' =
-        let least_one = list_any_at (is_ready os t) w.handles fit' in
-        at_these (slice_index w.handles (least os t w) ∷ [])
-        (ap (λ c. handles_told w c) (status_any any) ∙ told_any w (has_mark os (slice_index w.handles (least os t w))) (least os t w) any least_one.0 fair.0)
+        let least_one = list_any_at (is_ready os t) w.objects fit' in
+        at_these (slice_index w.objects (least os t w) ∷ [])
+        (ap (λ c. handles_told w c) (status_any any) ∙ told_any w (has_mark os (slice_index w.objects (least os t w))) (least os t w) any least_one.0 fair.0)
         (rw any refl)
         (λ i j before below. absurd (omega (arith, before, below)))
-        (alone 0 (slice_index w.handles (least os t w)) least_one.1)
+        (alone 0 (slice_index w.objects (least os t w)) least_one.1)
       where
-        status_any : w.all ≡ false → status os t w ≡ status_at (has_mark os (slice_index w.handles (least os t w))) (least os t w)
+        status_any : w.all ≡ false → status os t w ≡ status_at (has_mark os (slice_index w.objects (least os t w))) (least os t w)
         status_any any = rw any refl
 
 -- ---- grants
@@ -182,7 +182,7 @@ late_told w = go (is_sleep w) refl
     none false hs e = ap (λ ks. only_at ks 0) e
 
     go : (b : Bool) → is_sleep w ≡ b → handles_told w (late_status b) ≡ []
-    go true e = none w.all w.handles (no_length w.handles e)
+    go true e = none w.all w.objects (no_length w.objects e)
     go false e = refl
 
 pub timed_told : (old : State) (u : ℕ) (waits : Pending) (ts : List ℕ) → IsWithin old.waits waits → ((t : ℕ) → Contains ts t → IsLate old u t) → grants_took waits (map (λ t. ending (late_status (sleeps (get old.waits t))) t) ts) ≡ []

@@ -143,7 +143,7 @@ ends_at h old woken new who _ reply none is = ap (λ p. object_at p.1.objects h)
 in_step : (h : ℕ) (old : State) (who : ℕ) (call : Call) (reply : Reply) (grants : List Grant) (new : State) → AreFair old.waits → refusal old who false call ≡ None → Step old who call reply grants new → InCall h old who call reply grants (object_at new.objects h)
 in_step h old who call reply grants new fair none step =
     let within : IsWithin (change old who call).waits old.waits = λ t w e. subst (λ m. get m t ≡ Some w) (change_waits old who call) e in
-    let served = grants_taken (sequence old step.handles) (change old who call) step.calm step.served old.waits h step.serves.0 within fair in
+    let served = grants_taken (sequence old step.numbers) (change old who call) step.calm step.served old.waits h step.serves.0 within fair in
     let woken : object_at step.woken.objects h ≡ settled_at call h (object_at step.calm.objects h) =
     ap (λ (s : State). object_at s.objects h) step.alerts.leaves ∙ (ap (λ os. object_at os h) (over_same (after_serving call step.calm) step.alerts.threads true) ∙ settled_object call step.calm h) in
     let alerted : grants_took old.waits step.alerted ≡ [] = ap (λ gs. grants_took old.waits gs) step.alerts.ends ∙ alerted_told old.waits step.alerts.threads in
@@ -186,7 +186,7 @@ fair_within few many within fair t w e = fair t w (within t w e)
 call_fair : (old : State) (who : ℕ) (call : Call) (reply : Reply) (grants : List Grant) (new : State) → AreFair old.waits → refusal old who false call ≡ None → Step old who call reply grants new → AreFair new.waits
 call_fair old who call reply grants new fair none step =
     let within : IsWithin (change old who call).waits old.waits = λ t w e. subst (λ m. get m t ≡ Some w) (change_waits old who call) e in
-    let calm = grants_within (sequence old step.handles) (change old who call) step.calm step.served old.waits step.serves.0 within in
+    let calm = grants_within (sequence old step.numbers) (change old who call) step.calm step.served old.waits step.serves.0 within in
     let after : IsWithin (after_serving call step.calm).waits old.waits = λ t w e. calm t w (subst (λ m. get m t ≡ Some w) (settled_waits call step.calm) e) in
     let woken = alert_within (after_serving call step.calm) step.woken step.alerted old.waits step.alerts after in
     own call step.woken none (fair_within step.woken.waits old.waits woken fair) step.answers

@@ -34,8 +34,8 @@ index_told code = if nat_le (abandoned_code 0) code then code - abandoned_code 0
 abbrev pub handles_told : Wait → ℕ → List ℕ
 handles_told w code =
     if code == io_completion_code || code == timeout_code then []
-    else if w.all then w.handles
-    else only_at w.handles (index_told code)
+    else if w.all then w.objects
+    else only_at w.objects (index_told code)
 
 abbrev pub takes_of : ℕ → List ℕ → List Take
 takes_of t hs = map (λ h. record { thread = t; handle = h }) hs

@@ -39,9 +39,9 @@ IsLawfulWord (Word.Idle n) = n < 2 ^ 54
 IsLawfulWord (Word.Armed n) = (0 < n) × (n < 2 ^ 54)
 IsLawfulWord (Word.Granted n status) = (0 < n) × (n < 2 ^ 54) × (is_status_code status ≡ true)
 
--- the bits are those of a granted word with this entry's number, and the reply is its status
+-- the bits are those of a lawful granted word with this entry's number, and the reply is its status
 pub record TellsGrant (bits entry : ℕ) (reply : Reply) : Type 0 where
   pub status : ℕ
-  pub known : is_status_code status ≡ true
+  pub lawful : IsLawfulWord (Word.Granted entry status)
   pub reply_is : reply ≡ Reply.Status status
   pub bits_are : granted_word entry status ≡ bits

@@ -3,7 +3,7 @@ ghost use Rattle.std.specs.Prelude.{◌≡◌, ◌<◌, ◌≤◌, ◌+◌, ◌-
 ghost use Rattle.std.specs.Option.{ForSome};
 ghost use Rattle.nt_objects.specs.Handles.{opened_at, count_named, own_handles, IsCounted};
 
-use nt_status::{Access, Handle};
+use nt_status::{Access, Handle, ObjectNumber};
 use std::alloc::{AllocError, Global};
 use std::marker::Model;
 
@@ -11,7 +11,7 @@ use std::marker::Model;
 #[derive(Clone, Copy, PartialEq, Eq, Debug)]
 pub struct Opened {
     /// The number of the object.
-    pub object: Handle,
+    pub object: ObjectNumber,
     pub access: Access,
 }
 
@@ -28,7 +28,7 @@ fn opened_in(handles: &[Option<Opened>], handle: Handle) -> Option<Opened>
 }
 
 /// One handle more names the object.
-fn count_more(counts: &mut Vec<u32>, object: Handle)
+fn count_more(counts: &mut Vec<u32>, object: ObjectNumber)
     requires known { object < length counts.old.items }
     requires few { slice_index_or counts.old.items object 0 + 1 < 2 ^ 32 }
     ensures { counts.new.items ≡ slice_set counts.old.items object (slice_index_or counts.old.items object 0 + 1) }
@@ -37,7 +37,7 @@ fn count_more(counts: &mut Vec<u32>, object: Handle)
 }
 
 /// One handle less names the object.
-fn count_less(counts: &mut [u32], object: Handle)
+fn count_less(counts: &mut [u32], object: ObjectNumber)
     requires known { object < length counts.old }
     requires some { 0 < slice_index_or counts.old object 0 }
     ensures { counts.new ≡ slice_set counts.old object (slice_index_or counts.old object 0 - 1) }
@@ -61,7 +61,7 @@ fn open(handles: &mut Vec<Option<Opened>>, counts: &mut Vec<u32>, opened: Opened
 }
 
 /// Takes an open handle away, and counts it no more.
-fn close(handles: &mut [Option<Opened>], counts: &mut [u32], handle: Handle) -> Handle
+fn close(handles: &mut [Option<Opened>], counts: &mut [u32], handle: Handle) -> ObjectNumber
     requires counted { IsCounted handles.old counts.old }
     requires open { IsSome (opened_at handles.old handle) }
     ensures object { ForSome (opened_at handles.old handle) (λ opened. result ≡ opened.object) }
@@ -119,7 +119,7 @@ impl HandleTable {
         for object in 0..objects {
             table.make_room()?;
             let _handle = table.add(Opened {
-                object: Handle::new(object as u32),
+                object: ObjectNumber::new(object as u32),
                 access,
             });
         }
@@ -141,7 +141,7 @@ impl HandleTable {
     }
 
     /// How many handles name this object.
-    pub fn count(&self, object: Handle) -> u32
+    pub fn count(&self, object: ObjectNumber) -> u32
         ensures { result ≡ count_named self.now.opened object }
     {
         match self.counts.get(object.get() as usize) {
@@ -174,7 +174,7 @@ impl HandleTable {
     }
 
     /// Closes an open handle for good, and answers the object that it named.
-    pub fn close(&mut self, handle: Handle) -> Handle
+    pub fn close(&mut self, handle: Handle) -> ObjectNumber
         requires open { IsSome (opened_at self.old.opened handle) }
         ensures object { ForSome (opened_at self.old.opened handle) (λ opened. result ≡ opened.object) }
         ensures opened { self.new.opened ≡ slice_set self.old.opened handle None }

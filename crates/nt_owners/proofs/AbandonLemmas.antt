@@ -16,7 +16,7 @@ use Rattle.nt_owners.proofs.PassLemmas.{owned_owner, owned_below}
 
 -- ---- abandoning
 
--- the thread owns the object at this handle
+-- the thread owns the object at this number
 abbrev pub Owns : List Object → ℕ → ℕ → Type 0
 Owns objects t m = IsTrue (owned_by (object_at objects m) t)
 
@@ -90,7 +90,7 @@ abandoned_twice t (Timer manual set armed) = refl
 abandoned_twice t (Thread ended) = refl
 abandoned_twice t Gone = refl
 
--- the object at one handle abandoned ahead of all
+-- the object at one number abandoned ahead of all
 pub all_the_same : (objects : List Object) (t m : ℕ) → map (abandoned_by t) (abandoned_at objects t m) ≡ map (abandoned_by t) objects
 all_the_same [] t m = refl
 all_the_same (o ∷ objects) t zero = ap (λ x. x ∷ map (abandoned_by t) objects) (abandoned_twice t o)

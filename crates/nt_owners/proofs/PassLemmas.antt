@@ -39,7 +39,7 @@ owned_owner (Timer manual set armed) t = ((λ is. absurd (false≢true is)), λ 
 owned_owner (Thread ended) t = ((λ is. absurd (false≢true is)), λ e. absurd (none-some t e))
 owned_owner Gone t = ((λ is. absurd (false≢true is)), λ e. absurd (none-some t e))
 
--- the mutex at a handle stands in the list of its owner alone
+-- the mutex at a number stands in the list of its owner alone
 pub agree_owner : (objects : List Object) (lists : List (List ℕ)) (m : ℕ) → OwnersAgree objects lists → (t : ℕ) → Contains (list_of lists t) m ↔ (owner_of (object_at objects m) ≡ Some t)
 agree_owner objects lists m agree t =
     ((λ has. (owned_owner (object_at objects m) t).0 ((agree.named t m).0 has)), λ e. (agree.named t m).1 ((owned_owner (object_at objects m) t).1 e))

@@ -6,13 +6,13 @@ use Rattle.nt_objects.specs.declared.object.Object.TheVariants.{Thread}
 use Rattle.nt_objects.specs.Object.{owned_by}
 use Rattle.nt_owners.specs.Owned.{list_of}
 
--- the object at each handle, for each thread the mutexes that it owns, and how many objects there is room for
+-- the object at each number, for each thread the mutexes that it owns, and how many objects there is room for
 pub record Objects : Type 0 where
   pub items : List Object
   pub owned : List (List ℕ)
   pub room : ℕ
 
--- the object at a handle; a number that no object has is as good as a thread that runs
+-- the object of a number; one that no object has is as good as a thread that runs
 abbrev pub object_at : List Object → ℕ → Object
 object_at objects h = slice_index_or objects h (Thread false)
 

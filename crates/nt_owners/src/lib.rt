@@ -1,4 +1,4 @@
-//! The objects by handle, and for each thread the mutexes that it owns.
+//! The objects by number, and for each thread the mutexes that it owns.
 #![tactic(auto)]
 
 mod links;

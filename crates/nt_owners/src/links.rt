@@ -5,7 +5,7 @@ ghost use Rattle.nt_owners.specs.Owned.{without};
 ghost use Rattle.nt_owners.specs.Links.{link_at, first_at, with_first, with_next, with_previous, list_in, lists_in, IsSound};
 
 use crate::optional::OptionalMutex;
-use nt_status::{Handle, ThreadId};
+use nt_status::{ObjectNumber, ThreadId};
 use std::alloc::{AllocError, Global};
 
 /// Which mutexes stand beside one in its owner's list.
@@ -23,7 +23,7 @@ pub fn no_firsts(alloc: Global, threads: usize) -> Result<Vec<OptionalMutex>, Al
 }
 
 /// The first mutex of the thread.
-pub fn first_of(firsts: &[OptionalMutex], thread: ThreadId) -> Option<Handle>
+pub fn first_of(firsts: &[OptionalMutex], thread: ThreadId) -> Option<ObjectNumber>
     ensures { result ≡ first_at firsts.now thread }
 {
     match firsts.get(thread.get() as usize) {
@@ -72,7 +72,12 @@ fn set_previous(links: &mut [Link], at: OptionalMutex, to: OptionalMutex)
 
 /// Puts a mutex that is in no list into the thread's list, first.
 #[inline(always)]
-pub fn enter(firsts: &mut [OptionalMutex], links: &mut [Link], thread: ThreadId, mutex: Handle)
+pub fn enter(
+    firsts: &mut [OptionalMutex],
+    links: &mut [Link],
+    thread: ThreadId,
+    mutex: ObjectNumber,
+)
     requires sound { IsSound firsts.old links.old }
     requires thread { thread < length firsts.old }
     requires room { mutex < length links.old }
@@ -91,7 +96,12 @@ pub fn enter(firsts: &mut [OptionalMutex], links: &mut [Link], thread: ThreadId,
 }
 
 /// Takes a mutex out of the thread's list.
-pub fn leave(firsts: &mut [OptionalMutex], links: &mut [Link], thread: ThreadId, mutex: Handle)
+pub fn leave(
+    firsts: &mut [OptionalMutex],
+    links: &mut [Link],
+    thread: ThreadId,
+    mutex: ObjectNumber,
+)
     requires sound { IsSound firsts.old links.old }
     requires owned { Contains (list_in firsts.old links.old thread) mutex }
     ensures sound { IsSound firsts.new links.new }
@@ -103,7 +113,7 @@ pub fn leave(firsts: &mut [OptionalMutex], links: &mut [Link], thread: ThreadId,
     set_previous(links, link.next, link.previous);
 }
 
-/// Makes links, of mutexes that stand alone, for each handle below `count`.
+/// Makes links, of mutexes that stand alone, for each number below `count`.
 pub fn add_links(links: &mut Vec<Link>, count: usize)
     requires { count ≤ vec_capacity links.old }
     ensures there { count ≤ vec_len links.new }

@@ -1,10 +1,10 @@
 //! A mutex or none, as it lies in the links.
 ghost use Rattle.std.specs.Prelude.{◌≡◌, Some, IsSome, is_none};
 
-use nt_status::Handle;
+use nt_status::ObjectNumber;
 use std::marker::Model;
 
-/// A mutex or none, which is read and written at once. (An `Option<Handle>` takes as many bytes, and a tag to test.)
+/// A mutex or none, which is read and written at once. (An `Option<ObjectNumber>` takes as many bytes, and a tag to test.)
 #[derive(Clone, Copy)]
 pub struct OptionalMutex(u64);
 
@@ -24,7 +24,7 @@ impl Model for OptionalMutex {
 impl OptionalMutex {
     pub const NONE: OptionalMutex = OptionalMutex(0);
 
-    pub fn some(mutex: Handle) -> Self
+    pub fn some(mutex: ObjectNumber) -> Self
         ensures { result ≡ Some mutex }
     {
         OptionalMutex(mutex.get() as u64 + 1)
@@ -37,15 +37,15 @@ impl OptionalMutex {
     }
 
     /// The mutex, which there is.
-    pub fn mutex(self) -> Handle
+    pub fn mutex(self) -> ObjectNumber
         requires { IsSome self }
         ensures { Some result ≡ self }
     {
-        Handle::new((self.0 - 1) as u32)
+        ObjectNumber::new((self.0 - 1) as u32)
     }
 
     /// The mutex, or none.
-    pub fn get(self) -> Option<Handle>
+    pub fn get(self) -> Option<ObjectNumber>
         ensures { result ≡ self }
     {
         if self.is_none() {

@@ -3,7 +3,7 @@ ghost use Rattle.nt_owners.specs.Owned.{Owned, list_of, IsUnowned, after_first, 
 
 use crate::links::{Link, add_links, enter, first_of, leave, no_firsts};
 use crate::optional::OptionalMutex;
-use nt_status::{Handle, ThreadId};
+use nt_status::{ObjectNumber, ThreadId};
 use std::alloc::{AllocError, Global};
 use std::marker::Model;
 
@@ -58,7 +58,7 @@ impl Owners {
 
     /// The thread owns this mutex, which nobody owned, from now on.
     #[inline(always)]
-    pub fn add(&mut self, thread: ThreadId, mutex: Handle)
+    pub fn add(&mut self, thread: ThreadId, mutex: ObjectNumber)
         requires thread { thread < length self.old.lists }
         requires room { mutex < self.old.room }
         requires unowned { IsUnowned self.old.lists mutex }
@@ -68,7 +68,7 @@ impl Owners {
     }
 
     /// The thread owns this mutex no more.
-    pub fn remove(&mut self, thread: ThreadId, mutex: Handle)
+    pub fn remove(&mut self, thread: ThreadId, mutex: ObjectNumber)
         requires { Contains (list_of self.old.lists thread) mutex }
         ensures { self.new ≡ record self.old { lists = removed self.old.lists thread mutex } }
     {
@@ -76,14 +76,14 @@ impl Owners {
     }
 
     /// The mutex that came last of those that the thread owns.
-    pub fn first(&self, thread: ThreadId) -> Option<Handle>
+    pub fn first(&self, thread: ThreadId) -> Option<ObjectNumber>
         ensures { result ≡ slice_get (list_of self.now.lists thread) 0 }
     {
         first_of(&self.firsts, thread)
     }
 
     /// Takes away the mutex that came last of those that the thread owns.
-    pub fn pop(&mut self, thread: ThreadId) -> Option<Handle>
+    pub fn pop(&mut self, thread: ThreadId) -> Option<ObjectNumber>
         ensures first { result ≡ slice_get (list_of self.old.lists thread) 0 }
         ensures rest { self.new ≡
             record self.old { lists = slice_set self.old.lists thread (after_first (list_of self.old.lists thread)) } }

@@ -1,4 +1,4 @@
-//! The objects by handle, with the lists of those that are owned.
+//! The objects by number, with the lists of those that are owned.
 ghost use Rattle.std.specs.Prelude.{◌≡◌, ◌<◌, ◌≤◌, ◌⊎◌, ◌+◌, ◌↔◌, ◌++◌, ◌∷◌, ◌^◌, ℕ, [], true, false, None, Some, length, map, replicate, slice_set, vec_len, vec_capacity, not, IsTrue, IsOk, IfOk, IfErr, IfSome, IfNone, OnOk, OnErr, is_some, Contains, nat_eq};
 ghost use Rattle.std.specs.Option.{ForSome, OnSome};
 ghost use Rattle.nt_objects.specs.declared.object.Object.TheVariants.{Thread};
@@ -14,7 +14,7 @@ ghost use Rattle.nt_owners.specs.Objects.{object_at, OwnersAgree, IsPassed};
 use crate::owners::Owners;
 use nt_alarms::Marks;
 use nt_objects::{Armed, Object, Released, Routine, Taken};
-use nt_status::{Handle, Refusal, ThreadId};
+use nt_status::{ObjectNumber, Refusal, ThreadId};
 use std::alloc::{AllocError, Global};
 use std::marker::Model;
 
@@ -47,7 +47,7 @@ fn add_object(objects: &mut Vec<Object>, object: Object)
 }
 
 /// The mutex is in no list from now on.
-fn leave_list(owners: &mut Owners, mutex: Handle, from: Option<ThreadId>)
+fn leave_list(owners: &mut Owners, mutex: ObjectNumber, from: Option<ThreadId>)
     requires from { (t : ℕ) → Contains (list_of owners.old.lists t) mutex ↔ (from ≡ Some t) }
     requires once { (t : ℕ) → IsDistinct nat_eq (list_of owners.old.lists t) }
     ensures passed { IsPassed owners.old.lists owners.new.lists mutex None }
@@ -60,7 +60,7 @@ fn leave_list(owners: &mut Owners, mutex: Handle, from: Option<ThreadId>)
 }
 
 /// The mutex, which was in no list, is in that of its owner from now on.
-fn join_list(owners: &mut Owners, mutex: Handle, to: Option<ThreadId>)
+fn join_list(owners: &mut Owners, mutex: ObjectNumber, to: Option<ThreadId>)
     requires room { mutex < owners.old.room }
     requires unowned { IsUnowned owners.old.lists mutex }
     requires to { ForSome to (λ t. t < length owners.old.lists) }
@@ -75,7 +75,7 @@ fn join_list(owners: &mut Owners, mutex: Handle, to: Option<ThreadId>)
 }
 
 /// The mutex is in the list of its new owner from now on, and no more in that of its owner before.
-fn pass(owners: &mut Owners, mutex: Handle, from: Option<ThreadId>, to: Option<ThreadId>)
+fn pass(owners: &mut Owners, mutex: ObjectNumber, from: Option<ThreadId>, to: Option<ThreadId>)
     requires room { mutex < owners.old.room }
     requires from { (t : ℕ) → Contains (list_of owners.old.lists t) mutex ↔ (from ≡ Some t) }
     requires to { ForSome to (λ t. t < length owners.old.lists) }
@@ -93,7 +93,11 @@ fn pass(owners: &mut Owners, mutex: Handle, from: Option<ThreadId>, to: Option<T
 }
 
 /// Where the thread owns a mutex, the one that came last is free from now on, and marked.
-fn abandon_first(objects: &mut [Object], owners: &mut Owners, thread: ThreadId) -> Option<Handle>
+fn abandon_first(
+    objects: &mut [Object],
+    owners: &mut Owners,
+    thread: ThreadId,
+) -> Option<ObjectNumber>
     requires agree { OwnersAgree objects.old owners.old.lists }
     ensures agree { OwnersAgree objects.new owners.new.lists }
     ensures none { IfNone result ((objects.new ≡ objects.old) × (list_of owners.new.lists thread ≡ [])) }
@@ -125,7 +129,7 @@ fn abandon_each(objects: &mut [Object], owners: &mut Owners, thread: ThreadId, c
     }
 }
 
-/// The objects by handle, and for each thread the mutexes that it owns.
+/// The objects by number, and for each thread the mutexes that it owns.
 ///
 /// Whatever is done to an object, each mutex stands in the list of the thread that owns it, and in no other.
 #[derive(Drop)]
@@ -163,7 +167,7 @@ impl ObjectTable {
         })
     }
 
-    /// The objects by handle.
+    /// The objects by number.
     pub fn as_slice(&self) -> &[Object]
         ensures { result.now ≡ self.now.items }
     {
@@ -198,29 +202,29 @@ impl ObjectTable {
         ensures items { self.new.items ≡ self.old.items ++ object ∷ [] }
         ensures threads { length self.new.owned ≡ length self.old.owned }
     {
-        let handle = Handle::new(self.objects.len() as u32);
-        pass(&mut self.owners, handle, None, object.owner());
+        let number = ObjectNumber::new(self.objects.len() as u32);
+        pass(&mut self.owners, number, None, object.owner());
         add_object(&mut self.objects, object);
     }
 
-    /// Puts an object in the place of the one at this handle. Where both have the same owner, or none, the lists stay.
-    pub fn put(&mut self, handle: Handle, object: Object)
-        requires known { handle < length self.old.items }
+    /// Puts an object in the place of the one at this number. Where both have the same owner, or none, the lists stay.
+    pub fn put(&mut self, number: ObjectNumber, object: Object)
+        requires known { number < length self.old.items }
         requires owner { (t : ℕ) → owned_by object t ≡ true
-            → (owned_by (object_at self.old.items handle) t ≡ true) ⊎ (t < length self.old.owned) }
-        ensures items { self.new.items ≡ slice_set self.old.items handle object }
+            → (owned_by (object_at self.old.items number) t ≡ true) ⊎ (t < length self.old.owned) }
+        ensures items { self.new.items ≡ slice_set self.old.items number object }
         ensures threads { length self.new.owned ≡ length self.old.owned }
-        ensures kept { owner_of object ≡ owner_of (object_at self.old.items handle) → self.new.owned ≡ self.old.owned }
+        ensures kept { owner_of object ≡ owner_of (object_at self.old.items number) → self.new.owned ≡ self.old.owned }
     {
-        let place = handle.get() as usize;
+        let place = number.get() as usize;
         let from = self.objects[place].owner();
         let to = object.owner();
-        pass(&mut self.owners, handle, from, to);
+        pass(&mut self.owners, number, from, to);
         self.objects[place] = object;
     }
 
-    /// Sets the event at this handle, and answers whether it was not set before.
-    pub fn set(&mut self, event: Handle) -> bool
+    /// Sets the event at this number, and answers whether it was not set before.
+    pub fn set(&mut self, event: ObjectNumber) -> bool
         requires known { event < length self.old.items }
         requires kind { IsTrue (is_event (object_at self.old.items event)) }
         ensures items { self.new.items
@@ -231,8 +235,8 @@ impl ObjectTable {
         self.objects[event.get() as usize].set()
     }
 
-    /// Makes the event at this handle not set.
-    pub fn reset(&mut self, event: Handle)
+    /// Makes the event at this number not set.
+    pub fn reset(&mut self, event: ObjectNumber)
         requires known { event < length self.old.items }
         requires kind { IsTrue (is_event (object_at self.old.items event)) }
         ensures items { self.new.items
@@ -242,10 +246,10 @@ impl ObjectTable {
         self.objects[event.get() as usize].reset();
     }
 
-    /// Releases the semaphore at this handle by `count`, and answers its count before.
+    /// Releases the semaphore at this number by `count`, and answers its count before.
     ///
     /// Refused with 87 where `count` is not positive, then with 298 where the maximum would be passed; nothing changes then.
-    pub fn release(&mut self, semaphore: Handle, count: i32) -> Result<i32, Refusal>
+    pub fn release(&mut self, semaphore: ObjectNumber, count: i32) -> Result<i32, Refusal>
         requires known { semaphore < length self.old.items }
         requires kind { IsTrue (is_semaphore (object_at self.old.items semaphore)) }
         ensures refusal { result_err result ≡ release_refusal count (object_at self.old.items semaphore) }
@@ -258,10 +262,10 @@ impl ObjectTable {
         self.objects[semaphore.get() as usize].release_semaphore(count)
     }
 
-    /// Releases the mutex at this handle once. After the last release that its owner owed it is in no list.
+    /// Releases the mutex at this number once. After the last release that its owner owed it is in no list.
     ///
     /// Refused with 288 where this thread does not own it; nothing changes then.
-    pub fn unlock(&mut self, mutex: Handle, thread: ThreadId) -> Result<Released, Refusal>
+    pub fn unlock(&mut self, mutex: ObjectNumber, thread: ThreadId) -> Result<Released, Refusal>
         requires known { mutex < length self.old.items }
         requires kind { IsTrue (is_mutex (object_at self.old.items mutex)) }
         ensures owner { IsOk result ↔ IsTrue (owned_by (object_at self.old.items mutex) thread) }
@@ -278,42 +282,42 @@ impl ObjectTable {
         Ok(released)
     }
 
-    /// Where the object at this handle is signaled for the thread, the thread takes it, and learns what that tells. A mutex that
+    /// Where the object at this number is signaled for the thread, the thread takes it, and learns what that tells. A mutex that
     /// was free joins the thread's list. An object that there is not is signaled for none.
     #[inline(always)]
-    pub fn try_take(&mut self, handle: Handle, thread: ThreadId) -> Option<Taken>
-        requires room { signaled (object_at self.old.items handle) thread ≡ true
-            → IsTrue (has_room (object_at self.old.items handle)) }
+    pub fn try_take(&mut self, number: ObjectNumber, thread: ThreadId) -> Option<Taken>
+        requires room { signaled (object_at self.old.items number) thread ≡ true
+            → IsTrue (has_room (object_at self.old.items number)) }
         requires thread { thread < length self.old.owned }
-        ensures signaled { is_some result ≡ signaled (object_at self.old.items handle) thread }
+        ensures signaled { is_some result ≡ signaled (object_at self.old.items number) thread }
         ensures items { OnSome result (self.new.items
-            ≡ slice_set self.old.items handle (taken (object_at self.old.items handle) thread)) }
-        ensures answer { IfSome result (λ told. TellsAbandoned told (object_at self.old.items handle)) }
+            ≡ slice_set self.old.items number (taken (object_at self.old.items number) thread)) }
+        ensures answer { IfSome result (λ told. TellsAbandoned told (object_at self.old.items number)) }
         ensures threads { length self.new.owned ≡ length self.old.owned }
         ensures none { IfNone result (self.new ≡ self.old) }
     {
-        let object = self.objects.get_mut(handle.get() as usize)?;
+        let object = self.objects.get_mut(number.get() as usize)?;
         let joins = object.is_mutex() && object.owner().is_none();
         let taken = object.try_take(thread)?;
         if joins {
-            self.owners.add(thread, handle);
+            self.owners.add(thread, number);
         }
         Some(taken)
     }
 
-    /// The thread takes the object at this handle, which is signaled for it, and learns what that tells.
+    /// The thread takes the object at this number, which is signaled for it, and learns what that tells.
     #[inline(always)]
-    pub fn take(&mut self, handle: Handle, thread: ThreadId) -> Taken
-        requires known { handle < length self.old.items }
-        requires signaled { IsTrue (signaled (object_at self.old.items handle) thread) }
-        requires room { IsTrue (has_room (object_at self.old.items handle)) }
+    pub fn take(&mut self, number: ObjectNumber, thread: ThreadId) -> Taken
+        requires known { number < length self.old.items }
+        requires signaled { IsTrue (signaled (object_at self.old.items number) thread) }
+        requires room { IsTrue (has_room (object_at self.old.items number)) }
         requires thread { thread < length self.old.owned }
         ensures items { self.new.items
-            ≡ slice_set self.old.items handle (taken (object_at self.old.items handle) thread) }
-        ensures answer { TellsAbandoned result (object_at self.old.items handle) }
+            ≡ slice_set self.old.items number (taken (object_at self.old.items number) thread) }
+        ensures answer { TellsAbandoned result (object_at self.old.items number) }
         ensures threads { length self.new.owned ≡ length self.old.owned }
     {
-        let Some(taken) = self.try_take(handle, thread) else {
+        let Some(taken) = self.try_take(number, thread) else {
             unreachable!()
         };
         taken

@@ -113,53 +113,6 @@ impl Handles {
         self.items.clear();
     }
 
-    /// These handles in the place of those that it has. Where they are as many, it takes no memory; where memory is refused, nothing
-    /// changes.
-    #[inline(always)]
-    pub fn copy_from(&mut self, handles: &[Handle]) -> Result<(), AllocError>
-        ensures ok { OnOk result (self.new ≡ handles.now) }
-        ensures err { OnErr result (self.new ≡ self.old) }
-    {
-        if self.items.len() != handles.len() {
-            return self.replace(handles);
-        }
-        // Most lists have one, which is written here, without a call.
-        match handles {
-            [handle] => self.items.as_mut_slice()[0] = *handle,
-            _ => self.items.as_mut_slice().copy_from_slice(handles),
-        }
-        Ok(())
-    }
-
-    /// This handle alone in the place of those that it has. It takes no memory.
-    #[inline(always)]
-    pub fn put_one(&mut self, handle: Handle)
-        ensures { self.new ≡ handle ∷ [] }
-    {
-        if self.items.len() == 1 {
-            self.items.as_mut_slice()[0] = handle;
-        } else {
-            *self = Handles::from_one(*self.items.allocator(), handle);
-        }
-    }
-
-    /// A new list of these handles in the place of its own. It stands apart, since mostly there are as many as before.
-    #[inline(never)]
-    fn replace(&mut self, handles: &[Handle]) -> Result<(), AllocError>
-        ensures ok { OnOk result (self.new ≡ handles.now) }
-        ensures err { OnErr result (self.new ≡ self.old) }
-    {
-        self.items = SmallVec::from_slice(*self.items.allocator(), handles)?;
-        Ok(())
-    }
-
-    /// The same handles in memory of their own.
-    pub fn copy(&self) -> Result<Self, AllocError>
-        ensures { IfOk result (λ copied. copied ≡ self.now) }
-    {
-        Handles::from_slice(*self.items.allocator(), self.items.as_slice())
-    }
-
     /// The handles, in order.
     pub fn as_slice(&self) -> &[Handle]
         ensures { result.now ≡ self.now }

@@ -13,7 +13,6 @@ use Rattle.nt_front.specs.declared.hold.Held.{Held}
 use Rattle.nt_front.specs.declared.hold.Held.TheVariants.{Pass, Sleeping, Ended}
 use Rattle.nt_front.specs.Held.{knowledge_of, IsAccounted}
 use Rattle.nt_front.specs.Holds.{new_threads}
-use Rattle.nt_front.proofs.Since.{all_made}
 use Rattle.nt_threads.specs.declared.plan.Objects.{Objects}
 use Rattle.nt_threads.specs.Doors.{accepted_calls, calls_of_hold}
 use Rattle.nt_threads.specs.Plans.{carried_out, creations, lead_of, work_of}
@@ -47,11 +46,11 @@ carried_out-same made made' o rounds (x ∷ xs) (y ∷ ys) same =
 -- ---- holds
 
 -- the calls of each hold's thread are those that the history has of it
-calls_told : {X : Type 0} (base : ℕ) (es : List Entry) (hs : List (Held X)) → Each (IsAccounted 1 base es) hs → map calls_of_hold hs ≡ map (λ t. calls_by t es) (map (λ h. (knowledge_of h).thread) hs)
-calls_told base es [] told = refl
-calls_told base es (Pass k ∷ hs) told = cons_both _ _ _ _ (ap accepted_calls (all_made base es k told.0.0)) (calls_told base es hs told.1)
-calls_told base es (Sleeping k ∷ hs) told = cons_both _ _ _ _ (ap accepted_calls (all_made base es k told.0.0)) (calls_told base es hs told.1)
-calls_told base es (Ended k ∷ hs) told = cons_both _ _ _ _ (ap accepted_calls (all_made base es k told.0.0)) (calls_told base es hs told.1)
+calls_told : {X : Type 0} (es : List Entry) (hs : List (Held X)) → Each (IsAccounted es) hs → map calls_of_hold hs ≡ map (λ t. calls_by t es) (map (λ h. (knowledge_of h).thread) hs)
+calls_told es [] told = refl
+calls_told es (Pass k ∷ hs) told = cons_both _ _ _ _ (ap accepted_calls (told.0.0.made)) (calls_told es hs told.1)
+calls_told es (Sleeping k ∷ hs) told = cons_both _ _ _ _ (ap accepted_calls (told.0.0.made)) (calls_told es hs told.1)
+calls_told es (Ended k ∷ hs) told = cons_both _ _ _ _ (ap accepted_calls (told.0.0.made)) (calls_told es hs told.1)
 
 -- ---- new threads
 
@@ -107,16 +106,16 @@ others_planned (k ∷ ks) o rounds zero other above below none = absurd (omega a
 others_planned (k ∷ ks) o rounds (suc i) other above below none = work_planned ks (work_of o rounds) other i (omega arith) none.1
 
 -- where holds of new threads made what the plan asks and the history accounts for them, the history has the plan
-pub plan_told : {X : Type 0} (base : ℕ) (es : List Entry) (hs : List (Held X)) (ks : List Knowledge) (n rounds : ℕ) (o : Objects) → ks ≡ new_threads n → 0 < n → Each (IsAccounted 1 base es) hs
+pub plan_told : {X : Type 0} (es : List Entry) (hs : List (Held X)) (ks : List Knowledge) (n rounds : ℕ) (o : Objects) → ks ≡ new_threads n → 0 < n → Each (IsAccounted es) hs
     → map (λ h. (knowledge_of h).thread) hs ≡ map (λ (k : Knowledge). k.thread) ks
     → map calls_of_hold hs ≡ carried_out (λ (k : Knowledge). accepted_calls k.made) o rounds ks → IsCarriedOut (n - 1) rounds es
-plan_told base es hs ks n rounds o are some told threads made =
+plan_told es hs ks n rounds o are some told threads made =
     let numbers = map (λ (k : Knowledge). k.thread) (new_threads n) in
     let planned = carried_out (λ (k : Knowledge). accepted_calls k.made) o rounds (new_threads n) in
     let by = λ (t : ℕ). calls_by t es in
     let all : map by numbers ≡ planned =
     ap (map by) (sym (threads ∙ ap (map (λ (k : Knowledge). k.thread)) are))
-    ∙ (sym (calls_told base es hs told) ∙ (made ∙ ap (carried_out (λ (k : Knowledge). accepted_calls k.made) o rounds) are)) in
+    ∙ (sym (calls_told es hs told) ∙ (made ∙ ap (carried_out (λ (k : Knowledge). accepted_calls k.made) o rounds) are)) in
     let at : (t : ℕ) → by t ≡ get_or planned t (by t) = λ t. ap by (sym (thread_at n t)) ∙ (sym (get_or-map by numbers t t) ∙ ap (λ l. get_or l t (by t)) all) in
     let count = length-new n in
     record {

@@ -47,17 +47,17 @@ module _ (old new : Lists) (slots : List (Option Pending)) (thread : ℕ) (pendi
     (table : IsTable old slots)
     (free : slot_at slots thread ≡ None)
     (within : thread < length slots)
-    (same_length : length pending.numbers.items ≡ length pending.wait.handles)
-    (few : length pending.wait.handles ≤ MAX_WAIT_OBJECTS)
-    (apart : IsDistinct nat_eq pending.wait.handles)
-    (linked : AreLinked old new thread pending.wait.handles pending.numbers.items (length pending.wait.handles))
+    (same_length : length pending.numbers.items ≡ length pending.wait.objects)
+    (few : length pending.wait.objects ≤ MAX_WAIT_OBJECTS)
+    (apart : IsDistinct nat_eq pending.wait.objects)
+    (linked : AreLinked old new thread pending.wait.objects pending.numbers.items (length pending.wait.objects))
     (distinct : (h : ℕ) → AreNumbersOnce (list_at new h)) where
   -- no block is of the thread yet
   owner_differs : (h : ℕ) (link : Link) → HasLink (list_at old h) link → link.thread ≢ thread
   owner_differs h link has same = let owner = table.owned h link has in none-some owner.0 (sym free ∙ ap (slot_at slots) (sym same) ∙ owner.1)
 
-  queue_now : (h : ℕ) → ((j : ℕ) × (j < length pending.wait.handles) × (get_or pending.wait.handles j 0 ≡ h) × (list_at new h ≡ list_at old h ++ record { number = get_or pending.numbers.items j 0; thread = thread } ∷ [])) ⊎ (list_at new h ≡ list_at old h)
-  queue_now h = elim (find_place pending.wait.handles (length pending.wait.handles) h) [
+  queue_now : (h : ℕ) → ((j : ℕ) × (j < length pending.wait.objects) × (get_or pending.wait.objects j 0 ≡ h) × (list_at new h ≡ list_at old h ++ record { number = get_or pending.numbers.items j 0; thread = thread } ∷ [])) ⊎ (list_at new h ≡ list_at old h)
+  queue_now h = elim (find_place pending.wait.objects (length pending.wait.objects) h) [
     | inl found ↦ inl (found.0, found.1, found.2, rw (← found.2) (linked.done found.0 found.1))
     | inr outside ↦ inr (linked.others h outside)
   ]
@@ -82,7 +82,7 @@ module _ (old new : Lists) (slots : List (Option Pending)) (thread : ℕ) (pendi
           same_length = same_length;
           few = few;
           apart = apart;
-          linked = λ j below. rw (linked.done j below) (HasLink-last (list_at old (get_or pending.wait.handles j 0)) (record { number = get_or pending.numbers.items j 0; thread = thread }));
+          linked = λ j below. rw (linked.done j below) (HasLink-last (list_at old (get_or pending.wait.objects j 0)) (record { number = get_or pending.numbers.items j 0; thread = thread }));
         })
     | inr differs ↦
         let was = table.linked t p (sym (slot_other t differs) ∙ e) in
@@ -90,7 +90,7 @@ module _ (old new : Lists) (slots : List (Option Pending)) (thread : ℕ) (pendi
           same_length = was.same_length;
           few = was.few;
           apart = was.apart;
-          linked = λ j below. still_linked (get_or p.wait.handles j 0) (record { number = get_or p.numbers.items j 0; thread = t }) (was.linked j below);
+          linked = λ j below. still_linked (get_or p.wait.objects j 0) (record { number = get_or p.numbers.items j 0; thread = t }) (was.linked j below);
         }
   ]
 
@@ -130,7 +130,7 @@ table_same old new slots slots' lists_same slots_same small table = record {
     same_length = was.same_length;
     few = was.few;
     apart = was.apart;
-    linked = λ j below. rw (lists_same (get_or p.wait.handles j 0)) (was.linked j below);
+    linked = λ j below. rw (lists_same (get_or p.wait.objects j 0)) (was.linked j below);
   };
   owned = λ h link has. let owner = table.owned h link (rw (lists_same h) at has) in (owner.0, slots_same link.thread ∙ owner.1, owner.2);
   distinct = λ h. rw (lists_same h) (table.distinct h);
@@ -138,7 +138,7 @@ table_same old new slots slots' lists_same slots_same small table = record {
   small = small;
 }
 
--- one handle is named once
-pub one_once : (handle : ℕ) → IsDistinct nat_eq (handle ∷ [])
+-- one object is named once
+pub one_once : (object : ℕ) → IsDistinct nat_eq (object ∷ [])
 unfolding IsDistinct
-one_once handle = (tt, tt)
+one_once object = (tt, tt)

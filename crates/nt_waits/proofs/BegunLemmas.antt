@@ -64,15 +64,15 @@ module _ (queues queues' : Lists) (slots slots' : List (Option Pending)) (t : �
     ready = none_ready queues' (length slots') (length after);
   }
 
--- a wait stands last in the queue of each handle that it names, and the other queues are as they were
+-- a wait stands last in the queue of each object that it names, and the other queues are as they were
 module _ (old new : Lists) (t : ℕ) (wait : Wait) (slot : Option Pending) (filled : IsFilled old new t wait slot) where
   filled_joined : (h : ℕ) → Names wait h → threads (list_at new h) ≡ threads (list_at old h) ++ t ∷ []
-  filled_joined h named = subst (λ (x : ℕ). threads (list_at new x) ≡ threads (list_at old x) ++ t ∷ []) named.2 (rw (filled.4.done named.0 named.1, map-append (λ (l : Link). l.thread) (list_at old (get_or wait.handles named.0 0)) _) refl)
+  filled_joined h named = subst (λ (x : ℕ). threads (list_at new x) ≡ threads (list_at old x) ++ t ∷ []) named.2 (rw (filled.4.done named.0 named.1, map-append (λ (l : Link). l.thread) (list_at old (get_or wait.objects named.0 0)) _) refl)
 
   filled_kept : (h : ℕ) → (Names wait h → ⊥) → list_at new h ≡ list_at old h
   filled_kept h outside = filled.4.others h (λ j below same. outside (j, below, same))
 
-  pub filled_table : (slots : List (Option Pending)) → IsTable old slots → slot_at slots t ≡ None → t < length slots → length wait.handles ≤ MAX_WAIT_OBJECTS → IsDistinct nat_eq wait.handles → ((h : ℕ) → AreNumbersOnce (list_at new h)) → IsTable new (set slots t slot)
+  pub filled_table : (slots : List (Option Pending)) → IsTable old slots → slot_at slots t ≡ None → t < length slots → length wait.objects ≤ MAX_WAIT_OBJECTS → IsDistinct nat_eq wait.objects → ((h : ℕ) → AreNumbersOnce (list_at new h)) → IsTable new (set slots t slot)
   filled_table slots table free within few apart distinct =
       let is = filled.2 in
       rw filled.1 (table_begun old new slots t filled.0 table free within (rw is filled.3) (rw is few) (rw is apart) (rw is filled.4) distinct)
@@ -119,7 +119,7 @@ whole_reserved queues queues' slots slots' alarms alarms' count prepared grows s
   table = table_same queues queues' slots slots' (λ h. rw grows.lists refl) same (small whole.table.small) whole.table;
   counted = rw (waits_same slots slots' same) whole.counted;
   alarmed = λ u. rw (same u) (kept u ∙ whole.alarmed u);
-  ready = let used = grows.used in ready_kept queues queues' (length slots) (length slots') (length alarms) (length alarms') (omega (arith, used)) grows.capacity grows.handle_room more longer prepared whole.ready;
+  ready = let used = grows.used in ready_kept queues queues' (length slots) (length slots') (length alarms) (length alarms') (omega (arith, used)) grows.capacity grows.object_room more longer prepared whole.ready;
 }
 
 -- a wait is prepared once its room is made

@@ -44,14 +44,14 @@ module _ (old mid new : Lists) (slots : List (Option Pending)) (t : ℕ) (p : Pe
     (unlinked : IsUnlinked mid new p) where
   pub ended : IsEnded old slots new (set slots t None) t
   ended =
-      let left = unlinked_from old mid new p.wait.handles p.numbers.items _ (ap (λ (q : Lists). q.lists) anew) unlinked.unlinked in
+      let left = unlinked_from old mid new p.wait.objects p.numbers.items _ (ap (λ (q : Lists). q.lists) anew) unlinked.unlinked in
       record {
         table = table_ended old new slots t p table place left unlinked.distinct;
         emptied = refl;
         queues = threads_ended old new slots t p table place left unlinked.distinct;
         used = rw anew at unlinked.used;
         capacity = rw anew at unlinked.capacity;
-        handle_room = rw anew at unlinked.handle_room;
+        object_room = rw anew at unlinked.object_room;
       }
 
   pub touched : IsTouched p.wait new.touched
@@ -77,5 +77,5 @@ module _ (queues queues' : Lists) (slots slots' : List (Option Pending)) (t : �
         table = over.table;
         counted = rw (pending_ended, len-ended (waits_of slots) t pends) (ap (λ (n : ℕ). n - 1) whole.counted);
         alarmed = rw over.emptied (alarmed_ended before after slots t whole.alarmed within here elsewhere);
-        ready = ready_kept queues queues' (length slots) (length slots') (length before) (length after) over.used (omega (arith, over.capacity)) (omega (arith, over.handle_room)) places (omega (arith, long)) prepared whole.ready;
+        ready = ready_kept queues queues' (length slots) (length slots') (length before) (length after) over.used (omega (arith, over.capacity)) (omega (arith, over.object_room)) places (omega (arith, long)) prepared whole.ready;
       }

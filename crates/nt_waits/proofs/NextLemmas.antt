@@ -14,11 +14,11 @@ use Rattle.nt_waits.proofs.ChainLemmas.{same_test, other_test}
 use Rattle.nt_waits.proofs.ViewLemmas.{first_thread-threads}
 use Rattle.nt_waits.proofs.TableLemmas.{HasNumber-link, Contains-link, link_of_member}
 
--- who stands in a queue has a wait that names its handle
-pub waiter : (queues : Lists) (slots : List (Option Pending)) (handle t : ℕ) → IsTable queues slots → Contains (threads (list_at queues handle)) t → (p : Pending) × (slot_at slots t ≡ Some p) × Names p.wait handle
-waiter queues slots handle t table member =
-    let found = link_of_member (list_at queues handle) t member in
-    let own = table.owned handle found.0 found.1 in
+-- who stands in a queue has a wait that names its object
+pub waiter : (queues : Lists) (slots : List (Option Pending)) (object t : ℕ) → IsTable queues slots → Contains (threads (list_at queues object)) t → (p : Pending) × (slot_at slots t ≡ Some p) × Names p.wait object
+waiter queues slots object t table member =
+    let found = link_of_member (list_at queues object) t member in
+    let own = table.owned object found.0 found.1 in
     (own.0, ap (λ u. slot_at slots u) (sym found.2) ∙ own.1, own.2)
 
 pub next_after-threads : (ls : List Link) (number thread : ℕ) → HasLink ls (record { number = number; thread = thread }) → AreNumbersOnce ls → IsDistinct nat_eq (threads ls) → thread_after ls number ≡ next_after thread (threads ls)
@@ -46,9 +46,9 @@ position-there test xs j below passes none =
     let h : Some (position_or_len test xs) ≡ None = rw lt at none in
     (cc)
 
--- at the place of the handle stands the number of the thread's link
-pub link_at : (queues : Lists) (t handle i : ℕ) (p : Pending) → IsLinked queues t p → position (λ named. eqb named handle) p.wait.handles ≡ Some i → (i < length p.numbers.items) × HasLink (list_at queues handle) (record { number = get_or p.numbers.items i 0; thread = t })
-link_at queues t handle i p linked found =
-    let at = position-Some (λ named. eqb named handle) p.wait.handles i 0 found in
-    let named : get_or p.wait.handles i 0 ≡ handle = let passes = at.1 in grind (arith, nat_tests, passes) in
+-- at the place of the object stands the number of the thread's link
+pub link_at : (queues : Lists) (t object i : ℕ) (p : Pending) → IsLinked queues t p → position (λ named. eqb named object) p.wait.objects ≡ Some i → (i < length p.numbers.items) × HasLink (list_at queues object) (record { number = get_or p.numbers.items i 0; thread = t })
+link_at queues t object i p linked found =
+    let at = position-Some (λ named. eqb named object) p.wait.objects i 0 found in
+    let named : get_or p.wait.objects i 0 ≡ object = let passes = at.1 in grind (arith, nat_tests, passes) in
     (omega (arith, at.0, linked.same_length), subst (λ h. HasLink (list_at queues h) (record { number = get_or p.numbers.items i 0; thread = t })) named (linked.linked i at.0))

@@ -8,12 +8,12 @@ use Rattle.nt_waits.specs.Queues.{Lists}
 use Rattle.nt_waits.specs.Prepared.{IsReady}
 
 -- where as much room is left, a prepared wait has what it needs
-pub ready_kept : (old new : Lists) (places places' alarms alarms' : ℕ) → new.used ≤ old.used → old.capacity ≤ new.capacity → old.handle_room ≤ new.handle_room → places ≤ places' → alarms ≤ alarms' → (prepared : Option Prepared) → ForSome prepared (IsReady old places alarms) → ForSome prepared (IsReady new places' alarms')
-ready_kept old new places places' alarms alarms' used capacity handle_room more_places more_alarms prepared ready p is =
+pub ready_kept : (old new : Lists) (places places' alarms alarms' : ℕ) → new.used ≤ old.used → old.capacity ≤ new.capacity → old.object_room ≤ new.object_room → places ≤ places' → alarms ≤ alarms' → (prepared : Option Prepared) → ForSome prepared (IsReady old places alarms) → ForSome prepared (IsReady new places' alarms')
+ready_kept old new places places' alarms alarms' used capacity object_room more_places more_alarms prepared ready p is =
     let before = ready p is in
     record {
       block = let block = before.block in omega (arith, block, used, capacity);
-      handle = let handle = before.handle in omega (arith, handle, handle_room);
+      object = let object = before.object in omega (arith, object, object_room);
       place = let place = before.place in omega (arith, place, more_places);
       alarm = λ some. let alarm = before.alarm some in omega (arith, alarm, more_alarms);
     }

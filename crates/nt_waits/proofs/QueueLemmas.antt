@@ -1,4 +1,4 @@
--- The queue of one handle after a block is added or taken out.
+-- The queue of one object after a block is added or taken out.
 use Rattle.std.proofs.Common.{◌≡◌, ◌≢◌, ◌⊎◌, ◌+◌, ◌-◌, ◌≤◌, ℕ, List, [], ◌∷◌, ◌++◌, length, Option, Some, None, true, false, cond, eqb, refl, sym, ap, ◌∙◌, inl, inr, arith, length-append}
 use Rattle.std.proofs.lemmas.Bool.{cases_eq, false≢true}
 use Rattle.std.proofs.lemmas.Option.{none-some, some_pair_parts}
@@ -13,16 +13,16 @@ use Rattle.nt_waits.specs.Queue.{next_of, previous_of, owner_of, thread_of, next
 use Rattle.nt_waits.proofs.ChainLemmas.{chain_owner, chain_previous, chain_next, chain_last_in, chain_kept, chain_unlinked, chain_linked, same_test, other_test, other_has}
 
 -- what is walked from the front is the chain
-links_from-chain : (next previous : Option ℕ → Option ℕ) (owner : ℕ → Option (ℕ × ℕ)) (thread : ℕ → ℕ) (handle : ℕ) → ((k t : ℕ) → owner k ≡ Some (t, handle) → thread k ≡ t) → (at : Option ℕ) (ls : List Link) → IsChain next previous owner handle at ls → links_from next thread (length ls) at ≡ ls
-links_from-chain next previous owner thread handle owned at [] chain = refl
-links_from-chain next previous owner thread handle owned at (link ∷ ls) chain =
-    let rest = links_from-chain next previous owner thread handle owned (Some link.number) ls chain.3 in
+links_from-chain : (next previous : Option ℕ → Option ℕ) (owner : ℕ → Option (ℕ × ℕ)) (thread : ℕ → ℕ) (object : ℕ) → ((k t : ℕ) → owner k ≡ Some (t, object) → thread k ≡ t) → (at : Option ℕ) (ls : List Link) → IsChain next previous owner object at ls → links_from next thread (length ls) at ≡ ls
+links_from-chain next previous owner thread object owned at [] chain = refl
+links_from-chain next previous owner thread object owned at (link ∷ ls) chain =
+    let rest = links_from-chain next previous owner thread object owned (Some link.number) ls chain.3 in
     let whose = owned link.number link.thread chain.2 in
     rw (chain.0, rest, whose)
 
-pub owner_of-thread : (block : Option Block) (t handle : ℕ) → owner_of block ≡ Some (t, handle) → thread_of block ≡ t
-owner_of-thread None t handle e = absurd (cc)
-owner_of-thread (Some block) t handle e = (some_pair_parts block.thread t block.handle handle e).0
+pub owner_of-thread : (block : Option Block) (t object : ℕ) → owner_of block ≡ Some (t, object) → thread_of block ≡ t
+owner_of-thread None t object e = absurd (cc)
+owner_of-thread (Some block) t object e = (some_pair_parts block.thread t block.object object e).0
 
 length-without : (number : ℕ) (ls : List Link) → HasNumber ls number → length (without number ls) + 1 ≡ length ls
 length-without number [] has = absurd has
@@ -46,10 +46,10 @@ AreNumbersOnce-without number (link ∷ ls) distinct = elim (eqb link.number num
 ]
 
 -- the walk from the first block gives the queue
-pub links_queue : (blocks : Slab Block) (ends : Ends) (handle : ℕ) (ls : List Link) → IsQueue blocks ends handle ls → links blocks ends ≡ ls
-links_queue blocks ends handle ls queue =
+pub links_queue : (blocks : Slab Block) (ends : Ends) (object : ℕ) (ls : List Link) → IsQueue blocks ends object ls → links blocks ends ≡ ls
+links_queue blocks ends object ls queue =
     let counted = queue.counted in
-    rw (← counted) (links_from-chain (next_at blocks ends) (previous_at blocks ends) (owner_at blocks) (λ number. thread_of (get blocks number)) handle (λ k t. owner_of-thread (get blocks k) t handle) None ls queue.chain)
+    rw (← counted) (links_from-chain (next_at blocks ends) (previous_at blocks ends) (owner_at blocks) (λ number. thread_of (get blocks number)) object (λ k t. owner_of-thread (get blocks k) t object) None ls queue.chain)
 
 owner_of-present : (block : Option Block) (p : ℕ × ℕ) → owner_of block ≡ Some p → IsSome block
 owner_of-present None p e = absurd (cc)
@@ -57,10 +57,10 @@ owner_of-present (Some block) p e = refl
 
 present_by_owner : (block block' : Option Block) → owner_of block' ≡ owner_of block → IsSome block → IsSome block'
 present_by_owner None block' same there = absurd (cc)
-present_by_owner (Some block) block' same there = owner_of-present block' (block.thread, block.handle) same
+present_by_owner (Some block) block' same there = owner_of-present block' (block.thread, block.object) same
 
 thread_by_owner : (block block' : Option Block) → owner_of block' ≡ owner_of block → thread_of block' ≡ thread_of block
-thread_by_owner (Some block) block' same = owner_of-thread block' block.thread block.handle same
+thread_by_owner (Some block) block' same = owner_of-thread block' block.thread block.object same
 thread_by_owner None None same = refl
 thread_by_owner None (Some block') same = absurd (cc)
 
@@ -68,32 +68,32 @@ not_empty : (ls : List Link) (k : ℕ) → HasNumber ls k → 1 ≤ length ls
 not_empty [] k has = absurd has
 not_empty (link ∷ ls) k has = omega arith
 
-module _ (blocks : Slab Block) (ends : Ends) (handle : ℕ) (ls : List Link) (queue : IsQueue blocks ends handle ls) where
-  -- a block of the queue is of its handle
-  pub queue_owner : (k : ℕ) → HasNumber ls k → (thread : ℕ) × (owner_at blocks k ≡ Some (thread, handle))
-  queue_owner k has = chain_owner (next_at blocks ends) (previous_at blocks ends) (owner_at blocks) handle None ls k queue.chain has
+module _ (blocks : Slab Block) (ends : Ends) (object : ℕ) (ls : List Link) (queue : IsQueue blocks ends object ls) where
+  -- a block of the queue is of its object
+  pub queue_owner : (k : ℕ) → HasNumber ls k → (thread : ℕ) × (owner_at blocks k ≡ Some (thread, object))
+  queue_owner k has = chain_owner (next_at blocks ends) (previous_at blocks ends) (owner_at blocks) object None ls k queue.chain has
 
   pub queue_present : (k : ℕ) → HasNumber ls k → ContainsKey blocks k
-  queue_present k has = let whose = queue_owner k has in owner_of-present (get blocks k) (whose.0, handle) whose.1
+  queue_present k has = let whose = queue_owner k has in owner_of-present (get blocks k) (whose.0, object) whose.1
 
   pub queue_previous : (number x : ℕ) → HasNumber ls number → previous_at blocks ends (Some number) ≡ Some x → HasNumber ls x × (x ≢ number)
   queue_previous number x has e =
-      let found = chain_previous (next_at blocks ends) (previous_at blocks ends) (owner_at blocks) handle None ls number x queue.chain queue.distinct (λ k _ f. none-some k f) has e in
+      let found = chain_previous (next_at blocks ends) (previous_at blocks ends) (owner_at blocks) object None ls number x queue.chain queue.distinct (λ k _ f. none-some k f) has e in
       (elim found.0 [ inl start ↦ absurd (none-some x start) | inr within ↦ within ], found.1)
 
   pub queue_next : (number x : ℕ) → HasNumber ls number → next_at blocks ends (Some number) ≡ Some x → HasNumber ls x × (x ≢ number)
-  queue_next number x has e = chain_next (next_at blocks ends) (previous_at blocks ends) (owner_at blocks) handle None ls number x queue.chain queue.distinct has e
+  queue_next number x has e = chain_next (next_at blocks ends) (previous_at blocks ends) (owner_at blocks) object None ls number x queue.chain queue.distinct has e
 
   pub queue_last : (x : ℕ) → ends.last ≡ Some x → HasNumber ls x
-  queue_last x e = elim (chain_last_in (next_at blocks ends) (previous_at blocks ends) (owner_at blocks) handle None ls x queue.chain e) [
+  queue_last x e = elim (chain_last_in (next_at blocks ends) (previous_at blocks ends) (owner_at blocks) object None ls x queue.chain e) [
     | inl start ↦ absurd (none-some x start)
     | inr within ↦ within
   ]
 
   -- a queue none of whose blocks changed
-  pub queue_kept : (blocks' : Slab Block) → ((k : ℕ) → HasNumber ls k → get blocks' k ≡ get blocks k) → IsQueue blocks' ends handle ls
+  pub queue_kept : (blocks' : Slab Block) → ((k : ℕ) → HasNumber ls k → get blocks' k ≡ get blocks k) → IsQueue blocks' ends object ls
   queue_kept blocks' same = record {
-    chain = chain_kept (next_at blocks ends) (previous_at blocks ends) (owner_at blocks) (next_at blocks' ends) (previous_at blocks' ends) (owner_at blocks') handle None ls refl refl (λ k has. (ap next_of (same k has), ap previous_of (same k has), ap owner_of (same k has))) queue.chain;
+    chain = chain_kept (next_at blocks ends) (previous_at blocks ends) (owner_at blocks) (next_at blocks' ends) (previous_at blocks' ends) (owner_at blocks') object None ls refl refl (λ k has. (ap next_of (same k has), ap previous_of (same k has), ap owner_of (same k has))) queue.chain;
     distinct = queue.distinct;
     counted = queue.counted;
   }
@@ -116,8 +116,8 @@ previous_at-ends blocks ends ends' same None = same
 previous_at-ends blocks ends ends' same (Some k) = refl
 
 -- a block is taken out, and then its neighbours are made to name each other
-module _ (old gone : Slab Block) (ends : Ends) (handle : ℕ) (ls : List Link) (number : ℕ) (block : Block)
-    (queue : IsQueue old ends handle ls)
+module _ (old gone : Slab Block) (ends : Ends) (object : ℕ) (ls : List Link) (number : ℕ) (block : Block)
+    (queue : IsQueue old ends object ls)
     (has : HasNumber ls number)
     (was : get old number ≡ Some block)
     (removed : Updates old gone number None) where
@@ -129,13 +129,13 @@ module _ (old gone : Slab Block) (ends : Ends) (handle : ℕ) (ls : List Link) (
 
   pub previous_there : (x : ℕ) → block.previous ≡ Some x → ContainsKey gone x
   previous_there x e =
-      let found = queue_previous old ends handle ls queue number x has (before_is ∙ e) in
-      rw (removed.others x found.1) (queue_present old ends handle ls queue x found.0)
+      let found = queue_previous old ends object ls queue number x has (before_is ∙ e) in
+      rw (removed.others x found.1) (queue_present old ends object ls queue x found.0)
 
   pub next_there : (mid : Slab Block) → ((k : ℕ) → owner_at mid k ≡ owner_at gone k) → (x : ℕ) → block.next ≡ Some x → ContainsKey mid x
   next_there mid owners x e =
-      let found = queue_next old ends handle ls queue number x has (after_is ∙ e) in
-      present_by_owner (get gone x) (get mid x) (owners x) (rw (removed.others x found.1) (queue_present old ends handle ls queue x found.0))
+      let found = queue_next old ends object ls queue number x has (after_is ∙ e) in
+      present_by_owner (get gone x) (get mid x) (owners x) (rw (removed.others x found.1) (queue_present old ends object ls queue x found.0))
 
   -- the thread of the block after is what it was
   pub next_thread : (mid : Slab Block) → ((k : ℕ) → owner_at mid k ≡ owner_at gone k) → option_map (λ k. thread_of (get mid k)) block.next ≡ option_map (λ k. thread_of (get old k)) (next_of (get old number))
@@ -144,7 +144,7 @@ module _ (old gone : Slab Block) (ends : Ends) (handle : ℕ) (ls : List Link) (
       go : (o : Option ℕ) → block.next ≡ o → option_map (λ k. thread_of (get mid k)) o ≡ option_map (λ k. thread_of (get old k)) o
       go None e = refl
       go (Some x) e =
-          let found = queue_next old ends handle ls queue number x has (after_is ∙ e) in
+          let found = queue_next old ends object ls queue number x has (after_is ∙ e) in
           ap Some (thread_by_owner (get gone x) (get mid x) (owners x) ∙ ap thread_of (removed.others x found.1))
 
   module _ (mid new : Slab Block) (ends_mid ends_new ends_last : Ends)
@@ -159,12 +159,12 @@ module _ (old gone : Slab Block) (ends : Ends) (handle : ℕ) (ls : List Link) (
       (first_kept : ends_last.first ≡ ends_new.first)
       (last_kept : ends_last.last ≡ ends_new.last)
       (counted : ends_last.count ≡ ends.count - 1) where
-    pub queue_detached : IsQueue new ends_last handle (without number ls)
+    pub queue_detached : IsQueue new ends_last object (without number ls)
     queue_detached =
         let next_is = next_at-ends new ends_new ends_last first_kept in
         let previous_is = previous_at-ends new ends_new ends_last last_kept in
         record {
-          chain = chain_unlinked (next_at old ends) (previous_at old ends) (owner_at old) (next_at new ends_last) (previous_at new ends_last) (owner_at new) handle number
+          chain = chain_unlinked (next_at old ends) (previous_at old ends) (owner_at old) (next_at new ends_last) (previous_at new ends_last) (owner_at new) object number
               (rw (before_is, after_is) (next_is block.previous ∙ forward block.previous ∙ written))
               (λ x apart differs. next_is x ∙ forward x ∙ others x (λ e. apart (e ∙ sym before_is)) ∙ next_at-update old gone ends number None removed x differs)
               (rw (before_is, after_is) (previous_is block.next ∙ written_back))
@@ -175,12 +175,12 @@ module _ (old gone : Slab Block) (ends : Ends) (handle : ℕ) (ls : List Link) (
           counted = let shorter = length-without number ls has in let long = queue.counted in let some = not_empty ls number has in omega (arith, shorter, long, some, counted);
         }
 
-  -- a block of another handle is none of those that were reached
-  pub detached_elsewhere : (mid new : Slab Block) → ((k : ℕ) → Some k ≢ block.previous → get mid k ≡ get gone k) → ((k : ℕ) → Some k ≢ block.next → get new k ≡ get mid k) → (k : ℕ) → ((thread : ℕ) → owner_at old k ≢ Some (thread, handle)) → get new k ≡ get old k
+  -- a block of another object is none of those that were reached
+  pub detached_elsewhere : (mid new : Slab Block) → ((k : ℕ) → Some k ≢ block.previous → get mid k ≡ get gone k) → ((k : ℕ) → Some k ≢ block.next → get new k ≡ get mid k) → (k : ℕ) → ((thread : ℕ) → owner_at old k ≢ Some (thread, object)) → get new k ≡ get old k
   detached_elsewhere mid new kept kept_again k foreign =
-      let outside : (m : ℕ) → HasNumber ls m → k ≢ m = λ m within e. let whose = queue_owner old ends handle ls queue m within in foreign whose.0 (rw e whose.1) in
-      kept_again k (λ e. outside k (queue_next old ends handle ls queue number k has (after_is ∙ sym e)).0 refl)
-      ∙ kept k (λ e. outside k (queue_previous old ends handle ls queue number k has (before_is ∙ sym e)).0 refl)
+      let outside : (m : ℕ) → HasNumber ls m → k ≢ m = λ m within e. let whose = queue_owner old ends object ls queue m within in foreign whose.0 (rw e whose.1) in
+      kept_again k (λ e. outside k (queue_next old ends object ls queue number k has (after_is ∙ sym e)).0 refl)
+      ∙ kept k (λ e. outside k (queue_previous old ends object ls queue number k has (before_is ∙ sym e)).0 refl)
       ∙ removed.others k (λ e. outside number has e)
 
 AreNumbersOnce-push : (ls : List Link) (link : Link) → (HasNumber ls link.number → ⊥) → AreNumbersOnce ls → AreNumbersOnce (ls ++ link ∷ [])
@@ -195,18 +195,18 @@ AreNumbersOnce-push (first ∷ ls) link fresh distinct =
     HasNumber-push (first ∷ ls) link k (inr later) = elim (HasNumber-push ls link k later) [ inl before ↦ inl (inr before) | inr last ↦ inr last ]
 
 -- a block is put under a new number, and then the last one is made to name it
-module _ (old put : Slab Block) (ends : Ends) (handle thread : ℕ) (ls : List Link) (number : ℕ)
-    (queue : IsQueue old ends handle ls)
+module _ (old put : Slab Block) (ends : Ends) (object thread : ℕ) (ls : List Link) (number : ℕ)
+    (queue : IsQueue old ends object ls)
     (vacant : get old number ≡ None)
-    (stored : Updates old put number (Some (record { thread = thread; handle = handle; previous = ends.last; next = None }))) where
+    (stored : Updates old put number (Some (record { thread = thread; object = object; previous = ends.last; next = None }))) where
   fresh_number : HasNumber ls number → ⊥
-  fresh_number has = let there = queue_present old ends handle ls queue number has in let gone : IsSome {T = Block} None = rw vacant at there in false≢true gone
+  fresh_number has = let there = queue_present old ends object ls queue number has in let gone : IsSome {T = Block} None = rw vacant at there in false≢true gone
 
   last_differs : (x : ℕ) → ends.last ≡ Some x → x ≢ number
-  last_differs x e same = fresh_number (rw same at (queue_last old ends handle ls queue x e))
+  last_differs x e same = fresh_number (rw same at (queue_last old ends object ls queue x e))
 
   pub last_there : (x : ℕ) → ends.last ≡ Some x → ContainsKey put x
-  last_there x e = rw (stored.others x (last_differs x e)) (queue_present old ends handle ls queue x (queue_last old ends handle ls queue x e))
+  last_there x e = rw (stored.others x (last_differs x e)) (queue_present old ends object ls queue x (queue_last old ends object ls queue x e))
 
   module _ (mid : Slab Block) (ends_mid ends_last : Ends)
       (written : next_at mid ends_mid ends.last ≡ Some number)
@@ -216,11 +216,11 @@ module _ (old put : Slab Block) (ends : Ends) (handle thread : ℕ) (ls : List L
       (first_kept : ends_last.first ≡ ends_mid.first)
       (last_is : ends_last.last ≡ Some number)
       (counted : ends_last.count ≡ ends.count + 1) where
-    pub queue_attached : IsQueue mid ends_last handle (ls ++ record { number = number; thread = thread } ∷ [])
+    pub queue_attached : IsQueue mid ends_last object (ls ++ record { number = number; thread = thread } ∷ [])
     queue_attached =
         let next_is = next_at-ends mid ends_mid ends_last first_kept in
         record {
-          chain = chain_linked (next_at old ends) (previous_at old ends) (owner_at old) (next_at mid ends_last) (previous_at mid ends_last) (owner_at mid) handle number thread
+          chain = chain_linked (next_at old ends) (previous_at old ends) (owner_at old) (next_at mid ends_last) (previous_at mid ends_last) (owner_at mid) object number thread
               (next_is ends.last ∙ written)
               (next_is (Some number) ∙ others (Some number) (λ e. last_differs number (sym e) refl) ∙ ap next_of stored.changed)
               (λ x apart differs. next_is x ∙ others x apart ∙ next_at-update old put ends number _ stored x differs)
@@ -234,7 +234,7 @@ module _ (old put : Slab Block) (ends : Ends) (handle thread : ℕ) (ls : List L
           counted = let long = queue.counted in let pushed = length-append ls (record { number = number; thread = thread } ∷ []) in omega (arith, long, pushed, counted);
         }
 
-  pub attached_elsewhere : (mid : Slab Block) → ((k : ℕ) → Some k ≢ ends.last → get mid k ≡ get put k) → (k : ℕ) → k ≢ number → ((t : ℕ) → owner_at old k ≢ Some (t, handle)) → get mid k ≡ get old k
+  pub attached_elsewhere : (mid : Slab Block) → ((k : ℕ) → Some k ≢ ends.last → get mid k ≡ get put k) → (k : ℕ) → k ≢ number → ((t : ℕ) → owner_at old k ≢ Some (t, object)) → get mid k ≡ get old k
   attached_elsewhere mid kept k differs foreign =
-      kept k (λ e. let whose = queue_owner old ends handle ls queue k (queue_last old ends handle ls queue k (sym e)) in foreign whose.0 whose.1)
+      kept k (λ e. let whose = queue_owner old ends object ls queue k (queue_last old ends object ls queue k (sym e)) in foreign whose.0 whose.1)
       ∙ stored.others k differs

@@ -1,4 +1,4 @@
--- One handle more is linked or unlinked.
+-- One object more is linked or unlinked.
 use Rattle.std.proofs.Common.{◌≡◌, ◌≢◌, ◌∙◌, ◌<◌, ◌≤◌, ◌+◌, ◌*◌, ℕ, List, [], ◌∷◌, ◌++◌, length, get_or, set, refl, sym, inl, inr, arith}
 use Rattle.std.proofs.lemmas.Bool.{cases_eq, eq-eqb, false≢true}
 use Rattle.std.proofs.lemmas.Map.Keys.{apart_from_distinct}
@@ -12,78 +12,78 @@ use Rattle.nt_waits.specs.Queues.{Lists, list_at}
 use Rattle.nt_waits.specs.Steps.{IsOutside, AreUnlinked, AreLinked}
 use Rattle.nt_waits.proofs.SoundLemmas.{listed_within}
 
--- distinct handles differ at any two places
-differ : (handles : List ℕ) (i j : ℕ) → IsDistinct nat_eq handles → i < j → j < length handles → get_or handles i 0 ≢ get_or handles j 0
-differ handles i j distinct before within same = false≢true (sym (apart_from_distinct nat_eq handles i j 0 distinct before within) ∙ eq-eqb _ _ same)
+-- distinct objects differ at any two places
+differ : (objects : List ℕ) (i j : ℕ) → IsDistinct nat_eq objects → i < j → j < length objects → get_or objects i 0 ≢ get_or objects j 0
+differ objects i j distinct before within same = false≢true (sym (apart_from_distinct nat_eq objects i j 0 distinct before within) ∙ eq-eqb _ _ same)
 
-pub record UnlinkedSoFar (old new : Lists) (handles numbers : List ℕ) (count : ℕ) : Type 0 where
-  pub unlinked : AreUnlinked old new handles numbers count
+pub record UnlinkedSoFar (old new : Lists) (objects numbers : List ℕ) (count : ℕ) : Type 0 where
+  pub unlinked : AreUnlinked old new objects numbers count
   pub distinct : (h : ℕ) → AreNumbersOnce (list_at new h)
   pub at_least : count ≤ new.touched
   pub at_most : new.touched ≤ 3 * count
   pub used : new.used ≤ old.used
   pub capacity : new.capacity ≡ old.capacity
-  pub handle_room : new.handle_room ≡ old.handle_room
+  pub object_room : new.object_room ≡ old.object_room
 
-module _ (old now new : Lists) (handles numbers : List ℕ) (i : ℕ)
-    (apart : IsDistinct nat_eq handles)
-    (within : i < length handles) where
-  -- the handle at i is none of the earlier ones
-  outside_yet : IsOutside handles i (get_or handles i 0)
-  outside_yet j below = differ handles j i apart below within
+module _ (old now new : Lists) (objects numbers : List ℕ) (i : ℕ)
+    (apart : IsDistinct nat_eq objects)
+    (within : i < length objects) where
+  -- the object at i is none of the earlier ones
+  outside_yet : IsOutside objects i (get_or objects i 0)
+  outside_yet j below = differ objects j i apart below within
 
-  pub unlinked_more : AreUnlinked old now handles numbers i
-      → HasNumber (list_at old (get_or handles i 0)) (get_or numbers i 0)
-      → new.lists ≡ set now.lists (get_or handles i 0) (without (get_or numbers i 0) (list_at now (get_or handles i 0)))
-      → AreUnlinked old new handles numbers (i + 1)
+  pub unlinked_more : AreUnlinked old now objects numbers i
+      → HasNumber (list_at old (get_or objects i 0)) (get_or numbers i 0)
+      → new.lists ≡ set now.lists (get_or objects i 0) (without (get_or numbers i 0) (list_at now (get_or objects i 0)))
+      → AreUnlinked old new objects numbers (i + 1)
   unlinked_more before has written =
-      let same = before.others (get_or handles i 0) outside_yet in
-      let there : HasNumber (list_at now (get_or handles i 0)) (get_or numbers i 0) = rw same has in
-      let listed = listed_within now.lists (get_or handles i 0) (get_or numbers i 0) there in
-      let here : list_at new (get_or handles i 0) ≡ without (get_or numbers i 0) (list_at old (get_or handles i 0)) =
-      rw (written, get_or-set_same now.lists (get_or handles i 0) (without (get_or numbers i 0) (list_at now (get_or handles i 0))) [] listed, same) refl in
+      let same = before.others (get_or objects i 0) outside_yet in
+      let there : HasNumber (list_at now (get_or objects i 0)) (get_or numbers i 0) = rw same has in
+      let listed = listed_within now.lists (get_or objects i 0) (get_or numbers i 0) there in
+      let here : list_at new (get_or objects i 0) ≡ without (get_or numbers i 0) (list_at old (get_or objects i 0)) =
+      rw (written, get_or-set_same now.lists (get_or objects i 0) (without (get_or numbers i 0) (list_at now (get_or objects i 0))) [] listed, same) refl in
       record {
         done = λ j below. elim (cases_eq j i) [
           | inl last ↦ rw last here
-          | inr earlier ↦ let below_i : j < i = omega arith in rw (written, get_or-set_other now.lists (get_or handles i 0) (get_or handles j 0) (without (get_or numbers i 0) (list_at now (get_or handles i 0))) [] (differ handles j i apart below_i within)) (before.done j below_i)
+          | inr earlier ↦ let below_i : j < i = omega arith in rw (written, get_or-set_other now.lists (get_or objects i 0) (get_or objects j 0) (without (get_or numbers i 0) (list_at now (get_or objects i 0))) [] (differ objects j i apart below_i within)) (before.done j below_i)
         ];
-        others = λ handle outside. rw (written, get_or-set_other now.lists (get_or handles i 0) handle (without (get_or numbers i 0) (list_at now (get_or handles i 0))) [] (λ e. outside i (omega arith) (sym e))) (before.others handle (λ j below. outside j (omega arith)));
+        others = λ object outside. rw (written, get_or-set_other now.lists (get_or objects i 0) object (without (get_or numbers i 0) (list_at now (get_or objects i 0))) [] (λ e. outside i (omega arith) (sym e))) (before.others object (λ j below. outside j (omega arith)));
       }
 
-  -- the queue of the next handle is as it was
-  pub next_linked : AreUnlinked old now handles numbers i → HasNumber (list_at old (get_or handles i 0)) (get_or numbers i 0) → HasNumber (list_at now (get_or handles i 0)) (get_or numbers i 0)
-  next_linked before has = rw (before.others (get_or handles i 0) outside_yet) has
+  -- the queue of the next object is as it was
+  pub next_linked : AreUnlinked old now objects numbers i → HasNumber (list_at old (get_or objects i 0)) (get_or numbers i 0) → HasNumber (list_at now (get_or objects i 0)) (get_or numbers i 0)
+  next_linked before has = rw (before.others (get_or objects i 0) outside_yet) has
 
-pub record LinkedSoFar (old new : Lists) (thread : ℕ) (handles numbers : List ℕ) (count : ℕ) : Type 0 where
-  pub linked : AreLinked old new thread handles numbers count
+pub record LinkedSoFar (old new : Lists) (thread : ℕ) (objects numbers : List ℕ) (count : ℕ) : Type 0 where
+  pub linked : AreLinked old new thread objects numbers count
   pub distinct : (h : ℕ) → AreNumbersOnce (list_at new h)
-  pub numbered : length numbers ≡ length handles
-  pub same_handles : length new.lists ≡ length old.lists
+  pub numbered : length numbers ≡ length objects
+  pub same_objects : length new.lists ≡ length old.lists
   pub used : new.used ≡ old.used + count
   pub capacity : new.capacity ≡ old.capacity
   pub touched : new.touched ≡ old.touched
 
-module _ (old now new : Lists) (thread : ℕ) (handles numbers : List ℕ) (i number : ℕ)
-    (apart : IsDistinct nat_eq handles)
-    (within : i < length handles)
-    (numbered : length numbers ≡ length handles)
-    (there : get_or handles i 0 < length now.lists) where
-  pub linked_more : AreLinked old now thread handles numbers i
-      → new.lists ≡ set now.lists (get_or handles i 0) (list_at now (get_or handles i 0) ++ record { number = number; thread = thread } ∷ [])
-      → AreLinked old new thread handles (set numbers i number) (i + 1)
+module _ (old now new : Lists) (thread : ℕ) (objects numbers : List ℕ) (i number : ℕ)
+    (apart : IsDistinct nat_eq objects)
+    (within : i < length objects)
+    (numbered : length numbers ≡ length objects)
+    (there : get_or objects i 0 < length now.lists) where
+  pub linked_more : AreLinked old now thread objects numbers i
+      → new.lists ≡ set now.lists (get_or objects i 0) (list_at now (get_or objects i 0) ++ record { number = number; thread = thread } ∷ [])
+      → AreLinked old new thread objects (set numbers i number) (i + 1)
   linked_more before written =
-      let added = list_at now (get_or handles i 0) ++ record { number = number; thread = thread } ∷ [] in
-      let same = before.others (get_or handles i 0) (λ j below. differ handles j i apart below within) in
-      let here : list_at new (get_or handles i 0) ≡ list_at old (get_or handles i 0) ++ record { number = number; thread = thread } ∷ [] =
-      rw (written, get_or-set_same now.lists (get_or handles i 0) added [] there, same) refl in
+      let added = list_at now (get_or objects i 0) ++ record { number = number; thread = thread } ∷ [] in
+      let same = before.others (get_or objects i 0) (λ j below. differ objects j i apart below within) in
+      let here : list_at new (get_or objects i 0) ≡ list_at old (get_or objects i 0) ++ record { number = number; thread = thread } ∷ [] =
+      rw (written, get_or-set_same now.lists (get_or objects i 0) added [] there, same) refl in
       record {
         done = λ j below. elim (cases_eq j i) [
           | inl last ↦ rw (last, get_or-set_same numbers i number 0 (omega (arith, numbered, within))) here
           | inr earlier ↦
               let below_i : j < i = omega arith in
-              rw (written, get_or-set_other now.lists (get_or handles i 0) (get_or handles j 0) added [] (differ handles j i apart below_i within), get_or-set_other numbers i j number 0 earlier) (before.done j below_i)
+              rw (written, get_or-set_other now.lists (get_or objects i 0) (get_or objects j 0) added [] (differ objects j i apart below_i within), get_or-set_other numbers i j number 0 earlier) (before.done j below_i)
         ];
-        others = λ handle outside. rw (written, get_or-set_other now.lists (get_or handles i 0) handle added [] (λ e. outside i (omega arith) (sym e))) (before.others handle (λ j below. outside j (omega arith)));
+        others = λ object outside. rw (written, get_or-set_other now.lists (get_or objects i 0) object added [] (λ e. outside i (omega arith) (sym e))) (before.others object (λ j below. outside j (omega arith)));
       }
 
 -- a list that is written over whole, by one that is as long

@@ -79,12 +79,12 @@ link_of_thread (first ∷ ls) a b once (inl here) (inr there) same = absurd (dis
 link_of_thread (first ∷ ls) a b once (inr here) (inl there) same = absurd (distinct_first first.thread (threads ls) once (rw (ap (λ l. l.thread) there, ← same) (Contains-link ls a here)))
 link_of_thread (first ∷ ls) a b once (inr here) (inr there) same = link_of_thread ls a b (IsDistinct-tail nat_eq first.thread (threads ls) once) here there same
 
--- one of the first handles is this one, or none is
-pub find_place : (handles : List ℕ) (count handle : ℕ) → ((j : ℕ) × (j < count) × (get_or handles j 0 ≡ handle)) ⊎ IsOutside handles count handle
-find_place handles zero handle = inr (λ j below. absurd (omega arith))
-find_place handles (suc count) handle = elim (cases_eq (get_or handles count 0) handle) [
+-- one of the first objects is this one, or none is
+pub find_place : (objects : List ℕ) (count object : ℕ) → ((j : ℕ) × (j < count) × (get_or objects j 0 ≡ object)) ⊎ IsOutside objects count object
+find_place objects zero object = inr (λ j below. absurd (omega arith))
+find_place objects (suc count) object = elim (cases_eq (get_or objects count 0) object) [
   | inl here ↦ inl (count, omega arith, here)
-  | inr not_here ↦ elim (find_place handles count handle) [
+  | inr not_here ↦ elim (find_place objects count object) [
     | inl found ↦ inl (found.0, omega (arith, found.1), found.2)
     | inr outside ↦ inr (λ j below. elim (cases_eq j count) [ inl last ↦ rw last not_here | inr earlier ↦ outside j (omega arith) ])
   ]
@@ -97,8 +97,8 @@ slot_within slots thread there = elim (cases_lt thread (length slots)) [
 ]
 
 -- the counts of the queues changed before
-pub unlinked_from : (old mid new : Lists) (handles numbers : List ℕ) (count : ℕ) → mid.lists ≡ old.lists → AreUnlinked mid new handles numbers count → AreUnlinked old new handles numbers count
-unlinked_from old mid new handles numbers count same unlinked = record {
+pub unlinked_from : (old mid new : Lists) (objects numbers : List ℕ) (count : ℕ) → mid.lists ≡ old.lists → AreUnlinked mid new objects numbers count → AreUnlinked old new objects numbers count
+unlinked_from old mid new objects numbers count same unlinked = record {
   done = λ j below. rw (← same) (unlinked.done j below);
   others = λ h outside. rw (← same) (unlinked.others h outside);
 }
@@ -106,14 +106,14 @@ unlinked_from old mid new handles numbers count same unlinked = record {
 module _ (old new : Lists) (slots : List (Option Pending)) (thread : ℕ) (pending : Pending)
     (table : IsTable old slots)
     (there : slot_at slots thread ≡ Some pending)
-    (unlinked : AreUnlinked old new pending.wait.handles pending.numbers.items (length pending.wait.handles))
+    (unlinked : AreUnlinked old new pending.wait.objects pending.numbers.items (length pending.wait.objects))
     (distinct : (h : ℕ) → AreNumbersOnce (list_at new h)) where
   mine : IsLinked old thread pending
   mine = table.linked thread pending there
 
-  -- the queue of each handle: one block less where the wait names it, and as it was elsewhere
-  queue_cases : (h : ℕ) → ((j : ℕ) × (j < length pending.wait.handles) × (get_or pending.wait.handles j 0 ≡ h) × (list_at new h ≡ without (get_or pending.numbers.items j 0) (list_at old h)) × HasLink (list_at old h) (record { number = get_or pending.numbers.items j 0; thread = thread })) ⊎ ((list_at new h ≡ list_at old h) × (Contains (threads (list_at old h)) thread → ⊥))
-  queue_cases h = elim (find_place pending.wait.handles (length pending.wait.handles) h) [
+  -- the queue of each object: one block less where the wait names it, and as it was elsewhere
+  queue_cases : (h : ℕ) → ((j : ℕ) × (j < length pending.wait.objects) × (get_or pending.wait.objects j 0 ≡ h) × (list_at new h ≡ without (get_or pending.numbers.items j 0) (list_at old h)) × HasLink (list_at old h) (record { number = get_or pending.numbers.items j 0; thread = thread })) ⊎ ((list_at new h ≡ list_at old h) × (Contains (threads (list_at old h)) thread → ⊥))
+  queue_cases h = elim (find_place pending.wait.objects (length pending.wait.objects) h) [
     | inl found ↦ inl (found.0, found.1, found.2, rw (← found.2) (unlinked.done found.0 found.1), rw (← found.2) (mine.linked found.0 found.1))
     | inr outside ↦ inr (
       unlinked.others h outside,
@@ -147,9 +147,9 @@ module _ (old new : Lists) (slots : List (Option Pending)) (thread : ℕ) (pendi
     same_length = was.same_length;
     few = was.few;
     apart = was.apart;
-    linked = λ j below. elim (queue_cases (get_or p.wait.handles j 0)) [
-      | inl named ↦ rw named.3 (HasLink-stays (get_or pending.numbers.items named.0 0) (list_at old (get_or p.wait.handles j 0)) (record { number = get_or p.numbers.items j 0; thread = t })
-          (λ e. differs (ap (λ l. l.thread) (link_of_number (list_at old (get_or p.wait.handles j 0)) (record { number = get_or p.numbers.items j 0; thread = t }) (record { number = get_or pending.numbers.items named.0 0; thread = thread }) (table.distinct (get_or p.wait.handles j 0)) (was.linked j below) named.4 e)))
+    linked = λ j below. elim (queue_cases (get_or p.wait.objects j 0)) [
+      | inl named ↦ rw named.3 (HasLink-stays (get_or pending.numbers.items named.0 0) (list_at old (get_or p.wait.objects j 0)) (record { number = get_or p.numbers.items j 0; thread = t })
+          (λ e. differs (ap (λ l. l.thread) (link_of_number (list_at old (get_or p.wait.objects j 0)) (record { number = get_or p.numbers.items j 0; thread = t }) (record { number = get_or pending.numbers.items named.0 0; thread = thread }) (table.distinct (get_or p.wait.objects j 0)) (was.linked j below) named.4 e)))
           (was.linked j below))
       | inr kept ↦ rw kept.0 (was.linked j below)
     ];

@@ -52,7 +52,7 @@ waits-removed slots t within = finmap.same_map nat_cmp_total finmap.nat_cmp-IsAn
       | inr differs ↦ rw (get_or-set_other slots t q None None differs) (sym (finmap.get-remove nat_cmp_total (finmap.from_entries {R = nat_cmp} (waits_from 0 slots)) t q ∙ rw (untied q t differs) (get-waits slots q)))
     ])
 
--- the queue of a handle in the view
+-- the queue of an object in the view
 pub get_or-threads : (lists : List (List Link)) (h : ℕ) → get_or (map threads lists) h [] ≡ threads (get_or lists h [])
 get_or-threads [] h = refl
 get_or-threads (ls ∷ lists) zero = refl

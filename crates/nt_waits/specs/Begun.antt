@@ -6,9 +6,9 @@ use Rattle.nt_waits.specs.Queues.{Lists, list_at}
 use Rattle.nt_waits.specs.Table.{threads, slot_at}
 use Rattle.nt_waits.specs.Waits.{Names}
 
--- the wait stands in its thread's place, and the thread last in the queue of each handle that the wait names; the other places and queues are as they were
+-- the wait stands in its thread's place, and the thread last in the queue of each object that the wait names; the other places and queues are as they were
 pub record IsBegun (old : Lists) (slots : List (Option Pending)) (new : Lists) (slots' : List (Option Pending)) (thread : ℕ) (wait : Wait) : Type 0 where
   pub placed : (p : Pending) × (slot_at slots' thread ≡ Some p) × (p.wait ≡ wait)
   pub others : (t : ℕ) → t ≢ thread → slot_at slots' t ≡ slot_at slots t
-  pub joined : (handle : ℕ) → Names wait handle → threads (list_at new handle) ≡ threads (list_at old handle) ++ thread ∷ []
-  pub kept : (handle : ℕ) → (Names wait handle → ⊥) → list_at new handle ≡ list_at old handle
+  pub joined : (object : ℕ) → Names wait object → threads (list_at new object) ≡ threads (list_at old object) ++ thread ∷ []
+  pub kept : (object : ℕ) → (Names wait object → ⊥) → list_at new object ≡ list_at old object

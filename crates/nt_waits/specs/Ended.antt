@@ -9,7 +9,7 @@ use Rattle.nt_waits.specs.Waits.{others}
 pub record IsEnded (old : Lists) (slots : List (Option Pending)) (new : Lists) (slots' : List (Option Pending)) (thread : ℕ) : Type 0 where
   pub table : IsTable new slots'
   pub emptied : slots' ≡ slice_set slots thread None
-  pub queues : (handle : ℕ) → threads (list_at new handle) ≡ others thread (threads (list_at old handle))
+  pub queues : (object : ℕ) → threads (list_at new object) ≡ others thread (threads (list_at old object))
   pub used : new.used ≤ old.used
   pub capacity : new.capacity ≡ old.capacity
-  pub handle_room : new.handle_room ≡ old.handle_room
+  pub object_room : new.object_room ≡ old.object_room

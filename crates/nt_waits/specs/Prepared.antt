@@ -11,13 +11,13 @@ abbrev pub prepared_where : Bool → Prepared → Option Prepared
 prepared_where false wait = None
 prepared_where true wait = Some wait
 
--- the thread and its wait for one handle, if there is one
+-- the thread and its wait for one object, if there is one
 abbrev pub shown : Option Prepared → Option (ℕ × Wait)
-shown prepared = option_map (λ p. (p.thread, wait_for (p.handle ∷ []) false p.about)) prepared
+shown prepared = option_map (λ p. (p.thread, wait_for (p.object ∷ []) false p.about)) prepared
 
--- the wait can begin with no allocation: its block, its handle, its thread and its deadline have room
+-- the wait can begin with no allocation: its block, its object, its thread and its deadline have room
 pub record IsReady (queues : Lists) (places alarms : ℕ) (p : Prepared) : Type 0 where
   pub block : HasRoomFor queues 1
-  pub handle : p.handle + 1 ≤ queues.handle_room
+  pub object : p.object + 1 ≤ queues.object_room
   pub place : p.thread < places
   pub alarm : IsSome p.about.deadline → p.thread < alarms

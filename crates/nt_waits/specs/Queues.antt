@@ -2,17 +2,17 @@
 use Rattle.std.specs.Prelude.{◌≡◌, ℕ, ◌+◌, ◌≤◌, List, [], slice_index_or}
 use Rattle.nt_waits.specs.Link.{Link}
 
--- the links of each handle, how many blocks there are and fit, for how many handles there is room, and how many blocks were reached
+-- the links of each object, how many blocks there are and fit, for how many objects there is room, and how many blocks were reached
 pub record Lists : Type 0 where
   pub lists : List (List Link)
   pub used : ℕ
   pub capacity : ℕ
-  pub handle_room : ℕ
+  pub object_room : ℕ
   pub touched : ℕ
 
--- the links of a handle, in the order in which they were made
+-- the links of an object, in the order in which they were made
 abbrev pub list_at : Lists → ℕ → List Link
-list_at queues handle = slice_index_or queues.lists handle []
+list_at queues object = slice_index_or queues.lists object []
 
 -- only room has changed, and none is lost
 pub record OnlyGrows (old new : Lists) : Type 0 where
@@ -20,7 +20,7 @@ pub record OnlyGrows (old new : Lists) : Type 0 where
   pub used : new.used ≡ old.used
   pub touched : new.touched ≡ old.touched
   pub capacity : old.capacity ≤ new.capacity
-  pub handle_room : old.handle_room ≤ new.handle_room
+  pub object_room : old.object_room ≤ new.object_room
 
 -- so many blocks fit with no allocation
 abbrev pub HasRoomFor : Lists → ℕ → Type 0

@@ -23,15 +23,15 @@ IsFilled old new thread wait slot =
     (p : Pending)
     × (slot ≡ Some p)
     × (p.wait ≡ wait)
-    × (length p.numbers.items ≡ length wait.handles)
-    × AreLinked old new thread wait.handles p.numbers.items (length wait.handles)
+    × (length p.numbers.items ≡ length wait.objects)
+    × AreLinked old new thread wait.objects p.numbers.items (length wait.objects)
 
 -- the blocks of this wait have left their queues
 pub record IsUnlinked (old new : Lists) (p : Pending) : Type 0 where
-  pub unlinked : AreUnlinked old new p.wait.handles p.numbers.items (length p.wait.handles)
-  pub distinct : (handle : ℕ) → AreNumbersOnce (list_at new handle)
+  pub unlinked : AreUnlinked old new p.wait.objects p.numbers.items (length p.wait.objects)
+  pub distinct : (object : ℕ) → AreNumbersOnce (list_at new object)
   pub used : new.used ≤ old.used
   pub capacity : new.capacity ≡ old.capacity
-  pub handle_room : new.handle_room ≡ old.handle_room
-  pub at_least : length p.wait.handles ≤ new.touched
-  pub at_most : new.touched ≤ 3 * length p.wait.handles
+  pub object_room : new.object_room ≡ old.object_room
+  pub at_least : length p.wait.objects ≤ new.touched
+  pub at_most : new.touched ≤ 3 * length p.wait.objects

@@ -9,10 +9,10 @@ use Rattle.nt_waits.specs.declared.block.Ends.{Ends}
 abbrev pub no_ends : Ends
 no_ends = record { first = None; last = None; count = 0 }
 
--- the ends of a handle; those of an empty queue past the last handle
+-- the ends of an object; those of an empty queue past the last object
 abbrev pub ends_at : List Ends → ℕ → Ends
-ends_at ends handle = slice_index_or ends handle no_ends
+ends_at ends object = slice_index_or ends object no_ends
 
--- between the ends of each handle lies the queue of this handle
+-- between the ends of each object lies the queue of this object
 abbrev pub IsSound : Slab Block → List Ends → Type 0
-IsSound blocks ends = (handle : ℕ) → IsQueue blocks (ends_at ends handle) handle (links blocks (ends_at ends handle))
+IsSound blocks ends = (object : ℕ) → IsQueue blocks (ends_at ends object) object (links blocks (ends_at ends object))

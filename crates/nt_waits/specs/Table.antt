@@ -38,19 +38,19 @@ waits_from thread (Some pending ∷ slots) = (thread, pending.wait) ∷ waits_fr
 abbrev pub waits_of : List (Option Pending) → map.FinMap nat_cmp Wait
 waits_of slots = map.from_entries (waits_from 0 slots)
 
--- each handle of the wait has one block of the thread, under the number that the wait keeps
+-- each object of the wait has one block of the thread, under the number that the wait keeps
 pub record IsLinked (queues : Lists) (thread : ℕ) (pending : Pending) : Type 0 where
-  pub same_length : length pending.numbers.items ≡ length pending.wait.handles
-  pub few : length pending.wait.handles ≤ MAX_WAIT_OBJECTS
-  pub apart : IsDistinct nat_eq pending.wait.handles
-  pub linked : (j : ℕ) → j < length pending.wait.handles → HasLink (list_at queues (slice_index pending.wait.handles j)) (record { number = slice_index pending.numbers.items j; thread = thread })
+  pub same_length : length pending.numbers.items ≡ length pending.wait.objects
+  pub few : length pending.wait.objects ≤ MAX_WAIT_OBJECTS
+  pub apart : IsDistinct nat_eq pending.wait.objects
+  pub linked : (j : ℕ) → j < length pending.wait.objects → HasLink (list_at queues (slice_index pending.wait.objects j)) (record { number = slice_index pending.numbers.items j; thread = thread })
 
 -- blocks and waits name each other
 pub record IsTable (queues : Lists) (slots : List (Option Pending)) : Type 0 where
   pub linked : (thread : ℕ) (pending : Pending) → slot_at slots thread ≡ Some pending → IsLinked queues thread pending
-  pub owned : (handle : ℕ) (link : Link) → HasLink (list_at queues handle) link → (pending : Pending) × (slot_at slots link.thread ≡ Some pending) × Names pending.wait handle
-  pub distinct : (handle : ℕ) → AreNumbersOnce (list_at queues handle)
-  pub once : (handle : ℕ) → IsDistinct nat_eq (threads (list_at queues handle))
+  pub owned : (object : ℕ) (link : Link) → HasLink (list_at queues object) link → (pending : Pending) × (slot_at slots link.thread ≡ Some pending) × Names pending.wait object
+  pub distinct : (object : ℕ) → AreNumbersOnce (list_at queues object)
+  pub once : (object : ℕ) → IsDistinct nat_eq (threads (list_at queues object))
   pub small : length slots ≤ 65536
 
 -- blocks and waits name each other, the waits are counted, the alarm of each thread is the deadline of its wait, and a prepared wait has its room

@@ -7,7 +7,7 @@ use Rattle.std.specs.List.{IsDistinct}
 use Rattle.nt_waits.specs.declared.wait.About.{About}
 use Rattle.nt_waits.specs.declared.wait.Wait.{Wait}
 
--- the pending waits by thread; by handle number the threads that wait on it, in the order in which their waits began; the looks since the count was last set to 0; the blocks that the last end reached; the wait that is prepared, with its thread
+-- the pending waits by thread; by object number the threads that wait on it, in the order in which their waits began; the looks since the count was last set to 0; the blocks that the last end reached; the wait that is prepared, with its thread
 pub record Waits : Type 0 where
   pub pending : map.FinMap nat_cmp Wait
   pub queues : List (List ℕ)
@@ -20,8 +20,8 @@ abbrev pub wait_code : Coded Wait
 wait_code =
     code_by (List ℕ × (Bool × (Bool × Option ℕ)))
     (coded× (coded_list coded_ℕ) (coded× coded_bool (coded× coded_bool (coded_option coded_ℕ))))
-    (λ w. (w.handles, (w.all, (w.alertable, w.deadline))))
-    (λ p. record { handles = p.0; all = p.1.0; alertable = p.1.1.0; deadline = p.1.1.1 })
+    (λ w. (w.objects, (w.all, (w.alertable, w.deadline))))
+    (λ p. record { objects = p.0; all = p.1.0; alertable = p.1.1.0; deadline = p.1.1.1 })
     (λ _. refl)
 
 -- a table is stored as the tuple of its fields
@@ -37,9 +37,9 @@ waits_code =
 abbrev pub wait_of : Waits → ℕ → Option Wait
 wait_of table thread = map.get table.pending thread
 
--- the threads that wait on a handle, in the order in which their waits began
+-- the threads that wait on an object, in the order in which their waits began
 abbrev pub queue_of : Waits → ℕ → List ℕ
-queue_of table handle = slice_index_or table.queues handle []
+queue_of table object = slice_index_or table.queues object []
 
 -- the queue without this thread, in the same order
 abbrev pub others : ℕ → List ℕ → List ℕ
@@ -51,46 +51,51 @@ abbrev pub next_after : ℕ → List ℕ → Option ℕ
 next_after thread [] = None
 next_after thread (first ∷ queue) = if first == thread then slice_get queue 0 else next_after thread queue
 
--- the wait names the handle
+-- the wait names the object
 abbrev pub Names : Wait → ℕ → Type 0
-Names wait handle = (j : ℕ) × (j < length wait.handles) × (slice_index wait.handles j ≡ handle)
+Names wait object = (j : ℕ) × (j < length wait.objects) × (slice_index wait.objects j ≡ object)
 
--- a thread stands in the queue of a handle exactly where its pending wait names it, and once
+-- a thread stands in the queue of an object exactly where its pending wait names it, and once
 pub record Agrees (pending : map.FinMap nat_cmp Wait) (queues : List (List ℕ)) : Type 0 where
-  pub listed : (thread handle : ℕ) (wait : Wait) → map.get pending thread ≡ Some wait → Names wait handle → Contains (slice_index_or queues handle []) thread
-  pub named : (thread handle : ℕ) → Contains (slice_index_or queues handle []) thread → (wait : Wait) × (map.get pending thread ≡ Some wait) × Names wait handle
-  pub once : (handle : ℕ) → IsDistinct nat_eq (slice_index_or queues handle [])
+  pub listed : (thread object : ℕ) (wait : Wait) → map.get pending thread ≡ Some wait → Names wait object → Contains (slice_index_or queues object []) thread
+  pub named : (thread object : ℕ) → Contains (slice_index_or queues object []) thread → (wait : Wait) × (map.get pending thread ≡ Some wait) × Names wait object
+  pub once : (object : ℕ) → IsDistinct nat_eq (slice_index_or queues object [])
 
--- the thread's wait pends from now on, last in the queue of each handle that it names, and no wait is prepared any more
+-- the thread's wait pends from now on, last in the queue of each object that it names, and no wait is prepared any more
 pub record Begins (old new : Waits) (thread : ℕ) (wait : Wait) : Type 0 where
   pub pending : new.pending ≡ map.insert old.pending thread wait
-  pub joined : (handle : ℕ) → Names wait handle → queue_of new handle ≡ queue_of old handle ++ thread ∷ []
-  pub queues_kept : (handle : ℕ) → (Names wait handle → ⊥) → queue_of new handle ≡ queue_of old handle
+  pub joined : (object : ℕ) → Names wait object → queue_of new object ≡ queue_of old object ++ thread ∷ []
+  pub queues_kept : (object : ℕ) → (Names wait object → ⊥) → queue_of new object ≡ queue_of old object
   pub looked : new.looked ≡ old.looked
   pub touched : new.touched ≡ old.touched
   pub prepared : new.prepared ≡ None
 
--- the wait for these handles, for all of them or for one, with what is told of it without a look
+-- the wait for these objects, for all of them or for one, with what is told of it without a look
 abbrev pub wait_for : List ℕ → Bool → About → Wait
-wait_for handles all about = record { handles = handles; all = all; alertable = about.alertable; deadline = about.deadline }
+wait_for objects all about = record { objects = objects; all = all; alertable = about.alertable; deadline = about.deadline }
 
 -- what of a wait is told without a look
 abbrev pub about_of : Wait → About
 about_of wait = record { alertable = wait.alertable; deadline = wait.deadline }
 
--- the one handle of this list, where it has one alone, and this answer
+-- the one object of this list, where it has one alone, and this answer
 abbrev pub only_among : List ℕ → Bool → Option (ℕ × Bool)
-only_among (handle ∷ []) all = Some (handle, all)
-only_among handles all = None
+only_among (object ∷ []) all = Some (object, all)
+only_among objects all = None
 
--- the handle of a wait that names one alone, and whether the wait is for all
+-- the object of a wait that names one alone, and whether the wait is for all
 abbrev pub only_of : Wait → Option (ℕ × Bool)
-only_of wait = only_among wait.handles wait.all
+only_of wait = only_among wait.objects wait.all
+
+-- 1 where a look told the object of a wait that names one alone
+abbrev pub one_for : Option (ℕ × Bool) → ℕ
+one_for None = 0
+one_for (Some only) = 1
 
 -- an end of this wait reaches its own blocks, and at most two beside each of them
 pub record IsTouched (wait : Wait) (touched : ℕ) : Type 0 where
-  pub at_least : length wait.handles ≤ touched
-  pub at_most : touched ≤ 3 * length wait.handles
+  pub at_least : length wait.objects ≤ touched
+  pub at_most : touched ≤ 3 * length wait.objects
 
 -- one more, but the count stops at the greatest u64
 abbrev pub counted_once : ℕ → ℕ

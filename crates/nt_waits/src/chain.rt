@@ -1,4 +1,4 @@
-//! The queue of one handle: a chain of blocks.
+//! The queue of one object: a chain of blocks.
 ghost use Rattle.std.specs.Prelude.{◌≡◌, ◌≢◌, ℕ, ◌+◌, ◌<◌, ◌≤◌, ◌^◌, ◌++◌, ◌∷◌, [], Option, Some, None, vec_len, vec_capacity};
 ghost use Rattle.nt_waits.specs.Sound.{ends_at};
 ghost use Rattle.std.specs.Option.{ForSome, option_map};
@@ -7,7 +7,7 @@ ghost use Rattle.nt_waits.specs.Queue.{changed, removed_by, next_of, next_at, pr
 ghost use Rattle.nt_waits.specs.Link.{HasNumber, without};
 
 use crate::block::{Block, BlockNumber, Change, Ends, OptionalBlock};
-use nt_status::{Handle, ThreadId};
+use nt_status::{ObjectNumber, ThreadId};
 use slab::Slab;
 
 /// Reaches a block, counts that, and changes the block. Answers what it was.
@@ -97,19 +97,19 @@ fn set_previous(
     Some(was.thread)
 }
 
-/// Takes a block out of the queue of its handle. Answers the thread of the block after it.
+/// Takes a block out of the queue of its object. Answers the thread of the block after it.
 pub fn detach(
     blocks: &mut Slab<Block>,
     ends: &mut Ends,
     touched: &mut u64,
-    handle: Handle,
+    object: ObjectNumber,
     number: BlockNumber,
 ) -> Option<ThreadId>
-    requires queue { IsQueue blocks.old ends.old handle (links blocks.old ends.old) }
+    requires queue { IsQueue blocks.old ends.old object (links blocks.old ends.old) }
     requires linked { HasNumber (links blocks.old ends.old) number }
     requires countable { touched.old + 3 < 2 ^ 64 }
-    ensures queue { IsQueue blocks.new ends.new handle (without number (links blocks.old ends.old)) }
-    ensures elsewhere { (k : ℕ) → ((thread : ℕ) → owner_at blocks.old k ≢ Some (thread, handle))
+    ensures queue { IsQueue blocks.new ends.new object (without number (links blocks.old ends.old)) }
+    ensures elsewhere { (k : ℕ) → ((thread : ℕ) → owner_at blocks.old k ≢ Some (thread, object))
         → get blocks.new k ≡ get blocks.old k }
     ensures len { slab_len blocks.new + 1 ≡ slab_len blocks.old }
     ensures capacity { blocks.new.capacity ≡ blocks.old.capacity }
@@ -124,19 +124,19 @@ pub fn detach(
     next
 }
 
-/// Puts a block for the thread at the end of the queue of the handle. Answers its number.
+/// Puts a block for the thread at the end of the queue of the object. Answers its number.
 pub fn attach(
     blocks: &mut Slab<Block>,
     ends: &mut Ends,
     thread: ThreadId,
-    handle: Handle,
+    object: ObjectNumber,
 ) -> BlockNumber
-    requires queue { IsQueue blocks.old ends.old handle (links blocks.old ends.old) }
+    requires queue { IsQueue blocks.old ends.old object (links blocks.old ends.old) }
     requires room { HasRoomFor blocks.old 1 }
     requires countable { ends.old.count + 1 < 2 ^ 64 }
-    ensures queue { IsQueue blocks.new ends.new handle
+    ensures queue { IsQueue blocks.new ends.new object
         (links blocks.old ends.old ++ record { number = result; thread = thread } ∷ []) }
-    ensures elsewhere { (k : ℕ) → k ≢ result → ((thread : ℕ) → owner_at blocks.old k ≢ Some (thread, handle))
+    ensures elsewhere { (k : ℕ) → k ≢ result → ((thread : ℕ) → owner_at blocks.old k ≢ Some (thread, object))
         → get blocks.new k ≡ get blocks.old k }
     ensures fresh { get blocks.old result ≡ None }
     ensures len { slab_len blocks.new ≡ slab_len blocks.old + 1 }
@@ -144,7 +144,7 @@ pub fn attach(
 {
     let key = blocks.insert_reserved(Block {
         thread,
-        handle,
+        object,
         previous: ends.last,
         next: OptionalBlock::NONE,
     });
@@ -173,7 +173,7 @@ pub fn thread_in(blocks: &Slab<Block>, number: OptionalBlock) -> Option<ThreadId
     }
 }
 
-/// Makes ends, of no blocks, for each handle below `count`.
+/// Makes ends, of no blocks, for each object below `count`.
 pub fn add_ends(ends: &mut Vec<Ends>, count: usize)
     requires { count ≤ vec_capacity ends.old }
     ensures there { count ≤ vec_len ends.new }

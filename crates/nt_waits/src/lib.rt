@@ -1,4 +1,4 @@
-//! The pending waits of all threads: which threads wait, for what, and in which order for each handle.
+//! The pending waits of all threads: which threads wait, for what, and in which order for each object.
 #![tactic(auto)]
 
 mod begin;
@@ -15,5 +15,5 @@ mod table;
 mod take;
 mod wait;
 
-pub use table::WaitTable;
+pub use table::{Reader, WaitTable};
 pub use wait::{About, Wait};

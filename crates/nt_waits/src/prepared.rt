@@ -2,14 +2,14 @@
 ghost use Rattle.std.specs.Prelude.{◌≡◌, None, Some};
 
 use crate::wait::About;
-use nt_status::{Handle, ThreadId};
+use nt_status::{ObjectNumber, ThreadId};
 use std::marker::Model;
 
-/// A wait for one handle that can begin with no allocation.
+/// A wait for one object that can begin with no allocation.
 #[derive(Clone, Copy)]
 pub struct Prepared {
     pub thread: ThreadId,
-    pub handle: Handle,
+    pub object: ObjectNumber,
     pub about: About,
 }
 
@@ -43,7 +43,7 @@ impl Preparation {
             is_there: false,
             wait: Prepared {
                 thread: ThreadId::new(0),
-                handle: Handle::default(),
+                object: ObjectNumber::default(),
                 about,
             },
         }
@@ -62,7 +62,7 @@ impl Preparation {
     {
         // By fields: to write it whole would write the bytes between them.
         self.wait.thread = wait.thread;
-        self.wait.handle = wait.handle;
+        self.wait.object = wait.object;
         self.wait.about.alertable = wait.about.alertable;
         self.wait.about.deadline = wait.about.deadline;
         self.is_there = true;

@@ -1,14 +1,14 @@
-//! The queues of all handles, over blocks in a slab.
+//! The queues of all objects, over blocks in a slab.
 ghost use Rattle.std.specs.Prelude.{◌≡◌, ℕ, ◌+◌, ◌<◌, ◌≤◌, ◌^◌, ◌++◌, ◌∷◌, [], length, slice_set, IfOk, OnOk};
 
 use crate::block::{Block, BlockNumber, Ends};
 use crate::chain::{add_ends, attach, detach, thread_in};
-use nt_status::{Handle, ThreadId};
+use nt_status::{ObjectNumber, ThreadId};
 use slab::Slab;
 use std::alloc::{AllocError, Global};
 use std::marker::Model;
 
-/// For each handle the blocks of the waits on it, in the order in which they were linked.
+/// For each object the blocks of the waits on it, in the order in which they were linked.
 #[derive(Drop)]
 pub struct Queues {
     blocks: Slab<Block>,
@@ -29,7 +29,7 @@ impl Model for Queues {
       lists = map (links q.blocks) q.ends.items;
       used = slab_len q.blocks;
       capacity = q.blocks.capacity;
-      handle_room = vec_capacity q.ends;
+      object_room = vec_capacity q.ends;
       touched = q.touched;
     } };
 
@@ -72,77 +72,77 @@ impl Queues {
         self.blocks.reserve(additional)
     }
 
-    /// Puts a block of the thread at the end of the handle's queue.
-    pub fn link(&mut self, thread: ThreadId, handle: Handle) -> BlockNumber
-        requires there { handle < length self.old.lists }
+    /// Puts a block of the thread at the end of the object's queue.
+    pub fn link(&mut self, thread: ThreadId, object: ObjectNumber) -> BlockNumber
+        requires there { object < length self.old.lists }
         requires room { HasRoomFor self.old 1 }
-        requires countable { length (list_at self.old handle) + 1 < 2 ^ 64 }
-        ensures lists { self.new.lists ≡ slice_set self.old.lists handle
-            (list_at self.old handle ++ record { number = result; thread = thread } ∷ []) }
+        requires countable { length (list_at self.old object) + 1 < 2 ^ 64 }
+        ensures lists { self.new.lists ≡ slice_set self.old.lists object
+            (list_at self.old object ++ record { number = result; thread = thread } ∷ []) }
         ensures used { self.new.used ≡ self.old.used + 1 }
         ensures capacity { self.new.capacity ≡ self.old.capacity }
         ensures touched { self.new.touched ≡ self.old.touched }
         ensures distinct { (h : ℕ) → AreNumbersOnce (list_at self.new h) }
     {
-        let at = handle.get() as usize;
-        attach(&mut self.blocks, &mut self.ends[at], thread, handle)
+        let at = object.get() as usize;
+        attach(&mut self.blocks, &mut self.ends[at], thread, object)
     }
 
-    /// Takes a block out of its handle's queue. Answers the thread of the block after it.
-    pub fn unlink(&mut self, handle: Handle, number: BlockNumber) -> Option<ThreadId>
-        requires linked { HasNumber (list_at self.old handle) number }
+    /// Takes a block out of its object's queue. Answers the thread of the block after it.
+    pub fn unlink(&mut self, object: ObjectNumber, number: BlockNumber) -> Option<ThreadId>
+        requires linked { HasNumber (list_at self.old object) number }
         requires countable { self.old.touched + 3 < 2 ^ 64 }
-        ensures lists { self.new.lists ≡ slice_set self.old.lists handle (without number (list_at self.old handle)) }
+        ensures lists { self.new.lists ≡ slice_set self.old.lists object (without number (list_at self.old object)) }
         ensures used { self.new.used + 1 ≡ self.old.used }
         ensures capacity { self.new.capacity ≡ self.old.capacity }
-        ensures handle_room { self.new.handle_room ≡ self.old.handle_room }
+        ensures object_room { self.new.object_room ≡ self.old.object_room }
         ensures counted { self.new.touched ≤ self.old.touched + 3 }
         ensures counts_up { self.old.touched + 1 ≤ self.new.touched }
-        ensures next { result ≡ thread_after (list_at self.old handle) number }
+        ensures next { result ≡ thread_after (list_at self.old object) number }
         ensures distinct { (h : ℕ) → AreNumbersOnce (list_at self.new h) }
     {
-        let at = handle.get() as usize;
+        let at = object.get() as usize;
         detach(
             &mut self.blocks,
             &mut self.ends[at],
             &mut self.touched,
-            handle,
+            object,
             number,
         )
     }
 
-    /// The thread whose wait on the handle began first.
-    pub fn first(&self, handle: Handle) -> Option<ThreadId>
-        ensures { result ≡ first_thread (list_at self.now handle) }
+    /// The thread whose wait on the object began first.
+    pub fn first(&self, object: ObjectNumber) -> Option<ThreadId>
+        ensures { result ≡ first_thread (list_at self.now object) }
     {
-        let ends = self.ends.get(handle.get() as usize)?;
+        let ends = self.ends.get(object.get() as usize)?;
         thread_in(&self.blocks, ends.first)
     }
 
-    /// The thread after this block, in the handle's queue.
-    pub fn next(&self, handle: Handle, number: BlockNumber) -> Option<ThreadId>
-        requires { HasNumber (list_at self.now handle) number }
-        ensures { result ≡ thread_after (list_at self.now handle) number }
+    /// The thread after this block, in the object's queue.
+    pub fn next(&self, object: ObjectNumber, number: BlockNumber) -> Option<ThreadId>
+        requires { HasNumber (list_at self.now object) number }
+        ensures { result ≡ thread_after (list_at self.now object) number }
     {
         let next = self.blocks[number.get()].next;
         thread_in(&self.blocks, next)
     }
 
-    /// How many blocks the handle has.
-    pub fn count(&self, handle: Handle) -> usize
-        ensures { result ≡ length (list_at self.now handle) }
+    /// How many blocks the object has.
+    pub fn count(&self, object: ObjectNumber) -> usize
+        ensures { result ≡ length (list_at self.now object) }
     {
-        match self.ends.get(handle.get() as usize) {
+        match self.ends.get(object.get() as usize) {
             Some(ends) => ends.count,
             None => 0,
         }
     }
 
-    /// Makes room for the queues of so many handles.
-    pub fn reserve_handles(&mut self, count: usize) -> Result<(), AllocError>
-        ensures room { OnOk result (count ≤ self.new.handle_room) }
-        ensures grows { self.old.handle_room ≤ self.new.handle_room }
-        ensures rest_kept { self.new ≡ record self.old { handle_room = self.new.handle_room } }
+    /// Makes room for the queues of so many objects.
+    pub fn reserve_objects(&mut self, count: usize) -> Result<(), AllocError>
+        ensures room { OnOk result (count ≤ self.new.object_room) }
+        ensures grows { self.old.object_room ≤ self.new.object_room }
+        ensures rest_kept { self.new ≡ record self.old { object_room = self.new.object_room } }
     {
         let have = self.ends.len();
         if count <= have {
@@ -151,9 +151,9 @@ impl Queues {
         self.ends.reserve(count - have)
     }
 
-    /// Gives each handle below `count` a queue.
-    pub fn add_handles(&mut self, count: usize)
-        requires { count ≤ self.old.handle_room }
+    /// Gives each object below `count` a queue.
+    pub fn add_objects(&mut self, count: usize)
+        requires { count ≤ self.old.object_room }
         ensures there { count ≤ length self.new.lists }
         ensures kept { (h : ℕ) → list_at self.new h ≡ list_at self.old h }
         ensures used { self.new.used ≡ self.old.used }

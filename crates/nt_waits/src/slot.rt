@@ -13,7 +13,7 @@ use crate::links::{link_all, unlink_all};
 use crate::pending::Pending;
 use crate::queues::Queues;
 use crate::wait::{About, Wait};
-use nt_status::{Handle, Handles, ThreadId};
+use nt_status::{ObjectNumber, ObjectNumbers, ThreadId};
 use smallvec::SmallVec;
 use std::alloc::{AllocError, Global};
 use std::marker::Model;
@@ -52,7 +52,7 @@ impl Clone for Slot {
 /// A wait that names nothing.
 fn no_wait(alloc: Global) -> Wait {
     Wait {
-        handles: Handles::new(alloc),
+        objects: ObjectNumbers::new(alloc),
         all: false,
         alertable: false,
         deadline: None,
@@ -70,7 +70,7 @@ fn make_numbers(numbers: &mut SmallVec<BlockNumber, 4>, count: usize) -> Result<
     remake_numbers(numbers, count)
 }
 
-/// Makes the list anew, so long. It stands apart, since a wait mostly names as many handles as its thread's last one.
+/// Makes the list anew, so long. It stands apart, since a wait mostly names as many objects as its thread's last one.
 #[inline(never)]
 fn remake_numbers(numbers: &mut SmallVec<BlockNumber, 4>, count: usize) -> Result<(), AllocError>
     ensures { OnOk result (length numbers.new.items ≡ count) }
@@ -90,32 +90,32 @@ fn make_one_number(numbers: &mut SmallVec<BlockNumber, 4>)
     }
 }
 
-/// Puts a block of the thread at the end of the queue of each of its handles, all below `count`, which are written here already, and
+/// Puts a block of the thread at the end of the queue of each of its objects, all below `count`, which are written here already, and
 /// writes the rest of its wait.
 #[inline(always)]
 fn link(
     pending: &mut Pending,
     queues: &mut Queues,
     t: ThreadId,
-    handles: &[Handle],
+    objects: &[ObjectNumber],
     all: bool,
     about: About,
     count: usize,
 )
-    requires written { pending.old.wait.handles ≡ handles.now }
-    requires numbered { length pending.old.numbers.items ≡ length handles.now }
-    requires apart { IsDistinct nat_eq handles.now }
-    requires below { (j : ℕ) → j < length handles.now → slice_index handles.now j < count }
-    requires room { HasRoomFor queues.old (length handles.now) }
-    requires handle_room { count ≤ queues.old.handle_room }
+    requires written { pending.old.wait.objects ≡ objects.now }
+    requires numbered { length pending.old.numbers.items ≡ length objects.now }
+    requires apart { IsDistinct nat_eq objects.now }
+    requires below { (j : ℕ) → j < length objects.now → slice_index objects.now j < count }
+    requires room { HasRoomFor queues.old (length objects.now) }
+    requires object_room { count ≤ queues.old.object_room }
     requires numbers { (h : ℕ) → AreNumbersOnce (list_at queues.old h) }
     requires countable { (h : ℕ) → length (list_at queues.old h) < 2 ^ 32 }
-    ensures filled { IsFilled queues.old queues.new t (wait_for handles.now all about) (Some pending.new) }
+    ensures filled { IsFilled queues.old queues.new t (wait_for objects.now all about) (Some pending.new) }
     ensures distinct { (h : ℕ) → AreNumbersOnce (list_at queues.new h) }
     ensures touched { queues.new.touched ≡ queues.old.touched }
 {
-    queues.add_handles(count);
-    link_all(queues, t, handles, pending.numbers.as_mut_slice());
+    queues.add_objects(count);
+    link_all(queues, t, objects, pending.numbers.as_mut_slice());
     pending.wait.all = all;
     pending.wait.alertable = about.alertable;
     pending.wait.deadline = about.deadline;
@@ -156,60 +156,60 @@ impl Slot {
         &self.pending
     }
 
-    /// The thread's wait for these handles, all below `count`, stands here from now on, with a block at the end of each of their queues.
+    /// The thread's wait for these objects, all below `count`, stands here from now on, with a block at the end of each of their queues.
     /// Where memory is refused nothing changes.
     #[inline(always)]
     pub fn fill(
         &mut self,
         queues: &mut Queues,
         t: ThreadId,
-        handles: &[Handle],
+        objects: &[ObjectNumber],
         all: bool,
         about: About,
         count: usize,
     ) -> Result<(), AllocError>
         requires free { self.old ≡ None }
-        requires apart { IsDistinct nat_eq handles.now }
-        requires below { (j : ℕ) → j < length handles.now → slice_index handles.now j < count }
-        requires room { HasRoomFor queues.old (length handles.now) }
-        requires handle_room { count ≤ queues.old.handle_room }
+        requires apart { IsDistinct nat_eq objects.now }
+        requires below { (j : ℕ) → j < length objects.now → slice_index objects.now j < count }
+        requires room { HasRoomFor queues.old (length objects.now) }
+        requires object_room { count ≤ queues.old.object_room }
         requires numbers { (h : ℕ) → AreNumbersOnce (list_at queues.old h) }
         requires countable { (h : ℕ) → length (list_at queues.old h) < 2 ^ 32 }
-        ensures filled { OnOk result (IsFilled queues.old queues.new t (wait_for handles.now all about) self.new) }
+        ensures filled { OnOk result (IsFilled queues.old queues.new t (wait_for objects.now all about) self.new) }
         ensures distinct { OnOk result ((h : ℕ) → AreNumbersOnce (list_at queues.new h)) }
         ensures touched { queues.new.touched ≡ queues.old.touched }
         ensures queues { OnErr result (queues.new ≡ queues.old) }
         ensures err { OnErr result (self.new ≡ None) }
     {
-        self.pending.wait.handles.copy_from(handles)?;
-        make_numbers(&mut self.pending.numbers, handles.len())?;
-        link(&mut self.pending, queues, t, handles, all, about, count);
+        self.pending.wait.objects.copy_from(objects)?;
+        make_numbers(&mut self.pending.numbers, objects.len())?;
+        link(&mut self.pending, queues, t, objects, all, about, count);
         self.pends = true;
         Ok(())
     }
 
-    /// The thread's wait for this handle stands here from now on, with a block at the end of its queue. It takes no memory.
+    /// The thread's wait for this object stands here from now on, with a block at the end of its queue. It takes no memory.
     #[inline(always)]
-    pub fn fill_one(&mut self, queues: &mut Queues, t: ThreadId, handle: Handle, about: About)
+    pub fn fill_one(&mut self, queues: &mut Queues, t: ThreadId, object: ObjectNumber, about: About)
         requires free { self.old ≡ None }
         requires room { HasRoomFor queues.old 1 }
-        requires handle_room { handle + 1 ≤ queues.old.handle_room }
+        requires object_room { object + 1 ≤ queues.old.object_room }
         requires numbers { (h : ℕ) → AreNumbersOnce (list_at queues.old h) }
         requires countable { (h : ℕ) → length (list_at queues.old h) < 2 ^ 32 }
-        ensures filled { IsFilled queues.old queues.new t (wait_for (handle ∷ []) false about) self.new }
+        ensures filled { IsFilled queues.old queues.new t (wait_for (object ∷ []) false about) self.new }
         ensures distinct { (h : ℕ) → AreNumbersOnce (list_at queues.new h) }
         ensures touched { queues.new.touched ≡ queues.old.touched }
     {
-        self.pending.wait.handles.put_one(handle);
+        self.pending.wait.objects.put_one(object);
         make_one_number(&mut self.pending.numbers);
         link(
             &mut self.pending,
             queues,
             t,
-            &[handle],
+            &[object],
             false,
             about,
-            handle.get() as usize + 1,
+            object.get() as usize + 1,
         );
         self.pends = true;
     }
@@ -226,27 +226,27 @@ impl Slot {
     {
         unlink_all(
             queues,
-            self.pending.wait.handles.as_slice(),
+            self.pending.wait.objects.as_slice(),
             self.pending.numbers.as_slice(),
         );
         self.pends = false;
     }
 
-    /// The same for a wait for this handle alone. Answers the thread of the block after its own.
+    /// The same for a wait for this object alone. Answers the thread of the block after its own.
     #[inline(always)]
-    pub fn empty_one(&mut self, queues: &mut Queues, handle: Handle) -> Option<ThreadId>
+    pub fn empty_one(&mut self, queues: &mut Queues, object: ObjectNumber) -> Option<ThreadId>
         requires there { IsSome self.old }
-        requires one { ForSome self.old (λ p. p.wait.handles ≡ handle ∷ []) }
+        requires one { ForSome self.old (λ p. p.wait.objects ≡ object ∷ []) }
         requires linked { ForSome self.old (λ p. (t : ℕ) × IsLinked queues.old t p) }
         requires numbers { (h : ℕ) → AreNumbersOnce (list_at queues.old h) }
         requires countable { queues.old.touched ≡ 0 }
         ensures empty { self.new ≡ None }
         ensures unlinked { ForSome self.old (λ p. IsUnlinked queues.old queues.new p) }
         ensures next { ForSome self.old (λ p.
-            result ≡ thread_after (list_at queues.old handle) (slice_index p.numbers.items 0)) }
+            result ≡ thread_after (list_at queues.old object) (slice_index p.numbers.items 0)) }
     {
         let number = self.pending.numbers.as_slice()[0];
-        let next = queues.unlink(handle, number);
+        let next = queues.unlink(object, number);
         self.pends = false;
         next
     }
@@ -263,7 +263,7 @@ impl Slot {
     {
         unlink_all(
             queues,
-            self.pending.wait.handles.as_slice(),
+            self.pending.wait.objects.as_slice(),
             self.pending.numbers.as_slice(),
         );
         self.pends = false;

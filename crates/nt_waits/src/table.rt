@@ -13,14 +13,14 @@ use crate::slot::Slot;
 use crate::take::{end_one_wait, end_wait, next_in, only_in, take_wait, wait_in};
 use crate::wait::{About, Wait, tell};
 use nt_alarms::Alarms;
-use nt_status::{Handle, MAX_WAIT_OBJECTS, Refusal, ThreadId};
+use nt_status::{MAX_WAIT_OBJECTS, ObjectNumber, Refusal, ThreadId};
 use std::alloc::{AllocError, Global};
 use std::marker::Model;
 
-/// The pending waits, and for each handle the threads that wait on it, in the order in which their waits began.
+/// The pending waits, and for each object the threads that wait on it, in the order in which their waits began.
 ///
-/// A wait stands in the queue of each handle that it names, with a block of its own there. To begin
-/// or end a wait on n handles takes n steps, whatever else is pending, and with a deadline some more,
+/// A wait stands in the queue of each object that it names, with a block of its own there. To begin
+/// or end a wait on n objects takes n steps, whatever else is pending, and with a deadline some more,
 /// in the logarithm of the number of threads. `next_on` takes at most n, and every other call but
 /// `copy` a few. Only `begin`, `prepare` and `copy` take memory.
 #[derive(Drop)]
@@ -31,6 +31,13 @@ pub struct WaitTable {
     count: usize,
     looked: u64,
     prepared: Preparation,
+}
+
+/// Whoever has it may see a pending wait without a look (`WaitTable::peek`). It has no bytes, and comes with a table: whoever serves waits is not
+/// given it, so serving can look at none uncounted.
+#[derive(Clone, Copy)]
+pub struct Reader {
+    of: (),
 }
 
 impl Model for WaitTable {
@@ -58,7 +65,7 @@ impl Model for WaitTable {
 impl WaitTable {
     ghost use Rattle.nt_waits.specs.Looking.{LeavesLooked};
     ghost use Rattle.nt_waits.specs.Deadlines.{NoDeadline, NoneEarlier, IsEarliestDeadline, NoneWithDeadline, IsFirstWithDeadline};
-    ghost use Rattle.nt_waits.specs.Waits.{Begins, wait_of, wait_for, queue_of, about_of, only_of, others, Agrees, IsTouched, next_after};
+    ghost use Rattle.nt_waits.specs.Waits.{Begins, wait_of, wait_for, queue_of, about_of, one_for, only_of, others, Agrees, IsTouched, next_after};
 
     /// A table with no wait.
     pub fn new(alloc: Global) -> Self
@@ -77,6 +84,18 @@ impl WaitTable {
             looked: 0,
             prepared: Preparation::none(),
         }
+    }
+
+    /// The same, and its reader.
+    pub fn with_reader(alloc: Global) -> (Self, Reader)
+        ensures pending { result.0.pending ≡ map.empty }
+        ensures queues { result.0.queues ≡ [] }
+        ensures looked { result.0.looked ≡ 0 }
+        ensures touched { result.0.touched ≡ 0 }
+        ensures prepared { result.0.prepared ≡ None }
+        ensures agrees { Agrees result.0.pending result.0.queues }
+    {
+        (WaitTable::new(alloc), Reader { of: () })
     }
 
     /// An equal table, but that no wait is prepared.
@@ -104,55 +123,60 @@ impl WaitTable {
             return Ok(copied);
         };
         // Room is not copied: the copy makes its own.
-        copied.prepare(prepared.thread, prepared.handle, prepared.about)?;
+        copied.prepare(prepared.thread, prepared.object, prepared.about)?;
         Ok(copied)
     }
 
-    /// Begins the thread's wait, last in the queue of each handle that it names, and forgets the prepared wait. Refused only where
+    /// Begins the thread's wait, last in the queue of each object that it names, and forgets the prepared wait. Refused only where
     /// memory is, and then nothing changes.
     #[inline(always)]
     pub fn begin(&mut self, t: ThreadId, wait: Wait) -> Result<(), Refusal>
         requires free { wait_of self.old t ≡ None }
-        requires few { length wait.handles ≤ MAX_WAIT_OBJECTS }
-        requires distinct { IsDistinct nat_eq wait.handles }
+        requires few { length wait.objects ≤ MAX_WAIT_OBJECTS }
+        requires distinct { IsDistinct nat_eq wait.objects }
         ensures begins { OnOk result (Begins self.old self.new t wait) }
         ensures agrees { Agrees self.new.pending self.new.queues }
         ensures memory { IfErr result (λ refusal. refusal ≡ Refusal.Memory) }
         ensures err { OnErr result (self.new ≡ self.old) }
     {
-        self.begin_in_place(t, wait.handles.as_slice(), wait.all, tell(&wait))
+        self.begin_in_place(t, wait.objects.as_slice(), wait.all, tell(&wait))
     }
 
-    /// Begins the thread's wait for these handles, as `begin` does, and moves no wait: it is written where it will lie.
+    /// Begins the thread's wait for these objects, as `begin` does, and moves no wait: it is written where it will lie.
     #[inline(always)]
     pub fn begin_in_place(
         &mut self,
         t: ThreadId,
-        handles: &[Handle],
+        objects: &[ObjectNumber],
         all: bool,
         about: About,
     ) -> Result<(), Refusal>
         requires free { wait_of self.old t ≡ None }
-        requires few { length handles.now ≤ MAX_WAIT_OBJECTS }
-        requires distinct { IsDistinct nat_eq handles.now }
-        ensures begins { OnOk result (Begins self.old self.new t (wait_for handles.now all about)) }
+        requires few { length objects.now ≤ MAX_WAIT_OBJECTS }
+        requires distinct { IsDistinct nat_eq objects.now }
+        ensures begins { OnOk result (Begins self.old self.new t (wait_for objects.now all about)) }
         ensures agrees { Agrees self.new.pending self.new.queues }
         ensures memory { IfErr result (λ refusal. refusal ≡ Refusal.Memory) }
         ensures err { OnErr result (self.new ≡ self.old) }
     {
         reserve_alarm(&mut self.deadlines, t, about.deadline)?;
-        begin_wait(&mut self.queues, &mut self.waits, t, handles, all, about)?;
+        begin_wait(&mut self.queues, &mut self.waits, t, objects, all, about)?;
         set_alarm(&mut self.deadlines, t, about.deadline);
         self.count += 1;
         self.prepared.forget();
         Ok(())
     }
 
-    /// Makes all the room that the thread's wait for this handle needs, and keeps in mind which it is. Until it begins waits may end,
+    /// Makes all the room that the thread's wait for this object needs, and keeps in mind which it is. Until it begins waits may end,
     /// and the room stays. Refused only where memory is, and then nothing changes.
-    pub fn prepare(&mut self, thread: ThreadId, handle: Handle, about: About) -> Result<(), Refusal>
+    pub fn prepare(
+        &mut self,
+        thread: ThreadId,
+        object: ObjectNumber,
+        about: About,
+    ) -> Result<(), Refusal>
         ensures ok { OnOk result
-            (self.new ≡ record self.old { prepared = Some (thread, wait_for (handle ∷ []) false about) }) }
+            (self.new ≡ record self.old { prepared = Some (thread, wait_for (object ∷ []) false about) }) }
         ensures memory { IfErr result (λ refusal. refusal ≡ Refusal.Memory) }
         ensures err { OnErr result (self.new ≡ self.old) }
     {
@@ -162,11 +186,11 @@ impl WaitTable {
             &mut self.waits,
             thread,
             1,
-            handle.get() as usize + 1,
+            object.get() as usize + 1,
         )?;
         self.prepared.put(Prepared {
             thread,
-            handle,
+            object,
             about,
         });
         Ok(())
@@ -189,7 +213,7 @@ impl WaitTable {
             &mut self.queues,
             &mut self.waits,
             thread,
-            prepared.handle,
+            prepared.object,
             about,
         );
         set_alarm(&mut self.deadlines, thread, about.deadline);
@@ -220,13 +244,13 @@ impl WaitTable {
         self.count = left;
     }
 
-    /// Ends the thread's wait, which is for this handle alone, as `end_in_place` does. Answers the thread whose wait on the handle
+    /// Ends the thread's wait, which is for this object alone, as `end_in_place` does. Answers the thread whose wait on the object
     /// began next.
     #[inline(always)]
-    pub fn end_one(&mut self, t: ThreadId, handle: Handle) -> Option<ThreadId>
+    pub fn end_one(&mut self, t: ThreadId, object: ObjectNumber) -> Option<ThreadId>
         requires there { IsSome (wait_of self.old t) }
-        requires one { ForSome (wait_of self.old t) (λ wait. wait.handles ≡ handle ∷ []) }
-        ensures next { result ≡ next_after t (queue_of self.old handle) }
+        requires one { ForSome (wait_of self.old t) (λ wait. wait.objects ≡ object ∷ []) }
+        ensures next { result ≡ next_after t (queue_of self.old object) }
         ensures pending { self.new.pending ≡ map.remove self.old.pending t }
         ensures queues { (h : ℕ) → queue_of self.new h ≡ others t (queue_of self.old h) }
         ensures looked { self.new.looked ≡ self.old.looked }
@@ -237,7 +261,7 @@ impl WaitTable {
         let others = self.count - 1;
         self.count = others;
         clear_alarm(&mut self.deadlines, t);
-        end_one_wait(&mut self.queues, &mut self.waits, t, handle)
+        end_one_wait(&mut self.queues, &mut self.waits, t, object)
     }
 
     /// Ends the thread's wait, and hands it back. The other threads keep their order in every queue.
@@ -249,8 +273,8 @@ impl WaitTable {
         ensures queues { (h : ℕ) → queue_of self.new h ≡ others t (queue_of self.old h) }
         ensures looked { self.new.looked ≡ self.old.looked }
         ensures prepared { self.new.prepared ≡ self.old.prepared }
-        ensures at_least { length result.handles ≤ self.new.touched }
-        ensures at_most { self.new.touched ≤ 3 * length result.handles }
+        ensures at_least { length result.objects ≤ self.new.touched }
+        ensures at_most { self.new.touched ≤ 3 * length result.objects }
         ensures agrees { Agrees self.new.pending self.new.queues }
     {
         self.count -= 1;
@@ -267,23 +291,25 @@ impl WaitTable {
         wait_in(&self.waits, t)
     }
 
-    /// The handle of the thread's pending wait, where it names one alone, and whether the wait is for all. This is no look.
-    pub fn only(&self, t: ThreadId) -> Option<(Handle, bool)>
-        requires { IsSome (wait_of self.now t) }
-        ensures { Some result ≡ option_map only_of (wait_of self.now t) }
+    /// The object of the thread's pending wait, where it names one alone, and whether the wait is for all: this counts as a look. None
+    /// where the wait names several, which `get` shows.
+    #[inline(always)]
+    pub fn look(&mut self, t: ThreadId) -> Option<(ObjectNumber, bool)>
+        requires there { IsSome (wait_of self.old t) }
+        requires countable { self.old.looked + 1 < 2 ^ 64 }
+        ensures told { Some result ≡ option_map only_of (wait_of self.old t) }
+        ensures counted { self.new ≡ record self.old { looked = self.old.looked + one_for result } }
     {
-        only_in(&self.waits, t)
+        match only_in(&self.waits, t) {
+            Some(only) => {
+                self.looked += 1;
+                Some(only)
+            }
+            None => None,
+        }
     }
 
-    /// Counts a look, as `get` does.
-    pub fn count_look(&mut self)
-        requires { self.old.looked + 1 < 2 ^ 64 }
-        ensures { self.new ≡ record self.old { looked = self.old.looked + 1 } }
-    {
-        self.looked += 1;
-    }
-
-    /// How often `get` and `count_look` were called since the last `look_anew`, up to the greatest u64.
+    /// How many looks were counted since the last `look_anew`, up to the greatest u64.
     pub fn looked(&self) -> u64
         ensures { result ≡ self.now.looked }
     {
@@ -305,8 +331,8 @@ impl WaitTable {
         Some(tell(wait))
     }
 
-    /// The pending wait of the thread. This is no look.
-    pub fn peek(&self, t: ThreadId) -> Option<&Wait>
+    /// The pending wait of the thread, for a reader. This is no look.
+    pub fn peek(&self, _reader: Reader, t: ThreadId) -> Option<&Wait>
         ensures { option_copied result ≡ wait_of self.now t }
     {
         wait_in(self.waits.as_slice(), t)
@@ -336,33 +362,33 @@ impl WaitTable {
         Some(ThreadId::new(place as u16))
     }
 
-    /// The thread whose wait on the handle began first.
-    pub fn first_on(&self, handle: Handle) -> Option<ThreadId>
-        ensures first { result ≡ slice_get (queue_of self.now handle) 0 }
+    /// The thread whose wait on the object began first.
+    pub fn first_on(&self, object: ObjectNumber) -> Option<ThreadId>
+        ensures first { result ≡ slice_get (queue_of self.now object) 0 }
         ensures agrees { Agrees self.now.pending self.now.queues }
     {
-        self.queues.first(handle)
+        self.queues.first(object)
     }
 
-    /// The thread whose wait on the handle began next after this thread's.
+    /// The thread whose wait on the object began next after this thread's.
     #[inline(always)]
-    pub fn next_on(&self, handle: Handle, t: ThreadId) -> Option<ThreadId>
-        requires { Contains (queue_of self.now handle) t }
-        ensures { result ≡ next_after t (queue_of self.now handle) }
+    pub fn next_on(&self, object: ObjectNumber, t: ThreadId) -> Option<ThreadId>
+        requires { Contains (queue_of self.now object) t }
+        ensures { result ≡ next_after t (queue_of self.now object) }
     {
-        // Mostly one thread waits on it, and then its place among the handles of its wait need not be found.
-        if self.queues.count(handle) == 1 {
+        // Mostly one thread waits on it, and then its place among the objects of its wait need not be found.
+        if self.queues.count(object) == 1 {
             return None;
         }
-        next_in(&self.queues, &self.waits, handle, t)
+        next_in(&self.queues, &self.waits, object, t)
     }
 
-    /// How many threads wait on the handle.
-    pub fn blocks_on(&self, handle: Handle) -> usize
-        ensures count { result ≡ length (queue_of self.now handle) }
+    /// How many threads wait on the object.
+    pub fn blocks_on(&self, object: ObjectNumber) -> usize
+        ensures count { result ≡ length (queue_of self.now object) }
         ensures agrees { Agrees self.now.pending self.now.queues }
     {
-        self.queues.count(handle)
+        self.queues.count(object)
     }
 
     /// How many blocks the last `end` reached. 0 before the first.

@@ -11,7 +11,7 @@ use crate::pending::Pending;
 use crate::queues::Queues;
 use crate::slot::Slot;
 use crate::wait::Wait;
-use nt_status::{Handle, ThreadId};
+use nt_status::{ObjectNumber, ThreadId};
 
 /// Ends the thread's wait where it lies: its blocks leave their queues, and its place is empty.
 #[inline(always)]
@@ -25,23 +25,23 @@ pub fn end_wait(queues: &mut Queues, waits: &mut Vec<Slot>, t: ThreadId)
     waits[t.get() as usize].empty(queues);
 }
 
-/// The same for a wait for this handle alone. Answers the thread whose wait on the handle began next.
+/// The same for a wait for this object alone. Answers the thread whose wait on the object began next.
 #[inline(always)]
 pub fn end_one_wait(
     queues: &mut Queues,
     waits: &mut Vec<Slot>,
     t: ThreadId,
-    handle: Handle,
+    object: ObjectNumber,
 ) -> Option<ThreadId>
     requires table { IsTable queues.old waits.old.items }
     requires there { IsSome (slot_at waits.old.items t) }
-    requires one { ForSome (slot_at waits.old.items t) (λ p. p.wait.handles ≡ handle ∷ []) }
+    requires one { ForSome (slot_at waits.old.items t) (λ p. p.wait.objects ≡ object ∷ []) }
     ensures ended { IsEnded queues.old waits.old.items queues.new waits.new.items t }
     ensures touched { ForSome (slot_at waits.old.items t) (λ p. IsTouched p.wait queues.new.touched) }
-    ensures next { result ≡ next_after t (threads (list_at queues.old handle)) }
+    ensures next { result ≡ next_after t (threads (list_at queues.old object)) }
 {
     queues.touch_anew();
-    waits[t.get() as usize].empty_one(queues, handle)
+    waits[t.get() as usize].empty_one(queues, object)
 }
 
 /// Ends the thread's wait as `end_wait` does, and hands it back.
@@ -65,14 +65,14 @@ pub fn wait_in(waits: &[Slot], t: ThreadId) -> Option<&Wait>
     Some(&pending.wait)
 }
 
-/// The handle of the thread's wait, where it names one alone, and whether the wait is for all.
-pub fn only_in(waits: &[Slot], t: ThreadId) -> Option<(Handle, bool)>
+/// The object of the thread's wait, where it names one alone, and whether the wait is for all.
+pub fn only_in(waits: &[Slot], t: ThreadId) -> Option<(ObjectNumber, bool)>
     requires { IsSome (slot_at waits.now t) }
     ensures { Some result ≡ option_map (λ p. only_of p.wait) (slot_at waits.now t) }
 {
     let pending = waits[t.get() as usize].filled();
-    match pending.wait.handles.as_slice() {
-        [handle] => Some((*handle, pending.wait.all)),
+    match pending.wait.objects.as_slice() {
+        [object] => Some((*object, pending.wait.all)),
         _ => None,
     }
 }
@@ -84,25 +84,30 @@ fn pending_in(waits: &[Slot], t: ThreadId) -> Option<&Pending>
     waits.get(t.get() as usize)?.get()
 }
 
-/// The place of this handle among the handles of a wait.
-fn place_of(handles: &[Handle], handle: Handle) -> Option<usize>
-    ensures { result ≡ position (λ named. named == handle) handles.now }
+/// The place of this object among the objects of a wait.
+fn place_of(objects: &[ObjectNumber], object: ObjectNumber) -> Option<usize>
+    ensures { result ≡ position (λ named. named == object) objects.now }
 {
-    handles.iter().position(|named| *named == handle)
+    objects.iter().position(|named| *named == object)
 }
 
-/// The thread after this one in the queue of the handle.
-pub fn next_in(queues: &Queues, waits: &[Slot], handle: Handle, t: ThreadId) -> Option<ThreadId>
+/// The thread after this one in the queue of the object.
+pub fn next_in(
+    queues: &Queues,
+    waits: &[Slot],
+    object: ObjectNumber,
+    t: ThreadId,
+) -> Option<ThreadId>
     requires table { IsTable queues.now waits.now }
-    requires there { Contains (threads (list_at queues.now handle)) t }
-    ensures { result ≡ next_after t (threads (list_at queues.now handle)) }
+    requires there { Contains (threads (list_at queues.now object)) t }
+    ensures { result ≡ next_after t (threads (list_at queues.now object)) }
 {
     let Some(pending) = pending_in(waits, t) else {
         unreachable!()
     };
-    let Some(place) = place_of(pending.wait.handles.as_slice(), handle) else {
+    let Some(place) = place_of(pending.wait.objects.as_slice(), object) else {
         unreachable!()
     };
     let numbers = pending.numbers.as_slice();
-    queues.next(handle, numbers[place])
+    queues.next(object, numbers[place])
 }

@@ -2,14 +2,14 @@
 ghost use Rattle.std.specs.Prelude.{◌≡◌};
 ghost use Rattle.nt_waits.specs.Waits.{about_of};
 
-use nt_status::Handles;
+use nt_status::ObjectNumbers;
 use std::alloc::AllocError;
 
-/// A thread's wait for one of its handles, or for all of them. A sleep has no handle.
+/// A thread's wait for one of its objects, or for all of them. A sleep has no object.
 #[derive(Drop)]
 pub struct Wait {
-    pub handles: Handles,
-    /// Whether every handle must be signaled at once, as bWaitAll of WaitForMultipleObjects.
+    pub objects: ObjectNumbers,
+    /// Whether every object must be signaled at once, as bWaitAll of WaitForMultipleObjects.
     pub all: bool,
     /// Whether an APC ends the wait, as bAlertable of WaitForMultipleObjectsEx.
     pub alertable: bool,
@@ -22,7 +22,7 @@ impl Clone for Wait {
 
     fn clone(&self) -> Result<Self, AllocError> {
         Ok(Wait {
-            handles: self.handles.copy()?,
+            objects: self.objects.copy()?,
             all: self.all,
             alertable: self.alertable,
             deadline: self.deadline,

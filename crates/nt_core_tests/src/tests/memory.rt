@@ -29,6 +29,11 @@ pub fn tell_refused(rt: &impl Host, whose: &str) {
     assert!(rt; println!(rt; "refused: {whose}").is_ok());
 }
 
+/// How often a long test goes round: seldom where growths are refused, since each growth is then one more run.
+pub fn rounds(rt: &impl Host, often: u16, seldom: u16) -> u16 {
+    if is_refusing(rt) { seldom } else { often }
+}
+
 /// A dispatcher, with a second try where memory is refused.
 pub fn open(rt: &impl Host, threads: u32) -> Result<Core, Refusal> {
     match Core::new(rt.alloc(), threads) {

@@ -4,6 +4,7 @@ use crate::front::plan::{lead, toil};
 use crate::front::roams::roam;
 use crate::front::steps::{INFINITE, objects};
 use crate::front::told::Told;
+use crate::front::wakes::{self, Way, wake};
 use nt_core::{Act, WaitCall};
 use nt_front::{Begun, Front, Held, Named, Pass, Polled, Sleeper};
 use nt_status::{Handle, Moment};
@@ -16,25 +17,57 @@ use std::time::{Clock, Duration};
 #[derive(Clone, Copy)]
 pub enum Job {
     /// Makes so many calls of all sorts, and then ends its thread.
-    Roam { calls: u32, manner: Manner },
+    Roam {
+        calls: u32,
+        manner: Manner,
+    },
     /// Lets the moment pass, 1 ms at a time, until the others are done.
     Tick,
     /// So often: sets one event, and waits for the other.
-    Serve { sets: u32, waits: u32, times: u32 },
+    Serve {
+        sets: u32,
+        waits: u32,
+        times: u32,
+    },
     /// So often: waits for one event, and sets the other.
-    Answer { waits: u32, sets: u32, times: u32 },
+    Answer {
+        waits: u32,
+        sets: u32,
+        times: u32,
+    },
     /// So often: waits for the mutex, and releases it.
-    Lock { mutex: u32, times: u32 },
+    Lock {
+        mutex: u32,
+        times: u32,
+    },
     /// Waits for the event by so many polls at the most, with its turn given up between two.
-    Poll { event: u32, polls: u32 },
+    Poll {
+        event: u32,
+        polls: u32,
+    },
     /// Sets the event once a thread waits for it, after so many turns given up at the most.
-    SetWhenAwaited { event: u32, turns: u32 },
+    SetWhenAwaited {
+        event: u32,
+        turns: u32,
+    },
     /// The same, and sets it again.
-    SetTwice { event: u32, turns: u32 },
+    SetTwice {
+        event: u32,
+        turns: u32,
+    },
     /// Leads the workers of the plan.
     Lead,
     /// Works by the plan, so many rounds.
-    Toil { rounds: u32 },
+    Toil {
+        rounds: u32,
+    },
+    /// Waits asleep for the object, or for 1 ms where none is named, and then sets the event that is named.
+    Sleep {
+        object: Option<u32>,
+        sets: Option<u32>,
+    },
+    /// Wakes the thread that sleeps by this call.
+    Wake(Way),
 }
 
 /// How a thread waits for its grant.
@@ -95,6 +128,8 @@ pub fn work<N: Named, R: Wait + Clock>(
         )),
         Job::Lead => lead(rt, front, crew, pass, told),
         Job::Toil { rounds } => toil(rt, front, crew, pass, rounds, told),
+        Job::Sleep { object, sets } => wakes::sleep(rt, front, crew, pass, object, sets, told),
+        Job::Wake(way) => wake(rt, front, crew, pass, way, told),
         Job::Poll { event, polls } => poll(rt, front, crew, pass, Handle::new(event), polls, told),
         Job::SetWhenAwaited { event, turns } => {
             set_when_awaited(rt, front, crew, &mut pass, Handle::new(event), turns, told);

@@ -8,25 +8,25 @@ use Rattle.nt_calls.proofs.trying.try_any.Goals as goal
 
 pub returns-in_err-place-clause-tried : goal.returns-in_err-place-clause-tried
 returns-in_err-place-clause-tried c =
-    let none : position (is_ready c.args.objects.now.items c.args.thread) c.args.handles.now ≡ _ = sym (rw c.as_slice.ensures at c.ready_place.ensures) ∙ c.in_err-place.was in
-    let unfit : fits c.args.objects.now.items c.args.thread (wait_for c.args.handles.now false) ≡ false = no_position (is_ready c.args.objects.now.items c.args.thread) c.args.handles.now none in
+    let none : position (is_ready c.args.objects.now.items c.args.thread) c.args.numbers.now ≡ _ = sym (rw c.as_slice.ensures at c.ready_place.ensures) ∙ c.in_err-place.was in
+    let unfit : fits c.args.objects.now.items c.args.thread (wait_for c.args.numbers.now false) ≡ false = no_position (is_ready c.args.objects.now.items c.args.thread) c.args.numbers.now none in
     rw c.from_residual.ensures (unfit, refl)
 
 pub take_at-requires-clause-ready : goal.take_at-requires-clause-ready
 take_at-requires-clause-ready c =
-    let first = first_pass (is_ready c.args.objects.now.items c.args.thread) c.args.handles.now c.in_ok-place.place (sym (rw c.as_slice.ensures at c.ready_place.ensures) ∙ c.in_ok-place.was) in
-    rw c.index-handles-place.is (first.passes c.index-handles-place.result)
+    let first = first_pass (is_ready c.args.objects.now.items c.args.thread) c.args.numbers.now c.in_ok-place.place (sym (rw c.as_slice.ensures at c.ready_place.ensures) ∙ c.in_ok-place.was) in
+    rw c.index-numbers-place.is (first.passes c.index-numbers-place.result)
 
 pub take_at-requires-clause-room : goal.take_at-requires-clause-room
 take_at-requires-clause-room c =
-    let first = first_pass (is_ready c.args.objects.now.items c.args.thread) c.args.handles.now c.in_ok-place.place (sym (rw c.as_slice.ensures at c.ready_place.ensures) ∙ c.in_ok-place.was) in
-    let item : c.index-handles-place.result ≡ get_or c.args.handles.now c.in_ok-place.place 0 = get_or_read c.args.handles.now c.in_ok-place.place c.index-handles-place.result first.within c.index-handles-place.is 0 in
+    let first = first_pass (is_ready c.args.objects.now.items c.args.thread) c.args.numbers.now c.in_ok-place.place (sym (rw c.as_slice.ensures at c.ready_place.ensures) ∙ c.in_ok-place.was) in
+    let item : c.index-numbers-place.result ≡ get_or c.args.numbers.now c.in_ok-place.place 0 = get_or_read c.args.numbers.now c.in_ok-place.place c.index-numbers-place.result first.within c.index-numbers-place.is 0 in
     rw item (c.requires.room c.in_ok-place.place first.within (first.passes 0))
 
 pub returns-clause-tried : goal.returns-clause-tried
 returns-clause-tried c =
-    let first = first_pass (is_ready c.args.objects.now.items c.args.thread) c.args.handles.now c.in_ok-place.place (sym (rw c.as_slice.ensures at c.ready_place.ensures) ∙ c.in_ok-place.was) in
-    let item : c.index-handles-place.result ≡ get_or c.args.handles.now (position_or_len (is_ready c.args.objects.now.items c.args.thread) c.args.handles.now) 0 = item_at (is_ready c.args.objects.now.items c.args.thread) c.args.handles.now c.in_ok-place.place c.index-handles-place.result first c.index-handles-place.is in
-    tried_any c.args.objects.now.items c.take_at.new.objects.items c.args.thread (wait_for c.args.handles.now false) c.take_at.result refl first.any
-    (c.take_at.ensures.status ∙ (ap (λ h. status_at (has_mark c.args.objects.now.items h) c.in_ok-place.place) item ∙ ap (λ i. status_at (has_mark c.args.objects.now.items (get_or c.args.handles.now (position_or_len (is_ready c.args.objects.now.items c.args.thread) c.args.handles.now) 0)) i) first.least))
+    let first = first_pass (is_ready c.args.objects.now.items c.args.thread) c.args.numbers.now c.in_ok-place.place (sym (rw c.as_slice.ensures at c.ready_place.ensures) ∙ c.in_ok-place.was) in
+    let item : c.index-numbers-place.result ≡ get_or c.args.numbers.now (position_or_len (is_ready c.args.objects.now.items c.args.thread) c.args.numbers.now) 0 = item_at (is_ready c.args.objects.now.items c.args.thread) c.args.numbers.now c.in_ok-place.place c.index-numbers-place.result first c.index-numbers-place.is in
+    tried_any c.args.objects.now.items c.take_at.new.objects.items c.args.thread (wait_for c.args.numbers.now false) c.take_at.result refl first.any
+    (c.take_at.ensures.status ∙ (ap (λ h. status_at (has_mark c.args.objects.now.items h) c.in_ok-place.place) item ∙ ap (λ i. status_at (has_mark c.args.objects.now.items (get_or c.args.numbers.now (position_or_len (is_ready c.args.objects.now.items c.args.thread) c.args.numbers.now) 0)) i) first.least))
     (c.take_at.ensures.items ∙ ap (λ h. take_at c.args.objects.now.items c.args.thread h) item)

@@ -46,12 +46,12 @@ returns-in_err-fill-clause-table c =
 
 pub returns-clause-table : goal.returns-clause-table
 returns-clause-table c =
-    rw c.get.ensures (filled_table c.make_room.new.queues c.fill.new.queues c.args.t (wait_for c.args.handles.now c.args.all c.args.about) c.fill.new.self c.in_ok-fill.ensures.filled c.make_room.new.waits.items
+    rw c.get.ensures (filled_table c.make_room.new.queues c.fill.new.queues c.args.t (wait_for c.args.objects.now c.args.all c.args.about) c.fill.new.self c.in_ok-fill.ensures.filled c.make_room.new.waits.items
     (roomy (goal.at.returns-clause-table c).After-make_room) (c.make_room.ensures.slots c.args.t ∙ c.requires.free) c.in_ok-make_room.ensures.place c.requires.few c.requires.distinct c.in_ok-fill.ensures.distinct)
 
 pub returns-clause-begun : goal.returns-clause-begun
 returns-clause-begun c =
     let room = c.make_room.ensures in
     let items = c.make_room.new.waits.items in
-    rw c.get.ensures (begun_before c.args.queues.now c.make_room.new.queues c.fill.new.queues c.args.waits.now.items items (set items c.args.t c.fill.new.self) c.args.t (wait_for c.args.handles.now c.args.all c.args.about) room.queues room.slots
-    (filled_begun c.make_room.new.queues c.fill.new.queues c.args.t (wait_for c.args.handles.now c.args.all c.args.about) c.fill.new.self c.in_ok-fill.ensures.filled items c.in_ok-make_room.ensures.place))
+    rw c.get.ensures (begun_before c.args.queues.now c.make_room.new.queues c.fill.new.queues c.args.waits.now.items items (set items c.args.t c.fill.new.self) c.args.t (wait_for c.args.objects.now c.args.all c.args.about) room.queues room.slots
+    (filled_begun c.make_room.new.queues c.fill.new.queues c.args.t (wait_for c.args.objects.now c.args.all c.args.about) c.fill.new.self c.in_ok-fill.ensures.filled items c.in_ok-make_room.ensures.place))

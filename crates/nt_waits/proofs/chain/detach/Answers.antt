@@ -4,20 +4,20 @@ use Rattle.nt_waits.proofs.QueueLemmas.{queue_present, previous_there, next_ther
 use Rattle.nt_waits.proofs.chain.detach.Goals as goal
 
 pub reach-block-requires-clause-there : goal.reach-block-requires-clause-there
-reach-block-requires-clause-there c = queue_present c.args.blocks.now c.args.ends.now c.args.handle _ c.requires.queue c.args.number c.requires.linked
+reach-block-requires-clause-there c = queue_present c.args.blocks.now c.args.ends.now c.args.object _ c.requires.queue c.args.number c.requires.linked
 
 pub set_next-requires-clause-there : goal.set_next-requires-clause-there
 set_next-requires-clause-there c =
-    previous_there c.args.blocks.now c.reach-block.new.blocks c.args.ends.now c.args.handle _ c.args.number c.reach-block.result c.requires.queue c.requires.linked c.reach-block.ensures.was c.reach-block.ensures.updates
+    previous_there c.args.blocks.now c.reach-block.new.blocks c.args.ends.now c.args.object _ c.args.number c.reach-block.result c.requires.queue c.requires.linked c.reach-block.ensures.was c.reach-block.ensures.updates
 
 pub set_previous-next-requires-clause-there : goal.set_previous-next-requires-clause-there
 set_previous-next-requires-clause-there c =
-    next_there c.args.blocks.now c.reach-block.new.blocks c.args.ends.now c.args.handle _ c.args.number c.reach-block.result c.requires.queue c.requires.linked c.reach-block.ensures.was c.reach-block.ensures.updates c.set_next.new.blocks c.set_next.ensures.owners
+    next_there c.args.blocks.now c.reach-block.new.blocks c.args.ends.now c.args.object _ c.args.number c.reach-block.result c.requires.queue c.requires.linked c.reach-block.ensures.was c.reach-block.ensures.updates c.set_next.new.blocks c.set_next.ensures.owners
 
 pub returns-clause-queue : goal.returns-clause-queue
 returns-clause-queue c =
     let final = c.set_previous-next.new.ends in
-    queue_detached c.args.blocks.now c.reach-block.new.blocks c.args.ends.now c.args.handle _ c.args.number c.reach-block.result c.requires.queue c.requires.linked c.reach-block.ensures.was c.reach-block.ensures.updates
+    queue_detached c.args.blocks.now c.reach-block.new.blocks c.args.ends.now c.args.object _ c.args.number c.reach-block.result c.requires.queue c.requires.linked c.reach-block.ensures.was c.reach-block.ensures.updates
     c.set_next.new.blocks c.set_previous-next.new.blocks c.set_next.new.ends final (record final { count = final.count - 1 })
     c.set_next.ensures.written c.set_next.ensures.others c.set_next.ensures.backward c.set_next.ensures.owners
     c.set_previous-next.ensures.written c.set_previous-next.ensures.others c.set_previous-next.ensures.forward c.set_previous-next.ensures.owners
@@ -25,10 +25,10 @@ returns-clause-queue c =
 
 pub returns-clause-elsewhere : goal.returns-clause-elsewhere
 returns-clause-elsewhere c =
-    detached_elsewhere c.args.blocks.now c.reach-block.new.blocks c.args.ends.now c.args.handle _ c.args.number c.reach-block.result c.requires.queue c.requires.linked c.reach-block.ensures.was c.reach-block.ensures.updates
+    detached_elsewhere c.args.blocks.now c.reach-block.new.blocks c.args.ends.now c.args.object _ c.args.number c.reach-block.result c.requires.queue c.requires.linked c.reach-block.ensures.was c.reach-block.ensures.updates
     c.set_next.new.blocks c.set_previous-next.new.blocks c.set_next.ensures.elsewhere c.set_previous-next.ensures.elsewhere
 
 pub returns-clause-next : goal.returns-clause-next
 returns-clause-next c =
     c.set_previous-next.ensures.thread
-    ∙ next_thread c.args.blocks.now c.reach-block.new.blocks c.args.ends.now c.args.handle _ c.args.number c.reach-block.result c.requires.queue c.requires.linked c.reach-block.ensures.was c.reach-block.ensures.updates c.set_next.new.blocks c.set_next.ensures.owners
+    ∙ next_thread c.args.blocks.now c.reach-block.new.blocks c.args.ends.now c.args.object _ c.args.number c.reach-block.result c.requires.queue c.requires.linked c.reach-block.ensures.was c.reach-block.ensures.updates c.set_next.new.blocks c.set_next.ensures.owners

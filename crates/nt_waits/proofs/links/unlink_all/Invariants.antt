@@ -2,4 +2,4 @@ use Rattle.nt_waits.proofs.StepLemmas.{UnlinkedSoFar}
 use Rattle.nt_waits.proofs.links.unlink_all.Given as goal
 
 abbrev pub invariant-loop-i : goal.invariant-loop-i
-invariant-loop-i l = UnlinkedSoFar l.initial.queues l.queues l.handles l.numbers l.i
+invariant-loop-i l = UnlinkedSoFar l.initial.queues l.queues l.objects l.numbers l.i

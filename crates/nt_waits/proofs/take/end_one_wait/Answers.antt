@@ -29,13 +29,13 @@ returns-clause-touched c p is =
 
 pub returns-clause-next : goal.returns-clause-next
 returns-clause-next c =
-    let queue = list_at c.args.queues.now c.args.handle in
+    let queue = list_at c.args.queues.now c.args.object in
     let p = held (slot_at c.args.waits.now.items c.args.t) c.requires.there in
     let here = read (goal.at.returns-clause-next c).After-index_mut in
-    let one : p.0.wait.handles ≡ c.args.handle ∷ [] = c.requires.one p.0 p.1 in
-    let many : length p.0.wait.handles ≡ 1 = ap (λ hs. length hs) one in
+    let one : p.0.wait.objects ≡ c.args.object ∷ [] = c.requires.one p.0 p.1 in
+    let many : length p.0.wait.objects ≡ 1 = ap (λ hs. length hs) one in
     let first = (c.requires.table.linked c.args.t p.0 p.1).linked 0 (omega (arith, many)) in
     let link : HasLink queue (record { number = get_or p.0.numbers.items 0 0; thread = c.args.t }) =
     subst (λ (h : ℕ). HasLink (list_at c.args.queues.now h) (record { number = get_or p.0.numbers.items 0 0; thread = c.args.t })) (ap (λ hs. get_or hs 0 0) one) first in
     (rw c.touch_anew.ensures at c.empty_one.ensures.next p.0 (here ∙ p.1))
-    ∙ next_after-threads queue (get_or p.0.numbers.items 0 0) c.args.t link (c.requires.table.distinct c.args.handle) (c.requires.table.once c.args.handle)
+    ∙ next_after-threads queue (get_or p.0.numbers.items 0 0) c.args.t link (c.requires.table.distinct c.args.object) (c.requires.table.once c.args.object)

@@ -20,8 +20,8 @@ use Rattle.nt_core.proofs.machine.Machine.cancel_timer.Goals as goal
 pub returns-in_err-timer : goal.returns-in_err-timer
 returns-in_err-timer c t free =
     let old = c.args.self.now in
-    let act = Act.CancelTimer c.args.timer in
-    refused_with old t (act_denied old.handles act) (Call.Act (act_named old.handles act)) c.in_err-timer.field-0.0 c.from_residual.result c.from_residual.ensures.1 c.requires.fresh free (subst (λ (x : Dispatcher). IsJudged x.handles c.args.timer modify_state (kind_causes is_timer x.objects) (Err c.in_err-timer.field-0.0)) c.self.view_is c.in_err-timer.ensures)
+    let act = Act.CancelTimer c.args.handle in
+    refused_with old t (act_denied old.handles act) (Call.Act (act_named old.handles act)) c.in_err-timer.field-0.0 c.from_residual.result c.from_residual.ensures.1 c.requires.fresh free (subst (λ (x : Dispatcher). IsJudged x.handles c.args.handle modify_state (kind_causes is_timer x.objects) (Err c.in_err-timer.field-0.0)) c.self.view_is c.in_err-timer.ensures)
 
 pub put_timer-requires-clause-owner : goal.put_timer-requires-clause-owner
 put_timer-requires-clause-owner c = ap owner_of c.cancel.ensures ∙ (owner_armed None c.object-object.result ∙ ap owner_of c.object-object.ensures)
@@ -31,9 +31,9 @@ returns c t free =
     let old = c.args.self.now in
     let mid = c.withdraw.new.self in
     let new = c.put_timer.new.self in
-    let act = Act.CancelTimer c.args.timer in
+    let act = Act.CancelTimer c.args.handle in
     let timer = c.in_ok-timer.timer in
-    let judged = (subst (λ (x : Dispatcher). IsJudged x.handles c.args.timer modify_state (kind_causes is_timer x.objects) (Ok c.in_ok-timer.timer)) c.self.view_is c.in_ok-timer.ensures) in
+    let judged = (subst (λ (x : Dispatcher). IsJudged x.handles c.args.handle modify_state (kind_causes is_timer x.objects) (Ok c.in_ok-timer.timer)) c.self.view_is c.in_ok-timer.ensures) in
     let accepted = cancel_accepted old new t timer c.requires.fresh (kind_free is_timer old.objects (act_denied old.handles act) timer judged.1)
     (c.put_timer.ensures
     ∙ (ap (λ (o : Object). record mid { objects = set mid.objects timer o; alarms = set mid.alarms timer (due_of o) }) (c.cancel.ensures ∙ ap (armed_with None) c.object-object.ensures)

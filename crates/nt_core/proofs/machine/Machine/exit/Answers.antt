@@ -21,8 +21,8 @@ serve_marked-requires c =
     let mid = c.leave.new.self in
     let t = c.args.thread in
     let left = c.leave.ensures.left in
-    let handles = marked_places mid.marked.changed in
-    let few : length (sequence (state mid) handles) < 2 ^ 64 = subst (λ (s : State). length (sequence s handles) < 2 ^ 64) (sym left.becomes) (exited_few old t handles c.requires.fresh.steady.sound (exited_places old mid t left)) in
+    let numbers = marked_places mid.marked.changed in
+    let few : length (sequence (state mid) numbers) < 2 ^ 64 = subst (λ (s : State). length (sequence s numbers) < 2 ^ 64) (sym left.becomes) (exited_few old t numbers c.requires.fresh.steady.sound (exited_places old mid t left)) in
     let none : mid.table.looked ≡ 0 = ap (λ (w : Waits). w.looked) left.table ∙ c.requires.fresh.untested in
     record { sound = c.leave.ensures.sound; countable = omega (arith, few, none) }
 
@@ -33,9 +33,9 @@ returns c =
     let new = c.serve_marked.new.self in
     let t = c.args.thread in
     let left = c.leave.ensures.left in
-    let handles = marked_places mid.marked.changed in
-    let changed : AreRising (IsChanged old.objects (objects_left old.objects t)) handles = exited_places old mid t left in
-    let fit : FitOnlyIn (sequence (state mid) handles) (state mid) = subst (λ (s : State). FitOnlyIn (sequence s handles) s) (sym left.becomes) (exited_fit old t handles c.requires.fresh.steady c.requires.running.known c.requires.running.runs changed) in
-    let whole = serving_whole (sequence (state mid) handles) (with_marked mid new.marked) new (left.grants ∙ c.requires.fresh.no_grants) (ap (λ (w : Waits). w.looked) left.table ∙ c.requires.fresh.untested) fit c.serve_marked.ensures.visits in
-    exited_accepted old mid new t handles c.requires.fresh left changed whole.0 c.serve_marked.ensures.sound whole.1 whole.2
+    let numbers = marked_places mid.marked.changed in
+    let changed : AreRising (IsChanged old.objects (objects_left old.objects t)) numbers = exited_places old mid t left in
+    let fit : FitOnlyIn (sequence (state mid) numbers) (state mid) = subst (λ (s : State). FitOnlyIn (sequence s numbers) s) (sym left.becomes) (exited_fit old t numbers c.requires.fresh.steady c.requires.running.known c.requires.running.runs changed) in
+    let whole = serving_whole (sequence (state mid) numbers) (with_marked mid new.marked) new (left.grants ∙ c.requires.fresh.no_grants) (ap (λ (w : Waits). w.looked) left.table ∙ c.requires.fresh.untested) fit c.serve_marked.ensures.visits in
+    exited_accepted old mid new t numbers c.requires.fresh left changed whole.0 c.serve_marked.ensures.sound whole.1 whole.2
     (record { changed = c.serve_marked.ensures.served; alerted = subst (λ marks. NoneAt marks 0) (sym (c.serve_marked.ensures.alerted ∙ left.alerted)) c.requires.fresh.steady.unmarked.alerted })

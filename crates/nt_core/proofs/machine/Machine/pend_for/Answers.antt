@@ -12,16 +12,16 @@ use Rattle.nt_core.proofs.machine.Machine.pend_for.Goals as goal
 pub returns : goal.returns
 returns c =
     let d = dispatcher_of c.self.inside.threads c.self.inside.handles.opened c.self.inside.objects.items c.self.inside.objects.owned c.self.inside.waits c.self.inside.apcs c.self.inside.handing.items c.self.inside.moment c.self.inside.grants.items c.self.inside.alarms c.self.inside.leaving c.self.inside.changed c.self.inside.alerted in
-    let w : Wait = record { handles = c.args.handles.now; all = c.args.mode.all; alertable = c.args.mode.alertable; deadline = deadline_after d.now c.args.mode.ms } in
+    let w : Wait = record { objects = c.args.objects.now; all = c.args.mode.all; alertable = c.args.mode.alertable; deadline = deadline_after d.now c.args.mode.ms } in
     let sound : IsSound d = subst IsSound (sym c.self.view_is) c.requires.sound in
     let able : IsSoundWait d.threads d.objects c.args.thread w =
-    let same = subst (λ (x : Dispatcher). IsSoundWait x.threads x.objects c.args.thread (record { handles = c.args.handles.now; all = c.args.mode.all; alertable = false; deadline = None })) (sym c.self.view_is) c.requires.can.able in
+    let same = subst (λ (x : Dispatcher). IsSoundWait x.threads x.objects c.args.thread (record { objects = c.args.objects.now; all = c.args.mode.all; alertable = false; deadline = None })) (sym c.self.view_is) c.requires.can.able in
     record { known = same.known; runs = same.runs; few = same.few; apart = same.apart; named = same.named; living = same.living } in
     let idle : fin.get d.table.pending c.args.thread ≡ None = subst (λ (x : Dispatcher). fin.get x.table.pending c.args.thread ≡ None) (sym c.self.view_is) c.requires.can.idle in
     let room : length d.grants + fin.len d.table.pending < d.threads = subst (λ (x : Dispatcher). length x.grants + fin.len x.table.pending < x.threads) (sym c.self.view_is) c.requires.can.room in
     let done : Begins d.table c.begin_in_place.new.self c.args.thread w =
-    subst (λ (o : Option ℕ). Begins d.table c.begin_in_place.new.self c.args.thread (record { handles = c.args.handles.now; all = c.args.mode.all; alertable = c.args.mode.alertable; deadline = o })) c.deadline_after.ensures c.in_ok-begin_in_place.ensures.begins in
-    subst (λ (x : Dispatcher). HasPended x (record d { table = c.begin_in_place.new.self }) c.args.thread c.args.handles.now c.args.mode (Ok tt)) c.self.view_is
+    subst (λ (o : Option ℕ). Begins d.table c.begin_in_place.new.self c.args.thread (record { objects = c.args.objects.now; all = c.args.mode.all; alertable = c.args.mode.alertable; deadline = o })) c.deadline_after.ensures c.in_ok-begin_in_place.ensures.begins in
+    subst (λ (x : Dispatcher). HasPended x (record d { table = c.begin_in_place.new.self }) c.args.thread c.args.objects.now c.args.mode (Ok tt)) c.self.view_is
     (record {
       state = pends_too d c.begin_in_place.new.self c.args.thread w done.pending done.joined done.queues_kept;
       sound = sound_begun d c.begin_in_place.new.self c.args.thread w sound able idle room done.pending c.in_ok-begin_in_place.ensures.agrees (queues_longer d.table c.begin_in_place.new.self c.args.thread w done.joined done.queues_kept);

@@ -21,15 +21,15 @@ use Rattle.nt_core.proofs.machine.Machine.queue_apc.Goals as goal
 pub returns-in_err-target : goal.returns-in_err-target
 returns-in_err-target c t free =
     let old = c.args.self.now in
-    let act = Act.QueueApc c.args.target c.args.routine c.args.arg in
-    refused_with old t (act_denied old.handles act) (Call.Act (act_named old.handles act)) c.in_err-target.field-0.0 c.from_residual.result c.from_residual.ensures.1 c.requires.fresh free (subst (λ (x : Dispatcher). IsJudged x.handles c.args.target set_context (apc_causes x.objects) (Err c.in_err-target.field-0.0)) c.self.view_is c.in_err-target.ensures)
+    let act = Act.QueueApc c.args.handle c.args.routine c.args.arg in
+    refused_with old t (act_denied old.handles act) (Call.Act (act_named old.handles act)) c.in_err-target.field-0.0 c.from_residual.result c.from_residual.ensures.1 c.requires.fresh free (subst (λ (x : Dispatcher). IsJudged x.handles c.args.handle set_context (apc_causes x.objects) (Err c.in_err-target.field-0.0)) c.self.view_is c.in_err-target.ensures)
 
 pub returns-in_err-push : goal.returns-in_err-push
 returns-in_err-push c t free =
     let old = c.args.self.now in
     let new : Dispatcher = record (the_view c.self.inside) { apcs = c.push.new.self } in
-    let act = Act.QueueApc c.args.target c.args.routine c.args.arg in
-    let judged = (subst (λ (x : Dispatcher). IsJudged x.handles c.args.target set_context (apc_causes x.objects) (Ok c.in_ok-target.target)) c.self.view_is c.in_ok-target.ensures) in
+    let act = Act.QueueApc c.args.handle c.args.routine c.args.arg in
+    let judged = (subst (λ (x : Dispatcher). IsJudged x.handles c.args.handle set_context (apc_causes x.objects) (Ok c.in_ok-target.target)) c.self.view_is c.in_ok-target.ensures) in
     subst (λ (h : ℕ). IsMade old new t (act_denied old.handles act) (Call.Act (Act.QueueApc h c.args.routine c.args.arg)) c.from_residual-in_err-push.result) judged.0
     (unmade_with old new t (act_denied old.handles act) (Call.Act (Act.QueueApc c.in_ok-target.target c.args.routine c.args.arg)) c.from_residual-in_err-push.result c.from_residual-in_err-push.ensures.1 c.requires.fresh free judged.1 refl (ap (λ (a : Apcs). record (the_view c.self.inside) { apcs = a }) c.in_err-push.ensures.err ∙ c.self.view_is))
 
@@ -43,9 +43,9 @@ pub returns : goal.returns
 returns c t free =
     let old = c.args.self.now in
     let new = c.rouse.new.self in
-    let act = Act.QueueApc c.args.target c.args.routine c.args.arg in
+    let act = Act.QueueApc c.args.handle c.args.routine c.args.arg in
     let q : Queued = record { apc = record { routine = c.args.routine; arg = c.args.arg; at = None }; timer = None } in
-    let judged = (subst (λ (x : Dispatcher). IsJudged x.handles c.args.target set_context (apc_causes x.objects) (Ok c.in_ok-target.target)) c.self.view_is c.in_ok-target.ensures) in
+    let judged = (subst (λ (x : Dispatcher). IsJudged x.handles c.args.handle set_context (apc_causes x.objects) (Ok c.in_ok-target.target)) c.self.view_is c.in_ok-target.ensures) in
     let target : c.new-target.result ≡ c.in_ok-target.target = c.new-target.ensures ∙ c.get.ensures in
     let mid = with_queues old (pushed old.apcs.queues c.new-target.result q) in
     let roused : IsRoused mid new c.new-target.result = subst (λ (d : Dispatcher). IsRoused d new c.new-target.result) (queues_in (the_view c.self.inside) old (λ queues. pushed queues c.new-target.result q) c.push.new.self c.self.view_is (c.in_ok-push.ensures.ok ∙ ap (λ (at : Option ℕ). pushed (the_view c.self.inside).apcs.queues c.new-target.result (record { apc = record { routine = c.args.routine; arg = c.args.arg; at = at }; timer = None })) c.new.ensures) c.push.ensures.places) c.rouse.ensures.roused in

@@ -24,17 +24,17 @@ pub returns-in_err-semaphore : goal.returns-in_err-semaphore
 returns-in_err-semaphore c t free =
     let old = c.args.self.now in
     let counted : to_z w32 (of_z w32 c.args.count) ≡ c.args.count = to_z-of_z w32 c.args.count c.ranges.count in
-    let act = Act.ReleaseSemaphore c.args.semaphore c.args.count in
-    refused_with old t (act_denied old.handles act) (Call.Act (act_named old.handles act)) c.in_err-semaphore.field-0.0 c.from_residual.result c.from_residual.ensures.1 c.requires.fresh free (subst (λ (x : Dispatcher). IsJudged x.handles c.args.semaphore modify_state (λ denied h. release_causes x.objects denied h c.args.count) (Err c.in_err-semaphore.field-0.0)) c.self.view_is (rw counted at c.in_err-semaphore.ensures))
+    let act = Act.ReleaseSemaphore c.args.handle c.args.count in
+    refused_with old t (act_denied old.handles act) (Call.Act (act_named old.handles act)) c.in_err-semaphore.field-0.0 c.from_residual.result c.from_residual.ensures.1 c.requires.fresh free (subst (λ (x : Dispatcher). IsJudged x.handles c.args.handle modify_state (λ denied h. release_causes x.objects denied h c.args.count) (Err c.in_err-semaphore.field-0.0)) c.self.view_is (rw counted at c.in_err-semaphore.ensures))
 
 pub returns : goal.returns
 returns c t free =
     let old = c.args.self.now in
     let new = c.raise_count.new.self in
     let counted : to_z w32 (of_z w32 c.args.count) ≡ c.args.count = to_z-of_z w32 c.args.count c.ranges.count in
-    let act = Act.ReleaseSemaphore c.args.semaphore c.args.count in
+    let act = Act.ReleaseSemaphore c.args.handle c.args.count in
     let semaphore = c.in_ok-semaphore.semaphore in
-    let judged = (subst (λ (x : Dispatcher). IsJudged x.handles c.args.semaphore modify_state (λ denied h. release_causes x.objects denied h c.args.count) (Ok c.in_ok-semaphore.semaphore)) c.self.view_is (rw counted at c.in_ok-semaphore.ensures)) in
+    let judged = (subst (λ (x : Dispatcher). IsJudged x.handles c.args.handle modify_state (λ denied h. release_causes x.objects denied h c.args.count) (Ok c.in_ok-semaphore.semaphore)) c.self.view_is (rw counted at c.in_ok-semaphore.ensures)) in
     let o = object_at old.objects semaphore in
     let may = release_free old.objects (act_denied old.handles act) semaphore c.args.count judged.1 in
     let more = may_count_more old semaphore c.args.count c.requires.fresh may.0 may.1 may.2 in

@@ -8,72 +8,72 @@ use Rattle.nt_core.proofs.machine.Machine.serve_first.Goals as goal
 use Rattle.nt_core.proofs.machine.Machine.serve_first.Goals.{In-Some}
 
 -- the walk comes to this thread
-here : (c : In-Some) → IsAt c.args.handle c.args.self.now c.loop-next.self (Some c.in-Some.thread)
-here c = subst (λ (at : Option ℕ). IsAt c.args.handle c.args.self.now c.loop-next.self at) c.in-Some.is c.loop-next.invariant.0
+here : (c : In-Some) → IsAt c.args.object c.args.self.now c.loop-next.self (Some c.in-Some.thread)
+here c = subst (λ (at : Option ℕ). IsAt c.args.object c.args.self.now c.loop-next.self at) c.in-Some.is c.loop-next.invariant.0
 
 pub loop-next-init : goal.loop-next-init
 loop-next-init c = (
-  at_first c.args.handle c.args.self.now (Some c.args.first) c.requires.sound (sym c.requires.first),
+  at_first c.args.object c.args.self.now (Some c.args.first) c.requires.sound (sym c.requires.first),
   refl,
   c.requires.needed,
 )
 
 pub visit-next-requires-clause-waits : goal.visit-next-requires-clause-waits
-visit-next-requires-clause-waits c = at_member c.args.handle c.args.self.now c.loop-next.self c.in-Some.thread (here (goal.at.visit-next-requires-clause-waits c).In-Some)
+visit-next-requires-clause-waits c = at_member c.args.object c.args.self.now c.loop-next.self c.in-Some.thread (here (goal.at.visit-next-requires-clause-waits c).In-Some)
 
 pub visit-next-requires-clause-countable : goal.visit-next-requires-clause-countable
 visit-next-requires-clause-countable c =
-    let more = at_countable c.args.handle c.args.self.now c.loop-next.self c.in-Some.thread (here (goal.at.visit-next-requires-clause-countable c).In-Some) in
+    let more = at_countable c.args.object c.args.self.now c.loop-next.self c.in-Some.thread (here (goal.at.visit-next-requires-clause-countable c).In-Some) in
     omega (arith, more, c.requires.countable)
 
 pub loop-next-preserved : goal.loop-next-preserved
 loop-next-preserved c = (
-  at_next c.args.handle c.args.self.now c.loop-next.self c.visit-next.new.self c.in-Some.thread c.visit-next.result
+  at_next c.args.object c.args.self.now c.loop-next.self c.visit-next.new.self c.in-Some.thread c.visit-next.result
       (here (goal.at.loop-next-preserved c).In-Some)
       c.visit-next.ensures.visited.visited
       c.visit-next.ensures.visited.sound
       c.visit-next.ensures.next,
   c.visit-next.ensures.visited.prepared ∙ c.loop-next.invariant.1,
-  by_visited c.args.handle c.loop-next.self c.visit-next.new.self c.in-Some.thread c.visit-next.ensures.visited.visited c.loop-next.invariant.2,
+  by_visited c.args.object c.loop-next.self c.visit-next.new.self c.in-Some.thread c.visit-next.ensures.visited.visited c.loop-next.invariant.2,
 )
 
 pub loop-next-preserved-else-not-is_ready : goal.loop-next-preserved-else-not-is_ready
 loop-next-preserved-else-not-is_ready c = (
-  subst (λ (at : Option ℕ). IsAt c.args.handle c.args.self.now c.visit-next.new.self at) c.in-Some-next.is (at_next c.args.handle c.args.self.now c.loop-next.self c.visit-next.new.self c.in-Some.thread c.visit-next.result
+  subst (λ (at : Option ℕ). IsAt c.args.object c.args.self.now c.visit-next.new.self at) c.in-Some-next.is (at_next c.args.object c.args.self.now c.loop-next.self c.visit-next.new.self c.in-Some.thread c.visit-next.result
       (here (goal.at.loop-next-preserved-else-not-is_ready c).In-Some)
       c.visit-next.ensures.visited.visited
       c.visit-next.ensures.visited.sound
       c.visit-next.ensures.next),
   c.visit-next.ensures.visited.prepared ∙ c.loop-next.invariant.1,
-  by_visited c.args.handle c.loop-next.self c.visit-next.new.self c.in-Some.thread c.visit-next.ensures.visited.visited c.loop-next.invariant.2,
+  by_visited c.args.object c.loop-next.self c.visit-next.new.self c.in-Some.thread c.visit-next.ensures.visited.visited c.loop-next.invariant.2,
 )
 
 pub loop-next-smaller : goal.loop-next-smaller
 loop-next-smaller c =
-    let more = at_countable c.args.handle c.args.self.now c.loop-next.self c.in-Some.thread (here (goal.at.loop-next-smaller c).In-Some) in
+    let more = at_countable c.args.object c.args.self.now c.loop-next.self c.in-Some.thread (here (goal.at.loop-next-smaller c).In-Some) in
     let looked = looked_visited c.loop-next.self c.visit-next.new.self c.in-Some.thread c.visit-next.ensures.visited.visited in
-    let less : (c.args.self.now.table.looked + length ((state c.args.self.now).queues c.args.handle)) - c.visit-next.new.self.table.looked < (c.args.self.now.table.looked + length ((state c.args.self.now).queues c.args.handle)) - c.loop-next.self.table.looked = omega (arith, more, looked) in
+    let less : (c.args.self.now.table.looked + length ((state c.args.self.now).queues c.args.object)) - c.visit-next.new.self.table.looked < (c.args.self.now.table.looked + length ((state c.args.self.now).queues c.args.object)) - c.loop-next.self.table.looked = omega (arith, more, looked) in
     less
 
 pub returns : goal.returns
 returns c =
-    let end = subst (λ (at : Option ℕ). IsAt c.args.handle c.args.self.now c.loop-next.self at) c.in_default.is c.loop-next.invariant.0 in
-    record { visits = at_end c.args.handle c.args.self.now c.loop-next.self end; prepared = c.loop-next.invariant.1; sound = end.sound }
+    let end = subst (λ (at : Option ℕ). IsAt c.args.object c.args.self.now c.loop-next.self at) c.in_default.is c.loop-next.invariant.0 in
+    record { visits = at_end c.args.object c.args.self.now c.loop-next.self end; prepared = c.loop-next.invariant.1; sound = end.sound }
 
 -- nothing that is left fits
 pub returns-then-not-is_ready : goal.returns-then-not-is_ready
 returns-then-not-is_ready c =
-    let unready : is_ready c.visit-next.new.self.objects c.in-Some-next.after c.args.handle ≡ false =
-    ap (λ (d : Dispatcher). is_ready d.objects c.in-Some-next.after c.args.handle) (sym c.self.view_is)
-    ∙ (ap (λ (os : List Object). is_ready os c.in-Some-next.after c.args.handle) (sym c.as_slice.ensures) ∙ (sym c.is_ready.ensures ∙ c.if-not-is_ready.true)) in
-    let at = at_next c.args.handle c.args.self.now c.loop-next.self c.visit-next.new.self c.in-Some.thread c.visit-next.result
+    let unready : is_ready c.visit-next.new.self.objects c.in-Some-next.after c.args.object ≡ false =
+    ap (λ (d : Dispatcher). is_ready d.objects c.in-Some-next.after c.args.object) (sym c.self.view_is)
+    ∙ (ap (λ (os : List Object). is_ready os c.in-Some-next.after c.args.object) (sym c.as_slice.ensures) ∙ (sym c.is_ready.ensures ∙ c.if-not-is_ready.true)) in
+    let at = at_next c.args.object c.args.self.now c.loop-next.self c.visit-next.new.self c.in-Some.thread c.visit-next.result
     (here (goal.at.returns-then-not-is_ready c).In-Some)
     c.visit-next.ensures.visited.visited
     c.visit-next.ensures.visited.sound
     c.visit-next.ensures.next in
-    let by = by_visited c.args.handle c.loop-next.self c.visit-next.new.self c.in-Some.thread c.visit-next.ensures.visited.visited c.loop-next.invariant.2 in
+    let by = by_visited c.args.object c.loop-next.self c.visit-next.new.self c.in-Some.thread c.visit-next.ensures.visited.visited c.loop-next.invariant.2 in
     record {
-      visits = at_stop c.args.handle c.args.self.now c.visit-next.new.self c.visit-next.result at (by_none c.args.handle (state c.visit-next.new.self) c.in-Some-next.after by unready);
+      visits = at_stop c.args.object c.args.self.now c.visit-next.new.self c.visit-next.result at (by_none c.args.object (state c.visit-next.new.self) c.in-Some-next.after by unready);
       prepared = c.visit-next.ensures.visited.prepared ∙ c.loop-next.invariant.1;
       sound = c.visit-next.ensures.visited.sound;
     }

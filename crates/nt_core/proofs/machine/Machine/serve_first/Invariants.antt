@@ -5,8 +5,8 @@ use Rattle.nt_core.proofs.Walks.{IsAt}
 use Rattle.nt_core.proofs.machine.Machine.serve_first.Given as goal
 
 abbrev pub invariant-loop-next : goal.invariant-loop-next
-invariant-loop-next l = IsAt l.handle l.initial.self l.self l.next × (l.self.table.prepared ≡ l.initial.self.table.prepared) × FitOnlyBy l.handle (state l.self)
+invariant-loop-next l = IsAt l.object l.initial.self l.self l.next × (l.self.table.prepared ≡ l.initial.self.table.prepared) × FitOnlyBy l.object (state l.self)
 
 -- looks that are left
 abbrev pub decreases-loop-next : goal.decreases-loop-next
-decreases-loop-next l = l.initial.self.table.looked + length ((state l.initial.self).queues l.handle) - l.self.table.looked
+decreases-loop-next l = l.initial.self.table.looked + length ((state l.initial.self).queues l.object) - l.self.table.looked

@@ -4,8 +4,8 @@ use Rattle.nt_core.proofs.Walks.{IsAt}
 use Rattle.nt_core.proofs.machine.Machine.serve_on.Given as goal
 
 abbrev pub invariant-loop-at : goal.invariant-loop-at
-invariant-loop-at l = IsAt l.handle l.initial.self l.self l.at × (l.self.table.prepared ≡ l.initial.self.table.prepared)
+invariant-loop-at l = IsAt l.object l.initial.self l.self l.at × (l.self.table.prepared ≡ l.initial.self.table.prepared)
 
 -- looks that are left
 abbrev pub decreases-loop-at : goal.decreases-loop-at
-decreases-loop-at l = l.initial.self.table.looked + length ((state l.initial.self).queues l.handle) - l.self.table.looked
+decreases-loop-at l = l.initial.self.table.looked + length ((state l.initial.self).queues l.object) - l.self.table.looked

@@ -8,34 +8,34 @@ use Rattle.nt_core.proofs.machine.Machine.serve_one.Goals as goal
 
 pub serve_first-requires-clause-first : goal.serve_first-requires-clause-first
 serve_first-requires-clause-first c =
-    sym (ap (λ (d : Dispatcher). slice_get ((state d).queues c.args.handle) 0) c.self.view_is) ∙ (sym c.first_on.ensures.first ∙ c.in-Some.is)
+    sym (ap (λ (d : Dispatcher). slice_get ((state d).queues c.args.object) 0) c.self.view_is) ∙ (sym c.first_on.ensures.first ∙ c.in-Some.is)
 
 pub serve_first-requires-clause-countable : goal.serve_first-requires-clause-countable
-serve_first-requires-clause-countable c = one_countable c.args.self.now c.args.handle c.requires.anew (one_few c.args.self.now c.args.handle c.requires.sound)
+serve_first-requires-clause-countable c = one_countable c.args.self.now c.args.object c.requires.anew (one_few c.args.self.now c.args.object c.requires.sound)
 
 pub returns-in-Some-clause-served : goal.returns-in-Some-clause-served
-returns-in-Some-clause-served c = one_served c.args.self.now c.serve_first.new.self c.args.handle c.requires.first c.requires.local c.serve_first.ensures.visits
+returns-in-Some-clause-served c = one_served c.args.self.now c.serve_first.new.self c.args.object c.requires.first c.requires.local c.serve_first.ensures.visits
 
 pub returns-in-Some-clause-most : goal.returns-in-Some-clause-most
-returns-in-Some-clause-most c = one_most c.args.self.now c.serve_first.new.self c.args.handle c.requires.anew c.serve_first.ensures.visits
+returns-in-Some-clause-most c = one_most c.args.self.now c.serve_first.new.self c.args.object c.requires.anew c.serve_first.ensures.visits
 
 pub returns-in-Some-clause-least : goal.returns-in-Some-clause-least
-returns-in-Some-clause-least c = one_least c.args.self.now c.serve_first.new.self c.args.handle c.requires.first c.requires.anew c.serve_first.ensures.visits
+returns-in-Some-clause-least c = one_least c.args.self.now c.serve_first.new.self c.args.object c.requires.first c.requires.anew c.serve_first.ensures.visits
 
 pub returns-in_default-clause-served : goal.returns-in_default-clause-served
 returns-in_default-clause-served c =
     let old = c.args.self.now in
-    let first = c.first_on.ensures.first ∙ ap (λ (d : Dispatcher). slice_get ((state d).queues c.args.handle) 0) c.self.view_is in
-    one_served old old c.args.handle c.requires.first c.requires.local (at_end c.args.handle old old (at_first c.args.handle old None c.requires.sound (sym c.in_default.is ∙ first)))
+    let first = c.first_on.ensures.first ∙ ap (λ (d : Dispatcher). slice_get ((state d).queues c.args.object) 0) c.self.view_is in
+    one_served old old c.args.object c.requires.first c.requires.local (at_end c.args.object old old (at_first c.args.object old None c.requires.sound (sym c.in_default.is ∙ first)))
 
 pub returns-in_default-clause-most : goal.returns-in_default-clause-most
 returns-in_default-clause-most c =
     let old = c.args.self.now in
-    let first = c.first_on.ensures.first ∙ ap (λ (d : Dispatcher). slice_get ((state d).queues c.args.handle) 0) c.self.view_is in
-    one_most old old c.args.handle c.requires.anew (at_end c.args.handle old old (at_first c.args.handle old None c.requires.sound (sym c.in_default.is ∙ first)))
+    let first = c.first_on.ensures.first ∙ ap (λ (d : Dispatcher). slice_get ((state d).queues c.args.object) 0) c.self.view_is in
+    one_most old old c.args.object c.requires.anew (at_end c.args.object old old (at_first c.args.object old None c.requires.sound (sym c.in_default.is ∙ first)))
 
 pub returns-in_default-clause-least : goal.returns-in_default-clause-least
 returns-in_default-clause-least c =
     let old = c.args.self.now in
-    let first = c.first_on.ensures.first ∙ ap (λ (d : Dispatcher). slice_get ((state d).queues c.args.handle) 0) c.self.view_is in
-    one_least old old c.args.handle c.requires.first c.requires.anew (at_end c.args.handle old old (at_first c.args.handle old None c.requires.sound (sym c.in_default.is ∙ first)))
+    let first = c.first_on.ensures.first ∙ ap (λ (d : Dispatcher). slice_get ((state d).queues c.args.object) 0) c.self.view_is in
+    one_least old old c.args.object c.requires.first c.requires.anew (at_end c.args.object old old (at_first c.args.object old None c.requires.sound (sym c.in_default.is ∙ first)))

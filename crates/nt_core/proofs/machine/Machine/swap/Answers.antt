@@ -63,7 +63,7 @@ returns-in-Some-clause-ok c =
     subst (λ (d : Dispatcher). Accepts old d c.args.thread call (Reply.Status c.in-Some.status)) (sym (ap (λ (w : Waits). record (the_view c.self.inside) { table = w }) c.forget_prepared.ensures ∙ ap (λ (d : Dispatcher). with_prepared d None) c.self.view_is)) from_old
 
 -- which wait is prepared still
-prepared : (c : In_default) → c.end_at_once.new.self.table.prepared ≡ Some (c.args.thread, record { handles = c.args.object ∷ []; all = false; alertable = c.args.mode.alertable; deadline = deadline_after c.args.self.now.now c.args.mode.ms })
+prepared : (c : In_default) → c.end_at_once.new.self.table.prepared ≡ Some (c.args.thread, record { objects = c.args.object ∷ []; all = false; alertable = c.args.mode.alertable; deadline = deadline_after c.args.self.now.now c.args.mode.ms })
 prepared c = ap (λ (d : Dispatcher). d.table.prepared) c.in_default.ensures.none ∙ (c.signal.ensures.prepared ∙ c.in_ok-prepare.ensures.ready c.in_default.ensures.pends.2)
 
 pub pend_prepared-requires-clause-can : goal.pend_prepared-requires-clause-can
@@ -71,7 +71,7 @@ pend_prepared-requires-clause-can c p is =
     let now = (goal.at.pend_prepared-requires-clause-can c).In_default in
     let here = (goal.at.pend_prepared-requires-clause-can c).In_ok-prepare in
     let calm = c.signal.new.self in
-    let w : Wait = record { handles = c.args.object ∷ []; all = false; alertable = c.args.mode.alertable; deadline = deadline_after c.args.self.now.now c.args.mode.ms } in
+    let w : Wait = record { objects = c.args.object ∷ []; all = false; alertable = c.args.mode.alertable; deadline = deadline_after c.args.self.now.now c.args.mode.ms } in
     let can : CanBegin calm c.args.thread w = record {
       idle = calm_idle c.prepare.new.self calm c.args.thread c.args.signal c.args.object c.args.mode.ms c.args.mode.alertable (fresh here) (free here) (living here) c.signal.ensures.served;
       able = calm_able c.prepare.new.self calm c.args.thread c.args.signal c.args.object c.args.mode.ms c.args.mode.alertable (fresh here) (free here) (living here) c.signal.ensures.served w refl;
@@ -91,7 +91,7 @@ returns-clause-ok c =
     let new = c.pend_prepared.new.self in
     let t = c.args.thread in
     let asked = WaitCall.Swap c.args.signal c.args.object c.args.mode.ms c.args.mode.alertable in
-    let w : Wait = record { handles = c.args.object ∷ []; all = false; alertable = c.args.mode.alertable; deadline = deadline_after old.now c.args.mode.ms } in
+    let w : Wait = record { objects = c.args.object ∷ []; all = false; alertable = c.args.mode.alertable; deadline = deadline_after old.now c.args.mode.ms } in
     let same : c.end_at_once.new.self ≡ calm = c.in_default.ensures.none in
     let pends = c.in_default.ensures.pends in
     let steady : IsSteady calm = calm_steady mid calm t c.args.signal c.args.object c.args.mode.ms c.args.mode.alertable (fresh here) (free here) (living here) c.signal.ensures.served in
@@ -102,5 +102,5 @@ returns-clause-ok c =
     let answers : (Reply.Pended, state new) ≡ begun (state calm) t w c.args.mode.ms = ap (λ (s : State). (Reply.Pended, s)) becomes ∙ sym (begun_pends (state calm) t w c.args.mode.ms pends.0 pends.1 pends.2) in
     let accepted = swap_accepted mid calm t c.args.signal c.args.object c.args.mode.ms c.args.mode.alertable (fresh here) (free here) (living here) c.signal.ensures.served new Reply.Pended
     (c.pend_prepared.ensures.grants ∙ c.end_at_once.ensures.grants) (c.pend_prepared.ensures.looked ∙ ap (λ v. v.looked) c.end_at_once.ensures.table) settled
-    (answers ∙ ap (λ (due : Option ℕ). begun (state calm) t (record { handles = c.args.object ∷ []; all = false; alertable = c.args.mode.alertable; deadline = due }) c.args.mode.ms) deadline) in
+    (answers ∙ ap (λ (due : Option ℕ). begun (state calm) t (record { objects = c.args.object ∷ []; all = false; alertable = c.args.mode.alertable; deadline = due }) c.args.mode.ms) deadline) in
     accepts_prepared old new mid.table.prepared t (Call.Wait asked) Reply.Pended (subst (λ (d : Dispatcher). Accepts d new t (Call.Wait asked) Reply.Pended) c.prepare.ensures.kept accepted)

@@ -17,22 +17,22 @@ try_wait-requires-clause-few c =
     let d = dispatcher_of c.self.inside.threads c.self.inside.handles.opened c.self.inside.objects.items c.self.inside.objects.owned c.self.inside.waits c.self.inside.apcs c.self.inside.handing.items c.self.inside.moment c.self.inside.grants.items c.self.inside.alarms c.self.inside.leaving c.self.inside.changed c.self.inside.alerted in
     let sound : IsSound d = subst IsSound (sym c.self.view_is) c.requires.sound in
     let own = sound.waits c.args.thread c.in-Some.wait.now (sym c.in-Some.ensures.value) in
-    rw c.as_slice-handles.ensures own.few
+    rw c.as_slice-objects.ensures own.few
 
 pub try_wait-requires-clause-apart : goal.try_wait-requires-clause-apart
 try_wait-requires-clause-apart c =
     let d = dispatcher_of c.self.inside.threads c.self.inside.handles.opened c.self.inside.objects.items c.self.inside.objects.owned c.self.inside.waits c.self.inside.apcs c.self.inside.handing.items c.self.inside.moment c.self.inside.grants.items c.self.inside.alarms c.self.inside.leaving c.self.inside.changed c.self.inside.alerted in
     let sound : IsSound d = subst IsSound (sym c.self.view_is) c.requires.sound in
     let own = sound.waits c.args.thread c.in-Some.wait.now (sym c.in-Some.ensures.value) in
-    rw c.as_slice-handles.ensures own.apart
+    rw c.as_slice-objects.ensures own.apart
 
 pub try_wait-requires-clause-room : goal.try_wait-requires-clause-room
 try_wait-requires-clause-room c =
     let d = dispatcher_of c.self.inside.threads c.self.inside.handles.opened c.self.inside.objects.items c.self.inside.objects.owned c.self.inside.waits c.self.inside.apcs c.self.inside.handing.items c.self.inside.moment c.self.inside.grants.items c.self.inside.alarms c.self.inside.leaving c.self.inside.changed c.self.inside.alerted in
     let sound : IsSound d = subst IsSound (sym c.self.view_is) c.requires.sound in
     let own = sound.waits c.args.thread c.in-Some.wait.now (sym c.in-Some.ensures.value) in
-    let can : CanTake c.self.inside.objects.items c.args.thread c.in-Some.wait.now.handles = can_take c.self.inside.objects.items c.args.thread d.threads c.in-Some.wait.now sound.objects own in
-    rw c.as_slice-handles.ensures can
+    let can : CanTake c.self.inside.objects.items c.args.thread c.in-Some.wait.now.objects = can_take c.self.inside.objects.items c.args.thread d.threads c.in-Some.wait.now sound.objects own in
+    rw c.as_slice-objects.ensures can
 
 pub try_wait-requires-clause-known : goal.try_wait-requires-clause-known
 try_wait-requires-clause-known c =
@@ -48,9 +48,9 @@ returns-in_default-try_wait c =
     let small : d.table.looked + 1 < 2 ^ 64 = subst (λ (x : Dispatcher). x.table.looked + 1 < 2 ^ 64) (sym c.self.view_is) c.requires.countable in
     let objects = c.try_wait.new.objects.items in
     let owned = c.try_wait.new.objects.owned in
-    let handles = c.as_slice-handles.ensures in
+    let named = c.as_slice-objects.ensures in
     let tried : IsTried c.self.inside.objects.items c.try_wait.new.objects.items c.args.thread c.in-Some.wait.now None =
-    (subst (λ (hs : List ℕ). IsTried c.self.inside.objects.items c.try_wait.new.objects.items c.args.thread (wait_for hs c.in-Some.wait.now.all) None) handles c.in_default-try_wait.ensures.tried) in
+    (subst (λ (hs : List ℕ). IsTried c.self.inside.objects.items c.try_wait.new.objects.items c.args.thread (wait_for hs c.in-Some.wait.now.all) None) named c.in_default-try_wait.ensures.tried) in
     let result = visit_passed d c.args.thread c.in-Some.wait.now objects owned c.get.follows.lender-at-none sound small c.in-Some.ensures.value tried.0 tried.1 (ap (λ (o : Objects). o.owned) c.in_default-try_wait.ensures.none) c.get.follows.holds-at-none in
     record {
       visited = subst (λ (x : Dispatcher). IsVisited x (record d { objects = objects; owned = owned; table = c.get.follows.lender-at-none }) c.args.thread) c.self.view_is result.0;
@@ -82,7 +82,7 @@ let_go-requires c o member =
     let d = dispatcher_of c.self.inside.threads c.self.inside.handles.opened c.self.inside.objects.items c.self.inside.objects.owned c.self.inside.waits c.self.inside.apcs c.self.inside.handing.items c.self.inside.moment c.self.inside.grants.items c.self.inside.alarms c.self.inside.leaving c.self.inside.changed c.self.inside.alerted in
     let sound : IsSound d = subst IsSound (sym c.self.view_is) c.requires.sound in
     let own = sound.waits c.args.thread c.in-Some.wait.now (sym c.in-Some.ensures.value) in
-    let known = (own.named o (member_named c.in-Some.wait.now o (subst (λ (hs : List ℕ). Contains hs o) c.as_slice-handles.ensures member))).0 in
+    let known = (own.named o (member_named c.in-Some.wait.now o (subst (λ (hs : List ℕ). Contains hs o) c.as_slice-objects.ensures member))).0 in
     let count = sound.marks.count in
     omega (arith, known, count)
 
@@ -99,11 +99,11 @@ returns c =
     let leaving = c.let_go.new.leaving in
     let left = c.get.follows.holds-at-none in
     let tried : IsTried c.self.inside.objects.items objects c.args.thread wait (Some c.in-Some-try_wait.status) =
-    subst (λ (hs : List ℕ). IsTried c.self.inside.objects.items objects c.args.thread (wait_for hs wait.all) (Some c.in-Some-try_wait.status)) c.as_slice-handles.ensures c.in-Some-try_wait.ensures.tried in
+    subst (λ (hs : List ℕ). IsTried c.self.inside.objects.items objects c.args.thread (wait_for hs wait.all) (Some c.in-Some-try_wait.status)) c.as_slice-objects.ensures c.in-Some-try_wait.ensures.tried in
     let queues : (h : ℕ) → queue_of table h ≡ others c.args.thread (queue_of d.table h) = λ h. c.end_in_place.ensures.queues h ∙ ap (λ (v : Waits). others c.args.thread (queue_of v h)) left in
-    let unmarked : MarksAgreeBut wait.handles (record d { objects = objects; owned = owned; table = table; handing = set d.handing c.args.thread false; grants = grants }) =
+    let unmarked : MarksAgreeBut wait.objects (record d { objects = objects; owned = owned; table = table; handing = set d.handing c.args.thread false; grants = grants }) =
     visit_unmarked d c.args.thread c.in-Some-try_wait.status wait objects owned table grants sound c.in-Some.ensures.value tried queues in
-    let lets : LetsGoBut [] d.handles wait.handles d.leaving leaving = subst (λ (hs : List ℕ). LetsGoBut [] d.handles hs d.leaving leaving) c.as_slice-handles.ensures c.let_go.ensures in
+    let lets : LetsGoBut [] d.handles wait.objects d.leaving leaving = subst (λ (hs : List ℕ). LetsGoBut [] d.handles hs d.leaving leaving) c.as_slice-objects.ensures c.let_go.ensures in
     let new : Dispatcher = record d { objects = objects; owned = owned; table = table; handing = set d.handing c.args.thread false; grants = grants; leaving = leaving } in
     let result : IsVisited d new c.args.thread × IsSound new = visit_granted d c.args.thread c.in-Some-try_wait.status wait objects owned table grants leaving sound c.in-Some.ensures.value
     tried
@@ -112,7 +112,7 @@ returns c =
     (c.end_in_place.ensures.looked ∙ (ap (λ (v : Waits). v.looked) left ∙ counted d.table.looked small))
     c.end_in_place.ensures.agrees
     c.push_reserved.ensures.items
-    (let_go_agree (record d { objects = objects; owned = owned; table = table; handing = set d.handing c.args.thread false; grants = grants }) wait.handles leaving unmarked lets) in
+    (let_go_agree (record d { objects = objects; owned = owned; table = table; handing = set d.handing c.args.thread false; grants = grants }) wait.objects leaving unmarked lets) in
     record {
       visited = subst (λ (k : ℕ). IsVisited c.args.self.now (record d { objects = objects; owned = owned; table = table; handing = set d.handing k false; grants = grants; leaving = leaving }) c.args.thread) (sym c.get-2.ensures) (subst (λ (x : Dispatcher). IsVisited x new c.args.thread) c.self.view_is result.0);
       prepared = c.end_in_place.ensures.prepared ∙ (ap (λ (v : Waits). v.prepared) c.get.follows.holds-at-none ∙ ap (λ (x : Dispatcher). x.table.prepared) c.self.view_is);

@@ -29,7 +29,7 @@ returns-in-Sleep c =
     rw c.replied.ensures (subst (λ (w : WaitCall). IsWaitMade old new t w (replied c.begin_wait.result)) (sym c.in-Sleep.is)
     (waited_made old new t false (Call.Wait asked) c.begin_wait.result c.requires.fresh c.requires.caller refl
     (ok_then
-    (λ ended. (reply_of ended, state new) ≡ begun (state old) t (record { handles = []; all = false; alertable = c.in-Sleep.alertable; deadline = deadline_after old.now c.in-Sleep.ms }) c.in-Sleep.ms)
+    (λ ended. (reply_of ended, state new) ≡ begun (state old) t (record { objects = []; all = false; alertable = c.in-Sleep.alertable; deadline = deadline_after old.now c.in-Sleep.ms }) c.in-Sleep.ms)
     (λ ended. Accepts old new t (Call.Wait asked) (reply_of ended))
     (λ ended begins. wait_accepted old new t asked (reply_of ended) c.requires.fresh began.grants began.looked began.steady refl begins)
     c.begin_wait.result (subst (λ (m : Mode). IfOk c.begin_wait.result (λ ended. HasBegun (state old) (state new) t [] m (reply_of ended))) is began.begun))

@@ -39,7 +39,7 @@ returns-in-None c =
     let judged = c.objects_refusal.ensures ∙ (ap (λ (os : List Object). first_of_causes (objects_causes os t c.args.denied c.args.numbers.now)) c.as_slice.ensures ∙ ap (λ (x : Dispatcher). first_of_causes (objects_causes x.objects t c.args.denied c.args.numbers.now)) c.self.view_is) in
     waited_made old new t c.args.denied (Call.Wait asked) c.begin_wait.result c.requires.fresh c.requires.caller (sym judged ∙ c.in-None.is)
     (ok_then
-    (λ ended. (reply_of ended, state new) ≡ begun (state old) t (record { handles = c.args.numbers.now; all = c.args.mode.all; alertable = c.args.mode.alertable; deadline = deadline_after old.now c.args.mode.ms }) c.args.mode.ms)
+    (λ ended. (reply_of ended, state new) ≡ begun (state old) t (record { objects = c.args.numbers.now; all = c.args.mode.all; alertable = c.args.mode.alertable; deadline = deadline_after old.now c.args.mode.ms }) c.args.mode.ms)
     (λ ended. Accepts old new t (Call.Wait asked) (reply_of ended))
     (λ ended begins. wait_accepted old new t asked (reply_of ended) c.requires.fresh began.grants began.looked began.steady refl begins)
     c.begin_wait.result began.begun)

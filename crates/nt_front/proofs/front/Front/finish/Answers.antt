@@ -1,12 +1,11 @@
 use Rattle.std.proofs.Common.{◌≡◌, [], ◌∷◌, ℕ, List, rules, ap, subst, sym, ◌∙◌}
-use Rattle.nt_core.specs.Dispatcher.{Dispatcher as Core, state}
 use Rattle.nt_mail.specs.declared.entry.Entry.{Entry}
 use Rattle.nt_mail.specs.Entries.{Each, accepted}
 use Rattle.nt_mail.specs.Rule.{IsTold}
 use Rattle.nt_mail.specs.Seats.{Dispatcher, Gathered, Seated}
 use Rattle.nt_front.specs.Held.{IsAccounted}
 use Rattle.nt_front.proofs.Closing.{AreJoined, none_joined, one_joined, all_accounted}
-use Rattle.nt_front.proofs.Since.{runs_from, led_from}
+use Rattle.nt_front.proofs.Since.{runs_from, led_from, all_written}
 use Rattle.nt_front.proofs.front.Front.finish.Goals as goal
 
 pub loop-hold-init : goal.loop-hold-init
@@ -33,11 +32,6 @@ returns-clause-run g c =
     let history = c.into_history-history.ensures.history in
     runs_from c.into_inner.result c.into_history-history.result.0.base c.into_history-history.result.0.entries.items c.into_history-history.ensures.stands history.1 history.2
 
-pub returns-clause-base : goal.returns-clause-base
-returns-clause-base g c =
-    let history = c.into_history-history.ensures.history in
-    led_from c.into_inner.result g.N.Named.front.threads c.into_history-history.result.0.first c.into_history-history.result.0.base c.into_history-history.ensures.stands c.into_history-history.ensures.threads history.0 history.1
-
 pub returns-clause-told : goal.returns-clause-told
 returns-clause-told g c =
     let book = c.into_inner.result in
@@ -47,6 +41,9 @@ returns-clause-told g c =
     let published : c.loop-hold.all.published ≡ accepted book.written = c.loop-hold.invariant.published ∙ (ap (λ (j : Gathered). j.published) c.gather-all.ensures ∙ ap (λ (d : Dispatcher). d.published) c.into_history-history.ensures.seat) in
     let told = subst (λ (x : List Entry × List ℕ). Each (IsTold x.0 x.1) c.loop-hold.all.parts) (λ i. (written i, published i)) c.close.ensures in
     let joined = subst (λ left. AreJoined c.args.holds.items left c.loop-hold.all.parts) empty c.loop-hold.invariant.joined in
-    let told_of = c.into_history-history.result.0 in
-    subst (λ (x : ℕ × Core × List Entry). Each (IsAccounted x.0 (state x.1).now x.2) c.args.holds.items) {x = (book.first, book.base, book.journal)} {y = (told_of.first, told_of.base, told_of.entries.items)} (λ i. (sym history.0 i, sym history.1 i, sym history.2 i))
-    (all_accounted book c.args.holds.items c.loop-hold.all.parts c.into_history-history.ensures.stands joined told)
+    let stands = c.into_history-history.ensures.stands in
+    let told_of = c.into_history-history.result.0 in (
+      stands.before,
+      led_from book g.N.Named.front.threads told_of.first told_of.base stands c.into_history-history.ensures.threads history.0 history.1,
+      subst (λ (l : List Entry). Each (IsAccounted l) c.args.holds.items) (all_written book told_of.entries.items stands history.2) (all_accounted book.written c.args.holds.items c.loop-hold.all.parts joined told),
+    )

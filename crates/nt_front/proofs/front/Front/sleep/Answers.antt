@@ -2,12 +2,13 @@ use Rattle.std.proofs.Common.{◌∷◌, [], ◌++◌, ap, ◌∙◌}
 use Rattle.nt_mail.specs.declared.knowledge.Knowledge.{Knowledge}
 use Rattle.nt_mail.specs.Entries.{given}
 use Rattle.nt_front.specs.Holds.{IsGiven}
+use Rattle.nt_front.proofs.Polling.{given_when_ready}
 use Rattle.nt_front.proofs.front.Front.sleep.Goals as goal
 
 pub returns-in-Ready : goal.returns-in-Ready
 returns-in-Ready g c =
     let entry = c.in-Ready.receipt.entry in
-    let told : IsGiven c.loop.sleeper entry c.in-Ready.receipt.result c.in-Ready.pass = c.in-Ready.ensures in
+    let told : IsGiven c.loop.sleeper entry c.in-Ready.receipt.result c.in-Ready.pass = given_when_ready c.loop.sleeper entry c.in-Ready.receipt.result c.in-Ready.pass c.in-Ready.ensures in
     let kept = c.note_looks.ensures ∙ c.pass.view_is in
     let same = c.loop.invariant in record {
       status = told.status;

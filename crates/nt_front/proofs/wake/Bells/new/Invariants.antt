@@ -1,5 +1,10 @@
-use Rattle.std.proofs.Common.{◌≡◌, vec_len}
+use Rattle.std.proofs.Common.{◌≡◌, ◌≤◌, vec_len, vec_capacity}
+use Rattle.nt_front.specs.Wakes.{AreNumbered}
 use Rattle.nt_front.proofs.wake.Bells.new.Given as goal
 
-abbrev pub invariant-loop : goal.invariant-loop
-invariant-loop l = vec_len l.all ≡ l.counter
+abbrev pub invariant-loop-thread : goal.invariant-loop-thread
+invariant-loop-thread l = record {
+  count : vec_len l.all ≡ l.thread;
+  numbered : AreNumbered l.all.items;
+  room : l.threads ≤ vec_capacity l.all;
+}

@@ -16,7 +16,7 @@ pub invariant_of-self : goal.invariant_of-self
 invariant_of-self c =
     let items = c.self.inside.objects.items in
     let lists = c.self.inside.owners.lists in
-    let count : c.new-handle.result ≡ length items = search rules in
+    let count : c.new-number.result ≡ length items = search rules in
     let passed : IsPassed lists c.pass.new.owners.lists (length items) (owner_of c.args.object) = rw (count, c.owner.ensures) at c.pass.ensures.passed in
     let short : length items < min (vec_capacity c.self.inside.objects) c.self.inside.owners.room = subst (λ (t : Objects). length t.items < t.room) (sym c.self.view_is) c.requires.room in
     let least = min-le_right (vec_capacity c.self.inside.objects) c.self.inside.owners.room in
@@ -29,5 +29,5 @@ pub pass-requires-clause-from : goal.pass-requires-clause-from
 pass-requires-clause-from c =
     let items = c.self.inside.objects.items in
     let lists = c.self.inside.owners.lists in
-    let count : c.new-handle.result ≡ length items = search rules in
+    let count : c.new-number.result ≡ length items = search rules in
     rw count (unlisted lists (length items) (next_unowned items lists c.self.invariant.0))

@@ -12,8 +12,8 @@ pub add-requires-clause-unowned : goal.add-requires-clause-unowned
 add-requires-clause-unowned c =
     let items = c.self.inside.objects.items in
     let free : owner_of c.in_ok-object.object.now ≡ None = search rules in
-    let read : c.in_ok-object.object.now ≡ object_at items c.args.handle = rw c.get.ensures at (c.in_ok-object.ensures.item.3.1 (Thread false)) in
-    free_unowned items c.self.inside.owners.lists c.args.handle c.self.invariant.0 (ap owner_of (sym read) ∙ free)
+    let read : c.in_ok-object.object.now ≡ object_at items c.args.number = rw c.get.ensures at (c.in_ok-object.ensures.item.3.1 (Thread false)) in
+    free_unowned items c.self.inside.owners.lists c.args.number c.self.invariant.0 (ap owner_of (sym read) ∙ free)
 
 pub invariant_of-self-then-joins : goal.invariant_of-self-then-joins
 invariant_of-self-then-joins c =
@@ -23,13 +23,13 @@ invariant_of-self-then-joins c =
     let new = c.try_take.new.self in
     let free : owner_of object ≡ None = search rules in
     let mutex : is_mutex object ≡ true = search rules in
-    let read : object ≡ object_at items c.args.handle = rw c.get.ensures at (c.in_ok-object.ensures.item.3.1 (Thread false)) in
-    let known : c.args.handle < length items = rw c.get.ensures at c.in_ok-object.ensures.item.3.0 in
+    let read : object ≡ object_at items c.args.number = rw c.get.ensures at (c.in_ok-object.ensures.item.3.1 (Thread false)) in
+    let known : c.args.number < length items = rw c.get.ensures at c.in_ok-object.ensures.item.3.0 in
     let thread : c.args.thread < length lists = subst (λ (t : Objects). c.args.thread < length t.owned) (sym c.self.view_is) c.requires.thread in
-    let unowned : IsUnowned lists c.args.handle = free_unowned items lists c.args.handle c.self.invariant.0 (ap owner_of (sym read) ∙ free) in
+    let unowned : IsUnowned lists c.args.number = free_unowned items lists c.args.number c.self.invariant.0 (ap owner_of (sym read) ∙ free) in
     let owner : owner_of new ≡ Some c.args.thread = ap owner_of c.in_ok-taken.ensures.taken ∙ owner-taken_free object c.args.thread mutex free in
-    let passed : IsPassed lists (added lists c.args.thread c.args.handle) c.args.handle (owner_of new) = rw owner (added_passed lists c.args.thread c.args.handle thread unowned c.self.invariant.0.once) in
-    let agree : OwnersAgree (set items c.args.handle new) (added lists c.args.thread c.args.handle) = agree_put items lists (added lists c.args.thread c.args.handle) c.args.handle new known c.self.invariant.0 passed in
+    let passed : IsPassed lists (added lists c.args.thread c.args.number) c.args.number (owner_of new) = rw owner (added_passed lists c.args.thread c.args.number thread unowned c.self.invariant.0.once) in
+    let agree : OwnersAgree (set items c.args.number new) (added lists c.args.thread c.args.number) = agree_put items lists (added lists c.args.thread c.args.number) c.args.number new known c.self.invariant.0 passed in
     let room : length items ≤ c.add.new.self.room = subst (λ (o : Owned). length items ≤ o.room) (sym c.add.ensures) c.self.invariant.1 in (
       subst (λ (o : Owned). OwnersAgree (set items c.get.result new) o.lists) (sym c.add.ensures) (rw c.get.ensures agree),
       rw (length-set items c.get.result new) room,
@@ -39,7 +39,7 @@ pub invariant_of-self-else-joins : goal.invariant_of-self-else-joins
 invariant_of-self-else-joins c =
     let items = c.self.inside.objects.items in
     let object = c.in_ok-object.object.now in
-    let known : c.args.handle < length items = rw c.get.ensures at c.in_ok-object.ensures.item.3.0 in
+    let known : c.args.number < length items = rw c.get.ensures at c.in_ok-object.ensures.item.3.0 in
     let stays : is_mutex object ≡ true → owner_of object ≡ None → ⊥ = λ mutex free. search (rules, mutex, free) in
-    owner_kept items c.self.inside.owners.lists c.args.handle c.get.result c.self.inside.owners.room object c.try_take.new.self c.get.ensures known c.in_ok-object.ensures.value
+    owner_kept items c.self.inside.owners.lists c.args.number c.get.result c.self.inside.owners.room object c.try_take.new.self c.get.ensures known c.in_ok-object.ensures.value
     (ap owner_of c.in_ok-taken.ensures.taken ∙ owner-taken object c.args.thread stays) c.self.invariant

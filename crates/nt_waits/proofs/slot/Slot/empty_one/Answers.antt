@@ -20,15 +20,15 @@ number : (c : After-index-as_slice-0) → (p : Pending) → c.args.self.now ≡ 
 number c p is =
     let mine = c.requires.linked p is in
     let here : c.self.inside.pending ≡ p = same_Some c.self.inside.pending p (same c ∙ is) in
-    let many : length p.wait.handles ≡ 1 = ap (λ hs. length hs) (c.requires.one p is) in
+    let many : length p.wait.objects ≡ 1 = ap (λ hs. length hs) (c.requires.one p is) in
     let within : 0 < length c.self.inside.pending.numbers.items = rw here (omega (arith, mine.1.same_length, many)) in
     get_or_read c.self.inside.pending.numbers.items 0 c.index-as_slice-0.result within (rw c.as_slice.ensures at c.index-as_slice-0.is) 0 ∙ ap (λ (q : Pending). get_or q.numbers.items 0 0) here
 
--- its block stands in the queue of its handle
-block : (c : After-index-as_slice-0) → (p : Pending) → c.args.self.now ≡ Some p → HasNumber (list_at c.args.queues.now (get_or p.wait.handles 0 0)) (get_or p.numbers.items 0 0)
+-- its block stands in the queue of its object
+block : (c : After-index-as_slice-0) → (p : Pending) → c.args.self.now ≡ Some p → HasNumber (list_at c.args.queues.now (get_or p.wait.objects 0 0)) (get_or p.numbers.items 0 0)
 block c p is =
     let mine = c.requires.linked p is in
-    let many : length p.wait.handles ≡ 1 = ap (λ hs. length hs) (c.requires.one p is) in
+    let many : length p.wait.objects ≡ 1 = ap (λ hs. length hs) (c.requires.one p is) in
     HasNumber-link _ _ (mine.1.linked 0 (omega (arith, many)))
 
 pub unlink-next-requires-clause-linked : goal.unlink-next-requires-clause-linked
@@ -36,7 +36,7 @@ unlink-next-requires-clause-linked c =
     let at = (goal.at.unlink-next-requires-clause-linked c).After-index-as_slice-0 in
     let is = sym (same at) in
     let one = c.requires.one c.self.inside.pending is in
-    subst (λ (n : ℕ). HasNumber (list_at c.args.queues.now c.args.handle) n) (sym (number at c.self.inside.pending is))
+    subst (λ (n : ℕ). HasNumber (list_at c.args.queues.now c.args.object) n) (sym (number at c.self.inside.pending is))
     (subst (λ (h : ℕ). HasNumber (list_at c.args.queues.now h) (get_or c.self.inside.pending.numbers.items 0 0)) (ap (λ hs. get_or hs 0 0) one) (block at c.self.inside.pending is))
 
 pub returns-clause-unlinked : goal.returns-clause-unlinked
@@ -45,22 +45,22 @@ returns-clause-unlinked c p is =
     let old = c.args.queues.now in
     let new = c.unlink-next.new.self in
     let mine = c.requires.linked p is in
-    let one : p.wait.handles ≡ c.args.handle ∷ [] = c.requires.one p is in
-    let many : length p.wait.handles ≡ 1 = ap (λ hs. length hs) one in
-    let handle : c.args.handle ≡ get_or p.wait.handles 0 0 = sym (ap (λ hs. get_or hs 0 0) one) in
-    let at_number : new.lists ≡ set old.lists c.args.handle (without (get_or p.numbers.items 0 0) (list_at old c.args.handle)) =
-    subst (λ (n : ℕ). new.lists ≡ set old.lists c.args.handle (without n (list_at old c.args.handle))) (number at p is) c.unlink-next.ensures.lists in
-    let written : new.lists ≡ set old.lists (get_or p.wait.handles 0 0) (without (get_or p.numbers.items 0 0) (list_at old (get_or p.wait.handles 0 0))) =
-    subst (λ (h : ℕ). new.lists ≡ set old.lists h (without (get_or p.numbers.items 0 0) (list_at old h))) handle at_number in
-    let first : AreUnlinked old new p.wait.handles p.numbers.items 1 = unlinked_more old old new p.wait.handles p.numbers.items 0 mine.1.apart (omega (arith, many)) (record { done = λ j below. absurd (omega (arith, below)); others = λ h outside. refl }) (block at p is) written in
+    let one : p.wait.objects ≡ c.args.object ∷ [] = c.requires.one p is in
+    let many : length p.wait.objects ≡ 1 = ap (λ hs. length hs) one in
+    let object : c.args.object ≡ get_or p.wait.objects 0 0 = sym (ap (λ hs. get_or hs 0 0) one) in
+    let at_number : new.lists ≡ set old.lists c.args.object (without (get_or p.numbers.items 0 0) (list_at old c.args.object)) =
+    subst (λ (n : ℕ). new.lists ≡ set old.lists c.args.object (without n (list_at old c.args.object))) (number at p is) c.unlink-next.ensures.lists in
+    let written : new.lists ≡ set old.lists (get_or p.wait.objects 0 0) (without (get_or p.numbers.items 0 0) (list_at old (get_or p.wait.objects 0 0))) =
+    subst (λ (h : ℕ). new.lists ≡ set old.lists h (without (get_or p.numbers.items 0 0) (list_at old h))) object at_number in
+    let first : AreUnlinked old new p.wait.objects p.numbers.items 1 = unlinked_more old old new p.wait.objects p.numbers.items 0 mine.1.apart (omega (arith, many)) (record { done = λ j below. absurd (omega (arith, below)); others = λ h outside. refl }) (block at p is) written in
     let end = c.unlink-next.ensures in
     let none = c.requires.countable in
     record {
-      unlinked = subst (λ (n : ℕ). AreUnlinked old new p.wait.handles p.numbers.items n) (sym many) first;
+      unlinked = subst (λ (n : ℕ). AreUnlinked old new p.wait.objects p.numbers.items n) (sym many) first;
       distinct = end.distinct;
       used = omega (arith, end.used);
       capacity = end.capacity;
-      handle_room = end.handle_room;
+      object_room = end.object_room;
       at_least = omega (arith, many, end.counts_up);
       at_most = omega (arith, many, none, end.counted);
     }
@@ -68,4 +68,4 @@ returns-clause-unlinked c p is =
 pub returns-clause-next : goal.returns-clause-next
 returns-clause-next c p is =
     let at = (goal.at.returns-clause-next c).After-index-as_slice-0 in
-    subst (λ (n : ℕ). c.unlink-next.result ≡ thread_after (list_at c.args.queues.now c.args.handle) n) (number at p is) c.unlink-next.ensures.next
+    subst (λ (n : ℕ). c.unlink-next.result ≡ thread_after (list_at c.args.queues.now c.args.object) n) (number at p is) c.unlink-next.ensures.next

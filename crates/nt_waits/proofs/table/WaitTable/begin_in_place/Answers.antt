@@ -22,13 +22,13 @@ returns-in_err-begin_wait-clause-agrees c = agrees c.begin_wait.new.queues c.beg
 
 pub returns-clause-begins : goal.returns-clause-begins
 returns-clause-begins c =
-    rw c.forget.ensures (subst (λ (v : Waits). Begins v (view_of c.begin_wait.new.queues c.begin_wait.new.waits.items c.self.inside.looked None) c.args.t (wait_for c.args.handles.now c.args.all c.args.about)) c.self.view_is
-    (begins c.self.inside.queues c.begin_wait.new.queues c.self.inside.waits.items c.begin_wait.new.waits.items c.args.t (wait_for c.args.handles.now c.args.all c.args.about) c.in_ok-begin_wait.ensures.begun _ _ c.begin_wait.ensures.touched))
+    rw c.forget.ensures (subst (λ (v : Waits). Begins v (view_of c.begin_wait.new.queues c.begin_wait.new.waits.items c.self.inside.looked None) c.args.t (wait_for c.args.objects.now c.args.all c.args.about)) c.self.view_is
+    (begins c.self.inside.queues c.begin_wait.new.queues c.self.inside.waits.items c.begin_wait.new.waits.items c.args.t (wait_for c.args.objects.now c.args.all c.args.about) c.in_ok-begin_wait.ensures.begun _ _ c.begin_wait.ensures.touched))
 
 pub invariant_of-self : goal.invariant_of-self
 invariant_of-self c =
     whole_reserved c.self.inside.queues c.self.inside.queues c.self.inside.waits.items c.self.inside.waits.items c.self.inside.deadlines c.reserve_alarm.new.alarms c.self.inside.count c.self.inside.prepared
-    (record { lists = refl; used = refl; touched = refl; capacity = omega arith; handle_room = omega arith }) (λ u. refl) (omega arith) (λ small. small) c.reserve_alarm.ensures.kept c.reserve_alarm.ensures.grows c.self.invariant
+    (record { lists = refl; used = refl; touched = refl; capacity = omega arith; object_room = omega arith }) (λ u. refl) (omega arith) (λ small. small) c.reserve_alarm.ensures.kept c.reserve_alarm.ensures.grows c.self.invariant
 
 pub invariant_of-self-in_err-begin_wait : goal.invariant_of-self-in_err-begin_wait
 invariant_of-self-in_err-begin_wait c =
@@ -42,7 +42,7 @@ overflow_add-self c = omega (arith, c.self.invariant.counted, len-waits_of c.sel
 
 pub invariant_of-self-2 : goal.invariant_of-self-2
 invariant_of-self-2 c =
-    rw c.forget.ensures (whole_begun c.self.inside.queues c.begin_wait.new.queues c.self.inside.waits.items c.begin_wait.new.waits.items c.args.t (wait_for c.args.handles.now c.args.all c.args.about) c.in_ok-begin_wait.ensures.begun
+    rw c.forget.ensures (whole_begun c.self.inside.queues c.begin_wait.new.queues c.self.inside.waits.items c.begin_wait.new.waits.items c.args.t (wait_for c.args.objects.now c.args.all c.args.about) c.in_ok-begin_wait.ensures.begun
     c.self.inside.count c.self.inside.deadlines c.reserve_alarm.new.alarms c.set_alarm.new.alarms c.self.inside.prepared c.self.invariant
     (ap (λ v. wait_of v c.args.t) c.self.view_is ∙ c.requires.free) c.begin_wait.ensures.table c.reserve_alarm.ensures.kept c.set_alarm.ensures.here c.set_alarm.ensures.others)
 

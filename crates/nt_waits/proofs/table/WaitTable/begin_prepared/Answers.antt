@@ -11,7 +11,7 @@ use Rattle.nt_waits.proofs.table.WaitTable.begin_prepared.Goals.{In-Some}
 
 -- the wait that is prepared
 abbrev wait : In-Some → Wait
-wait c = let p = c.in-Some.prepared in wait_for (p.handle ∷ []) false p.about
+wait c = let p = c.in-Some.prepared in wait_for (p.object ∷ []) false p.about
 
 there : (c : In-Some) → c.args.self.now.prepared ≡ Some (c.in-Some.prepared.thread, wait c)
 there c = ap (λ v. v.prepared) (sym c.self.view_is) ∙ ap shown (sym c.in-Some.ensures)
@@ -27,8 +27,8 @@ begin_ready-requires-clause-free c =
 pub begin_ready-requires-clause-blocks : goal.begin_ready-requires-clause-blocks
 begin_ready-requires-clause-blocks c = (c.self.invariant.ready c.in-Some.prepared (sym c.in-Some.ensures)).block
 
-pub begin_ready-requires-clause-handles : goal.begin_ready-requires-clause-handles
-begin_ready-requires-clause-handles c = (c.self.invariant.ready c.in-Some.prepared (sym c.in-Some.ensures)).handle
+pub begin_ready-requires-clause-objects : goal.begin_ready-requires-clause-objects
+begin_ready-requires-clause-objects c = (c.self.invariant.ready c.in-Some.prepared (sym c.in-Some.ensures)).object
 
 pub begin_ready-requires-clause-place : goal.begin_ready-requires-clause-place
 begin_ready-requires-clause-place c = (c.self.invariant.ready c.in-Some.prepared (sym c.in-Some.ensures)).place

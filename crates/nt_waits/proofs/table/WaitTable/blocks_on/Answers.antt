@@ -8,7 +8,7 @@ use Rattle.nt_waits.proofs.AgreeLemmas.{agrees}
 use Rattle.nt_waits.proofs.table.WaitTable.blocks_on.Goals as goal
 
 pub returns-clause-count : goal.returns-clause-count
-returns-clause-count c = c.count.ensures ∙ sym (length-map (list_at c.self.inside.queues c.args.handle) (λ (l : Link). l.thread)) ∙ ap length (sym (get_or-threads c.self.inside.queues.lists c.args.handle)) ∙ ap (λ v. length (queue_of v c.args.handle)) c.self.view_is
+returns-clause-count c = c.count.ensures ∙ sym (length-map (list_at c.self.inside.queues c.args.object) (λ (l : Link). l.thread)) ∙ ap length (sym (get_or-threads c.self.inside.queues.lists c.args.object)) ∙ ap (λ v. length (queue_of v c.args.object)) c.self.view_is
 
 pub returns-clause-agrees : goal.returns-clause-agrees
 returns-clause-agrees c = subst (λ (v : Waits). Agrees v.pending v.queues) c.self.view_is (agrees c.self.inside.queues c.self.inside.waits.items c.self.invariant.table)

@@ -1,0 +1,136 @@
+//! Lines, words, numbers and names.
+
+ghost use Rattle.std.specs.Prelude.{◌≤◌, IfOk, vec_capacity};
+
+use crate::tests::memory::{Host, tell_refused};
+use nt_devices::Counted;
+use nt_lines::{
+    Ending, Input, MAX_LINE, are_digits, caller_of, first_word, name_of, number_of, put, text_of,
+};
+use std::alloc::AllocError;
+use std::io::{self, Read};
+use std::test::Fail;
+
+/// A reader that gives a byte at once.
+#[derive(Drop)]
+struct Slow<'a> {
+    left: &'a [u8],
+}
+
+impl<'a> Read for Slow<'a> {
+    fn read(&mut self, buf: &mut [u8]) -> io::Result<usize> {
+        let left: &'a [u8] = self.left;
+        let count = left.len().min(buf.len()).min(1);
+        buf[..count].copy_from_slice(&left[..count]);
+        self.left = &left[count..];
+        Ok(count)
+    }
+}
+
+/// An input of which nothing was read. Where memory is refused, a second try goes on.
+fn new_input(rt: &impl Host) -> Result<Input, AllocError> {
+    match Input::new(rt.alloc()) {
+        Ok(input) => Ok(input),
+        Err(_) => {
+            tell_refused(rt, "the input");
+            Input::new(rt.alloc())
+        }
+    }
+}
+
+/// Room for a line. Where memory is refused, a second try goes on.
+fn room_for_a_line(rt: &impl Host) -> Result<Vec<u8>, AllocError>
+    ensures { IfOk result (λ line. 4097 ≤ vec_capacity line) }
+{
+    match Vec::with_capacity(rt.alloc(), MAX_LINE + 1) {
+        Ok(line) => Ok(line),
+        Err(_) => {
+            tell_refused(rt, "the line");
+            Vec::with_capacity(rt.alloc(), MAX_LINE + 1)
+        }
+    }
+}
+
+/// Reads a line and looks at it.
+fn check_line(
+    rt: &impl Host,
+    input: &mut Input,
+    reader: &mut Counted<Slow<'_>>,
+    line: &mut Vec<u8>,
+    wanted: (&[u8], Ending),
+)
+    requires { 4097 ≤ vec_capacity line.old }
+    ensures { 4097 ≤ vec_capacity line.new }
+{
+    assert_eq!(rt; input.read_line(reader, line), Ok(wanted.1));
+    assert_eq!(rt; line.as_slice(), wanted.0);
+}
+
+fn check_lines(rt: &impl Host, input: &mut Input, line: &mut Vec<u8>)
+    requires { 4097 ≤ vec_capacity line.old }
+{
+    let mut reader = Counted::new(Slow {
+        left: b"t0 next\n\nlast",
+    });
+    check_line(rt, input, &mut reader, line, (b"t0 next", Ending::Feed));
+    check_line(rt, input, &mut reader, line, (b"", Ending::Feed));
+    check_line(rt, input, &mut reader, line, (b"last", Ending::EndOfInput));
+    line.clear();
+    put(line, b"more");
+    assert_eq!(rt; line.as_slice(), b"more".as_slice());
+}
+
+#[test]
+fn lines_end_at_feeds_and_at_the_end_of_input(rt: HostRuntime) -> Result<(), Fail> {
+    let mut input = new_input(&rt)?;
+    let mut line = room_for_a_line(&rt)?;
+    check_lines(&rt, &mut input, &mut line);
+    Ok(())
+}
+
+/// Texts, their first words, and what comes after those.
+const FIRST_WORDS: &[(&[u8], Option<(&[u8], &[u8])>)] = &[
+    (b" \tset  e", Some((b"set", b"  e"))),
+    (b" \t", None),
+];
+
+/// Lines, and what of them is no comment.
+const TEXTS: &[(&[u8], Option<&[u8]>)] = &[
+    (b"t0 next ; then\r", Some(b"t0 next ")),
+    (b"t0\x7f", None),
+];
+
+#[test]
+fn words_are_parted_by_spaces_and_tabs(rt: HostRuntime) {
+    for (text, wanted) in FIRST_WORDS {
+        assert!(rt; first_word(text) == *wanted, "{text:?}");
+    }
+    for (line, wanted) in TEXTS {
+        assert!(rt; text_of(line) == *wanted, "{line:?}");
+    }
+}
+
+/// Words, the most digits that they may have, and their numbers.
+const NUMBERS: &[(&[u8], usize, Option<u64>)] = &[
+    (b"007", 3, Some(7)),
+    (b"0007", 3, None),
+    (b"18446744073709551616", 20, None),
+];
+
+const CALLERS: &[(&[u8], Option<u32>)] = &[(b"t012", Some(12)), (b"t", None)];
+
+const NAMES: &[(&[u8], Option<&str>)] = &[(b"_a1", Some("_a1")), (b"t1", None)];
+
+#[test]
+fn numbers_callers_and_names(rt: HostRuntime) {
+    assert!(rt; are_digits(b"007"));
+    for (word, digits, wanted) in NUMBERS {
+        assert!(rt; number_of(word, *digits) == *wanted, "{word:?}");
+    }
+    for (word, wanted) in CALLERS {
+        assert!(rt; caller_of(word) == *wanted, "{word:?}");
+    }
+    for (word, wanted) in NAMES {
+        assert!(rt; name_of(word) == *wanted, "{word:?}");
+    }
+}
