@@ -1,40 +1,16 @@
 """What stands where in a crate's text: its functions, and the definitions of its specs/."""
 import bisect
 import collections
-import importlib.machinery
-import importlib.util
-import json
-import os
 import re
-import shutil
-import subprocess
-import sys
+
+from words import words_of
 
 # What parts the words of a definition or a contract.
 BETWEEN = r"[\s(){};,.]+"
 
 
-def load_rt():
-    """Returns the kit's own rt, whose must-fail edits these are."""
-    path = os.path.realpath(shutil.which("rt") or sys.exit("wrong_turns: there is no rt: the kit's bin/ must be in PATH"))
-    loader = importlib.machinery.SourceFileLoader("rt", path)
-    made = importlib.util.module_from_spec(importlib.util.spec_from_loader("rt", loader))
-    loader.exec_module(made)
-    return made
-
-
-rt = load_rt()
 # Where a function stands: its path as a check prints it, the folder of its proof files, and the lines of its head, its body's brace and its end.
 Function = collections.namedtuple("Function", "path proofs head opens ends")
-
-
-def tokens(crate, paths):
-    """Yields, for each of the crate's files, its path and its code's tokens as (line, text), as the kit's rattle reads them."""
-    how = {"cwd": crate.folder, "stdout": subprocess.PIPE, "check": True, "encoding": "utf-8"}
-    said = subprocess.run([rt.rtlib.RATTLE, "fmt", "--tokens", *paths], **how).stdout if paths else ""
-    for path, rows in zip(paths, re.split(r"(?m)^file \d+\n", said)[1:]):
-        found = re.findall(r'(?m)^(\d+) \d+ \d+ Code (".*")$', rows)
-        yield path, [(int(line), json.loads(text)) for line, text in found]
 
 
 def named(head):
@@ -76,8 +52,8 @@ def blocks_in(code):
 
 def functions_of(crate):
     """Returns each function of the crate that has a body, by file and line. A type's methods have its path, wherever they stand."""
-    files = sorted(os.path.relpath(it, crate.folder) for it in rt.rtlib.files_of(crate.folder) if it.endswith(".rt"))
-    found = [(path, blocks) for path, code in tokens(crate, files) for blocks in blocks_in(code)]
+    files = [it for it in crate.files() if it.endswith(".rt")]
+    found = [(path, blocks) for path in files for blocks in blocks_in(words_of(crate.text(path)))]
     modules = {it: [name for name in it[len("src/") : -len(".rt")].split("/") if name not in ("lib", "main", "mod")] for it in files}
     homes = {blocks[-1][1][0]: modules[path] for path, blocks in found if blocks[-1][0] in ("struct", "enum")}
     functions = []
@@ -99,9 +75,9 @@ def function_at(functions, path, line):
 
 def definitions_of(crate):
     """Yields each line of a definition in specs/: the file, the line's number, the definition's name and the line's words."""
-    for file in sorted(it for it in rt.rtlib.files_of(crate.folder) if it.endswith(".antt")):
-        path, name = os.path.relpath(file, crate.folder), None
-        for number, line in enumerate(rt.rtlib.text_of(file).split("\n") if path.startswith("specs/") else (), 1):
+    for path in (it for it in crate.files() if it.startswith("specs/") and it.endswith(".antt")):
+        name = None
+        for number, line in enumerate(crate.text(path).split("\n"), 1):
             words = [it for it in re.split(BETWEEN, line.partition("-- ")[0]) if it]
             if line[:1].strip() and words and words[0] != "use":
                 name = next(it for it in words if it not in ("abbrev", "pub", "data", "record", "mod"))
@@ -123,5 +99,5 @@ def cites(definitions, lines):
 def words_of_head(crate, function):
     """Returns the words of a function's head, its contract among them."""
     path, first = function.head
-    text = rt.rtlib.text_of(f"{crate.folder}/{path}").split("\n")[first - 1 : function.opens]
+    text = crate.text(path).split("\n")[first - 1 : function.opens]
     return {*re.split(BETWEEN, "\n".join(text))}

@@ -1,0 +1,175 @@
+"""Proves each crate of a tree once, and runs its tests and its program.
+
+A crate is proved in a room of its own, over the libraries below it as this run built them. What its proof made and kept stands then in
+the crate's out/ in the tree.
+"""
+import contextlib
+import os
+import re
+import shutil
+import signal
+import subprocess
+import tempfile
+
+from command import ONE_JOB, finds_empty_contracts, rt, why_no_proof_of_tests, why_not_proved
+from crates import text_of
+from lanes import Task, memory_of, run_all
+from rooms import fill_room
+
+# How long a program may run, in seconds.
+LIMIT = 120
+# Where the program lies that Rattle's own compiler built.
+BY_RATTLE = "_by_rattle"
+
+
+class Failed(Exception):
+    """Why a crate did not pass, and what was said."""
+
+    def __init__(self, why, said=""):
+        super().__init__(why)
+        self.why, self.said = why, said
+
+
+class Proofs:
+    """The proofs of a tree's crates, in rooms below a folder. They begin with nothing, or with what another tree's out/ has."""
+
+    def __init__(self, crates, rooms, progress, handles, begin_with=None):
+        self.crates, self.rooms, self.progress, self.handles, self.begin_with = crates, rooms, progress, handles, begin_with
+        self.checked, self.taken, self.failed, self.passed = 0, 0, [], []
+
+    def run(self, names, runs=True, checked=None):
+        """Proves these crates and those below them, and runs their tests and programs where `runs`. It returns whether all passed. Crates that are
+        not among the `checked`, where these are given, are only built, where they are libraries."""
+        wanted = [it for it in self.crates.values() if any(it.name == name or it in self.crates[name].below() for name in names)]
+        self.progress.of, self.progress.total = "crates", len(wanted)
+        tasks = {}
+        for it in wanted:
+            waits, weight = [other.name for other in it.below()], it.lines() + it.lines(".antt")
+            tasks[it.name] = Task(waits, weight, memory_of(it), lambda given, it=it: self.one(it, given, runs, checked is None or it.name in checked))
+        return all(run_all(tasks).values())
+
+    def one(self, crate, given, runs, checks):
+        """Proves a crate, builds what those above it need, and runs what it has to run. It returns whether all passed."""
+        lacking = [it.name for it in crate.below() if not given[it.name]]
+        try:
+            if lacking:
+                raise Failed(f"not tried, since {lacking[0]} below it failed")
+            with self.progress.working_on(crate.name):
+                self.prove_in_room(crate, runs, checks)
+                if runs and crate.is_program:
+                    for ending in (BY_RATTLE, ""):
+                        run_program(crate, ending)
+            self.passed.append(crate.name)
+        except Failed as failed:
+            self.failed.append(crate.name)
+            self.progress.tell(f"{crate.name}: FAILED: {failed.why}" + "".join(f"\n  {it}" for it in told_lines(crate, failed.said)))
+        return crate.name in self.passed
+
+    def prove_in_room(self, crate, runs, checks):
+        folder = fill_room(f"{self.rooms}/{crate.name}", crate, self.begin_with and f"{self.begin_with}/crates/{crate.name}/out")
+        try:
+            said = prove(crate, folder, self.handles) if checks else None
+            if not crate.is_program:
+                build_library(crate, folder)
+            if runs and crate.has_tests():
+                pass_tests(crate, folder, self.handles)
+            if runs and crate.is_program:
+                build_program(crate, folder)
+        finally:
+            shutil.rmtree(f"{crate.folder}/out", ignore_errors=True)
+            if os.path.isdir(f"{folder}/out"):
+                os.rename(f"{folder}/out", f"{crate.folder}/out")
+            shutil.rmtree(f"{self.rooms}/{crate.name}", ignore_errors=True)
+        if not checks:
+            return
+        taken, checked = said.modules(crate.name) or (0, 0)
+        self.taken, self.checked = self.taken + taken, self.checked + checked
+        self.progress.tell(f"{crate.name}: proved, {said.seconds:.0f} s, {checked} modules checked, {taken} taken from work that was kept")
+
+
+def handles_of(top):
+    """The handles that the tree's file HANDLES allows."""
+    found = re.fullmatch(r"Handles allowed: (.+)\.\n", text_of(f"{top}/HANDLES"))
+    return [] if not found or found[1] == "none" else found[1].split(", ")
+
+
+def prove(crate, folder, handles):
+    """Checks the crate, and returns what the check said."""
+    more = ["--empty-contracts"] if finds_empty_contracts(folder) else []
+    said = rt(folder, "check", *ONE_JOB, *more)
+    why = why_not_proved(said, handles)
+    if why:
+        raise Failed(why, said.text)
+    return said
+
+
+def build_library(crate, folder):
+    built = rt(folder, "lib", *ONE_JOB)
+    if built.status or not os.path.exists(f"{folder}/{crate.made}"):
+        raise Failed(f"`rt lib` ended with status {built.status}", built.text)
+
+
+def pass_tests(crate, folder, handles):
+    """Proves and runs the crate's tests."""
+    said = rt(folder, "test", *ONE_JOB)
+    why = why_no_proof_of_tests(said, handles)
+    if why:
+        raise Failed(why, said.text)
+
+
+def build_program(crate, folder):
+    """Builds the program with each of the kit's two compilers. (`rt run` runs it too; what that answers is judged by `run_program`.)"""
+    words = crate.text("args").split("\n")[:-1]
+    for backend, ending in (("rattle", BY_RATTLE), ("llvm", "")):
+        said = rt(folder, "run", *ONE_JOB, "--backend", backend, "--", *words)
+        made = f"{folder}/out/{crate.name}"
+        if not os.access(made, os.X_OK):
+            raise Failed(f"`rt run --backend {backend}` built no program", said.text)
+        if ending:
+            os.rename(made, made + ending)
+
+
+def given_to(crate, name):
+    """The bytes of a file beside the crate's src/; none where there is no such file."""
+    with contextlib.suppress(FileNotFoundError), open(f"{crate.folder}/{name}", "rb") as file:
+        return file.read()
+    return b""
+
+
+def run_program(crate, ending):
+    """Runs the program outside of the repository, in a copy of its folder data/, as the files stdin, args, stdout and status say."""
+    by = "Rattle's own compiler" if ending else "LLVM"
+    with tempfile.TemporaryDirectory() as room:
+        if os.path.isdir(f"{crate.folder}/data"):
+            shutil.copytree(f"{crate.folder}/data", f"{room}/data")
+        os.makedirs(f"{room}/data", exist_ok=True)
+        words = [f"{crate.folder}/out/{crate.name}{ending}", *os.fsdecode(given_to(crate, "args")).splitlines()]
+        env = {"PATH": "/usr/local/bin:/usr/bin:/bin", "HOME": f"{room}/data", "TMPDIR": f"{room}/data", "LANG": "C.UTF-8"}
+        how = {"cwd": f"{room}/data", "env": env, "input": given_to(crate, "stdin"), "capture_output": True, "timeout": LIMIT}
+        try:
+            ran = subprocess.run(words, check=False, **how)
+        except subprocess.TimeoutExpired as error:
+            raise Failed(f"its program, built by {by}, had not ended after {LIMIT} seconds") from error
+    wanted = int(given_to(crate, "status").strip() or b"0")
+    if ran.returncode < 0:
+        raise Failed(f"its program, built by {by}, was stopped by {signal.Signals(-ran.returncode).name}")
+    if ran.returncode != wanted:
+        raise Failed(f"its program, built by {by}, ended with status {ran.returncode}, and not {wanted}", ran.stderr.decode(errors="replace"))
+    if ran.stdout != given_to(crate, "stdout"):
+        raise Failed(f"its program, built by {by}, wrote something else than crates/{crate.name}/stdout", difference(crate, ran.stdout))
+
+
+def difference(crate, wrote):
+    """The first line in which a program's output differs from its file."""
+    wanted, found = given_to(crate, "stdout").splitlines(), wrote.splitlines()
+    at = next((at for at, (one, other) in enumerate(zip(wanted, found)) if one != other), min(len(wanted), len(found)))
+    line = lambda lines: lines[at].decode(errors="replace") if at < len(lines) else "(no such line)"
+    return f"crates/{crate.name}/stdout:{at + 1}: wanted {line(wanted)}\ncrates/{crate.name}/stdout:{at + 1}: found  {line(found)}"
+
+
+def told_lines(crate, said, most=30):
+    """The lines of what was said that tell what is wrong, with the crate's files as seen from the top; or else the last ones."""
+    lines = said.rstrip("\n").split("\n") if said else []
+    lines = [re.sub(r"(?<![\w/])(?:\./)?(src|specs|proofs)/", rf"crates/{crate.name}/\1/", it) for it in lines]
+    told = [it for it in lines if re.search(r"\berror\b|it is not proved|: not proved|: no proof|FAILED|panicked|: wanted|: found ", it)]
+    return (told or lines[-12:])[:most]

@@ -1,0 +1,167 @@
+"""The steps of the gate. Each is its name, a call that gives what it counted, and whether the steps after it need what it makes."""
+import functools
+import glob
+import os
+import re
+import signal
+import subprocess
+import tempfile
+
+import kit
+from command import noted, run
+from crates import crates_of
+from edits import edits_in, edits_of, folder_of
+from proofs import Proofs, handles_of
+from rooms import fill_room
+from telling import COUNTED, Step
+from trial import Trial, try_edits
+from tried import note_tried, share_of, stands_on
+
+# The crate whose check tells the rate of a machine.
+RATED = "nt_core"
+
+
+def counted(words, top, progress):
+    """Runs a command that counts at its end, `N passed, M failed`; one that does not counts as one. Each line that it says is told, but for
+    that count in its last line. (After a count that has failures, make adds a line.)"""
+    child = subprocess.Popen(words, cwd=top, stdin=subprocess.DEVNULL, stdout=subprocess.PIPE, stderr=subprocess.STDOUT, errors="replace")
+    lines = []
+    with noted(child):
+        for line in child.stdout:
+            if lines:
+                progress.tell(lines[-1])
+            lines.append(line.rstrip("\n"))
+        status = child.wait()
+    found = next((COUNTED.match(it) for it in lines[:-3:-1] if COUNTED.match(it)), None)
+    if lines and not COUNTED.match(lines[-1]):
+        progress.tell(lines[-1])
+    passed, failed = (int(found[1]), int(found[2])) if found else (0, 0)
+    if not status and not failed:
+        return Step(passed if found else 1)
+    ended = f"killed by {signal.Signals(-status).name}" if status < 0 else f"{failed} failed" if failed else f"status {status}"
+    first = [it[:100] for it in lines if it and not it.startswith((" ", "make", "NT_C=")) and not COUNTED.match(it)][:3]
+    return Step(passed, ["; ".join([ended, *first])], failed or 1)
+
+
+def no_conflict_markers(top, progress):
+    said = run(["git", "grep", "-nE", r"^(<{7}|>{7}|\|{7})( |$)", "--", "."], top)
+    lines = said.text.splitlines()
+    for it in lines:
+        progress.tell(it)
+    return Step(1) if said.status == 1 and not lines else Step(0, [it.split(":")[0] for it in lines] or [f"git grep: status {said.status}"])
+
+
+def each_file_is_laid_out(top, progress):
+    """(rt names each file that it lays out anew, so this works on a copy.)"""
+    failed = []
+    with tempfile.TemporaryDirectory() as room:
+        for crate in crates_of(top).values():
+            folder = fill_room(f"{room}/{crate.name}", crate, below=False)
+            said = run([kit.find_rt(), "fmt"], folder)
+            names = re.findall(r"^rt: formatted (.*)$", said.text, re.M) or ([f"rt fmt: status {said.status}"] if said.status else [])
+            failed += [f"crates/{crate.name}/{it}" for it in names]
+    for it in failed:
+        progress.tell(f"{it}: `rt fmt` lays it out otherwise")
+    return Step(0 if failed else 1, failed)
+
+
+def edits_apply(top, progress):
+    """(Each edit is counted where it is tried.)"""
+    found, bad = edits_in(top)
+    for crate in crates_of(top).values():
+        bad += [it.removeprefix(f"{top}/") for it in edits_of(crate, f"{crate.folder}/must-fail")[1]]
+    for it in bad:
+        progress.tell(it)
+    return Step(0 if bad else 1, [it.partition(":")[0] for it in bad])
+
+
+def proofs_of_all(tree, work, progress):
+    """Proves each crate once, and runs tests and programs. What was made stands in the tree."""
+    proofs = Proofs(crates_of(tree), work, progress, handles_of(tree))
+    proofs.run(list(proofs.crates))
+    progress.tell(f"{proofs.checked} modules were checked in this run, and {proofs.taken} taken from work that checks on this machine had kept")
+    return Step(len(proofs.passed), proofs.failed)
+
+
+def wrong_turns(top, tree, work, tries_all, progress):
+    """Tries wrong turns over what the proofs kept."""
+    # (what cannot be applied was told, and counted, by a step before)
+    found, bad = edits_in(tree)
+    chosen = found if tries_all else share_of(tree, found)
+    many = sum(map(len, chosen.values()))
+    progress.tell(f"{many} of {sum(map(len, found.values()))} edits are tried")
+    for crate in chosen:
+        if crate.name == RATED:
+            seconds = Trial(crate, [], work, progress).check({}).seconds
+            progress.tell(f"{RATED}, with nothing to do and nothing beside it: checked, {seconds:.0f} s")
+    failed = try_edits(chosen, work, progress)
+    if tries_all:
+        not_tried = {name.split("/")[-2] for name in [*failed, *(it.partition(":")[0] for it in bad)]}
+        sums = {it.name: stands_on(it, folder_of(tree, it.name)) for it in found if it.name not in not_tried}
+        note_tried(top, sums, crates_of(tree))
+    return Step(many - len(failed), failed)
+
+
+def unproved_build(top, progress):
+    """Builds the program without proofs, where it is not there."""
+    said = run(["./ntrun", "script", "examples/hand_over.nts"], top)
+    if said.status:
+        progress.tell(said.text.rstrip())
+    return Step(0, [f"./ntrun: status {said.status}"]) if said.status else Step(1)
+
+
+def examples(top, progress):
+    """The launcher's transcript of each example is the file beside it."""
+    passed, failed = 0, []
+    for script in sorted(glob.glob(f"{top}/examples/*.nts")):
+        name = os.path.relpath(script, top)
+        wanted = name.removesuffix(".nts") + ".transcript"
+        ran = subprocess.run(["./ntrun", "script", name], cwd=top, stdin=subprocess.DEVNULL, stdout=subprocess.PIPE, stderr=subprocess.PIPE, check=False)
+        with open(f"{top}/{wanted}", "rb") as file:
+            if ran.returncode == 0 and ran.stdout == file.read():
+                passed += 1
+                continue
+        failed.append(name)
+        progress.tell(f"{name}: status {ran.returncode}, another transcript than {wanted}:")
+        said = subprocess.run(["diff", "-u", "--label", wanted, "--label", "found", wanted, "-"], cwd=top, input=ran.stdout, stdout=subprocess.PIPE, check=False)
+        progress.tell(said.stdout.decode(errors="replace").rstrip() or ran.stderr.decode(errors="replace").rstrip())
+    return Step(passed, failed)
+
+
+def command(top, *words):
+    """A step that is one command at the top of a tree."""
+    return functools.partial(counted, list(words), top)
+
+
+def before_proofs(top):
+    return [
+        ("no conflict markers", functools.partial(no_conflict_markers, top), False),
+        ("each file is laid out", functools.partial(each_file_is_laid_out, top), False),
+        ("docs/MODEL.md names each definition", command(top, "docs/check_model"), False),
+        ("each wrong turn applies", functools.partial(edits_apply, top), False),
+    ]
+
+
+def unproved(top):
+    return [
+        ("the unproved build", functools.partial(unproved_build, top), True),
+        ("the examples", functools.partial(examples, top), False),
+        ("the launcher, and the worked scripts", command(top, "tests/launcher"), False),
+        ("the library for C programs, unproved", command(top, "make", "--no-print-directory", "-C", "c", "quick"), False),
+    ]
+
+
+def proved(top, tree, work, tries_all):
+    scripts = [os.path.relpath(it, tree) for it in sorted(glob.glob(f"{tree}/examples/*.nts") + glob.glob(f"{tree}/tests/scripts/*/*.nts"))]
+    found = [
+        ("proofs, tests and programs", functools.partial(proofs_of_all, tree, work), True),
+        ("wrong turns", functools.partial(wrong_turns, top, tree, work, tries_all), False),
+        ("the tests, each growth refused", command(tree, "bench/refused_tests"), False),
+        ("object numbers and handles", command(tree, "tests/types"), False),
+        ("what closed objects leave", command(tree, "tests/memory"), False),
+        ("the scripts, each growth refused", command(tree, "bench/refusals", *scripts), False),
+        ("the examples", functools.partial(examples, tree), False),
+        ("the launcher, and the worked scripts", command(tree, "tests/launcher"), False),
+        ("the library for C programs", command(tree, "make", "--no-print-directory", "-C", "c", "check", "ALL=1"), False),
+    ]
+    return found + ([("rt ci", command(tree, kit.find_rt(), "ci"), False)] if tries_all else [])

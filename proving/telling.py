@@ -1,0 +1,128 @@
+"""What the gate tells: its steps, their times, what they counted, and what is lacking on the machine."""
+import json
+import os
+import re
+import shutil
+import subprocess
+import tempfile
+import time
+
+from command import processor_seconds
+from crates import text_of
+from progress import Progress
+
+# A tool that a step runs, and the Debian package that has it.
+TOOLS = {"git": "git", "make": "make", "diff": "diffutils", "gcc": "gcc", "g++": "g++", "clang": "clang", "clang++": "clang", "valgrind": "valgrind"}
+# A sanitizer, what it wants of a compiler, and the Debian package of each compiler that has its library.
+SANITIZERS = {"ThreadSanitizer": "thread", "AddressSanitizer and UndefinedBehaviorSanitizer": "address,undefined"}
+HAS_LIBRARIES = {"gcc": "libtsan2 and libasan8, which gcc brings", "clang": "libclang-rt-dev"}
+COUNTED = re.compile(r"^(\d+) passed, (\d+) failed$")
+
+
+class Step:
+    """What a step counted: how many passed, how many failed, and the names of those."""
+
+    def __init__(self, passed=0, failed=(), many=None):
+        self.passed, self.failed = passed, list(failed)
+        self.many = len(self.failed) if many is None else many
+
+
+class Gate:
+    """The steps of a run: which is under way, what all counted so far, and how long each took the last time on this machine."""
+
+    def __init__(self, top, kind):
+        self.top, self.kind, self.number, self.total = top, kind, 0, 0
+        self.passed, self.many, self.failed, self.begun = 0, 0, [], time.monotonic()
+        self.progress = Progress()
+        self.last_times, self.times = times_on(self.file_of_times()), {}
+
+    def file_of_times(self):
+        return f"{os.environ.get('XDG_CACHE_HOME') or os.path.expanduser('~/.cache')}/kawhopune/gate-times.json"
+
+    def tell(self, text):
+        self.progress.tell(text)
+
+    def tell_lacking(self):
+        """Says what the machine lacks of the tools that steps run."""
+        for what, package in lacking_tools():
+            self.tell(f"gate: this machine lacks {what} (in Debian: {package}); what needs it fails")
+
+    def expected(self, name):
+        """How long the step took the last time on this machine, or by docs/GATE.md, in words."""
+        if name in self.last_times:
+            return f", last time here {self.last_times[name]:.0f} s"
+        found = re.search(rf"^\| {re.escape(name)} \| ([\d,]+) s ", text_of(f"{self.top}/docs/GATE.md"), re.M)
+        return f", by docs/GATE.md {found[1]} s" if found else ""
+
+    def step(self, name, call):
+        """Runs a step, which gives a Step, and returns whether nothing failed in it."""
+        self.number += 1
+        begun, before = time.monotonic(), processor_seconds()
+        self.progress = Progress()
+        self.progress.head = f"{self.number} of {self.total}, {name}: "
+        self.tell(f"gate: {self.number} of {self.total}, {name}{self.expected(name)} ..")
+        with self.progress.on_terminal():
+            try:
+                found = call(self.progress)
+            except (OSError, ValueError, LookupError, subprocess.SubprocessError) as error:
+                found = Step(0, [f"it could not go on: {type(error).__name__}: {error}"])
+        took = time.monotonic() - begun
+        self.passed, self.many = self.passed + found.passed, self.many + found.many
+        self.failed += [f"{name}: {it}" for it in found.failed]
+        self.times[name] = took
+        self.tell(
+            f"gate: {self.number} of {self.total}, {name}: {found.passed} passed, {found.many} failed, "
+            f"{took:.0f} s, {processor_seconds() - before:.0f} s of processors"
+        )
+        return not found.failed
+
+    def end(self):
+        """Tells what failed, by its names, and counts. It returns the exit status."""
+        keep_times(self.file_of_times(), {**self.last_times, **self.times})
+        for it in self.failed:
+            self.tell(f"failed: {it}")
+        if self.kind == "quick":
+            self.tell("gate: quick: nothing was proved")
+        self.tell(f"gate: {time.monotonic() - self.begun:.0f} s, {processor_seconds():.0f} s of processors")
+        self.tell(f"{self.passed} passed, {self.many} failed")
+        return 1 if self.failed else 0
+
+
+def lacking_tools():
+    """Yields what the machine lacks and the package that has it."""
+    for tool, package in TOOLS.items():
+        if not shutil.which(tool):
+            yield tool, package
+    for compiler, package in HAS_LIBRARIES.items():
+        for name, flags in SANITIZERS.items() if shutil.which(compiler) else ():
+            if not compiles_with(compiler, f"-fsanitize={flags}"):
+                yield f"the {name} of {compiler}", package
+
+
+def compiles_with(compiler, flag):
+    with tempfile.TemporaryDirectory() as room:
+        with open(f"{room}/main.c", "w", encoding="ascii") as file:
+            file.write("int main(void) { return 0; }\n")
+        words = [compiler, flag, "-o", f"{room}/main", f"{room}/main.c"]
+        return subprocess.run(words, stdin=subprocess.DEVNULL, capture_output=True, check=False).returncode == 0
+
+
+def times_on(path):
+    """The seconds that each step took the last time on this machine."""
+    try:
+        with open(path, encoding="utf-8") as file:
+            found = json.load(file)
+        return {str(name): float(seconds) for name, seconds in found.items()}
+    except (OSError, ValueError, AttributeError, TypeError):
+        return {}
+
+
+def keep_times(path, times):
+    try:
+        os.makedirs(os.path.dirname(path), exist_ok=True)
+        with open(f"{path}.{os.getpid()}", "w", encoding="utf-8") as file:
+            json.dump(times, file)
+        os.replace(f"{path}.{os.getpid()}", path)
+    except OSError:
+        # (a home that cannot be written has no times)
+        pass
