@@ -1,7 +1,8 @@
-"""What the launcher adds where a script has a fault: `FILE:LINE: FAULT`, and the line with the word marked.
+"""What the launcher adds where a script has a fault: `FILE:LINE:COLUMN: FAULT`, the line with the word marked, and what was meant.
 
 The program decides what is a fault and tells the first. This file only finds the word that was meant, again, for the reader.
 """
+import difflib
 import os
 import re
 import stat
@@ -55,6 +56,8 @@ WORDS = {
     "threads": "threads, and then how many: 1 to 256",
 }
 GREATEST_LINE = 4096
+# So many columns of a line are shown, round the mark.
+SHOWN = 200
 
 
 def could_stand(place):
@@ -141,20 +144,37 @@ def shown(line):
 
 
 def mark_in(text, fault, scope):
-    """Where the mark begins, how long it is, and which place it marks; None where no word can be told."""
+    """Where the mark begins, the marked word, which is empty where one is missing, and which place it has; None where no word can be told."""
     if fault == "bad byte":
         found = re.search(r"\\x[0-9a-f]{2}", text)
-        return (found.start(), 4, "") if found else None
+        return (found.start(), found[0], "") if found else None
     words = words_in(text)
     places = places_of([it for _, it in words], scope.threads) if words else []
     for at, (place, word) in enumerate(places):
         if is_meant(fault, place, word, scope):
             if word is None:
-                return len(text.partition(";")[0].rstrip()) + 1, 1, place
+                return len(text.partition(";")[0].rstrip()) + 1, "", place
             # An optional word that stands is no place of its own, so the word is found from the right.
             start = words[at][0] if place != "" else words[len(words) - (len(places) - at)][0]
-            return start, len(word), place
+            return start, word, place
     return None
+
+
+def meant(word, place, scope):
+    """What may have been meant by a word that can't stand in this place, as a question, or None."""
+    if place == "OBJ" and is_caller(word):
+        return "no thread has this number: {}".format("there is t0 alone" if scope.threads == 1 else f"there are t0 to t{(scope.threads or 1) - 1}")
+    choices = {"FIRST": ["tick"], "KEYWORD": SHAPES, "TIME": ["inf"], "MODE": ["plain", "alertable"], "OBJ": scope.names, "threads": ["threads"]}
+    near = difflib.get_close_matches(word, sorted(choices.get(place, [])), 1)
+    return f"did you mean `{near[0]}`?" if near and near[0] != word else None
+
+
+def marked(text, start, length):
+    """The line and the marks below it. Of a long line the part round the mark is shown."""
+    first = 0 if len(text) <= SHOWN else max(0, min(start - SHOWN // 2, len(text) - SHOWN))
+    begin, end = ".. " if first else "", " .." if first + SHOWN < len(text) else ""
+    below = re.sub(r"[^\t]", " ", begin + text[first:start].ljust(start - first))
+    return [f"  {begin}{text[first : first + SHOWN]}{end}", f"  {below}{'^' * min(length, SHOWN)}"]
 
 
 def read_to(file, number):
@@ -167,24 +187,22 @@ def read_to(file, number):
 
 
 def explained(path, name, number, fault):
-    """The lines to be said of this fault. The script's line is shown where the file can be read a second time."""
-    lines = [f"{name}:{number}: {fault}"]
+    """The lines to be said of this fault. The script's line is shown, and the column told, where the file can be read a second time."""
     try:
         if not stat.S_ISREG(os.stat(path).st_mode):
-            return lines
+            return [f"{name}:{number}: {fault}"]
         with open(path, "rb") as file:
             line, scope = read_to(file, number)
     except OSError:
-        return lines
+        return [f"{name}:{number}: {fault}"]
     if fault == "line too long":
-        return [*lines, f"  {shown(line[:60])} .. goes on after {GREATEST_LINE} bytes"]
+        return [f"{name}:{number}:{GREATEST_LINE + 1}: {fault}", f"  {shown(line[:60])} .. goes on after {GREATEST_LINE} bytes"]
     text = shown(line).rstrip()
     mark = mark_in(text, fault, scope)
-    if text:
-        lines.append(f"  {text}")
-    if mark:
-        start, length, place = mark
-        lines.append("  " + re.sub(r"[^\t]", " ", text[:start].ljust(start)) + "^" * length)
-        if place:
-            lines.append(f"  here can stand: {could_stand(place)}")
-    return lines
+    if not mark:
+        return [f"{name}:{number}:1: {fault}", *([f"  {text[:SHOWN]}"] if text else [])]
+    # (All bytes before the mark stand for themselves, so that its place in the text is its place in the line.)
+    start, word, place = mark
+    hint = meant(word, place, scope) if word else None
+    lines = [f"{name}:{number}:{start + 1}: {fault}", *marked(text, start, len(word) or 1), *([f"  {hint}"] if hint else [])]
+    return lines + ([f"  here can stand: {could_stand(place)}"] if place else [])

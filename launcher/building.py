@@ -1,0 +1,180 @@
+"""Builds the program `ntrun`: proved, or once for its sources without proofs. One run of the launcher builds in a clone at a time, and others
+wait for it and use what it built.
+"""
+import contextlib
+import fcntl
+import glob
+import os
+import shutil
+import subprocess
+import tempfile
+import time
+
+import kit
+from terminal import Progress, say
+
+TOP = os.path.dirname(os.path.dirname(os.path.realpath(__file__)))
+CRATE = f"{TOP}/crates/ntrun"
+PROVED = f"{CRATE}/out/ntrun"
+UNPROVED = f"{TOP}/out/ntrun_unproved"
+LOCK = f"{TOP}/out/building"
+# The seconds that the last build took.
+TOOK = f"{TOP}/out/building_took"
+
+
+class NotBuilt(Exception):
+    """Why there is no program."""
+
+
+def judged_rt():
+    """The command rt. Where its kit is not the one that is wanted, that is said first."""
+    status, line = kit.judged()
+    if status == kit.IS_LACKING:
+        raise NotBuilt(line)
+    if line:
+        say(f"./ntrun: {line}")
+    return kit.find_rt()
+
+
+def is_current(program, parts):
+    """Whether the program is there, and neither a source nor the kit is newer."""
+    if not os.access(program, os.X_OK):
+        return False
+    tools = os.path.dirname(os.path.dirname(os.path.realpath(kit.find_rt() or "/")))
+    sources = [f"{TOP}/crates.txt", f"{tools}/WHAT"]
+    for part in parts:
+        for folder, _, names in (it for at in glob.glob(f"{TOP}/crates/*/{part}") for it in os.walk(at)):
+            sources += [folder, *(f"{folder}/{name}" for name in names)]
+    built = os.stat(program).st_mtime_ns
+    return all(os.stat(it).st_mtime_ns <= built for it in sources if os.path.exists(it))
+
+
+def unwritable(folder, why):
+    return NotBuilt(f"{folder}: {why}. The program is built there: make the clone yours to write, or work in one that is (git clone {TOP} FOLDER)")
+
+
+def build_proved():
+    """Proves the program and all below it, and runs it once on an example."""
+    rt, began = judged_rt(), time.time_ns()
+    for folder in [f"{TOP}/crates", *glob.glob(f"{TOP}/crates/*"), *glob.glob(f"{TOP}/crates/*/out")]:
+        if not os.access(folder, os.W_OK):
+            raise unwritable(folder, "it can't be written")
+    say("./ntrun: proving and building. From nothing that takes about half an hour on four cores, and without a change some seconds")
+    words = [rt, "run", "--", "script", f"{TOP}/examples/hand_over.nts"]
+    if subprocess.run(words, cwd=CRATE, stdin=subprocess.DEVNULL, stdout=subprocess.DEVNULL, check=False).returncode:
+        raise NotBuilt("the program could not be proved and built")
+    # What was edited meanwhile counts as newer.
+    os.utime(PROVED, ns=(began, began))
+    minutes, seconds = divmod((time.time_ns() - began) // 10**9, 60)
+    say(f"./ntrun: proved and built in {minutes} min {seconds} s")
+
+
+@contextlib.contextmanager
+def alone():
+    """Lasts while no other run builds in this clone: waits for one that does."""
+    try:
+        os.makedirs(os.path.dirname(LOCK), exist_ok=True)
+        lock = open(LOCK, "a", encoding="ascii")  # pylint: disable=consider-using-with
+        if not os.access(os.path.dirname(LOCK), os.W_OK):
+            raise unwritable(os.path.dirname(LOCK), "it can't be written")
+    except OSError as error:
+        raise unwritable(os.path.dirname(LOCK), error.strerror) from error
+    with lock:
+        try:
+            fcntl.flock(lock, fcntl.LOCK_EX | fcntl.LOCK_NB)
+        except BlockingIOError:
+            say("./ntrun: another run is building the program: this one waits for it")
+            with Progress("waiting for the other run's build"):
+                fcntl.flock(lock, fcntl.LOCK_EX)
+        yield
+
+
+def writer_once_read(pipe, reader):
+    """A writer for the named pipe, once it is open for reading; None where the process that would read it has ended before."""
+    while reader.poll() is None:
+        with contextlib.suppress(OSError):
+            return os.open(pipe, os.O_WRONLY | os.O_NONBLOCK)
+        time.sleep(0.05)
+    return None
+
+
+def program_that_reads(pipe, folder):
+    """The file below the folder that a process which has this pipe open, other than this one, has in its memory; None where there is none.
+
+    (It need not be the process's executable: a kit may start the program by the loader.)
+    """
+    for at in glob.glob("/proc/[0-9]*/fd/*"):
+        with contextlib.suppress(OSError):
+            process = at.partition("/fd/")[0]
+            if os.readlink(at) == pipe and process != f"/proc/{os.getpid()}":
+                with open(f"{process}/maps", encoding="utf-8", errors="surrogateescape") as maps:
+                    paths = (line[line.index("/") :].rstrip("\n") for line in maps if "/" in line)
+                    return next((it for it in paths if it.startswith(f"{folder}/")), None)
+    return None
+
+
+def keep_once_run(builder, pipe, wanted):
+    """Copies the program that the builder runs while it waits for its script in the pipe, to `wanted`. Answers whether that was done, and what the
+    program wrote then."""
+    writer = writer_once_read(pipe, builder)
+    program = program_that_reads(pipe, os.path.dirname(pipe)) if writer is not None else None
+    if program:
+        shutil.copy(program, wanted)
+        os.chmod(wanted, 0o755)
+    if writer is not None:
+        os.write(writer, b"threads 1\n")
+        os.close(writer)
+    return bool(program), builder.communicate()[0]
+
+
+def about_seconds():
+    """How long a build takes, by the last one here."""
+    with contextlib.suppress(OSError, ValueError), open(TOOK, encoding="ascii") as file:
+        return f"{int(file.read())} s, as the last one here"
+    return "30 s on an idle machine"
+
+
+def build_unproved():
+    """Builds the program without proofs, and keeps it.
+
+    `rt try` removes what it built as soon as the program ends. So the program is run on a named pipe, and copied while it waits for
+    its script there.
+    """
+    rt, began = judged_rt(), time.time_ns()
+    say(f"./ntrun: building the program without proofs, once for these sources; about {about_seconds()}")
+    with tempfile.TemporaryDirectory(prefix="ntrun-") as folder, open(f"{folder}/said", "w+b") as said, Progress("building", about_seconds()):
+        pipe = f"{os.path.realpath(folder)}/script"
+        os.mkfifo(pipe)
+        how = {"stdin": subprocess.DEVNULL, "stdout": subprocess.PIPE, "stderr": said}
+        builder = subprocess.Popen([rt, "try", "--", "script", pipe], cwd=CRATE, env={**os.environ, "TMPDIR": folder}, **how)
+        try:
+            kept, wrote = keep_once_run(builder, pipe, f"{UNPROVED}.new")
+        except OSError as error:
+            raise unwritable(os.path.dirname(UNPROVED), error.strerror) from error
+        finally:
+            builder.terminate()
+            builder.wait()
+        said.seek(0)
+        told = said.read().decode("utf-8", "surrogateescape").splitlines()
+    if builder.returncode or wrote != b"end: pending none\n":
+        say(*told)
+        raise NotBuilt("the program could not be built, or did not run")
+    if not kept:
+        raise NotBuilt("the program was built, but could not be kept: use --proved")
+    os.utime(f"{UNPROVED}.new", ns=(began, began))
+    os.replace(f"{UNPROVED}.new", UNPROVED)
+    with open(TOOK, "w", encoding="ascii") as file:
+        file.write(str((time.time_ns() - began) // 10**9))
+
+
+def program():
+    """The program of these sources: the proved one where it is built, else the unproved one, which is built where it has to be."""
+    if is_current(PROVED, ("src", "specs", "proofs")):
+        return PROVED
+    if not is_current(UNPROVED, ("src", "specs")):
+        with alone():
+            # (Another run may have built it meanwhile.)
+            if not is_current(UNPROVED, ("src", "specs")):
+                build_unproved()
+    say("./ntrun: this is an unproved build; ./ntrun --proved script FILE proves the program first")
+    return UNPROVED

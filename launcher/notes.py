@@ -1,0 +1,86 @@
+"""What is said of a transcript on a terminal once it is whole: what its refusals are called, and what tells more of a wait that never ended."""
+import contextlib
+import os
+import re
+import threading
+
+TOP = os.path.dirname(os.path.dirname(os.path.realpath(__file__)))
+
+# The name of each number after `error`, and what it says, as in the table of docs/WIN32.md, which the tests compare.
+REFUSALS = {
+    5: ("ERROR_ACCESS_DENIED", "the handle lacks a right that the call needs"),
+    6: ("ERROR_INVALID_HANDLE", "the handle names no object, or none of the kind that the call is for"),
+    8: ("ERROR_NOT_ENOUGH_MEMORY", "the call had to grow, and memory was refused"),
+    31: ("ERROR_GEN_FAILURE", "an APC for a thread that has ended"),
+    87: ("ERROR_INVALID_PARAMETER", "an argument that no state allows"),
+    288: ("ERROR_NOT_OWNER", "the mutex is not the caller's"),
+    298: ("ERROR_TOO_MANY_POSTS", "the semaphore's maximum would be passed"),
+    0x20000001: ("ThreadWaiting", "the caller waits"),
+    0x20000002: ("ThreadEnded", "the caller has ended"),
+    0x20000003: ("UnknownThread", "no thread has the caller's number"),
+    0x20000004: ("RecursionLimit", "a wait for a mutex that the caller holds 2147483647 deep"),
+    0x20000005: ("MomentBack", "a tick to a moment that is past"),
+    0x20000007: ("HandleLimit", "all 65,536 handle numbers are used"),
+}
+REFUSED = re.compile(rb"(\d+): error (\d+)\n?")
+PENDING = re.compile(rb"end: pending((?: t\d+)+)\n?")
+# So many refusals are named.
+MOST = 20
+
+
+class Notes:
+    """Hands on to standard output what the program writes, and notes what is to be said of it."""
+
+    def __init__(self):
+        self.refusals = []
+        self.more = 0
+        self.pending = ""
+        self.last = b""
+        self.failed = False
+
+    def begin(self, source):
+        self.hands_on = threading.Thread(target=self.hand_on, args=(source,), daemon=True)
+        self.hands_on.start()
+
+    def end(self):
+        """Waits until all is handed on, and answers whether it was."""
+        self.hands_on.join()
+        return not self.failed
+
+    def hand_on(self, source):
+        with source:
+            while part := os.read(source.fileno(), 1 << 16):
+                if not self.write(part):
+                    # The program's next write fails, as this one did.
+                    self.failed = True
+                    return
+                *lines, self.last = (self.last + part).split(b"\n")
+                for line in lines:
+                    self.note(line)
+
+    @staticmethod
+    def write(part):
+        with contextlib.suppress(OSError):
+            while part:
+                part = part[os.write(1, part) :]
+        return not part
+
+    def note(self, line):
+        refused = REFUSED.fullmatch(line)
+        if refused and len(self.refusals) < MOST:
+            self.refusals.append((int(refused[1]), int(refused[2])))
+        elif refused:
+            self.more += 1
+        pending = PENDING.fullmatch(line)
+        if pending:
+            self.pending = pending[1].decode().strip()
+
+    def lines(self, name):
+        """What is said of the transcript of the script with this name."""
+        for number, refusal in self.refusals:
+            called, means = REFUSALS.get(refusal, ("a refusal", "docs/WIN32.md has the numbers"))
+            yield f"{name}:{number}: error {refusal}, {called}: {means}"
+        if self.more:
+            yield f"./ntrun: {self.more} more refusals; docs/WIN32.md has the numbers"
+        if self.pending and os.access(f"{TOP}/ntlook", os.X_OK):
+            yield f"./ntrun: still waiting at the end: {self.pending}; ./ntlook why {name} tells for what"

@@ -1,0 +1,82 @@
+"""A copy of the launcher over sources of its own, and a kit that builds at once: for the tests of when the launcher builds, and what it says then."""
+import os
+import shutil
+import subprocess
+
+TOP = os.path.dirname(os.path.dirname(os.path.realpath(__file__)))
+
+
+def write(path, held):
+    with open(path, "wb") as file:
+        file.write(held)
+
+
+def bytes_in(path):
+    """The bytes of a file; none where there is no such file."""
+    if not os.path.exists(path):
+        return b""
+    with open(path, "rb") as file:
+        return file.read()
+
+
+# A kit for the tests of building: it notes each of its runs, and the program that it builds is the shell, which takes its first word for the name of
+# a file of commands: so these tell what the program does.
+COMMANDS = {
+    "script": 'while read -r line; do :; done <"$1"; echo "end: pending ${WAITS:-none}"',
+    "threads": 'echo threads "$@"',
+}
+KIT = """#!/bin/sh
+[ "$1" = version ] && { echo "rattle-kit-0 logic ${LOGIC:-dac8208d650f15bf}"; exit; }
+echo "$1" >>"$0.runs"
+[ -e "$0.slow" ] && sleep 2
+[ -e "$0.broken" ] && { echo 'error: broken' >&2; exit 1; }
+made=out/ntrun
+[ "$1" = try ] && made=$TMPDIR/made/anything
+mkdir -p "${made%/*}" && cp /bin/sh "$made" && shift 2 && "$made" "$@"
+"""
+
+
+class Scratch:
+    """A copy of the launcher over sources of its own, with the kit above."""
+
+    def __init__(self, folder):
+        self.folder = f"{folder}/a clone"
+        self.rt = f"{folder}/bin/rt"
+        shutil.copytree(f"{TOP}/launcher", f"{self.folder}/launcher", ignore=shutil.ignore_patterns("__pycache__"))
+        shutil.copy(f"{TOP}/ntrun", self.folder)
+        script = "threads 1\n"
+        held = {"crates.txt": "", "crates/ntrun/src/main.rt": "", "one.nts": script, "examples/hand_over.nts": script}
+        held |= {f"{at}{name}": text for at in ("", "crates/ntrun/") for name, text in COMMANDS.items()}
+        for path, text in [*((f"{self.folder}/{it}", text) for it, text in held.items()), (self.rt, KIT), (f"{self.rt}.runs", "")]:
+            os.makedirs(os.path.dirname(path), exist_ok=True)
+            write(path, text.encode("ascii"))
+        os.chmod(self.rt, 0o755)
+
+    def started(self, *words, **environment):
+        """A run of the launcher."""
+        path = f"{os.path.dirname(self.rt)}:{os.environ['PATH']}"
+        how = {"env": {**os.environ, "PATH": path, **environment}, "stdout": subprocess.PIPE, "stderr": subprocess.PIPE}
+        return subprocess.Popen([f"{self.folder}/ntrun", *words], cwd=self.folder, **how)
+
+    def runs(self, *words):
+        """The exit status, what was written, and what the kit was asked for by this run."""
+        before = self.asked()
+        ran = self.started(*words)
+        written = ran.communicate(timeout=60)[0].decode()
+        return ran.returncode, written, self.asked()[len(before) :]
+
+    def says(self, *words, **environment):
+        """The exit status, and what was said by the launcher."""
+        ran = self.started(*words, **environment)
+        said = ran.communicate(timeout=60)[1].decode().splitlines()
+        return ran.returncode, [it for it in said if it.startswith("./ntrun: ")]
+
+    def asked(self):
+        return bytes_in(f"{self.rt}.runs").decode().split()
+
+    def edit(self):
+        with open(f"{self.folder}/crates/ntrun/src/main.rt", "a", encoding="ascii") as file:
+            file.write("// edited\n")
+
+    def marks(self, how):
+        write(f"{self.rt}.{how}", b"")
