@@ -8,12 +8,17 @@
  *     257th gets ERROR_NO_SYSTEM_RESOURCES from each call.
  *   - At most 65,536 handles in a process's life, 256 of them the threads': CreateEvent and its like then fail with
  *     ERROR_NO_SYSTEM_RESOURCES, since no number of a closed handle is used again.
- *   - No names: a creation with a name fails with ERROR_NOT_SUPPORTED. Security attributes are ignored. Nothing is shared with other
- *     processes, nor with a child that is forked.
+ *   - No names: a creation with a name fails with ERROR_NOT_SUPPORTED; an empty one is none. Security attributes are ignored. Nothing is
+ *     shared with other processes. In a child that is forked beside other threads that have called, each call fails with
+ *     ERROR_NOT_SUPPORTED.
  *   - DWORD, LONG and ULONG have 32 bits, as on Windows, and so are no `long` here: print them with %u and %d.
  *   - A wait names no object twice, in both modes, by whichever handles.
  *   - No thread is suspended, terminated or given a priority.
- *   - No thread is made to keep the time: one of those that sleep does. A handler of signals that runs long in it delays what is due.
+ *   - No thread is made to keep the time. Each sleeps to its own deadline; for timers one of those that wait for one keeps it for all of
+ *     them, and a handler of signals that runs long in that thread delays the timers.
+ *   - No call is made from a handler of signals, but exit. pthread_cancel acts once a wait has ended, and does not end it; a thread that is
+ *     canceled asynchronously while it waits keeps its mutexes.
+ *   - ExitThread unwinds a thread that CreateThread did not make, as pthread_exit does.
  * docs/WIN32.md has each call. Each is made as Microsoft's page says, otherwise. */
 #ifndef NTWIN_H
 #define NTWIN_H
@@ -144,6 +149,9 @@ typedef void (*PTIMERAPCROUTINE)(LPVOID argument, DWORD low, DWORD high);
 #define SYNCHRONIZE 0x00100000u
 #define STANDARD_RIGHTS_REQUIRED 0x000F0000u
 #define MAXIMUM_ALLOWED 0x02000000u
+#define GENERIC_READ 0x80000000u
+#define GENERIC_WRITE 0x40000000u
+#define GENERIC_EXECUTE 0x20000000u
 #define GENERIC_ALL 0x10000000u
 #define EVENT_MODIFY_STATE 0x0002u
 #define EVENT_ALL_ACCESS 0x001F0003u

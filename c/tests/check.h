@@ -1,25 +1,36 @@
-/* What the tests share: rows that say what a call answers, counted, with the last line in the gate's form. */
+/* What the tests share: rows that say what a call answers, counted, with the last line in the gate's form. What fails is told with its file
+ * and line, as a compiler tells it. */
 #ifndef CHECK_H
 #define CHECK_H
 
 #include <stdio.h>
+#include <stdlib.h>
 
 static int PASSED, FAILED;
 
-static void check(const char *what, unsigned long long is, unsigned long long wanted, int line)
+static inline void check(const char *what, unsigned long long found, unsigned long long wanted, const char *file, int line)
 {
-    if (is == wanted) {
+    if (found == wanted) {
         PASSED++;
         return;
     }
     FAILED++;
-    printf("line %d: %s is %llu (0x%llx) and not %llu (0x%llx)\n", line, what, is, is, wanted, wanted);
+    printf("%s:%d: %s: wanted %llu (0x%llx), found %llu (0x%llx)\n", file, line, what, wanted, wanted, found, found);
 }
 
 /* The value of an expression. */
-#define IS(expression, wanted) check(#expression, (unsigned long long)(expression), (unsigned long long)(wanted), __LINE__)
+#define IS(expression, wanted) check(#expression, (unsigned long long)(expression), (unsigned long long)(wanted), __FILE__, __LINE__)
 
-static int counted(void)
+static inline _Noreturn void break_off(const char *what, const char *file, int line)
+{
+    fprintf(stderr, "%s:%d: does not hold: %s\n", file, line, what);
+    abort();
+}
+
+/* What has to hold, or else the program ends. */
+#define must(holds) ((holds) ? (void)0 : break_off(#holds, __FILE__, __LINE__))
+
+static inline int counted(void)
 {
     printf("%d passed, %d failed\n", PASSED, FAILED);
     return FAILED != 0;

@@ -6,6 +6,8 @@
 #define _GNU_SOURCE /* (as ntwin.c has it) */
 #include "../nt.h"
 
+#define CHECKS_WAITING
+
 #include <sys/syscall.h>
 #include <time.h>
 #include <unistd.h>
@@ -50,26 +52,36 @@ static long sleep_by_clock(_Atomic uint32_t *word, int operation, uint32_t value
     return (syscall)(SYS_futex, word, operation, value, NULL, NULL, FUTEX_BITSET_MATCH_ANY);
 }
 
-/* Whether the keeper, where there is one, sleeps to a moment that is still to come. */
-static bool is_kept(void)
+/* Whether this thread sleeps to a moment that has come, or was called and has not looked yet. */
+static bool is_late(const struct seat *seat)
 {
-    take_lock();
-    const bool is = KEEPER == NULL || KEPT_TO > MOMENT;
-    give_lock();
-    return is;
+    bool waits = false;
+    return nt_is_waiting(&waiting.dispatcher, seat->number, &waits) == 0 && waits && seat->moment <= MOMENT;
 }
 
-/* Lets the moments up to this one pass, and waits until the keeper has seen to them. */
+/* Has each thread look at the time that slept to a moment that has come. Answers whether there was one. */
+static bool call_the_late(struct seat *clock)
+{
+    bool any = false;
+    take_lock();
+    for (uint32_t i = 0; i < waiting.seated; i++)
+        if (is_late(&waiting.seats[i])) {
+            tell(clock, &waiting.seats[i], IS_CALLED);
+            any = true;
+        }
+    give_lock();
+    wake_all(clock);
+    return any;
+}
+
+/* Lets the moments up to this one pass, and waits until those who slept to one of them have seen to it. */
 static void tick(uint64_t moment)
 {
     static struct seat clock;
     take_lock();
     MOMENT = moment;
-    if (KEEPER != NULL)
-        tell(&clock, KEEPER, IS_CALLED);
     give_lock();
-    wake_all(&clock);
-    while (!is_kept())
+    while (call_the_late(&clock))
         sched_yield();
 }
 

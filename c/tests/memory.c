@@ -2,17 +2,9 @@
  * from 1 to 64, in each of the two. Words: how many rounds of them. It writes what opening, creating and copying answered, and ends
  * there where one is refused. Run by tests/allocations, which counts. */
 #include "../nt.h"
-
-#include <stdio.h>
-#include <stdlib.h>
+#include "check.h"
 
 static uint32_t EVENTS[NT_MAXIMUM_WAIT_OBJECTS];
-
-static void must(bool holds)
-{
-    if (!holds)
-        abort();
-}
 
 /* Writes what was answered, and ends the program where that is a refusal. */
 static void tell(const char *what, uint32_t answered)

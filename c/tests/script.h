@@ -24,9 +24,11 @@ static unsigned long NUMBER;
 static char *WORDS[MOST_WORDS];
 static int COUNT;
 
+/* Ends the program at a line that it can't carry out. */
 static void stop(void)
 {
     fflush(stdout);
+    fprintf(stderr, "<stdin>:%lu: this line can't be carried out\n", NUMBER);
     exit(2);
 }
 

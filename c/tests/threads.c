@@ -13,12 +13,6 @@ static LONGLONG TOTAL, PUT, GOT, LAPS, APC_SUM;
 static int QUEUE[SLOTS];
 static unsigned HEAD, TAIL;
 
-static void must(int holds)
-{
-    if (!holds)
-        abort();
-}
-
 static void put(int value)
 {
     HANDLE both[2] = { SLOTS_LEFT, MUTEX };

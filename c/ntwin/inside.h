@@ -1,0 +1,135 @@
+/* What the parts of ntwin.c share: a thread's seat, and all that is kept, with what always holds of it. */
+#ifndef NTWIN_INSIDE_H
+#define NTWIN_INSIDE_H
+
+#include "../ntwin.h"
+#include "../nt.h"
+
+#include <errno.h>
+#include <limits.h>
+#include <linux/futex.h>
+#include <pthread.h>
+#include <sched.h>
+#include <setjmp.h>
+#include <stdatomic.h>
+#include <stdlib.h>
+#include <sys/syscall.h>
+#include <time.h>
+#include <unistd.h>
+
+#if defined __has_include
+#if __has_include(<sys/single_threaded.h>)
+#include <sys/single_threaded.h>
+#define TELLS_WHETHER_ALONE
+#endif
+#endif
+
+/* How often a thread looks before it sleeps. A test may set less. */
+#ifndef LOOKS_AT_LOCK
+#define LOOKS_AT_LOCK 40   /* at the lock: about as long as falling asleep and waking take */
+#define LOOKS_AT_WORD 1000 /* at its own word: longer than a thread that sleeps takes to wake */
+#define WAITS_PER_TRY 4096 /* once in so many waits, those of all threads together, 2 of them try again whether looks help */
+#endif
+
+enum {
+    TRIES = 2,
+    MOMENTS_OF_LOOKS = 1000, /* what LOOKS_AT_WORD take at the most, in units of 100 ns */
+    NO_HANDLE = 0xFFFFFF,    /* a number that no handle has */
+    MOMENTS_PER_SECOND = 10000000,
+    NANOSECONDS_PER_MOMENT = 100
+};
+
+#define CURRENT_PROCESS ((HANDLE)(intptr_t)-1)
+#define CURRENT_THREAD ((HANDLE)(intptr_t)-2)
+#define NEVER UINT64_MAX /* in the place of a moment */
+
+/* The lock is free, taken, or taken and wanted by threads that may sleep on it. */
+enum { FREE, TAKEN, WANTED };
+
+/* How the wait of a thread stands. */
+enum {
+    IS_AWAKE,  /* the thread looks at its word */
+    IS_ASLEEP, /* it sleeps on it */
+    IS_CALLED, /* it is to look at the time */
+    IS_GRANTED
+};
+
+/* A thread's place in the dispatcher. */
+struct seat {
+    _Atomic uint32_t word;   /* how its wait stands: written by others under the lock */
+    uint32_t status;         /* with which status it was granted */
+    uint32_t number;         /* the thread's, which is also the seat's place among all */
+    struct nt_reply reply;   /* what its last call was answered */
+    struct nt_grant grant;   /* the last wait of those that its last call ended */
+    uint64_t deadline;       /* of its pending wait, or NEVER */
+    uint64_t moment;         /* to which it sleeps by itself, no later than that; 0 where it was called */
+    bool watches;            /* its wait pends, and a timer may end it: */
+    struct seat *earlier;    /* it is among the watchers, whose wait began before its own */
+    struct seat *later;      /* and whose began after it */
+    bool has_routines;       /* it has set a timer with a routine */
+    LPTHREAD_START_ROUTINE start; /* null, but where CreateThread made the thread */
+    LPVOID parameter;
+    pthread_t thread;
+    struct seat *next;       /* among the spare seats, or among those whose threads have left */
+    uint32_t looks;          /* how often it looks at its word before it sleeps: 0 where that was in vain of late */
+    uint32_t wakes;          /* how many threads its call has told something while they slept: it wakes them, */
+    uint32_t woken[NT_MAXIMUM_THREADS]; /* once the lock is given back */
+};
+
+/* Kinds of objects, for what the dispatcher's handles do not tell: the rights that generic ones stand for, and which waits timers may end. */
+enum kind { KIND_THREAD, KIND_EVENT, KIND_SEMAPHORE, KIND_MUTEX, KIND_TIMER, KIND_PROCESS };
+
+/* What a thread finds of its own with no call, also where this is a shared library. (A test may have threads of its own making.) */
+struct own {
+    struct seat *seat; /* null before its first call */
+    DWORD last_error;
+    DWORD id;          /* 0 until it was asked for */
+    jmp_buf *end;      /* where ExitThread goes to, in a thread of CreateThread */
+};
+#ifndef own
+static _Thread_local struct own own __attribute__((tls_model("initial-exec")));
+#endif
+
+/* What is written as the dispatcher is opened, by one thread at a time, and as the process forks. */
+static struct {
+    pthread_mutex_t opening;
+    bool is_open;
+    bool has_key;
+    pthread_key_t leaving;  /* its value in a thread: at which round of its destructors the thread is */
+    pid_t id;
+    bool looks;             /* threads look at a word before they sleep on it: there are several processors */
+    bool is_forked;         /* this is a child of a process with threads that are not here */
+    uint64_t start;         /* the dispatcher's moment 0, on the monotonic clock */
+} process = { .opening = PTHREAD_MUTEX_INITIALIZER };
+
+/* What is kept under the lock. Whenever that is given back, this holds (check.c):
+ *   - so many waits pend in the dispatcher as `pending` says, and the word of none of their threads is IS_GRANTED;
+ *   - each of their threads sleeps by itself no longer than to its own deadline;
+ *   - the watchers are threads whose waits pend, and the keeper is one of them;
+ *   - no timer is due before `timers_due`; where that is not NEVER and there are watchers, the keeper sleeps no longer than to it. */
+static struct {
+    _Atomic uint32_t lock;
+    uint32_t pending;
+    uint64_t timers_due;     /* NEVER where no timer is set */
+    struct seat *keeper;     /* the watcher that lets the timers' time pass */
+    struct seat *watchers;   /* those whose waits a timer may end, the last to begin first */
+    uint32_t begun;          /* how many waits have begun to pend */
+    uint32_t seated;         /* how many seats were ever taken */
+    uint32_t alive;          /* how many of their threads have not left */
+    struct seat *spare;      /* seats whose threads could not be started */
+    struct seat *left;       /* threads of CreateThread that have left and are not joined */
+    uint32_t process_handle; /* the number of an event that is never set, which stands for the process; 0 before that is waited for */
+    struct nt dispatcher;
+    struct seat seats[NT_MAXIMUM_THREADS];
+    uint8_t kinds[NT_MAXIMUM_HANDLES]; /* of what each number names, or named last */
+} waiting;
+
+#ifdef CHECKS_WAITING
+static void check_waiting(void);
+#else
+static inline void check_waiting(void)
+{
+}
+#endif
+
+#endif

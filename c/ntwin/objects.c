@@ -1,0 +1,213 @@
+/* ---- Events. */
+
+static HANDLE create_event(bool is_named, DWORD flags, DWORD access)
+{
+    return create(nt_create_event, KIND_EVENT, is_named, flags, access);
+}
+
+HANDLE CreateEventExA(LPSECURITY_ATTRIBUTES attributes, LPCSTR name, DWORD flags, DWORD access)
+{
+    (void)attributes;
+    return create_event(IS_NAMED(name), flags, access);
+}
+
+HANDLE CreateEventExW(LPSECURITY_ATTRIBUTES attributes, LPCWSTR name, DWORD flags, DWORD access)
+{
+    (void)attributes;
+    return create_event(IS_NAMED(name), flags, access);
+}
+
+static DWORD event_flags(BOOL manual, BOOL set)
+{
+    return (manual ? CREATE_EVENT_MANUAL_RESET : 0) | (set ? CREATE_EVENT_INITIAL_SET : 0);
+}
+
+HANDLE CreateEventA(LPSECURITY_ATTRIBUTES attributes, BOOL manual, BOOL set, LPCSTR name)
+{
+    return CreateEventExA(attributes, name, event_flags(manual, set), EVENT_ALL_ACCESS);
+}
+
+HANDLE CreateEventW(LPSECURITY_ATTRIBUTES attributes, BOOL manual, BOOL set, LPCWSTR name)
+{
+    return CreateEventExW(attributes, name, event_flags(manual, set), EVENT_ALL_ACCESS);
+}
+
+BOOL SetEvent(HANDLE event)
+{
+    struct seat *seat = begin();
+    return seat != NULL && finish(seat, nt_set_event(&waiting.dispatcher, seat->number, number_of(seat, event), &seat->reply));
+}
+
+BOOL ResetEvent(HANDLE event)
+{
+    struct seat *seat = begin();
+    return seat != NULL && finish(seat, nt_reset_event(&waiting.dispatcher, seat->number, number_of(seat, event), &seat->reply));
+}
+
+BOOL PulseEvent(HANDLE event)
+{
+    struct seat *seat = begin();
+    return seat != NULL && finish(seat, nt_pulse_event(&waiting.dispatcher, seat->number, number_of(seat, event), &seat->reply));
+}
+
+/* ---- Semaphores. */
+
+static HANDLE create_semaphore(bool is_named, LONG initial, LONG maximum, DWORD flags, DWORD access)
+{
+    struct nt_reply reply;
+    if (is_named || flags != 0)
+        return refuse_creation(is_named);
+    struct seat *seat = begin();
+    if (seat == NULL)
+        return NULL;
+    const uint32_t refused = nt_create_semaphore(&waiting.dispatcher, seat->number, initial, maximum, &reply);
+    return finish_creation(seat, refused, &reply, KIND_SEMAPHORE, access);
+}
+
+HANDLE CreateSemaphoreExA(LPSECURITY_ATTRIBUTES attributes, LONG initial, LONG maximum, LPCSTR name, DWORD flags, DWORD access)
+{
+    (void)attributes;
+    return create_semaphore(IS_NAMED(name), initial, maximum, flags, access);
+}
+
+HANDLE CreateSemaphoreExW(LPSECURITY_ATTRIBUTES attributes, LONG initial, LONG maximum, LPCWSTR name, DWORD flags, DWORD access)
+{
+    (void)attributes;
+    return create_semaphore(IS_NAMED(name), initial, maximum, flags, access);
+}
+
+HANDLE CreateSemaphoreA(LPSECURITY_ATTRIBUTES attributes, LONG initial, LONG maximum, LPCSTR name)
+{
+    return CreateSemaphoreExA(attributes, initial, maximum, name, 0, SEMAPHORE_ALL_ACCESS);
+}
+
+HANDLE CreateSemaphoreW(LPSECURITY_ATTRIBUTES attributes, LONG initial, LONG maximum, LPCWSTR name)
+{
+    return CreateSemaphoreExW(attributes, initial, maximum, name, 0, SEMAPHORE_ALL_ACCESS);
+}
+
+BOOL ReleaseSemaphore(HANDLE semaphore, LONG count, LPLONG previous)
+{
+    struct seat *seat = begin();
+    if (seat == NULL)
+        return FALSE;
+    if (!finish(seat, nt_release_semaphore(&waiting.dispatcher, seat->number, number_of(seat, semaphore), count, &seat->reply)))
+        return FALSE;
+    if (previous != NULL)
+        *previous = seat->reply.previous;
+    return TRUE;
+}
+
+/* ---- Mutexes. */
+
+static HANDLE create_mutex(bool is_named, DWORD flags, DWORD access)
+{
+    return create(nt_create_mutex, KIND_MUTEX, is_named, flags, access);
+}
+
+HANDLE CreateMutexExA(LPSECURITY_ATTRIBUTES attributes, LPCSTR name, DWORD flags, DWORD access)
+{
+    (void)attributes;
+    return create_mutex(IS_NAMED(name), flags, access);
+}
+
+HANDLE CreateMutexExW(LPSECURITY_ATTRIBUTES attributes, LPCWSTR name, DWORD flags, DWORD access)
+{
+    (void)attributes;
+    return create_mutex(IS_NAMED(name), flags, access);
+}
+
+HANDLE CreateMutexA(LPSECURITY_ATTRIBUTES attributes, BOOL owned, LPCSTR name)
+{
+    return CreateMutexExA(attributes, name, owned ? CREATE_MUTEX_INITIAL_OWNER : 0, MUTEX_ALL_ACCESS);
+}
+
+HANDLE CreateMutexW(LPSECURITY_ATTRIBUTES attributes, BOOL owned, LPCWSTR name)
+{
+    return CreateMutexExW(attributes, name, owned ? CREATE_MUTEX_INITIAL_OWNER : 0, MUTEX_ALL_ACCESS);
+}
+
+BOOL ReleaseMutex(HANDLE mutex)
+{
+    struct seat *seat = begin();
+    return seat != NULL && finish(seat, nt_release_mutex(&waiting.dispatcher, seat->number, number_of(seat, mutex), &seat->reply));
+}
+
+/* ---- Waitable timers. */
+
+static HANDLE create_timer(bool is_named, DWORD flags, DWORD access)
+{
+    return create(nt_create_timer, KIND_TIMER, is_named, flags, access);
+}
+
+HANDLE CreateWaitableTimerExA(LPSECURITY_ATTRIBUTES attributes, LPCSTR name, DWORD flags, DWORD access)
+{
+    (void)attributes;
+    return create_timer(IS_NAMED(name), flags, access);
+}
+
+HANDLE CreateWaitableTimerExW(LPSECURITY_ATTRIBUTES attributes, LPCWSTR name, DWORD flags, DWORD access)
+{
+    (void)attributes;
+    return create_timer(IS_NAMED(name), flags, access);
+}
+
+HANDLE CreateWaitableTimerA(LPSECURITY_ATTRIBUTES attributes, BOOL manual, LPCSTR name)
+{
+    return CreateWaitableTimerExA(attributes, name, manual ? CREATE_WAITABLE_TIMER_MANUAL_RESET : 0, TIMER_ALL_ACCESS);
+}
+
+HANDLE CreateWaitableTimerW(LPSECURITY_ATTRIBUTES attributes, BOOL manual, LPCWSTR name)
+{
+    return CreateWaitableTimerExW(attributes, name, manual ? CREATE_WAITABLE_TIMER_MANUAL_RESET : 0, TIMER_ALL_ACCESS);
+}
+
+/* Sets a timer, under the lock, to a due time as `nt_set_timer` has it. */
+static uint32_t set_timer(struct seat *seat, uint32_t timer, int64_t due, LONG period, PTIMERAPCROUTINE routine, LPVOID argument)
+{
+    struct nt *nt = &waiting.dispatcher;
+    if (routine == NULL)
+        return nt_set_timer(nt, seat->number, timer, due, period, &seat->reply);
+    seat->has_routines = true;
+    return nt_set_timer_apc(nt, seat->number, timer, due, period, (uint64_t)(uintptr_t)routine, (uint64_t)(uintptr_t)argument,
+                            &seat->reply);
+}
+
+BOOL SetWaitableTimer(HANDLE timer, const LARGE_INTEGER *due, LONG period, PTIMERAPCROUTINE routine, LPVOID argument, BOOL resume)
+{
+    (void)resume;
+    if (due == NULL)
+        return fail(ERROR_INVALID_PARAMETER);
+    const int64_t time = due->QuadPart;
+    struct seat *seat = begin();
+    if (seat == NULL)
+        return FALSE;
+    const uint64_t now = pass_time(seat);
+    const int64_t moment = time < 0 ? time : moment_of(time);
+    const uint32_t refused = set_timer(seat, number_of(seat, timer), moment, period, routine, argument);
+    if (refused == 0) {
+        note(seat);
+        note_timer(seat, now, moment < 0 ? now - (uint64_t)moment : (uint64_t)moment);
+    }
+    unlock_and_wake(seat);
+    return refused == 0 ? TRUE : fail(refused);
+}
+
+BOOL SetWaitableTimerEx(HANDLE timer, const LARGE_INTEGER *due, LONG period, PTIMERAPCROUTINE routine, LPVOID argument,
+                        PREASON_CONTEXT context, ULONG delay)
+{
+    (void)context;
+    (void)delay;
+    return SetWaitableTimer(timer, due, period, routine, argument, FALSE);
+}
+
+BOOL CancelWaitableTimer(HANDLE timer)
+{
+    struct seat *seat = begin();
+    if (seat == NULL)
+        return FALSE;
+    const uint32_t refused = nt_cancel_timer(&waiting.dispatcher, seat->number, number_of(seat, timer), &seat->reply);
+    look_for_timers();
+    return finish(seat, refused);
+}
+

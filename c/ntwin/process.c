@@ -1,0 +1,194 @@
+/* ---- Threads and the process. */
+
+static void *run_thread(void *at)
+{
+    jmp_buf end;
+    struct seat *seat = own.seat = at;
+    const bool leaves_by_key = pthread_setspecific(process.leaving, rounds) == 0;
+    seat->thread = pthread_self();
+    own.end = &end;
+    if (_setjmp(end) == 0) {
+        /* (Those that were queued before it began.) */
+        run_apcs(seat);
+        seat->start(seat->parameter);
+    }
+    own.end = NULL;
+    if (!leaves_by_key)
+        leave(own.seat);
+    return NULL;
+}
+
+/* Starts the thread of this seat. A stack that is smaller than usual is as large as usual, but where its size is what is reserved: what is
+ * committed of it is the system's. Answers 0, or what pthread_create does. */
+static int start_thread(struct seat *seat, SIZE_T stack, bool is_reserved)
+{
+    enum { GRAIN = 0x10000 };
+    pthread_attr_t attributes;
+    pthread_t thread;
+    size_t usual;
+    if (stack > SIZE_MAX - GRAIN)
+        return ENOMEM;
+    if (stack > 0 && stack < (SIZE_T)PTHREAD_STACK_MIN)
+        stack = (SIZE_T)PTHREAD_STACK_MIN;
+    pthread_attr_init(&attributes);
+    pthread_attr_getstacksize(&attributes, &usual);
+    if (is_reserved ? stack > 0 : stack > usual)
+        pthread_attr_setstacksize(&attributes, (stack + GRAIN - 1) & ~(SIZE_T)(GRAIN - 1));
+    const int error = pthread_create(&thread, &attributes, run_thread, seat);
+    pthread_attr_destroy(&attributes);
+    return error;
+}
+
+/* Takes a seat for a new thread, under the lock: its handle, a duplicate, is in the reply. Answers 0, or why not. */
+static uint32_t seat_thread(const struct seat *caller, struct seat **seat, struct nt_reply *reply)
+{
+    *seat = take_seat();
+    if (*seat == NULL)
+        return ERROR_NO_SYSTEM_RESOURCES;
+    const uint32_t refused = nt_duplicate(&waiting.dispatcher, caller->number, (*seat)->number, SYNCHRONIZE | THREAD_SET_CONTEXT, reply);
+    if (refused != 0)
+        give_seat(*seat);
+    else
+        waiting.kinds[reply->number] = KIND_THREAD;
+    return refused;
+}
+
+/* The id of the thread of CreateThread that has this seat. */
+static DWORD id_of(const struct seat *seat)
+{
+    return (seat->number + 1) * 4;
+}
+
+HANDLE CreateThread(LPSECURITY_ATTRIBUTES attributes, SIZE_T stack, LPTHREAD_START_ROUTINE start, LPVOID parameter, DWORD flags,
+                    LPDWORD id)
+{
+    struct nt_reply reply;
+    struct seat *seat;
+    (void)attributes;
+    if (start == NULL || (flags & ~STACK_SIZE_PARAM_IS_A_RESERVATION) != 0) {
+        fail(flags & CREATE_SUSPENDED ? ERROR_NOT_SUPPORTED : ERROR_INVALID_PARAMETER);
+        return NULL;
+    }
+    struct seat *caller = join();
+    if (caller == NULL)
+        return NULL;
+    join_those_who_are_gone();
+    lock(caller);
+    if (!finish(caller, seat_thread(caller, &seat, &reply)))
+        return NULL;
+    seat->start = start;
+    seat->parameter = parameter;
+    /* The new thread may end before this call does, and with it what `id` points to. */
+    if (id != NULL)
+        *id = id_of(seat);
+    if (start_thread(seat, stack, (flags & STACK_SIZE_PARAM_IS_A_RESERVATION) != 0) != 0) {
+        lock(caller);
+        give_seat(seat);
+        finish(caller, close_number(caller->number, reply.number));
+        fail(NT_ERROR_NOT_ENOUGH_MEMORY);
+        return NULL;
+    }
+    return handle_of(reply.number);
+}
+
+/* As on Windows no destructor is called on the way, and no memory is needed, where CreateThread made the thread. */
+void ExitThread(DWORD code)
+{
+    (void)code;
+    if (own.end != NULL)
+        _longjmp(*own.end, 1);
+    pthread_exit(NULL);
+}
+
+HANDLE GetCurrentThread(void)
+{
+    return CURRENT_THREAD;
+}
+
+/* A thread that CreateThread did not make has an odd one, of its number in the system, and takes no seat for it. */
+DWORD GetCurrentThreadId(void)
+{
+    if (own.id == 0)
+        own.id = own.seat != NULL && own.seat->start != NULL ? id_of(own.seat) : (DWORD)gettid() * 2 + 1;
+    return own.id;
+}
+
+HANDLE GetCurrentProcess(void)
+{
+    return CURRENT_PROCESS;
+}
+
+DWORD GetCurrentProcessId(void)
+{
+    return (DWORD)getpid();
+}
+
+BOOL TerminateProcess(HANDLE process, UINT code)
+{
+    if (process != CURRENT_PROCESS)
+        return fail(ERROR_INVALID_HANDLE);
+    _exit((int)code);
+}
+
+void ExitProcess(UINT code)
+{
+    exit((int)code);
+}
+
+/* ---- Handles. */
+
+/* One handle more with the most rights that this one has: of the sets of rights, the first that is not refused for lack of one. */
+static uint32_t duplicate_same_access(uint32_t caller, uint32_t number, struct nt_reply *reply)
+{
+    static const uint32_t most_first[] = {
+        SYNCHRONIZE | NT_MODIFY_STATE | THREAD_SET_CONTEXT,
+        SYNCHRONIZE | NT_MODIFY_STATE,
+        SYNCHRONIZE | THREAD_SET_CONTEXT,
+        NT_MODIFY_STATE | THREAD_SET_CONTEXT,
+        SYNCHRONIZE,
+        NT_MODIFY_STATE,
+        THREAD_SET_CONTEXT,
+        0,
+    };
+    uint32_t refused = NT_ERROR_ACCESS_DENIED;
+    for (size_t i = 0; i < sizeof most_first / sizeof *most_first && refused == NT_ERROR_ACCESS_DENIED; i++)
+        refused = nt_duplicate(&waiting.dispatcher, caller, number, most_first[i], reply);
+    return refused;
+}
+
+BOOL DuplicateHandle(HANDLE from, HANDLE handle, HANDLE to, LPHANDLE duplicate, DWORD access, BOOL inherit, DWORD options)
+{
+    struct nt_reply reply;
+    const bool closes = (options & DUPLICATE_CLOSE_SOURCE) != 0;
+    (void)inherit;
+    /* With nowhere to go the handle is closed, where that is asked for. */
+    if (from == CURRENT_PROCESS && to == NULL && closes)
+        return CloseHandle(handle);
+    if (from != CURRENT_PROCESS || to != CURRENT_PROCESS)
+        return fail(ERROR_INVALID_HANDLE);
+    struct seat *seat = begin();
+    if (seat == NULL)
+        return FALSE;
+    const uint32_t caller = seat->number, number = waited_number_of(seat, handle);
+    const bool is_same = (options & DUPLICATE_SAME_ACCESS) != 0 || (access & MAXIMUM_ALLOWED) != 0;
+    const uint32_t refused = is_same ? duplicate_same_access(caller, number, &reply)
+                                     : nt_duplicate(&waiting.dispatcher, caller, number, rights_of(kind_of(number), access), &reply);
+    if (refused == 0)
+        waiting.kinds[reply.number] = (uint8_t)kind_of(number);
+    /* (That a duplicate is refused keeps no source open.) */
+    if (closes && handle != CURRENT_THREAD && handle != CURRENT_PROCESS)
+        close_number(caller, number);
+    if (!finish(seat, refused))
+        return FALSE;
+    if (duplicate != NULL)
+        *duplicate = handle_of(reply.number);
+    return TRUE;
+}
+
+BOOL CloseHandle(HANDLE handle)
+{
+    if (handle == CURRENT_PROCESS || handle == CURRENT_THREAD)
+        return TRUE;
+    struct seat *seat = begin();
+    return seat != NULL && finish(seat, close_number(seat->number, number_of(seat, handle)));
+}

@@ -1,0 +1,162 @@
+/* ---- Threads come and go. */
+
+/* Takes a seat, under the lock; null where none is left. */
+static struct seat *take_seat(void)
+{
+    struct seat *seat = waiting.spare;
+    if (seat != NULL) {
+        waiting.spare = seat->next;
+    } else {
+        if (waiting.seated == NT_MAXIMUM_THREADS)
+            return NULL;
+        seat = &waiting.seats[waiting.seated];
+        seat->number = waiting.seated++;
+        seat->looks = process.looks ? LOOKS_AT_WORD : 0;
+    }
+    waiting.alive++;
+    return seat;
+}
+
+/* Gives a seat back whose thread never ran, under the lock. */
+static void give_seat(struct seat *seat)
+{
+    waiting.alive--;
+    seat->start = NULL;
+    seat->next = waiting.spare;
+    waiting.spare = seat;
+}
+
+/* The thread ends, for the dispatcher: its mutexes are abandoned, and who waits for it is granted. One that was canceled in the middle of
+ * a wait can't end, but keeps no time any more. */
+static void leave(struct seat *seat)
+{
+    lock(seat);
+    if (nt_exit(&waiting.dispatcher, seat->number, &seat->reply) == 0) {
+        note(seat);
+        look_for_timers();
+        waiting.alive--;
+        if (seat->start != NULL) {
+            seat->next = waiting.left;
+            waiting.left = seat;
+        }
+    } else if (seat->watches) {
+        stop_watching(seat);
+        have_time_kept(seat);
+    }
+    unlock_and_wake(seat);
+}
+
+/* For each round of the destructors that a thread runs as it ends, a value of its key. In the last but one it ends for the dispatcher, so
+ * that its other destructors may still call, and have run when its handle is signaled. (The last one is the sanitizers'.) */
+enum { LEAVING_ROUNDS = PTHREAD_DESTRUCTOR_ITERATIONS - 1 };
+static char rounds[LEAVING_ROUNDS];
+
+static void leave_last(void *round)
+{
+    char *next = (char *)round + 1;
+    own.end = NULL;
+    if (own.seat != NULL && (next == rounds + LEAVING_ROUNDS || pthread_setspecific(process.leaving, next) != 0))
+        leave(own.seat);
+}
+
+/* A child is forked, and this is its only thread. If others had seats or were in a call, none of them is here to end what it began: the
+ * child then has no seat any more, and gets none. */
+static void note_fork(void)
+{
+    const bool is_opening = pthread_mutex_trylock(&process.opening) != 0;
+    own.id = 0;
+    waiting.left = NULL;
+    if (!is_opening)
+        pthread_mutex_unlock(&process.opening);
+    if (!is_opening && atomic_load_explicit(&waiting.lock, memory_order_relaxed) == FREE && waiting.alive == (own.seat != NULL))
+        return;
+    process.is_forked = true;
+    own.seat = NULL;
+}
+
+__attribute__((constructor)) static void begin_process(void)
+{
+    pthread_atfork(NULL, NULL, note_fork);
+}
+
+/* Opens the dispatcher, where it is not open. Answers 0, or why not; a later call tries again. */
+static uint32_t open_dispatcher(void)
+{
+    uint32_t refused = 0;
+    if (process.is_forked)
+        return ERROR_NOT_SUPPORTED;
+    pthread_mutex_lock(&process.opening);
+    if (!process.is_open) {
+        process.looks = sysconf(_SC_NPROCESSORS_ONLN) > 1;
+        process.id = getpid();
+        process.start = monotonic();
+        waiting.timers_due = NEVER;
+        if (waiting.dispatcher.room == NULL)
+            waiting.dispatcher.room = aligned_alloc(16, (nt_room() + 15) / 16 * 16);
+        if (!process.has_key)
+            process.has_key = pthread_key_create(&process.leaving, leave_last) == 0;
+        refused = NT_ERROR_NOT_ENOUGH_MEMORY;
+        if (waiting.dispatcher.room != NULL && process.has_key)
+            refused = nt_open(&waiting.dispatcher, NT_MAXIMUM_THREADS);
+        process.is_open = refused == 0;
+    }
+    pthread_mutex_unlock(&process.opening);
+    return refused;
+}
+
+/* The caller's seat, which it takes now. Null, with the last error set, where it can't have one. */
+__attribute__((noinline, cold)) static struct seat *join_first(void)
+{
+    uint32_t refused = open_dispatcher();
+    if (refused == 0 && pthread_setspecific(process.leaving, rounds) != 0)
+        refused = NT_ERROR_NOT_ENOUGH_MEMORY;
+    if (refused != 0) {
+        fail(refused);
+        return NULL;
+    }
+    take_lock();
+    own.seat = take_seat();
+    give_lock();
+    if (own.seat == NULL) {
+        pthread_setspecific(process.leaving, NULL);
+        fail(ERROR_NO_SYSTEM_RESOURCES);
+    }
+    return own.seat;
+}
+
+/* The caller's seat, which it takes at its first call. Null, with the last error set, where it can't have one. */
+static inline struct seat *join(void)
+{
+    struct seat *seat = own.seat;
+    return seat != NULL ? seat : join_first();
+}
+
+/* Joins the threads of CreateThread that are gone. It waits for none: who has left may still run destructors. */
+static void join_those_who_are_gone(void)
+{
+    take_lock();
+    for (struct seat **at = &waiting.left; *at != NULL;)
+        if (pthread_tryjoin_np((*at)->thread, NULL) != EBUSY)
+            *at = (*at)->next;
+        else
+            at = &(*at)->next;
+    give_lock();
+}
+
+/* At the end of the process, though not in a child that was forked: gives those who have left, and have nothing to do but to be gone, two
+ * seconds at the most for it. It takes the lock where it can: who ends the process may have been interrupted while it had it. Threads that
+ * still run may still call. */
+__attribute__((destructor)) static void end_process(void)
+{
+    const struct timespec until = { .tv_sec = time(NULL) + 2 };
+    if (process.id != getpid())
+        return;
+    while (take_lock_at_last()) {
+        struct seat *seat = waiting.left;
+        if (seat != NULL)
+            waiting.left = seat->next;
+        give_lock();
+        if (seat == NULL || pthread_timedjoin_np(seat->thread, NULL, &until) == ETIMEDOUT)
+            return;
+    }
+}

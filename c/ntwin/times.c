@@ -1,0 +1,93 @@
+/* ---- Errors. */
+
+static DWORD error_of(uint32_t refused)
+{
+    switch (refused) {
+    case NT_ERROR_RECURSION_LIMIT:
+        return ERROR_MUTANT_LIMIT_EXCEEDED;
+    case NT_ERROR_HANDLE_LIMIT:
+        return ERROR_NO_SYSTEM_RESOURCES;
+    default:
+        return refused;
+    }
+}
+
+/* Sets the last error, and answers FALSE. */
+__attribute__((noinline, cold)) static BOOL fail(uint32_t refused)
+{
+    own.last_error = error_of(refused);
+    return FALSE;
+}
+
+DWORD GetLastError(void)
+{
+    return own.last_error;
+}
+
+void SetLastError(DWORD error)
+{
+    own.last_error = error;
+}
+
+/* ---- Time. */
+
+/* From 1601 to 1970, in units of 100 ns. */
+static const int64_t unix_epoch = INT64_C(116444736000000000);
+
+/* The monotonic clock, in units of 100 ns. */
+static uint64_t monotonic(void)
+{
+    struct timespec now;
+    clock_gettime(CLOCK_MONOTONIC, &now);
+    return (uint64_t)now.tv_sec * MOMENTS_PER_SECOND + (uint64_t)now.tv_nsec / NANOSECONDS_PER_MOMENT;
+}
+
+/* UTC, in units of 100 ns since 1601. */
+static int64_t universal(void)
+{
+    struct timespec now;
+    clock_gettime(CLOCK_REALTIME, &now);
+    return unix_epoch + (int64_t)now.tv_sec * MOMENTS_PER_SECOND + (int64_t)now.tv_nsec / NANOSECONDS_PER_MOMENT;
+}
+
+/* The present moment of the dispatcher. */
+static uint64_t present(void)
+{
+    return monotonic() - process.start;
+}
+
+/* The moment of a time in UTC; moment 0 where that is before the dispatcher was opened, which is past too. */
+static int64_t moment_of(int64_t time)
+{
+    const int64_t since = time - universal() + (int64_t)present();
+    return since > 0 ? since : 0;
+}
+
+ULONGLONG GetTickCount64(void)
+{
+    return monotonic() / (MOMENTS_PER_SECOND / 1000);
+}
+
+DWORD GetTickCount(void)
+{
+    return (DWORD)GetTickCount64();
+}
+
+BOOL QueryPerformanceCounter(LARGE_INTEGER *count)
+{
+    count->QuadPart = (LONGLONG)monotonic();
+    return TRUE;
+}
+
+BOOL QueryPerformanceFrequency(LARGE_INTEGER *frequency)
+{
+    frequency->QuadPart = MOMENTS_PER_SECOND;
+    return TRUE;
+}
+
+void GetSystemTimeAsFileTime(LPFILETIME now)
+{
+    const uint64_t time = (uint64_t)universal();
+    now->dwLowDateTime = (DWORD)time;
+    now->dwHighDateTime = (DWORD)(time >> 32);
+}

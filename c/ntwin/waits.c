@@ -1,0 +1,198 @@
+/* ---- APCs. */
+
+DWORD QueueUserAPC(PAPCFUNC routine, HANDLE thread, ULONG_PTR argument)
+{
+    if (routine == NULL)
+        return (DWORD)fail(ERROR_INVALID_PARAMETER);
+    struct seat *seat = begin();
+    return seat != NULL
+        && finish(seat, nt_queue_apc(&waiting.dispatcher, seat->number, number_of(seat, thread), (uint64_t)(uintptr_t)routine, argument,
+                                     &seat->reply));
+}
+
+/* Runs an APC. A timer's routine is told the moment at which the timer was due, in UTC. */
+static void run_apc(const struct nt_reply *apc)
+{
+    if (!apc->timed) {
+        ((PAPCFUNC)(uintptr_t)apc->routine)((ULONG_PTR)apc->arg);
+        return;
+    }
+    const uint64_t time = (uint64_t)(universal() - (int64_t)present() + (int64_t)apc->at);
+    ((PTIMERAPCROUTINE)(uintptr_t)apc->routine)((LPVOID)(uintptr_t)apc->arg, (DWORD)time, (DWORD)(time >> 32));
+}
+
+/* Takes the caller's oldest APC. An alertable sleep of no time tells whether there is one, and lets the caller take it, also where an
+ * APC before it has waited. */
+static bool take_apc(struct seat *seat, struct nt_reply *apc)
+{
+    const uint32_t caller = seat->number;
+    lock(seat);
+    const bool is_queued = nt_sleep(&waiting.dispatcher, caller, 0, true, apc) == 0 && apc->number == WAIT_IO_COMPLETION;
+    const bool is_taken = is_queued && nt_next_apc(&waiting.dispatcher, caller, apc) == 0 && apc->kind == NT_APC;
+    unlock_and_wake(seat);
+    return is_taken;
+}
+
+/* Runs the caller's APCs, those too that are queued meanwhile. */
+static void run_apcs(struct seat *seat)
+{
+    struct nt_reply apc;
+    while (take_apc(seat, &apc))
+        run_apc(&apc);
+}
+
+/* ---- Waits. */
+
+/* The handle of an event that is never set, under the lock: it stands for the process, which has not ended. NO_HANDLE where memory is
+ * refused for it. */
+__attribute__((noinline, cold)) static uint32_t number_of_process(struct seat *seat)
+{
+    struct nt_reply made, reply;
+    if (waiting.process_handle != 0)
+        return waiting.process_handle;
+    if (nt_create_event(&waiting.dispatcher, seat->number, 0, &made) != 0)
+        return NO_HANDLE;
+    const uint32_t refused = nt_duplicate(&waiting.dispatcher, seat->number, made.number, SYNCHRONIZE, &reply);
+    close_number(seat->number, made.number);
+    if (refused != 0)
+        return NO_HANDLE;
+    waiting.kinds[reply.number] = KIND_PROCESS;
+    waiting.process_handle = reply.number;
+    return reply.number;
+}
+
+/* As `number_of`, under the lock, for a call that may name the process. */
+static inline uint32_t waited_number_of(struct seat *seat, HANDLE handle)
+{
+    const uint32_t number = number_of(seat, handle);
+    return number == NO_HANDLE && handle == CURRENT_PROCESS ? number_of_process(seat) : number;
+}
+
+/* Lets time pass, under the lock, where the call counts a time from now; and what the keeper has not come to yet, where it only looks. */
+static inline void begin_timed(struct seat *seat, DWORD ms)
+{
+    if (ms == INFINITE)
+        return;
+    if (ms != 0)
+        pass_time(seat);
+    else if (waiting.timers_due != NEVER)
+        catch_up(seat);
+}
+
+/* Whether a timer may end the caller's wait for these. */
+static bool may_watch(const struct seat *seat, const uint32_t *numbers, DWORD count, BOOL alertable)
+{
+    for (DWORD i = 0; i < count; i++)
+        if (kind_of(numbers[i]) == KIND_TIMER)
+            return true;
+    return alertable && seat->has_routines;
+}
+
+/* What a wait answers that was refused. */
+__attribute__((noinline, cold)) static DWORD fail_wait(struct seat *seat, uint32_t refused)
+{
+    unlock_and_wake(seat);
+    fail(refused);
+    return WAIT_FAILED;
+}
+
+/* A wait, as it was asked for: what it waits for, and how. */
+struct wait {
+    const uint32_t *numbers;
+    DWORD count, ms;
+    BOOL alertable;
+};
+
+/* What a wait answers: at once, or once it is granted. The caller's APCs run before. */
+static inline DWORD finish_wait(struct seat *seat, uint32_t refused, struct wait wait)
+{
+    if (refused != 0)
+        return fail_wait(seat, refused);
+    note(seat);
+    DWORD status = seat->reply.number;
+    if (seat->reply.kind == NT_PENDED)
+        status = sleep_until_granted(seat, wait.ms != INFINITE, may_watch(seat, wait.numbers, wait.count, wait.alertable));
+    else
+        unlock_and_wake(seat);
+    if (status == WAIT_IO_COMPLETION)
+        run_apcs(seat);
+    return status;
+}
+
+DWORD WaitForMultipleObjectsEx(DWORD count, const HANDLE *objects, BOOL all, DWORD ms, BOOL alertable)
+{
+    uint32_t numbers[MAXIMUM_WAIT_OBJECTS];
+    if (objects == NULL || count > MAXIMUM_WAIT_OBJECTS) {
+        fail(ERROR_INVALID_PARAMETER);
+        return WAIT_FAILED;
+    }
+    /* (A list that can't be read does no harm while the lock is free. Pseudo handles stand in none.) */
+    for (DWORD i = 0; i < count; i++)
+        numbers[i] = listed_number_of(objects[i]);
+    struct seat *seat = begin();
+    if (seat == NULL)
+        return WAIT_FAILED;
+    begin_timed(seat, ms);
+    return finish_wait(seat, nt_wait(&waiting.dispatcher, seat->number, numbers, count, all != FALSE, ms, alertable != FALSE, &seat->reply),
+                       (struct wait){ numbers, count, ms, alertable });
+}
+
+DWORD WaitForMultipleObjects(DWORD count, const HANDLE *objects, BOOL all, DWORD ms)
+{
+    return WaitForMultipleObjectsEx(count, objects, all, ms, FALSE);
+}
+
+DWORD WaitForSingleObjectEx(HANDLE object, DWORD ms, BOOL alertable)
+{
+    struct seat *seat = begin();
+    if (seat == NULL)
+        return WAIT_FAILED;
+    const uint32_t number = waited_number_of(seat, object);
+    begin_timed(seat, ms);
+    return finish_wait(seat, nt_wait_object(&waiting.dispatcher, seat->number, number, ms, alertable != FALSE, &seat->reply),
+                       (struct wait){ &number, 1, ms, alertable });
+}
+
+DWORD WaitForSingleObject(HANDLE object, DWORD ms)
+{
+    return WaitForSingleObjectEx(object, ms, FALSE);
+}
+
+DWORD SignalObjectAndWait(HANDLE signal, HANDLE object, DWORD ms, BOOL alertable)
+{
+    struct seat *seat = begin();
+    if (seat == NULL)
+        return WAIT_FAILED;
+    const uint32_t number = waited_number_of(seat, object);
+    begin_timed(seat, ms);
+    return finish_wait(seat, nt_swap(&waiting.dispatcher, seat->number, number_of(seat, signal), number, ms, alertable != FALSE,
+                                     &seat->reply),
+                       (struct wait){ &number, 1, ms, alertable });
+}
+
+DWORD SleepEx(DWORD ms, BOOL alertable)
+{
+    struct seat *seat = begin();
+    if (seat == NULL)
+        return WAIT_FAILED;
+    begin_timed(seat, ms);
+    const DWORD status = finish_wait(seat, nt_sleep(&waiting.dispatcher, seat->number, ms, alertable != FALSE, &seat->reply),
+                                     (struct wait){ NULL, 0, ms, alertable });
+    if (ms == 0)
+        sched_yield();
+    return status;
+}
+
+/* A sleep can't fail: a thread that has no seat, or no memory for its wait, sleeps by itself. */
+void Sleep(DWORD ms)
+{
+    const DWORD error = own.last_error;
+    if (SleepEx(ms, FALSE) != WAIT_FAILED)
+        return;
+    own.last_error = error;
+    struct timespec left = { .tv_sec = ms / 1000, .tv_nsec = (long)(ms % 1000) * 1000000 };
+    while (ms == INFINITE)
+        pause();
+    while (clock_nanosleep(CLOCK_MONOTONIC, 0, &left, &left) == EINTR)
+        continue;
+}
