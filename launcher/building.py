@@ -113,11 +113,22 @@ def program_that_reads(pipe, folder):
     return None
 
 
+def program_once_it_reads(pipe, reader):
+    """The same, once it is there; None where the process that would read the pipe has ended before, or it is not there after some seconds. (A pipe
+    counts as open for reading before its reader has it.)"""
+    for _ in range(200):
+        found = program_that_reads(pipe, os.path.dirname(pipe))
+        if found or reader.poll() is not None:
+            return found
+        time.sleep(0.05)
+    return None
+
+
 def keep_once_run(builder, pipe, wanted):
     """Copies the program that the builder runs while it waits for its script in the pipe, to `wanted`. Answers whether that was done, and what the
     program wrote then."""
     writer = writer_once_read(pipe, builder)
-    program = program_that_reads(pipe, os.path.dirname(pipe)) if writer is not None else None
+    program = program_once_it_reads(pipe, builder) if writer is not None else None
     if program:
         shutil.copy(program, wanted)
         os.chmod(wanted, 0o755)
