@@ -27,3 +27,7 @@
 #include "ntwin/waits.c"
 
 #include "ntwin/process.c"
+
+#include "win32/latch.c"
+
+#include "win32/slist.c"

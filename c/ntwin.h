@@ -81,7 +81,7 @@ typedef LPCSTR LPCTSTR;
 #define TEXT(quoted) quoted
 #endif
 
-typedef union {
+typedef union _LARGE_INTEGER {
     struct {
         DWORD LowPart;
         LONG HighPart;
@@ -93,18 +93,18 @@ typedef union {
     };
 } LARGE_INTEGER, *PLARGE_INTEGER;
 
-typedef struct {
+typedef struct _FILETIME {
     DWORD dwLowDateTime;
     DWORD dwHighDateTime;
 } FILETIME, *PFILETIME, *LPFILETIME;
 
-typedef struct {
+typedef struct _SECURITY_ATTRIBUTES {
     DWORD nLength;
     LPVOID lpSecurityDescriptor;
     BOOL bInheritHandle;
 } SECURITY_ATTRIBUTES, *PSECURITY_ATTRIBUTES, *LPSECURITY_ATTRIBUTES;
 
-typedef struct ntwin_reason *PREASON_CONTEXT;
+typedef struct _REASON_CONTEXT *PREASON_CONTEXT;
 
 typedef DWORD (*PTHREAD_START_ROUTINE)(LPVOID parameter);
 typedef PTHREAD_START_ROUTINE LPTHREAD_START_ROUTINE;
@@ -237,7 +237,7 @@ BOOL QueryPerformanceCounter(LARGE_INTEGER *count);
 BOOL QueryPerformanceFrequency(LARGE_INTEGER *frequency);
 void GetSystemTimeAsFileTime(LPFILETIME now);
 
-/* ---- Names without A or W, and the interlocked calls. */
+/* ---- Names without A or W. */
 
 #ifdef UNICODE
 #define CreateEvent CreateEventW
@@ -259,28 +259,10 @@ void GetSystemTimeAsFileTime(LPFILETIME now);
 #define CreateWaitableTimerEx CreateWaitableTimerExA
 #endif
 
-/* Each is one atomic step and orders all others. The first three answer the value after, the others the value before. */
-#define InterlockedIncrement(at) __atomic_add_fetch((at), 1, __ATOMIC_SEQ_CST)
-#define InterlockedDecrement(at) __atomic_sub_fetch((at), 1, __ATOMIC_SEQ_CST)
-#define InterlockedAdd(at, by) __atomic_add_fetch((at), (by), __ATOMIC_SEQ_CST)
-#define InterlockedExchangeAdd(at, by) __atomic_fetch_add((at), (by), __ATOMIC_SEQ_CST)
-#define InterlockedExchange(at, value) __atomic_exchange_n((at), (value), __ATOMIC_SEQ_CST)
-#define InterlockedCompareExchange(at, value, comparand) __sync_val_compare_and_swap((at), (comparand), (value))
-#define InterlockedAnd(at, bits) __atomic_fetch_and((at), (bits), __ATOMIC_SEQ_CST)
-#define InterlockedOr(at, bits) __atomic_fetch_or((at), (bits), __ATOMIC_SEQ_CST)
-#define InterlockedXor(at, bits) __atomic_fetch_xor((at), (bits), __ATOMIC_SEQ_CST)
-#define InterlockedIncrement64 InterlockedIncrement
-#define InterlockedDecrement64 InterlockedDecrement
-#define InterlockedExchangeAdd64 InterlockedExchangeAdd
-#define InterlockedExchange64 InterlockedExchange
-#define InterlockedCompareExchange64 InterlockedCompareExchange
-#define InterlockedExchangePointer InterlockedExchange
-#define InterlockedCompareExchangePointer InterlockedCompareExchange
-#define MemoryBarrier() __atomic_thread_fence(__ATOMIC_SEQ_CST)
-#define YieldProcessor() ((void)0)
-
 #ifdef __cplusplus
 }
 #endif
+
+#include "win/interlocked.h"
 
 #endif

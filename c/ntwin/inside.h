@@ -4,6 +4,7 @@
 
 #include "../ntwin.h"
 #include "../nt.h"
+#include "../win/windows.h"
 
 #include <errno.h>
 #include <limits.h>

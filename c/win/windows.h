@@ -1,7 +1,10 @@
-/* For sources that include <windows.h> for its waitable objects, waits and threads. */
+/* For sources that include <windows.h> for its waitable objects, waits and threads, and for what goes with these. */
 #ifndef NTWIN_WINDOWS_H
 #define NTWIN_WINDOWS_H
 
-#include "../ntwin.h"
+#include "windef.h"
+#include "winnt.h"
+#include "winerror.h"
+#include "winbase.h"
 
 #endif

@@ -1,0 +1,7 @@
+/* For sources that spell it so. */
+#ifndef NTWIN_VERSIONHELPERS_CAPITALS_H
+#define NTWIN_VERSIONHELPERS_CAPITALS_H
+
+#include "versionhelpers.h"
+
+#endif

@@ -1,0 +1,7 @@
+/* For sources that spell it so. */
+#ifndef NTWIN_WINDOWS_CAPITAL_H
+#define NTWIN_WINDOWS_CAPITAL_H
+
+#include "windows.h"
+
+#endif

@@ -1,0 +1,8 @@
+/* Its names stand in the header that this one includes. */
+#ifndef NTWIN_WINBASE_H
+#define NTWIN_WINBASE_H
+
+#include "slist.h"
+#include "winerror.h"
+
+#endif
