@@ -159,6 +159,7 @@ def proved(top, tree, work, tries_all):
         ("the tests, each growth refused", command(tree, "bench/refused_tests"), False),
         ("object numbers and handles", command(tree, "tests/types"), False),
         ("what closed objects leave", command(tree, "tests/memory"), False),
+        ("the threads of a plan", command(tree, "tests/threads"), False),
         ("the scripts, each growth refused", command(tree, "bench/refusals", *scripts), False),
         ("the examples", functools.partial(examples, tree), False),
         ("the launcher, and the worked scripts", command(tree, "tests/launcher"), False),
