@@ -138,6 +138,7 @@ def before_proofs(top):
         ("no conflict markers", functools.partial(no_conflict_markers, top), False),
         ("each file is laid out", functools.partial(each_file_is_laid_out, top), False),
         ("docs/MODEL.md names each definition", command(top, "docs/check_model"), False),
+        ("the names of the docs", command(top, "docs/check_names"), False),
         ("each wrong turn applies", functools.partial(edits_apply, top), False),
     ]
 
