@@ -31,3 +31,21 @@
 #include "win32/latch.c"
 
 #include "win32/slist.c"
+
+#include "win32/critical_section.c"
+
+#include "win32/srw_lock.c"
+
+#include "win32/parking.c"
+
+#include "win32/condition_variable.c"
+
+#include "win32/init_once.c"
+
+#include "win32/barrier.c"
+
+#include "win32/storage.c"
+
+#include "win32/process.c"
+
+#include "win32/system.c"

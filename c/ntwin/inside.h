@@ -5,6 +5,7 @@
 #include "../ntwin.h"
 #include "../nt.h"
 #include "../win/windows.h"
+#include "../win/process.h"
 
 #include <errno.h>
 #include <limits.h>

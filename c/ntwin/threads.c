@@ -76,6 +76,7 @@ static void note_fork(void)
 
 __attribute__((constructor)) static void begin_process(void)
 {
+    process.looks = sysconf(_SC_NPROCESSORS_ONLN) > 1;
     pthread_atfork(NULL, NULL, note_fork);
 }
 
@@ -87,7 +88,6 @@ static uint32_t open_dispatcher(void)
         return ERROR_NOT_SUPPORTED;
     pthread_mutex_lock(&process.opening);
     if (!process.is_open) {
-        process.looks = sysconf(_SC_NPROCESSORS_ONLN) > 1;
         process.id = getpid();
         process.start = monotonic();
         waiting.timers_due = NEVER;

@@ -1,7 +1,58 @@
-/* Its names stand in the header that this one includes. */
+/* The machine, and the time of day. */
 #ifndef NTWIN_SYSINFOAPI_H
 #define NTWIN_SYSINFOAPI_H
 
-#include "winbase.h"
+#include "winnt.h"
+
+#ifdef __cplusplus
+extern "C" {
+#endif
+
+typedef struct _SYSTEM_INFO {
+    __extension__ union {
+        DWORD dwOemId;
+        __extension__ struct {
+            WORD wProcessorArchitecture;
+            WORD wReserved;
+        };
+    };
+    DWORD dwPageSize;
+    LPVOID lpMinimumApplicationAddress;
+    LPVOID lpMaximumApplicationAddress;
+    DWORD_PTR dwActiveProcessorMask;
+    DWORD dwNumberOfProcessors;
+    DWORD dwProcessorType;
+    DWORD dwAllocationGranularity;
+    WORD wProcessorLevel;
+    WORD wProcessorRevision;
+} SYSTEM_INFO, *LPSYSTEM_INFO;
+
+typedef struct _SYSTEMTIME {
+    WORD wYear;
+    WORD wMonth;
+    WORD wDayOfWeek;
+    WORD wDay;
+    WORD wHour;
+    WORD wMinute;
+    WORD wSecond;
+    WORD wMilliseconds;
+} SYSTEMTIME, *PSYSTEMTIME, *LPSYSTEMTIME;
+
+#define PROCESSOR_INTEL_PENTIUM 586
+#define PROCESSOR_AMD_X8664 8664
+
+void GetSystemInfo(LPSYSTEM_INFO info);
+void GetNativeSystemInfo(LPSYSTEM_INFO info);
+/* UTC, and the time of the zone. */
+void GetSystemTime(LPSYSTEMTIME time);
+void GetLocalTime(LPSYSTEMTIME time);
+/* UTC since 1601 in units of 100 ns. */
+void GetSystemTimePreciseAsFileTime(LPFILETIME time);
+BOOL FileTimeToSystemTime(const FILETIME *from, LPSYSTEMTIME to);
+BOOL SystemTimeToFileTime(const SYSTEMTIME *from, LPFILETIME to);
+
+#ifdef __cplusplus
+}
+#endif
 
 #endif

@@ -3,6 +3,10 @@
 #define NTWIN_WINBASE_H
 
 #include "slist.h"
+#include "fibersapi.h"
+#include "processthreadsapi.h"
+#include "synchapi.h"
+#include "sysinfoapi.h"
 #include "winerror.h"
 
 #endif

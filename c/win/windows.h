@@ -6,5 +6,6 @@
 #include "winnt.h"
 #include "winerror.h"
 #include "winbase.h"
+#include "timeapi.h"
 
 #endif

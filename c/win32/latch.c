@@ -30,3 +30,12 @@ static inline void give_latch(_Atomic uint32_t *latch)
     if (atomic_exchange_explicit(latch, FREE, memory_order_release) == WANTED)
         wake_one(latch);
 }
+
+/* Wakes up to so many threads that sleep on the word. Answers how many there were. */
+static long wake(_Atomic uint32_t *word, int count)
+{
+    const int error = errno;
+    const long woken = syscall(SYS_futex, word, FUTEX_WAKE_PRIVATE, count, NULL, NULL, 0);
+    errno = error;
+    return woken;
+}

@@ -1,0 +1,67 @@
+/* ---- Barriers. Who comes last opens it for those that wait, and for the next round. */
+
+struct barrier {
+    _Atomic uint32_t threads; /* how many it is for */
+    _Atomic uint32_t come;    /* how many of them have come in this round */
+    _Atomic uint64_t rounds;
+    uint64_t unused;
+    uint32_t looks;           /* how often a thread looks before it sleeps */
+    _Atomic uint32_t inside;
+};
+_Static_assert(sizeof(struct barrier) == sizeof(SYNCHRONIZATION_BARRIER), "a barrier has its size");
+
+enum { USUAL_BARRIER_LOOKS = 2000 };
+
+BOOL InitializeSynchronizationBarrier(LPSYNCHRONIZATION_BARRIER barrier, LONG threads, LONG spins)
+{
+    struct barrier *it = (struct barrier *)(void *)barrier;
+    if (threads <= 0 || spins < -1)
+        return fail(ERROR_INVALID_PARAMETER);
+    *it = (struct barrier){ .threads = (uint32_t)threads, .looks = spins == -1 ? USUAL_BARRIER_LOOKS : (uint32_t)spins };
+    return TRUE;
+}
+
+/* Waits until the round is over that this one is. */
+static void wait_for_round(struct barrier *it, uint64_t round, DWORD flags)
+{
+    const bool only_looks = (flags & SYNCHRONIZATION_BARRIER_FLAGS_SPIN_ONLY) != 0;
+    const uint32_t looks = (flags & SYNCHRONIZATION_BARRIER_FLAGS_BLOCK_ONLY) != 0 ? 0 : it->looks;
+    for (uint32_t i = 0; atomic_load_explicit(&it->rounds, memory_order_acquire) == round; i++) {
+        if (i < looks)
+            rest();
+        else if (only_looks)
+            sched_yield();
+        else
+            WaitOnAddress(&it->rounds, &round, sizeof round, INFINITE);
+    }
+}
+
+BOOL EnterSynchronizationBarrier(LPSYNCHRONIZATION_BARRIER barrier, DWORD flags)
+{
+    struct barrier *it = (struct barrier *)(void *)barrier;
+    atomic_fetch_add_explicit(&it->inside, 1, memory_order_relaxed);
+    /* (This round can't end before the caller has come.) */
+    const uint64_t round = atomic_load_explicit(&it->rounds, memory_order_acquire);
+    comes_before(&it->come);
+    const bool is_last = atomic_fetch_add_explicit(&it->come, 1, memory_order_acq_rel) + 1 == it->threads;
+    if (is_last) {
+        atomic_store_explicit(&it->come, 0, memory_order_relaxed);
+        atomic_fetch_add_explicit(&it->rounds, 1, memory_order_seq_cst);
+        WakeByAddressAll((PVOID)&it->rounds);
+    } else {
+        wait_for_round(it, round, flags);
+    }
+    comes_after(&it->come);
+    if (atomic_fetch_sub_explicit(&it->inside, 1, memory_order_release) == 1)
+        WakeByAddressAll((PVOID)&it->inside);
+    return is_last;
+}
+
+BOOL DeleteSynchronizationBarrier(LPSYNCHRONIZATION_BARRIER barrier)
+{
+    struct barrier *it = (struct barrier *)(void *)barrier;
+    uint32_t inside;
+    while ((inside = atomic_load_explicit(&it->inside, memory_order_acquire)) != 0)
+        WaitOnAddress(&it->inside, &inside, sizeof inside, 1);
+    return TRUE;
+}
