@@ -138,6 +138,27 @@ def keep_once_run(builder, pipe, wanted):
     return bool(program), builder.communicate()[0]
 
 
+def try_and_keep(crate, words, wanted, environment=()):
+    """Has `rt try` build the program of the crate in this folder, without proofs, and run it on a named pipe, and copies the program to `wanted` while it
+    waits for its script there: `rt try` removes what it built as soon as the program ends. Answers whether it was kept, its exit status,
+    what it wrote, and the lines that were said."""
+    with tempfile.TemporaryDirectory(prefix="ntrun-") as folder, open(f"{folder}/said", "w+b") as said:
+        pipe = f"{os.path.realpath(folder)}/script"
+        os.mkfifo(pipe)
+        how = {"stdin": subprocess.DEVNULL, "stdout": subprocess.PIPE, "stderr": said}
+        how["env"] = {**os.environ, "TMPDIR": folder, **dict(environment)}
+        builder = subprocess.Popen([kit.find_rt(), "try", "--", *words, pipe], cwd=crate, **how)
+        try:
+            kept, wrote = keep_once_run(builder, pipe, wanted)
+        except OSError as error:
+            raise unwritable(os.path.dirname(wanted), error.strerror) from error
+        finally:
+            builder.terminate()
+            builder.wait()
+        said.seek(0)
+        return kept, builder.returncode, wrote, said.read().decode("utf-8", "surrogateescape").splitlines()
+
+
 def about_seconds():
     """How long a build takes, by the last one here."""
     with contextlib.suppress(OSError, ValueError), open(TOOK, encoding="ascii") as file:
@@ -146,28 +167,13 @@ def about_seconds():
 
 
 def build_unproved():
-    """Builds the program without proofs, and keeps it.
-
-    `rt try` removes what it built as soon as the program ends. So the program is run on a named pipe, and copied while it waits for
-    its script there.
-    """
-    rt, began = judged_rt(), time.time_ns()
+    """Builds the program without proofs, and keeps it."""
+    judged_rt()
+    began = time.time_ns()
     say(f"./ntrun: building the program without proofs, once for these sources; about {about_seconds()}")
-    with tempfile.TemporaryDirectory(prefix="ntrun-") as folder, open(f"{folder}/said", "w+b") as said, Progress("building", about_seconds()):
-        pipe = f"{os.path.realpath(folder)}/script"
-        os.mkfifo(pipe)
-        how = {"stdin": subprocess.DEVNULL, "stdout": subprocess.PIPE, "stderr": said}
-        builder = subprocess.Popen([rt, "try", "--", "script", pipe], cwd=CRATE, env={**os.environ, "TMPDIR": folder}, **how)
-        try:
-            kept, wrote = keep_once_run(builder, pipe, f"{UNPROVED}.new")
-        except OSError as error:
-            raise unwritable(os.path.dirname(UNPROVED), error.strerror) from error
-        finally:
-            builder.terminate()
-            builder.wait()
-        said.seek(0)
-        told = said.read().decode("utf-8", "surrogateescape").splitlines()
-    if builder.returncode or wrote != b"end: pending none\n":
+    with Progress("building", about_seconds()):
+        kept, status, wrote, told = try_and_keep(CRATE, ["script"], f"{UNPROVED}.new")
+    if status or wrote != b"end: pending none\n":
         say(*told)
         raise NotBuilt("the program could not be built, or did not run")
     if not kept:
