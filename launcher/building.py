@@ -50,7 +50,7 @@ def is_current(program, parts):
 
 
 def unwritable(folder, why):
-    return NotBuilt(f"{folder}: {why}. The program is built there: make the clone yours to write, or work in one that is (git clone {TOP} FOLDER)")
+    return NotBuilt(f"{folder}: {why}. The program is built there: make the clone yours to write, or work in a copy that is (cp -r {TOP} FOLDER)")
 
 
 def build_proved():
