@@ -18,7 +18,11 @@
 
 #include "ntwin/waiting.c"
 
+#include "win32/life.c"
+
 #include "ntwin/threads.c"
+
+#include "win32/names.c"
 
 #include "ntwin/calls.c"
 
@@ -45,6 +49,10 @@
 #include "win32/barrier.c"
 
 #include "win32/storage.c"
+
+#include "win32/open.c"
+
+#include "win32/threads.c"
 
 #include "win32/process.c"
 

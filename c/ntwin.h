@@ -8,12 +8,11 @@
  *     257th gets ERROR_NO_SYSTEM_RESOURCES from each call.
  *   - At most 65,536 handles in a process's life, 256 of them the threads': CreateEvent and its like then fail with
  *     ERROR_NO_SYSTEM_RESOURCES, since no number of a closed handle is used again.
- *   - No names: a creation with a name fails with ERROR_NOT_SUPPORTED; an empty one is none. Security attributes are ignored. Nothing is
- *     shared with other processes. In a child that is forked beside other threads that have called, each call fails with
- *     ERROR_NOT_SUPPORTED.
+ *   - Names are the process's own (win/synchapi.h opens objects by them). Security attributes are ignored. Nothing is shared with other
+ *     processes. In a child that is forked beside other threads that have called, each call fails with ERROR_NOT_SUPPORTED.
  *   - DWORD, LONG and ULONG have 32 bits, as on Windows, and so are no `long` here: print them with %u and %d.
  *   - A wait names no object twice, in both modes, by whichever handles.
- *   - No thread is suspended, terminated or given a priority.
+ *   - No thread is suspended once it has begun, or terminated; a priority has no effect.
  *   - No thread is made to keep the time. Each sleeps to its own deadline; for timers one of those that wait for one keeps it for all of
  *     them, and a handler of signals that runs long in that thread delays the timers.
  *   - No call is made from a handler of signals, but exit. pthread_cancel acts once a wait has ended, and does not end it; a thread that is

@@ -11,6 +11,8 @@ static uint32_t close_number(uint32_t caller, uint32_t number)
 {
     struct nt_reply reply;
     const uint32_t refused = nt_close_handle(&waiting.dispatcher, caller, number, &reply);
+    if (refused == 0 && waiting.named[number] != NULL)
+        forget_named(caller, number);
     look_for_timers();
     return refused;
 }
@@ -27,6 +29,19 @@ static inline uint32_t number_of(const struct seat *caller, HANDLE handle)
 {
     const uint32_t number = listed_number_of(handle);
     return number == NO_HANDLE && handle == CURRENT_THREAD ? caller->number : number;
+}
+
+/* The number of the thread that this number names, where it names one. */
+static uint8_t thread_of(uint32_t number)
+{
+    return number < NT_MAXIMUM_THREADS ? (uint8_t)number : number < NT_MAXIMUM_HANDLES ? waiting.threads[number] : 0;
+}
+
+/* The number names this thread. */
+static void name_thread(uint32_t number, const struct seat *seat)
+{
+    waiting.kinds[number] = KIND_THREAD;
+    waiting.threads[number] = (uint8_t)seat->number;
 }
 
 static enum kind kind_of(uint32_t number)
@@ -85,46 +100,115 @@ static inline BOOL finish(struct seat *seat, uint32_t refused)
     return TRUE;
 }
 
-/* What a creation of this kind answers, whose handle was asked for with this access. */
-static HANDLE finish_creation(struct seat *seat, uint32_t refused, struct nt_reply *reply, enum kind kind, DWORD access)
+/* The rights that a creation or an opening of this kind asks for. */
+static DWORD rights_asked(enum kind kind, DWORD access)
 {
     const DWORD full = rights_of_kinds[kind].all;
-    const DWORD rights = (access & MAXIMUM_ALLOWED) != 0 ? full : rights_of(kind, access) & full;
-    if (refused == 0 && rights != full) {
-        const uint32_t first = reply->number;
-        refused = nt_duplicate(&waiting.dispatcher, seat->number, first, rights, reply);
-        close_number(seat->number, first);
-    }
-    if (refused == 0)
-        waiting.kinds[reply->number] = (uint8_t)kind;
-    if (!finish(seat, refused))
-        return NULL;
-    own.last_error = ERROR_SUCCESS;
-    return handle_of(reply->number);
-}
-
-/* An empty name is no name. */
-#define IS_NAMED(name) ((name) != NULL && *(name) != 0)
-
-/* A creation is refused for its name or for its arguments. */
-static HANDLE refuse_creation(bool is_named)
-{
-    fail(is_named ? ERROR_NOT_SUPPORTED : ERROR_INVALID_PARAMETER);
-    return NULL;
+    return (access & MAXIMUM_ALLOWED) != 0 ? full : rights_of(kind, access) & full;
 }
 
 /* A call of the dispatcher that makes an object by its flags. */
 typedef uint32_t creation(struct nt *nt, uint32_t who, uint32_t flags, struct nt_reply *reply);
 
-/* Makes an object of this kind, by a handle with this access. */
-static HANDLE create(creation *make, enum kind kind, bool is_named, DWORD flags, DWORD access)
+/* What a creation asks for. */
+struct wanted {
+    enum kind kind;
+    creation *make;         /* null for a semaphore, which has these two: */
+    LONG initial, maximum;
+    DWORD flags, known_flags;
+    DWORD access;
+};
+
+/* Makes the object, under the lock, with a handle that has all rights. */
+static uint32_t make_object(const struct seat *seat, const struct wanted *wanted, struct nt_reply *reply)
+{
+    if (wanted->make != NULL)
+        return wanted->make(&waiting.dispatcher, seat->number, wanted->flags, reply);
+    return nt_create_semaphore(&waiting.dispatcher, seat->number, wanted->initial, wanted->maximum, reply);
+}
+
+/* Makes an object with this name, under the lock, with a handle for the program. It is `fresh`, and in the list from now on. */
+static uint32_t make_with_name(struct seat *seat, const struct wanted *wanted, struct named *fresh, struct nt_reply *reply)
+{
+    uint32_t refused = make_object(seat, wanted, reply);
+    if (refused != 0)
+        return refused;
+    fresh->kind = wanted->kind;
+    fresh->number = reply->number;
+    waiting.kinds[fresh->number] = (uint8_t)wanted->kind;
+    refused = open_named(seat, fresh, rights_asked(wanted->kind, wanted->access), reply);
+    if (refused != 0) {
+        close_number(seat->number, fresh->number);
+        return refused;
+    }
+    struct named **list = list_of_name(fresh->name);
+    fresh->next = *list;
+    *list = fresh;
+    return 0;
+}
+
+/* Makes an object without a name, under the lock, with a handle that has the rights that are asked for. */
+static uint32_t make_without_name(const struct seat *seat, const struct wanted *wanted, struct nt_reply *reply)
+{
+    const DWORD rights = rights_asked(wanted->kind, wanted->access);
+    uint32_t refused = make_object(seat, wanted, reply);
+    if (refused == 0 && rights != rights_of_kinds[wanted->kind].all) {
+        const uint32_t first = reply->number;
+        refused = nt_duplicate(&waiting.dispatcher, seat->number, first, rights, reply);
+        close_number(seat->number, first);
+    }
+    if (refused == 0)
+        waiting.kinds[reply->number] = (uint8_t)wanted->kind;
+    return refused;
+}
+
+/* What a creation answers: its handle, with this last error. */
+static HANDLE finish_creation(struct seat *seat, uint32_t refused, const struct nt_reply *reply, DWORD error)
+{
+    if (!finish(seat, refused))
+        return NULL;
+    own.last_error = error;
+    return handle_of(reply->number);
+}
+
+/* Makes an object with this name, or opens the one that has it. */
+static HANDLE create_named(const struct wanted *wanted, struct given_name given)
+{
+    struct name name;
+    struct nt_reply reply;
+    uint32_t refused = read_name(given, &name);
+    struct named *fresh = refused == 0 ? make_named(&name) : NULL;
+    if (fresh == NULL) {
+        fail(refused != 0 ? refused : ERROR_NOT_ENOUGH_MEMORY);
+        return NULL;
+    }
+    struct seat *seat = begin();
+    struct named *named = seat != NULL ? find_named(name.text) : NULL;
+    if (named != NULL)
+        refused = named->kind != wanted->kind ? ERROR_INVALID_HANDLE
+                                              : open_named(seat, named, rights_asked(wanted->kind, wanted->access), &reply);
+    else if (seat != NULL)
+        refused = make_with_name(seat, wanted, fresh, &reply);
+    HANDLE made = seat != NULL ? finish_creation(seat, refused, &reply, named != NULL ? ERROR_ALREADY_EXISTS : ERROR_SUCCESS) : NULL;
+    if (made == NULL || named != NULL)
+        free(fresh);
+    return made;
+}
+
+/* An empty name is no name. */
+static HANDLE create(const struct wanted *wanted, struct given_name given)
 {
     struct nt_reply reply;
-    if (is_named)
-        return refuse_creation(true);
+    const bool is_semaphore = wanted->kind == KIND_SEMAPHORE;
+    if ((wanted->flags & ~wanted->known_flags) != 0
+        || (is_semaphore && (wanted->initial < 0 || wanted->maximum <= 0 || wanted->initial > wanted->maximum))) {
+        fail(ERROR_INVALID_PARAMETER);
+        return NULL;
+    }
+    if (is_named(given))
+        return create_named(wanted, given);
     struct seat *seat = begin();
     if (seat == NULL)
         return NULL;
-    const uint32_t refused = make(&waiting.dispatcher, seat->number, flags, &reply);
-    return finish_creation(seat, refused, &reply, kind, access);
+    return finish_creation(seat, make_without_name(seat, wanted, &reply), &reply, ERROR_SUCCESS);
 }

@@ -8,16 +8,20 @@
 #include "../win/process.h"
 
 #include <errno.h>
+#include <fcntl.h>
 #include <limits.h>
 #include <linux/futex.h>
 #include <pthread.h>
 #include <sched.h>
 #include <setjmp.h>
 #include <stdatomic.h>
+#include <stdio.h>
 #include <stdlib.h>
+#include <sys/resource.h>
 #include <sys/syscall.h>
 #include <time.h>
 #include <unistd.h>
+#include <wchar.h>
 
 #if defined __has_include
 #if __has_include(<sys/single_threaded.h>)
@@ -56,6 +60,16 @@ enum {
     IS_GRANTED
 };
 
+/* What is told of a thread, and changes nothing. */
+struct life {
+    DWORD id;                /* as GetCurrentThreadId answers it */
+    pid_t task;              /* the system's number of it */
+    int priority;
+    WCHAR *description;      /* null where there is none */
+    int64_t began, ended;    /* in UTC */
+    uint64_t used[2];        /* how long it ran, once it has ended, in units of 100 ns: as the program, and in the system */
+};
+
 /* A thread's place in the dispatcher. */
 struct seat {
     _Atomic uint32_t word;   /* how its wait stands: written by others under the lock */
@@ -71,6 +85,10 @@ struct seat {
     bool has_routines;       /* it has set a timer with a routine */
     LPTHREAD_START_ROUTINE start; /* null, but where CreateThread made the thread */
     LPVOID parameter;
+    _Atomic uint32_t suspended; /* how often the thread, which has not begun, is suspended */
+    bool has_left;           /* it has ended, with this exit code: */
+    DWORD exit_code;
+    struct life life;        /* what is told of it (win32/threads.c) */
     pthread_t thread;
     struct seat *next;       /* among the spare seats, or among those whose threads have left */
     uint32_t looks;          /* how often it looks at its word before it sleeps: 0 where that was in vain of late */
@@ -123,7 +141,9 @@ static struct {
     uint32_t process_handle; /* the number of an event that is never set, which stands for the process; 0 before that is waited for */
     struct nt dispatcher;
     struct seat seats[NT_MAXIMUM_THREADS];
-    uint8_t kinds[NT_MAXIMUM_HANDLES]; /* of what each number names, or named last */
+    uint8_t kinds[NT_MAXIMUM_HANDLES]; /* of what each number names, or named last; */
+    uint8_t threads[NT_MAXIMUM_HANDLES]; /* where that is a thread, which one; */
+    struct named *named[NT_MAXIMUM_HANDLES]; /* where it has a name, which; else null */
 } waiting;
 
 #ifdef CHECKS_WAITING

@@ -1,20 +1,21 @@
 /* ---- Events. */
 
-static HANDLE create_event(bool is_named, DWORD flags, DWORD access)
+static HANDLE create_event(struct given_name name, DWORD flags, DWORD access)
 {
-    return create(nt_create_event, KIND_EVENT, is_named, flags, access);
+    return create(&(struct wanted){ .kind = KIND_EVENT, .make = nt_create_event, .flags = flags, .access = access,
+                                    .known_flags = CREATE_EVENT_MANUAL_RESET | CREATE_EVENT_INITIAL_SET }, name);
 }
 
 HANDLE CreateEventExA(LPSECURITY_ATTRIBUTES attributes, LPCSTR name, DWORD flags, DWORD access)
 {
     (void)attributes;
-    return create_event(IS_NAMED(name), flags, access);
+    return create_event(NARROW(name), flags, access);
 }
 
 HANDLE CreateEventExW(LPSECURITY_ATTRIBUTES attributes, LPCWSTR name, DWORD flags, DWORD access)
 {
     (void)attributes;
-    return create_event(IS_NAMED(name), flags, access);
+    return create_event(WIDE(name), flags, access);
 }
 
 static DWORD event_flags(BOOL manual, BOOL set)
@@ -52,28 +53,21 @@ BOOL PulseEvent(HANDLE event)
 
 /* ---- Semaphores. */
 
-static HANDLE create_semaphore(bool is_named, LONG initial, LONG maximum, DWORD flags, DWORD access)
+static HANDLE create_semaphore(struct given_name name, LONG initial, LONG maximum, DWORD flags, DWORD access)
 {
-    struct nt_reply reply;
-    if (is_named || flags != 0)
-        return refuse_creation(is_named);
-    struct seat *seat = begin();
-    if (seat == NULL)
-        return NULL;
-    const uint32_t refused = nt_create_semaphore(&waiting.dispatcher, seat->number, initial, maximum, &reply);
-    return finish_creation(seat, refused, &reply, KIND_SEMAPHORE, access);
+    return create(&(struct wanted){ .kind = KIND_SEMAPHORE, .initial = initial, .maximum = maximum, .flags = flags, .access = access }, name);
 }
 
 HANDLE CreateSemaphoreExA(LPSECURITY_ATTRIBUTES attributes, LONG initial, LONG maximum, LPCSTR name, DWORD flags, DWORD access)
 {
     (void)attributes;
-    return create_semaphore(IS_NAMED(name), initial, maximum, flags, access);
+    return create_semaphore(NARROW(name), initial, maximum, flags, access);
 }
 
 HANDLE CreateSemaphoreExW(LPSECURITY_ATTRIBUTES attributes, LONG initial, LONG maximum, LPCWSTR name, DWORD flags, DWORD access)
 {
     (void)attributes;
-    return create_semaphore(IS_NAMED(name), initial, maximum, flags, access);
+    return create_semaphore(WIDE(name), initial, maximum, flags, access);
 }
 
 HANDLE CreateSemaphoreA(LPSECURITY_ATTRIBUTES attributes, LONG initial, LONG maximum, LPCSTR name)
@@ -100,21 +94,22 @@ BOOL ReleaseSemaphore(HANDLE semaphore, LONG count, LPLONG previous)
 
 /* ---- Mutexes. */
 
-static HANDLE create_mutex(bool is_named, DWORD flags, DWORD access)
+static HANDLE create_mutex(struct given_name name, DWORD flags, DWORD access)
 {
-    return create(nt_create_mutex, KIND_MUTEX, is_named, flags, access);
+    return create(&(struct wanted){ .kind = KIND_MUTEX, .make = nt_create_mutex, .flags = flags, .access = access,
+                                    .known_flags = CREATE_MUTEX_INITIAL_OWNER }, name);
 }
 
 HANDLE CreateMutexExA(LPSECURITY_ATTRIBUTES attributes, LPCSTR name, DWORD flags, DWORD access)
 {
     (void)attributes;
-    return create_mutex(IS_NAMED(name), flags, access);
+    return create_mutex(NARROW(name), flags, access);
 }
 
 HANDLE CreateMutexExW(LPSECURITY_ATTRIBUTES attributes, LPCWSTR name, DWORD flags, DWORD access)
 {
     (void)attributes;
-    return create_mutex(IS_NAMED(name), flags, access);
+    return create_mutex(WIDE(name), flags, access);
 }
 
 HANDLE CreateMutexA(LPSECURITY_ATTRIBUTES attributes, BOOL owned, LPCSTR name)
@@ -135,21 +130,22 @@ BOOL ReleaseMutex(HANDLE mutex)
 
 /* ---- Waitable timers. */
 
-static HANDLE create_timer(bool is_named, DWORD flags, DWORD access)
+static HANDLE create_timer(struct given_name name, DWORD flags, DWORD access)
 {
-    return create(nt_create_timer, KIND_TIMER, is_named, flags, access);
+    return create(&(struct wanted){ .kind = KIND_TIMER, .make = nt_create_timer, .flags = flags, .access = access,
+                                    .known_flags = CREATE_WAITABLE_TIMER_MANUAL_RESET }, name);
 }
 
 HANDLE CreateWaitableTimerExA(LPSECURITY_ATTRIBUTES attributes, LPCSTR name, DWORD flags, DWORD access)
 {
     (void)attributes;
-    return create_timer(IS_NAMED(name), flags, access);
+    return create_timer(NARROW(name), flags, access);
 }
 
 HANDLE CreateWaitableTimerExW(LPSECURITY_ATTRIBUTES attributes, LPCWSTR name, DWORD flags, DWORD access)
 {
     (void)attributes;
-    return create_timer(IS_NAMED(name), flags, access);
+    return create_timer(WIDE(name), flags, access);
 }
 
 HANDLE CreateWaitableTimerA(LPSECURITY_ATTRIBUTES attributes, BOOL manual, LPCSTR name)

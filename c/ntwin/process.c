@@ -1,16 +1,26 @@
 /* ---- Threads and the process. */
 
+/* The id of the thread of CreateThread that has this seat. */
+static DWORD id_of(const struct seat *seat)
+{
+    return (seat->number + 1) * 4;
+}
+
 static void *run_thread(void *at)
 {
     jmp_buf end;
     struct seat *seat = own.seat = at;
     const bool leaves_by_key = pthread_setspecific(process.leaving, rounds) == 0;
     seat->thread = pthread_self();
+    take_lock();
+    begin_life(seat, id_of(seat));
+    give_lock();
     own.end = &end;
     if (_setjmp(end) == 0) {
+        wait_to_begin(seat);
         /* (Those that were queued before it began.) */
         run_apcs(seat);
-        seat->start(seat->parameter);
+        seat->exit_code = seat->start(seat->parameter);
     }
     own.end = NULL;
     if (!leaves_by_key)
@@ -49,14 +59,8 @@ static uint32_t seat_thread(const struct seat *caller, struct seat **seat, struc
     if (refused != 0)
         give_seat(*seat);
     else
-        waiting.kinds[reply->number] = KIND_THREAD;
+        name_thread(reply->number, *seat);
     return refused;
-}
-
-/* The id of the thread of CreateThread that has this seat. */
-static DWORD id_of(const struct seat *seat)
-{
-    return (seat->number + 1) * 4;
 }
 
 HANDLE CreateThread(LPSECURITY_ATTRIBUTES attributes, SIZE_T stack, LPTHREAD_START_ROUTINE start, LPVOID parameter, DWORD flags,
@@ -65,8 +69,8 @@ HANDLE CreateThread(LPSECURITY_ATTRIBUTES attributes, SIZE_T stack, LPTHREAD_STA
     struct nt_reply reply;
     struct seat *seat;
     (void)attributes;
-    if (start == NULL || (flags & ~STACK_SIZE_PARAM_IS_A_RESERVATION) != 0) {
-        fail(flags & CREATE_SUSPENDED ? ERROR_NOT_SUPPORTED : ERROR_INVALID_PARAMETER);
+    if (start == NULL || (flags & ~(CREATE_SUSPENDED | STACK_SIZE_PARAM_IS_A_RESERVATION)) != 0) {
+        fail(ERROR_INVALID_PARAMETER);
         return NULL;
     }
     struct seat *caller = join();
@@ -78,6 +82,8 @@ HANDLE CreateThread(LPSECURITY_ATTRIBUTES attributes, SIZE_T stack, LPTHREAD_STA
         return NULL;
     seat->start = start;
     seat->parameter = parameter;
+    seat->suspended = (flags & CREATE_SUSPENDED) != 0;
+    seat->life.id = id_of(seat);
     /* The new thread may end before this call does, and with it what `id` points to. */
     if (id != NULL)
         *id = id_of(seat);
@@ -94,7 +100,8 @@ HANDLE CreateThread(LPSECURITY_ATTRIBUTES attributes, SIZE_T stack, LPTHREAD_STA
 /* As on Windows no destructor is called on the way, and no memory is needed, where CreateThread made the thread. */
 void ExitThread(DWORD code)
 {
-    (void)code;
+    if (own.seat != NULL)
+        own.seat->exit_code = code;
     if (own.end != NULL)
         _longjmp(*own.end, 1);
     pthread_exit(NULL);
@@ -173,8 +180,12 @@ BOOL DuplicateHandle(HANDLE from, HANDLE handle, HANDLE to, LPHANDLE duplicate, 
     const bool is_same = (options & DUPLICATE_SAME_ACCESS) != 0 || (access & MAXIMUM_ALLOWED) != 0;
     const uint32_t refused = is_same ? duplicate_same_access(caller, number, &reply)
                                      : nt_duplicate(&waiting.dispatcher, caller, number, rights_of(kind_of(number), access), &reply);
-    if (refused == 0)
+    if (refused == 0) {
         waiting.kinds[reply.number] = (uint8_t)kind_of(number);
+        waiting.threads[reply.number] = thread_of(number);
+        if (number < NT_MAXIMUM_HANDLES && waiting.named[number] != NULL)
+            note_named(waiting.named[number], reply.number);
+    }
     /* (That a duplicate is refused keeps no source open.) */
     if (closes && handle != CURRENT_THREAD && handle != CURRENT_PROCESS)
         close_number(caller, number);

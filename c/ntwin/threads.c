@@ -35,6 +35,7 @@ static void leave(struct seat *seat)
         note(seat);
         look_for_timers();
         waiting.alive--;
+        end_life(seat);
         if (seat->start != NULL) {
             seat->next = waiting.left;
             waiting.left = seat;
@@ -116,6 +117,8 @@ __attribute__((noinline, cold)) static struct seat *join_first(void)
     }
     take_lock();
     own.seat = take_seat();
+    if (own.seat != NULL)
+        begin_life(own.seat, GetCurrentThreadId());
     give_lock();
     if (own.seat == NULL) {
         pthread_setspecific(process.leaving, NULL);

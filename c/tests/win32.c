@@ -34,8 +34,6 @@ static void events(void)
     HANDLE event, gate, weak;
     CREATES(event, CreateEvent(NULL, FALSE, TRUE, NULL));
     CREATES(gate, CreateEventW(NULL, TRUE, FALSE, NULL));
-    NO_CREATION(CreateEventA(NULL, FALSE, FALSE, "name"), ERROR_NOT_SUPPORTED);
-    NO_CREATION(CreateEventW(NULL, FALSE, FALSE, L"name"), ERROR_NOT_SUPPORTED);
     NO_CREATION(CreateEventExA(NULL, NULL, 4, EVENT_ALL_ACCESS), ERROR_INVALID_PARAMETER);
     ANSWERS(WaitForSingleObject(event, 0), WAIT_OBJECT_0, UNTOUCHED);
     ANSWERS(WaitForSingleObject(event, 0), WAIT_TIMEOUT, UNTOUCHED);
@@ -62,7 +60,6 @@ static void semaphores(void)
     HANDLE semaphore;
     LONG previous = -1;
     CREATES(semaphore, CreateSemaphore(NULL, 1, 3, NULL));
-    NO_CREATION(CreateSemaphoreW(NULL, 1, 3, L"name"), ERROR_NOT_SUPPORTED);
     NO_CREATION(CreateSemaphore(NULL, 4, 3, NULL), ERROR_INVALID_PARAMETER);
     NO_CREATION(CreateSemaphore(NULL, 0, 0, NULL), ERROR_INVALID_PARAMETER);
     NO_CREATION(CreateSemaphoreEx(NULL, 0, 1, NULL, 1, SEMAPHORE_ALL_ACCESS), ERROR_INVALID_PARAMETER);
@@ -105,7 +102,6 @@ static void mutexes(void)
     HANDLE mutex, other, both[2];
     CREATES(mutex, CreateMutex(NULL, TRUE, NULL));
     CREATES(other, CreateMutexExW(NULL, NULL, 0, MUTEX_ALL_ACCESS));
-    NO_CREATION(CreateMutex(NULL, FALSE, "name"), ERROR_NOT_SUPPORTED);
     NO_CREATION(CreateMutexEx(NULL, NULL, 2, MUTEX_ALL_ACCESS), ERROR_INVALID_PARAMETER);
     run(release, mutex);
     ANSWERS(WaitForSingleObject(mutex, 0), WAIT_OBJECT_0, UNTOUCHED);
@@ -191,7 +187,6 @@ static void timers(void)
     int count = 0;
     LARGE_INTEGER soon = { .QuadPart = -50000 }, late = { .QuadPart = -600 * INT64_C(10000000) }, past = { .QuadPart = 0 }, at;
     CREATES(timer, CreateWaitableTimer(NULL, TRUE, NULL));
-    NO_CREATION(CreateWaitableTimerW(NULL, TRUE, L"name"), ERROR_NOT_SUPPORTED);
     NO_CREATION(CreateWaitableTimerEx(NULL, NULL, 2, TIMER_ALL_ACCESS), ERROR_INVALID_PARAMETER);
     ANSWERS(WaitForSingleObject(timer, 0), WAIT_TIMEOUT, UNTOUCHED);
     const ULONGLONG began = GetTickCount64();
@@ -235,7 +230,7 @@ static void threads(void)
     IS(told, id);
     IS(id != GetCurrentThreadId(), 1);
     NO_CREATION(CreateThread(NULL, 0, NULL, NULL, 0, NULL), ERROR_INVALID_PARAMETER);
-    NO_CREATION(CreateThread(NULL, 0, tell_id, NULL, CREATE_SUSPENDED, NULL), ERROR_NOT_SUPPORTED);
+    NO_CREATION(CreateThread(NULL, 0, tell_id, NULL, 0x8, NULL), ERROR_INVALID_PARAMETER);
     ANSWERS(TerminateProcess(NULL, 0), FALSE, ERROR_INVALID_HANDLE);
     ANSWERS(WaitForSingleObject(GetCurrentThread(), 0), WAIT_TIMEOUT, UNTOUCHED);
 }

@@ -16,6 +16,33 @@ BOOL TlsFree(DWORD index);
 LPVOID TlsGetValue(DWORD index);
 BOOL TlsSetValue(DWORD index, LPVOID value);
 
+#define STILL_ACTIVE 259u
+#define THREAD_PRIORITY_IDLE (-15)
+#define THREAD_PRIORITY_LOWEST (-2)
+#define THREAD_PRIORITY_BELOW_NORMAL (-1)
+#define THREAD_PRIORITY_NORMAL 0
+#define THREAD_PRIORITY_ABOVE_NORMAL 1
+#define THREAD_PRIORITY_HIGHEST 2
+#define THREAD_PRIORITY_TIME_CRITICAL 15
+#define THREAD_PRIORITY_ERROR_RETURN 0x7FFFFFFF
+#define THREAD_MODE_BACKGROUND_BEGIN 0x00010000
+#define THREAD_MODE_BACKGROUND_END 0x00020000
+
+/* STILL_ACTIVE while the thread runs. */
+BOOL GetExitCodeThread(HANDLE thread, LPDWORD code);
+DWORD GetThreadId(HANDLE thread);
+/* A thread that was created suspended begins once it was resumed as often as it was suspended. They answer how often that was before, or
+ * 0xFFFFFFFF. A thread that has begun is not suspended: ERROR_NOT_SUPPORTED. */
+DWORD ResumeThread(HANDLE thread);
+DWORD SuspendThread(HANDLE thread);
+/* In units of 100 ns: when the thread began and ended, since 1601, and how long it ran in the system and as the program. */
+BOOL GetThreadTimes(HANDLE thread, LPFILETIME began, LPFILETIME ended, LPFILETIME system, LPFILETIME user);
+/* A priority is kept, and has no effect. */
+BOOL SetThreadPriority(HANDLE thread, int priority);
+int GetThreadPriority(HANDLE thread);
+/* The system shows the first 15 characters. LocalFree frees what is answered. */
+HRESULT SetThreadDescription(HANDLE thread, PCWSTR description);
+HRESULT GetThreadDescription(HANDLE thread, PWSTR *description);
 /* Lets other threads run. Answers TRUE, whether one did or not. */
 BOOL SwitchToThread(void);
 DWORD GetCurrentProcessorNumber(void);

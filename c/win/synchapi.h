@@ -9,6 +9,29 @@
 extern "C" {
 #endif
 
+/* ---- Handles of objects by their names. An object that is not there is ERROR_FILE_NOT_FOUND, one of another kind ERROR_INVALID_HANDLE. */
+
+HANDLE OpenEventA(DWORD access, BOOL inherit, LPCSTR name);
+HANDLE OpenEventW(DWORD access, BOOL inherit, LPCWSTR name);
+HANDLE OpenSemaphoreA(DWORD access, BOOL inherit, LPCSTR name);
+HANDLE OpenSemaphoreW(DWORD access, BOOL inherit, LPCWSTR name);
+HANDLE OpenMutexA(DWORD access, BOOL inherit, LPCSTR name);
+HANDLE OpenMutexW(DWORD access, BOOL inherit, LPCWSTR name);
+HANDLE OpenWaitableTimerA(DWORD access, BOOL inherit, LPCSTR name);
+HANDLE OpenWaitableTimerW(DWORD access, BOOL inherit, LPCWSTR name);
+
+#ifdef UNICODE
+#define OpenEvent OpenEventW
+#define OpenSemaphore OpenSemaphoreW
+#define OpenMutex OpenMutexW
+#define OpenWaitableTimer OpenWaitableTimerW
+#else
+#define OpenEvent OpenEventA
+#define OpenSemaphore OpenSemaphoreA
+#define OpenMutex OpenMutexA
+#define OpenWaitableTimer OpenWaitableTimerA
+#endif
+
 /* ---- Critical sections. */
 
 typedef struct _RTL_CRITICAL_SECTION_DEBUG *PRTL_CRITICAL_SECTION_DEBUG;

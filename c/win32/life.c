@@ -1,0 +1,47 @@
+/* ---- What is told of a thread: how it begins and ends. */
+
+/* The system's own name of the thread. */
+static void name_task(pid_t task, PCWSTR description)
+{
+    char path[64], name[16];
+    size_t length = 0;
+    for (; length < sizeof name - 1 && description[length] != 0; length++)
+        name[length] = description[length] < 128 ? (char)description[length] : '?';
+    snprintf(path, sizeof path, "/proc/self/task/%d/comm", (int)task);
+    const int file = open(path, O_WRONLY | O_CLOEXEC);
+    if (file < 0)
+        return;
+    if (write(file, name, length) < 0)
+        errno = 0;
+    close(file);
+}
+
+/* The caller begins, under the lock. It may have been described before. */
+static void begin_life(struct seat *seat, DWORD id)
+{
+    seat->life.id = id;
+    seat->life.task = gettid();
+    seat->life.began = universal();
+    if (seat->life.description != NULL)
+        name_task(seat->life.task, seat->life.description);
+}
+
+/* The caller ends, under the lock. */
+static void end_life(struct seat *seat)
+{
+    struct rusage used;
+    seat->has_left = true;
+    seat->life.ended = universal();
+    if (getrusage(RUSAGE_THREAD, &used) == 0) {
+        seat->life.used[0] = (uint64_t)used.ru_utime.tv_sec * MOMENTS_PER_SECOND + (uint64_t)used.ru_utime.tv_usec * 10;
+        seat->life.used[1] = (uint64_t)used.ru_stime.tv_sec * MOMENTS_PER_SECOND + (uint64_t)used.ru_stime.tv_usec * 10;
+    }
+}
+
+/* The caller, which was created suspended, sleeps until it was resumed as often. */
+static void wait_to_begin(struct seat *seat)
+{
+    for (uint32_t seen; (seen = atomic_load_explicit(&seat->suspended, memory_order_acquire)) != 0;)
+        sleep_on(&seat->suspended, seen, NULL);
+    comes_after(&seat->suspended);
+}

@@ -1,0 +1,177 @@
+/* ---- What is told of a thread by its handle. */
+
+/* The thread that this handle names, with the lock taken; null, with the last error set and the lock given back, where it names none. (A list with a
+ * handle twice is refused, for an unknown handle with 6 before: so nothing is waited for.) */
+static struct seat *begin_with_thread(HANDLE handle, struct seat **caller)
+{
+    struct seat *seat = *caller = begin();
+    if (seat == NULL || handle == CURRENT_THREAD)
+        return seat;
+    const uint32_t number = listed_number_of(handle), twice[] = { number, number };
+    if (number == NO_HANDLE || kind_of(number) != KIND_THREAD
+        || nt_wait(&waiting.dispatcher, seat->number, twice, 2, false, 0, false, &seat->reply) == ERROR_INVALID_HANDLE) {
+        finish(seat, ERROR_INVALID_HANDLE);
+        return NULL;
+    }
+    return &waiting.seats[thread_of(number)];
+}
+
+BOOL GetExitCodeThread(HANDLE thread, LPDWORD code)
+{
+    struct seat *caller, *seat = begin_with_thread(thread, &caller);
+    if (seat == NULL)
+        return FALSE;
+    const DWORD found = seat->has_left ? seat->exit_code : STILL_ACTIVE;
+    finish(caller, 0);
+    *code = found;
+    return TRUE;
+}
+
+DWORD GetThreadId(HANDLE thread)
+{
+    struct seat *caller, *seat = begin_with_thread(thread, &caller);
+    if (seat == NULL)
+        return 0;
+    const DWORD id = seat->life.id;
+    finish(caller, 0);
+    return id;
+}
+
+DWORD ResumeThread(HANDLE thread)
+{
+    struct seat *caller, *seat = begin_with_thread(thread, &caller);
+    if (seat == NULL)
+        return UINT32_MAX;
+    const uint32_t before = atomic_load_explicit(&seat->suspended, memory_order_relaxed);
+    if (before > 0) {
+        comes_before(&seat->suspended);
+        atomic_store_explicit(&seat->suspended, before - 1, memory_order_release);
+        wake_one(&seat->suspended);
+    }
+    finish(caller, 0);
+    return before;
+}
+
+DWORD SuspendThread(HANDLE thread)
+{
+    struct seat *caller, *seat = begin_with_thread(thread, &caller);
+    if (seat == NULL)
+        return UINT32_MAX;
+    const uint32_t before = atomic_load_explicit(&seat->suspended, memory_order_relaxed);
+    uint32_t refused = 0;
+    if (before == 0)
+        refused = ERROR_NOT_SUPPORTED;
+    else if (before == MAXIMUM_SUSPEND_COUNT)
+        refused = ERROR_SIGNAL_REFUSED;
+    else
+        atomic_store_explicit(&seat->suspended, before + 1, memory_order_relaxed);
+    return finish(caller, refused) ? before : UINT32_MAX;
+}
+
+/* How long a thread ran that has not ended, as the program and in the system. */
+static void read_times_used(const struct life *life, uint64_t used[2])
+{
+    char path[64], line[512] = "";
+    unsigned long ticks[2] = { 0, 0 };
+    snprintf(path, sizeof path, "/proc/self/task/%d/stat", (int)life->task);
+    FILE *file = fopen(path, "re");
+    if (file != NULL) {
+        /* (Its name, in brackets, may have any character.) */
+        const char *rest = fgets(line, sizeof line, file) != NULL ? strrchr(line, ')') : NULL;
+        if (rest != NULL && sscanf(rest, ") %*c %*d %*d %*d %*d %*d %*u %*u %*u %*u %*u %lu %lu", &ticks[0], &ticks[1]) != 2)
+            ticks[0] = ticks[1] = 0;
+        fclose(file);
+    }
+    for (int i = 0; i < 2; i++)
+        used[i] = ticks[i] * (MOMENTS_PER_SECOND / (uint64_t)sysconf(_SC_CLK_TCK));
+}
+
+static void set_file_time(LPFILETIME to, uint64_t moments)
+{
+    to->dwLowDateTime = (DWORD)moments;
+    to->dwHighDateTime = (DWORD)(moments >> 32);
+}
+
+BOOL GetThreadTimes(HANDLE thread, LPFILETIME began, LPFILETIME ended, LPFILETIME system, LPFILETIME user)
+{
+    struct seat *caller, *seat = begin_with_thread(thread, &caller);
+    if (seat == NULL)
+        return FALSE;
+    struct life life = seat->life;
+    const bool has_left = seat->has_left;
+    finish(caller, 0);
+    if (!has_left)
+        read_times_used(&life, life.used);
+    set_file_time(began, (uint64_t)life.began);
+    set_file_time(ended, has_left ? (uint64_t)life.ended : 0);
+    set_file_time(system, life.used[1]);
+    set_file_time(user, life.used[0]);
+    return TRUE;
+}
+
+BOOL SetThreadPriority(HANDLE thread, int priority)
+{
+    struct seat *caller, *seat = begin_with_thread(thread, &caller);
+    if (seat == NULL)
+        return FALSE;
+    const bool is_mode = priority == THREAD_MODE_BACKGROUND_BEGIN || priority == THREAD_MODE_BACKGROUND_END;
+    const bool is_level = (priority >= THREAD_PRIORITY_LOWEST && priority <= THREAD_PRIORITY_HIGHEST) || priority == THREAD_PRIORITY_IDLE
+        || priority == THREAD_PRIORITY_TIME_CRITICAL;
+    if (is_level)
+        seat->life.priority = priority;
+    return finish(caller, is_level || is_mode ? 0 : ERROR_INVALID_PARAMETER);
+}
+
+int GetThreadPriority(HANDLE thread)
+{
+    struct seat *caller, *seat = begin_with_thread(thread, &caller);
+    if (seat == NULL)
+        return THREAD_PRIORITY_ERROR_RETURN;
+    const int priority = seat->life.priority;
+    finish(caller, 0);
+    return priority;
+}
+
+/* What is answered where a handle names no thread: STATUS_INVALID_HANDLE as an HRESULT. */
+#define NO_THREAD ((HRESULT)0xD0000008u)
+
+HRESULT SetThreadDescription(HANDLE thread, PCWSTR description)
+{
+    const DWORD error = own.last_error;
+    WCHAR *copy = wcsdup(description != NULL ? description : L"");
+    if (copy == NULL)
+        return E_OUTOFMEMORY;
+    struct seat *caller, *seat = begin_with_thread(thread, &caller);
+    if (seat == NULL) {
+        free(copy);
+        own.last_error = error;
+        return NO_THREAD;
+    }
+    WCHAR *before = seat->life.description;
+    const pid_t task = seat->has_left ? 0 : seat->life.task;
+    seat->life.description = copy;
+    finish(caller, 0);
+    if (task != 0)
+        name_task(task, description != NULL ? description : L"");
+    free(before);
+    return S_OK;
+}
+
+HRESULT GetThreadDescription(HANDLE thread, PWSTR *description)
+{
+    const DWORD error = own.last_error;
+    struct seat *caller, *seat = begin_with_thread(thread, &caller);
+    if (seat == NULL) {
+        own.last_error = error;
+        return NO_THREAD;
+    }
+    *description = wcsdup(seat->life.description != NULL ? seat->life.description : L"");
+    finish(caller, 0);
+    return *description != NULL ? S_OK : E_OUTOFMEMORY;
+}
+
+HLOCAL LocalFree(HLOCAL memory)
+{
+    free(memory);
+    return NULL;
+}
