@@ -7,9 +7,10 @@ import signal
 import subprocess
 import tempfile
 
+import failures
 import kit
 from command import noted, run
-from crates import crates_of
+from crates import crates_of, text_of
 from edits import edits_in, edits_of, folder_of
 from proofs import Proofs, handles_of
 from rooms import fill_room
@@ -114,17 +115,18 @@ def examples(top, progress):
     """The launcher's transcript of each example is the file beside it."""
     passed, failed = 0, []
     for script in sorted(glob.glob(f"{top}/examples/*.nts")):
-        name = os.path.relpath(script, top)
-        wanted = name.removesuffix(".nts") + ".transcript"
-        ran = subprocess.run(["./ntrun", "script", name], cwd=top, stdin=subprocess.DEVNULL, stdout=subprocess.PIPE, stderr=subprocess.PIPE, check=False)
-        with open(f"{top}/{wanted}", "rb") as file:
-            if ran.returncode == 0 and ran.stdout == file.read():
-                passed += 1
-                continue
+        name, wanted = os.path.relpath(script, top), text_of(script.removesuffix(".nts") + ".transcript")
+        how = {"stdin": subprocess.DEVNULL, "capture_output": True, "errors": "backslashreplace"}
+        ran = subprocess.run(["./ntrun", "script", name], cwd=top, check=False, **how)
+        if ran.returncode == 0 and ran.stdout == wanted:
+            passed += 1
+            continue
         failed.append(name)
-        progress.tell(f"{name}: status {ran.returncode}, another transcript than {wanted}:")
-        said = subprocess.run(["diff", "-u", "--label", wanted, "--label", "found", wanted, "-"], cwd=top, input=ran.stdout, stdout=subprocess.PIPE, check=False)
-        progress.tell(said.stdout.decode(errors="replace").rstrip() or ran.stderr.decode(errors="replace").rstrip())
+        lines = [f"{name}: exit status {ran.returncode}", *ran.stderr.splitlines()] if ran.returncode else []
+        if ran.stdout != wanted:
+            lines += failures.transcript_failure(script, wanted, ran.stdout, f"what ./ntrun script {name} wrote")
+        for it in lines:
+            progress.tell(it.replace(f"{top}/", ""))
     return Step(passed, failed)
 
 
