@@ -166,6 +166,6 @@ def proved(top, tree, work, tries_all):
         ("the scripts, each growth refused", command(tree, "bench/refusals", *scripts), False),
         ("the examples", functools.partial(examples, tree), False),
         ("the launcher, and the worked scripts", command(tree, "tests/launcher"), False),
-        ("the library for C programs", command(tree, "make", "--no-print-directory", "-C", "c", "check", "ALL=1"), False),
+        ("the library for C programs", command(tree, "make", "--no-print-directory", "-C", "c", "check", "ALL=1" if tries_all else "STRICT=1"), False),
     ]
     return found + ([("rt ci", command(tree, kit.find_rt(), "ci"), False)] if tries_all else [])

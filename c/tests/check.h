@@ -21,7 +21,7 @@ static inline void check(const char *what, unsigned long long found, unsigned lo
 /* The value of an expression. */
 #define IS(expression, wanted) check(#expression, (unsigned long long)(expression), (unsigned long long)(wanted), __FILE__, __LINE__)
 
-static inline _Noreturn void break_off(const char *what, const char *file, int line)
+__attribute__((noreturn)) static inline void break_off(const char *what, const char *file, int line)
 {
     fprintf(stderr, "%s:%d: does not hold: %s\n", file, line, what);
     abort();

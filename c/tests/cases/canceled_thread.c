@@ -1,0 +1,50 @@
+/* Within 10 s, unsanitized: 6 passed, 0 failed.
+ *
+ * pthread_cancel acts once a wait has ended, and then the thread's mutexes are abandoned. A thread that is canceled asynchronously, while
+ * it waits, never ends for the library; other threads' timeouts and timers come in time all the same. */
+#include "case.h"
+
+static HANDLE never, mutex, timer;
+static pthread_t waiter;
+static LONG begins;
+
+static DWORD waits(LPVOID is_asynchronous)
+{
+    waiter = pthread_self();
+    if (is_asynchronous != NULL)
+        pthread_setcanceltype(PTHREAD_CANCEL_ASYNCHRONOUS, NULL);
+    WaitForSingleObject(mutex, INFINITE);
+    HANDLE either[2] = { never, timer };
+    raise_flag(&begins);
+    WaitForMultipleObjects(2, either, FALSE, 200);
+    pthread_testcancel();
+    return 0;
+}
+
+static HANDLE cancel_one(LPVOID is_asynchronous)
+{
+    begins = 0;
+    HANDLE thread = CreateThread(NULL, 0, waits, is_asynchronous, 0, NULL);
+    await(&begins);
+    rest_ms(30);
+    pthread_cancel(waiter);
+    return thread;
+}
+
+int main(void)
+{
+    never = CreateEvent(NULL, FALSE, FALSE, NULL);
+    mutex = CreateMutex(NULL, FALSE, NULL);
+    timer = CreateWaitableTimer(NULL, TRUE, NULL);
+    IS(WaitForSingleObject(cancel_one(NULL), 5000), WAIT_OBJECT_0);
+    IS(WaitForSingleObject(mutex, 0), WAIT_ABANDONED_0);
+    ReleaseMutex(mutex);
+    HANDLE thread = cancel_one(&timer);
+    const LARGE_INTEGER due = { .QuadPart = -200000 };
+    IS(SetWaitableTimer(timer, &due, 0, NULL, NULL, FALSE), TRUE);
+    const double began = now_ms();
+    IS(WaitForSingleObject(timer, 5000), WAIT_OBJECT_0);
+    IS(WaitForSingleObject(thread, 300), WAIT_TIMEOUT);
+    IS(now_ms() - began < 2000, 1);
+    return counted();
+}

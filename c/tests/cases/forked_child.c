@@ -1,0 +1,85 @@
+/* Within 20 s, unsanitized: 46 passed, 0 failed.
+ *
+ * A child is forked beside threads that call and wait: each of its calls is refused with ERROR_NOT_SUPPORTED, and none hangs. A child of a
+ * process in which nobody else has called may call. */
+#include "case.h"
+
+enum { CHILDREN = 40 };
+
+static HANDLE event;
+static LONG stops;
+
+/* How the child ended that does this: its exit status, or 1000 and the signal. */
+static int forked(int (*does)(void))
+{
+    int status;
+    const pid_t child = fork();
+    must(child >= 0);
+    if (child == 0) {
+        alarm(5);
+        _exit(does());
+    }
+    must(waitpid(child, &status, 0) == child);
+    return WIFSIGNALED(status) ? 1000 + WTERMSIG(status) : WEXITSTATUS(status);
+}
+
+#define FAILS(call) ((call) ? 1 : GetLastError() != ERROR_NOT_SUPPORTED)
+
+static DWORD does_nothing(LPVOID unused)
+{
+    (void)unused;
+    return 0;
+}
+
+/* How many calls were not refused as they ought to be. */
+static int calls_beside_threads(void)
+{
+    int wrong = FAILS(SetEvent(event)) + FAILS(CloseHandle(event)) + FAILS(CreateMutex(NULL, FALSE, NULL) != NULL);
+    wrong += FAILS(CreateThread(NULL, 0, does_nothing, NULL, 0, NULL) != NULL);
+    wrong += FAILS(WaitForSingleObject(event, 4000) != WAIT_FAILED);
+    const double began = now_ms();
+    Sleep(1);
+    return wrong + (now_ms() - began < 1);
+}
+
+static int calls_alone(void)
+{
+    HANDLE mine = CreateEvent(NULL, FALSE, FALSE, NULL), thread = CreateThread(NULL, 0, does_nothing, NULL, 0, NULL);
+    return !(WaitForSingleObject(mine, 20) == WAIT_TIMEOUT && SetEvent(event) && WaitForSingleObject(thread, 4000) == WAIT_OBJECT_0);
+}
+
+static DWORD calls(LPVOID unused)
+{
+    (void)unused;
+    while (InterlockedExchangeAdd(&stops, 0) == 0) {
+        SetEvent(event);
+        ResetEvent(event);
+    }
+    return 0;
+}
+
+static DWORD waits(LPVOID gate)
+{
+    return WaitForSingleObject(gate, 60000);
+}
+
+int main(void)
+{
+    HANDLE gate, threads[4];
+    event = CreateEvent(NULL, TRUE, FALSE, NULL);
+    gate = CreateEvent(NULL, TRUE, FALSE, NULL);
+    IS(forked(calls_alone), 0);
+    IS(SetEvent(event), TRUE);
+    threads[0] = CreateThread(NULL, 0, waits, gate, 0, NULL);
+    rest_ms(20);
+    IS(forked(calls_beside_threads), 0);
+    for (int i = 1; i < 4; i++)
+        threads[i] = CreateThread(NULL, 0, calls, NULL, 0, NULL);
+    for (int i = 0; i < CHILDREN; i++)
+        IS(forked(calls_beside_threads), 0);
+    raise_flag(&stops);
+    IS(SetEvent(gate), TRUE);
+    IS(WaitForMultipleObjects(4, threads, TRUE, INFINITE), WAIT_OBJECT_0);
+    IS(SetEvent(event), TRUE);
+    return counted();
+}

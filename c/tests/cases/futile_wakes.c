@@ -1,0 +1,57 @@
+/* Within 10 s, unsanitized: 5 passed, 0 failed.
+ *
+ * A timeout wakes nobody else, and a thread that waits for something else is not woken by a timer that nobody waits for. Told by the
+ * system calls that the library makes on its words, which this program counts. */
+#include "case.h"
+
+#include <dlfcn.h>
+#include <linux/futex.h>
+#include <stdarg.h>
+#include <sys/syscall.h>
+
+static LONG sleeps, wakes;
+
+/* In the system's place. */
+long syscall(long number, ...)
+{
+    static long (*real)(long number, ...);
+    long words[6];
+    va_list list;
+    if (real == NULL)
+        *(void **)&real = dlsym(RTLD_NEXT, "syscall");
+    va_start(list, number);
+    for (int i = 0; i < 6; i++)
+        words[i] = va_arg(list, long);
+    va_end(list);
+    if (number == SYS_futex)
+        InterlockedIncrement((words[1] & FUTEX_CMD_MASK) == FUTEX_WAKE ? &wakes : &sleeps);
+    return real(number, words[0], words[1], words[2], words[3], words[4], words[5]);
+}
+
+static LONG begins;
+
+static DWORD waits(LPVOID event)
+{
+    raise_flag(&begins);
+    return WaitForSingleObject(event, INFINITE);
+}
+
+int main(void)
+{
+    HANDLE event = CreateEvent(NULL, TRUE, FALSE, NULL), timer = CreateWaitableTimer(NULL, TRUE, NULL);
+    HANDLE thread = CreateThread(NULL, 0, waits, event, 0, NULL);
+    await(&begins);
+    rest_ms(50);
+    const LONG wakes_before = wakes;
+    for (int i = 0; i < 50; i++)
+        must(WaitForSingleObject(event, 1) == WAIT_TIMEOUT);
+    IS(wakes - wakes_before, 0);
+    const LARGE_INTEGER due = { .QuadPart = -10000 };
+    const LONG sleeps_before = sleeps;
+    IS(SetWaitableTimer(timer, &due, 1, NULL, NULL, FALSE), TRUE);
+    rest_ms(200);
+    IS(sleeps - sleeps_before, 0);
+    IS(SetEvent(event), TRUE);
+    IS(WaitForSingleObject(thread, INFINITE), WAIT_OBJECT_0);
+    return counted();
+}

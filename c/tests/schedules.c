@@ -1,0 +1,188 @@
+/* ntwin.c under a scheduler and a clock of the test's own (schedules/tasks.h): random programs, each with a random schedule. Words: how many of
+ * them, 3,000 if that is not said, and the first one's seed, 1 if not.
+ *
+ * What is kept under the lock holds whenever that is given back (ntwin/check.c); each wait answers the status with which the dispatcher ended
+ * it, no sooner than its time; and whenever all threads sleep, each thread whose wait pends sleeps on its word, to its deadline at the
+ * longest, and one of those whose waits a timer may end sleeps no longer than to the next timer. */
+#include "schedules/system.h"
+
+static uint32_t hear_wait(uint32_t who, uint32_t refused, const struct nt_reply *reply);
+static uint32_t hear_exit(uint32_t who, uint32_t refused);
+static uint32_t hear_grant(uint32_t refused, const struct nt_grant *grant);
+
+#define nt_wait(nt, who, handles, count, all, ms, alertable, reply) \
+    hear_wait(who, nt_wait(nt, who, handles, count, all, ms, alertable, reply), reply)
+#define nt_wait_object(nt, who, handle, ms, alertable, reply) hear_wait(who, nt_wait_object(nt, who, handle, ms, alertable, reply), reply)
+#define nt_sleep(nt, who, ms, alertable, reply) hear_wait(who, nt_sleep(nt, who, ms, alertable, reply), reply)
+#define nt_swap(nt, who, signal, object, ms, alertable, reply) \
+    hear_wait(who, nt_swap(nt, who, signal, object, ms, alertable, reply), reply)
+#define nt_exit(nt, who, reply) hear_exit(who, nt_exit(nt, who, reply))
+#define nt_grant(nt, index, grant) hear_grant(nt_grant(nt, index, grant), grant)
+#define nt_set_event(...) (point(), nt_set_event(__VA_ARGS__))
+#define nt_release_semaphore(...) (point(), nt_release_semaphore(__VA_ARGS__))
+#define nt_release_mutex(...) (point(), nt_release_mutex(__VA_ARGS__))
+#define nt_tick(...) (point(), nt_tick(__VA_ARGS__))
+#define nt_due(...) (point(), nt_due(__VA_ARGS__))
+
+#include "../ntwin.c"
+
+/* How often the programs did what. */
+static struct {
+    unsigned long long calls, waits, grants, timeouts, apcs, threads, ends;
+} sums;
+
+/* ---- What each wait has to answer. A thread's wait may end for an APC that waits: so there is one for each depth. */
+
+enum { MOST_DEPTH = 8, APC_DEPTH = 3 };
+#define PENDS 0xFFFF0001u
+
+static struct {
+    uint32_t status[MOST_DEPTH];
+    int depth;
+    int apcs; /* that run, one within another */
+} expected[NT_MAXIMUM_THREADS];
+
+static uint32_t hear_wait(uint32_t who, uint32_t refused, const struct nt_reply *reply)
+{
+    if (waiting.lock == FREE)
+        broken("thread %u begins a wait without the lock", who);
+    point();
+    /* (Not where it only asks whether there is an APC.) */
+    if (refused == 0 && reply == &waiting.seats[who].reply)
+        expected[who].status[expected[who].depth++] = reply->kind == NT_PENDED ? PENDS : reply->number;
+    return refused;
+}
+
+static uint32_t hear_grant(uint32_t refused, const struct nt_grant *grant)
+{
+    if (waiting.lock == FREE)
+        broken("grants are read without the lock");
+    point();
+    if (refused != 0)
+        return refused;
+    sums.grants++;
+    uint32_t *last = &expected[grant->thread].status[expected[grant->thread].depth - 1];
+    if (expected[grant->thread].depth == 0 || *last != PENDS)
+        broken("thread %u is granted 0x%x, and waits for nothing", grant->thread, grant->status);
+    *last = grant->status;
+    return 0;
+}
+
+static uint32_t hear_exit(uint32_t who, uint32_t refused)
+{
+    if (refused != 0)
+        broken("thread %u can't end: %u", who, refused);
+    sums.ends++;
+    expected[who].depth = expected[who].apcs = 0;
+    return 0;
+}
+
+/* The caller's wait of so many ms, which began then, has answered this. */
+static void check_wait(DWORD status, DWORD ms, uint64_t began)
+{
+    if (status == WAIT_FAILED)
+        return;
+    sums.waits++;
+    const uint32_t wanted = expected[own.seat->number].status[--expected[own.seat->number].depth];
+    if (status != wanted)
+        broken("a wait of thread %u answers 0x%x, and it was ended with 0x%x", own.seat->number, status, wanted);
+    if (status != WAIT_TIMEOUT)
+        return;
+    sums.timeouts++;
+    if (run.now / NANOSECONDS_PER_MOMENT < began / NANOSECONDS_PER_MOMENT + (uint64_t)ms * 10000)
+        broken("a wait of %u ms times out too early", ms);
+}
+
+/* ---- What holds whenever all threads sleep. */
+
+enum { EVENTS = 4, SEMAPHORES = 2, MUTEXES = 2, TIMERS = 3, THREADS = 24, FOREIGN = 4 };
+
+static HANDLE events[EVENTS], semaphores[SEMAPHORES], mutexes[MUTEXES], timers[TIMERS], threads[THREADS];
+static uint32_t made; /* of the threads */
+
+static const struct task *sleeper_on(const void *word)
+{
+    for (int i = 0; i < run.count; i++)
+        if (run.tasks[i].state == SLEEPS && run.tasks[i].word == word)
+            return &run.tasks[i];
+    return NULL;
+}
+
+static uint64_t time_of(uint64_t moment)
+{
+    return (process.start + moment) * NANOSECONDS_PER_MOMENT;
+}
+
+/* (The timers were made before any duplicate, so their numbers as objects are those of their handles.) */
+static bool may_timers_end(uint32_t thread, const struct nt_pending_wait *wait)
+{
+    for (size_t i = 0; i < wait->count; i++) {
+        uint32_t object;
+        nt_waited_object(&waiting.dispatcher, thread, i, &object);
+        for (int j = 0; j < TIMERS; j++)
+            if (object == listed_number_of(timers[j]))
+                return true;
+    }
+    return wait->alertable && waiting.seats[thread].has_routines;
+}
+
+/* Answers whether a timer may end the wait of this seat's thread. */
+static bool look_at(const struct seat *seat)
+{
+    struct nt_pending_wait wait;
+    const bool pends = nt_waits_for(&waiting.dispatcher, seat->number, &wait) == 0;
+    const struct task *sleeper = sleeper_on(&seat->word);
+    if (pends != (sleeper != NULL))
+        broken("the wait of thread %u %s, and it %s", seat->number, pends ? "pends" : "does not pend", sleeper ? "sleeps" : "does not sleep");
+    if (!pends)
+        return false;
+    if (seat->word != IS_ASLEEP)
+        broken("thread %u sleeps, and its word says %u", seat->number, (unsigned)seat->word);
+    if (wait.timed && sleeper->until > time_of(wait.deadline))
+        broken("thread %u sleeps past its deadline", seat->number);
+    return may_timers_end(seat->number, &wait);
+}
+
+static void look_at_all(void)
+{
+    bool any = false;
+    uint64_t due;
+    if (!waiting.dispatcher.live)
+        return;
+    if (waiting.lock != FREE)
+        broken("all threads sleep, and the lock is not free: %u", (unsigned)waiting.lock);
+    for (uint32_t i = 0; i < waiting.seated; i++)
+        any |= look_at(&waiting.seats[i]);
+    if (any && (nt_due)(&waiting.dispatcher, NT_GREATEST_MOMENT, &due) == 0 && next_end_of_sleep() > time_of(due))
+        broken("nobody sleeps to the next moment, %llu ns", (unsigned long long)time_of(due));
+}
+
+#include "schedules/program.h"
+
+/* Nothing is left of the run before. */
+static void begin_anew(void)
+{
+    nt_close(&waiting.dispatcher);
+    free(waiting.dispatcher.room);
+    memset(&waiting, 0, sizeof waiting);
+    memset(&own, 0, sizeof own);
+    memset(expected, 0, sizeof expected);
+    process.is_open = false;
+    made = 0;
+}
+
+int main(int count, char **words)
+{
+    const uint64_t programs = count > 1 ? strtoull(words[1], NULL, 10) : 3000, first = count > 2 ? strtoull(words[2], NULL, 10) : 1;
+    run.look = look_at_all;
+    for (uint64_t seed = first; seed < first + programs; seed++) {
+        begin_anew();
+        run_all(drive, seed);
+        if (waiting.alive != 0)
+            broken("%u threads have not left", waiting.alive);
+    }
+    printf("%llu calls, %llu waits, %llu of them ended later, %llu timeouts, %llu APCs, %llu threads made, %llu ends\n", sums.calls, sums.waits,
+           sums.grants, sums.timeouts, sums.apcs, sums.threads, sums.ends);
+    printf("%llu passed, 0 failed\n", (unsigned long long)programs);
+    return 0;
+}

@@ -1,0 +1,230 @@
+/* A random program: what a thread may do next. It is a part of schedules.c. */
+
+static void act(void);
+
+/* An object, and whether a wait for it is short: as long as it takes, that would be for good. */
+static HANDLE any_object(bool *is_short)
+{
+    const uint32_t which = below(12);
+    *is_short |= which >= 6 && which <= 7;
+    if (which < 4)
+        return events[below(EVENTS)];
+    if (which < 6)
+        return semaphores[below(SEMAPHORES)];
+    if (which < 8)
+        return mutexes[below(MUTEXES)];
+    if (which < 10 || made == 0)
+        return timers[below(TIMERS)];
+    *is_short = true;
+    return threads[below(made)];
+}
+
+static DWORD any_time(bool is_short)
+{
+    const DWORD times[] = { 0, 1, 2, 2, below(6), below(200), is_short ? 3 : INFINITE, is_short ? 10 : below(3) != 0 ? INFINITE : INFINITE - 1 };
+    return times[below(sizeof times / sizeof *times)];
+}
+
+static void run_apc_of_program(ULONG_PTR acts)
+{
+    const uint32_t me = own.seat->number;
+    sums.apcs++;
+    if (expected[me].apcs >= APC_DEPTH)
+        return;
+    expected[me].apcs++;
+    for (; acts > 0; acts--)
+        act();
+    expected[me].apcs--;
+}
+
+static void run_timer_apc_of_program(LPVOID acts, DWORD low, DWORD high)
+{
+    (void)low;
+    (void)high;
+    run_apc_of_program((ULONG_PTR)acts);
+}
+
+static void set_event(void)
+{
+    SetEvent(events[below(EVENTS)]);
+}
+
+static void reset_event(void)
+{
+    ResetEvent(events[below(EVENTS)]);
+}
+
+static void pulse_event(void)
+{
+    PulseEvent(events[below(EVENTS)]);
+}
+
+static void release_semaphore(void)
+{
+    ReleaseSemaphore(semaphores[below(SEMAPHORES)], (LONG)below(3) + 1, NULL);
+}
+
+static void release_mutex(void)
+{
+    ReleaseMutex(mutexes[below(MUTEXES)]);
+}
+
+static void set_any_timer(void)
+{
+    LARGE_INTEGER due = { .QuadPart = -(LONGLONG)below(one_in(4) ? 1000 : 100000) };
+    if (one_in(10))
+        due.QuadPart = universal() + below(100000);
+    SetWaitableTimer(timers[below(TIMERS)], &due, one_in(3) ? (LONG)below(8) : 0, one_in(2) ? run_timer_apc_of_program : NULL,
+                     (LPVOID)(uintptr_t)below(3), FALSE);
+}
+
+static void cancel_timer(void)
+{
+    CancelWaitableTimer(timers[below(TIMERS)]);
+}
+
+static void queue_apc(void)
+{
+    QueueUserAPC(run_apc_of_program, made == 0 || one_in(4) ? GetCurrentThread() : threads[below(made)], below(3));
+}
+
+static void sleep_for_a_time(void)
+{
+    const uint64_t began = run.now;
+    const DWORD ms = any_time(true);
+    const BOOL alertable = one_in(2);
+    check_wait(SleepEx(ms, alertable), ms, began);
+}
+
+static void wait_for_one(void)
+{
+    const uint64_t began = run.now;
+    bool is_short = false;
+    HANDLE object = any_object(&is_short);
+    const DWORD ms = any_time(is_short);
+    check_wait(WaitForSingleObjectEx(object, ms, one_in(2)), ms, began);
+}
+
+/* (It fails where two of them are the same.) */
+static void wait_for_several(void)
+{
+    const uint64_t began = run.now;
+    bool is_short = false;
+    HANDLE objects[4];
+    const DWORD count = below(4) + 1;
+    for (DWORD i = 0; i < count; i++)
+        objects[i] = any_object(&is_short);
+    const DWORD ms = any_time(is_short);
+    const BOOL all = one_in(2);
+    check_wait(WaitForMultipleObjectsEx(count, objects, all, ms, one_in(2)), ms, began);
+}
+
+static void signal_and_wait(void)
+{
+    const uint64_t began = run.now;
+    bool is_short = false;
+    HANDLE signals[] = { mutexes[below(MUTEXES)], semaphores[below(SEMAPHORES)], events[below(EVENTS)] };
+    HANDLE signal = signals[below(3)], object = any_object(&is_short);
+    const DWORD ms = any_time(is_short);
+    check_wait(SignalObjectAndWait(signal, object, ms, one_in(2)), ms, began);
+}
+
+static DWORD act_often(LPVOID acts)
+{
+    for (ULONG_PTR left = (ULONG_PTR)acts; left > 0; left--)
+        act();
+    return 0;
+}
+
+static LPVOID any_number_of_acts(void)
+{
+    return (LPVOID)(uintptr_t)(below(40) + 5);
+}
+
+static void begin_thread(void)
+{
+    if (made == THREADS - FOREIGN)
+        return;
+    HANDLE thread = CreateThread(NULL, 0, act_often, any_number_of_acts(), 0, NULL);
+    if (thread == NULL)
+        return;
+    sums.threads++;
+    if (made < THREADS)
+        threads[made++] = thread;
+}
+
+static void begin_thread_seldom(void)
+{
+    if (one_in(6))
+        begin_thread();
+}
+
+static void end_thread_seldom(void)
+{
+    if (one_in(30) && run.runs != run.tasks)
+        ExitThread(0);
+}
+
+static void act(void)
+{
+    static void (*const all[])(void) = {
+        set_event, set_event, reset_event, pulse_event, release_semaphore, release_mutex, set_any_timer, set_any_timer, cancel_timer, queue_apc,
+        sleep_for_a_time, sleep_for_a_time, wait_for_one, wait_for_one, wait_for_one, wait_for_several, wait_for_several, wait_for_several,
+        signal_and_wait, signal_and_wait, begin_thread_seldom, end_thread_seldom,
+    };
+    sums.calls++;
+    all[below(sizeof all / sizeof *all)]();
+}
+
+/* A thread that CreateThread did not make. */
+static void *act_as_foreign(void *acts)
+{
+    act_often(acts);
+    if (!one_in(4))
+        for (int i = 0; i < MUTEXES; i++)
+            ReleaseMutex(mutexes[i]);
+    return NULL;
+}
+
+static void set_timer_now(HANDLE timer)
+{
+    const LARGE_INTEGER now = { .QuadPart = 0 };
+    SetWaitableTimer(timer, &now, 0, NULL, NULL, FALSE);
+}
+
+/* All others sleep: ends some of their waits. */
+static void end_some_waits(void)
+{
+    set_event();
+    ReleaseSemaphore(semaphores[below(SEMAPHORES)], 1, NULL);
+    if (one_in(3))
+        set_timer_now(timers[below(TIMERS)]);
+    if (one_in(3) && made > 0)
+        QueueUserAPC(run_apc_of_program, threads[below(made)], 0);
+    for (int i = 0; i < EVENTS && one_in(2); i++)
+        SetEvent(events[i]);
+    for (int i = 0; i < TIMERS && one_in(2); i++)
+        set_timer_now(timers[i]);
+}
+
+/* The first thread makes the objects and the others, and has no wait of its own last for good. */
+static void *drive(void *unused)
+{
+    (void)unused;
+    for (int i = 0; i < EVENTS; i++)
+        events[i] = CreateEvent(NULL, i & 1, one_in(2), NULL);
+    for (int i = 0; i < SEMAPHORES; i++)
+        semaphores[i] = CreateSemaphore(NULL, 0, 1 + (LONG)below(3), NULL);
+    for (int i = 0; i < MUTEXES; i++)
+        mutexes[i] = CreateMutex(NULL, FALSE, NULL);
+    for (int i = 0; i < TIMERS; i++)
+        timers[i] = CreateWaitableTimer(NULL, i & 1, NULL);
+    for (uint32_t left = below(5) + 1; left > 0; left--)
+        begin_thread();
+    for (uint32_t left = below(FOREIGN); left > 0; left--)
+        add_task(act_as_foreign, any_number_of_acts());
+    while (rest_till_all_sleep())
+        end_some_waits();
+    end_process();
+    return NULL;
+}

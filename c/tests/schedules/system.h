@@ -1,0 +1,106 @@
+/* What ntwin.c asks of the system, and its steps on words, as tasks make them. */
+#ifndef SYSTEM_H
+#define SYSTEM_H
+
+#include "tasks.h"
+
+/* ---- The system, here. */
+
+static long use_futex(_Atomic uint32_t *word, int operation, uint32_t value, const struct timespec *until)
+{
+    struct task *me = run.runs, *sleepers[MOST_TASKS];
+    uint32_t count = 0;
+    point();
+    if (operation == FUTEX_WAKE_PRIVATE) {
+        for (int i = 0; i < run.count; i++)
+            if (run.tasks[i].state == SLEEPS && run.tasks[i].word == word && !run.tasks[i].is_woken)
+                sleepers[count++] = &run.tasks[i];
+        if (count > 0)
+            sleepers[below(count)]->is_woken = true;
+        return count > 0;
+    }
+    if (*(volatile uint32_t *)word != value || one_in(50))
+        return -1;
+    me->word = word;
+    me->is_woken = false;
+    me->until = until == NULL || until->tv_sec > NANOSECONDS ? NEVER : (uint64_t)until->tv_sec * NANOSECONDS + (uint64_t)until->tv_nsec;
+    stand_aside(SLEEPS);
+    me->word = NULL;
+    return 0;
+}
+
+static int read_clock(struct timespec *at)
+{
+    at->tv_sec = (time_t)(run.now / NANOSECONDS);
+    at->tv_nsec = (long)(run.now % NANOSECONDS);
+    return 0;
+}
+
+/* (Once in a while there is no thread more.) */
+static int create_task(pthread_t *thread, void *(*start)(void *), void *argument)
+{
+    point();
+    struct task *task = one_in(60) ? NULL : add_task(start, argument);
+    if (task == NULL)
+        return EAGAIN;
+    *thread = (pthread_t)(task - run.tasks);
+    point();
+    return 0;
+}
+
+static int join_task(pthread_t thread, int error)
+{
+    point();
+    return run.tasks[thread].state == HAS_ENDED ? 0 : error;
+}
+
+static int keep_value(const void *value)
+{
+    run.runs->leaving = value;
+    return 0;
+}
+
+static int yield_task(void)
+{
+    point();
+    return 0;
+}
+
+#define syscall(number, word, operation, value, until, ...) use_futex(word, operation, value, until)
+#define clock_gettime(clock, at) read_clock(at)
+#define pthread_create(thread, attributes, start, argument) ((void)(attributes), create_task(thread, start, argument))
+#define pthread_tryjoin_np(thread, value) join_task(thread, EBUSY)
+#define pthread_timedjoin_np(thread, value, until) ((void)(until), join_task(thread, ETIMEDOUT))
+#define pthread_self() ((pthread_t)(run.runs - run.tasks))
+#define pthread_exit(value) end_task()
+#define pthread_key_create(key, at_end) ((void)(key), run.destructor = (at_end), 0)
+#define pthread_setspecific(key, value) keep_value(value)
+#define sched_yield() yield_task()
+#define sysconf(name) 4L
+#define abort() broken("what always holds does not")
+#undef __libc_single_threaded
+#define __libc_single_threaded false
+
+/* ---- Steps on a word, which is a number or a pointer. */
+
+#undef atomic_load_explicit
+#undef atomic_store_explicit
+#undef atomic_exchange_explicit
+#undef atomic_compare_exchange_strong_explicit
+#if defined __clang__
+#define load_step(word) __c11_atomic_load(word, __ATOMIC_SEQ_CST)
+#define store_step(word, value) __c11_atomic_store(word, value, __ATOMIC_SEQ_CST)
+#define exchange_step(word, value) __c11_atomic_exchange(word, value, __ATOMIC_SEQ_CST)
+#define compare_step(word, seen, value) __c11_atomic_compare_exchange_strong(word, seen, value, __ATOMIC_SEQ_CST, __ATOMIC_SEQ_CST)
+#else
+#define load_step(word) __atomic_load_n(word, __ATOMIC_SEQ_CST)
+#define store_step(word, value) __atomic_store_n(word, value, __ATOMIC_SEQ_CST)
+#define exchange_step(word, value) __atomic_exchange_n(word, value, __ATOMIC_SEQ_CST)
+#define compare_step(word, seen, value) __atomic_compare_exchange_n(word, seen, value, false, __ATOMIC_SEQ_CST, __ATOMIC_SEQ_CST)
+#endif
+#define atomic_load_explicit(word, order) (point(), load_step(word))
+#define atomic_store_explicit(word, value, order) (point(), store_step(word, value))
+#define atomic_exchange_explicit(word, value, order) (point(), exchange_step(word, value))
+#define atomic_compare_exchange_strong_explicit(word, seen, value, one, other) (point(), compare_step(word, seen, value))
+
+#endif

@@ -1,0 +1,308 @@
+/* Threads of a test's own, with ntwin.c as a part of the test: each runs until it comes to a point at which another may run in its place, and
+ * chance decides. Such points are each step on a word, each call of the dispatcher, and each call of the system, which are all made here. The
+ * time is a number: it moves a little as these threads run, and jumps when all of them sleep. So a run is the same each time for a seed. */
+#ifndef TASKS_H
+#define TASKS_H
+
+#define _GNU_SOURCE
+#define CHECKS_WAITING
+#define LOOKS_AT_LOCK 2
+#define LOOKS_AT_WORD 3
+#define WAITS_PER_TRY 5
+/* What a thread finds of its own is one variable, which is changed at each switch. */
+#define own OWN
+#include "../../ntwin/inside.h"
+
+#include <stdarg.h>
+#include <stdio.h>
+#include <string.h>
+#include <ucontext.h>
+
+static struct own own;
+
+enum {
+    MOST_TASKS = 64,
+    STACK = 128 * 1024,
+    MOST_POINTS = 30000000, /* in a run */
+    MOST_JUMPS = 60,        /* of the time, between two turns of who rests */
+    ROUNDS_AT_END = PTHREAD_DESTRUCTOR_ITERATIONS,
+    NANOSECONDS = 1000000000
+};
+
+/* A thread, here. */
+struct task {
+    enum { CAN_RUN, SLEEPS, RESTS, HAS_ENDED } state;
+    bool has_begun;
+    ucontext_t beginning;
+    jmp_buf at;             /* where it goes on */
+    jmp_buf end;            /* and where it ends */
+    char *stack;
+    void *(*start)(void *);
+    void *argument;
+    const void *word;       /* on which it sleeps, */
+    uint64_t until;         /* to this time at the longest, in ns, */
+    bool is_woken;          /* unless it was woken */
+    int priority;
+    const void *leaving;    /* the value of its key */
+    struct own kept;
+};
+
+/* How chance decides whether another task runs at a point. */
+enum habit { OFTEN, SOMETIMES, BY_PRIORITY, SELDOM, HABITS };
+
+static struct {
+    struct task tasks[MOST_TASKS];
+    int count;
+    struct task *runs;      /* null before a run */
+    jmp_buf end;            /* of the run */
+    enum habit habit;
+    uint64_t seed, state[2];
+    uint64_t now;           /* in ns */
+    uint64_t points;
+    int jumps;              /* since who rests had its turn */
+    int changes;            /* of priorities */
+    void (*destructor)(void *);
+    void (*look)(void);     /* what is looked at whenever all tasks sleep */
+} run;
+
+/* ---- Chance. */
+
+static uint64_t any_number(void)
+{
+    uint64_t a = run.state[0];
+    const uint64_t b = run.state[1];
+    run.state[0] = b;
+    a ^= a << 23;
+    run.state[1] = a ^ b ^ (a >> 17) ^ (b >> 26);
+    return run.state[1] + b;
+}
+
+/* A number below this one. */
+static uint32_t below(uint32_t limit)
+{
+    return (uint32_t)(any_number() % limit);
+}
+
+static bool one_in(uint32_t count)
+{
+    return below(count) == 0;
+}
+
+/* ---- What does not hold ends the test. */
+
+__attribute__((format(printf, 1, 2), noreturn)) static void broken(const char *format, ...)
+{
+    va_list list;
+    va_start(list, format);
+    printf("schedules: seed %llu, at %llu ns, thread %d: ", (unsigned long long)run.seed, (unsigned long long)run.now,
+           run.runs == NULL ? -1 : (int)(run.runs - run.tasks));
+    vprintf(format, list);
+    putchar('\n');
+    va_end(list);
+    fflush(stdout);
+    _Exit(1);
+}
+
+/* ---- Which task runs. */
+
+static bool is_ready(const struct task *task)
+{
+    return task->state == CAN_RUN || (task->state == SLEEPS && (task->is_woken || task->until <= run.now));
+}
+
+/* When the first task stops sleeping by itself. */
+static uint64_t next_end_of_sleep(void)
+{
+    uint64_t next = NEVER;
+    for (int i = 0; i < run.count; i++)
+        if (run.tasks[i].state == SLEEPS && run.tasks[i].until < next)
+            next = run.tasks[i].until;
+    return next;
+}
+
+static struct task *who_rests(void)
+{
+    for (int i = 0; i < run.count; i++)
+        if (run.tasks[i].state == RESTS)
+            return &run.tasks[i];
+    return NULL;
+}
+
+/* One of those that are ready, or null. */
+static struct task *choose(void)
+{
+    struct task *ready[MOST_TASKS], *best = NULL;
+    uint32_t count = 0;
+    for (int i = 0; i < run.count; i++)
+        if (is_ready(&run.tasks[i])) {
+            ready[count++] = &run.tasks[i];
+            if (best == NULL || run.tasks[i].priority > best->priority)
+                best = &run.tasks[i];
+        }
+    return count == 0 || run.habit == BY_PRIORITY ? best : ready[below(count)];
+}
+
+/* All tasks sleep: the time jumps to when the first one stops, or who rests has its turn. False where none is left. */
+static bool pass_idle(void)
+{
+    const uint64_t next = next_end_of_sleep();
+    struct task *rests = who_rests();
+    if (next == NEVER && rests == NULL) {
+        for (int i = 0; i < run.count; i++)
+            if (run.tasks[i].state != HAS_ENDED)
+                broken("all threads sleep for good");
+        return false;
+    }
+    run.look();
+    if (rests != NULL && (next == NEVER || ++run.jumps > MOST_JUMPS)) {
+        run.jumps = 0;
+        rests->state = CAN_RUN;
+    } else {
+        run.now = next + (one_in(4) ? below(1000000) : 0);
+    }
+    return true;
+}
+
+/* The task that runs next; null where none is left. */
+static struct task *next_task(void)
+{
+    for (;;) {
+        struct task *next = choose();
+        if (next != NULL || !pass_idle())
+            return next;
+    }
+}
+
+/* Has this task run, or ends the run. What the caller left comes back here, in its own stack. */
+__attribute__((noinline)) static void switch_to(struct task *next)
+{
+    struct task *last = run.runs;
+    if (next == last)
+        return;
+    if (last != NULL)
+        last->kept = own;
+    if (last != NULL && _setjmp(last->at) != 0)
+        return;
+    run.runs = next;
+    if (next == NULL)
+        _longjmp(run.end, 1);
+    own = next->kept;
+    if (next->has_begun)
+        _longjmp(next->at, 1);
+    next->has_begun = true;
+    setcontext(&next->beginning);
+}
+
+/* The caller does not run, but for this reason, until it is chosen. */
+static void stand_aside(int state)
+{
+    struct task *me = run.runs;
+    me->state = state;
+    switch_to(next_task());
+    me->state = CAN_RUN;
+}
+
+/* A point at which another task may run. */
+static void point(void)
+{
+    struct task *me = run.runs;
+    static const uint32_t seldom[HABITS] = { [OFTEN] = 2, [SOMETIMES] = 8, [BY_PRIORITY] = 1, [SELDOM] = 40 };
+    if (me == NULL)
+        return;
+    if (++run.points > MOST_POINTS)
+        broken("the run does not end");
+    if (one_in(64))
+        run.now += below(2000);
+    if (one_in(2000))
+        run.now += below(5000000);
+    if (run.habit == BY_PRIORITY && one_in(200))
+        me->priority = (int)below(1000) - 1000 * (++run.changes % 3);
+    if (one_in(seldom[run.habit]))
+        switch_to(choose());
+}
+
+/* ---- Tasks begin and end. */
+
+__attribute__((noreturn)) static void end_task(void)
+{
+    _longjmp(run.runs->end, 1);
+}
+
+/* Runs the caller's function, to its return or to `end_task`. */
+__attribute__((noinline)) static void run_start(void)
+{
+    if (_setjmp(run.runs->end) == 0)
+        run.runs->start(run.runs->argument);
+}
+
+/* A task runs: then come the destructors of its key's values. */
+static void run_task(void)
+{
+    run_start();
+    struct task *me = run.runs;
+    for (int round = 0; round < ROUNDS_AT_END && me->leaving != NULL; round++) {
+        void *value = (void *)(uintptr_t)me->leaving;
+        me->leaving = NULL;
+        point();
+        run.destructor(value);
+    }
+    stand_aside(HAS_ENDED);
+    broken("a thread runs that has ended");
+}
+
+/* Who goes on there runs a task in this stack. */
+__attribute__((noinline)) static void prepare(ucontext_t *there, char *stack)
+{
+    getcontext(there);
+    there->uc_stack.ss_sp = stack;
+    there->uc_stack.ss_size = STACK;
+    makecontext(there, run_task, 0);
+}
+
+/* A task more, or null where there is no room. */
+static struct task *add_task(void *(*start)(void *), void *argument)
+{
+    if (run.count == MOST_TASKS)
+        return NULL;
+    struct task *task = &run.tasks[run.count++];
+    char *stack = task->stack != NULL ? task->stack : malloc(STACK);
+    if (stack == NULL)
+        abort();
+    memset(task, 0, sizeof *task);
+    task->stack = stack;
+    task->start = start;
+    task->argument = argument;
+    task->priority = (int)below(1000);
+    prepare(&task->beginning, stack);
+    return task;
+}
+
+/* The caller rests until all others sleep. Answers whether any of them is left. */
+static bool rest_till_all_sleep(void)
+{
+    stand_aside(RESTS);
+    for (int i = 0; i < run.count; i++)
+        if (&run.tasks[i] != run.runs && run.tasks[i].state != HAS_ENDED)
+            return true;
+    return false;
+}
+
+static void run_all(void *(*first)(void *), uint64_t seed)
+{
+    run.count = run.jumps = run.changes = 0;
+    run.points = 0;
+    run.now = NANOSECONDS;
+    run.seed = seed;
+    run.habit = (enum habit)(seed % HABITS);
+    run.state[0] = seed * UINT64_C(0x9E3779B97F4A7C15) + 1;
+    run.state[1] = seed ^ UINT64_C(0xD1B54A32D192ED03);
+    for (int i = 0; i < 10; i++)
+        any_number();
+    add_task(first, NULL);
+    run.runs = NULL;
+    if (_setjmp(run.end) == 0)
+        switch_to(next_task());
+    run.runs = NULL;
+}
+
+#endif
