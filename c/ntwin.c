@@ -57,3 +57,7 @@
 #include "win32/process.c"
 
 #include "win32/system.c"
+
+#include "win32/messages.c"
+
+#include "win32/modules.c"
