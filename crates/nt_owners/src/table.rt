@@ -6,7 +6,7 @@ ghost use Rattle.std.specs.List.{IsDistinct};
 ghost use Rattle.std.specs.Result.{result_err};
 ghost use Rattle.nt_objects.specs.Object.{is_event, is_semaphore, is_mutex, count_of, owner_of, owned_by, abandoned_by};
 ghost use Rattle.nt_objects.specs.Object.{signaled, taken, has_room, TellsAbandoned};
-ghost use Rattle.nt_objects.specs.Object.{with_set, released, release_refusal, unlocked};
+ghost use Rattle.nt_objects.specs.Object.{with_set, released, release_refusal, unlocked, TellsOwner};
 ghost use Rattle.nt_alarms.specs.Marks.{AddsMarks};
 ghost use Rattle.nt_owners.specs.Owned.{list_of, IsUnowned};
 ghost use Rattle.nt_owners.specs.Objects.{object_at, OwnersAgree, IsPassed};
@@ -262,7 +262,8 @@ impl ObjectTable {
         self.objects[semaphore.get() as usize].release_semaphore(count)
     }
 
-    /// Releases the mutex at this number once. After the last release that its owner owed it is in no list.
+    /// Releases the mutex at this number once, and answers whether it is free now or its owner's still. After the last release that
+    /// its owner owed it is in no list.
     ///
     /// Refused with 288 where this thread does not own it; nothing changes then.
     pub fn unlock(&mut self, mutex: ObjectNumber, thread: ThreadId) -> Result<Released, Refusal>
@@ -271,6 +272,7 @@ impl ObjectTable {
         ensures owner { IsOk result ↔ IsTrue (owned_by (object_at self.old.items mutex) thread) }
         ensures items { OnOk result (self.new.items
             ≡ slice_set self.old.items mutex (unlocked (object_at self.old.items mutex))) }
+        ensures answer { IfOk result (λ told. TellsOwner told thread (unlocked (object_at self.old.items mutex))) }
         ensures threads { length self.new.owned ≡ length self.old.owned }
         ensures refused { IfErr result (λ refusal. refusal ≡ Refusal.NotOwner) }
         ensures err { OnErr result (self.new ≡ self.old) }
