@@ -1,5 +1,5 @@
 -- What a call through C's handle does.
-use Rattle.std.specs.Prelude.{◌≡◌, ℕ, ◌≤◌, ◌⊎◌, Bool, Option, None, Some, MatchOption, slice_get, MatchBool, nat_le, ◌&&◌, [], length, pos, is_some, true, false}
+use Rattle.std.specs.Prelude.{◌≡◌, ℕ, ◌≤◌, ◌⊎◌, Bool, Option, None, Some, MatchOption, slice_get, MatchBool, nat_le, OnOk, OnErr, ◌&&◌, [], length, pos, is_some, true, false}
 use Rattle.std.specs.FinMap as map
 use Rattle.nt_c.specs.declared.grants.NtGrant.{NtGrant}
 use Rattle.nt_c.specs.declared.handle.Nt.{Nt}
@@ -10,7 +10,7 @@ use Rattle.std.specs.declared.result.Result.TheVariants.{Ok, Err}
 use Rattle.nt_status.specs.declared.limits.TheConstants.{MAX_MOMENT, MAX_THREADS}
 use Rattle.nt_status.specs.Refusal.{number_of}
 use Rattle.nt_status.specs.declared.refusal.Refusal.{Refusal}
-use Rattle.nt_status.specs.declared.refusal.Refusal.TheVariants.{InvalidHandle, Memory}
+use Rattle.nt_status.specs.declared.refusal.Refusal.TheVariants.{InvalidHandle}
 use Rattle.nt_waits.specs.declared.wait.Wait.{Wait}
 use Rattle.nt_calls.specs.declared.call.Act.{Act}
 use Rattle.nt_calls.specs.declared.call.Call.{Call}
@@ -19,6 +19,8 @@ use Rattle.nt_calls.specs.declared.call.Reply.{Reply}
 use Rattle.nt_calls.specs.declared.call.WaitCall.{WaitCall}
 use Rattle.nt_core.specs.Dispatcher.{Dispatcher, state}
 use Rattle.nt_core.specs.Lawful.{IsLawful}
+use Rattle.nt_core.specs.Accepts.{IsLocal, IsTickLocal}
+use Rattle.nt_calls.specs.Naming.{call_named}
 use Rattle.nt_calls.specs.State.{opening, pends}
 use Rattle.nt_calls.specs.Steps.{Called, Ticked, IsNextMoment, NothingDue}
 
@@ -32,10 +34,17 @@ Keeps old new = new.cell.core ≡ old.cell.core
 
 -- ---- a call
 
+-- a call of the dispatcher: a step that tests no wait but those that it must, or a refusal that tests none
+pub record Makes (old : Dispatcher) (who : ℕ) (call : Call) (result : Result Reply Refusal) (new : Dispatcher) : Type 0 where
+  pub called : Called (state old) who call result new.grants (state new)
+  pub lawful : IsLawful new
+  pub local : OnOk result (IsLocal (state old) who (call_named old.handles call) new.table.looked new.grants)
+  pub untested : OnErr result (new.table.looked ≡ 0)
+
 -- a call on what the handle holds: one of the dispatcher there, or refused where there is none
 abbrev pub Asked : Option Dispatcher → ℕ → Call → Result Reply Refusal → Option Dispatcher → Type 0
 Asked None who call result new = (result ≡ Err InvalidHandle) × (new ≡ None)
-Asked (Some old) who call result new = (core : Dispatcher) × (new ≡ Some core) × Called (state old) who call result core.grants (state core) × IsLawful core
+Asked (Some old) who call result new = (core : Dispatcher) × (new ≡ Some core) × Makes old who call result core
 
 -- the number that C sees of a result
 abbrev pub error_of : Result Reply Refusal → ℕ
@@ -82,21 +91,19 @@ Acts old who act number before after new = Answers old who (Call.Act act) number
 abbrev pub WaitsWith : Nt → ℕ → WaitCall → ℕ → NtReply → NtReply → Nt → Type 0
 WaitsWith old who wait number before after new = Answers old who (Call.Wait wait) number before after new
 
--- a wait for objects; where memory for the list of its handles is refused, with 8, it is not asked at all
-abbrev pub WaitsForObjects : Nt → ℕ → WaitCall → ℕ → NtReply → NtReply → Nt → Type 0
-WaitsForObjects old who wait number before after new = WaitsWith old who wait number before after new ⊎ ((number ≡ 8) × (after ≡ before) × (new ≡ old))
-
--- a wait of a dispatcher; where memory for the list of its handles is refused, it is not asked at all
-abbrev pub WaitsOrKeeps : Dispatcher → ℕ → WaitCall → Result Reply Refusal → Dispatcher → Type 0
-WaitsOrKeeps old who wait result new =
-    (Called (state old) who (Call.Wait wait) result new.grants (state new) × IsLawful new) ⊎ ((result ≡ Err Memory) × (new ≡ old))
-
 -- ---- a tick
+
+-- a tick of the dispatcher, which tests no wait but those that it must, or is refused and tests none
+pub record LetsPass (old : Dispatcher) (m : ℕ) (result : Result Reply Refusal) (new : Dispatcher) : Type 0 where
+  pub ticked : Ticked (state old) m result new.grants (state new)
+  pub lawful : IsLawful new
+  pub local : OnOk result (IsTickLocal (state old) m new.table.looked new.grants)
+  pub untested : OnErr result (new.table.looked ≡ 0)
 
 -- a tick of what the handle holds
 abbrev pub TickAsked : Option Dispatcher → ℕ → Result Reply Refusal → Option Dispatcher → Type 0
 TickAsked None m result new = (result ≡ Err InvalidHandle) × (new ≡ None)
-TickAsked (Some old) m result new = (core : Dispatcher) × (new ≡ Some core) × Ticked (state old) m result core.grants (state core) × IsLawful core
+TickAsked (Some old) m result new = (core : Dispatcher) × (new ≡ Some core) × LetsPass old m result core
 
 -- a tick of which C sees the number; no moment is above the greatest
 abbrev pub Ticks : Nt → ℕ → ℕ → Nt → Type 0
@@ -184,7 +191,7 @@ ReadsDue m nt number before after =
 abbrev pub Opens : Option Dispatcher → ℕ → ℕ → Option Dispatcher → Type 0
 Opens (Some old) threads number new = (number ≡ 87) × (new ≡ Some old)
 Opens None threads number new =
-    ((core : Dispatcher) × (new ≡ Some core) × (number ≡ 0) × (1 ≤ threads) × (threads ≤ MAX_THREADS) × (state core ≡ opening threads) × (core.grants ≡ []))
+    ((core : Dispatcher) × (new ≡ Some core) × (number ≡ 0) × (1 ≤ threads) × (threads ≤ MAX_THREADS) × (state core ≡ opening threads) × (core.grants ≡ []) × (core.table.looked ≡ 0))
     ⊎ ((new ≡ None) × MatchBool (nat_le 1 threads && nat_le threads MAX_THREADS) (number ≡ 8) (number ≡ 87))
 
 -- an equal dispatcher comes to where there was none; refused with 6 where there is nothing to copy, with 87 where there is one

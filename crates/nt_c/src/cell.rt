@@ -2,9 +2,9 @@
 ghost use Rattle.std.specs.Prelude.{◌≡◌, Option, None, Some, IsTrue, is_some};
 ghost use Rattle.std.specs.Coded.{coded_option};
 ghost use Rattle.nt_core.specs.Dispatcher.{Dispatcher};
-ghost use Rattle.nt_c.specs.contracts.driver.Driver.{the_row as driver_row};
+ghost use Rattle.nt_core.specs.contracts.dispatcher.Core.{the_row as core_row};
 
-use crate::driver::Driver;
+use nt_core::Core;
 use std::marker::Model;
 
 /// A pointer to room for one dispatcher, which is there or not. (C sees no type of ours but numbers, so it points to bytes.)
@@ -12,7 +12,7 @@ use std::marker::Model;
 #[derive(Drop)]
 pub struct Cell {
     pub(crate) at: *mut u8,
-    pub ghost core: { Option Dispatcher } by { coded_option driver_row.coded },
+    pub ghost core: { Option Dispatcher } by { coded_option core_row.coded },
 }
 
 impl Model for Cell {
@@ -23,23 +23,23 @@ impl Model for Cell {
 
 impl Cell {
     /// Puts a dispatcher where there is none.
-    pub fn put(&mut self, driver: Driver)
+    pub fn put(&mut self, core: Core)
         requires { self.old.core ≡ None }
-        ensures { self.new.core ≡ Some driver }
+        ensures { self.new.core ≡ Some core }
     {
-        let at = self.at as *mut Driver;
+        let at = self.at as *mut Core;
         unsafe {
-            at.write(driver);
+            at.write(core);
         }
     }
 
     /// Takes the dispatcher out.
-    pub fn take(&mut self) -> Driver
+    pub fn take(&mut self) -> Core
         requires { IsTrue (is_some self.old.core) }
         ensures taken { self.old.core ≡ Some result }
         ensures empty { self.new.core ≡ None }
     {
-        let at = self.at as *mut Driver;
+        let at = self.at as *mut Core;
         unsafe { at.read() }
     }
 }

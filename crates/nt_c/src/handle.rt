@@ -1,9 +1,11 @@
 //! What C keeps of a dispatcher.
+ghost use Rattle.nt_calls.specs.declared.call.Call.{Call};
+ghost use Rattle.nt_calls.specs.declared.call.WaitCall.{WaitCall};
 ghost use Rattle.nt_c.specs.Asks.{IsFit, Asked, TickAsked};
 
 use crate::cell::Cell;
 use nt_core::{Call, Reply};
-use nt_status::{Moment, Refusal};
+use nt_status::{Handle, Moment, Refusal};
 
 /// A handle in C's hands: a pointer to room for a dispatcher, and whether there is one.
 #[repr(C)]
@@ -24,7 +26,30 @@ impl Nt {
         if !self.live {
             return Err(Refusal::InvalidHandle);
         }
-        self.cell.driver_mut().core.call(who, call)
+        self.cell.core_mut().call(who, call)
+    }
+
+    /// Makes the wait of this thread for any of the objects that these handles name, or for all.
+    #[inline(always)]
+    pub(crate) fn wait(
+        &mut self,
+        who: u32,
+        these: &[Handle],
+        all: bool,
+        alertable: bool,
+        ms: u32,
+    ) -> Result<Reply, Refusal>
+        requires fit { IsFit self.old }
+        ensures fit { IsFit self.new }
+        ensures asked { Asked self.old.cell.core who (Call.Wait (WaitCall.Objects all alertable ms these.now))
+            result self.new.cell.core }
+    {
+        if !self.live {
+            return Err(Refusal::InvalidHandle);
+        }
+        self.cell
+            .core_mut()
+            .wait_objects(who, these, all, alertable, ms)
     }
 
     /// Lets the moments up to `m` pass.
@@ -36,6 +61,6 @@ impl Nt {
         if !self.live {
             return Err(Refusal::InvalidHandle);
         }
-        self.cell.driver_mut().core.tick(m)
+        self.cell.core_mut().tick(m)
     }
 }

@@ -5,8 +5,7 @@
 
 mod apcs;
 mod cell;
-mod driver;
-mod driver_mut;
+mod core_mut;
 mod events;
 mod grants;
 mod handle;

@@ -1,20 +1,20 @@
 //! Dispatchers come and go.
 ghost use Rattle.std.specs.Prelude.{◌≡◌, None};
 ghost use Rattle.std.specs.Mem.{type_size};
-ghost use Rattle.nt_c.specs.contracts.driver.Driver.{the_row as driver_row};
+ghost use Rattle.nt_core.specs.contracts.dispatcher.Core.{the_row as core_row};
 ghost use Rattle.nt_c.specs.Asks.{IsFit, Keeps, Opens, Copies};
 
-use crate::driver::Driver;
 use crate::handle::Nt;
 use crate::numbers::{INVALID_PARAMETER, NO_DISPATCHER};
+use nt_core::Core;
 use std::alloc::Global;
 
 /// How many bytes of room a dispatcher takes, at an alignment of 16.
 #[unsafe(no_mangle)]
 pub extern "C" fn nt_room() -> usize
-    ensures { result ≡ type_size driver_row }
+    ensures { result ≡ type_size core_row }
 {
-    size_of::<Driver>()
+    size_of::<Core>()
 }
 
 /// Opens a dispatcher for this many threads, which run and wait for nothing, where the handle has none.
@@ -29,9 +29,9 @@ pub extern "C" fn nt_open(alloc: Global, nt: &mut Nt, threads: u32) -> u32
     if nt.live {
         return INVALID_PARAMETER;
     }
-    match Driver::new(alloc, threads) {
-        Ok(driver) => {
-            nt.cell.put(driver);
+    match Core::new(alloc, threads) {
+        Ok(core) => {
+            nt.cell.put(core);
             nt.live = true;
             0
         }
@@ -43,7 +43,7 @@ pub extern "C" fn nt_open(alloc: Global, nt: &mut Nt, threads: u32) -> u32
 ///
 /// Refused with 6 where there is none to copy, with 87 where the other handle has one, and with 8 where memory is refused.
 #[unsafe(no_mangle)]
-pub extern "C" fn nt_copy(alloc: Global, nt: &mut Nt, to: &mut Nt) -> u32
+pub extern "C" fn nt_copy(nt: &mut Nt, to: &mut Nt) -> u32
     requires fit { IsFit nt.old }
     requires to_fit { IsFit to.old }
     ensures fit { IsFit nt.new }
@@ -57,9 +57,9 @@ pub extern "C" fn nt_copy(alloc: Global, nt: &mut Nt, to: &mut Nt) -> u32
     if to.live {
         return INVALID_PARAMETER;
     }
-    match nt.cell.driver_mut().copy(alloc) {
-        Ok(driver) => {
-            to.cell.put(driver);
+    match nt.cell.core_mut().copy() {
+        Ok(core) => {
+            to.cell.put(core);
             to.live = true;
             0
         }

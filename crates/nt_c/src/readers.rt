@@ -36,7 +36,7 @@ pub extern "C" fn nt_now(nt: &mut Nt, out: &mut u64) -> u32
     if !nt.live {
         return NO_DISPATCHER;
     }
-    *out = nt.cell.driver_mut().core.now().get();
+    *out = nt.cell.core_mut().now().get();
     0
 }
 
@@ -56,7 +56,7 @@ pub extern "C" fn nt_due(nt: &mut Nt, m: u64, out: &mut u64) -> u32
     if !nt.live {
         return NO_DISPATCHER;
     }
-    let Some(moment) = nt.cell.driver_mut().core.due(up_to) else {
+    let Some(moment) = nt.cell.core_mut().due(up_to) else {
         return NO_MORE;
     };
     *out = moment.get();
@@ -74,7 +74,7 @@ pub extern "C" fn nt_threads(nt: &mut Nt, out: &mut u32) -> u32
     if !nt.live {
         return NO_DISPATCHER;
     }
-    *out = nt.cell.driver_mut().core.threads();
+    *out = nt.cell.core_mut().threads();
     0
 }
 
@@ -89,7 +89,7 @@ pub extern "C" fn nt_pending(nt: &mut Nt, out: &mut usize) -> u32
     if !nt.live {
         return NO_DISPATCHER;
     }
-    *out = nt.cell.driver_mut().core.pending();
+    *out = nt.cell.core_mut().pending();
     0
 }
 
@@ -104,7 +104,7 @@ pub extern "C" fn nt_tested(nt: &mut Nt, out: &mut u64) -> u32
     if !nt.live {
         return NO_DISPATCHER;
     }
-    *out = nt.cell.driver_mut().core.tested();
+    *out = nt.cell.core_mut().tested();
     0
 }
 
@@ -121,7 +121,7 @@ pub extern "C" fn nt_is_waiting(nt: &mut Nt, thread: u32, out: &mut bool) -> u32
     if !nt.live {
         return NO_DISPATCHER;
     }
-    let core = &nt.cell.driver_mut().core;
+    let core = nt.cell.core_mut();
     if core.threads() <= thread {
         return UNKNOWN_THREAD;
     }

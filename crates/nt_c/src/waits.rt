@@ -1,14 +1,32 @@
 //! Waits.
-ghost use Rattle.std.specs.Prelude.{◌∷◌, [], false};
+ghost use Rattle.std.specs.Prelude.{◌≡◌, ◌<◌, ◌≤◌, ◌∷◌, [], length, false};
 ghost use Rattle.nt_calls.specs.declared.call.WaitCall.{WaitCall};
-ghost use Rattle.nt_c.specs.Asks.{IsFit, WaitsWith, WaitsForObjects};
+ghost use Rattle.nt_c.specs.Asks.{IsFit, WaitsWith};
 
 use crate::handle::Nt;
-use crate::numbers::NO_DISPATCHER;
 use crate::reply::{NtReply, tell};
+use arrayvec::ArrayVec;
 use nt_core::{Call, WaitCall};
-use nt_status::{Handle, Handles};
-use std::alloc::Global;
+use nt_status::{Handle, MAX_WAIT_OBJECTS};
+
+/// The handles that a wait names, at most as many as it may name. They lie in the value itself.
+type WaitedHandles = ArrayVec<Handle, MAX_WAIT_OBJECTS>;
+
+/// The handles with these numbers, in this order; none where they are more than a wait may name, since a wait for none is refused as
+/// such a wait is.
+#[inline(always)]
+fn handles_of(numbers: &[u32]) -> WaitedHandles
+    ensures few { length numbers.now ≤ MAX_WAIT_OBJECTS → result.items ≡ numbers.now }
+    ensures many { MAX_WAIT_OBJECTS < length numbers.now → result.items ≡ [] }
+{
+    let mut handles = WaitedHandles::new();
+    if numbers.len() <= MAX_WAIT_OBJECTS {
+        for number in numbers {
+            handles.push(Handle::new(*number));
+        }
+    }
+    handles
+}
 
 /// WaitForMultipleObjectsEx: for any of the objects, or for all. The timeout is in milliseconds, 0xFFFFFFFF for INFINITE.
 #[unsafe(no_mangle)]
@@ -23,20 +41,16 @@ pub extern "C" fn nt_wait_objects(
 ) -> u32
     requires fit { IsFit nt.old }
     ensures fit { IsFit nt.new }
-    ensures answers { WaitsForObjects nt.old who
+    ensures answers { WaitsWith nt.old who
         (WaitCall.Objects all alertable ms handles.now) result out.old out.new nt.new }
 {
-    if !nt.live {
-        return NO_DISPATCHER;
-    }
-    let driver = nt.cell.driver_mut();
-    tell(driver.wait_objects(who, handles, all, alertable, ms), out)
+    let these = handles_of(handles);
+    tell(nt.wait(who, these.as_slice(), all, alertable, ms), out)
 }
 
 /// WaitForSingleObjectEx. The timeout is in milliseconds, 0xFFFFFFFF for INFINITE.
 #[unsafe(no_mangle)]
 pub extern "C" fn nt_wait_object(
-    alloc: Global,
     nt: &mut Nt,
     who: u32,
     handle: u32,
@@ -46,16 +60,11 @@ pub extern "C" fn nt_wait_object(
 ) -> u32
     requires fit { IsFit nt.old }
     ensures fit { IsFit nt.new }
-    ensures answers { WaitsForObjects nt.old who
+    ensures answers { WaitsWith nt.old who
         (WaitCall.Objects false alertable ms (handle ∷ [])) result out.old out.new nt.new }
 {
-    let wait = WaitCall::Objects {
-        handles: Handles::from_one(alloc, Handle::new(handle)),
-        all: false,
-        ms,
-        alertable,
-    };
-    tell(nt.ask(who, &Call::Wait(wait)), out)
+    let these = [Handle::new(handle)];
+    tell(nt.wait(who, &these, false, alertable, ms), out)
 }
 
 /// SleepEx. The interval is in milliseconds, 0xFFFFFFFF for INFINITE.

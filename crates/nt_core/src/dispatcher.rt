@@ -5,6 +5,7 @@ ghost use Rattle.nt_status.specs.declared.refusal.Refusal.TheVariants.{InvalidPa
 ghost use Rattle.nt_calls.specs.State.{opening, pends};
 ghost use Rattle.nt_calls.specs.Naming.{call_named};
 ghost use Rattle.nt_calls.specs.Steps.{Called, Ticked};
+ghost use Rattle.nt_calls.specs.declared.call.WaitCall.{WaitCall};
 ghost use Rattle.nt_core.specs.Dispatcher.{state};
 ghost use Rattle.nt_calls.specs.Living.{living};
 ghost use Rattle.nt_core.specs.Lawful.{IsLawful};
@@ -13,7 +14,7 @@ ghost use Rattle.nt_calls.specs.Moves.{Moves, IsMomentAfter, pended, is_wait};
 
 use crate::machine::Machine;
 use nt_calls::{Call, Grant, Reply, count_living};
-use nt_status::{MAX_THREADS, Moment, Refusal};
+use nt_status::{Handle, MAX_THREADS, Moment, Refusal};
 use nt_waits::Reader;
 use std::alloc::Global;
 use std::marker::Model;
@@ -78,6 +79,34 @@ impl Core {
         ensures untested { OnErr result (self.new.table.looked ≡ 0) }
     {
         let result = self.machine.call(who, call);
+        let machine = &self.machine;
+        machine.objects.agree();
+        result
+    }
+
+    /// The call `WaitCall::Objects` of this thread, for a caller whose handles stand in a slice: it takes no list of them.
+    /// The timeout is in milliseconds, and has no end at 0xFFFFFFFF.
+    pub fn wait_objects(
+        &mut self,
+        who: u32,
+        handles: &[Handle],
+        all: bool,
+        alertable: bool,
+        ms: u32,
+    ) -> Result<Reply, Refusal>
+        ensures called { Called (state self.old) who (Call.Wait (WaitCall.Objects all alertable ms handles.now))
+            result self.new.grants (state self.new) }
+        ensures lawful { IsLawful self.new }
+        ensures local { OnOk result (IsLocal (state self.old) who
+            (call_named self.old.handles (Call.Wait (WaitCall.Objects all alertable ms handles.now)))
+            self.new.table.looked self.new.grants) }
+        ensures most { length self.new.grants ≤ map.len (state self.old).waits }
+        ensures few { length self.new.grants + map.len (state self.new).waits ≤ map.len (state self.old).waits + 1 }
+        ensures moves { Moves (state self.old) who (pended result) self.new.grants (state self.new) }
+        ensures moment { (state self.new).now ≡ (state self.old).now }
+        ensures untested { OnErr result (self.new.table.looked ≡ 0) }
+    {
+        let result = self.machine.wait_objects(who, handles, all, alertable, ms);
         let machine = &self.machine;
         machine.objects.agree();
         result

@@ -1,5 +1,5 @@
 //! How a thread's own wait begins.
-ghost use Rattle.std.specs.Prelude.{ℕ, ◌≡◌, ◌≢◌, ◌&&◌, ◌<◌, [], None, false, OnErr, IfOk, IfErr, is_some, IfSome, IfNone, IsTrue, length, slice_set};
+ghost use Rattle.std.specs.Prelude.{ℕ, ◌≡◌, ◌≢◌, ◌&&◌, ◌<◌, [], None, false, OnOk, OnErr, IfOk, IfErr, is_some, IfSome, IfNone, IsTrue, length, slice_set};
 ghost use Rattle.std.specs.Option.{OnSome};
 ghost use Rattle.nt_status.specs.declared.refusal.Refusal.TheVariants.{Memory};
 ghost use Rattle.std.specs.List.{Contains};
@@ -8,11 +8,15 @@ ghost use Rattle.nt_apc.specs.Queues.{has_apc};
 ghost use Rattle.nt_calls.specs.State.{object_at};
 ghost use Rattle.nt_core.specs.Dispatcher.{state};
 ghost use Rattle.nt_calls.specs.Serving.{late_status, wait_for, fits, status, taken_by};
+ghost use Rattle.nt_calls.specs.Living.{LivesWhileKept};
+ghost use Rattle.nt_calls.specs.Naming.{call_named};
+ghost use Rattle.nt_calls.specs.Rights.{is_denied};
+ghost use Rattle.nt_calls.specs.Steps.{Made, Called};
 ghost use Rattle.nt_calls.specs.declared.call.Call.{Call};
 ghost use Rattle.nt_calls.specs.declared.call.WaitCall.{WaitCall};
 ghost use Rattle.nt_core.specs.Lawful.{IsSound, IsSteady};
 ghost use Rattle.nt_calls.specs.declared.call.Reply.{Reply};
-ghost use Rattle.nt_core.specs.Accepts.{IsFresh, IsFree, HasBegun, reply_of, replied, begins_pending, objects_call, IsMade, IsWaitMade, CanBegin};
+ghost use Rattle.nt_core.specs.Accepts.{IsFresh, IsFree, HasBegun, reply_of, replied, begins_pending, objects_call, IsLocal, IsMade, IsWaitMade, CanBegin};
 
 use crate::machine::{Answer, Machine};
 use nt_calls::{
@@ -239,5 +243,51 @@ impl Machine {
                 alertable,
             } => self.signal_and_wait(thread, *signal, *object, Mode::new(false, *ms, *alertable)),
         }
+    }
+
+    /// Makes this thread's wait for the objects that these handles name, or refuses it, and ends no object.
+    #[inline(always)]
+    fn make_wait(&mut self, who: u32, these: &[Handle], mode: Mode) -> Answer
+        requires steady { IsSteady self.old }
+        ensures made { Made (state self.old) who (is_denied (state self.old) (Call.Wait (objects_call mode these.now)))
+            (call_named self.old.handles (Call.Wait (objects_call mode these.now)))
+            result self.new.grants (state self.new) }
+        ensures steady { IsSteady self.new }
+        ensures local { OnOk result (IsLocal (state self.old) who
+            (call_named self.old.handles (Call.Wait (objects_call mode these.now)))
+            self.new.table.looked self.new.grants) }
+        ensures untested { OnErr result (self.new.table.looked ≡ 0) }
+    {
+        self.tell_anew();
+        if let Some(refusal) = self.caller_refusal(who) {
+            return Err(refusal);
+        }
+        self.wait_for_objects(ThreadId::new(who as u16), these, mode)
+    }
+
+    /// `call` of this thread's wait for the objects that these handles name.
+    #[inline(always)]
+    pub fn wait_objects(
+        &mut self,
+        who: u32,
+        these: &[Handle],
+        all: bool,
+        alertable: bool,
+        ms: u32,
+    ) -> Answer
+        requires steady { IsSteady self.old }
+        requires living { LivesWhileKept (state self.old) }
+        ensures called { Called (state self.old) who (Call.Wait (WaitCall.Objects all alertable ms these.now))
+            result self.new.grants (state self.new) }
+        ensures steady { IsSteady self.new }
+        ensures living { LivesWhileKept (state self.new) }
+        ensures local { OnOk result (IsLocal (state self.old) who
+            (call_named self.old.handles (Call.Wait (WaitCall.Objects all alertable ms these.now)))
+            self.new.table.looked self.new.grants) }
+        ensures untested { OnErr result (self.new.table.looked ≡ 0) }
+    {
+        let reply = self.make_wait(who, these, Mode { all, alertable, ms })?;
+        self.end_forgotten();
+        Ok(reply)
     }
 }

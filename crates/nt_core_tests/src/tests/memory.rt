@@ -1,7 +1,7 @@
 //! Second tries where a growth is refused, each told.
 use crate::tests::calls::{answer_of, call_of};
 use crate::tests::script::{Answer, Ask};
-use nt_core::{Call, Core};
+use nt_core::{Call, Core, Reply, WaitCall};
 use nt_status::Refusal;
 use std::alloc::AllocError;
 use std::env::Env;
@@ -78,6 +78,21 @@ fn call_at_last(rt: &impl Host, core: &mut Core, who: u32, call: &Call) -> Answe
     answer_of(core.call(who, call))
 }
 
+/// Makes the call, and hands the handles of a wait for objects over as a slice.
+fn call_by_slice(core: &mut Core, who: u32, call: &Call) -> Result<Reply, Refusal> {
+    match call {
+        Call::Wait(
+            WaitCall::Objects {
+                handles,
+                all,
+                ms,
+                alertable,
+            },
+        ) => core.wait_objects(who, handles.as_slice(), *all, *alertable, *ms),
+        _ => core.call(who, call),
+    }
+}
+
 /// The call that asks for this of these objects, with a second try where memory is refused.
 fn call_of_at_last(rt: &impl Host, ask: Ask, objects: &[u32]) -> Result<Call, AllocError> {
     match call_of(rt.alloc(), ask, objects) {
@@ -95,6 +110,25 @@ pub fn answer_to(rt: &impl Host, core: &mut Core, who: u32, ask: Ask, objects: &
         Ok(call) => call_at_last(rt, core, who, &call),
         Err(_) => Answer::NotAsked,
     }
+}
+
+/// The same, with the handles of a wait for objects as a slice.
+pub fn answer_by_slice(
+    rt: &impl Host,
+    core: &mut Core,
+    who: u32,
+    ask: Ask,
+    objects: &[u32],
+) -> Answer {
+    let Ok(call) = call_of_at_last(rt, ask, objects) else {
+        return Answer::NotAsked;
+    };
+    let answer = answer_of(call_by_slice(core, who, &call));
+    if answer != Answer::Error(NOT_ENOUGH_MEMORY) {
+        return answer;
+    }
+    tell_refused(rt, "a call");
+    answer_of(call_by_slice(core, who, &call))
 }
 
 /// Asks for this of these objects once: whichever growth is refused, the call is answered, since it takes no memory.

@@ -1,7 +1,7 @@
 //! The walk over the steps of a scenario. A step that fails is told with what the scenario shows, and with its number, from 1.
 use crate::tests::calls::{answer_of, are_ended};
 use crate::tests::memory::{
-    Host, answer_at_once, answer_to, copy_at_last, is_refusing, let_go, open,
+    Host, answer_at_once, answer_by_slice, answer_to, copy_at_last, is_refusing, let_go, open,
 };
 use crate::tests::script::{Answer, Ask, Ended, Scenario, Step};
 use nt_core::Core;
@@ -103,6 +103,9 @@ fn answered(
     match step {
         Step::Call(who, ask, objects, answer, ended) => {
             Some((answer_to(rt, core, who, ask, objects), answer, ended))
+        }
+        Step::Slice(who, ask, objects, answer, ended) => {
+            Some((answer_by_slice(rt, core, who, ask, objects), answer, ended))
         }
         Step::NoGrowth(who, ask, objects, answer, ended) => {
             Some((answer_at_once(rt, core, who, ask, objects), answer, ended))

@@ -112,7 +112,9 @@ pub type Ended = (u16, u32);
 pub enum Step {
     /// The caller, what it asks, of which objects, what it is answered, and the waits that end, in their order.
     Call(u32, Ask, &'static [u32], Answer, &'static [Ended]),
-    /// The same for a call that takes no memory: whichever growth is refused, it is answered at once.
+    /// The same, and the handles of a wait for objects are handed over as a slice.
+    Slice(u32, Ask, &'static [u32], Answer, &'static [Ended]),
+    /// The same as `Call` for a call that takes no memory: whichever growth is refused, it is answered at once.
     NoGrowth(u32, Ask, &'static [u32], Answer, &'static [Ended]),
     /// This thread creates events, with the handles from the first of these to the last.
     CreateEvents(u32, u32, u32),

@@ -1,9 +1,12 @@
 //! How waits begin and end: for any object or for all, with a timeout or without.
 use crate::tests::play::play_all;
 use crate::tests::script::Answer::{Done, Handle, Pended, Status};
-use crate::tests::script::Ask::{All, Any, Event, Set, Sleep};
-use crate::tests::script::Step::{Call, Waiting};
-use crate::tests::script::{INFINITE, INVALID_HANDLE, INVALID_PARAMETER, Scenario, TIMEOUT};
+use crate::tests::script::Ask::{AlertableAny, All, Any, Apc, Event, Set, Sleep};
+use crate::tests::script::Step::{Call, Slice, Waiting};
+use crate::tests::script::{
+    INFINITE, INVALID_HANDLE, INVALID_PARAMETER, IO_COMPLETION, Scenario, THREAD_WAITING, TIMEOUT,
+    UNKNOWN_THREAD,
+};
 use std::test::Fail;
 
 /// All handles of 65 threads.
@@ -112,6 +115,28 @@ const SCENARIOS: &[Scenario] = &[
             Call(0, Any(INFINITE), &[1, u32::MAX], INVALID_HANDLE, &[]),
             Call(1, All(INFINITE), NUMBERS_1_TO_64, Pended, &[]),
             Waiting(&[1]),
+        ],
+    },
+    Scenario {
+        shows: "the handles of a wait may stand in a slice",
+        threads: 3,
+        steps: &[
+            Slice(0, Any(0), &[], INVALID_PARAMETER, &[]),
+            Slice(0, Any(0), &[3], INVALID_HANDLE, &[]),
+            Slice(0, Any(0), NUMBERS_0_TO_64, INVALID_PARAMETER, &[]),
+            Slice(3, Any(0), &[0], UNKNOWN_THREAD, &[]),
+            Call(2, Event(0), &[], Handle(3), &[]),
+            Call(2, Event(0), &[], Handle(4), &[]),
+            Slice(0, Any(INFINITE), &[4, 3], Pended, &[]),
+            Slice(0, Any(0), &[4], THREAD_WAITING, &[]),
+            Slice(1, All(INFINITE), &[3, 4], Pended, &[]),
+            Call(2, Set, &[3], Done, &[(0, 1)]),
+            Call(2, Set, &[3], Done, &[]),
+            Call(2, Set, &[4], Done, &[(1, 0)]),
+            Slice(2, Any(0), &[3], Status(TIMEOUT), &[]),
+            Slice(0, AlertableAny(INFINITE), &[3], Pended, &[]),
+            Call(2, Apc(1, 2), &[0], Done, &[(0, IO_COMPLETION)]),
+            Waiting(&[]),
         ],
     },
 ];

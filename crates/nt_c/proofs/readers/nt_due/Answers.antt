@@ -27,12 +27,12 @@ told nt core m up_to number before after held same known tells =
 
 pub returns-in_default-due-clause-reads : goal.returns-in_default-due-clause-reads
 returns-in_default-due-clause-reads c =
-    told c.args.nt.now c.due.inside.core c.args.m c.in-Some.up_to 259 c.args.out.now c.args.out.now (c.driver_mut.ensures.value ∙ ap Some (sym c.due.view_is)) c.in-Some.ensures.value
+    told c.args.nt.now c.core_mut.result.now c.args.m c.in-Some.up_to 259 c.args.out.now c.args.out.now c.core_mut.ensures.value c.in-Some.ensures.value
     (c.in-Some.ensures.valid.0 refl)
     (inr ((refl, refl), c.in_default-due.ensures))
 
 pub returns-clause-reads : goal.returns-clause-reads
 returns-clause-reads c =
-    told c.args.nt.now c.due.inside.core c.args.m c.in-Some.up_to 0 c.args.out.now c.get.result (c.driver_mut.ensures.value ∙ ap Some (sym c.due.view_is)) c.in-Some.ensures.value
+    told c.args.nt.now c.core_mut.result.now c.args.m c.in-Some.up_to 0 c.args.out.now c.get.result c.core_mut.ensures.value c.in-Some.ensures.value
     (c.in-Some.ensures.valid.0 refl)
-    (inl (refl, subst (λ (n : ℕ). IsNextMoment (state c.due.inside.core) c.in-Some.up_to n) (sym c.get.ensures.value) c.in-Some-due.ensures))
+    (inl (refl, subst (λ (n : ℕ). IsNextMoment (state c.core_mut.result.now) c.in-Some.up_to n) (sym c.get.ensures.value) c.in-Some-due.ensures))
