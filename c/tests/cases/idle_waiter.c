@@ -27,17 +27,23 @@ static DWORD is_idle(LPVOID unused)
     return 0;
 }
 
-/* By how many ms a sleep of 10 ms ends late, at the latest. */
-static double latest_of(void (*sleeps)(void))
+static int compare(const void *one, const void *other)
 {
-    double latest = 0;
+    const double a = *(const double *)one, b = *(const double *)other;
+    return (a > b) - (a < b);
+}
+
+/* By how many ms a sleep of 10 ms ends late, mostly. */
+static double median_of(void (*sleeps)(void))
+{
+    double late[TIMES];
     for (int i = 0; i < TIMES; i++) {
         const double began = now_ms();
         sleeps();
-        const double late = now_ms() - began - 10;
-        latest = late > latest ? late : latest;
+        late[i] = now_ms() - began - 10;
     }
-    return latest;
+    qsort(late, TIMES, sizeof *late, compare);
+    return late[TIMES / 2];
 }
 
 static void sleep_by_system(void)
@@ -58,10 +64,10 @@ int main(void)
     HANDLE idle = CreateThread(NULL, 0, is_idle, NULL, 0, NULL);
     rest_ms(50);
     must(pthread_create(&busy, NULL, is_busy, NULL) == 0);
-    const double by_system = latest_of(sleep_by_system), by_wait = latest_of(sleep_by_wait);
+    const double by_system = median_of(sleep_by_system), by_wait = median_of(sleep_by_wait);
     raise_flag(&stops);
     IS(pthread_join(busy, NULL), 0);
     WaitForSingleObject(idle, INFINITE);
-    IS(by_wait < by_system * 3 + 100, 1);
+    IS(by_wait < by_system * 3 + 50, 1);
     return counted();
 }
