@@ -58,6 +58,14 @@
 
 #include "win32/system.c"
 
+#include "win32/pool.c"
+
+#include "win32/pool_calls.c"
+
+#include "win32/watch.c"
+
+#include "win32/timers.c"
+
 #include "win32/messages.c"
 
 #include "win32/modules.c"

@@ -7,6 +7,8 @@
 #include "processthreadsapi.h"
 #include "synchapi.h"
 #include "sysinfoapi.h"
+#include "threadpoolapiset.h"
+#include "threadpoollegacyapiset.h"
 #include "winerror.h"
 
 #include <stdarg.h>

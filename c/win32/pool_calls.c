@@ -1,0 +1,274 @@
+/* ---- The pool's calls: pools, environments, work and cleanup groups. */
+
+struct _TP_CLEANUP_GROUP {
+    struct task *first;
+};
+
+static void leave_group(struct task *task)
+{
+    if (task->group == NULL)
+        return;
+    if (task->earlier != NULL)
+        task->earlier->later = task->later;
+    else
+        task->group->first = task->later;
+    if (task->later != NULL)
+        task->later->earlier = task->earlier;
+    task->group = NULL;
+}
+
+/* Readies a task for this environment; null is the usual one. */
+static void open_task(struct task *task, PVOID context, PTP_CALLBACK_ENVIRON environment)
+{
+    PTP_CLEANUP_GROUP group = environment != NULL ? environment->CleanupGroup : NULL;
+    task->context = context;
+    task->pool = environment != NULL && environment->Pool != NULL ? environment->Pool : &usual_pool;
+    take_latch(&pools_latch);
+    task->pool->tasks++;
+    task->group = group;
+    if (group != NULL) {
+        task->cancel = environment->CleanupGroupCancelCallback;
+        task->later = group->first;
+        if (task->later != NULL)
+            task->later->earlier = task;
+        group->first = task;
+    }
+    give_latch(&pools_latch);
+}
+
+PTP_POOL CreateThreadpool(PVOID reserved)
+{
+    PTP_POOL pool = reserved == NULL ? calloc(1, sizeof *pool) : NULL;
+    if (pool == NULL) {
+        fail(reserved != NULL ? ERROR_INVALID_PARAMETER : ERROR_NOT_ENOUGH_MEMORY);
+        return NULL;
+    }
+    pool->most = USUAL_MAXIMUM;
+    return pool;
+}
+
+void SetThreadpoolThreadMaximum(PTP_POOL pool, DWORD most)
+{
+    take_latch(&pools_latch);
+    pool->most = most > 0 ? most : 1;
+    give_latch(&pools_latch);
+}
+
+BOOL SetThreadpoolThreadMinimum(PTP_POOL pool, DWORD least)
+{
+    take_latch(&pools_latch);
+    pool->least = least;
+    give_latch(&pools_latch);
+    return TRUE;
+}
+
+void CloseThreadpool(PTP_POOL pool)
+{
+    take_latch(&pools_latch);
+    pool->is_closed = true;
+    atomic_fetch_add_explicit(&pool->calls, 1, memory_order_relaxed);
+    const bool ends = is_over(pool), is_empty = pool->tasks == 0;
+    give_latch(&pools_latch);
+    if (ends)
+        free(pool);
+    else if (is_empty)
+        WakeByAddressAll((PVOID)&pool->calls);
+}
+
+void InitializeThreadpoolEnvironment(PTP_CALLBACK_ENVIRON environment)
+{
+    *environment = (TP_CALLBACK_ENVIRON){ .Version = 3, .CallbackPriority = 1, .Size = sizeof *environment };
+}
+
+void DestroyThreadpoolEnvironment(PTP_CALLBACK_ENVIRON environment)
+{
+    (void)environment;
+}
+
+void SetThreadpoolCallbackPool(PTP_CALLBACK_ENVIRON environment, PTP_POOL pool)
+{
+    environment->Pool = pool;
+}
+
+void SetThreadpoolCallbackCleanupGroup(PTP_CALLBACK_ENVIRON environment, PTP_CLEANUP_GROUP group, PTP_CLEANUP_GROUP_CANCEL_CALLBACK cancel)
+{
+    environment->CleanupGroup = group;
+    environment->CleanupGroupCancelCallback = cancel;
+}
+
+void SetThreadpoolCallbackRunsLong(PTP_CALLBACK_ENVIRON environment)
+{
+    environment->Flags |= 1;
+}
+
+/* ---- Work. */
+
+struct _TP_WORK {
+    struct task task;
+    PTP_WORK_CALLBACK callback;
+};
+
+/* One callback, which frees what it is made of. */
+struct simple {
+    struct task task;
+    PTP_SIMPLE_CALLBACK callback;
+    LPTHREAD_START_ROUTINE function;
+};
+
+static void free_task(struct task *task)
+{
+    free(task);
+}
+
+static void call_work(struct task *task, PTP_CALLBACK_INSTANCE instance, uint32_t outcome)
+{
+    PTP_WORK work = (PTP_WORK)(void *)task;
+    (void)outcome;
+    work->callback(instance, task->context, work);
+}
+
+static void call_simple(struct task *task, PTP_CALLBACK_INSTANCE instance, uint32_t outcome)
+{
+    struct simple *simple = (struct simple *)(void *)task;
+    (void)outcome;
+    if (simple->callback != NULL)
+        simple->callback(instance, task->context);
+    else
+        simple->function(task->context);
+}
+
+PTP_WORK CreateThreadpoolWork(PTP_WORK_CALLBACK callback, PVOID context, PTP_CALLBACK_ENVIRON environment)
+{
+    PTP_WORK work = callback != NULL ? calloc(1, sizeof *work) : NULL;
+    if (work == NULL) {
+        fail(callback == NULL ? ERROR_INVALID_PARAMETER : ERROR_NOT_ENOUGH_MEMORY);
+        return NULL;
+    }
+    work->task.call = call_work;
+    work->task.end = free_task;
+    work->callback = callback;
+    open_task(&work->task, context, environment);
+    return work;
+}
+
+void SubmitThreadpoolWork(PTP_WORK work)
+{
+    submit(&work->task, SIGNALED);
+}
+
+void WaitForThreadpoolWorkCallbacks(PTP_WORK work, BOOL cancels)
+{
+    wait_for_task(&work->task, cancels != FALSE);
+}
+
+void CloseThreadpoolWork(PTP_WORK work)
+{
+    close_task(&work->task, NULL);
+}
+
+/* Submits one callback; FALSE where memory or the first thread is refused. */
+static BOOL submit_simple(struct simple what, PVOID context, PTP_CALLBACK_ENVIRON environment)
+{
+    struct simple *simple = malloc(sizeof *simple);
+    if (simple == NULL)
+        return fail(ERROR_NOT_ENOUGH_MEMORY);
+    *simple = what;
+    simple->task.call = call_simple;
+    simple->task.end = free_task;
+    open_task(&simple->task, context, environment);
+    simple->task.is_closed = true;
+    return submit(&simple->task, SIGNALED);
+}
+
+BOOL TrySubmitThreadpoolCallback(PTP_SIMPLE_CALLBACK callback, PVOID context, PTP_CALLBACK_ENVIRON environment)
+{
+    if (callback == NULL)
+        return fail(ERROR_INVALID_PARAMETER);
+    return submit_simple((struct simple){ .callback = callback }, context, environment);
+}
+
+BOOL QueueUserWorkItem(LPTHREAD_START_ROUTINE function, PVOID context, ULONG flags)
+{
+    (void)flags;
+    if (function == NULL)
+        return fail(ERROR_INVALID_PARAMETER);
+    return submit_simple((struct simple){ .function = function }, context, NULL);
+}
+
+/* ---- Cleanup groups. */
+
+PTP_CLEANUP_GROUP CreateThreadpoolCleanupGroup(void)
+{
+    PTP_CLEANUP_GROUP group = calloc(1, sizeof *group);
+    if (group == NULL)
+        fail(ERROR_NOT_ENOUGH_MEMORY);
+    return group;
+}
+
+void CloseThreadpoolCleanupGroupMembers(PTP_CLEANUP_GROUP group, BOOL cancels, PVOID context)
+{
+    for (;;) {
+        take_latch(&pools_latch);
+        struct task *task = group->first;
+        if (task != NULL)
+            leave_group(task);
+        /* (One that would be gone by itself is kept until it is closed here.) */
+        if (task != NULL)
+            task->is_closed = false;
+        give_latch(&pools_latch);
+        if (task == NULL)
+            return;
+        if (task->stop != NULL)
+            task->stop(task);
+        if (wait_for_task(task, cancels != FALSE) > 0 && task->cancel != NULL)
+            task->cancel(task->context, context);
+        close_task(task, NULL);
+    }
+}
+
+void CloseThreadpoolCleanupGroup(PTP_CLEANUP_GROUP group)
+{
+    free(group);
+}
+
+/* ---- What a callback asks for. */
+
+void SetEventWhenCallbackReturns(PTP_CALLBACK_INSTANCE instance, HANDLE event)
+{
+    instance->event = event;
+}
+
+void ReleaseSemaphoreWhenCallbackReturns(PTP_CALLBACK_INSTANCE instance, HANDLE semaphore, DWORD count)
+{
+    instance->semaphore = semaphore;
+    instance->count = count;
+}
+
+void ReleaseMutexWhenCallbackReturns(PTP_CALLBACK_INSTANCE instance, HANDLE mutex)
+{
+    instance->mutex = mutex;
+}
+
+void LeaveCriticalSectionWhenCallbackReturns(PTP_CALLBACK_INSTANCE instance, PCRITICAL_SECTION section)
+{
+    instance->section = section;
+}
+
+BOOL CallbackMayRunLong(PTP_CALLBACK_INSTANCE instance)
+{
+    PTP_POOL pool = instance->pool;
+    take_latch(&pools_latch);
+    const bool is_room = pool->idle > 0 || pool->threads < pool->most;
+    give_latch(&pools_latch);
+    return is_room || fail(ERROR_TOO_MANY_THREADS);
+}
+
+void DisassociateCurrentThreadFromCallback(PTP_CALLBACK_INSTANCE instance)
+{
+    if (instance->is_apart)
+        return;
+    instance->is_apart = true;
+    take_latch(&pools_latch);
+    instance->task->running--;
+    settle_task(instance->task);
+}

@@ -1,0 +1,250 @@
+/* ---- Objects that are waited for on behalf of callbacks: each by a thread of a pool of its own. */
+
+/* A wait for an object. It is a task of the pool of those that watch, and gone once it has ended. */
+struct watch {
+    struct task task;
+    struct task *told;     /* whose callbacks come of it */
+    HANDLE object;
+    DWORD ms;
+    uint64_t moment;       /* to which it waits at the longest, or NEVER */
+    bool is_once, in_thread;
+    bool is_stopped;       /* `told` is not touched any more */
+    HANDLE watcher;        /* the thread that waits; null before and after */
+};
+
+static void CALLBACK look_again(ULONG_PTR none)
+{
+    (void)none;
+}
+
+/* The object is not waited for any longer. */
+static void stop_watch(struct task *told)
+{
+    take_latch(&pools_latch);
+    struct watch *watch = told->watch;
+    told->watch = NULL;
+    if (watch != NULL) {
+        watch->is_stopped = true;
+        if (watch->watcher != NULL)
+            QueueUserAPC(look_again, watch->watcher, 0);
+    }
+    give_latch(&pools_latch);
+}
+
+/* The wait has ended so: a callback is to come. Answers whether the object is waited for once more. */
+static bool tell_watched(struct watch *watch, uint32_t outcome)
+{
+    struct task *told = watch->told;
+    take_latch(&pools_latch);
+    if (watch->is_stopped) {
+        give_latch(&pools_latch);
+        return false;
+    }
+    const bool in_thread = watch->in_thread, goes_on = !watch->is_once;
+    PTP_POOL pool = told->pool;
+    if (!goes_on) {
+        told->watch = NULL;
+        watch->is_stopped = true;
+    }
+    if (in_thread)
+        told->running++;
+    else
+        put_callback(told, outcome);
+    give_latch(&pools_latch);
+    if (in_thread)
+        run_callback(told, outcome);
+    else
+        call_for_thread(pool);
+    return goes_on;
+}
+
+/* How long it has yet to wait, in ms. */
+static DWORD ms_to(uint64_t moment)
+{
+    const uint64_t now = monotonic(), grain = MOMENTS_PER_SECOND / 1000;
+    if (moment == NEVER)
+        return INFINITE;
+    const uint64_t left = moment > now ? (moment - now + grain - 1) / grain : 0;
+    return left < INFINITE ? (DWORD)left : INFINITE - 1;
+}
+
+/* Waits once. Answers whether it goes on. */
+static bool watch_once(struct watch *watch)
+{
+    const DWORD status = WaitForSingleObjectEx(watch->object, ms_to(watch->moment), TRUE);
+    take_latch(&pools_latch);
+    const bool is_stopped = watch->is_stopped;
+    give_latch(&pools_latch);
+    if (is_stopped || status == WAIT_FAILED)
+        return false;
+    if (status == WAIT_IO_COMPLETION || (status == WAIT_TIMEOUT && ms_to(watch->moment) > 0))
+        return true;
+    const bool goes_on = tell_watched(watch, status == WAIT_TIMEOUT ? TIMED_OUT : SIGNALED);
+    watch->moment = moment_after(watch->ms);
+    return goes_on;
+}
+
+static void watch_object(struct task *task, PTP_CALLBACK_INSTANCE instance, uint32_t outcome)
+{
+    struct watch *watch = (struct watch *)(void *)task;
+    (void)instance;
+    (void)outcome;
+    if (handle_of_thread == NULL)
+        DuplicateHandle(CURRENT_PROCESS, CURRENT_THREAD, CURRENT_PROCESS, &handle_of_thread, 0, FALSE, DUPLICATE_SAME_ACCESS);
+    take_latch(&pools_latch);
+    watch->watcher = handle_of_thread;
+    const bool is_stopped = watch->is_stopped || handle_of_thread == NULL;
+    give_latch(&pools_latch);
+    while (!is_stopped && watch_once(watch))
+        continue;
+    take_latch(&pools_latch);
+    watch->watcher = NULL;
+    if (!watch->is_stopped && watch->told->watch == watch)
+        watch->told->watch = NULL;
+    watch->is_stopped = true;
+    give_latch(&pools_latch);
+}
+
+/* Has an object waited for. Answers 0, or why not. */
+static uint32_t begin_watch(struct task *told, const struct watch *how)
+{
+    struct watch *watch = malloc(sizeof *watch);
+    if (watch == NULL)
+        return ERROR_NOT_ENOUGH_MEMORY;
+    *watch = *how;
+    watch->told = told;
+    watch->task = (struct task){ .call = watch_object, .end = free_task, .pool = &watching_pool, .is_closed = true };
+    take_latch(&pools_latch);
+    const bool is_room = watching_pool.tasks < WATCHES;
+    if (is_room) {
+        watching_pool.tasks++;
+        told->watch = watch;
+        put_callback(&watch->task, SIGNALED);
+    }
+    give_latch(&pools_latch);
+    if (!is_room) {
+        free(watch);
+        return ERROR_NO_SYSTEM_RESOURCES;
+    }
+    if (call_for_thread(&watching_pool))
+        return 0;
+    const uint32_t refused = own.last_error;
+    stop_watch(told);
+    return refused;
+}
+
+/* ---- Registered waits. */
+
+struct registered {
+    struct task task;
+    WAITORTIMERCALLBACK callback;
+};
+
+static void call_registered(struct task *task, PTP_CALLBACK_INSTANCE instance, uint32_t outcome)
+{
+    (void)instance;
+    ((struct registered *)(void *)task)->callback(task->context, outcome == TIMED_OUT);
+}
+
+/* Whether the handle names something to wait for: a list with it twice is refused then as such. */
+static bool is_waitable(HANDLE object)
+{
+    const DWORD error = own.last_error;
+    HANDLE twice[] = { object, object };
+    WaitForMultipleObjects(2, twice, FALSE, 0);
+    if (own.last_error != ERROR_INVALID_PARAMETER)
+        return false;
+    own.last_error = error;
+    return true;
+}
+
+BOOL RegisterWaitForSingleObject(PHANDLE wait, HANDLE object, WAITORTIMERCALLBACK callback, PVOID context, ULONG ms, ULONG flags)
+{
+    if (callback == NULL)
+        return fail(ERROR_INVALID_PARAMETER);
+    if (!is_waitable(object))
+        return FALSE;
+    struct registered *made = calloc(1, sizeof *made);
+    if (made == NULL)
+        return fail(ERROR_NOT_ENOUGH_MEMORY);
+    made->task.call = call_registered;
+    made->task.end = free_task;
+    made->task.stop = stop_watch;
+    made->callback = callback;
+    open_task(&made->task, context, NULL);
+    *wait = (HANDLE)made;
+    const uint32_t refused = begin_watch(&made->task, &(struct watch){ .object = object, .ms = ms, .moment = moment_after(ms),
+                                                                       .is_once = (flags & WT_EXECUTEONLYONCE) != 0,
+                                                                       .in_thread = (flags & WT_EXECUTEINWAITTHREAD) != 0 });
+    if (refused == 0)
+        return TRUE;
+    *wait = NULL;
+    close_task(&made->task, NULL);
+    return fail(refused);
+}
+
+BOOL UnregisterWaitEx(HANDLE wait, HANDLE event)
+{
+    if (wait == NULL || wait == INVALID_HANDLE_VALUE)
+        return fail(ERROR_INVALID_HANDLE);
+    return end_task(&((struct registered *)wait)->task, event);
+}
+
+BOOL UnregisterWait(HANDLE wait)
+{
+    return UnregisterWaitEx(wait, NULL);
+}
+
+/* ---- Waits of the thread pool. */
+
+struct _TP_WAIT {
+    struct task task;
+    PTP_WAIT_CALLBACK callback;
+};
+
+static void call_wait(struct task *task, PTP_CALLBACK_INSTANCE instance, uint32_t outcome)
+{
+    PTP_WAIT wait = (PTP_WAIT)(void *)task;
+    wait->callback(instance, task->context, wait, outcome == TIMED_OUT ? WAIT_TIMEOUT : WAIT_OBJECT_0);
+}
+
+PTP_WAIT CreateThreadpoolWait(PTP_WAIT_CALLBACK callback, PVOID context, PTP_CALLBACK_ENVIRON environment)
+{
+    PTP_WAIT wait = callback != NULL ? calloc(1, sizeof *wait) : NULL;
+    if (wait == NULL) {
+        fail(callback == NULL ? ERROR_INVALID_PARAMETER : ERROR_NOT_ENOUGH_MEMORY);
+        return NULL;
+    }
+    wait->task.call = call_wait;
+    wait->task.end = free_task;
+    wait->task.stop = stop_watch;
+    wait->callback = callback;
+    open_task(&wait->task, context, environment);
+    return wait;
+}
+
+/* The moment of the monotonic clock that such a time means: negative from now on, else in UTC. */
+static uint64_t moment_of_time(const FILETIME *time)
+{
+    const int64_t due = (int64_t)((uint64_t)time->dwHighDateTime << 32 | time->dwLowDateTime), now = (int64_t)monotonic();
+    const int64_t moment = due <= 0 ? now - due : now + (due - universal());
+    return moment > 0 ? (uint64_t)moment : 0;
+}
+
+void SetThreadpoolWait(PTP_WAIT wait, HANDLE object, PFILETIME timeout)
+{
+    stop_watch(&wait->task);
+    if (object != NULL)
+        begin_watch(&wait->task, &(struct watch){ .object = object, .ms = INFINITE, .is_once = true,
+                                                  .moment = timeout != NULL ? moment_of_time(timeout) : NEVER });
+}
+
+void WaitForThreadpoolWaitCallbacks(PTP_WAIT wait, BOOL cancels)
+{
+    wait_for_task(&wait->task, cancels != FALSE);
+}
+
+void CloseThreadpoolWait(PTP_WAIT wait)
+{
+    close_task(&wait->task, NULL);
+}
