@@ -10,12 +10,13 @@ use Rattle.nt_objects.specs.declared.object.Object.TheVariants.{Event, Semaphore
 use Rattle.nt_objects.specs.Object.{signaled, is_event, is_thread, is_gone, has_ended, has_room, owned_by, due_of, setter_of, IsLawfulObject}
 use Rattle.nt_calls.specs.Rising.{AreRising}
 use Rattle.nt_calls.specs.State.{State, object_at}
-use Rattle.nt_core.specs.Dispatcher.{Dispatcher, state, with_created}
+use Rattle.nt_core.specs.Dispatcher.{Dispatcher, state, with_created, with_object}
 use Rattle.nt_calls.specs.Refusals.{is_at_limit, is_full}
 use Rattle.nt_calls.specs.Serving.{is_ready, fits, satisfied, is_due, IsChanged, sequence, IsServed}
 use Rattle.nt_core.specs.Visits.{FitOnlyIn}
 use Rattle.nt_calls.specs.Steps.{NothingDue}
-use Rattle.nt_core.specs.Lawful.{IsSound, MayReplace}
+use Rattle.nt_objects.specs.declared.handles.Opened.{Opened}
+use Rattle.nt_core.specs.Lawful.{IsSound, HandlesAgree, MarksAgreeBut, MayReplace}
 use Rattle.nt_core.proofs.Taking.{fits_kept}
 use Rattle.nt_core.proofs.Handling.{handles_along, handles_created}
 use Rattle.nt_objects.specs.Handles.{full_access}
@@ -214,7 +215,7 @@ sound_replaced d h o owned sound may = record {
 }
 
 -- a reading that the new object shares with objects that are not there
-reading_created : {X : Type 0} (f : Object → X) (os : List Object) (o : Object) → f o ≡ f (Thread false) → (k : ℕ) → f (object_at (os ++ o ∷ []) k) ≡ f (object_at os k)
+pub reading_created : {X : Type 0} (f : Object → X) (os : List Object) (o : Object) → f o ≡ f (Thread false) → (k : ℕ) → f (object_at (os ++ o ∷ []) k) ≡ f (object_at os k)
 reading_created f [] o same zero = same
 reading_created f [] o same (suc k) = refl
 reading_created f (x ∷ os) o same zero = refl
@@ -226,7 +227,7 @@ alarm_created [] (suc h) = refl
 alarm_created (a ∷ alarms) zero = refl
 alarm_created (a ∷ alarms) (suc h) = alarm_created alarms h
 
-unset_undue : (o : Object) → due_of o ≡ None → setter_of o ≡ None
+pub unset_undue : (o : Object) → due_of o ≡ None → setter_of o ≡ None
 unset_undue (Event manual was) due = refl
 unset_undue (Semaphore count maximum) due = refl
 unset_undue (Mutex owner depth abandoned) due = refl
@@ -235,9 +236,9 @@ unset_undue (Timer manual was (Some armed)) due = let h : Some armed.due ≡ Non
 unset_undue (Thread ended) due = refl
 unset_undue Gone due = refl
 
--- one object more leaves all readings of objects that were there
-pub sound_created : (d : Dispatcher) (o : Object) (owned : List (List ℕ)) → IsSound d → is_full d.handles ≡ false → IsLawfulObject o → is_thread o ≡ false → is_gone o ≡ false → due_of o ≡ None → IsSound (with_created d o owned)
-sound_created d o owned sound room lawful no_thread alive due = record {
+-- one object number more leaves all readings of objects that were there
+pub sound_longer : (d : Dispatcher) (o : Object) (owned : List (List ℕ)) (handles : List (Option Opened)) → IsSound d → IsLawfulObject o → is_thread o ≡ false → due_of o ≡ None → HandlesAgree (length (d.objects ++ o ∷ [])) handles → MarksAgreeBut [] (record (with_object d o owned) { handles = handles }) → IsSound (record (with_object d o owned) { handles = handles })
+sound_longer d o owned handles sound lawful no_thread due agree marked = record {
   few = sound.few;
   waits = λ t w pends.
       let own = sound.waits t w pends in
@@ -267,8 +268,8 @@ sound_created d o owned sound room lawful no_thread alive due = record {
         let own = sound.timers.runs h t (sym (reading_created setter_of d.objects o (unset_undue o due) h) ∙ is) in
         (own.0, ap has_ended (object_at-append d.objects (o ∷ []) t (sound.own t own.0).0) ∙ own.1);
   };
-  handles = handles_created (length (d.objects ++ o ∷ [])) d.handles (length d.objects) (full_access o) (grind (arith, nat_tests, room)) sound.handles (length-append d.objects (o ∷ []));
-  marks = marks_created d o owned sound.handles alive sound.marks;
+  handles = agree;
+  marks = marked;
   places = record {
     changed = let objects = length-append d.objects (o ∷ []) in let marks = length-append d.marked.changed (None ∷ []) in let before = sound.places.changed in omega (arith, objects, marks, before);
     alerted = sound.places.alerted;
@@ -292,6 +293,13 @@ sound_created d o owned sound room lawful no_thread alive due = record {
     all [] has (suc k) = tt
     all (x ∷ os) has zero = has zero
     all (x ∷ os) has (suc k) = all os (λ j. has (suc j)) k
+
+-- one object more, and its handle
+pub sound_created : (d : Dispatcher) (o : Object) (owned : List (List ℕ)) → IsSound d → is_full d.handles ≡ false → IsLawfulObject o → is_thread o ≡ false → is_gone o ≡ false → due_of o ≡ None → IsSound (with_created d o owned)
+sound_created d o owned sound room lawful no_thread alive due =
+    sound_longer d o owned (d.handles ++ Some (record { object = length d.objects; access = full_access o }) ∷ []) sound lawful no_thread due
+    (handles_created (length (d.objects ++ o ∷ [])) d.handles (length d.objects) (full_access o) (grind (arith, nat_tests, room)) sound.handles (length-append d.objects (o ∷ [])))
+    (marks_created d o owned sound.handles alive sound.marks)
 
 -- ---- what is due
 

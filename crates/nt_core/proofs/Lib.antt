@@ -42,3 +42,5 @@ pub mod Settling
 mod Gone
 mod Ended
 mod Closing
+mod Renewing
+mod Lengthening

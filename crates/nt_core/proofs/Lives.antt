@@ -58,7 +58,7 @@ not_gone (Timer manual set armed) runs = refl
 not_gone (Thread ended) runs = refl
 not_gone Gone runs = absurd (false≢true (sym runs))
 
-below_both : (s : State) (o : ℕ) → o < length s.objects → is_gone (object_at s.objects o) ≡ false → lives s o ≡ true
+pub below_both : (s : State) (o : ℕ) → o < length s.objects → is_gone (object_at s.objects o) ≡ false → lives s o ≡ true
 below_both s o known there =
     let less : nat_lt o (length s.objects) ≡ true = grind (arith, nat_tests, known) in
     ap (λ b. b && not (is_gone (object_at s.objects o))) less ∙ ap (λ b. not b) there

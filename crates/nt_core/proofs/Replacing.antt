@@ -223,10 +223,10 @@ pulse_accepted old mid t h fresh is after =
 -- ---- creations
 
 -- no object that was there changes
-created_only : (os : List Object) (o : Object) → ChangedOnlyAt [] os (os ++ o ∷ [])
+pub created_only : (os : List Object) (o : Object) → ChangedOnlyAt [] os (os ++ o ∷ [])
 created_only os o h known = inl (object_at-append os (o ∷ []) h known)
 
-due_created : (os : List Object) (o : Object) (k : ℕ) → due_of o ≡ None → (due_of (object_at (os ++ o ∷ []) k) ≡ due_of (object_at os k)) ⊎ (due_of (object_at (os ++ o ∷ []) k) ≡ None)
+pub due_created : (os : List Object) (o : Object) (k : ℕ) → due_of o ≡ None → (due_of (object_at (os ++ o ∷ []) k) ≡ due_of (object_at os k)) ⊎ (due_of (object_at (os ++ o ∷ []) k) ≡ None)
 due_created [] o zero due = inr due
 due_created [] o (suc k) due = inl refl
 due_created (x ∷ os) o zero due = inl refl

@@ -75,6 +75,17 @@ with_created d o owned =
       marked = record d.marked { changed = d.marked.changed ++ None ∷ [] };
     }
 
+-- one object number more, last, with no handle, no alarm and no mark; the object may stand in its owner's list
+abbrev pub with_object : Dispatcher → Object → List (List ℕ) → Dispatcher
+with_object d o owned =
+    record d {
+      objects = d.objects ++ o ∷ [];
+      owned = owned;
+      alarms = d.alarms ++ None ∷ [];
+      leaving = d.leaving ++ None ∷ [];
+      marked = record d.marked { changed = d.marked.changed ++ None ∷ [] };
+    }
+
 abbrev pub dispatcher_of : ℕ → List (Option Opened) → List Object → List (List ℕ) → Waits → Apcs → List Bool → ℕ → List Grant → List (Option ℕ) → List (Option ℕ) → List (Option ℕ) → List (Option ℕ) → Dispatcher
 dispatcher_of threads handles objects owned table apcs handing now grants alarms leaving changed alerted = record {
   threads = threads;

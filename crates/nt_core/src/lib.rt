@@ -39,6 +39,7 @@ mod timers;
 // What comes with time, and what nothing keeps any more.
 mod copy;
 mod living;
+mod renewals;
 mod ticks;
 
 pub use dispatcher::Core;

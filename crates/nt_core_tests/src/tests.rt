@@ -15,6 +15,8 @@ mod mutexes;
 mod openings;
 mod plain;
 mod play;
+mod renewals;
+mod renewing;
 mod script;
 mod semaphores;
 mod sequences;

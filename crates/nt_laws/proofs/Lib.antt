@@ -7,7 +7,9 @@ mod Giving
 mod Owing
 mod Setting
 mod Lasting
-mod CallKinds
-mod Numbers
+pub mod CallKinds
+pub mod Numbers
 mod Standing
 mod Keepers
+mod Staging
+mod Choosing

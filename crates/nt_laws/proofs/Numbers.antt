@@ -61,7 +61,7 @@ step_numbers old t call reply grants new step =
     (λ s wait same here. here) (refl, refl)
 
 -- nor after the change of a call that is accepted
-called_numbers : (old : State) (who : ℕ) (call : Call) (reply : Reply) (grants : List Grant) (new : State) → Called old who call (Ok reply) grants new → (new.handles ≡ (change old who (call_named old.handles call)).handles) × (length new.objects ≡ length (change old who (call_named old.handles call)).objects)
+pub called_numbers : (old : State) (who : ℕ) (call : Call) (reply : Reply) (grants : List Grant) (new : State) → Called old who call (Ok reply) grants new → (new.handles ≡ (change old who (call_named old.handles call)).handles) × (length new.objects ≡ length (change old who (call_named old.handles call)).objects)
 called_numbers old who call reply grants new is =
     let step = step_numbers old who (call_named old.handles call) reply grants is.0 is.1.1 in
     let ends = ends_numbers is.0 new is.2 in
@@ -83,7 +83,7 @@ opened_before [] more h below = absurd (omega (arith, below))
 opened_before (x ∷ handles) more zero below = refl
 opened_before (x ∷ handles) more (suc h) below = opened_before handles more h (omega (arith, below))
 
-some_same : (a b : Opened) → Some a ≡ Some b → a ≡ b
+pub some_same : (a b : Opened) → Some a ≡ Some b → a ≡ b
 some_same a b is = (cc)
 
 pub opened_more : (handles : List (Option Opened)) (last opened : Opened) (h : ℕ) → opened_at (handles ++ Some last ∷ []) h ≡ Some opened → (opened_at handles h ≡ Some opened) ⊎ (last ≡ opened)
@@ -155,7 +155,7 @@ call_longer s new call (inr closed) =
     let objects : length new.objects ≡ length s.objects = ap (λ (x : State). length x.objects) closed.is in
     (omega (arith, handles), omega (arith, objects), λ enough. omega (arith, handles, objects, enough))
 
-turn_longer : (old : State) (turn : Turn) (new : State) → AreEnough old → IsTurn old turn new → (length old.handles ≤ length new.handles) × (length old.objects ≤ length new.objects) × AreEnough new
+pub turn_longer : (old : State) (turn : Turn) (new : State) → AreEnough old → IsTurn old turn new → (length old.handles ≤ length new.handles) × (length old.objects ≤ length new.objects) × AreEnough new
 turn_longer old (Calls who call (Ok reply) grants) new enough is =
     let kind = change_kind old who call enough is.1.0 in
     let more = call_longer old (change old who (call_named old.handles call)) call kind in
@@ -173,13 +173,13 @@ turn_longer old (Ticks by m r grants) new enough is =
     let objects = rest.1 in
     (omega (arith, handles), omega (arith, objects), omega (arith, handles, objects, enough))
 
-turn_stays : (old : State) (turn : Turn) (new : State) → AreEnough old → IsTurn old turn new → (h : ℕ) → h < length old.handles → opened_at new.handles h ≡ cond (turn_closes h turn) None (opened_at old.handles h)
+pub turn_stays : (old : State) (turn : Turn) (new : State) → AreEnough old → IsTurn old turn new → (h : ℕ) → h < length old.handles → opened_at new.handles h ≡ cond (turn_closes h turn) None (opened_at old.handles h)
 turn_stays old (Calls who call (Ok reply) grants) new enough is h below =
     ap (λ handles. opened_at handles h) (called_numbers old who call reply grants new is).0 ∙ call_stays old (change old who (call_named old.handles call)) call (change_kind old who call enough is.1.0) h below
 turn_stays old (Calls who call (Err r) grants) new enough is h below = ap (λ (s : State). opened_at s.handles h) is.2
 turn_stays old (Ticks by m r grants) new enough is h below = ap (λ handles. opened_at handles h) (tick_numbers old m r grants new is).0
 
-closed_once : (a b : Bool) (o : Option Opened) → cond b None (cond a None o) ≡ cond (a || b) None o
+pub closed_once : (a b : Bool) (o : Option Opened) → cond b None (cond a None o) ≡ cond (a || b) None o
 closed_once true true o = refl
 closed_once true false o = refl
 closed_once false b o = refl
@@ -207,7 +207,7 @@ opening_enough n =
 -- ---- rights never grow
 
 -- who has all of some rights has each of them
-flag_along : (a b c : ℕ) → has_flag a b ≡ true → has_flag b c ≡ true → has_flag a c ≡ true
+pub flag_along : (a b c : ℕ) → has_flag a b ≡ true → has_flag b c ≡ true → has_flag a c ≡ true
 flag_along a b c has some =
     let first : bit_and a b ≡ b = eqb-true (bit_and a b) b has in
     let second : bit_and b c ≡ c = eqb-true (bit_and b c) c some in
@@ -236,7 +236,7 @@ call_rights s new call (inr closed) o access below has =
     let still : opened_at (slice_set s.handles closed.handle None) has.0 ≡ Some has.1 = ap (λ (x : State). opened_at x.handles has.0) (sym closed.is) ∙ has.2 in
     (has.0, has.1, opened_still s.handles closed.handle has.0 has.1 still, has.3, has.4)
 
-turn_rights : (old : State) (turn : Turn) (new : State) → AreEnough old → IsTurn old turn new → (o access : ℕ) → o < length old.objects → HasRights new.handles o access → HasRights old.handles o access
+pub turn_rights : (old : State) (turn : Turn) (new : State) → AreEnough old → IsTurn old turn new → (o access : ℕ) → o < length old.objects → HasRights new.handles o access → HasRights old.handles o access
 turn_rights old (Calls who call (Ok reply) grants) new enough is o access below has =
     call_rights old (change old who (call_named old.handles call)) call (change_kind old who call enough is.1.0) o access below
     (subst (λ handles. HasRights handles o access) (called_numbers old who call reply grants new is).0 has)

@@ -158,7 +158,7 @@ ticked_same old a b m (Err r) (Err q) gs hs x y = (ap Err (x.1 ∙ sym y.1), x.2
 
 -- ---- a run
 
-turn_same : (old a b : State) (t u : Turn) → question t ≡ question u → IsTurn old t a → IsTurn old u b → (t ≡ u) × (a ≡ b)
+pub turn_same : (old a b : State) (t u : Turn) → question t ≡ question u → IsTurn old t a → IsTurn old u b → (t ≡ u) × (a ≡ b)
 turn_same old a b (Calls who call r gs) (Calls who' call' r' hs) alike x y =
     let h : AsksCall who call (wants_memory r) ≡ AsksCall who' call' (wants_memory r') = alike in
     let w : who ≡ who' = (cc) in

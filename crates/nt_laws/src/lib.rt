@@ -5,7 +5,10 @@
 //! What a `Core` was asked and answered since it was new is a run, and so are the calls of a script; the history of a front is a run,
 //! or the last part of one where parts were handed out before. So the laws hold of all of these.
 //!
-//! A **law** is a statement on all runs that follows from the definitions and names no code and no machine. A reader has to believe none:
+//! A **life** is a run in which numbers were given again as well (`Life`), by the operations of `nt_core` that no call of the machine makes.
+//! A run is a life without them, so what is said of lives holds of runs.
+//!
+//! A **law** is a statement on all runs, or on all lives, that follows from the definitions and names no code and no machine. A reader has to believe none:
 //! the definitions are what is believed, and the laws show that they mean what one would expect. What a thread took is read off
 //! what it was told, replies and grants (`takes`), so a law would not hold of a status that tells the wrong object.
 //!
@@ -26,6 +29,9 @@
 //! | `handles_stay` | a handle names one object with the same rights, and nothing once it was closed |
 //! | `rights_never_grow` | a right that no handle of an object has any more never comes back |
 //! | `objects_live_while_kept` | an object lives exactly while a handle, a pending wait or a running thread keeps it |
+//! | `handles_stay_until_given_again` | in a life a handle names one object, with the same rights, until it is closed or given again |
+//! | `rights_never_grow_until_given_again` | in a life a lost right comes back only with the object's number |
+//! | `lives_one_way` | results, grants and states of a life are a function of what was asked for, and of what found no memory |
 //!
 //! A statement is proved only where a contract names it. So each law is the contract of a function that takes nothing and does
 //! nothing: whoever calls it has the law in its own proof, as `nt_replay` and `nt_script` have `runs_one_way`, and pays nothing when
@@ -33,8 +39,12 @@
 #![tactic(auto)]
 
 mod laws;
+mod lives;
 
 pub use laws::{
     handles_stay, objects_live_while_kept, one_owner, one_set_one_wait, rights_never_grow,
     runs_one_way, semaphores_give_what_they_have, serves_one_way,
+};
+pub use lives::{
+    handles_stay_until_given_again, lives_one_way, rights_never_grow_until_given_again,
 };

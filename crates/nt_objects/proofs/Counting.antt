@@ -39,6 +39,20 @@ counted_less (x ∷ hs) (suc h) opened o is =
     let was = counted_first x hs o in
     omega (arith, less, first, was)
 
+-- a closed handle is opened again
+pub counted_again : (hs : List (Option Opened)) (h : ℕ) (opened : Opened) (o : ℕ) → h < length hs → get_or hs h None ≡ None → count_named (slice_set hs h (Some opened)) o ≡ count_named hs o + weight (opened.object == o)
+counted_again [] h opened o there is = absurd (omega (arith, there))
+counted_again (x ∷ hs) zero opened o there is =
+    let here : weight (names o x) ≡ 0 = ap (λ e. weight (names o e)) is in
+    let first = counted_first x hs o in
+    let now : count_named (Some opened ∷ hs) o ≡ weight (opened.object == o) + count_named hs o = refl in
+    omega (arith, here, first, now)
+counted_again (x ∷ hs) (suc h) opened o there is =
+    let more = counted_again hs h opened o (omega (arith, there)) is in
+    let first : count_named (x ∷ slice_set hs h (Some opened)) o ≡ weight (names o x) + count_named (slice_set hs h (Some opened)) o = refl in
+    let was = counted_first x hs o in
+    omega (arith, more, first, was)
+
 -- a count that is not made yet is 0
 zero_end : (counts : List ℕ) (o : ℕ) → get_or (counts ++ 0 ∷ []) o 0 ≡ get_or counts o 0
 zero_end [] zero = refl
@@ -76,6 +90,28 @@ more_counted hs counts opened is known =
             let was : get_or wider k 0 ≡ count_named hs k = zero_end counts k ∙ is.counted k in
             let none = other_object o k differs in
             let all = counted_more hs (Some opened) k in
+            omega (arith, at_k, was, none, all)
+      ];
+    }
+
+pub again_counted : (hs : List (Option Opened)) (counts : List ℕ) (h : ℕ) (opened : Opened) → IsCounted hs counts → h < length hs → get_or hs h None ≡ None → opened.object < length hs → IsCounted (slice_set hs h (Some opened)) (slice_set counts opened.object (slice_index_or counts opened.object 0 + 1))
+again_counted hs counts h opened is there closed known =
+    let o = opened.object in
+    let same = is.same_length in
+    record {
+      same_length = length-set counts o (get_or counts o 0 + 1) ∙ (same ∙ sym (length-set hs h (Some opened)));
+      counted = λ k. elim (cases_eq k o) [
+        | inl here ↦
+            let at_k : get_or (slice_set counts o (get_or counts o 0 + 1)) k 0 ≡ get_or counts o 0 + 1 = ap (λ i. get_or (slice_set counts o (get_or counts o 0 + 1)) i 0) here ∙ get_or-set_same counts o (get_or counts o 0 + 1) 0 (omega (arith, known, same)) in
+            let was : get_or counts o 0 ≡ count_named hs k = is.counted o ∙ ap (λ i. count_named hs i) (sym here) in
+            let one : weight (o == k) ≡ 1 = ap (λ i. weight (o == i)) here ∙ own_object o in
+            let all = counted_again hs h opened k there closed in
+            omega (arith, at_k, was, one, all)
+        | inr differs ↦
+            let at_k : get_or (slice_set counts o (get_or counts o 0 + 1)) k 0 ≡ get_or counts k 0 = get_or-set_other counts o k (get_or counts o 0 + 1) 0 differs in
+            let was = is.counted k in
+            let none = other_object o k differs in
+            let all = counted_again hs h opened k there closed in
             omega (arith, at_k, was, none, all)
       ];
     }
@@ -133,3 +169,12 @@ few_counted hs counts o is few =
     let same : get_or (counts ++ 0 ∷ []) o 0 ≡ count_named hs o = zero_end counts o ∙ is.counted o in
     let most = count_at_most hs o in
     omega (arith, same, most, few)
+
+pub few_again : (hs : List (Option Opened)) (counts : List ℕ) (o : ℕ) → IsCounted hs counts → length hs < 2 ^ 32 - 1 → slice_index_or counts o 0 + 1 < 2 ^ 32
+few_again hs counts o is few =
+    let same : get_or counts o 0 ≡ count_named hs o = is.counted o in
+    let most = count_at_most hs o in
+    omega (arith, same, most, few)
+
+pub known_again : (hs : List (Option Opened)) (counts : List ℕ) (o : ℕ) → IsCounted hs counts → o < length hs → o < length counts
+known_again hs counts o is known = let same = is.same_length in omega (arith, same, known)

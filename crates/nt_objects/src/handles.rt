@@ -60,6 +60,20 @@ fn open(handles: &mut Vec<Option<Opened>>, counts: &mut Vec<u32>, opened: Opened
     handles.push_reserved(Some(opened));
 }
 
+/// Opens a handle that was closed, and counts it.
+fn open_again(handles: &mut [Option<Opened>], counts: &mut Vec<u32>, handle: Handle, opened: Opened)
+    requires counted { IsCounted handles.old counts.old.items }
+    requires there { handle < length handles.old }
+    requires closed { opened_at handles.old handle ≡ None }
+    requires known { opened.object < length handles.old }
+    requires few { length handles.old < 2 ^ 32 - 1 }
+    ensures handles { handles.new ≡ slice_set handles.old handle (Some opened) }
+    ensures counted { IsCounted handles.new counts.new.items }
+{
+    count_more(counts, opened.object);
+    handles[handle.get() as usize] = Some(opened);
+}
+
 /// Takes an open handle away, and counts it no more.
 fn close(handles: &mut [Option<Opened>], counts: &mut [u32], handle: Handle) -> ObjectNumber
     requires counted { IsCounted handles.old counts.old }
@@ -78,7 +92,7 @@ fn close(handles: &mut [Option<Opened>], counts: &mut [u32], handle: Handle) -> 
 
 /// The handles, each with the object that it names and its rights, and how many handles name each object.
 ///
-/// A number that was handed out once names the same object until it is closed, and nothing from then on.
+/// A number that was handed out names the same object until it is closed, and nothing from then on, unless it is given again.
 #[derive(Drop)]
 pub struct HandleTable {
     handles: Vec<Option<Opened>>,
@@ -173,7 +187,18 @@ impl HandleTable {
         handle
     }
 
-    /// Closes an open handle for good, and answers the object that it named.
+    /// Gives the number of a handle that was closed to a new one, for an object that has or had a handle. It takes no memory.
+    pub fn add_again(&mut self, handle: Handle, opened: Opened)
+        requires there { handle < length self.old.opened }
+        requires closed { opened_at self.old.opened handle ≡ None }
+        requires known { opened.object < length self.old.opened }
+        requires few { length self.old.opened < 2 ^ 32 - 1 }
+        ensures opened { self.new.opened ≡ slice_set self.old.opened handle (Some opened) }
+    {
+        open_again(&mut self.handles, &mut self.counts, handle, opened);
+    }
+
+    /// Closes an open handle, and answers the object that it named.
     pub fn close(&mut self, handle: Handle) -> ObjectNumber
         requires open { IsSome (opened_at self.old.opened handle) }
         ensures object { ForSome (opened_at self.old.opened handle) (λ opened. result ≡ opened.object) }

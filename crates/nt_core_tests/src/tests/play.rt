@@ -3,6 +3,7 @@ use crate::tests::calls::{answer_of, are_ended};
 use crate::tests::memory::{
     Host, answer_at_once, answer_by_slice, answer_to, copy_at_last, is_refusing, let_go, open,
 };
+use crate::tests::renewing::{expect_closed, expect_vacant, renewed};
 use crate::tests::script::{Answer, Ask, Ended, Scenario, Step};
 use nt_core::Core;
 use nt_status::{Moment, Refusal};
@@ -111,7 +112,7 @@ fn answered(
             Some((answer_at_once(rt, core, who, ask, objects), answer, ended))
         }
         Step::Tick(moment, answer, ended) => Some((tick_to(core, moment), answer, ended)),
-        _ => None,
+        _ => renewed(rt, core, step),
     }
 }
 
@@ -124,6 +125,8 @@ fn look(rt: &impl Host, core: &mut Core, step: Step, place: Place) {
                 close_one(rt, core, who, create, asks, handle, place);
             }
         }
+        Step::Vacant(objects, may) => expect_vacant(rt, core, objects, may),
+        Step::Closed(handles, may) => expect_closed(rt, core, handles, may),
         Step::Due(up_to, moment) => expect_due(rt, core, up_to, moment, place),
         Step::Tested(count) => expect_number(rt, core.tested(), count, place),
         Step::Now(moment) => expect_number(rt, core.now().get(), moment, place),

@@ -90,6 +90,8 @@ pub enum Ask {
 pub enum Answer {
     Done,
     Handle(u32),
+    /// The number of an object.
+    Object(u32),
     /// The semaphore's count before.
     Previous(i32),
     Status(u32),
@@ -121,6 +123,20 @@ pub enum Step {
     /// This thread creates an object so, asks this of it, which is done, and closes it: with the handles from the first of these to
     /// the last.
     CloseEach(u32, Ask, &'static [Ask], u32, u32),
+    /// The caller creates an object so, with the number of one that is gone, and with that of a closed handle for its handle. The
+    /// answer. It takes no memory.
+    CreateAgain(u32, Ask, u32, u32, Answer),
+    /// The caller duplicates this handle, with these rights, and with the number of a closed handle for the new one. The answer. It
+    /// takes no memory.
+    DuplicateAgain(u32, u32, u32, u32, Answer),
+    /// This thread begins again, and its handle has the number of a closed one. The answer. It takes no memory.
+    BeginAgain(u32, u32, Answer),
+    /// One object number more, of an object that is gone. The answer.
+    AddVacant(Answer),
+    /// Whether the numbers of these objects may be given again, each of them or none.
+    Vacant(&'static [u32], bool),
+    /// Whether the numbers of these handles may be given again, each of them or none.
+    Closed(&'static [u32], bool),
     /// All moments up to this one pass. The answer, and the waits that end, in their order. It takes no memory.
     Tick(u64, Answer, &'static [Ended]),
     /// So many pending waits the last call or tick tested.

@@ -1,0 +1,357 @@
+//! Numbers that are given again: those of objects that are gone, of handles that were closed, and of threads that have ended.
+ghost use Rattle.std.specs.Prelude.{◌≡◌, ◌<◌, ◌≤◌, ◌-◌, ◌^◌, ◌&&◌, ℕ, true, false, Some, IsTrue, IfSome, IfOk, IfErr, OnOk, OnErr, length, slice_set};
+ghost use Rattle.nt_apc.specs.Queues.{is_queued};
+ghost use Rattle.nt_objects.specs.Object.{owned_by, IsLawfulObject};
+ghost use Rattle.nt_objects.specs.Handles.{opened_at};
+ghost use Rattle.nt_calls.specs.Living.{is_opened, LivesWhileKept};
+ghost use Rattle.nt_status.specs.declared.refusal.Refusal.TheVariants.{Memory};
+ghost use Rattle.nt_objects.specs.declared.object.Object.TheVariants.{Gone};
+ghost use Rattle.nt_core.specs.Dispatcher.{state, with_object};
+ghost use Rattle.nt_core.specs.Lawful.{IsSound, IsSteady, IsLawful};
+ghost use Rattle.std.specs.Option.{option_map};
+ghost use Rattle.nt_core.specs.Renewals.{is_closed, is_vacant, is_left, creation, with_again, AddsVacant, CreatesAgain, DuplicatesAgain, BeginsAgain};
+
+use crate::dispatcher::Core;
+use crate::machine::{Answer, Machine};
+use nt_calls::{Act, Reply};
+use nt_objects::{Object, Opened};
+use nt_status::{
+    Access, EventFlags, Handle, MutexFlags, ObjectNumber, Refusal, ThreadId, TimerFlags,
+};
+
+/// What the act creates for its thread; none where it is no creation, or its arguments are not lawful.
+fn creation(thread: ThreadId, act: &Act) -> Option<Object>
+    ensures value { result ≡ creation thread act.now }
+    ensures lawful { IfSome result IsLawfulObject }
+{
+    match *act {
+        Act::CreateEvent(flags) => {
+            let flags = EventFlags::from_bits(flags)?;
+            Some(Object::new_event(flags))
+        }
+        Act::CreateSemaphore { initial, maximum } => {
+            match Object::new_semaphore(initial, maximum) {
+                Ok(semaphore) => Some(semaphore),
+                Err(_) => None,
+            }
+        }
+        Act::CreateMutex(flags) => {
+            let flags = MutexFlags::from_bits(flags)?;
+            Some(Object::new_mutex(flags, thread))
+        }
+        Act::CreateTimer(flags) => {
+            let flags = TimerFlags::from_bits(flags)?;
+            Some(Object::new_timer(flags))
+        }
+        _ => None,
+    }
+}
+
+impl Machine {
+    /// Whether the handle with this number was closed.
+    pub(crate) fn is_closed(&self, handle: Handle) -> bool
+        ensures { result ≡ is_closed (state self.now) handle }
+    {
+        (handle.get() as usize) < self.handles.len() && self.handles.get(handle).is_none()
+    }
+
+    /// Whether an APC of this timer is queued.
+    fn is_queued(&self, timer: ObjectNumber) -> bool
+        ensures { result ≡ is_queued (state self.now).apcs timer }
+    {
+        match self.apcs.place_of(timer) {
+            Some(thread) => self.apcs.queued(thread, timer),
+            None => false,
+        }
+    }
+
+    /// Whether the object with this number is gone, and so the number may be given again. A thread's may not.
+    pub(crate) fn is_vacant(&self, object: ObjectNumber) -> bool
+        ensures { result ≡ is_vacant (state self.now) object }
+    {
+        let Some(there) = self.objects.as_slice().get(object.get() as usize) else {
+            return false;
+        };
+        self.threads <= object.get() && (there.is_gone() && !self.is_queued(object))
+    }
+
+    /// Whether the thread has ended, and its object is gone.
+    fn is_left(&self, thread: u32) -> bool
+        requires sound { IsSound self.now }
+        ensures { result ≡ is_left (state self.now) thread }
+    {
+        if thread >= self.threads {
+            return false;
+        }
+        let Some(own) = self.objects.as_slice().get(thread as usize) else {
+            return false;
+        };
+        own.is_gone() && self.apcs.is_empty(ThreadId::new(thread as u16))
+    }
+
+    /// Whether a new object may have the one number, and its handle the other.
+    fn may_create(&self, object: ObjectNumber, handle: Handle) -> bool
+        ensures { result ≡ (is_vacant (state self.now) object && is_closed (state self.now) handle) }
+    {
+        self.is_vacant(object) && self.is_closed(handle)
+    }
+
+    /// Whether a thread may begin with the one number, and its handle may have the other.
+    fn may_begin(&self, thread: u32, handle: Handle) -> bool
+        requires sound { IsSound self.now }
+        ensures { result ≡ (is_left (state self.now) thread && is_closed (state self.now) handle) }
+    {
+        self.is_left(thread) && self.is_closed(handle)
+    }
+
+    /// What the handle names, and with which rights; none where it is closed, or was never handed out.
+    fn opened(&self, handle: Handle) -> Option<Opened>
+        ensures { result ≡ opened_at self.now.handles handle }
+    {
+        self.handles.get(handle)
+    }
+
+    /// Opens a closed handle for an object.
+    fn open_again(&mut self, handle: Handle, opened: Opened)
+        requires closed { IsTrue (is_closed (state self.old) handle) }
+        requires known { opened.object < length self.old.handles }
+        requires few { length self.old.handles < 2 ^ 32 - 1 }
+        ensures { self.new ≡ record self.old { handles = slice_set self.old.handles handle (Some opened) } }
+    {
+        self.handles.add_again(handle, opened);
+    }
+
+    /// The thread may take no APCs until a wait of it ends for them.
+    fn clear_hand(&mut self, thread: u32)
+        requires { thread < length self.old.handing }
+        ensures { self.new ≡ record self.old { handing = slice_set self.old.handing thread false } }
+    {
+        self.handing[thread as usize] = false;
+    }
+
+    /// Gives the number of an object that is gone to a new one, and that of a closed handle to its handle.
+    fn give_again(&mut self, object: ObjectNumber, handle: Handle, new: Object)
+        requires there { object < length self.old.objects }
+        requires closed { IsTrue (is_closed (state self.old) handle) }
+        requires enough { length self.old.objects ≤ length self.old.handles }
+        requires few { length self.old.handles < 2 ^ 32 - 1 }
+        requires owner { (t : ℕ) → owned_by new t ≡ true → t < self.old.threads }
+        ensures { self.new ≡ with_again self.old object handle new self.old.handing self.new.owned }
+    {
+        let access = new.full_access();
+        self.objects.put(object, new);
+        self.open_again(handle, Opened { object, access });
+    }
+
+    /// Adds an object number, of an object that is gone. Where memory is refused nothing changes.
+    fn lengthen(&mut self) -> Result<ObjectNumber, Refusal>
+        requires few { length self.old.objects < 2 ^ 32 - 1 }
+        ensures number { IfOk result (λ number. number ≡ length self.old.objects) }
+        ensures ok { OnOk result (self.new ≡ with_object self.old Gone self.new.owned) }
+        ensures refused { IfErr result (λ cause. cause ≡ Memory) }
+        ensures err { OnErr result (self.new ≡ self.old) }
+    {
+        let count = self.objects.as_slice().len();
+        self.objects.make_room()?;
+        self.alarms.add_with(&mut self.leaving, &mut self.changed)?;
+        self.objects.add(Object::Gone);
+        Ok(ObjectNumber::new(count as u32))
+    }
+
+    /// One object number more, of an object that is gone, unless there are as many as handle numbers.
+    pub fn add_vacant(&mut self) -> Result<ObjectNumber, Refusal>
+        requires steady { IsSteady self.old }
+        requires living { LivesWhileKept (state self.old) }
+        ensures added { AddsVacant (state self.old) result self.new.grants (state self.new) }
+        ensures steady { IsSteady self.new }
+        ensures living { LivesWhileKept (state self.new) }
+    {
+        self.tell_anew();
+        if self.objects.as_slice().len() >= self.handles.len() {
+            return Err(Refusal::HandleLimit);
+        }
+        self.lengthen()
+    }
+
+    /// A creation whose object has the number of one that is gone, and whose handle has that of one that was closed.
+    pub fn create_again(
+        &mut self,
+        who: u32,
+        act: &Act,
+        object: ObjectNumber,
+        handle: Handle,
+    ) -> Answer
+        requires steady { IsSteady self.old }
+        requires living { LivesWhileKept (state self.old) }
+        ensures created { CreatesAgain (state self.old) who act.now object handle
+            result self.new.grants (state self.new) }
+        ensures steady { IsSteady self.new }
+        ensures living { LivesWhileKept (state self.new) }
+    {
+        self.tell_anew();
+        if let Some(refusal) = self.caller_refusal(who) {
+            return Err(refusal);
+        }
+        let Some(new) = creation(ThreadId::new(who as u16), act) else {
+            return Err(Refusal::InvalidParameter);
+        };
+        if !self.may_create(object, handle) {
+            return Err(Refusal::InvalidHandle);
+        }
+        self.give_again(object, handle, new);
+        Ok(Reply::Handle(handle))
+    }
+
+    /// DuplicateHandle, whose handle has the number of one that was closed.
+    pub fn duplicate_again(
+        &mut self,
+        who: u32,
+        source: Handle,
+        access: u32,
+        handle: Handle,
+    ) -> Answer
+        requires steady { IsSteady self.old }
+        requires living { LivesWhileKept (state self.old) }
+        ensures duplicated { DuplicatesAgain (state self.old) who source access handle
+            result self.new.grants (state self.new) }
+        ensures steady { IsSteady self.new }
+        ensures living { LivesWhileKept (state self.new) }
+    {
+        self.tell_anew();
+        if let Some(refusal) = self.caller_refusal(who) {
+            return Err(refusal);
+        }
+        let Some(opened) = self.opened(source) else {
+            return Err(Refusal::InvalidHandle);
+        };
+        let Some(access) = Access::from_bits(access) else {
+            return Err(Refusal::AccessDenied);
+        };
+        if !opened.access.contains(access) {
+            return Err(Refusal::AccessDenied);
+        }
+        if !self.is_closed(handle) {
+            return Err(Refusal::InvalidHandle);
+        }
+        let object = opened.object;
+        self.open_again(handle, Opened { object, access });
+        Ok(Reply::Handle(handle))
+    }
+
+    /// A thread begins with the number of one that has ended, and a handle with that of one that was closed.
+    pub fn begin_again(&mut self, thread: u32, handle: Handle) -> Answer
+        requires steady { IsSteady self.old }
+        requires living { LivesWhileKept (state self.old) }
+        ensures begun { BeginsAgain (state self.old) thread handle result self.new.grants (state self.new) }
+        ensures steady { IsSteady self.new }
+        ensures living { LivesWhileKept (state self.new) }
+    {
+        self.tell_anew();
+        if !self.may_begin(thread, handle) {
+            return Err(Refusal::InvalidHandle);
+        }
+        self.clear_hand(thread);
+        self.give_again(ObjectNumber::new(thread), handle, Object::new_thread());
+        Ok(Reply::Handle(handle))
+    }
+}
+
+impl Core {
+    /// Adds an object number, of an object that is gone, so that it can be given to a new one. It answers the number.
+    ///
+    /// Refused with `HandleLimit` where there are as many object numbers as handle numbers, and with 8 where memory is refused.
+    pub fn add_vacant(&mut self) -> Result<ObjectNumber, Refusal>
+        ensures added { AddsVacant (state self.old) result self.new.grants (state self.new) }
+        ensures lawful { IsLawful self.new }
+    {
+        let result = self.machine.add_vacant();
+        let machine = &self.machine;
+        machine.objects.agree();
+        result
+    }
+
+    /// A creation whose object has the number of one that is gone, and whose handle has that of one that was closed. It takes no memory.
+    ///
+    /// Refused as every call of the thread is, with 87 where the act is no creation or its arguments are not lawful, and with 6 where one
+    /// of the numbers can't be given again.
+    pub fn create_again(
+        &mut self,
+        who: u32,
+        act: &Act,
+        object: ObjectNumber,
+        handle: Handle,
+    ) -> Result<Reply, Refusal>
+        ensures created { CreatesAgain (state self.old) who act.now object handle
+            result self.new.grants (state self.new) }
+        ensures lawful { IsLawful self.new }
+    {
+        let result = self.machine.create_again(who, act, object, handle);
+        let machine = &self.machine;
+        machine.objects.agree();
+        result
+    }
+
+    /// DuplicateHandle, whose handle has the number of one that was closed. It takes no memory.
+    ///
+    /// Refused as every call of the thread is, with 6 where `source` names nothing, with 5 where it lacks one of the rights, and with 6
+    /// where the number can't be given again.
+    pub fn duplicate_again(
+        &mut self,
+        who: u32,
+        source: Handle,
+        access: u32,
+        handle: Handle,
+    ) -> Result<Reply, Refusal>
+        ensures duplicated { DuplicatesAgain (state self.old) who source access handle
+            result self.new.grants (state self.new) }
+        ensures lawful { IsLawful self.new }
+    {
+        let result = self.machine.duplicate_again(who, source, access, handle);
+        let machine = &self.machine;
+        machine.objects.agree();
+        result
+    }
+
+    /// A thread begins with the number of one that has ended and whose object is gone, and its handle has the number of one that was
+    /// closed. It takes no memory.
+    ///
+    /// Refused with 6 where one of the numbers can't be given again.
+    pub fn begin_again(&mut self, thread: u32, handle: Handle) -> Result<Reply, Refusal>
+        ensures begun { BeginsAgain (state self.old) thread handle result self.new.grants (state self.new) }
+        ensures lawful { IsLawful self.new }
+    {
+        let result = self.machine.begin_again(thread, handle);
+        let machine = &self.machine;
+        machine.objects.agree();
+        result
+    }
+
+    /// The number of the object that the handle names; none where it names none.
+    pub fn object_number(&self, handle: Handle) -> Option<ObjectNumber>
+        ensures { result ≡ option_map (λ opened. opened.object) (opened_at (state self.now).handles handle) }
+    {
+        let opened = self.machine.opened(handle)?;
+        Some(opened.object)
+    }
+
+    /// Whether an open handle names the object.
+    pub fn is_opened(&self, object: ObjectNumber) -> bool
+        ensures { result ≡ is_opened (state self.now) object }
+    {
+        0 < self.machine.handles.count(object)
+    }
+
+    /// Whether the number of this handle can be given again.
+    pub fn is_closed(&self, handle: Handle) -> bool
+        ensures { result ≡ is_closed (state self.now) handle }
+    {
+        self.machine.is_closed(handle)
+    }
+
+    /// Whether the number of this object can be given again.
+    pub fn is_vacant(&self, object: ObjectNumber) -> bool
+        ensures { result ≡ is_vacant (state self.now) object }
+    {
+        self.machine.is_vacant(object)
+    }
+}

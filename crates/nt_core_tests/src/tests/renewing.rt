@@ -1,0 +1,79 @@
+//! The steps of a scenario that give numbers again.
+use crate::tests::calls::{answer_of, call_of};
+use crate::tests::memory::{Host, NOT_ENOUGH_MEMORY, tell_refused};
+use crate::tests::script::{Answer, Ask, Ended, Step};
+use nt_core::{Call, Core};
+use nt_status::{Handle, ObjectNumber, Refusal};
+
+/// Creates an object so, with these numbers.
+fn create_again(
+    rt: &impl Host,
+    core: &mut Core,
+    who: u32,
+    ask: Ask,
+    object: u32,
+    handle: u32,
+) -> Answer {
+    match call_of(rt.alloc(), ask, &[]) {
+        Ok(Call::Act(act)) => {
+            let (object, handle) = (ObjectNumber::new(object), Handle::new(handle));
+            answer_of(core.create_again(who, &act, object, handle))
+        }
+        _ => Answer::NotAsked,
+    }
+}
+
+fn object_of(added: Result<ObjectNumber, Refusal>) -> Answer {
+    match added {
+        Ok(number) => Answer::Object(number.get()),
+        Err(refusal) => Answer::Error(refusal.number()),
+    }
+}
+
+/// Adds an object number, with a second try where memory is refused.
+fn add_vacant(rt: &impl Host, core: &mut Core) -> Answer {
+    let answer = object_of(core.add_vacant());
+    if answer != Answer::Error(NOT_ENOUGH_MEMORY) {
+        return answer;
+    }
+    tell_refused(rt, "an object number");
+    object_of(core.add_vacant())
+}
+
+/// Takes a step that gives numbers again: what it answers, what it is to answer, and that no wait is to end. None for any other.
+pub fn renewed(
+    rt: &impl Host,
+    core: &mut Core,
+    step: Step,
+) -> Option<(Answer, Answer, &'static [Ended])> {
+    match step {
+        Step::CreateAgain(who, ask, object, handle, answer) => {
+            Some((create_again(rt, core, who, ask, object, handle), answer, &[]))
+        }
+        Step::DuplicateAgain(who, source, access, handle, answer) => {
+            let (source, handle) = (Handle::new(source), Handle::new(handle));
+            let found = answer_of(core.duplicate_again(who, source, access, handle));
+            Some((found, answer, &[]))
+        }
+        Step::BeginAgain(thread, handle, answer) => {
+            let found = answer_of(core.begin_again(thread, Handle::new(handle)));
+            Some((found, answer, &[]))
+        }
+        Step::AddVacant(answer) => Some((add_vacant(rt, core), answer, &[])),
+        _ => None,
+    }
+}
+
+/// Looks whether the number of each of these objects may be given again, or of none.
+pub fn expect_vacant(rt: &impl Host, core: &Core, objects: &[u32], may: bool) {
+    for object in objects {
+        assert_eq!(rt; core.is_vacant(ObjectNumber::new(*object)), may, "object {object}");
+    }
+}
+
+/// Looks whether the number of each of these handles may be given again, or of none.
+pub fn expect_closed(rt: &impl Host, core: &Core, handles: &[u32], may: bool) {
+    for handle in handles {
+        assert_eq!(rt; core.is_closed(Handle::new(*handle)), may, "handle {handle}");
+    }
+}

@@ -1,0 +1,113 @@
+-- Lives: runs in which numbers are given again.
+use Rattle.std.specs.Prelude.{◌≡◌, ℕ, ◌<◌, Bool, true, false, List, [], ◌∷◌, map, length, if◌then◌else◌, ◌==◌, None}
+use Rattle.std.specs.List.{list_any}
+use Rattle.std.specs.declared.result.Result.{Result}
+use Rattle.std.specs.declared.result.Result.TheVariants.{Ok, Err}
+use Rattle.nt_status.specs.declared.refusal.Refusal.{Refusal}
+use Rattle.nt_status.specs.declared.refusal.Refusal.TheVariants.{Memory}
+use Rattle.nt_objects.specs.Handles.{opened_at}
+use Rattle.nt_calls.specs.declared.call.Act.{Act}
+use Rattle.nt_calls.specs.declared.call.Reply.{Reply}
+use Rattle.nt_calls.specs.declared.call.Grant.{Grant}
+use Rattle.nt_calls.specs.State.{State, opening}
+use Rattle.nt_calls.specs.Runs.{Turn, IsTurn}
+use Rattle.nt_core.specs.Renewals.{CreatesAgain, DuplicatesAgain, BeginsAgain, AddsVacant}
+use Rattle.nt_laws.specs.Laws.{Question, question, turn_closes, HasRights}
+
+-- a step of a life: a turn of the machine; or one that gives numbers again: to an object and its handle, to one handle more, or to a
+-- thread and its handle; or one object number more, of an object that is gone
+pub data Stage : Type 0 where
+  Takes : (turn : Turn) → Stage
+  Creates : (who : ℕ) → (act : Act) → (object : ℕ) → (handle : ℕ) → (result : Result Reply Refusal) → (grants : List Grant) → Stage
+  Shares : (who : ℕ) → (source : ℕ) → (access : ℕ) → (handle : ℕ) → (result : Result Reply Refusal) → (grants : List Grant) → Stage
+  Begins : (thread : ℕ) → (handle : ℕ) → (result : Result Reply Refusal) → (grants : List Grant) → Stage
+  Adds : (result : Result ℕ Refusal) → (grants : List Grant) → Stage
+
+abbrev pub IsStage : State → Stage → State → Type 0
+IsStage old (Takes turn) new = IsTurn old turn new
+IsStage old (Creates who act object handle result grants) new = CreatesAgain old who act object handle result grants new
+IsStage old (Shares who source access handle result grants) new = DuplicatesAgain old who source access handle result grants new
+IsStage old (Begins thread handle result grants) new = BeginsAgain old thread handle result grants new
+IsStage old (Adds result grants) new = AddsVacant old result grants new
+
+-- the stages lead from the old state to the new one
+abbrev pub Stages : State → List Stage → State → Type 0
+Stages old [] new = new ≡ old
+Stages old (stage ∷ stages) new = (mid : State) × IsStage old stage mid × Stages mid stages new
+
+-- a life of n threads, from the opening on
+abbrev pub Life : ℕ → List Stage → State → Type 0
+Life n stages s = Stages (opening n) stages s
+
+-- it was accepted
+abbrev pub is_accepted : Result Reply Refusal → Bool
+is_accepted (Ok reply) = true
+is_accepted (Err cause) = false
+
+-- the stage gives this handle's number again
+abbrev pub gives : ℕ → Stage → Bool
+gives h (Takes turn) = false
+gives h (Creates who act object handle result grants) = if is_accepted result then handle == h else false
+gives h (Shares who source access handle result grants) = if is_accepted result then handle == h else false
+gives h (Begins thread handle result grants) = if is_accepted result then handle == h else false
+gives h (Adds result grants) = false
+
+-- the stage closes the handle
+abbrev pub closes : ℕ → Stage → Bool
+closes h (Takes turn) = turn_closes h turn
+closes h _ = false
+
+-- over every part of a life in which its number is not given again, a handle names the same object with the same rights, and nothing
+-- from its closing on
+abbrev pub HandlesStayUntilGivenAgain : Type 0
+HandlesStayUntilGivenAgain =
+    (n : ℕ) (before part : List Stage) (mid s : State)
+    → Life n before mid
+    → Stages mid part s
+    → (h : ℕ) → h < length mid.handles
+    → list_any (gives h) part ≡ false
+    → opened_at s.handles h ≡ (if list_any (closes h) part then None else opened_at mid.handles h)
+
+-- the stage gives this object's number again
+abbrev pub gives_object : ℕ → Stage → Bool
+gives_object o (Takes turn) = false
+gives_object o (Creates who act object handle result grants) = if is_accepted result then object == o else false
+gives_object o (Shares who source access handle result grants) = false
+gives_object o (Begins thread handle result grants) = if is_accepted result then thread == o else false
+gives_object o (Adds result grants) = false
+
+-- rights never grow: over every part of a life in which its number is not given again, the rights that a handle of an object has at
+-- the end, a handle of it had at the beginning, if the object was there
+abbrev pub RightsNeverGrowUntilGivenAgain : Type 0
+RightsNeverGrowUntilGivenAgain =
+    (n : ℕ) (before part : List Stage) (mid s : State)
+    → Life n before mid
+    → Stages mid part s
+    → (o access : ℕ) → o < length mid.objects
+    → list_any (gives_object o) part ≡ false
+    → HasRights s.handles o access → HasRights mid.handles o access
+
+-- the object number was refused since there was no memory
+abbrev pub wants_number : Result ℕ Refusal → Bool
+wants_number (Err Memory) = true
+wants_number _ = false
+
+-- what was asked for in a stage
+pub data Wish : Type 0 where
+  AsksTurn : (asked : Question) → Wish
+  AsksCreation : (who : ℕ) → (act : Act) → (object : ℕ) → (handle : ℕ) → Wish
+  AsksShare : (who : ℕ) → (source : ℕ) → (access : ℕ) → (handle : ℕ) → Wish
+  AsksBegin : (thread : ℕ) → (handle : ℕ) → Wish
+  AsksNumber : (wants_memory : Bool) → Wish
+
+abbrev pub wish : Stage → Wish
+wish (Takes turn) = AsksTurn (question turn)
+wish (Creates who act object handle result grants) = AsksCreation who act object handle
+wish (Shares who source access handle result grants) = AsksShare who source access handle
+wish (Begins thread handle result grants) = AsksBegin thread handle
+wish (Adds result grants) = AsksNumber (wants_number result)
+
+-- lives leave no choice: where the same was asked for in the same order, and memory was refused to the same calls, all results and grants
+-- are the same, and so is the state
+abbrev pub LivesOneWay : Type 0
+LivesOneWay = (n : ℕ) (stages others : List Stage) (a b : State) → Life n stages a → Life n others b → map wish stages ≡ map wish others → (stages ≡ others) × (a ≡ b)
