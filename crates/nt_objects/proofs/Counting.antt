@@ -17,7 +17,7 @@ counted_first : (h : Option Opened) (hs : List (Option Opened)) (o : ℕ) → co
 counted_first h hs o = refl
 
 -- one handle more
-counted_more : (hs : List (Option Opened)) (x : Option Opened) (o : ℕ) → count_named (hs ++ x ∷ []) o ≡ count_named hs o + weight (names o x)
+pub counted_more : (hs : List (Option Opened)) (x : Option Opened) (o : ℕ) → count_named (hs ++ x ∷ []) o ≡ count_named hs o + weight (names o x)
 counted_more [] x o = let first = counted_first x [] o in let none : count_named [] o ≡ 0 = refl in omega (arith, first, none)
 counted_more (h ∷ hs) x o =
     let more = counted_more hs x o in
@@ -26,7 +26,7 @@ counted_more (h ∷ hs) x o =
     omega (arith, more, first, was)
 
 -- one handle less
-counted_less : (hs : List (Option Opened)) (h : ℕ) (opened : Opened) (o : ℕ) → get_or hs h None ≡ Some opened → count_named (slice_set hs h None) o + weight (opened.object == o) ≡ count_named hs o
+pub counted_less : (hs : List (Option Opened)) (h : ℕ) (opened : Opened) (o : ℕ) → get_or hs h None ≡ Some opened → count_named (slice_set hs h None) o + weight (opened.object == o) ≡ count_named hs o
 counted_less [] h opened o is = let no : None ≡ Some opened = is in (cc)
 counted_less (x ∷ hs) zero opened o is =
     let here : weight (names o x) ≡ weight (opened.object == o) = ap (λ e. weight (names o e)) is in
