@@ -7,7 +7,8 @@ use crate::handle::Nt;
 use crate::reply::{NtReply, tell};
 use arrayvec::ArrayVec;
 use nt_core::{Call, WaitCall};
-use nt_status::{Handle, MAX_WAIT_OBJECTS};
+use nt_status::{Handle, Handles, MAX_WAIT_OBJECTS};
+use std::alloc::Global;
 
 /// The handles that a wait names, at most as many as it may name. They lie in the value itself.
 type WaitedHandles = ArrayVec<Handle, MAX_WAIT_OBJECTS>;
@@ -51,6 +52,7 @@ pub extern "C" fn nt_wait_objects(
 /// WaitForSingleObjectEx. The timeout is in milliseconds, 0xFFFFFFFF for INFINITE.
 #[unsafe(no_mangle)]
 pub extern "C" fn nt_wait_object(
+    alloc: Global,
     nt: &mut Nt,
     who: u32,
     handle: u32,
@@ -63,8 +65,13 @@ pub extern "C" fn nt_wait_object(
     ensures answers { WaitsWith nt.old who
         (WaitCall.Objects false alertable ms (handle ∷ [])) result out.old out.new nt.new }
 {
-    let these = [Handle::new(handle)];
-    tell(nt.wait(who, &these, false, alertable, ms), out)
+    let wait = WaitCall::Objects {
+        handles: Handles::from_one(alloc, Handle::new(handle)),
+        all: false,
+        ms,
+        alertable,
+    };
+    tell(nt.ask(who, &Call::Wait(wait)), out)
 }
 
 /// SleepEx. The interval is in milliseconds, 0xFFFFFFFF for INFINITE.
