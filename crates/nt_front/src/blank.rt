@@ -10,6 +10,7 @@ ghost use Rattle.nt_front.specs.Holds.{new_threads};
 use crate::book::Book;
 use crate::front::Front;
 use crate::hold::{Hold, LOOKS, Pass};
+use crate::lock::Locked;
 use crate::named::Named;
 use crate::wake::Bells;
 use nt_core::Core;
@@ -17,7 +18,6 @@ use nt_mail::{Entry, JoinedSeats, Mail, Opened};
 use nt_status::{MAX_THREADS, Moment, Refusal, ThreadId};
 use std::alloc::Global;
 use std::marker::{Model, PhantomData};
-use std::sync::Mutex;
 
 /// The most entries that a journal may have.
 const MOST_ENTRIES: usize = 1_048_576;
@@ -105,7 +105,7 @@ fn put_together<N: Named>(blank: Blank, made: Made<N>) -> (Front<N>, Vec<Pass<N>
     let book = Book::new(core, base, threads, journal, room, seats.into_dispatcher());
     let front = Front {
         mail,
-        book: Mutex::new(book),
+        book: Locked::new(book),
         bells,
     };
     (front, passes)

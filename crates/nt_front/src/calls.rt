@@ -12,14 +12,14 @@ ghost use Rattle.nt_mail.specs.declared.entry.Entry.{Entry};
 ghost use Rattle.nt_front.specs.Holds.{with_tick};
 ghost use Rattle.nt_front.specs.Polls.{IsMade, IsBegun, IsExited};
 
-use crate::book::{Book, has_pended};
+use crate::book::has_pended;
 use crate::front::Front;
 use crate::hold::{Ended, Hold, Pass, Sleeper};
 use crate::named::Named;
 use crate::receipt::{Part, Receipt};
 use nt_core::{Act, Call, WaitCall};
 use nt_status::{Moment, Refusal};
-use std::sync::{MutexGuard, Wait};
+use std::sync::Wait;
 
 /// What a wait that begins answers.
 pub enum Begun<N: Named> {
@@ -129,19 +129,10 @@ impl<N: Named> Front<N> {
         ensures full { OnErr result (WasFull N.front caller.old) }
         ensures err { OnErr result (caller.new ≡ caller.old) }
     {
-        let mut book = self.locked(rt);
+        let mut book = self.book.lock(rt);
         let (receipt, to_wake) = book.call(&self.mail, caller, call)?;
         drop(book);
         self.bells.ring(to_wake);
         Ok(receipt)
-    }
-
-    /// Takes the lock. Mostly it is free.
-    #[inline(always)]
-    pub(crate) fn locked(&self, rt: &impl Wait) -> MutexGuard<'_, Book<N>> {
-        match self.book.try_lock() {
-            Some(book) => book,
-            None => self.book.lock(rt),
-        }
     }
 }

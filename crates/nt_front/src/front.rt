@@ -6,19 +6,18 @@ ghost use Rattle.nt_mail.specs.Entries.{Each};
 ghost use Rattle.nt_front.specs.Runs.{IsLawfulRun, LeadTo};
 ghost use Rattle.nt_front.specs.Held.{IsAccounted};
 
-use crate::book::Book;
 use crate::hold::Held;
+use crate::lock::Locked;
 use crate::named::Named;
 use crate::receipt::History;
 use crate::wake::Bells;
 use nt_mail::Mail;
-use std::sync::Mutex;
 
 /// The dispatcher behind a lock, for the threads that have passes of this name.
 #[derive(Drop)]
 pub struct Front<N: Named> {
     pub(crate) mail: Mail,
-    pub(crate) book: Mutex<Book<N>>,
+    pub(crate) book: Locked<N>,
     pub(crate) bells: Bells,
     ghost named: { mail ≡ N.front.table },
 }

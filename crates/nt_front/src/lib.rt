@@ -41,6 +41,7 @@ mod calls;
 mod carried;
 mod front;
 mod hold;
+mod lock;
 mod moments;
 mod named;
 mod polls;

@@ -30,7 +30,7 @@ impl<N: Named> Front<N> {
         ensures { IsWaited N.front pass wait result }
     {
         let Pass { mut hold } = pass;
-        let mut book = self.locked(rt);
+        let mut book = self.book.lock(rt);
         let Ok((begun, to_wake)) = book.call(&self.mail, &mut hold, Call::Wait(wait)) else {
             return Waited::NoRoom(Pass { hold });
         };
