@@ -100,7 +100,14 @@ static int yield_task(void)
 #endif
 #define atomic_load_explicit(word, order) (point(), load_step(word))
 #define atomic_store_explicit(word, value, order) (point(), store_step(word, value))
-#define atomic_exchange_explicit(word, value, order) (point(), exchange_step(word, value))
+/* (Another may run right after an exchange, too: that is how the lock is taken and given back.) */
+#define atomic_exchange_explicit(word, value, order) \
+    __extension__({ \
+        point(); \
+        __auto_type found_by_step = exchange_step(word, value); \
+        point(); \
+        found_by_step; \
+    })
 #define atomic_compare_exchange_strong_explicit(word, seen, value, one, other) (point(), compare_step(word, seen, value))
 
 #endif
