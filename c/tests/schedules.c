@@ -1,4 +1,4 @@
-/* ntwin.c under a scheduler and a clock of the test's own (schedules/tasks.h): random programs, each with a random schedule. Words: how many of
+/* ntwin.c under a scheduler and a clock of the test's own (schedules/strands.h): random programs, each with a random schedule. Words: how many of
  * them, 3,000 if that is not said, and the first one's seed, 1 if not.
  *
  * What is kept under the lock holds whenever that is given back (ntwin/check.c); each wait answers the status with which the dispatcher ended
@@ -97,14 +97,17 @@ static void check_wait(DWORD status, DWORD ms, uint64_t began)
 
 enum { EVENTS = 4, SEMAPHORES = 2, MUTEXES = 2, TIMERS = 3, THREADS = 24, FOREIGN = 4 };
 
-static HANDLE events[EVENTS], semaphores[SEMAPHORES], mutexes[MUTEXES], timers[TIMERS], threads[THREADS];
-static uint32_t made; /* of the threads */
+/* The objects of the program. */
+static struct {
+    HANDLE events[EVENTS], semaphores[SEMAPHORES], mutexes[MUTEXES], timers[TIMERS], threads[THREADS];
+    uint32_t made; /* how many of the threads */
+} program;
 
-static const struct task *sleeper_on(const void *word)
+static const struct strand *sleeper_on(const void *word)
 {
     for (int i = 0; i < run.count; i++)
-        if (run.tasks[i].state == SLEEPS && run.tasks[i].word == word)
-            return &run.tasks[i];
+        if (run.strands[i].state == SLEEPS && run.strands[i].word == word)
+            return &run.strands[i];
     return NULL;
 }
 
@@ -120,7 +123,7 @@ static bool may_timers_end(uint32_t thread, const struct nt_pending_wait *wait)
         uint32_t object;
         nt_waited_object(&waiting.dispatcher, thread, i, &object);
         for (int j = 0; j < TIMERS; j++)
-            if (object == listed_number_of(timers[j]))
+            if (object == listed_number_of(program.timers[j]))
                 return true;
     }
     return wait->alertable && waiting.seats[thread].has_routines;
@@ -131,7 +134,7 @@ static bool look_at(const struct seat *seat)
 {
     struct nt_pending_wait wait;
     const bool pends = nt_waits_for(&waiting.dispatcher, seat->number, &wait) == 0;
-    const struct task *sleeper = sleeper_on(&seat->word);
+    const struct strand *sleeper = sleeper_on(&seat->word);
     if (pends != (sleeper != NULL))
         broken("the wait of thread %u %s, and it %s", seat->number, pends ? "pends" : "does not pend", sleeper ? "sleeps" : "does not sleep");
     if (!pends)
@@ -168,7 +171,7 @@ static void begin_anew(void)
     memset(&own, 0, sizeof own);
     memset(expected, 0, sizeof expected);
     process.is_open = false;
-    made = 0;
+    program.made = 0;
 }
 
 int main(int count, char **words)

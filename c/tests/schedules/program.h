@@ -8,15 +8,15 @@ static HANDLE any_object(bool *is_short)
     const uint32_t which = below(12);
     *is_short |= which >= 6 && which <= 7;
     if (which < 4)
-        return events[below(EVENTS)];
+        return program.events[below(EVENTS)];
     if (which < 6)
-        return semaphores[below(SEMAPHORES)];
+        return program.semaphores[below(SEMAPHORES)];
     if (which < 8)
-        return mutexes[below(MUTEXES)];
-    if (which < 10 || made == 0)
-        return timers[below(TIMERS)];
+        return program.mutexes[below(MUTEXES)];
+    if (which < 10 || program.made == 0)
+        return program.timers[below(TIMERS)];
     *is_short = true;
-    return threads[below(made)];
+    return program.threads[below(program.made)];
 }
 
 static DWORD any_time(bool is_short)
@@ -46,27 +46,27 @@ static void run_timer_apc_of_program(LPVOID acts, DWORD low, DWORD high)
 
 static void set_event(void)
 {
-    SetEvent(events[below(EVENTS)]);
+    SetEvent(program.events[below(EVENTS)]);
 }
 
 static void reset_event(void)
 {
-    ResetEvent(events[below(EVENTS)]);
+    ResetEvent(program.events[below(EVENTS)]);
 }
 
 static void pulse_event(void)
 {
-    PulseEvent(events[below(EVENTS)]);
+    PulseEvent(program.events[below(EVENTS)]);
 }
 
 static void release_semaphore(void)
 {
-    ReleaseSemaphore(semaphores[below(SEMAPHORES)], (LONG)below(3) + 1, NULL);
+    ReleaseSemaphore(program.semaphores[below(SEMAPHORES)], (LONG)below(3) + 1, NULL);
 }
 
 static void release_mutex(void)
 {
-    ReleaseMutex(mutexes[below(MUTEXES)]);
+    ReleaseMutex(program.mutexes[below(MUTEXES)]);
 }
 
 static void set_any_timer(void)
@@ -74,18 +74,18 @@ static void set_any_timer(void)
     LARGE_INTEGER due = { .QuadPart = -(LONGLONG)below(one_in(4) ? 1000 : 100000) };
     if (one_in(10))
         due.QuadPart = universal() + below(100000);
-    SetWaitableTimer(timers[below(TIMERS)], &due, one_in(3) ? (LONG)below(8) : 0, one_in(2) ? run_timer_apc_of_program : NULL,
+    SetWaitableTimer(program.timers[below(TIMERS)], &due, one_in(3) ? (LONG)below(8) : 0, one_in(2) ? run_timer_apc_of_program : NULL,
                      (LPVOID)(uintptr_t)below(3), FALSE);
 }
 
 static void cancel_timer(void)
 {
-    CancelWaitableTimer(timers[below(TIMERS)]);
+    CancelWaitableTimer(program.timers[below(TIMERS)]);
 }
 
 static void queue_apc(void)
 {
-    QueueUserAPC(run_apc_of_program, made == 0 || one_in(4) ? GetCurrentThread() : threads[below(made)], below(3));
+    QueueUserAPC(run_apc_of_program, program.made == 0 || one_in(4) ? GetCurrentThread() : program.threads[below(program.made)], below(3));
 }
 
 static void sleep_for_a_time(void)
@@ -123,7 +123,7 @@ static void signal_and_wait(void)
 {
     const uint64_t began = run.now;
     bool is_short = false;
-    HANDLE signals[] = { mutexes[below(MUTEXES)], semaphores[below(SEMAPHORES)], events[below(EVENTS)] };
+    HANDLE signals[] = { program.mutexes[below(MUTEXES)], program.semaphores[below(SEMAPHORES)], program.events[below(EVENTS)] };
     HANDLE signal = signals[below(3)], object = any_object(&is_short);
     const DWORD ms = any_time(is_short);
     check_wait(SignalObjectAndWait(signal, object, ms, one_in(2)), ms, began);
@@ -143,14 +143,14 @@ static LPVOID any_number_of_acts(void)
 
 static void begin_thread(void)
 {
-    if (made == THREADS - FOREIGN)
+    if (program.made == THREADS - FOREIGN)
         return;
     HANDLE thread = CreateThread(NULL, 0, act_often, any_number_of_acts(), 0, NULL);
     if (thread == NULL)
         return;
     sums.threads++;
-    if (made < THREADS)
-        threads[made++] = thread;
+    if (program.made < THREADS)
+        program.threads[program.made++] = thread;
 }
 
 static void begin_thread_seldom(void)
@@ -161,7 +161,7 @@ static void begin_thread_seldom(void)
 
 static void end_thread_seldom(void)
 {
-    if (one_in(30) && run.runs != run.tasks)
+    if (one_in(30) && run.runs != run.strands)
         ExitThread(0);
 }
 
@@ -182,7 +182,7 @@ static void *act_as_foreign(void *acts)
     act_often(acts);
     if (!one_in(4))
         for (int i = 0; i < MUTEXES; i++)
-            ReleaseMutex(mutexes[i]);
+            ReleaseMutex(program.mutexes[i]);
     return NULL;
 }
 
@@ -196,15 +196,15 @@ static void set_timer_now(HANDLE timer)
 static void end_some_waits(void)
 {
     set_event();
-    ReleaseSemaphore(semaphores[below(SEMAPHORES)], 1, NULL);
+    ReleaseSemaphore(program.semaphores[below(SEMAPHORES)], 1, NULL);
     if (one_in(3))
-        set_timer_now(timers[below(TIMERS)]);
-    if (one_in(3) && made > 0)
-        QueueUserAPC(run_apc_of_program, threads[below(made)], 0);
+        set_timer_now(program.timers[below(TIMERS)]);
+    if (one_in(3) && program.made > 0)
+        QueueUserAPC(run_apc_of_program, program.threads[below(program.made)], 0);
     for (int i = 0; i < EVENTS && one_in(2); i++)
-        SetEvent(events[i]);
+        SetEvent(program.events[i]);
     for (int i = 0; i < TIMERS && one_in(2); i++)
-        set_timer_now(timers[i]);
+        set_timer_now(program.timers[i]);
 }
 
 /* The first thread makes the objects and the others, and has no wait of its own last for good. */
@@ -212,17 +212,17 @@ static void *drive(void *unused)
 {
     (void)unused;
     for (int i = 0; i < EVENTS; i++)
-        events[i] = CreateEvent(NULL, i & 1, one_in(2), NULL);
+        program.events[i] = CreateEvent(NULL, i & 1, one_in(2), NULL);
     for (int i = 0; i < SEMAPHORES; i++)
-        semaphores[i] = CreateSemaphore(NULL, 0, 1 + (LONG)below(3), NULL);
+        program.semaphores[i] = CreateSemaphore(NULL, 0, 1 + (LONG)below(3), NULL);
     for (int i = 0; i < MUTEXES; i++)
-        mutexes[i] = CreateMutex(NULL, FALSE, NULL);
+        program.mutexes[i] = CreateMutex(NULL, FALSE, NULL);
     for (int i = 0; i < TIMERS; i++)
-        timers[i] = CreateWaitableTimer(NULL, i & 1, NULL);
+        program.timers[i] = CreateWaitableTimer(NULL, i & 1, NULL);
     for (uint32_t left = below(5) + 1; left > 0; left--)
         begin_thread();
     for (uint32_t left = below(FOREIGN); left > 0; left--)
-        add_task(act_as_foreign, any_number_of_acts());
+        add_strand(act_as_foreign, any_number_of_acts());
     while (rest_till_all_sleep())
         end_some_waits();
     end_process();

@@ -1,20 +1,20 @@
-/* What ntwin.c asks of the system, and its steps on words, as tasks make them. */
+/* What ntwin.c asks of the system, and its steps on words, as strands make them. */
 #ifndef SYSTEM_H
 #define SYSTEM_H
 
-#include "tasks.h"
+#include "strands.h"
 
 /* ---- The system, here. */
 
 static long use_futex(_Atomic uint32_t *word, int operation, uint32_t value, const struct timespec *until)
 {
-    struct task *me = run.runs, *sleepers[MOST_TASKS];
+    struct strand *me = run.runs, *sleepers[MOST_STRANDS];
     uint32_t count = 0;
     point();
     if (operation == FUTEX_WAKE_PRIVATE) {
         for (int i = 0; i < run.count; i++)
-            if (run.tasks[i].state == SLEEPS && run.tasks[i].word == word && !run.tasks[i].is_woken)
-                sleepers[count++] = &run.tasks[i];
+            if (run.strands[i].state == SLEEPS && run.strands[i].word == word && !run.strands[i].is_woken)
+                sleepers[count++] = &run.strands[i];
         if (count > 0)
             sleepers[below(count)]->is_woken = true;
         return count > 0;
@@ -37,21 +37,21 @@ static int read_clock(struct timespec *at)
 }
 
 /* (Once in a while there is no thread more.) */
-static int create_task(pthread_t *thread, void *(*start)(void *), void *argument)
+static int create_strand(pthread_t *thread, void *(*start)(void *), void *argument)
 {
     point();
-    struct task *task = one_in(60) ? NULL : add_task(start, argument);
-    if (task == NULL)
+    struct strand *strand = one_in(60) ? NULL : add_strand(start, argument);
+    if (strand == NULL)
         return EAGAIN;
-    *thread = (pthread_t)(task - run.tasks);
+    *thread = (pthread_t)(strand - run.strands);
     point();
     return 0;
 }
 
-static int join_task(pthread_t thread, int error)
+static int join_strand(pthread_t thread, int error)
 {
     point();
-    return run.tasks[thread].state == HAS_ENDED ? 0 : error;
+    return run.strands[thread].state == HAS_ENDED ? 0 : error;
 }
 
 static int keep_value(const void *value)
@@ -60,7 +60,7 @@ static int keep_value(const void *value)
     return 0;
 }
 
-static int yield_task(void)
+static int yield_strand(void)
 {
     point();
     return 0;
@@ -68,14 +68,14 @@ static int yield_task(void)
 
 #define syscall(number, word, operation, value, until, ...) use_futex(word, operation, value, until)
 #define clock_gettime(clock, at) read_clock(at)
-#define pthread_create(thread, attributes, start, argument) ((void)(attributes), create_task(thread, start, argument))
-#define pthread_tryjoin_np(thread, value) join_task(thread, EBUSY)
-#define pthread_timedjoin_np(thread, value, until) ((void)(until), join_task(thread, ETIMEDOUT))
-#define pthread_self() ((pthread_t)(run.runs - run.tasks))
-#define pthread_exit(value) end_task()
+#define pthread_create(thread, attributes, start, argument) ((void)(attributes), create_strand(thread, start, argument))
+#define pthread_tryjoin_np(thread, value) join_strand(thread, EBUSY)
+#define pthread_timedjoin_np(thread, value, until) ((void)(until), join_strand(thread, ETIMEDOUT))
+#define pthread_self() ((pthread_t)(run.runs - run.strands))
+#define pthread_exit(value) end_strand()
 #define pthread_key_create(key, at_end) ((void)(key), run.destructor = (at_end), 0)
 #define pthread_setspecific(key, value) keep_value(value)
-#define sched_yield() yield_task()
+#define sched_yield() yield_strand()
 #define sysconf(name) 4L
 #define abort() broken("what always holds does not")
 #undef __libc_single_threaded

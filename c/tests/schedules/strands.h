@@ -1,8 +1,8 @@
 /* Threads of a test's own, with ntwin.c as a part of the test: each runs until it comes to a point at which another may run in its place, and
  * chance decides. Such points are each step on a word, each call of the dispatcher, and each call of the system, which are all made here. The
  * time is a number: it moves a little as these threads run, and jumps when all of them sleep. So a run is the same each time for a seed. */
-#ifndef TASKS_H
-#define TASKS_H
+#ifndef STRANDS_H
+#define STRANDS_H
 
 #define _GNU_SOURCE
 #define CHECKS_WAITING
@@ -21,7 +21,7 @@
 static struct own own;
 
 enum {
-    MOST_TASKS = 64,
+    MOST_STRANDS = 64,
     STACK = 128 * 1024,
     MOST_POINTS = 30000000, /* in a run */
     MOST_JUMPS = 60,        /* of the time, between two turns of who rests */
@@ -29,8 +29,8 @@ enum {
     NANOSECONDS = 1000000000
 };
 
-/* A thread, here. */
-struct task {
+/* A strand: a thread, here. */
+struct strand {
     enum { CAN_RUN, SLEEPS, RESTS, HAS_ENDED } state;
     bool has_begun;
     ucontext_t beginning;
@@ -47,13 +47,13 @@ struct task {
     struct own kept;
 };
 
-/* How chance decides whether another task runs at a point. */
+/* How chance decides whether another strand runs at a point. */
 enum habit { OFTEN, SOMETIMES, BY_PRIORITY, SELDOM, HABITS };
 
 static struct {
-    struct task tasks[MOST_TASKS];
+    struct strand strands[MOST_STRANDS];
     int count;
-    struct task *runs;      /* null before a run */
+    struct strand *runs;      /* null before a run */
     jmp_buf end;            /* of the run */
     enum habit habit;
     uint64_t seed, state[2];
@@ -62,7 +62,7 @@ static struct {
     int jumps;              /* since who rests had its turn */
     int changes;            /* of priorities */
     void (*destructor)(void *);
-    void (*look)(void);     /* what is looked at whenever all tasks sleep */
+    void (*look)(void);     /* what is looked at whenever all strands sleep */
 } run;
 
 /* ---- Chance. */
@@ -95,7 +95,7 @@ __attribute__((format(printf, 1, 2), noreturn)) static void broken(const char *f
     va_list list;
     va_start(list, format);
     printf("schedules: seed %llu, at %llu ns, thread %d: ", (unsigned long long)run.seed, (unsigned long long)run.now,
-           run.runs == NULL ? -1 : (int)(run.runs - run.tasks));
+           run.runs == NULL ? -1 : (int)(run.runs - run.strands));
     vprintf(format, list);
     putchar('\n');
     va_end(list);
@@ -103,53 +103,53 @@ __attribute__((format(printf, 1, 2), noreturn)) static void broken(const char *f
     _Exit(1);
 }
 
-/* ---- Which task runs. */
+/* ---- Which strand runs. */
 
-static bool is_ready(const struct task *task)
+static bool is_ready(const struct strand *strand)
 {
-    return task->state == CAN_RUN || (task->state == SLEEPS && (task->is_woken || task->until <= run.now));
+    return strand->state == CAN_RUN || (strand->state == SLEEPS && (strand->is_woken || strand->until <= run.now));
 }
 
-/* When the first task stops sleeping by itself. */
+/* When the first strand stops sleeping by itself. */
 static uint64_t next_end_of_sleep(void)
 {
     uint64_t next = NEVER;
     for (int i = 0; i < run.count; i++)
-        if (run.tasks[i].state == SLEEPS && run.tasks[i].until < next)
-            next = run.tasks[i].until;
+        if (run.strands[i].state == SLEEPS && run.strands[i].until < next)
+            next = run.strands[i].until;
     return next;
 }
 
-static struct task *who_rests(void)
+static struct strand *who_rests(void)
 {
     for (int i = 0; i < run.count; i++)
-        if (run.tasks[i].state == RESTS)
-            return &run.tasks[i];
+        if (run.strands[i].state == RESTS)
+            return &run.strands[i];
     return NULL;
 }
 
 /* One of those that are ready, or null. */
-static struct task *choose(void)
+static struct strand *choose(void)
 {
-    struct task *ready[MOST_TASKS], *best = NULL;
+    struct strand *ready[MOST_STRANDS], *best = NULL;
     uint32_t count = 0;
     for (int i = 0; i < run.count; i++)
-        if (is_ready(&run.tasks[i])) {
-            ready[count++] = &run.tasks[i];
-            if (best == NULL || run.tasks[i].priority > best->priority)
-                best = &run.tasks[i];
+        if (is_ready(&run.strands[i])) {
+            ready[count++] = &run.strands[i];
+            if (best == NULL || run.strands[i].priority > best->priority)
+                best = &run.strands[i];
         }
     return count == 0 || run.habit == BY_PRIORITY ? best : ready[below(count)];
 }
 
-/* All tasks sleep: the time jumps to when the first one stops, or who rests has its turn. False where none is left. */
+/* All strands sleep: the time jumps to when the first one stops, or who rests has its turn. False where none is left. */
 static bool pass_idle(void)
 {
     const uint64_t next = next_end_of_sleep();
-    struct task *rests = who_rests();
+    struct strand *rests = who_rests();
     if (next == NEVER && rests == NULL) {
         for (int i = 0; i < run.count; i++)
-            if (run.tasks[i].state != HAS_ENDED)
+            if (run.strands[i].state != HAS_ENDED)
                 broken("all threads sleep for good");
         return false;
     }
@@ -163,20 +163,20 @@ static bool pass_idle(void)
     return true;
 }
 
-/* The task that runs next; null where none is left. */
-static struct task *next_task(void)
+/* The strand that runs next; null where none is left. */
+static struct strand *next_strand(void)
 {
     for (;;) {
-        struct task *next = choose();
+        struct strand *next = choose();
         if (next != NULL || !pass_idle())
             return next;
     }
 }
 
-/* Has this task run, or ends the run. What the caller left comes back here, in its own stack. */
-__attribute__((noinline)) static void switch_to(struct task *next)
+/* Has this strand run, or ends the run. What the caller left comes back here, in its own stack. */
+__attribute__((noinline)) static void switch_to(struct strand *next)
 {
-    struct task *last = run.runs;
+    struct strand *last = run.runs;
     if (next == last)
         return;
     if (last != NULL)
@@ -196,16 +196,16 @@ __attribute__((noinline)) static void switch_to(struct task *next)
 /* The caller does not run, but for this reason, until it is chosen. */
 static void stand_aside(int state)
 {
-    struct task *me = run.runs;
+    struct strand *me = run.runs;
     me->state = state;
-    switch_to(next_task());
+    switch_to(next_strand());
     me->state = CAN_RUN;
 }
 
-/* A point at which another task may run. */
+/* A point at which another strand may run. */
 static void point(void)
 {
-    struct task *me = run.runs;
+    struct strand *me = run.runs;
     static const uint32_t seldom[HABITS] = { [OFTEN] = 2, [SOMETIMES] = 8, [BY_PRIORITY] = 1, [SELDOM] = 40 };
     if (me == NULL)
         return;
@@ -221,25 +221,25 @@ static void point(void)
         switch_to(choose());
 }
 
-/* ---- Tasks begin and end. */
+/* ---- Strands begin and end. */
 
-__attribute__((noreturn)) static void end_task(void)
+__attribute__((noreturn)) static void end_strand(void)
 {
     _longjmp(run.runs->end, 1);
 }
 
-/* Runs the caller's function, to its return or to `end_task`. */
+/* Runs the caller's function, to its return or to `end_strand`. */
 __attribute__((noinline)) static void run_start(void)
 {
     if (_setjmp(run.runs->end) == 0)
         run.runs->start(run.runs->argument);
 }
 
-/* A task runs: then come the destructors of its key's values. */
-static void run_task(void)
+/* A strand runs: then come the destructors of its key's values. */
+static void run_strand(void)
 {
     run_start();
-    struct task *me = run.runs;
+    struct strand *me = run.runs;
     for (int round = 0; round < ROUNDS_AT_END && me->leaving != NULL; round++) {
         void *value = (void *)(uintptr_t)me->leaving;
         me->leaving = NULL;
@@ -250,31 +250,31 @@ static void run_task(void)
     broken("a thread runs that has ended");
 }
 
-/* Who goes on there runs a task in this stack. */
+/* Who goes on there runs a strand in this stack. */
 __attribute__((noinline)) static void prepare(ucontext_t *there, char *stack)
 {
     getcontext(there);
     there->uc_stack.ss_sp = stack;
     there->uc_stack.ss_size = STACK;
-    makecontext(there, run_task, 0);
+    makecontext(there, run_strand, 0);
 }
 
-/* A task more, or null where there is no room. */
-static struct task *add_task(void *(*start)(void *), void *argument)
+/* A strand more, or null where there is no room. */
+static struct strand *add_strand(void *(*start)(void *), void *argument)
 {
-    if (run.count == MOST_TASKS)
+    if (run.count == MOST_STRANDS)
         return NULL;
-    struct task *task = &run.tasks[run.count++];
-    char *stack = task->stack != NULL ? task->stack : malloc(STACK);
+    struct strand *strand = &run.strands[run.count++];
+    char *stack = strand->stack != NULL ? strand->stack : malloc(STACK);
     if (stack == NULL)
         abort();
-    memset(task, 0, sizeof *task);
-    task->stack = stack;
-    task->start = start;
-    task->argument = argument;
-    task->priority = (int)below(1000);
-    prepare(&task->beginning, stack);
-    return task;
+    memset(strand, 0, sizeof *strand);
+    strand->stack = stack;
+    strand->start = start;
+    strand->argument = argument;
+    strand->priority = (int)below(1000);
+    prepare(&strand->beginning, stack);
+    return strand;
 }
 
 /* The caller rests until all others sleep. Answers whether any of them is left. */
@@ -282,7 +282,7 @@ static bool rest_till_all_sleep(void)
 {
     stand_aside(RESTS);
     for (int i = 0; i < run.count; i++)
-        if (&run.tasks[i] != run.runs && run.tasks[i].state != HAS_ENDED)
+        if (&run.strands[i] != run.runs && run.strands[i].state != HAS_ENDED)
             return true;
     return false;
 }
@@ -298,10 +298,10 @@ static void run_all(void *(*first)(void *), uint64_t seed)
     run.state[1] = seed ^ UINT64_C(0xD1B54A32D192ED03);
     for (int i = 0; i < 10; i++)
         any_number();
-    add_task(first, NULL);
+    add_strand(first, NULL);
     run.runs = NULL;
     if (_setjmp(run.end) == 0)
-        switch_to(next_task());
+        switch_to(next_strand());
     run.runs = NULL;
 }
 
