@@ -6,7 +6,7 @@ use Rattle.nt_owners.specs.Objects.{Objects}
 use Rattle.std.specs.List.{IsDistinct}
 use Rattle.std.specs.Prelude.{nat_eq}
 use Rattle.nt_status.proofs.Lists.{contains_first}
-use Rattle.nt_waits.specs.Waits.{Waits, Names, queue_of, others, only_of}
+use Rattle.nt_waits.specs.Waits.{Names, queue_of, others, only_of}
 use Rattle.nt_core.specs.Dispatcher.{Dispatcher, dispatcher_of}
 use Rattle.nt_calls.specs.Serving.{IsTried, CanTake, wait_for}
 use Rattle.nt_core.specs.Visits.{IsVisited, uncounted}
