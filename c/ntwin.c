@@ -24,6 +24,8 @@
 
 #include "win32/names.c"
 
+#include "win32/port_handles.c"
+
 #include "ntwin/calls.c"
 
 #include "ntwin/objects.c"
@@ -65,6 +67,8 @@
 #include "win32/watch.c"
 
 #include "win32/timers.c"
+
+#include "win32/ports.c"
 
 #include "win32/messages.c"
 

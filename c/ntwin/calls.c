@@ -17,6 +17,14 @@ static uint32_t close_number(uint32_t caller, uint32_t number)
     return refused;
 }
 
+/* As `close_number`, for a call of the program. The port that goes with the last handle is in `port`, to be closed without the lock; else null. */
+static uint32_t close_programs_number(uint32_t caller, uint32_t number, struct port **port)
+{
+    const uint32_t refused = close_number(caller, number);
+    *port = refused == 0 ? forget_port(number) : NULL;
+    return refused;
+}
+
 /* The number of a handle that is no pseudo handle; NO_HANDLE where it is none. */
 static inline uint32_t listed_number_of(HANDLE handle)
 {
@@ -62,6 +70,7 @@ static const struct {
     [KIND_MUTEX] = { SYNCHRONIZE, 0 },
     [KIND_TIMER] = { SYNCHRONIZE | TIMER_MODIFY_STATE, TIMER_MODIFY_STATE },
     [KIND_PROCESS] = { SYNCHRONIZE, 0 },
+    [KIND_PORT] = { SYNCHRONIZE, 0 },
 };
 
 /* The rights for which this access stands, to an object of this kind. */
@@ -98,6 +107,13 @@ static inline BOOL finish(struct seat *seat, uint32_t refused)
     note(seat);
     unlock_and_wake(seat);
     return TRUE;
+}
+
+/* The same where the dispatcher was asked nothing, or has refused: what its last call has ended was told already. */
+static inline BOOL end_look(struct seat *seat, uint32_t refused)
+{
+    unlock_and_wake(seat);
+    return refused == 0 || fail(refused);
 }
 
 /* The rights that a creation or an opening of this kind asks for. */

@@ -98,7 +98,7 @@ struct seat {
 };
 
 /* Kinds of objects, for what the dispatcher's handles do not tell: the rights that generic ones stand for, and which waits timers may end. */
-enum kind { KIND_THREAD, KIND_EVENT, KIND_SEMAPHORE, KIND_MUTEX, KIND_TIMER, KIND_PROCESS };
+enum kind { KIND_THREAD, KIND_EVENT, KIND_SEMAPHORE, KIND_MUTEX, KIND_TIMER, KIND_PROCESS, KIND_PORT };
 
 /* What a thread finds of its own with no call, also where this is a shared library. (A test may have threads of its own making.) */
 struct own {
@@ -144,7 +144,8 @@ static struct {
     struct seat seats[NT_MAXIMUM_THREADS];
     uint8_t kinds[NT_MAXIMUM_HANDLES]; /* of what each number names, or named last; */
     uint8_t threads[NT_MAXIMUM_HANDLES]; /* where that is a thread, which one; */
-    struct named *named[NT_MAXIMUM_HANDLES]; /* where it has a name, which; else null */
+    struct named *named[NT_MAXIMUM_HANDLES]; /* where it has a name, which; else null; */
+    struct port *ports[NT_MAXIMUM_HANDLES]; /* where it is a completion port, which; else null */
 } waiting;
 
 #ifdef CHECKS_WAITING

@@ -166,6 +166,7 @@ static uint32_t duplicate_same_access(uint32_t caller, uint32_t number, struct n
 BOOL DuplicateHandle(HANDLE from, HANDLE handle, HANDLE to, LPHANDLE duplicate, DWORD access, BOOL inherit, DWORD options)
 {
     struct nt_reply reply;
+    struct port *port = NULL;
     const bool closes = (options & DUPLICATE_CLOSE_SOURCE) != 0;
     (void)inherit;
     /* With nowhere to go the handle is closed, where that is asked for. */
@@ -185,11 +186,15 @@ BOOL DuplicateHandle(HANDLE from, HANDLE handle, HANDLE to, LPHANDLE duplicate, 
         waiting.threads[reply.number] = thread_of(number);
         if (number < NT_MAXIMUM_HANDLES && waiting.named[number] != NULL)
             note_named(waiting.named[number], reply.number);
+        note_port(number, reply.number);
     }
     /* (That a duplicate is refused keeps no source open.) */
     if (closes && handle != CURRENT_THREAD && handle != CURRENT_PROCESS)
-        close_number(caller, number);
-    if (!finish(seat, refused))
+        close_programs_number(caller, number, &port);
+    const BOOL is_made = finish(seat, refused);
+    if (port != NULL)
+        close_port(port);
+    if (!is_made)
         return FALSE;
     if (duplicate != NULL)
         *duplicate = handle_of(reply.number);
@@ -200,6 +205,11 @@ BOOL CloseHandle(HANDLE handle)
 {
     if (handle == CURRENT_PROCESS || handle == CURRENT_THREAD)
         return TRUE;
+    struct port *port;
     struct seat *seat = begin();
-    return seat != NULL && finish(seat, close_number(seat->number, number_of(seat, handle)));
+    if (seat == NULL || !finish(seat, close_programs_number(seat->number, number_of(seat, handle), &port)))
+        return FALSE;
+    if (port != NULL)
+        close_port(port);
+    return TRUE;
 }

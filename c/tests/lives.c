@@ -278,6 +278,35 @@ static void times(void)
     ANSWERS(GetThreadTimes(EVENT, &began, &ended, &system, &user), FALSE, ERROR_INVALID_HANDLE);
 }
 
+static DWORD WINAPI wait_for(LPVOID event)
+{
+    return WaitForSingleObject(event, 5000);
+}
+
+/* A call that only looks at a thread tells nobody once more of what the call before has ended. */
+static void looks_end_no_wait(void)
+{
+    HANDLE events[2], threads[2];
+    DWORD code = 0;
+    for (int i = 0; i < 2; i++) {
+        must((events[i] = CreateEvent(NULL, FALSE, FALSE, NULL)) != NULL);
+        must((threads[i] = CreateThread(NULL, 0, wait_for, events[i], 0, NULL)) != NULL);
+    }
+    Sleep(20);
+    SetEvent(events[0]);
+    for (int i = 0; i < 3; i++) {
+        IS(GetThreadId(GetCurrentThread()), GetCurrentThreadId());
+        IS(GetExitCodeThread(threads[1], &code), TRUE);
+        IS(GetThreadPriority(GetCurrentThread()), THREAD_PRIORITY_NORMAL);
+    }
+    SetEvent(events[1]);
+    for (int i = 0; i < 2; i++) {
+        join(threads[i]);
+        IS(GetExitCodeThread(threads[i], &code), TRUE);
+        IS(code, WAIT_OBJECT_0);
+    }
+}
+
 int main(void)
 {
     must((GO = CreateEvent(NULL, FALSE, FALSE, NULL)) != NULL && (READY = CreateEvent(NULL, FALSE, FALSE, NULL)) != NULL);
@@ -289,5 +318,6 @@ int main(void)
     priorities();
     descriptions();
     times();
+    looks_end_no_wait();
     return counted();
 }

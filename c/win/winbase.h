@@ -4,6 +4,7 @@
 
 #include "slist.h"
 #include "fibersapi.h"
+#include "ioapiset.h"
 #include "processthreadsapi.h"
 #include "synchapi.h"
 #include "sysinfoapi.h"

@@ -10,7 +10,7 @@ static struct seat *begin_with_thread(HANDLE handle, struct seat **caller)
     const uint32_t number = listed_number_of(handle), twice[] = { number, number };
     if (number == NO_HANDLE || kind_of(number) != KIND_THREAD
         || nt_wait(&waiting.dispatcher, seat->number, twice, 2, false, 0, false, &seat->reply) == ERROR_INVALID_HANDLE) {
-        finish(seat, ERROR_INVALID_HANDLE);
+        end_look(seat, ERROR_INVALID_HANDLE);
         return NULL;
     }
     return &waiting.seats[thread_of(number)];
@@ -22,7 +22,7 @@ BOOL GetExitCodeThread(HANDLE thread, LPDWORD code)
     if (seat == NULL)
         return FALSE;
     const DWORD found = seat->has_left ? seat->exit_code : STILL_ACTIVE;
-    finish(caller, 0);
+    unlock_and_wake(caller);
     *code = found;
     return TRUE;
 }
@@ -33,7 +33,7 @@ DWORD GetThreadId(HANDLE thread)
     if (seat == NULL)
         return 0;
     const DWORD id = seat->life.id;
-    finish(caller, 0);
+    unlock_and_wake(caller);
     return id;
 }
 
@@ -48,7 +48,7 @@ DWORD ResumeThread(HANDLE thread)
         atomic_store_explicit(&seat->suspended, before - 1, memory_order_release);
         wake_one(&seat->suspended);
     }
-    finish(caller, 0);
+    unlock_and_wake(caller);
     return before;
 }
 
@@ -65,7 +65,7 @@ DWORD SuspendThread(HANDLE thread)
         refused = ERROR_SIGNAL_REFUSED;
     else
         atomic_store_explicit(&seat->suspended, before + 1, memory_order_relaxed);
-    return finish(caller, refused) ? before : UINT32_MAX;
+    return end_look(caller, refused) ? before : UINT32_MAX;
 }
 
 /* How long a thread ran that has not ended, as the program and in the system. */
@@ -99,7 +99,7 @@ BOOL GetThreadTimes(HANDLE thread, LPFILETIME began, LPFILETIME ended, LPFILETIM
         return FALSE;
     struct life life = seat->life;
     const bool has_left = seat->has_left;
-    finish(caller, 0);
+    unlock_and_wake(caller);
     if (!has_left)
         read_times_used(&life, life.used);
     set_file_time(began, (uint64_t)life.began);
@@ -119,7 +119,7 @@ BOOL SetThreadPriority(HANDLE thread, int priority)
         || priority == THREAD_PRIORITY_TIME_CRITICAL;
     if (is_level)
         seat->life.priority = priority;
-    return finish(caller, is_level || is_mode ? 0 : ERROR_INVALID_PARAMETER);
+    return end_look(caller, is_level || is_mode ? 0 : ERROR_INVALID_PARAMETER);
 }
 
 int GetThreadPriority(HANDLE thread)
@@ -128,7 +128,7 @@ int GetThreadPriority(HANDLE thread)
     if (seat == NULL)
         return THREAD_PRIORITY_ERROR_RETURN;
     const int priority = seat->life.priority;
-    finish(caller, 0);
+    unlock_and_wake(caller);
     return priority;
 }
 
@@ -150,7 +150,7 @@ HRESULT SetThreadDescription(HANDLE thread, PCWSTR description)
     WCHAR *before = seat->life.description;
     const pid_t task = seat->has_left ? 0 : seat->life.task;
     seat->life.description = copy;
-    finish(caller, 0);
+    unlock_and_wake(caller);
     if (task != 0)
         name_task(task, description != NULL ? description : L"");
     free(before);
@@ -166,7 +166,7 @@ HRESULT GetThreadDescription(HANDLE thread, PWSTR *description)
         return NO_THREAD;
     }
     *description = wcsdup(seat->life.description != NULL ? seat->life.description : L"");
-    finish(caller, 0);
+    unlock_and_wake(caller);
     return *description != NULL ? S_OK : E_OUTOFMEMORY;
 }
 

@@ -1,0 +1,259 @@
+/* ---- Completion ports. A packet that is posted goes to the thread that came last, or waits in the port. A thread that waits for a packet waits for an
+ * event of its own. For the dispatcher a port is an event that is never set. */
+
+struct packet {
+    struct packet *next;
+    OVERLAPPED_ENTRY entry;
+};
+
+/* A thread that waits for a packet. */
+struct getter {
+    struct getter *above, *below; /* who came after it, and before */
+    HANDLE event;
+    struct packet *packet;        /* what it was given */
+    bool is_told;                 /* it waits no longer: it was given one, or the port is closed */
+};
+
+struct port {
+    struct packet *first, *last;
+    struct getter *top;           /* the thread that came last */
+    uint32_t handles;             /* under the dispatcher's lock */
+    uint32_t users;               /* how many calls are in it */
+    bool is_closed;
+};
+static _Atomic uint32_t ports_latch;
+
+static uint32_t *handles_of_port(struct port *port)
+{
+    return &port->handles;
+}
+
+/* The event of the caller. It is closed as the thread ends. */
+static _Thread_local HANDLE event_of_thread __attribute__((tls_model("initial-exec")));
+static pthread_key_t event_leaving;
+static bool has_event_key;
+
+static void close_event_of_thread(void *event)
+{
+    event_of_thread = NULL;
+    CloseHandle(event);
+}
+
+__attribute__((constructor)) static void make_event_key(void)
+{
+    has_event_key = pthread_key_create(&event_leaving, close_event_of_thread) == 0;
+}
+
+/* The caller's event; null, with the last error set, where there is none. */
+static HANDLE event_to_wait(void)
+{
+    const DWORD error = own.last_error;
+    if (event_of_thread != NULL)
+        return event_of_thread;
+    HANDLE made = CreateEventA(NULL, FALSE, FALSE, NULL);
+    if (made != NULL && (!has_event_key || pthread_setspecific(event_leaving, made) != 0)) {
+        CloseHandle(made);
+        fail(ERROR_NOT_ENOUGH_MEMORY);
+        return NULL;
+    }
+    if (made != NULL)
+        own.last_error = error;
+    return event_of_thread = made;
+}
+
+HANDLE CreateIoCompletionPort(HANDLE file, HANDLE port, ULONG_PTR key, DWORD threads)
+{
+    struct nt_reply event, reply;
+    (void)key;
+    (void)threads;
+    if (file != INVALID_HANDLE_VALUE || port != NULL) {
+        fail(file != INVALID_HANDLE_VALUE ? ERROR_INVALID_HANDLE : ERROR_INVALID_PARAMETER);
+        return NULL;
+    }
+    struct port *made = calloc(1, sizeof *made);
+    struct seat *seat = made != NULL ? begin() : NULL;
+    if (seat == NULL) {
+        if (made == NULL)
+            fail(ERROR_NOT_ENOUGH_MEMORY);
+        free(made);
+        return NULL;
+    }
+    uint32_t refused = nt_create_event(&waiting.dispatcher, seat->number, 0, &event);
+    if (refused == 0) {
+        refused = nt_duplicate(&waiting.dispatcher, seat->number, event.number, SYNCHRONIZE, &reply);
+        close_number(seat->number, event.number);
+    }
+    if (refused == 0) {
+        waiting.kinds[reply.number] = KIND_PORT;
+        waiting.ports[reply.number] = made;
+        made->handles = 1;
+    } else {
+        free(made);
+    }
+    return finish(seat, refused) ? handle_of(reply.number) : NULL;
+}
+
+/* The port that a handle names, which stays until `leave_port`; null, with the last error set, where it names none. */
+static struct port *enter_port(HANDLE handle)
+{
+    struct seat *seat = begin();
+    if (seat == NULL)
+        return NULL;
+    const uint32_t number = listed_number_of(handle);
+    struct port *port = number != NO_HANDLE && kind_of(number) == KIND_PORT ? waiting.ports[number] : NULL;
+    if (port != NULL) {
+        take_latch(&ports_latch);
+        port->users++;
+        give_latch(&ports_latch);
+    }
+    end_look(seat, port != NULL ? 0 : ERROR_INVALID_HANDLE);
+    return port;
+}
+
+/* The call leaves the port, under the latch, which is given back. */
+static void leave_port(struct port *port)
+{
+    const bool ends = --port->users == 0 && port->is_closed;
+    give_latch(&ports_latch);
+    for (struct packet *at = ends ? port->first : NULL, *next; at != NULL; at = next) {
+        next = at->next;
+        free(at);
+    }
+    if (ends)
+        free(port);
+}
+
+/* Takes a thread off the stack, under the latch. */
+static void leave_stack(struct port *port, struct getter *getter)
+{
+    if (getter->above != NULL)
+        getter->above->below = getter->below;
+    else
+        port->top = getter->below;
+    if (getter->below != NULL)
+        getter->below->above = getter->above;
+}
+
+/* The last handle of a port is closed: who waits there is told so. */
+static void close_port(struct port *port)
+{
+    take_latch(&ports_latch);
+    port->users++;
+    port->is_closed = true;
+    for (struct getter *at; (at = port->top) != NULL;) {
+        HANDLE event = at->event;
+        leave_stack(port, at);
+        at->is_told = true;
+        give_latch(&ports_latch);
+        SetEvent(event);
+        take_latch(&ports_latch);
+    }
+    leave_port(port);
+}
+
+BOOL PostQueuedCompletionStatus(HANDLE handle, DWORD bytes, ULONG_PTR key, LPOVERLAPPED overlapped)
+{
+    HANDLE event = NULL;
+    struct packet *packet = malloc(sizeof *packet);
+    if (packet == NULL)
+        return fail(ERROR_NOT_ENOUGH_MEMORY);
+    *packet = (struct packet){ .entry = { .lpCompletionKey = key, .lpOverlapped = overlapped, .dwNumberOfBytesTransferred = bytes } };
+    struct port *port = enter_port(handle);
+    if (port == NULL) {
+        free(packet);
+        return FALSE;
+    }
+    take_latch(&ports_latch);
+    struct getter *getter = port->top;
+    if (getter != NULL) {
+        leave_stack(port, getter);
+        getter->packet = packet;
+        getter->is_told = true;
+        event = getter->event;
+    } else if (port->first == NULL) {
+        port->first = port->last = packet;
+    } else {
+        port->last = port->last->next = packet;
+    }
+    leave_port(port);
+    if (event != NULL)
+        SetEvent(event);
+    return TRUE;
+}
+
+/* Takes the packet that was posted first, under the latch; null where there is none. */
+static struct packet *take_packet(struct port *port)
+{
+    struct packet *packet = port->first;
+    if (packet != NULL)
+        port->first = packet->next;
+    return packet;
+}
+
+/* Waits for a packet, under the latch, which is given back meanwhile. Answers it, or null, and in `error` why there is none. */
+static struct packet *wait_for_packet(struct port *port, DWORD ms, BOOL alertable, HANDLE event, DWORD *error)
+{
+    struct getter getter = { .below = port->top, .event = event };
+    if (port->top != NULL)
+        port->top->above = &getter;
+    port->top = &getter;
+    give_latch(&ports_latch);
+    const DWORD status = WaitForSingleObjectEx(event, ms, alertable);
+    take_latch(&ports_latch);
+    if (!getter.is_told) {
+        leave_stack(port, &getter);
+        *error = status;
+        return NULL;
+    }
+    *error = ERROR_ABANDONED_WAIT_0;
+    if (status != WAIT_OBJECT_0) {
+        /* (It was told just then: the event is set, or about to be.) */
+        give_latch(&ports_latch);
+        WaitForSingleObject(event, INFINITE);
+        take_latch(&ports_latch);
+    }
+    return getter.packet;
+}
+
+/* Takes up to `count` packets, waiting for the first of them. Answers how many; 0, with the last error set, where there is none. */
+static ULONG get_packets(HANDLE handle, LPOVERLAPPED_ENTRY entries, ULONG count, DWORD ms, BOOL alertable)
+{
+    struct port *port = enter_port(handle);
+    HANDLE event = port != NULL ? event_to_wait() : NULL;
+    DWORD error = event != NULL ? WAIT_TIMEOUT : own.last_error;
+    ULONG taken = 0;
+    if (port == NULL)
+        return 0;
+    take_latch(&ports_latch);
+    struct packet *packet = take_packet(port);
+    if (packet == NULL && event != NULL && (ms > 0 || alertable))
+        packet = wait_for_packet(port, ms, alertable, event, &error);
+    for (; packet != NULL; packet = taken < count ? take_packet(port) : NULL) {
+        entries[taken++] = packet->entry;
+        free(packet);
+    }
+    leave_port(port);
+    if (taken == 0)
+        fail(error);
+    return taken;
+}
+
+BOOL GetQueuedCompletionStatus(HANDLE port, LPDWORD bytes, PULONG_PTR key, LPOVERLAPPED *overlapped, DWORD ms)
+{
+    OVERLAPPED_ENTRY entry;
+    *overlapped = NULL;
+    if (get_packets(port, &entry, 1, ms, FALSE) == 0)
+        return FALSE;
+    *bytes = entry.dwNumberOfBytesTransferred;
+    *key = entry.lpCompletionKey;
+    *overlapped = entry.lpOverlapped;
+    return TRUE;
+}
+
+BOOL GetQueuedCompletionStatusEx(HANDLE port, LPOVERLAPPED_ENTRY entries, ULONG count, PULONG removed, DWORD ms, BOOL alertable)
+{
+    if (entries == NULL || count == 0 || removed == NULL)
+        return fail(ERROR_INVALID_PARAMETER);
+    *removed = get_packets(port, entries, count, ms, alertable);
+    return *removed > 0;
+}
