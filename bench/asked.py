@@ -4,7 +4,7 @@ import argparse
 
 def asked(doc, *, numbers=None, names=(), flags=()):
     """What the command line asks for: each of the numbers, by its name and with what it is if left out; `names`, those of these names that have a part which
-    was given, or all; and the flags. Where help is asked for, it is given, and the program ends."""
+    was given, or all, and whether it is all; and the flags. Where help is asked for, it is given, and the program ends."""
     numbers = numbers or {}
     parser = argparse.ArgumentParser(description=doc, formatter_class=argparse.RawDescriptionHelpFormatter)
     places = " ".join([*(f"[{it.upper()}]" for it in numbers), *(["[NAME..]"] if names else [])])
@@ -22,5 +22,6 @@ def asked(doc, *, numbers=None, names=(), flags=()):
     lacking = [it for it in found.words if not any(it in name for name in names)]
     if lacking:
         parser.error(f"no name has {lacking[0]!r} in it")
+    found.is_all = not found.words
     found.names = [it for it in names if not found.words or any(word in it for word in found.words)]
     return found

@@ -1,31 +1,11 @@
 //! Calls that are made over and over.
 
-use crate::shapes::Shape;
+use crate::fault::Fault;
+use crate::on_core::shapes::Shape;
 use nt_apc::Apc;
 use nt_core::{Call, Core};
 use nt_status::Refusal;
-use std::alloc::{AllocError, Global};
-
-/// Why a bench can't go on.
-#[derive(Clone, Copy, Debug)]
-pub enum Fault {
-    Memory,
-    Refused(Refusal),
-    Clock,
-    Output,
-}
-
-impl From<AllocError> for Fault {
-    fn from(_: AllocError) -> Fault {
-        Fault::Memory
-    }
-}
-
-impl From<Refusal> for Fault {
-    fn from(refusal: Refusal) -> Fault {
-        Fault::Refused(refusal)
-    }
-}
+use std::alloc::Global;
 
 /// One call by one thread.
 #[derive(Drop)]
