@@ -22,6 +22,8 @@
 #ifndef NTWIN_H
 #define NTWIN_H
 
+#define NTWIN_VERSION "1.0"
+
 #include <stddef.h>
 #include <stdint.h>
 #include <wchar.h>

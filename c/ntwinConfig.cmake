@@ -1,0 +1,13 @@
+# find_package(ntwin) makes two targets: ntwin::ntwin, the shared library, and ntwin::static.
+get_filename_component(_ntwin_prefix "${CMAKE_CURRENT_LIST_DIR}/../../.." ABSOLUTE)
+find_package(Threads REQUIRED)
+foreach(_ntwin_target IN ITEMS ntwin static)
+    if(NOT TARGET ntwin::${_ntwin_target})
+        add_library(ntwin::${_ntwin_target} UNKNOWN IMPORTED)
+        set_target_properties(ntwin::${_ntwin_target} PROPERTIES
+            INTERFACE_INCLUDE_DIRECTORIES "${_ntwin_prefix}/include/ntwin;${_ntwin_prefix}/include/ntwin/win"
+            INTERFACE_LINK_LIBRARIES Threads::Threads)
+    endif()
+endforeach()
+set_target_properties(ntwin::ntwin PROPERTIES IMPORTED_LOCATION "${_ntwin_prefix}/lib/libntwin.so")
+set_target_properties(ntwin::static PROPERTIES IMPORTED_LOCATION "${_ntwin_prefix}/lib/libntwin.a")
