@@ -36,6 +36,7 @@ class Proofs:
     def __init__(self, crates, rooms, progress, handles, begin_with=None):
         self.crates, self.rooms, self.progress, self.handles, self.begin_with = crates, rooms, progress, handles, begin_with
         self.checked, self.taken, self.failed, self.passed = 0, 0, [], []
+        self.used = {it.name for crate in crates.values() for it in crate.uses}
 
     def run(self, names, runs=True, checked=None):
         """Proves these crates and those below them, and runs their tests and programs where `runs`. It returns whether all passed. Crates that are
@@ -69,7 +70,7 @@ class Proofs:
         folder = fill_room(f"{self.rooms}/{crate.name}", crate, self.begin_with and f"{self.begin_with}/crates/{crate.name}/out")
         try:
             said = prove(crate, folder, self.handles) if checks else None
-            if not crate.is_program:
+            if crate.is_static or crate.name in self.used:
                 build_library(crate, folder)
             if runs and crate.has_tests():
                 pass_tests(crate, folder, self.handles)
@@ -120,11 +121,11 @@ def pass_tests(crate, folder, handles):
 def build_program(crate, folder):
     """Builds the program with each of the kit's two compilers. (`rt run` runs it too; what that answers is judged by `run_program`.)"""
     words = crate.text("args").split("\n")[:-1]
-    for backend, ending in (("rattle", BY_RATTLE), ("llvm", "")):
-        said = rt(folder, "run", *ONE_JOB, "--backend", backend, "--", *words)
+    for flags, ending in ((("--backend", "rattle"), BY_RATTLE), ((), "")):
+        said = rt(folder, "run", *ONE_JOB, *flags, "--", *words)
         made = f"{folder}/out/{crate.name}"
         if not os.access(made, os.X_OK):
-            raise Failed(f"`rt run --backend {backend}` built no program", said.text)
+            raise Failed(f"`{' '.join(['rt run', *flags])}` built no program", said.text)
         if ending:
             os.rename(made, made + ending)
 
