@@ -48,7 +48,11 @@ pub fn renewed(
 ) -> Option<(Answer, Answer, &'static [Ended])> {
     match step {
         Step::CreateAgain(who, ask, object, handle, answer) => {
-            Some((create_again(rt, core, who, ask, object, handle), answer, &[]))
+            Some((
+                create_again(rt, core, who, ask, object, handle),
+                answer,
+                &[],
+            ))
         }
         Step::DuplicateAgain(who, source, access, handle, answer) => {
             let (source, handle) = (Handle::new(source), Handle::new(handle));
@@ -67,13 +71,21 @@ pub fn renewed(
 /// Looks whether the number of each of these objects may be given again, or of none.
 pub fn expect_vacant(rt: &impl Host, core: &Core, objects: &[u32], may: bool) {
     for object in objects {
-        assert_eq!(rt; core.is_vacant(ObjectNumber::new(*object)), may, "object {object}");
+        assert_eq!(rt;
+            core.is_vacant(ObjectNumber::new(*object)),
+            may,
+            "object {object}"
+        );
     }
 }
 
 /// Looks whether the number of each of these handles may be given again, or of none.
 pub fn expect_closed(rt: &impl Host, core: &Core, handles: &[u32], may: bool) {
     for handle in handles {
-        assert_eq!(rt; core.is_closed(Handle::new(*handle)), may, "handle {handle}");
+        assert_eq!(rt;
+            core.is_closed(Handle::new(*handle)),
+            may,
+            "handle {handle}"
+        );
     }
 }
