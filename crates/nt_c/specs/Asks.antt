@@ -115,11 +115,11 @@ Ticks old m number new =
 -- ---- what C reads
 
 -- nothing is told
-abbrev Untold : (A : Type 0) → ℕ → ℕ → A → A → Type 0
+abbrev pub Untold : (A : Type 0) → ℕ → ℕ → A → A → Type 0
 Untold A refusal number before after = (number ≡ refusal) × (after ≡ before)
 
 -- a value of the dispatcher is told
-abbrev Told : (A : Type 0) → A → ℕ → A → Type 0
+abbrev pub Told : (A : Type 0) → A → ℕ → A → Type 0
 Told A value number after = (number ≡ 0) × (after ≡ value)
 
 -- a number of the dispatcher is told, or 6 is answered where there is none

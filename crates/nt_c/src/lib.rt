@@ -10,6 +10,7 @@ mod events;
 mod grants;
 mod handle;
 mod life;
+mod looks;
 mod mutexes;
 mod numbers;
 mod objects;

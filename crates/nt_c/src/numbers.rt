@@ -11,3 +11,6 @@ pub(crate) const NO_MORE: u32 = 259;
 
 /// No thread has this number.
 pub(crate) const UNKNOWN_THREAD: u32 = 0x2000_0003;
+
+/// ERROR_NOT_ENOUGH_MEMORY.
+pub(crate) const OUT_OF_MEMORY: u32 = 8;

@@ -3,13 +3,15 @@ ghost use Rattle.std.specs.Prelude.{◌≡◌, MatchOption, slice_get};
 ghost use Rattle.std.specs.Option.{option_copied};
 ghost use Rattle.std.specs.FinMap as map;
 ghost use Rattle.nt_core.specs.Dispatcher.{state};
+ghost use Rattle.nt_core.specs.Lawful.{IsLawful};
 ghost use Rattle.nt_calls.specs.Naming.{object_named};
+ghost use Rattle.nt_objects.specs.Handles.{opened_at, count_named};
 ghost use Rattle.nt_calls.specs.Steps.{IsNextMoment, NothingDue};
 
 use crate::dispatcher::Core;
 use nt_calls::{named, object_named};
-use nt_objects::Object;
-use nt_status::{Handle, Moment, ThreadId};
+use nt_objects::{Object, Opened};
+use nt_status::{Handle, Moment, ObjectNumber, ThreadId};
 use nt_waits::Wait;
 
 impl Core {
@@ -26,6 +28,34 @@ impl Core {
     {
         let number = object_named(&self.machine.handles, handle);
         named(self.machine.objects.as_slice(), number).copied()
+    }
+
+    /// Tells that the dispatcher is lawful, as it is between any two calls, and does nothing.
+    pub fn stands(&self)
+        ensures { IsLawful self.now }
+    {
+        let _ = &self.machine;
+    }
+
+    /// The objects by their own numbers, by which `waits_for` names them. What no handle and no wait keeps any more is gone.
+    pub fn objects(&self) -> &[Object]
+        ensures { result.now ≡ (state self.now).objects }
+    {
+        self.machine.objects.as_slice()
+    }
+
+    /// The object that the handle names, by its number, and with which rights; none where it names nothing.
+    pub fn opened(&self, handle: Handle) -> Option<Opened>
+        ensures { result ≡ opened_at (state self.now).handles handle }
+    {
+        self.machine.handles.get(handle)
+    }
+
+    /// How many handles name the object with this number.
+    pub fn handles_of(&self, object: ObjectNumber) -> u32
+        ensures { result ≡ count_named (state self.now).handles object }
+    {
+        self.machine.handles.count(object)
     }
 
     /// What the thread's pending wait names, in its order, and its mode; none where no wait of this thread pends. The numbers are those

@@ -10,6 +10,7 @@ mod events;
 mod exits;
 mod free;
 mod handles;
+mod hangs;
 pub mod memory;
 mod mutexes;
 mod openings;

@@ -1,0 +1,93 @@
+-- What C reads of objects, and of why threads wait.
+use Rattle.std.specs.Prelude.{◌≡◌, ◌⊎◌, ◌↔◌, ℕ, pos, Bool, true, false, List, Option, None, Some, MatchOption, MatchBool, nat_le, slice_get, length, ◌==◌}
+use Rattle.nt_status.specs.declared.limits.TheConstants.{MAX_MOMENT}
+use Rattle.nt_objects.specs.declared.object.Object.{Object}
+use Rattle.nt_objects.specs.declared.object.Object.TheVariants.{Event, Semaphore, Mutex, Timer, Thread, Gone}
+use Rattle.nt_objects.specs.declared.object.Armed.{Armed}
+use Rattle.nt_objects.specs.Handles.{opened_at}
+use Rattle.nt_calls.specs.Steps.{IsNextMoment, NothingDue}
+use Rattle.nt_core.specs.Dispatcher.{Dispatcher, state}
+use Rattle.nt_look.specs.Hangs.{unmarked, IsStuck, IsGreatestKnot}
+use Rattle.nt_c.specs.declared.handle.Nt.{Nt}
+use Rattle.nt_c.specs.declared.looks.NtObject.{NtObject}
+use Rattle.nt_c.specs.declared.looks.NtOpened.{NtOpened}
+use Rattle.nt_c.specs.declared.looks.NtWhy.{NtWhy}
+use Rattle.nt_c.specs.Asks.{Told, Untold}
+
+-- ---- objects
+
+-- an object of this kind, of which nothing else is said
+abbrev pub plain_object : ℕ → NtObject
+plain_object kind =
+    record {
+      kind = kind;
+      manual = false;
+      set = false;
+      owned = false;
+      abandoned = false;
+      armed = false;
+      count = pos 0;
+      maximum = pos 0;
+      owner = 0;
+      depth = 0;
+      due = 0;
+      period = 0;
+    }
+
+-- a mutex with its owner, or with none
+abbrev pub owned_in : NtObject → Option ℕ → NtObject
+owned_in object None = object
+owned_in object (Some owner) = record object { owned = true; owner = owner }
+
+-- a timer with its setting, or with none
+abbrev pub armed_in : NtObject → Option Armed → NtObject
+armed_in object None = object
+armed_in object (Some armed) = record object { armed = true; due = armed.due; period = armed.period }
+
+-- an object as C sees it
+abbrev pub object_in : Object → NtObject
+object_in Gone = plain_object 0
+object_in (Event manual set) = record (plain_object 1) { manual = manual; set = set }
+object_in (Semaphore count maximum) = record (plain_object 2) { count = count; maximum = maximum }
+object_in (Mutex owner depth abandoned) = owned_in (record (plain_object 3) { depth = depth; abandoned = abandoned }) owner
+object_in (Timer manual set armed) = armed_in (record (plain_object 4) { manual = manual; set = set }) armed
+object_in (Thread ended) = record (plain_object 5) { set = ended }
+
+-- the object with this number is told, or 259 is answered where there is none
+abbrev pub ReadsNumbered : ℕ → Nt → ℕ → NtObject → NtObject → Type 0
+ReadsNumbered object nt number before after =
+    MatchOption nt.cell.core
+    (Untold NtObject 6 number before after)
+    (λ core. MatchOption (slice_get (state core).objects object) (Untold NtObject 259 number before after) (λ found. Told NtObject (object_in found) number after))
+
+-- what the handle names is told, or 6 is answered where it names nothing
+abbrev pub ReadsOpened : ℕ → Nt → ℕ → NtOpened → NtOpened → Type 0
+ReadsOpened handle nt number before after =
+    MatchOption nt.cell.core
+    (Untold NtOpened 6 number before after)
+    (λ core. MatchOption (opened_at (state core).handles handle) (Untold NtOpened 6 number before after)
+    (λ opened. Told NtOpened (record { object = opened.object; access = opened.access }) number after))
+
+-- ---- why threads wait
+
+-- whether all is stuck, the greatest knot, and what is due next up to moment m
+pub record IsWhy (core : Dispatcher) (over : List Bool) (m : ℕ) (why : NtWhy) (marks : List Bool) : Type 0 where
+  pub stuck : (why.stuck ≡ true) ↔ IsStuck (unmarked over) (state core)
+  pub knot : IsGreatestKnot (unmarked over) (state core) marks
+  pub next : MatchBool why.due (IsNextMoment (state core) m why.next) (NothingDue (state core) m × (why.next ≡ 0))
+
+-- it is told why threads wait, or memory is refused, and then nothing is
+abbrev pub WhyOrMemory : Dispatcher → List Bool → ℕ → ℕ → NtWhy → NtWhy → List Bool → List Bool → Type 0
+WhyOrMemory core over m number before after knot_before knot_after =
+    ((number ≡ 0) × IsWhy core over m after knot_after) ⊎ ((number ≡ 8) × (after ≡ before) × (knot_after ≡ knot_before))
+
+-- the same through a handle; 87 is answered where the moment is above the greatest, or the knot has not a place for each thread
+abbrev pub ReadsWhy : List Bool → ℕ → Nt → ℕ → NtWhy → NtWhy → List Bool → List Bool → Type 0
+ReadsWhy over m nt number before after knot_before knot_after =
+    MatchBool (nat_le m MAX_MOMENT)
+    (MatchOption nt.cell.core
+    (Untold NtWhy 6 number before after × (knot_after ≡ knot_before))
+    (λ core. MatchBool (length knot_before == (state core).threads)
+    (WhyOrMemory core over m number before after knot_before knot_after)
+    (Untold NtWhy 87 number before after × (knot_after ≡ knot_before))))
+    (Untold NtWhy 87 number before after × (knot_after ≡ knot_before))

@@ -1,0 +1,10 @@
+mod Parts
+mod Waiting
+mod Passing
+mod Standstill
+mod Holding
+mod Tied
+mod Knots
+mod Deciding
+mod Loosening
+mod Searching

@@ -1,0 +1,29 @@
+-- What the functions that decide tell of one thread. No public clause cites this.
+use Rattle.std.specs.Prelude.{◌≡◌, ◌<◌, ℕ, Bool, true, false, List, length, Some, is_some, ◌&&◌, ◌||◌}
+use Rattle.nt_objects.specs.declared.object.Object.{Object}
+use Rattle.std.specs.FinMap.{get}
+use Rattle.nt_waits.specs.declared.wait.Wait.{Wait}
+use Rattle.nt_calls.specs.State.{State, pends}
+use Rattle.nt_calls.specs.Living.{runs}
+use Rattle.nt_look.specs.Hangs.{ends_in_time, fits_in_time, is_called_in_time, IsKnot, IsTied, marked, unmarked}
+
+-- a deadline, armed timers or their APC can end the wait of thread t
+abbrev pub ends_by_time : List Object → ℕ → Wait → Bool
+ends_by_time objects t w = is_some w.deadline || (fits_in_time objects t w || (w.alertable && is_called_in_time objects t))
+
+-- the thread does not run, makes no call any more, or waits; and time alone does not end its wait
+pub record IsHanging (callers : ℕ → Bool) (s : State) (t : ℕ) : Type 0 where
+  pub waits : callers t ≡ true → runs s t ≡ true → pends s t ≡ true
+  pub lasts : (w : Wait) → get s.waits t ≡ Some w → ends_in_time s t w ≡ false
+
+-- a marked thread that may call and is not tied
+pub record IsUntied (over knot : List Bool) (s : State) (t : ℕ) : Type 0 where
+  pub inside : marked knot t ≡ true
+  pub calls : unmarked over t ≡ true
+  pub known : t < length knot
+  pub free : IsTied (marked knot) s t → ⊥
+
+-- each thread of any knot has a mark
+pub record HasAllKnots (over : List Bool) (s : State) (knot : List Bool) : Type 0 where
+  pub count : length knot ≡ s.threads
+  pub all : (other : ℕ → Bool) → ((t : ℕ) → other t ≡ true → t < s.threads) → IsKnot (unmarked over) other s → (t : ℕ) → other t ≡ true → marked knot t ≡ true

@@ -1,0 +1,4 @@
+pub mod Hangs
+pub mod Hanging
+pub mod Deciding
+pub mod Orders
