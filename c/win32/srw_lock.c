@@ -1,17 +1,18 @@
-/* ---- SRW locks: a word of who has it and who wants it, and a word that counts how often a thread was woken that wants it alone. While a
+/* ---- SRW locks: a word of who has it and who wants it, and a word that counts how often a thread was called that wants it alone. While a
  * thread waits that wants it alone, or any that shares, no new thread may share. */
 
 struct srw {
     _Atomic uint32_t state;
-    _Atomic uint32_t wakes;
+    _Atomic uint32_t calls;
 };
 _Static_assert(sizeof(struct srw) == sizeof(SRWLOCK), "an SRW lock is one pointer");
 
 #define SHARER 1u
-#define SHARERS 0x3FFFFFFFu /* these bits: how many share it, */
-#define ALONE SHARERS       /* or one has it alone */
-#define SHARERS_WAIT 0x40000000u
-#define ALONE_WAITS 0x80000000u
+#define SHARERS 0xFFFFu          /* these bits: how many share it, */
+#define ALONE SHARERS            /* or one has it alone */
+#define ALONE_WAITER 0x10000u
+#define ALONE_WAITERS 0x7FFF0000u /* how many wait that want it alone, until they have it */
+#define SHARERS_WAIT 0x80000000u
 
 static struct srw *srw_of(PSRWLOCK lock)
 {
@@ -20,7 +21,7 @@ static struct srw *srw_of(PSRWLOCK lock)
 
 static inline bool may_share(uint32_t state)
 {
-    return (state & SHARERS) < SHARERS - 1 && (state & (SHARERS_WAIT | ALONE_WAITS)) == 0;
+    return (state & SHARERS) < SHARERS - 1 && (state & (SHARERS_WAIT | ALONE_WAITERS)) == 0;
 }
 
 static inline bool is_nobodys(uint32_t state)
@@ -39,26 +40,15 @@ static inline uint32_t state_of(struct srw *srw)
     return atomic_load_explicit(&srw->state, memory_order_relaxed);
 }
 
-/* Wakes a thread that wants it alone, where one sleeps. */
-static bool wake_alone(struct srw *srw)
+/* Nobody has it, in this state, and threads wait: calls one that wants it alone, or else those that share. Who takes it meanwhile calls them
+ * when it lets go. */
+__attribute__((noinline)) static void call_waiters(struct srw *srw, uint32_t state)
 {
-    atomic_fetch_add_explicit(&srw->wakes, 1, memory_order_release);
-    return wake(&srw->wakes, 1) > 0;
-}
-
-/* Nobody has it, in this state, and threads wait: wakes one that wants it alone, or else those that share. While one that was woken is on its
- * way, ALONE_WAITS stays, so that no new sharer comes before it. Who takes it meanwhile wakes them when it lets go. */
-__attribute__((noinline)) static void wake_waiters(struct srw *srw, uint32_t state)
-{
-    while (is_nobodys(state)) {
-        const bool do_sharers_wait = (state & SHARERS_WAIT) != 0;
-        if ((state & ALONE_WAITS) != 0 && wake_alone(srw))
-            return;
-        if (swap_state(srw, &state, 0)) {
-            if (do_sharers_wait)
-                wake(&srw->state, INT_MAX);
-            return;
-        }
+    if ((state & ALONE_WAITERS) != 0) {
+        atomic_fetch_add_explicit(&srw->calls, 1, memory_order_release);
+        wake(&srw->calls, 1);
+    } else if (swap_state(srw, &state, 0)) {
+        wake(&srw->state, INT_MAX);
     }
 }
 
@@ -73,31 +63,27 @@ static uint32_t look_at_lock(struct srw *srw, uint32_t waiters)
     return state;
 }
 
+/* Counts the caller among those that wait, until it has it. */
 __attribute__((noinline)) static void wait_alone(struct srw *srw)
 {
-    uint32_t others = 0, state = look_at_lock(srw, ALONE_WAITS);
+    uint32_t state = look_at_lock(srw, ALONE_WAITERS);
+    while (is_nobodys(state))
+        if (swap_state(srw, &state, state | ALONE))
+            return;
+    state = atomic_fetch_add_explicit(&srw->state, ALONE_WAITER, memory_order_relaxed) + ALONE_WAITER;
     for (;;) {
-        if (is_nobodys(state)) {
-            if (swap_state(srw, &state, state | ALONE | others))
-                return;
-            continue;
-        }
-        if ((state & ALONE_WAITS) == 0 && !swap_state(srw, &state, state | ALONE_WAITS))
-            continue;
-        /* (Another may wait beside this one, and who is woken can't tell.) */
-        others = ALONE_WAITS;
-        const uint32_t seen = atomic_load_explicit(&srw->wakes, memory_order_acquire);
+        const uint32_t seen = atomic_load_explicit(&srw->calls, memory_order_acquire);
         state = state_of(srw);
-        if (is_nobodys(state) || (state & ALONE_WAITS) == 0)
-            continue;
-        sleep_on(&srw->wakes, seen, NULL);
-        state = look_at_lock(srw, ALONE_WAITS);
+        while (is_nobodys(state))
+            if (swap_state(srw, &state, (state | ALONE) - ALONE_WAITER))
+                return;
+        sleep_on(&srw->calls, seen, NULL);
     }
 }
 
 __attribute__((noinline)) static void wait_to_share(struct srw *srw)
 {
-    uint32_t state = look_at_lock(srw, SHARERS_WAIT | ALONE_WAITS);
+    uint32_t state = look_at_lock(srw, SHARERS_WAIT | ALONE_WAITERS);
     for (;;) {
         if (may_share(state)) {
             if (swap_state(srw, &state, state + SHARER))
@@ -107,7 +93,7 @@ __attribute__((noinline)) static void wait_to_share(struct srw *srw)
         if ((state & SHARERS_WAIT) == 0 && !swap_state(srw, &state, state | SHARERS_WAIT))
             continue;
         sleep_on(&srw->state, state | SHARERS_WAIT, NULL);
-        state = look_at_lock(srw, SHARERS_WAIT | ALONE_WAITS);
+        state = state_of(srw);
     }
 }
 
@@ -143,7 +129,7 @@ void ReleaseSRWLockExclusive(PSRWLOCK lock)
     comes_before(&srw->state);
     const uint32_t state = atomic_fetch_sub_explicit(&srw->state, ALONE, memory_order_release) - ALONE;
     if (state != 0)
-        wake_waiters(srw, state);
+        call_waiters(srw, state);
 }
 
 BOOLEAN TryAcquireSRWLockShared(PSRWLOCK lock)
@@ -172,6 +158,6 @@ void ReleaseSRWLockShared(PSRWLOCK lock)
     struct srw *srw = srw_of(lock);
     comes_before(&srw->state);
     const uint32_t state = atomic_fetch_sub_explicit(&srw->state, SHARER, memory_order_release) - SHARER;
-    if (is_nobodys(state) && (state & ALONE_WAITS) != 0)
-        wake_waiters(srw, state);
+    if (is_nobodys(state) && state != 0)
+        call_waiters(srw, state);
 }
