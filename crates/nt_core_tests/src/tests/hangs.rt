@@ -1,7 +1,9 @@
 //! Why threads wait: scenarios of three threads, with what a reader of the definitions would say of each.
+use crate::tests::memory::{Host, NOT_ENOUGH_MEMORY, tell_refused};
+use nt_apc::Apc;
 use nt_core::{Act, Call, Core, WaitCall};
 use nt_look::why;
-use nt_status::{Handle, Handles, Moment, Refusal};
+use nt_status::{Handle, Handles, MAX_MOMENT, Moment, Refusal};
 use std::alloc::Global;
 
 /// A call of a thread. Objects that are created have the handles 3, 4 and so on.
@@ -195,7 +197,47 @@ fn call_of(alloc: Global, does: Does) -> Result<Call, Refusal> {
     }
 }
 
-/// Whether of this row just this is told.
+/// Makes the calls of a row.
+fn play(alloc: Global, core: &mut Core, steps: &[(u32, Does)]) -> Result<(), Refusal> {
+    let _inside: Option<Apc> = None;
+    for (who, does) in steps {
+        let call = call_of(alloc, *does)?;
+        core.call(*who, &call)?;
+    }
+    Ok(())
+}
+
+/// Whether of this dispatcher just this is told.
+fn is_verdict(
+    alloc: Global,
+    core: &Core,
+    stuck: bool,
+    knot: &[bool],
+    due: bool,
+) -> Result<bool, Refusal> {
+    let Some(last) = Moment::new(MAX_MOMENT) else {
+        return Ok(false);
+    };
+    let Ok(verdict) = why(alloc, core, last) else {
+        return Err(Refusal::Memory);
+    };
+    Ok(verdict.stuck == stuck && verdict.knot.as_slice() == knot && verdict.next.is_some() == due)
+}
+
+/// Whether it is told once the calls were made.
+fn is_told_after(
+    alloc: Global,
+    core: &mut Core,
+    steps: &[(u32, Does)],
+    stuck: bool,
+    knot: &[bool],
+    due: bool,
+) -> Result<bool, Refusal> {
+    play(alloc, core, steps)?;
+    is_verdict(alloc, core, stuck, knot, due)
+}
+
+/// Whether of this row just this is told, of a dispatcher for three threads.
 fn is_told(
     alloc: Global,
     steps: &[(u32, Does)],
@@ -204,23 +246,28 @@ fn is_told(
     due: bool,
 ) -> Result<bool, Refusal> {
     let mut core = Core::new(alloc, 3)?;
-    for (who, does) in steps {
-        let call = call_of(alloc, *does)?;
-        core.call(*who, &call)?;
-    }
-    let Some(last) = Moment::new(1 << 62) else {
-        return Ok(false);
-    };
-    let Ok(verdict) = why(alloc, &core, last) else {
-        return Err(Refusal::Memory);
-    };
-    Ok(verdict.stuck == stuck && verdict.knot.as_slice() == knot && verdict.next.is_some() == due)
+    is_told_after(alloc, &mut core, steps, stuck, knot, due)
+}
+
+/// The same, with a second try where memory is refused.
+fn is_told_at_last(
+    rt: &impl Host,
+    steps: &[(u32, Does)],
+    stuck: bool,
+    knot: &[bool],
+    due: bool,
+) -> Result<bool, Refusal> {
+    is_told(rt.alloc(), steps, stuck, knot, due).or_else(|refusal| {
+        assert_eq!(rt; refusal.number(), NOT_ENOUGH_MEMORY);
+        tell_refused(rt, "why threads wait");
+        is_told(rt.alloc(), steps, stuck, knot, due)
+    })
 }
 
 #[test]
 fn each_hang_is_told(rt: HostRuntime) {
     for (name, steps, stuck, knot, due) in ROWS {
-        let told = is_told(rt.alloc(), steps, *stuck, knot, *due);
+        let told = is_told_at_last(&rt, steps, *stuck, knot, *due);
         assert!(rt; matches!(told, Ok(true)), "{name}");
     }
 }

@@ -14,13 +14,12 @@ fn create_again(
     object: u32,
     handle: u32,
 ) -> Answer {
-    match call_of(rt.alloc(), ask, &[]) {
-        Ok(Call::Act(act)) => {
-            let (object, handle) = (ObjectNumber::new(object), Handle::new(handle));
-            answer_of(core.create_again(who, &act, object, handle))
-        }
-        _ => Answer::NotAsked,
-    }
+    let call = call_of(rt.alloc(), ask, &[]);
+    let Ok(Call::Act(act)) = &call else {
+        return Answer::NotAsked;
+    };
+    let (object, handle) = (ObjectNumber::new(object), Handle::new(handle));
+    answer_of(core.create_again(who, act, object, handle))
 }
 
 fn object_of(added: Result<ObjectNumber, Refusal>) -> Answer {
