@@ -159,11 +159,11 @@ def proved(top, tree, work, tries_all):
     found = [
         ("proofs, tests and programs", functools.partial(proofs_of_all, tree, work), True),
         ("wrong turns", functools.partial(wrong_turns, top, tree, work, tries_all), False),
-        ("the tests, each growth refused", command(tree, "bench/refused_tests"), False),
+        ("the tests, each growth refused", command(tree, "tests/growths/tests"), False),
         ("object numbers and handles", command(tree, "tests/types"), False),
         ("what closed objects leave", command(tree, "tests/memory"), False),
         ("the threads of a plan", command(tree, "tests/threads"), False),
-        ("the scripts, each growth refused", command(tree, "bench/refusals", *scripts), False),
+        ("the scripts, each growth refused", command(tree, "tests/growths/scripts", *scripts), False),
         ("the examples", functools.partial(examples, tree), False),
         ("the launcher, and the worked scripts", command(tree, "tests/launcher"), False),
         ("the library for C programs", command(tree, "make", "--no-print-directory", "-C", "c", "check", "ALL=1" if tries_all else "STRICT=1"), False),

@@ -1,5 +1,5 @@
 //! The crates below the dispatcher, and those of devices and lines. Each test passes also where one allocation is refused:
-//! `bench/refused_tests` refuses each in turn.
+//! `tests/growths/tests` refuses each in turn.
 mod alarms;
 mod apcs;
 mod devices;

@@ -1,5 +1,5 @@
 //! Each file has the scenarios of one subject, as data, and the one test that plays them. Each test passes also where one growth is
-//! refused: `bench/refused_tests` runs them with each in turn.
+//! refused: `tests/growths/tests` runs them with each in turn.
 mod apcs;
 mod callers;
 mod calls;

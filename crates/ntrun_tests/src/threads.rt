@@ -1,5 +1,5 @@
 //! The plan over doors in memory, and the journal of a run over a front. Each test passes also where one allocation is refused:
-//! `bench/refused_tests` refuses each in turn.
+//! `tests/growths/tests` refuses each in turn.
 mod door;
 mod hall;
 mod held;

@@ -16,14 +16,14 @@ impl<R: Abort + AllocGlobal + Env + Print> Host for R {}
 /// Where memory was refused, as the dispatcher answers it: ERROR_NOT_ENOUGH_MEMORY.
 pub const NOT_ENOUGH_MEMORY: u32 = 8;
 
-/// Whether growths are refused on purpose, as `bench/refused_tests` does: it sets REFUSE.
+/// Whether growths are refused on purpose, as `tests/growths/tests` does: it sets REFUSE.
 pub fn is_refusing(rt: &impl Host) -> bool {
     let mut number = [0; 20];
     rt.var("REFUSE", &mut number).is_ok()
 }
 
 /// Tells that a growth was refused, and whose it was. That is right only in a run that refuses one on purpose:
-/// `bench/refused_tests` wants exactly one such line of it.
+/// `tests/growths/tests` wants exactly one such line of it.
 pub fn tell_refused(rt: &impl Host, whose: &str) {
     assert!(rt; is_refusing(rt), "out of memory with ample memory: {whose}");
     assert!(rt; println!(rt; "refused: {whose}").is_ok());
