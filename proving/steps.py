@@ -142,6 +142,7 @@ def before_proofs(top):
         ("docs/MODEL.md names each definition", command(top, "docs/check_model"), False),
         ("the names of the docs", command(top, "docs/check_names"), False),
         ("each wrong turn applies", functools.partial(edits_apply, top), False),
+        ("each public function has a wrong turn", command(top, "wrong_turns/run", "--reached"), False),
     ]
 
 
