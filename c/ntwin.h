@@ -32,6 +32,9 @@
 extern "C" {
 #endif
 
+/* 1 where the dispatcher in this library is the proved one, and 0 where it was built without proofs. */
+int ntwin_is_proved(void);
+
 /* ---- Types. */
 
 #define VOID void

@@ -138,7 +138,7 @@ def keep_once_run(builder, pipe, wanted):
     return bool(program), builder.communicate()[0]
 
 
-def try_and_keep(crate, words, wanted, environment=()):
+def try_and_keep(crate, words, wanted):
     """Has `rt try` build the program of the crate in this folder, without proofs, and run it on a named pipe, and copies the program to `wanted` while it
     waits for its script there: `rt try` removes what it built as soon as the program ends. Answers whether it was kept, its exit status,
     what it wrote, and the lines that were said."""
@@ -146,7 +146,7 @@ def try_and_keep(crate, words, wanted, environment=()):
         pipe = f"{os.path.realpath(folder)}/script"
         os.mkfifo(pipe)
         how = {"stdin": subprocess.DEVNULL, "stdout": subprocess.PIPE, "stderr": said}
-        how["env"] = {**os.environ, "TMPDIR": folder, **dict(environment)}
+        how["env"] = {**os.environ, "TMPDIR": folder}
         builder = subprocess.Popen([kit.find_rt(), "try", "--", *words, pipe], cwd=crate, **how)
         try:
             kept, wrote = keep_once_run(builder, pipe, wanted)

@@ -1,4 +1,12 @@
-/* ---- The machine, and the time of day. */
+/* ---- The library, the machine, and the time of day. */
+
+/* (c/kit/unproved defines it, in a dispatcher that it builds without proofs.) */
+extern const char nt_unproved __attribute__((weak));
+
+int ntwin_is_proved(void)
+{
+    return &nt_unproved == NULL;
+}
 
 BOOL SwitchToThread(void)
 {
