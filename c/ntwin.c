@@ -58,7 +58,11 @@
 
 #include "win32/process.c"
 
+#include "win32/processors.c"
+
 #include "win32/system.c"
+
+#include "win32/heap.c"
 
 #include "win32/pool.c"
 
@@ -69,6 +73,8 @@
 #include "win32/timers.c"
 
 #include "win32/ports.c"
+
+#include "win32/text.c"
 
 #include "win32/messages.c"
 

@@ -18,6 +18,15 @@ static inline void check(const char *what, unsigned long long found, unsigned lo
     printf("%s:%d: %s: wanted %llu (0x%llx), found %llu (0x%llx)\n", file, line, what, wanted, wanted, found, found);
 }
 
+/* A call that answers this, and leaves this last error: UNTOUCHED where it leaves that as it was. For tests that include <windows.h>. */
+enum { UNTOUCHED = 12345 };
+#define ANSWERS(call, value, error) \
+    do { \
+        SetLastError(UNTOUCHED); \
+        IS((uintptr_t)(call), (uintptr_t)(value)); \
+        IS(GetLastError(), error); \
+    } while (0)
+
 /* The value of an expression. */
 #define IS(expression, wanted) check(#expression, (unsigned long long)(expression), (unsigned long long)(wanted), __FILE__, __LINE__)
 

@@ -7,15 +7,6 @@
 
 #include <pthread.h>
 
-enum { UNTOUCHED = 12345 };
-
-#define ANSWERS(call, value, error) \
-    do { \
-        SetLastError(UNTOUCHED); \
-        IS((DWORD)(call), (DWORD)(value)); \
-        IS(GetLastError(), error); \
-    } while (0)
-
 static HANDLE const NO_SUCH = (HANDLE)(uintptr_t)0x3FF00;
 static HANDLE GO, READY, EVENT;
 
@@ -112,16 +103,16 @@ static void resumed(void)
     IS(code, 1);
     ANSWERS(ResumeThread(thread), 0, UNTOUCHED);
     CloseHandle(thread);
-    ANSWERS(ResumeThread(thread), -1, ERROR_INVALID_HANDLE);
-    ANSWERS(ResumeThread(EVENT), -1, ERROR_INVALID_HANDLE);
-    ANSWERS(SuspendThread(NO_SUCH), -1, ERROR_INVALID_HANDLE);
+    ANSWERS(ResumeThread(thread), UINT32_MAX, ERROR_INVALID_HANDLE);
+    ANSWERS(ResumeThread(EVENT), UINT32_MAX, ERROR_INVALID_HANDLE);
+    ANSWERS(SuspendThread(NO_SUCH), UINT32_MAX, ERROR_INVALID_HANDLE);
     /* A thread that runs is not suspended. */
-    ANSWERS(SuspendThread(GetCurrentThread()), -1, ERROR_NOT_SUPPORTED);
+    ANSWERS(SuspendThread(GetCurrentThread()), UINT32_MAX, ERROR_NOT_SUPPORTED);
     ANSWERS(ResumeThread(GetCurrentThread()), 0, UNTOUCHED);
     must((thread = (HANDLE)_beginthreadex(NULL, 0, begin, NULL, CREATE_SUSPENDED, NULL)) != NULL);
     for (DWORD count = 1; count < MAXIMUM_SUSPEND_COUNT; count++)
         must(SuspendThread(thread) == count);
-    ANSWERS(SuspendThread(thread), -1, ERROR_SIGNAL_REFUSED);
+    ANSWERS(SuspendThread(thread), UINT32_MAX, ERROR_SIGNAL_REFUSED);
     for (DWORD count = MAXIMUM_SUSPEND_COUNT; count > 0; count--)
         must(ResumeThread(thread) == count);
     join(thread);
@@ -242,8 +233,8 @@ static void descriptions(void)
     ResumeThread(thread);
     join(thread);
     IS(strncmp(name, "a worker with a long name", 15), 0);
-    ANSWERS(SetThreadDescription(EVENT, L""), 0xD0000008, UNTOUCHED);
-    ANSWERS(GetThreadDescription(EVENT, &description), 0xD0000008, UNTOUCHED);
+    ANSWERS(SetThreadDescription(EVENT, L""), (HRESULT)0xD0000008u, UNTOUCHED);
+    ANSWERS(GetThreadDescription(EVENT, &description), (HRESULT)0xD0000008u, UNTOUCHED);
     CloseHandle(thread);
 }
 

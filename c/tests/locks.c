@@ -8,15 +8,7 @@
 #include <sched.h>
 #include <stdbool.h>
 
-enum { UNTOUCHED = 12345, THREADS = 4, ROUNDS = 4000 };
-
-/* A call that answers this, and leaves this last error. */
-#define ANSWERS(call, value, error) \
-    do { \
-        SetLastError(UNTOUCHED); \
-        IS(call, value); \
-        IS(GetLastError(), error); \
-    } while (0)
+enum { THREADS = 4, ROUNDS = 4000 };
 
 static pthread_t STARTED[16];
 static int STARTS;

@@ -3,15 +3,6 @@
 
 #include "check.h"
 
-enum { UNTOUCHED = 12345 };
-
-#define ANSWERS(call, value, error) \
-    do { \
-        SetLastError(UNTOUCHED); \
-        IS((uintptr_t)(call), (uintptr_t)(value)); \
-        IS(GetLastError(), error); \
-    } while (0)
-
 enum { SYSTEM = FORMAT_MESSAGE_FROM_SYSTEM | FORMAT_MESSAGE_IGNORE_INSERTS };
 
 /* The system's own texts. */

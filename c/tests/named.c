@@ -5,14 +5,7 @@
 
 #include <pthread.h>
 
-enum { UNTOUCHED = 12345, THREADS = 4, ROUNDS = 1000 };
-
-#define ANSWERS(call, value, error) \
-    do { \
-        SetLastError(UNTOUCHED); \
-        IS((uintptr_t)(call), (uintptr_t)(value)); \
-        IS(GetLastError(), error); \
-    } while (0)
+enum { THREADS = 4, ROUNDS = 1000 };
 
 /* A creation or opening that answers a handle, and leaves this last error. */
 #define GETS(handle, call, error) \

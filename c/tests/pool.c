@@ -3,15 +3,6 @@
 
 #include "check.h"
 
-enum { UNTOUCHED = 12345 };
-
-#define ANSWERS(call, value, error) \
-    do { \
-        SetLastError(UNTOUCHED); \
-        IS((uintptr_t)(call), (uintptr_t)(value)); \
-        IS(GetLastError(), error); \
-    } while (0)
-
 static HANDLE const NO_SUCH = (HANDLE)(uintptr_t)0x3FF00;
 static HANDLE GO, DONE, EVENT;
 static LONG RAN, SIGNALS, TIMEOUTS;

@@ -5,14 +5,7 @@
 
 #include <pthread.h>
 
-enum { UNTOUCHED = 12345, THREADS = 4, PACKETS = 2000 };
-
-#define ANSWERS(call, value, error) \
-    do { \
-        SetLastError(UNTOUCHED); \
-        IS((uintptr_t)(call), (uintptr_t)(value)); \
-        IS(GetLastError(), error); \
-    } while (0)
+enum { THREADS = 4, PACKETS = 2000 };
 
 static HANDLE const NO_SUCH = (HANDLE)(uintptr_t)0x3FF00;
 static HANDLE PORT;

@@ -9,14 +9,7 @@
 #include <errno.h>
 #include <pthread.h>
 
-enum { UNTOUCHED = 12345, THREADS = 4, TLS_SLOTS = 1088 };
-
-#define ANSWERS(call, value, error) \
-    do { \
-        SetLastError(UNTOUCHED); \
-        IS((uintptr_t)(call), value); \
-        IS(GetLastError(), error); \
-    } while (0)
+enum { THREADS = 4, TLS_SLOTS = 1088 };
 
 static void run(void *(*what)(void *), void *argument)
 {

@@ -6,16 +6,6 @@
 #include <pthread.h>
 #include <stdlib.h>
 
-enum { UNTOUCHED = 12345 };
-
-/* A call that answers this, and leaves this last error. */
-#define ANSWERS(call, value, error) \
-    do { \
-        SetLastError(UNTOUCHED); \
-        IS(call, value); \
-        IS(GetLastError(), error); \
-    } while (0)
-
 /* A creation that is accepted, and tells that nothing was there before. */
 #define CREATES(handle, call) \
     do { \

@@ -2,6 +2,7 @@
 #ifndef NTWIN_PROCESSTHREADSAPI_H
 #define NTWIN_PROCESSTHREADSAPI_H
 
+#include "processtopologyapi.h"
 #include "winnt.h"
 
 #ifdef __cplusplus
@@ -45,9 +46,8 @@ HRESULT SetThreadDescription(HANDLE thread, PCWSTR description);
 HRESULT GetThreadDescription(HANDLE thread, PWSTR *description);
 /* Lets other threads run. Answers TRUE, whether one did or not. */
 BOOL SwitchToThread(void);
-DWORD GetCurrentProcessorNumber(void);
-/* The processors on which the process may run, a bit each, and those of the machine; for the process itself. */
-BOOL GetProcessAffinityMask(HANDLE process, PDWORD_PTR process_mask, PDWORD_PTR system_mask);
+/* Whether the processor has it, and FALSE where this is not known. */
+BOOL IsProcessorFeaturePresent(DWORD feature);
 
 #ifdef __cplusplus
 }

@@ -98,6 +98,7 @@ void WakeAllConditionVariable(PCONDITION_VARIABLE variable);
 
 /* ---- One-time initialization. */
 
+#define _RTL_RUN_ONCE_DEF
 typedef union _RTL_RUN_ONCE {
     PVOID Ptr;
 } RTL_RUN_ONCE, *PRTL_RUN_ONCE, INIT_ONCE, *PINIT_ONCE, *LPINIT_ONCE;

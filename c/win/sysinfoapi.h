@@ -38,11 +38,39 @@ typedef struct _SYSTEMTIME {
     WORD wMilliseconds;
 } SYSTEMTIME, *PSYSTEMTIME, *LPSYSTEMTIME;
 
+/* Sizes in bytes. */
+typedef struct _MEMORYSTATUSEX {
+    DWORD dwLength;     /* sizeof(MEMORYSTATUSEX), before the call */
+    DWORD dwMemoryLoad; /* how much of the memory is in use, of 100 */
+    DWORDLONG ullTotalPhys;
+    DWORDLONG ullAvailPhys;
+    DWORDLONG ullTotalPageFile;
+    DWORDLONG ullAvailPageFile;
+    DWORDLONG ullTotalVirtual;
+    DWORDLONG ullAvailVirtual;
+    DWORDLONG ullAvailExtendedVirtual;
+} MEMORYSTATUSEX, *LPMEMORYSTATUSEX;
+
+typedef struct _MEMORYSTATUS {
+    DWORD dwLength;
+    DWORD dwMemoryLoad;
+    SIZE_T dwTotalPhys;
+    SIZE_T dwAvailPhys;
+    SIZE_T dwTotalPageFile;
+    SIZE_T dwAvailPageFile;
+    SIZE_T dwTotalVirtual;
+    SIZE_T dwAvailVirtual;
+} MEMORYSTATUS, *LPMEMORYSTATUS;
+
 #define PROCESSOR_INTEL_PENTIUM 586
 #define PROCESSOR_AMD_X8664 8664
 
 void GetSystemInfo(LPSYSTEM_INFO info);
 void GetNativeSystemInfo(LPSYSTEM_INFO info);
+/* That of Windows 10. */
+DWORD GetVersion(void);
+BOOL GlobalMemoryStatusEx(LPMEMORYSTATUSEX status);
+void GlobalMemoryStatus(LPMEMORYSTATUS status);
 /* UTC, and the time of the zone. */
 void GetSystemTime(LPSYSTEMTIME time);
 void GetLocalTime(LPSYSTEMTIME time);
@@ -50,6 +78,9 @@ void GetLocalTime(LPSYSTEMTIME time);
 void GetSystemTimePreciseAsFileTime(LPFILETIME time);
 BOOL FileTimeToSystemTime(const FILETIME *from, LPSYSTEMTIME to);
 BOOL SystemTimeToFileTime(const SYSTEMTIME *from, LPFILETIME to);
+/* By what the zone is ahead of UTC at that time. */
+BOOL FileTimeToLocalFileTime(const FILETIME *from, LPFILETIME to);
+BOOL LocalFileTimeToFileTime(const FILETIME *from, LPFILETIME to);
 
 #ifdef __cplusplus
 }

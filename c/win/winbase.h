@@ -4,8 +4,10 @@
 
 #include "slist.h"
 #include "fibersapi.h"
+#include "heapapi.h"
 #include "ioapiset.h"
 #include "processthreadsapi.h"
+#include "stringapiset.h"
 #include "synchapi.h"
 #include "sysinfoapi.h"
 #include "threadpoolapiset.h"
@@ -17,9 +19,6 @@
 #ifdef __cplusplus
 extern "C" {
 #endif
-
-/* Frees what FormatMessage and GetThreadDescription have allocated. Answers null. */
-HLOCAL LocalFree(HLOCAL memory);
 
 /* ---- The texts of errors. */
 

@@ -5,6 +5,9 @@
 #include "../ntwin.h"
 #include "sal.h"
 #include "sdkddkver.h"
+#include "winapifamily.h"
+
+#include <limits.h>
 
 /* ---- Conventions of calls: there is one. */
 
@@ -30,7 +33,6 @@
 
 #define __declspec(word) NTWIN_DECLSPEC_##word
 #define _declspec(word) NTWIN_DECLSPEC_##word
-#define DECLSPEC(word) NTWIN_DECLSPEC_##word
 #define NTWIN_DECLSPEC_
 #define NTWIN_DECLSPEC_align(bytes) __attribute__((__aligned__(bytes)))
 #define NTWIN_DECLSPEC_allocate(section) __attribute__((__section__(section)))
@@ -70,6 +72,7 @@
 #define WINBASEAPI
 #define WINCOMMONAPI
 #define WINUSERAPI
+#define _CRTIMP
 #define NTSYSAPI
 #define NTSYSCALLAPI
 
@@ -143,7 +146,7 @@ typedef SHORT *PSHORT;
 typedef USHORT *PUSHORT;
 typedef ULONG *PULONG, *LPULONG;
 typedef UCHAR *PUCHAR;
-typedef CHAR *PCHAR, *PCH, *LPCH;
+typedef CHAR CCHAR, *PCHAR, *PCH, *LPCH;
 typedef BOOLEAN *PBOOLEAN;
 typedef WORD *PWORD, *LPWORD;
 typedef float FLOAT, *PFLOAT;
@@ -154,6 +157,7 @@ typedef const WCHAR *PCWCH, *LPCWCH;
 typedef TCHAR *PTCHAR, *PTSTR;
 typedef const TCHAR *PCTSTR;
 typedef const void *PCVOID;
+typedef void *PVOID64;
 typedef uintptr_t WPARAM;
 typedef intptr_t LPARAM, LRESULT;
 typedef WORD ATOM, LANGID;
@@ -181,6 +185,15 @@ typedef struct _GUID {
     WORD Data3;
     BYTE Data4[8];
 } GUID, IID, CLSID;
+#ifdef __cplusplus
+#define REFGUID const GUID &
+#define REFIID const IID &
+#define REFCLSID const CLSID &
+#else
+#define REFGUID const GUID *
+#define REFIID const IID *
+#define REFCLSID const CLSID *
+#endif
 
 typedef struct tagPOINT {
     LONG x;

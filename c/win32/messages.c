@@ -33,6 +33,8 @@ static const struct {
       "An attempt was made to acquire a mutant such that its maximum count would have been exceeded." },
     { ERROR_OPERATION_ABORTED, "The I/O operation has been aborted because of either a thread exit or an application request." },
     { ERROR_IO_PENDING, "Overlapped I/O operation is in progress." },
+    { ERROR_INVALID_FLAGS, "Invalid flags." },
+    { ERROR_NO_UNICODE_TRANSLATION, "No mapping for the Unicode character exists in the target multi-byte code page." },
     { ERROR_NOT_FOUND, "Element not found." },
     { ERROR_NO_SYSTEM_RESOURCES, "Insufficient system resources exist to complete the requested service." },
     { ERROR_TIMEOUT, "This operation returned because the timeout period expired." },

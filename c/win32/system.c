@@ -14,40 +14,6 @@ BOOL SwitchToThread(void)
     return TRUE;
 }
 
-DWORD GetCurrentProcessorNumber(void)
-{
-    const int processor = sched_getcpu();
-    return processor < 0 ? 0 : (DWORD)processor;
-}
-
-/* A bit for each of so many processors, of 64 at the most. */
-static DWORD_PTR mask_of(long processors)
-{
-    return processors >= MAXIMUM_PROCESSORS ? ~(DWORD_PTR)0 : ((DWORD_PTR)1 << processors) - 1;
-}
-
-/* The processors on which the process may run. */
-static DWORD_PTR processors_here(void)
-{
-    cpu_set_t set;
-    DWORD_PTR mask = 0;
-    if (sched_getaffinity(0, sizeof set, &set) != 0)
-        return mask_of(sysconf(_SC_NPROCESSORS_ONLN));
-    for (int i = 0; i < MAXIMUM_PROCESSORS; i++)
-        if (CPU_ISSET(i, &set))
-            mask |= (DWORD_PTR)1 << i;
-    return mask;
-}
-
-BOOL GetProcessAffinityMask(HANDLE process_handle, PDWORD_PTR process_mask, PDWORD_PTR system_mask)
-{
-    if (process_handle != CURRENT_PROCESS)
-        return fail(ERROR_INVALID_HANDLE);
-    *process_mask = processors_here();
-    *system_mask = mask_of(sysconf(_SC_NPROCESSORS_ONLN)) | *process_mask;
-    return TRUE;
-}
-
 void GetSystemInfo(LPSYSTEM_INFO info)
 {
     *info = (SYSTEM_INFO){
@@ -72,6 +38,39 @@ void GetNativeSystemInfo(LPSYSTEM_INFO info)
     GetSystemInfo(info);
 }
 
+DWORD GetVersion(void)
+{
+    enum { MAJOR = 10, MINOR = 0, BUILD = 19045 };
+    return MAJOR | MINOR << 8 | (DWORD)BUILD << 16;
+}
+
+BOOL GlobalMemoryStatusEx(LPMEMORYSTATUSEX status)
+{
+    struct sysinfo found;
+    if (status->dwLength != sizeof *status || sysinfo(&found) != 0)
+        return fail(ERROR_INVALID_PARAMETER);
+    const uint64_t unit = found.mem_unit, all = found.totalram * unit, rest = found.freeram * unit;
+    *status = (MEMORYSTATUSEX){
+        .dwLength = sizeof *status,
+        .dwMemoryLoad = all == 0 ? 0 : (DWORD)((all - rest) * 100 / all),
+        .ullTotalPhys = all,
+        .ullAvailPhys = rest,
+        .ullTotalPageFile = all + found.totalswap * unit,
+        .ullAvailPageFile = rest + found.freeswap * unit,
+        .ullTotalVirtual = UINT64_C(0x7FFFFFFE0000),
+        .ullAvailVirtual = UINT64_C(0x7FFFFFFE0000),
+    };
+    return TRUE;
+}
+
+void GlobalMemoryStatus(LPMEMORYSTATUS status)
+{
+    MEMORYSTATUSEX found = { .dwLength = sizeof found };
+    GlobalMemoryStatusEx(&found);
+    *status = (MEMORYSTATUS){ sizeof *status, found.dwMemoryLoad, found.ullTotalPhys, found.ullAvailPhys, found.ullTotalPageFile,
+                              found.ullAvailPageFile, found.ullTotalVirtual, found.ullAvailVirtual };
+}
+
 void GetSystemTimePreciseAsFileTime(LPFILETIME time)
 {
     GetSystemTimeAsFileTime(time);
@@ -89,6 +88,11 @@ static void set_system_time(LPSYSTEMTIME to, const struct tm *from, uint64_t mom
         .wSecond = (WORD)from->tm_sec,
         .wMilliseconds = (WORD)(moments % MOMENTS_PER_SECOND / (MOMENTS_PER_SECOND / 1000)),
     };
+}
+
+static int64_t moments_of(const FILETIME *time)
+{
+    return (int64_t)((uint64_t)time->dwHighDateTime << 32 | time->dwLowDateTime);
 }
 
 /* Seconds since 1970 of a time since 1601. */
@@ -116,11 +120,11 @@ void GetLocalTime(LPSYSTEMTIME time)
 BOOL FileTimeToSystemTime(const FILETIME *from, LPSYSTEMTIME to)
 {
     struct tm parts;
-    const uint64_t moments = (uint64_t)from->dwHighDateTime << 32 | from->dwLowDateTime;
-    if (moments >> 63 != 0)
+    const int64_t moments = moments_of(from);
+    if (moments < 0)
         return fail(ERROR_INVALID_PARAMETER);
-    const time_t seconds = seconds_of((int64_t)moments);
-    set_system_time(to, gmtime_r(&seconds, &parts), moments);
+    const time_t seconds = seconds_of(moments);
+    set_system_time(to, gmtime_r(&seconds, &parts), (uint64_t)moments);
     return TRUE;
 }
 
@@ -146,8 +150,33 @@ BOOL SystemTimeToFileTime(const SYSTEMTIME *from, LPFILETIME to)
     };
     const int64_t seconds = (int64_t)timegm(&parts) + unix_epoch / MOMENTS_PER_SECOND;
     const uint64_t moments = (uint64_t)seconds * MOMENTS_PER_SECOND + (uint64_t)from->wMilliseconds * (MOMENTS_PER_SECOND / 1000);
-    to->dwLowDateTime = (DWORD)moments;
-    to->dwHighDateTime = (DWORD)(moments >> 32);
+    set_file_time(to, moments);
+    return TRUE;
+}
+
+/* By how much the zone is ahead of UTC at this time, which is UTC. */
+static int64_t moments_ahead(int64_t moments)
+{
+    struct tm parts;
+    const time_t seconds = seconds_of(moments);
+    return localtime_r(&seconds, &parts) == NULL ? 0 : (int64_t)parts.tm_gmtoff * MOMENTS_PER_SECOND;
+}
+
+BOOL FileTimeToLocalFileTime(const FILETIME *from, LPFILETIME to)
+{
+    const int64_t moments = moments_of(from);
+    if (moments < 0)
+        return fail(ERROR_INVALID_PARAMETER);
+    set_file_time(to, (uint64_t)(moments + moments_ahead(moments)));
+    return TRUE;
+}
+
+BOOL LocalFileTimeToFileTime(const FILETIME *from, LPFILETIME to)
+{
+    const int64_t moments = moments_of(from);
+    if (moments < 0)
+        return fail(ERROR_INVALID_PARAMETER);
+    set_file_time(to, (uint64_t)(moments - moments_ahead(moments - moments_ahead(moments))));
     return TRUE;
 }
 

@@ -169,9 +169,3 @@ HRESULT GetThreadDescription(HANDLE thread, PWSTR *description)
     unlock_and_wake(caller);
     return *description != NULL ? S_OK : E_OUTOFMEMORY;
 }
-
-HLOCAL LocalFree(HLOCAL memory)
-{
-    free(memory);
-    return NULL;
-}

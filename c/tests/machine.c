@@ -1,0 +1,195 @@
+/* The machine, memory and text: what each call answers with its last error. The values are those of Microsoft's pages and docs/WIN32.md. */
+#include <windows.h>
+
+#include "check.h"
+
+static DWORD WINAPI wait_for(LPVOID event)
+{
+    return WaitForSingleObject(event, INFINITE);
+}
+
+static void processors(void)
+{
+    DWORD_PTR mask, system, one;
+    GROUP_AFFINITY before, now = { 0 };
+    PROCESSOR_NUMBER number;
+    HANDLE event = CreateEvent(NULL, TRUE, FALSE, NULL), thread = CreateThread(NULL, 0, wait_for, event, 0, NULL);
+    ANSWERS(GetProcessAffinityMask(GetCurrentProcess(), &mask, &system), TRUE, UNTOUCHED);
+    ANSWERS(GetProcessAffinityMask(NULL, &mask, &system), FALSE, ERROR_INVALID_HANDLE);
+    IS(mask != 0 && (mask & ~system) == 0, TRUE);
+    one = mask & (~mask + 1);
+    ANSWERS(SetThreadAffinityMask(thread, one), mask, UNTOUCHED);
+    ANSWERS(SetThreadAffinityMask(thread, mask), one, UNTOUCHED);
+    ANSWERS(SetThreadAffinityMask(thread, 0), 0, ERROR_INVALID_PARAMETER);
+    ANSWERS(SetThreadAffinityMask(event, mask), 0, ERROR_INVALID_HANDLE);
+    ANSWERS(GetProcessAffinityMask(GetCurrentProcess(), &system, &system), TRUE, UNTOUCHED);
+    now.Mask = one;
+    ANSWERS(SetThreadGroupAffinity(GetCurrentThread(), &now, &before), TRUE, UNTOUCHED);
+    IS(before.Mask, mask);
+    IS(GetCurrentProcessorNumber() < 64 && (one >> GetCurrentProcessorNumber() & 1) == 1, TRUE);
+    ANSWERS(GetThreadGroupAffinity(GetCurrentThread(), &now), TRUE, UNTOUCHED);
+    IS(now.Mask, one);
+    GetCurrentProcessorNumberEx(&number);
+    IS(number.Group, 0);
+    IS(number.Number, GetCurrentProcessorNumber());
+    ANSWERS(SetThreadGroupAffinity(GetCurrentThread(), &before, NULL), TRUE, UNTOUCHED);
+    before.Group = 1;
+    ANSWERS(SetThreadGroupAffinity(GetCurrentThread(), &before, NULL), FALSE, ERROR_INVALID_PARAMETER);
+    SetEvent(event);
+    WaitForSingleObject(thread, INFINITE);
+    ANSWERS(SetThreadAffinityMask(thread, mask), 0, ERROR_ACCESS_DENIED);
+}
+
+static void groups_and_nodes(void)
+{
+    SYSTEM_INFO info;
+    GROUP_AFFINITY node;
+    ULONGLONG mask;
+    ULONG highest;
+    UCHAR number;
+    GetSystemInfo(&info);
+    ANSWERS(GetActiveProcessorCount(0), info.dwNumberOfProcessors, UNTOUCHED);
+    ANSWERS(GetActiveProcessorCount(ALL_PROCESSOR_GROUPS), info.dwNumberOfProcessors, UNTOUCHED);
+    ANSWERS(GetActiveProcessorCount(1), 0, ERROR_INVALID_PARAMETER);
+    ANSWERS(GetMaximumProcessorCount(0) >= info.dwNumberOfProcessors, TRUE, UNTOUCHED);
+    ANSWERS(GetActiveProcessorGroupCount(), 1, UNTOUCHED);
+    ANSWERS(GetMaximumProcessorGroupCount(), 1, UNTOUCHED);
+    ANSWERS(GetNumaHighestNodeNumber(&highest), TRUE, UNTOUCHED);
+    IS(highest, 0);
+    ANSWERS(GetNumaNodeProcessorMask(0, &mask), TRUE, UNTOUCHED);
+    ANSWERS(GetNumaNodeProcessorMaskEx(0, &node), TRUE, UNTOUCHED);
+    IS(node.Mask, mask);
+    ANSWERS(GetNumaNodeProcessorMask(1, &mask), FALSE, ERROR_INVALID_PARAMETER);
+    ANSWERS(GetNumaNodeProcessorMaskEx(1, &node), FALSE, ERROR_INVALID_PARAMETER);
+    ANSWERS(GetNumaProcessorNode(0, &number), TRUE, UNTOUCHED);
+    IS(number, 0);
+    ANSWERS(IsProcessorFeaturePresent(PF_FLOATING_POINT_EMULATED), FALSE, UNTOUCHED);
+}
+
+/* Each processor is in one core, one package and the node. */
+static void told_processors(void)
+{
+    SYSTEM_LOGICAL_PROCESSOR_INFORMATION told[192];
+    DWORD length = 0, room = sizeof told;
+    DWORD_PTR seen[4] = { 0 };
+    ULONGLONG all;
+    GetNumaNodeProcessorMask(0, &all);
+    ANSWERS(GetLogicalProcessorInformation(told, &length), FALSE, ERROR_INSUFFICIENT_BUFFER);
+    ANSWERS(GetLogicalProcessorInformation(told, &room), TRUE, UNTOUCHED);
+    IS(room, length);
+    for (DWORD i = 0; i < room / sizeof told[0]; i++) {
+        must(told[i].Relationship <= RelationProcessorPackage && (seen[told[i].Relationship] & told[i].ProcessorMask) == 0);
+        seen[told[i].Relationship] |= told[i].ProcessorMask;
+    }
+    IS(seen[RelationProcessorCore], all);
+    IS(seen[RelationProcessorPackage], all);
+    IS(seen[RelationNumaNode], all);
+}
+
+static void memory(void)
+{
+    MEMORYSTATUSEX status = { .dwLength = sizeof status };
+    MEMORYSTATUS before;
+    HANDLE heap = GetProcessHeap();
+    ANSWERS(GlobalMemoryStatusEx(&status), TRUE, UNTOUCHED);
+    IS(status.dwMemoryLoad <= 100 && status.ullAvailPhys <= status.ullTotalPhys && status.ullTotalPhys <= status.ullTotalPageFile, TRUE);
+    GlobalMemoryStatus(&before);
+    IS(before.dwTotalPhys, status.ullTotalPhys);
+    status.dwLength = 1;
+    ANSWERS(GlobalMemoryStatusEx(&status), FALSE, ERROR_INVALID_PARAMETER);
+    char *bytes = HeapAlloc(heap, HEAP_ZERO_MEMORY, 100);
+    must(bytes != NULL && (uintptr_t)bytes % 16 == 0);
+    IS(bytes[0] | bytes[99], 0);
+    ANSWERS(HeapSize(heap, 0, bytes), 100, UNTOUCHED);
+    ANSWERS(HeapReAlloc(heap, HEAP_REALLOC_IN_PLACE_ONLY, bytes, 101), NULL, UNTOUCHED);
+    ANSWERS(HeapReAlloc(heap, HEAP_REALLOC_IN_PLACE_ONLY, bytes, 90), bytes, UNTOUCHED);
+    bytes[89] = 1;
+    bytes = HeapReAlloc(heap, HEAP_ZERO_MEMORY, bytes, 5000);
+    must(bytes != NULL);
+    IS(bytes[89], 1);
+    IS(bytes[90] | bytes[4999], 0);
+    ANSWERS(HeapAlloc(heap, 0, SIZE_MAX), NULL, UNTOUCHED);
+    ANSWERS(HeapAlloc(NULL, 0, 1), NULL, UNTOUCHED);
+    ANSWERS(HeapReAlloc(heap, 0, NULL, 1), NULL, UNTOUCHED);
+    ANSWERS(HeapSize(NULL, 0, bytes), SIZE_MAX, UNTOUCHED);
+    ANSWERS(HeapFree(NULL, 0, bytes), FALSE, ERROR_INVALID_HANDLE);
+    ANSWERS(HeapFree(heap, 0, bytes), TRUE, UNTOUCHED);
+    ANSWERS(HeapFree(heap, 0, NULL), TRUE, UNTOUCHED);
+    int *zero = LocalAlloc(LPTR, sizeof *zero);
+    IS(*zero, 0);
+    ANSWERS(LocalFree(zero), NULL, UNTOUCHED);
+    ANSWERS(LocalAlloc(2, 1), NULL, ERROR_INVALID_PARAMETER);
+}
+
+static const WCHAR WIDE[] = { 'a', 0xE9, 0x20AC, 0x1F600, 0 };
+#define BYTES "a\xC3\xA9\xE2\x82\xAC\xF0\x9F\x98\x80"
+
+/* What is no text, and how many characters stand for it. */
+static const struct {
+    const char *bytes;
+    int characters;
+} FAULTS[] = {
+    { "\xFF", 1 },
+    { "\x80", 1 },
+    { "\xC0\x80", 2 },
+    { "\xE2\x82", 1 },
+    { "\xED\xA0\x80", 1 },
+    { "\xF4\x90\x80\x80", 1 },
+    { "\xC3(", 2 },
+};
+
+static void text(void)
+{
+    WCHAR wide[16];
+    char bytes[16];
+    const WCHAR surrogate[] = { 0xD800, 0 };
+    BOOL is_other = 9;
+    ANSWERS(MultiByteToWideChar(CP_UTF8, 0, BYTES, -1, NULL, 0), 5, UNTOUCHED);
+    ANSWERS(MultiByteToWideChar(CP_ACP, MB_PRECOMPOSED, BYTES, -1, wide, 16), 5, UNTOUCHED);
+    IS(memcmp(wide, WIDE, sizeof WIDE), 0);
+    ANSWERS(MultiByteToWideChar(CP_UTF8, 0, BYTES, 3, wide, 2), 2, UNTOUCHED);
+    ANSWERS(MultiByteToWideChar(CP_UTF8, 0, BYTES, -1, wide, 4), 0, ERROR_INSUFFICIENT_BUFFER);
+    ANSWERS(MultiByteToWideChar(CP_UTF8, MB_PRECOMPOSED, BYTES, -1, wide, 16), 0, ERROR_INVALID_FLAGS);
+    ANSWERS(MultiByteToWideChar(1252, 0, BYTES, -1, wide, 16), 0, ERROR_INVALID_PARAMETER);
+    ANSWERS(MultiByteToWideChar(CP_UTF8, 0, BYTES, 0, wide, 16), 0, ERROR_INVALID_PARAMETER);
+    ANSWERS(MultiByteToWideChar(CP_UTF8, 0, NULL, -1, wide, 16), 0, ERROR_INVALID_PARAMETER);
+    for (size_t i = 0; i < ARRAYSIZE(FAULTS); i++) {
+        const int length = (int)strlen(FAULTS[i].bytes);
+        ANSWERS(MultiByteToWideChar(CP_UTF8, MB_ERR_INVALID_CHARS, FAULTS[i].bytes, length, wide, 16), 0, ERROR_NO_UNICODE_TRANSLATION);
+        ANSWERS(MultiByteToWideChar(CP_UTF8, 0, FAULTS[i].bytes, length, wide, 16), FAULTS[i].characters, UNTOUCHED);
+        IS(wide[0], 0xFFFD);
+    }
+    ANSWERS(WideCharToMultiByte(CP_UTF8, 0, WIDE, -1, NULL, 0, NULL, NULL), sizeof BYTES, UNTOUCHED);
+    ANSWERS(WideCharToMultiByte(CP_UTF8, 0, WIDE, -1, bytes, 16, NULL, NULL), sizeof BYTES, UNTOUCHED);
+    IS(strcmp(bytes, BYTES), 0);
+    ANSWERS(WideCharToMultiByte(CP_UTF8, 0, WIDE, -1, bytes, 10, NULL, NULL), 0, ERROR_INSUFFICIENT_BUFFER);
+    ANSWERS(WideCharToMultiByte(CP_UTF8, 0, WIDE, -1, bytes, 16, "?", NULL), 0, ERROR_INVALID_PARAMETER);
+    ANSWERS(WideCharToMultiByte(CP_ACP, 0, surrogate, 1, bytes, 16, NULL, &is_other), 3, UNTOUCHED);
+    IS(is_other, TRUE);
+    ANSWERS(WideCharToMultiByte(CP_UTF8, WC_ERR_INVALID_CHARS, surrogate, 1, bytes, 16, NULL, NULL), 0, ERROR_NO_UNICODE_TRANSLATION);
+    ANSWERS(WideCharToMultiByte(CP_ACP, WC_ERR_INVALID_CHARS, WIDE, 1, bytes, 16, NULL, NULL), 0, ERROR_INVALID_FLAGS);
+}
+
+static void zones(void)
+{
+    FILETIME time, there, again;
+    const FILETIME none = { 0, 0x80000000u };
+    GetSystemTimeAsFileTime(&time);
+    ANSWERS(FileTimeToLocalFileTime(&time, &there), TRUE, UNTOUCHED);
+    ANSWERS(LocalFileTimeToFileTime(&there, &again), TRUE, UNTOUCHED);
+    IS(memcmp(&time, &again, sizeof time), 0);
+    ANSWERS(FileTimeToLocalFileTime(&none, &there), FALSE, ERROR_INVALID_PARAMETER);
+    ANSWERS(LocalFileTimeToFileTime(&none, &there), FALSE, ERROR_INVALID_PARAMETER);
+    ANSWERS(GetVersion() & 0xFFFF, 10, UNTOUCHED);
+}
+
+int main(void)
+{
+    processors();
+    groups_and_nodes();
+    told_processors();
+    memory();
+    text();
+    zones();
+    return counted();
+}

@@ -1,0 +1,2 @@
+#define CONFIG_MULTITHREAD 1
+#define INLINE inline

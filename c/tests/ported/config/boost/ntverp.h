@@ -1,0 +1,1 @@
+#define VER_PRODUCTBUILD 10011

@@ -1,0 +1,3 @@
+#include <windows.h>
+#include <wtypes.h>
+#include <malloc.h>

@@ -1,0 +1,215 @@
+"""What c/tests/ports builds over this library and runs: programs' threads, and tests of libraries that are of the same kind."""
+import collections
+import glob
+import os
+import re
+import shutil
+import subprocess
+import tempfile
+
+# The package, and a call of a workshop and the source's folder: how many passed, why others failed, and why others were left out.
+Run = collections.namedtuple("Run", "package call")
+
+SECONDS_EACH = 120
+
+
+class Workshop:
+    """Compiles and runs in a room of its own, which goes with it."""
+
+    def __init__(self, top, ported):
+        self.top, self.ported = top, ported
+        self.library = [f"{top}/c/out/libntwin.a", "-lpthread"]
+
+    def __enter__(self):
+        self.room = tempfile.mkdtemp(prefix="ports-")
+        return self
+
+    def __exit__(self, *_):
+        shutil.rmtree(self.room)
+
+    def flags(self, name, own):
+        """A program's own flags, and then those of all: its own headers come first."""
+        config = [f"-I{self.room}/{name}", f"-I{self.ported}/config/{name}"]
+        return ["-D_WIN32", "-w", "-O1", *config, *own.split(), f"-I{self.top}/c/win", f"-I{self.ported}/stubs"]
+
+    def make_files(self, name, made, source):
+        os.makedirs(f"{self.room}/{name}", exist_ok=True)
+        for file, command in made.items():
+            with open(f"{self.room}/{name}/{file}", "wb") as to:
+                subprocess.run(command, shell=True, cwd=source, stdout=to, stderr=subprocess.DEVNULL, check=False)
+
+    @staticmethod
+    def files_of(source, patterns):
+        """The files below the source's folder that have one of these patterns."""
+        return [os.path.relpath(it, source) for pattern in patterns.split() for it in sorted(glob.glob(f"{source}/{pattern}")) or [f"{source}/{pattern}"]]
+
+    @staticmethod
+    def compile(source, file, flags, to):
+        compiler = ["g++", "-x", "c++", "-std=c++17"] if re.search(r"\.(cc|cpp|h)$", file) else ["gcc"]
+        how = {"stdin": subprocess.DEVNULL, "capture_output": True, "text": True, "errors": "replace"}
+        return subprocess.run([*compiler, *flags, "-c", file, "-o", to], cwd=source, env={**os.environ, "LC_ALL": "C.UTF-8"}, check=False, **how)
+
+    def objects(self, name, source, patterns, flags, without=()):
+        """Compiles the files, and answers their objects. What does not compile ends the program that is to be run."""
+        made = []
+        os.makedirs(f"{self.room}/{name}", exist_ok=True)
+        for file in self.files_of(source, patterns) if isinstance(patterns, str) else patterns:
+            if any(it in file for it in without):
+                continue
+            made.append(f"{self.room}/{name}/{file.replace('/', '_')}.o")
+            said = self.compile(source, file, flags, made[-1])
+            if said.returncode:
+                raise RuntimeError(f"{file} does not compile: {said.stderr[:300]}")
+        return made
+
+    def linked(self, to, objects, spare=False):
+        """Links a program; where `spare`, what is not there ends the program that calls it. Answers why it can't be, or None."""
+        words = ["g++", "-o", to, *objects, *self.library]
+        how = {"stdin": subprocess.DEVNULL, "capture_output": True, "text": True, "errors": "replace", "check": False}
+        said = subprocess.run(words, **how)
+        lacking = sorted(set(re.findall(r"undefined reference to `(\w+)'", said.stderr)))
+        if said.returncode and spare and lacking:
+            with open(f"{to}.c", "w", encoding="utf-8") as file:
+                file.write("void abort(void);\n" + "".join(f"void {it}(void) {{ abort(); }}\n" for it in lacking))
+            subprocess.run(["gcc", "-w", "-c", f"{to}.c", "-o", f"{to}.spare.o"], check=True)
+            said = subprocess.run([*words[:3], f"{to}.spare.o", *words[3:]], **how)
+        return (f"does not link: {', '.join(lacking[:3])}" if lacking else said.stderr[:200]) if said.returncode else None
+
+    def ran(self, *words):
+        """Why a program failed, or None."""
+        how = {"cwd": self.room, "stdin": subprocess.DEVNULL, "stdout": subprocess.PIPE, "stderr": subprocess.STDOUT, "check": False}
+        try:
+            done = subprocess.run(words, timeout=SECONDS_EACH, text=True, errors="replace", **how)
+        except subprocess.TimeoutExpired:
+            return f"not done after {SECONDS_EACH} s"
+        return None if done.returncode == 0 else f"status {done.returncode}: {(done.stdout.strip().splitlines() or [''])[-1][:120]}"
+
+
+def counted(failed_of):
+    """How many passed, of each name whether it failed."""
+    failed = {name: why for name, why in failed_of.items() if why}
+    return len(failed_of) - len(failed), failed
+
+
+def program_of(name, patterns, own, flags, without=()):
+    """A run of one program: these files of the source, and one of ours or of the source's tests."""
+
+    def call(shop, source):
+        compiled = shop.flags(name, flags)
+        ours = f"{shop.ported}/{own}"
+        objects = shop.objects(name, source, patterns, compiled, without)
+        objects += shop.objects(name, source, [ours] if os.path.exists(ours) else own, compiled)
+        program = f"{shop.room}/{name}.program"
+        return *counted({own: shop.linked(program, objects) or shop.ran(program)}), {}
+
+    return call
+
+
+def programs_of(name, tests, flags, library="", main="", without=(), left_out=None, own=""):
+    """A run of many programs, each with a main of its own, or with one that `main` makes of the name of its file; over objects of the library."""
+
+    def call(shop, source):
+        compiled = shop.flags(name, flags)
+        objects = shop.objects(name, source, library, compiled, without)
+        objects += shop.objects(name, source, [f"{shop.ported}/{own}"], compiled) if own else []
+        failed, out = {}, dict(left_out or {})
+        for file in shop.files_of(source, tests):
+            test = os.path.splitext(os.path.basename(file))[0]
+            if test not in out:
+                failed[test] = one_of(shop, source, file, compiled, objects, main.format(test))
+        return *counted(failed), out
+
+    return call
+
+
+def one_of(shop, source, file, flags, objects, main):
+    """Why the program of this file failed, or None."""
+    made, program = [f"{shop.room}/test.o"], f"{shop.room}/test"
+    said = shop.compile(source, file, flags, made[0])
+    if said.returncode:
+        return next((it for it in said.stderr.splitlines() if "error" in it), "does not compile")[:160]
+    if main:
+        with open(f"{shop.room}/main.c", "w", encoding="utf-8") as to:
+            to.write(main)
+        made += shop.objects("main", shop.room, "main.c", [])
+    return shop.linked(program, [*made, *objects], spare=True) or shop.ran(program, "test")
+
+
+def libuv(shop, source):
+    """The tests of its threads, each in a process of its own."""
+    flags = shop.flags("libuv", "-U__linux__ -D_WIN64 -Iinclude -Isrc -Isrc/win")
+    files = shop.files_of(source, " ".join(f"test/test-{it}.c" for it in "barrier condvar mutexes semaphore thread-equal thread".split()))
+    objects = shop.objects("libuv", source, "src/win/thread.c src/uv-common.c", flags)
+    objects += shop.objects("libuv", source, [*files, f"{shop.ported}/libuv.c"], flags)
+    names = []
+    for file in files:
+        with open(f"{source}/{file}", encoding="utf-8") as text:
+            names += re.findall(r"^TEST_IMPL\((\w+)\)", text.read(), re.M)
+    with open(f"{shop.room}/main.c", "w", encoding="utf-8") as to:
+        to.write('#include <string.h>\n' + "".join(f"int run_test_{it}(void);\n" for it in names) + "int main(int count, char **words)\n{\n")
+        to.write("".join(f'    if (count > 1 && strcmp(words[1], "{it}") == 0) return run_test_{it}();\n' for it in names) + "    return 9;\n}\n")
+    objects += shop.objects("main", shop.room, "main.c", [])
+    program = f"{shop.room}/libuv.program"
+    why = shop.linked(program, objects, spare=True)
+    out = {"threadpool_multiple_event_loops": "files and networks"}
+    return *counted({it: why or shop.ran(program, it) for it in names if it not in out}), out
+
+
+def x264(shop, source):
+    """The encoder over this library's threads writes, with several threads, the bytes that it writes over pthread's. (Only its threads are for Windows.)"""
+    wrote = {}
+    with open(f"{shop.room}/frames.yuv", "wb") as to:
+        for frame in range(60):
+            to.write(bytes((x * y // 64 + frame * 5 + (x ^ y)) & 255 for y in range(144) for x in range(176)) + bytes([128]) * (176 * 144 // 2))
+    for kind in ("pthread", "win32thread"):
+        at = f"{shop.room}/x264-{kind}"
+        shutil.copytree(source, at)
+        how = {"cwd": at, "stdin": subprocess.DEVNULL, "capture_output": True, "text": True, "errors": "replace", "check": False}
+        subprocess.run(["sh", "configure", "--disable-asm", "--bit-depth=8", "--disable-swscale", "--disable-lavf", "--disable-ffms", "--disable-gpac",
+                        "--disable-lsmash", "--disable-opencl", "--extra-cflags=-O1 -w " + f"-I{shop.top}/c/win"], **how)  # fmt: skip
+        more = []
+        if kind == "win32thread":
+            subprocess.run(["sed", "-i", "s/HAVE_POSIXTHREAD 1/HAVE_POSIXTHREAD 0/; s/HAVE_WIN32THREAD 0/HAVE_WIN32THREAD 1/", "config.h"], cwd=at, check=True)
+            with open(f"{at}/config.mak", "a", encoding="utf-8") as to:
+                to.write(f"LDFLAGSCLI += {' '.join(shop.library)}\n")
+        made = subprocess.run(["make", "-j1", "x264", *more], **how)
+        why = None if made.returncode == 0 else f"does not compile: {made.stderr[-300:]}"
+        for threads in ("--threads=6", "--threads=4 --sliced-threads"):
+            words = [f"{at}/x264", *threads.split(), "--input-res=176x144", "--quiet", "-o", f"{at}/out.264", f"{shop.room}/frames.yuv"]
+            failed = why or shop.ran(*words)
+            with open(f"{at}/out.264" if not failed else os.devnull, "rb") as out:
+                wrote[kind, threads] = failed or out.read()
+    same = {it: wrote["pthread", it] == wrote["win32thread", it] and isinstance(wrote["pthread", it], bytes) for _, it in wrote}
+    return *counted({it: None if holds else str(wrote["win32thread", it])[:200] for it, holds in same.items()}), {}
+
+
+ZSTD = "-DZSTD_MULTITHREAD -DZSTD_DISABLE_ASM -Ilib -Ilib/common -Iprograms"
+ZSTD_FILES = "lib/common/*.c lib/compress/*.c lib/decompress/*.c"
+XZ = (
+    "-DHAVE_CONFIG_H -DLZMA_API_STATIC -DTUKLIB_SYMBOL_PREFIX=lzma_ -Isrc/common -Isrc/liblzma -Isrc/liblzma/api -Isrc/liblzma/common "
+    "-Isrc/liblzma/check -Isrc/liblzma/lz -Isrc/liblzma/rangecoder -Isrc/liblzma/lzma -Isrc/liblzma/delta -Isrc/liblzma/simple"
+)
+XZ_FILES = "src/liblzma/*/*.c src/common/tuklib_cpucores.c src/common/tuklib_physmem.c"
+# (Its pthread_create has the system's name, which this library calls.)
+GIT = "-DWIN32 -DNO_UNIX_SOCKETS -Dpthread_create=git_pthread_create -Dpthread_self=git_pthread_self -Icompat/win32 -I."
+WINPR = "-D_WIN64 -D_WIN32_WINNT=0x0A00 -U__linux__ -include inttypes.h -Iwinpr/include"
+WINPR_MAIN = "int {0}(int, char **);\nint main(int count, char **words) {{ return {0}(count, words); }}\n"
+WINPR_LEFT_OUT = {
+    "TestThreadCreateProcess": "processes",
+    "TestThreadCommandLineToArgv": "command lines",
+    "TestGetComputerName": "names of machines",
+}
+WINPR_TESTS = " ".join(f"winpr/libwinpr/{it}/test/*.c" for it in "synch thread pool interlocked error sysinfo".split())
+
+RUNS = {
+    "zstd: packs by 4 threads": Run("zstd", program_of("zstd", ZSTD_FILES, "zstd.c", ZSTD)),
+    "zstd: its test of pools": Run("zstd", program_of("zstd", ZSTD_FILES + " programs/timefn.c", "tests/poolTests.c", ZSTD)),
+    "xz: packs and unpacks by 4 threads": Run("xz-utils", program_of("xz", XZ_FILES, "xz.c", XZ, ("tablegen", "_small", "_x86"))),
+    "git: threads take from a queue": Run("git", program_of("git", "compat/win32/pthread.c", "git.c", GIT)),
+    "x264: the bytes that pthread's threads make": Run("x264", x264),
+    "libuv: its tests of threads": Run("libuv1", libuv),
+    "WinPR: its tests": Run(
+        "freerdp2",
+        programs_of("winpr", WINPR_TESTS, WINPR, "winpr/libwinpr/interlocked/interlocked.c", WINPR_MAIN, left_out=WINPR_LEFT_OUT),
+    ),
+}

@@ -1,0 +1,86 @@
+/* Which processors there are, and on which a thread may run. All are one group and one node of memory; a mask has the first 64. */
+#ifndef NTWIN_PROCESSTOPOLOGYAPI_H
+#define NTWIN_PROCESSTOPOLOGYAPI_H
+
+#include "winnt.h"
+
+#ifdef __cplusplus
+extern "C" {
+#endif
+
+typedef struct _PROCESSOR_NUMBER {
+    WORD Group;
+    BYTE Number;
+    BYTE Reserved;
+} PROCESSOR_NUMBER, *PPROCESSOR_NUMBER;
+
+typedef struct _GROUP_AFFINITY {
+    KAFFINITY Mask;
+    WORD Group;
+    WORD Reserved[3];
+} GROUP_AFFINITY, *PGROUP_AFFINITY;
+
+#define ALL_PROCESSOR_GROUPS 0xFFFFu
+
+DWORD GetCurrentProcessorNumber(void);
+void GetCurrentProcessorNumberEx(PPROCESSOR_NUMBER number);
+/* The processors on which the process may run, a bit each, and those of the machine; for the process itself. */
+BOOL GetProcessAffinityMask(HANDLE process, PDWORD_PTR process_mask, PDWORD_PTR system_mask);
+/* From now on the thread runs on these of the process's processors alone. Answers the mask before, or 0. */
+DWORD_PTR SetThreadAffinityMask(HANDLE thread, DWORD_PTR mask);
+BOOL GetThreadGroupAffinity(HANDLE thread, PGROUP_AFFINITY affinity);
+BOOL SetThreadGroupAffinity(HANDLE thread, const GROUP_AFFINITY *affinity, PGROUP_AFFINITY before);
+
+DWORD GetActiveProcessorCount(WORD group);
+DWORD GetMaximumProcessorCount(WORD group);
+WORD GetActiveProcessorGroupCount(void);
+WORD GetMaximumProcessorGroupCount(void);
+
+/* The cores, the packages and the node, each with its processors; no caches. `length` is the room in bytes, and then what all take: where that is
+ * more, ERROR_INSUFFICIENT_BUFFER. */
+typedef enum _LOGICAL_PROCESSOR_RELATIONSHIP {
+    RelationProcessorCore,
+    RelationNumaNode,
+    RelationCache,
+    RelationProcessorPackage,
+    RelationGroup,
+    RelationAll = 0xFFFF
+} LOGICAL_PROCESSOR_RELATIONSHIP;
+
+typedef enum _PROCESSOR_CACHE_TYPE { CacheUnified, CacheInstruction, CacheData, CacheTrace } PROCESSOR_CACHE_TYPE;
+
+typedef struct _CACHE_DESCRIPTOR {
+    BYTE Level;
+    BYTE Associativity;
+    WORD LineSize;
+    DWORD Size;
+    PROCESSOR_CACHE_TYPE Type;
+} CACHE_DESCRIPTOR, *PCACHE_DESCRIPTOR;
+
+typedef struct _SYSTEM_LOGICAL_PROCESSOR_INFORMATION {
+    ULONG_PTR ProcessorMask;
+    LOGICAL_PROCESSOR_RELATIONSHIP Relationship;
+    __extension__ union {
+        struct {
+            BYTE Flags; /* 1 where the core runs several threads at once */
+        } ProcessorCore;
+        struct {
+            DWORD NodeNumber;
+        } NumaNode;
+        CACHE_DESCRIPTOR Cache;
+        ULONGLONG Reserved[2];
+    };
+} SYSTEM_LOGICAL_PROCESSOR_INFORMATION, *PSYSTEM_LOGICAL_PROCESSOR_INFORMATION;
+
+BOOL GetLogicalProcessorInformation(PSYSTEM_LOGICAL_PROCESSOR_INFORMATION buffer, PDWORD length);
+
+BOOL GetNumaHighestNodeNumber(PULONG highest);
+BOOL GetNumaNodeProcessorMask(UCHAR node, PULONGLONG mask);
+BOOL GetNumaNodeProcessorMaskEx(USHORT node, PGROUP_AFFINITY mask);
+BOOL GetNumaProcessorNode(UCHAR processor, PUCHAR node);
+
+#ifdef __cplusplus
+}
+#endif
+
+#endif

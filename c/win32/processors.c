@@ -1,0 +1,266 @@
+/* ---- Processors: one group and one node, the first 64 of them in a mask. */
+
+DWORD GetCurrentProcessorNumber(void)
+{
+    const int processor = sched_getcpu();
+    return processor < 0 ? 0 : (DWORD)processor;
+}
+
+void GetCurrentProcessorNumberEx(PPROCESSOR_NUMBER number)
+{
+    *number = (PROCESSOR_NUMBER){ .Number = (BYTE)GetCurrentProcessorNumber() };
+}
+
+/* A bit for each of so many processors, of 64 at the most. */
+static DWORD_PTR mask_of(long processors)
+{
+    return processors >= MAXIMUM_PROCESSORS ? ~(DWORD_PTR)0 : ((DWORD_PTR)1 << processors) - 1;
+}
+
+/* The processors on which this thread of the system may run. */
+static DWORD_PTR processors_of(pid_t task)
+{
+    cpu_set_t set;
+    DWORD_PTR mask = 0;
+    if (sched_getaffinity(task, sizeof set, &set) != 0)
+        return mask_of(sysconf(_SC_NPROCESSORS_ONLN));
+    for (int i = 0; i < MAXIMUM_PROCESSORS; i++)
+        if (CPU_ISSET(i, &set))
+            mask |= (DWORD_PTR)1 << i;
+    return mask;
+}
+
+/* The processors on which the process may run: those of its first thread, when that was asked first. */
+static DWORD_PTR processors_here(void)
+{
+    static _Atomic DWORD_PTR found;
+    DWORD_PTR mask = atomic_load_explicit(&found, memory_order_relaxed);
+    if (mask == 0) {
+        mask = processors_of(getpid());
+        atomic_store_explicit(&found, mask, memory_order_relaxed);
+    }
+    return mask;
+}
+
+BOOL GetProcessAffinityMask(HANDLE process_handle, PDWORD_PTR process_mask, PDWORD_PTR system_mask)
+{
+    if (process_handle != CURRENT_PROCESS)
+        return fail(ERROR_INVALID_HANDLE);
+    *process_mask = processors_here();
+    *system_mask = mask_of(sysconf(_SC_NPROCESSORS_ONLN)) | *process_mask;
+    return TRUE;
+}
+
+/* The system's number of the thread that this handle names; 0, with the last error set, where it names none or the thread has ended. */
+static pid_t task_of(HANDLE thread)
+{
+    for (;;) {
+        struct seat *caller, *seat = begin_with_thread(thread, &caller);
+        if (seat == NULL)
+            return 0;
+        const pid_t task = seat->life.task;
+        const bool has_left = seat->has_left;
+        unlock_and_wake(caller);
+        if (has_left) {
+            fail(ERROR_ACCESS_DENIED);
+            return 0;
+        }
+        if (task != 0)
+            return task;
+        /* (It was just created, and has no number yet.) */
+        sched_yield();
+    }
+}
+
+DWORD_PTR SetThreadAffinityMask(HANDLE thread, DWORD_PTR mask)
+{
+    cpu_set_t set;
+    const DWORD_PTR all = processors_here();
+    const pid_t task = task_of(thread);
+    if (task == 0)
+        return 0;
+    const DWORD_PTR before = processors_of(task);
+    CPU_ZERO(&set);
+    for (int i = 0; i < MAXIMUM_PROCESSORS; i++)
+        if ((mask >> i & 1) != 0)
+            CPU_SET(i, &set);
+    if (mask == 0 || (mask & ~all) != 0 || sched_setaffinity(task, sizeof set, &set) != 0) {
+        fail(ERROR_INVALID_PARAMETER);
+        return 0;
+    }
+    return before;
+}
+
+BOOL GetThreadGroupAffinity(HANDLE thread, PGROUP_AFFINITY affinity)
+{
+    const pid_t task = task_of(thread);
+    if (task == 0)
+        return FALSE;
+    *affinity = (GROUP_AFFINITY){ .Mask = processors_of(task) };
+    return TRUE;
+}
+
+BOOL SetThreadGroupAffinity(HANDLE thread, const GROUP_AFFINITY *affinity, PGROUP_AFFINITY before)
+{
+    if (affinity->Group != 0)
+        return fail(ERROR_INVALID_PARAMETER);
+    const DWORD_PTR mask = SetThreadAffinityMask(thread, affinity->Mask);
+    if (mask == 0)
+        return FALSE;
+    if (before != NULL)
+        *before = (GROUP_AFFINITY){ .Mask = mask };
+    return TRUE;
+}
+
+/* So many of the group, or 0 where there is no such group. */
+static DWORD processors_in(WORD group, int name)
+{
+    if (group == 0 || group == ALL_PROCESSOR_GROUPS)
+        return (DWORD)sysconf(name);
+    fail(ERROR_INVALID_PARAMETER);
+    return 0;
+}
+
+DWORD GetActiveProcessorCount(WORD group)
+{
+    return processors_in(group, _SC_NPROCESSORS_ONLN);
+}
+
+DWORD GetMaximumProcessorCount(WORD group)
+{
+    return processors_in(group, _SC_NPROCESSORS_CONF);
+}
+
+WORD GetActiveProcessorGroupCount(void)
+{
+    return 1;
+}
+
+WORD GetMaximumProcessorGroupCount(void)
+{
+    return 1;
+}
+
+BOOL GetNumaHighestNodeNumber(PULONG highest)
+{
+    *highest = 0;
+    return TRUE;
+}
+
+BOOL GetNumaNodeProcessorMask(UCHAR node, PULONGLONG mask)
+{
+    if (node != 0)
+        return fail(ERROR_INVALID_PARAMETER);
+    *mask = mask_of(sysconf(_SC_NPROCESSORS_ONLN));
+    return TRUE;
+}
+
+BOOL GetNumaNodeProcessorMaskEx(USHORT node, PGROUP_AFFINITY mask)
+{
+    if (node != 0)
+        return fail(ERROR_INVALID_PARAMETER);
+    *mask = (GROUP_AFFINITY){ .Mask = mask_of(sysconf(_SC_NPROCESSORS_ONLN)) };
+    return TRUE;
+}
+
+BOOL GetNumaProcessorNode(UCHAR processor, PUCHAR node)
+{
+    if (processor >= sysconf(_SC_NPROCESSORS_CONF)) {
+        *node = 0xFF;
+        return fail(ERROR_INVALID_PARAMETER);
+    }
+    *node = 0;
+    return TRUE;
+}
+
+BOOL IsProcessorFeaturePresent(DWORD feature)
+{
+#ifdef __x86_64__
+    switch (feature) {
+    case PF_COMPARE_EXCHANGE_DOUBLE:
+    case PF_MMX_INSTRUCTIONS_AVAILABLE:
+    case PF_XMMI_INSTRUCTIONS_AVAILABLE:
+    case PF_RDTSC_INSTRUCTION_AVAILABLE:
+    case PF_PAE_ENABLED:
+    case PF_XMMI64_INSTRUCTIONS_AVAILABLE:
+    case PF_NX_ENABLED:
+        return TRUE; /* (Each processor of 64 bits has these.) */
+    case PF_SSE3_INSTRUCTIONS_AVAILABLE:
+        return __builtin_cpu_supports("sse3") != 0;
+    case PF_SSSE3_INSTRUCTIONS_AVAILABLE:
+        return __builtin_cpu_supports("ssse3") != 0;
+    case PF_SSE4_1_INSTRUCTIONS_AVAILABLE:
+        return __builtin_cpu_supports("sse4.1") != 0;
+    case PF_SSE4_2_INSTRUCTIONS_AVAILABLE:
+        return __builtin_cpu_supports("sse4.2") != 0;
+    case PF_AVX_INSTRUCTIONS_AVAILABLE:
+        return __builtin_cpu_supports("avx") != 0;
+    case PF_AVX2_INSTRUCTIONS_AVAILABLE:
+        return __builtin_cpu_supports("avx2") != 0;
+    case PF_AVX512F_INSTRUCTIONS_AVAILABLE:
+        return __builtin_cpu_supports("avx512f") != 0;
+    }
+#endif
+    (void)feature;
+    return FALSE;
+}
+
+/* A number that the system has of a processor, or -1. */
+static int told_of_processor(int processor, const char *what)
+{
+    char path[96];
+    int number = -1;
+    snprintf(path, sizeof path, "/sys/devices/system/cpu/cpu%d/topology/%s", processor, what);
+    FILE *file = fopen(path, "re");
+    if (file != NULL) {
+        if (fscanf(file, "%d", &number) != 1)
+            number = -1;
+        fclose(file);
+    }
+    return number;
+}
+
+/* Notes the processors of each core, or of each package, in `found`, in the order of their first ones. Answers how many there are. */
+static DWORD share_processors(bool by_core, DWORD_PTR found[MAXIMUM_PROCESSORS])
+{
+    int packages[MAXIMUM_PROCESSORS], cores[MAXIMUM_PROCESSORS];
+    DWORD count = 0;
+    DWORD_PTR rest = mask_of(sysconf(_SC_NPROCESSORS_ONLN));
+    for (int i = 0; i < MAXIMUM_PROCESSORS; i++) {
+        packages[i] = (rest >> i & 1) != 0 ? told_of_processor(i, "physical_package_id") : -1;
+        cores[i] = (rest >> i & 1) != 0 ? told_of_processor(i, "core_id") : -1;
+    }
+    for (int i = 0; i < MAXIMUM_PROCESSORS; i++) {
+        if ((rest >> i & 1) == 0)
+            continue;
+        found[count] = (DWORD_PTR)1 << i;
+        for (int j = i + 1; j < MAXIMUM_PROCESSORS; j++)
+            if ((rest >> j & 1) != 0 && packages[i] == packages[j] && (!by_core || (cores[i] == cores[j] && cores[i] >= 0)))
+                found[count] |= (DWORD_PTR)1 << j;
+        rest &= ~found[count++];
+    }
+    return count;
+}
+
+BOOL GetLogicalProcessorInformation(PSYSTEM_LOGICAL_PROCESSOR_INFORMATION buffer, PDWORD length)
+{
+    DWORD_PTR cores[MAXIMUM_PROCESSORS], packages[MAXIMUM_PROCESSORS];
+    const DWORD core_count = share_processors(true, cores), package_count = share_processors(false, packages);
+    const DWORD size = (DWORD)((core_count + package_count + 1) * sizeof *buffer), room = *length;
+    *length = size;
+    if (room < size)
+        return fail(ERROR_INSUFFICIENT_BUFFER);
+    memset(buffer, 0, size);
+    for (DWORD i = 0; i < core_count; i++, buffer++) {
+        buffer->ProcessorMask = cores[i];
+        buffer->Relationship = RelationProcessorCore;
+        buffer->ProcessorCore.Flags = (cores[i] & (cores[i] - 1)) != 0;
+    }
+    for (DWORD i = 0; i < package_count; i++, buffer++) {
+        buffer->ProcessorMask = packages[i];
+        buffer->Relationship = RelationProcessorPackage;
+    }
+    buffer->ProcessorMask = mask_of(sysconf(_SC_NPROCESSORS_ONLN));
+    buffer->Relationship = RelationNumaNode;
+    return TRUE;
+}
