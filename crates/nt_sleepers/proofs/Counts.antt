@@ -1,0 +1,85 @@
+-- Whoever sleeps or watches after a call or tick waits.
+use Rattle.std.proofs.Common.{◌≡◌, ◌≢◌, ◌⊎◌, ℕ, zero, suc, ◌+◌, ◌<◌, ◌≤◌, ◌==◌, Bool, true, false, List, [], ◌∷◌, length, slice_set, Option, None, Some, refl, sym, ap, ◌∙◌, inl, inr, arith, length-set, get_or-set_same, get_or-set_other}
+use Rattle.std.proofs.lemmas.Bool.{cases_eq, cases_lt, eqb-true, eq-eqb}
+use Rattle.std.proofs.lemmas.List.{get_or_past}
+use Rattle.std.specs.Prelude.{if◌then◌else◌}
+use Rattle.std.specs.FinMap.{get}
+use Rattle.nt_alarms.specs.Alarms.{alarm_at}
+use Rattle.nt_calls.specs.declared.call.Grant.{Grant}
+use Rattle.nt_calls.specs.State.{State, pends}
+use Rattle.nt_calls.specs.Moves.{Moves, one_if, granted_to}
+use Rattle.nt_sleepers.specs.Sleepers.{OnlyWaiting, without_woken, set_if, with_called}
+
+-- a place that is cleared has nothing
+none_set : (places : List (Option ℕ)) (t : ℕ) → alarm_at (slice_set places t None) t ≡ None
+none_set [] zero = refl
+none_set [] (suc t) = refl
+none_set (x ∷ places) zero = refl
+none_set (x ∷ places) (suc t) = none_set places t
+
+-- what still stands once a place is cleared is another's
+pub other_stands : (places : List (Option ℕ)) (cleared t m : ℕ) → alarm_at (slice_set places cleared None) t ≡ Some m → (t ≢ cleared) × (alarm_at places t ≡ Some m)
+other_stands places cleared t m is =
+    let apart : t ≢ cleared = λ same. (let gone = ap (λ (k : ℕ). alarm_at (slice_set places cleared None) k) same ∙ none_set places cleared in absurd (cc (is, gone))) in
+    (apart, sym (get_or-set_other places cleared t None None apart) ∙ is)
+
+none_granted : (g : Grant) (t : ℕ) → t ≢ g.thread → (b : Bool) → (g.thread == t) ≡ b → one_if b ≡ 0
+none_granted g t apart true is = absurd (apart (sym (eqb-true g.thread t is)))
+none_granted g t apart false is = refl
+
+-- who still has an alarm or mark, after those with grants were cleared, has none of the grants
+pub none_woken : (gs : List Grant) (places : List (Option ℕ)) (t m : ℕ) → alarm_at (without_woken gs places) t ≡ Some m → (granted_to t gs ≡ 0) × (alarm_at places t ≡ Some m)
+none_woken [] places t m is = (refl, is)
+none_woken (g ∷ gs) places t m is =
+    let later = none_woken gs (slice_set places g.thread None) t m is in
+    let here = other_stands places g.thread t m later.1 in
+    let none = none_granted g t here.0 (g.thread == t) refl in
+    (omega (arith, later.0, none), here.1)
+
+-- as many places as before
+pub woken_length : (gs : List Grant) (places : List (Option ℕ)) → length (without_woken gs places) ≡ length places
+woken_length [] places = refl
+woken_length (g ∷ gs) places = woken_length gs (slice_set places g.thread None) ∙ length-set places g.thread None
+
+pub set_if_length : (b : Bool) (t : ℕ) (x : Option ℕ) (places : List (Option ℕ)) → length (set_if b t x places) ≡ length places
+set_if_length false t x places = refl
+set_if_length true t x places = length-set places t x
+
+pub called_length : (called : Option ℕ) (places : List (Option ℕ)) → length (with_called called places) ≡ length places
+called_length None places = refl
+called_length (Some t) places = length-set places t (Some 0)
+
+one_if_pends : (b : Bool) → 1 ≤ one_if b → b ≡ true
+one_if_pends true some = refl
+one_if_pends false some = absurd (omega (arith, some))
+
+-- who waited and was not granted waits still
+pub waits_still : (old new : State) (who : ℕ) (began : Bool) (gs : List Grant) (t : ℕ) → Moves old who began gs new → pends old t ≡ true → granted_to t gs ≡ 0 → pends new t ≡ true
+waits_still old new who began gs t moves waited none =
+    let each = moves.each t in let was = ap one_if waited in
+    one_if_pends (pends new t) (omega (arith, each, was, none))
+
+-- whose wait began waits
+pub begun_waits : (old new : State) (who : ℕ) (gs : List Grant) → Moves old who true gs new → pends new who ≡ true
+begun_waits old new who gs moves =
+    let each = moves.each who in let ended = moves.ended who in let free = ap one_if (moves.free refl) in
+    let here = ap (λ (b : Bool). if b then one_if true else 0) (eq-eqb who who refl) in
+    one_if_pends (pends new who) (omega (arith, each, ended, free, here))
+
+-- whoever is left after the grants waits
+pub woken_waiting : (old new : State) (who : ℕ) (began : Bool) (gs : List Grant) (places : List (Option ℕ)) → Moves old who began gs new → OnlyWaiting old places → OnlyWaiting new (without_woken gs places)
+woken_waiting old new who began gs places moves before t m is =
+    let left = none_woken gs places t m is in
+    waits_still old new who began gs t moves (before t m left.1) left.0
+
+-- whoever stands at a place that is set waits
+pub set_waiting : (s : State) (t : ℕ) (x : Option ℕ) (places : List (Option ℕ)) → pends s t ≡ true → OnlyWaiting s places → OnlyWaiting s (slice_set places t x)
+set_waiting s t x places waits before o m is =
+    elim (cases_eq o t) [
+      | inl same ↦ ap (pends s) same ∙ waits
+      | inr apart ↦ before o m (sym (get_or-set_other places t o x None apart) ∙ is)
+    ]
+
+pub set_if_waiting : (s : State) (b : Bool) (t : ℕ) (x : Option ℕ) (places : List (Option ℕ)) → (b ≡ true → pends s t ≡ true) → OnlyWaiting s places → OnlyWaiting s (set_if b t x places)
+set_if_waiting s false t x places waits before = before
+set_if_waiting s true t x places waits before = set_waiting s t x places (waits refl) before

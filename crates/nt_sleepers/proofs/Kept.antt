@@ -1,0 +1,174 @@
+-- Why some sleeper sleeps short enough.
+use Rattle.std.proofs.Common.{◌≡◌, ◌≢◌, ◌⊎◌, ℕ, zero, suc, ◌<◌, ◌≤◌, Bool, true, false, List, [], ◌∷◌, length, replicate, slice_set, Option, None, Some, refl, sym, ap, ◌∙◌, subst, inl, inr, arith, length-set, get_or-set_same, get_or-set_other}
+use Rattle.std.specs.Prelude.{Result, Ok, Err, OnErr}
+use Rattle.std.specs.FinMap.{get}
+use Rattle.std.proofs.lemmas.List.{length-replicate}
+use Rattle.nt_status.specs.declared.limits.TheConstants.{MAX_MOMENT, MAX_THREADS}
+use Rattle.nt_status.specs.declared.refusal.Refusal.{Refusal}
+use Rattle.nt_alarms.specs.Alarms.{alarm_at, IsQuiet, IsEarliest, IsLowestAt}
+use Rattle.nt_calls.specs.declared.call.Grant.{Grant}
+use Rattle.nt_calls.specs.declared.call.Reply.{Reply}
+use Rattle.nt_calls.specs.State.{State, pends}
+use Rattle.nt_calls.specs.declared.call.Call.{Call}
+use Rattle.nt_calls.specs.Steps.{IsAwaited, IsNextMoment, NothingDue, Called, Ticked}
+use Rattle.nt_calls.specs.Moves.{Moves, pended}
+use Rattle.nt_sleepers.specs.Sleepers.{Sleeping, Woke, Watches, TimeIsKept, IsInTime, IsShortEnough, IsCalled, SleepsUpTo, NoneUpTo, OnlyWaiting, without_woken, set_if, with_called}
+use Rattle.nt_sleepers.proofs.Counts.{none_woken, other_stands, woken_length, set_if_length, called_length, begun_waits, woken_waiting, set_waiting, set_if_waiting}
+
+inside : (alarms : List (Option ℕ)) (place m : ℕ) → alarm_at alarms place ≡ Some m → place < length alarms
+inside [] zero m is = absurd (cc)
+inside [] (suc place) m is = absurd (cc)
+inside (x ∷ alarms) zero m is = omega arith
+inside (x ∷ alarms) (suc place) m is = (let below = inside alarms place m is in omega (arith, below))
+
+-- ---- whether some sleeper sleeps short enough
+
+pub none_up_to_quiet : (alarms : List (Option ℕ)) (u : ℕ) → IsQuiet alarms → NoneUpTo alarms u
+none_up_to_quiet alarms u quiet t m is = (let none = quiet t in absurd (cc (none, is)))
+
+pub none_up_to_later : (alarms : List (Option ℕ)) (u first : ℕ) → IsEarliest alarms first → u < first → NoneUpTo alarms u
+none_up_to_later alarms u first earliest later t m is = (let least = earliest.least t m is in omega (arith, later, least))
+
+pub some_up_to : (alarms : List (Option ℕ)) (u first : ℕ) → IsEarliest alarms first → first ≤ u → SleepsUpTo alarms u
+some_up_to alarms u first earliest soon = (earliest.set.0, first, earliest.set.1, soon)
+
+-- ---- who is called
+
+pub in_time_quiet : (s : State) (alarms watchers : List (Option ℕ)) → IsQuiet watchers → IsInTime s alarms watchers
+in_time_quiet s alarms watchers quiet u low awaited = inl quiet
+
+pub in_time_idle : (s : State) (alarms watchers : List (Option ℕ)) (up_to : ℕ) → up_to ≡ MAX_MOMENT → NothingDue s up_to → IsInTime s alarms watchers
+in_time_idle s alarms watchers up_to is none u low awaited = (let late = none u awaited in absurd (omega (arith, is, low, late)))
+
+pub in_time_soon : (s : State) (alarms watchers : List (Option ℕ)) (up_to due : ℕ) → IsNextMoment s up_to due → SleepsUpTo alarms due → IsInTime s alarms watchers
+in_time_soon s alarms watchers up_to due next (t, m, is, soon) u low awaited = (let least = next.2 u awaited in inr (t, m, is, omega (arith, soon, least)))
+
+pub in_time_called : (s : State) (alarms watchers : List (Option ℕ)) (place mark : ℕ) → length watchers ≡ length alarms → IsLowestAt watchers mark place → IsInTime s (slice_set alarms place (Some 0)) watchers
+in_time_called s alarms watchers place mark same lowest u low awaited =
+    let near = inside watchers place mark lowest.here in
+    inr (place, 0, get_or-set_same alarms place (Some 0) None (omega (arith, near, same)), omega arith)
+
+-- ---- a watcher's moment
+
+pub short_idle : (s : State) (others : List (Option ℕ)) (own : Option ℕ) (up_to : ℕ) → up_to ≡ MAX_MOMENT → NothingDue s up_to → IsShortEnough s others own
+short_idle s others own up_to is none u low awaited = (let late = none u awaited in absurd (omega (arith, is, low, late)))
+
+pub short_by_another : (s : State) (others : List (Option ℕ)) (own : Option ℕ) (up_to due : ℕ) → IsNextMoment s up_to due → SleepsUpTo others due → IsShortEnough s others own
+short_by_another s others own up_to due next (t, m, is, soon) u low awaited = (let least = next.2 u awaited in inr (t, m, is, omega (arith, soon, least)))
+
+pub short_itself : (s : State) (others : List (Option ℕ)) (up_to due moment : ℕ) → IsNextMoment s up_to due → moment ≡ due → IsShortEnough s others (Some moment)
+short_itself s others up_to due moment next same u low awaited = (let least = next.2 u awaited in inl (moment, refl, omega (arith, same, least)))
+
+-- ---- what always holds
+
+none_at_first : (count place : ℕ) → alarm_at (replicate count None) place ≡ None
+none_at_first zero zero = refl
+none_at_first zero (suc place) = refl
+none_at_first (suc count) zero = refl
+none_at_first (suc count) (suc place) = none_at_first count place
+
+none_waits : (s : State) (count : ℕ) → OnlyWaiting s (replicate count None)
+none_waits s count t m is = (let none = none_at_first count t in absurd (cc (none, is)))
+
+-- nobody sleeps at first
+kept_at_first : (s : State) (count : ℕ) → count ≤ MAX_THREADS → TimeIsKept s (replicate count None) (replicate count None)
+kept_at_first s count few = record {
+  few = (let as_many = length-replicate {A = Option ℕ} count None in omega (arith, few, as_many));
+  count = refl;
+  asleep = none_waits s count;
+  watching = none_waits s count;
+  in_time = in_time_quiet s (replicate count None) (replicate count None) (none_at_first count);
+}
+
+pub kept_first : (s : State) (count : ℕ) (alarms watchers : List (Option ℕ)) → count ≤ MAX_THREADS → alarms ≡ replicate count None → watchers ≡ replicate count None → TimeIsKept s alarms watchers
+kept_first s count alarms watchers few alarms-are watchers-are =
+    subst (λ (xs : List (Option ℕ)). TimeIsKept s xs watchers) (sym alarms-are)
+    (subst (λ (xs : List (Option ℕ)). TimeIsKept s (replicate count None) xs) (sym watchers-are) (kept_at_first s count few))
+
+called_waiting : (s : State) (settled alarms watchers : List (Option ℕ)) (called : Option ℕ) → OnlyWaiting s watchers → IsCalled s settled watchers called → OnlyWaiting s alarms → OnlyWaiting s (with_called called alarms)
+called_waiting s settled alarms watchers None watching is before = before
+called_waiting s settled alarms watchers (Some t) watching is before = set_waiting s t (Some 0) alarms (watching t is.0 is.2) before
+
+-- after a call or tick; the caller's alarm is this where its wait began
+pub kept_after : (old new : State) (who : ℕ) (began : Bool) (gs : List Grant) (own called : Option ℕ) (alarms watchers alarms' watchers' : List (Option ℕ)) → Moves old who began gs new → TimeIsKept old alarms watchers → alarms' ≡ with_called called (set_if began who own (without_woken gs alarms)) → watchers' ≡ without_woken gs watchers → IsCalled new (set_if began who own (without_woken gs alarms)) watchers' called → IsInTime new alarms' watchers' → TimeIsKept new alarms' watchers'
+kept_after old new who began gs own called alarms watchers alarms' watchers' moves kept alarms-are watchers-are is in_time =
+    let settled = set_if began who own (without_woken gs alarms) in
+    let watching : OnlyWaiting new watchers' = subst (OnlyWaiting new) (sym watchers-are) (woken_waiting old new who began gs watchers moves kept.watching) in
+    let waits : OnlyWaiting new settled = set_if_waiting new began who own (without_woken gs alarms) (λ b. begun_waits old new who gs (subst (λ (x : Bool). Moves old who x gs new) b moves)) (woken_waiting old new who began gs alarms moves kept.asleep) in
+    let few = ap length alarms-are ∙ called_length called settled ∙ set_if_length began who own (without_woken gs alarms) ∙ woken_length gs alarms in
+    let enough = kept.few in
+    record {
+      few = omega (arith, few, enough);
+      count = ap length watchers-are ∙ woken_length gs watchers ∙ kept.count ∙ sym few;
+      asleep = subst (OnlyWaiting new) (sym alarms-are) (called_waiting new settled settled watchers' called watching is waits);
+      watching = watching;
+      in_time = in_time;
+    }
+
+-- a watcher more
+pub kept_watch : (s : State) (alarms watchers alarms' watchers' : List (Option ℕ)) (t : ℕ) (moment : Option ℕ) → pends s t ≡ true → t < length alarms → TimeIsKept s alarms watchers → alarms' ≡ slice_set alarms t moment → watchers' ≡ slice_set watchers t (Some 0) → IsShortEnough s (slice_set alarms t None) moment → TimeIsKept s alarms' watchers'
+kept_watch s alarms watchers alarms' watchers' t moment waits near kept alarms-are watchers-are short = record {
+  few = (let as_many = ap length alarms-are ∙ length-set alarms t moment in let enough = kept.few in omega (arith, as_many, enough));
+  count = ap length watchers-are ∙ length-set watchers t (Some 0) ∙ kept.count ∙ sym (ap length alarms-are ∙ length-set alarms t moment);
+  asleep = subst (OnlyWaiting s) (sym alarms-are) (set_waiting s t moment alarms waits kept.asleep);
+  watching = subst (OnlyWaiting s) (sym watchers-are) (set_waiting s t (Some 0) watchers waits kept.watching);
+  in_time = λ u low awaited. inr (subst (λ (xs : List (Option ℕ)). SleepsUpTo xs u) (sym alarms-are) (elim (short u low awaited) [
+    | inl itself ↦ (t, itself.0, get_or-set_same alarms t moment None near ∙ itself.1, itself.2)
+    | inr other ↦ (let stands = other_stands alarms t other.0 other.1 other.2 in (other.0, other.1, get_or-set_other alarms t other.0 moment None stands.0 ∙ stands.1, other.3))
+  ]));
+}
+
+still_waiting : (s : State) (places : List (Option ℕ)) (t : ℕ) → OnlyWaiting s places → OnlyWaiting s (slice_set places t None)
+still_waiting s places t before o m is = before o m (other_stands places t o m is).1
+
+-- a sleeper less
+pub kept_stop : (s : State) (alarms watchers alarms' watchers' : List (Option ℕ)) (t : ℕ) (called : Option ℕ) → TimeIsKept s alarms watchers → alarms' ≡ with_called called (slice_set alarms t None) → watchers' ≡ slice_set watchers t None → IsCalled s (slice_set alarms t None) watchers' called → IsInTime s alarms' watchers' → TimeIsKept s alarms' watchers'
+kept_stop s alarms watchers alarms' watchers' t called kept alarms-are watchers-are is in_time =
+    let watching : OnlyWaiting s watchers' = subst (OnlyWaiting s) (sym watchers-are) (still_waiting s watchers t kept.watching) in
+    let as_many = ap length alarms-are ∙ called_length called (slice_set alarms t None) ∙ length-set alarms t None in
+    let enough = kept.few in
+    record {
+      few = omega (arith, as_many, enough);
+      count = ap length watchers-are ∙ length-set watchers t None ∙ kept.count ∙ sym (ap length alarms-are ∙ called_length called (slice_set alarms t None) ∙ length-set alarms t None);
+      asleep = subst (OnlyWaiting s) (sym alarms-are) (called_waiting s (slice_set alarms t None) (slice_set alarms t None) watchers' called watching is (still_waiting s alarms t kept.asleep));
+      watching = watching;
+      in_time = in_time;
+    }
+
+-- ---- a refused call calls nobody
+
+not_called : (s : State) (alarms watchers : List (Option ℕ)) (called : Option ℕ) → IsInTime s alarms watchers → IsCalled s alarms watchers called → called ≡ None
+not_called s alarms watchers None in_time is = refl
+not_called s alarms watchers (Some t) in_time (mark, u, here, low, awaited, none) =
+    elim (in_time u low awaited) [
+      | inl quiet ↦ (let nothing = quiet t in absurd (cc (nothing, here)))
+      | inr (o, m, is, soon) ↦ (let later = none o m is in absurd (omega (arith, soon, later)))
+    ]
+
+-- nothing has changed, and nobody is called
+nobody_called : (old new : State) (who : ℕ) (began : Bool) (gs : List Grant) (own called : Option ℕ) (alarms watchers watchers' : List (Option ℕ)) → new ≡ old → gs ≡ [] → began ≡ false → TimeIsKept old alarms watchers → watchers' ≡ without_woken gs watchers → IsCalled new (set_if began who own (without_woken gs alarms)) watchers' called → called ≡ None
+nobody_called old new who began gs own called alarms watchers watchers' same none not kept watchers-are is =
+    let here : IsInTime new alarms watchers = subst (λ (s : State). IsInTime s alarms watchers) (sym same) kept.in_time in
+    let alarms-are : set_if began who own (without_woken gs alarms) ≡ alarms = ap (λ (b : Bool). set_if b who own (without_woken gs alarms)) not ∙ ap (λ xs. without_woken xs alarms) none in
+    let as_before : watchers' ≡ watchers = watchers-are ∙ ap (λ xs. without_woken xs watchers) none in
+    not_called new alarms watchers called here
+    (subst (λ (xs : List (Option ℕ)). IsCalled new alarms xs called) as_before
+    (subst (λ (xs : List (Option ℕ)). IsCalled new xs watchers' called) alarms-are is))
+
+pub nobody_by_call : (old new : State) (who : ℕ) (call : Call) (result : Result Reply Refusal) (began : Bool) (gs : List Grant) (own called : Option ℕ) (alarms watchers watchers' : List (Option ℕ)) → Called old who call result gs new → began ≡ pended result → TimeIsKept old alarms watchers → watchers' ≡ without_woken gs watchers → IsCalled new (set_if began who own (without_woken gs alarms)) watchers' called → OnErr result (called ≡ None)
+nobody_by_call old new who call (Ok reply) began gs own called alarms watchers watchers' made b kept watchers-are is = tt
+nobody_by_call old new who call (Err r) began gs own called alarms watchers watchers' made b kept watchers-are is =
+    nobody_called old new who began gs own called alarms watchers watchers' made.2 made.1 b kept watchers-are is
+
+pub nobody_by_tick : (old new : State) (m : ℕ) (result : Result Reply Refusal) (gs : List Grant) (own called : Option ℕ) (alarms watchers watchers' : List (Option ℕ)) → Ticked old m result gs new → TimeIsKept old alarms watchers → watchers' ≡ without_woken gs watchers → IsCalled new (without_woken gs alarms) watchers' called → OnErr result (called ≡ None)
+nobody_by_tick old new m (Ok reply) gs own called alarms watchers watchers' ticked kept watchers-are is = tt
+nobody_by_tick old new m (Err r) gs own called alarms watchers watchers' ticked kept watchers-are is =
+    nobody_called old new 0 false gs own called alarms watchers watchers' ticked.3 ticked.2 refl kept watchers-are is
+
+-- ---- the same values
+
+pub woke_as : (old old' new : Sleeping) (who : ℕ) (began began' : Bool) → old ≡ old' → began ≡ began' → Woke old who began new → Woke old' who began' new
+woke_as old old' new who began began' same is woke = subst (λ (s : Sleeping). Woke s who began' new) same (subst (λ (b : Bool). Woke old who b new) is woke)
+
+pub watches_as : (old old' new : Sleeping) (who : ℕ) (moment : Option ℕ) → old ≡ old' → Watches old who moment new → Watches old' who moment new
+watches_as old old' new who moment same watches = subst (λ (s : Sleeping). Watches s who moment new) same watches

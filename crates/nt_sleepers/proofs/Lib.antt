@@ -1,0 +1,3 @@
+pub mod Waking
+pub mod Kept
+pub mod Counts

@@ -1,0 +1,113 @@
+-- Who sleeps to which moment.
+use Rattle.std.specs.Prelude.{◌≡◌, ◌⊎◌, ℕ, ◌≤◌, ◌<◌, Bool, true, false, ◌&&◌, List, [], ◌∷◌, ◌++◌, map, length, slice_set, Option, Some, None}
+use Rattle.std.specs.FinMap.{get}
+use Rattle.nt_status.specs.declared.limits.TheConstants.{MAX_MOMENT, MAX_THREADS}
+use Rattle.nt_alarms.specs.Alarms.{alarm_at, IsQuiet}
+use Rattle.nt_waits.specs.declared.wait.Wait.{Wait}
+use Rattle.nt_calls.specs.declared.call.Grant.{Grant}
+use Rattle.nt_calls.specs.State.{State, pends}
+use Rattle.nt_calls.specs.Steps.{IsAwaited, IsNextMoment}
+use Rattle.nt_core.specs.Dispatcher.{Dispatcher, state}
+use Rattle.nt_sleepers.specs.declared.told.Told.{Told}
+
+-- the dispatcher; by thread the moment to which it sleeps by itself, and a mark if a timer may end its wait; and who is called
+pub record Sleeping : Type 0 where
+  pub core : Dispatcher
+  pub alarms : List (Option ℕ)
+  pub watchers : List (Option ℕ)
+  pub called : Option ℕ
+
+-- ---- what always holds
+
+-- some thread sleeps by itself no longer than to this moment
+abbrev pub SleepsUpTo : List (Option ℕ) → ℕ → Type 0
+SleepsUpTo alarms u = (t m : ℕ) × (alarm_at alarms t ≡ Some m) × (m ≤ u)
+
+-- no thread sleeps by itself to this moment, or to one before it
+abbrev pub NoneUpTo : List (Option ℕ) → ℕ → Type 0
+NoneUpTo alarms u = (t m : ℕ) → alarm_at alarms t ≡ Some m → u < m
+
+-- whatever is awaited, some thread sleeps no longer than to that moment, or no thread watches
+abbrev pub IsInTime : State → List (Option ℕ) → List (Option ℕ) → Type 0
+IsInTime s alarms watchers = (u : ℕ) → u ≤ MAX_MOMENT → IsAwaited s u → IsQuiet watchers ⊎ SleepsUpTo alarms u
+
+-- only threads whose waits pend have an alarm, or a mark
+abbrev pub OnlyWaiting : State → List (Option ℕ) → Type 0
+OnlyWaiting s places = (t m : ℕ) → alarm_at places t ≡ Some m → pends s t ≡ true
+
+-- whoever sleeps or watches waits, and if anybody watches, the time is kept
+pub record TimeIsKept (s : State) (alarms watchers : List (Option ℕ)) : Type 0 where
+  pub few : length alarms ≤ MAX_THREADS
+  pub count : length watchers ≡ length alarms
+  pub asleep : OnlyWaiting s alarms
+  pub watching : OnlyWaiting s watchers
+  pub in_time : IsInTime s alarms watchers
+
+-- ---- a call or tick
+
+-- none of the threads that have these grants sleeps, or watches, any more
+abbrev pub without_woken : List Grant → List (Option ℕ) → List (Option ℕ)
+without_woken [] places = places
+without_woken (g ∷ gs) places = without_woken gs (slice_set places g.thread None)
+
+-- what thread t has at its place is this now, if it is so
+abbrev pub set_if : Bool → ℕ → Option ℕ → List (Option ℕ) → List (Option ℕ)
+set_if false t x places = places
+set_if true t x places = slice_set places t x
+
+-- when a wait times out
+abbrev pub deadline_of : Option Wait → Option ℕ
+deadline_of None = None
+deadline_of (Some w) = w.deadline
+
+-- who is called sleeps no longer than to moment 0
+abbrev pub with_called : Option ℕ → List (Option ℕ) → List (Option ℕ)
+with_called None alarms = alarms
+with_called (Some t) alarms = slice_set alarms t (Some 0)
+
+-- who is called watches, and something is awaited before any thread wakes by itself
+abbrev pub IsCalled : State → List (Option ℕ) → List (Option ℕ) → Option ℕ → Type 0
+IsCalled s alarms watchers None = Unit {0}
+IsCalled s alarms watchers (Some t) =
+    (mark u : ℕ) × (alarm_at watchers t ≡ Some mark) × (u ≤ MAX_MOMENT) × IsAwaited s u × NoneUpTo alarms u
+
+-- the alarms before anybody is called: whom the grants woke no longer sleeps, and whose wait began sleeps to its deadline
+abbrev pub settled : List (Option ℕ) → ℕ → Bool → Dispatcher → List (Option ℕ)
+settled alarms who began new = set_if began who (deadline_of (get (state new).waits who)) (without_woken new.grants alarms)
+
+-- after a call of thread `who`, whose wait began or did not, or after a tick
+pub record Woke (old : Sleeping) (who : ℕ) (began : Bool) (new : Sleeping) : Type 0 where
+  pub alarms : new.alarms ≡ with_called new.called (settled old.alarms who began new.core)
+  pub watchers : new.watchers ≡ without_woken new.core.grants old.watchers
+  pub called : IsCalled (state new.core) (settled old.alarms who began new.core) new.watchers new.called
+
+-- whom the last call or tick told: each wait that ended with its status, in their order, and then who is to look at the time
+abbrev pub told_of : List Grant → Option ℕ → List Told
+told_of grants None = map Told.Granted grants
+told_of grants (Some t) = map Told.Granted grants ++ Told.Called t ∷ []
+
+-- ---- a watcher
+
+-- a thread that sleeps to this moment, or one of the others, sleeps no longer than to whichever moment is awaited
+abbrev pub IsShortEnough : State → List (Option ℕ) → Option ℕ → Type 0
+IsShortEnough s others moment =
+    (u : ℕ) → u ≤ MAX_MOMENT → IsAwaited s u → ((m : ℕ) × (moment ≡ Some m) × (m ≤ u)) ⊎ SleepsUpTo others u
+
+-- a thread whose wait has this deadline, or none, sleeps to this moment: to the deadline, or to the next moment that is awaited
+abbrev pub SleepsTo : State → Option ℕ → Option ℕ → Type 0
+SleepsTo s own moment = (moment ≡ own) ⊎ ((u : ℕ) × (moment ≡ Some u) × IsNextMoment s MAX_MOMENT u)
+
+-- thread t watches from now on, if its wait pends, and sleeps to this moment
+pub record Watches (old : Sleeping) (t : ℕ) (moment : Option ℕ) (new : Sleeping) : Type 0 where
+  pub core : new.core ≡ old.core
+  pub called : new.called ≡ old.called
+  pub sleeps : SleepsTo (state old.core) (deadline_of (get (state old.core).waits t)) moment
+  pub alarms : new.alarms ≡ set_if (pends (state old.core) t) t moment old.alarms
+  pub watchers : new.watchers ≡ set_if (pends (state old.core) t) t (Some 0) old.watchers
+
+-- thread t sleeps and watches no more, though its wait may pend, and a watcher may be called in its place
+pub record Stops (old : Sleeping) (t : ℕ) (new : Sleeping) : Type 0 where
+  pub core : new.core ≡ old.core
+  pub alarms : new.alarms ≡ with_called new.called (slice_set old.alarms t None)
+  pub watchers : new.watchers ≡ slice_set old.watchers t None
+  pub called : IsCalled (state old.core) (slice_set old.alarms t None) new.watchers new.called

@@ -1,0 +1,167 @@
+//! How the time is kept: whose alarms are cleared, who is called, and to which moment a thread sleeps.
+ghost use Rattle.std.specs.Prelude.{◌≡◌, ◌≤◌, Bool, Some, None, MatchBool, length, slice_set};
+ghost use Rattle.std.specs.FinMap as map;
+ghost use Rattle.nt_status.specs.declared.limits.TheConstants.{MAX_THREADS};
+ghost use Rattle.nt_calls.specs.State.{pends};
+ghost use Rattle.nt_core.specs.Dispatcher.{state};
+ghost use Rattle.nt_sleepers.specs.Sleepers.{IsCalled, IsInTime, IsShortEnough, NoneUpTo, SleepsTo, SleepsUpTo, TimeIsKept, deadline_of, set_if, settled, with_called, without_woken};
+
+use nt_alarms::Alarms;
+use nt_core::{Core, Grant};
+use nt_status::{MAX_MOMENT, Moment};
+
+/// Nothing stands at this place any more. If nothing did, one look tells.
+#[tactic(auto, using(std::proofs::lemmas::List::set_past))]
+fn clear(places: &mut Alarms, place: usize)
+    ensures { places.new ≡ slice_set places.old place None }
+{
+    if places.get(place).is_some() {
+        places.clear(place);
+    }
+}
+
+/// At this place stands this moment, or nothing. Past the last place nothing is done.
+#[tactic(auto, using(std::proofs::lemmas::List::set_past))]
+fn put(places: &mut Alarms, place: usize, moment: Option<u64>)
+    ensures { places.new ≡ slice_set places.old place moment }
+{
+    match moment {
+        Some(moment) if place < places.len() => places.set(place, moment),
+        Some(_) => {}
+        None => clear(places, place),
+    }
+}
+
+/// None of these threads sleeps, or watches, any more.
+#[tactic(auto, using(crate::proofs::Waking::woken_first, crate::proofs::Waking::woken_next, crate::proofs::Waking::woken_all))]
+fn clear_all(places: &mut Alarms, grants: &[Grant])
+    ensures { places.new ≡ without_woken grants.now places.old }
+{
+    for grant in grants {
+        clear(places, usize::from(grant.thread.get()));
+    }
+}
+
+/// When the pending wait of this thread times out.
+fn deadline(core: &Core, who: u32) -> Option<u64>
+    ensures { result ≡ deadline_of (map.get (state core.now).waits who) }
+{
+    core.waits_for(who)?.deadline
+}
+
+/// Whose wait began sleeps to its deadline.
+fn begin(core: &Core, alarms: &mut Alarms, who: u32, began: bool)
+    ensures { alarms.new ≡ set_if began who (deadline_of (map.get (state core.now).waits who)) alarms.old }
+{
+    if began {
+        put(alarms, who as usize, deadline(core, who));
+    }
+}
+
+/// Whether some thread sleeps no longer than to this moment.
+#[tactic(auto, using(crate::proofs::Kept::none_up_to_quiet, crate::proofs::Kept::none_up_to_later))]
+fn sleeps_up_to(alarms: &Alarms, u: u64) -> bool
+    ensures { MatchBool result (SleepsUpTo alarms.now u) (NoneUpTo alarms.now u) }
+{
+    match alarms.earliest() {
+        Some(first) => first <= u,
+        None => false,
+    }
+}
+
+/// Calls a watcher if nobody sleeps short enough, and returns which.
+#[tactic(auto, using(crate::proofs::Kept::in_time_quiet))]
+fn call_one(core: &Core, alarms: &mut Alarms, watchers: &Alarms) -> Option<u32>
+    requires count { length watchers.now ≡ length alarms.old }
+    requires few { length alarms.old ≤ MAX_THREADS }
+    ensures in_time { IsInTime (state core.now) alarms.new watchers.now }
+    ensures alarms { alarms.new ≡ with_called result alarms.old }
+    ensures called { IsCalled (state core.now) alarms.old watchers.now result }
+{
+    let mark = watchers.earliest()?;
+    let due = core.due(Moment::new(MAX_MOMENT)?)?;
+    if sleeps_up_to(alarms, due.get()) {
+        return None;
+    }
+    let watcher = watchers.first_at(mark)?;
+    alarms.set(watcher, 0);
+    Some(watcher as u32)
+}
+
+/// What becomes of alarms and watchers after a call of this thread, whose wait began or did not, or after a tick. Returns who is called.
+pub(crate) fn settle(
+    core: &Core,
+    alarms: &mut Alarms,
+    watchers: &mut Alarms,
+    who: u32,
+    began: bool,
+) -> Option<u32>
+    requires count { length watchers.old ≡ length alarms.old }
+    requires few { length alarms.old ≤ MAX_THREADS }
+    ensures in_time { IsInTime (state core.now) alarms.new watchers.new }
+    ensures alarms { alarms.new ≡ with_called result (settled alarms.old who began core.now) }
+    ensures watchers { watchers.new ≡ without_woken core.now.grants watchers.old }
+    ensures called { IsCalled (state core.now) (settled alarms.old who began core.now) watchers.new result }
+{
+    clear_all(alarms, core.grants());
+    clear_all(watchers, core.grants());
+    begin(core, alarms, who, began);
+    call_one(core, alarms, watchers)
+}
+
+/// To which moment a watcher sleeps beside these others: to its own deadline, if that or one of them is short enough.
+fn moment_beside(core: &Core, others: &Alarms, own: Option<u64>) -> Option<u64>
+    ensures sleeps { SleepsTo (state core.now) own result }
+    ensures short { IsShortEnough (state core.now) others.now result }
+{
+    let Some(last) = Moment::new(MAX_MOMENT) else {
+        return own;
+    };
+    let Some(due) = core.due(last) else {
+        return own;
+    };
+    if sleeps_up_to(others, due.get()) {
+        own
+    } else {
+        Some(due.get())
+    }
+}
+
+/// The thread watches from now on, if its wait pends. Returns to which moment it sleeps.
+pub(crate) fn watch(
+    core: &Core,
+    alarms: &mut Alarms,
+    watchers: &mut Alarms,
+    who: u32,
+) -> Option<u64>
+    requires kept { TimeIsKept (state core.now) alarms.old watchers.old }
+    ensures kept { TimeIsKept (state core.now) alarms.new watchers.new }
+    ensures sleeps { SleepsTo (state core.now) (deadline_of (map.get (state core.now).waits who)) result }
+    ensures alarms { alarms.new ≡ set_if (pends (state core.now) who) who result alarms.old }
+    ensures watchers { watchers.new ≡ set_if (pends (state core.now) who) who (Some 0) watchers.old }
+{
+    let own = core.waits_for(who)?.deadline;
+    let place = who as usize;
+    if place >= alarms.len() {
+        return own;
+    }
+    clear(alarms, place);
+    let moment = moment_beside(core, alarms, own);
+    put(alarms, place, moment);
+    watchers.set(place, 0);
+    moment
+}
+
+/// The thread sleeps and watches no more. Returns who is called in its place.
+#[tactic(auto, using(crate::proofs::Kept::kept_stop))]
+pub(crate) fn stop(core: &Core, alarms: &mut Alarms, watchers: &mut Alarms, who: u32) -> Option<u32>
+    requires kept { TimeIsKept (state core.now) alarms.old watchers.old }
+    ensures kept { TimeIsKept (state core.now) alarms.new watchers.new }
+    ensures alarms { alarms.new ≡ with_called result (slice_set alarms.old who None) }
+    ensures watchers { watchers.new ≡ slice_set watchers.old who None }
+    ensures called { IsCalled (state core.now) (slice_set alarms.old who None) watchers.new result }
+{
+    clear(alarms, who as usize);
+    clear(watchers, who as usize);
+    call_one(core, alarms, watchers)
+}

@@ -1,0 +1,202 @@
+//! The dispatcher with those who sleep.
+ghost use Rattle.std.specs.Prelude.{◌≡◌, ◌≤◌, [], replicate, slice_get, true, false, None, IfOk, IfErr, OnOk, OnErr, MatchBool, nat_le, ◌&&◌};
+ghost use Rattle.nt_status.specs.declared.refusal.Refusal.TheVariants.{InvalidParameter, Memory};
+ghost use Rattle.nt_alarms.specs.Alarms.{alarm_at};
+ghost use Rattle.nt_calls.specs.declared.call.WaitCall.{WaitCall};
+ghost use Rattle.nt_calls.specs.Moves.{pended};
+ghost use Rattle.nt_calls.specs.Naming.{call_named};
+ghost use Rattle.nt_calls.specs.State.{opening};
+ghost use Rattle.nt_calls.specs.Steps.{Called, Ticked};
+ghost use Rattle.nt_core.specs.Accepts.{IsLocal, IsTickLocal};
+ghost use Rattle.nt_core.specs.Dispatcher.{state};
+ghost use Rattle.nt_core.specs.Lawful.{IsLawful};
+ghost use Rattle.nt_sleepers.specs.Sleepers.{Stops, Watches, Woke, told_of};
+
+use crate::keeping::{settle, stop, watch};
+use crate::told::Told;
+use nt_alarms::Alarms;
+use nt_core::{Call, Core, Reply};
+use nt_status::{Handle, MAX_THREADS, Moment, Refusal};
+use std::alloc::Global;
+use std::marker::Model;
+
+/// A dispatcher, and to which moment each thread sleeps by itself.
+#[derive(Drop)]
+pub struct Sleepers {
+    core: Core,
+    alarms: Alarms,
+    watchers: Alarms,
+    called: Option<u32>,
+}
+
+impl Model for Sleepers {
+    ghost use Rattle.std.specs.Coded.{codes};
+    ghost use Rattle.nt_waits.specs.Waits.{waits_code};
+    ghost use Rattle.nt_core.specs.Dispatcher.{state};
+    ghost use Rattle.nt_sleepers.specs.Sleepers.{Sleeping, TimeIsKept};
+
+    ghost Value = { Sleeping };
+
+    ghost coded = { Prim.hlevel (codes, waits_code) };
+
+    ghost view = { λ s. record { core = s.core; alarms = s.alarms; watchers = s.watchers; called = s.called } };
+
+    ghost invariant = { λ s. TimeIsKept (state s.core) s.alarms s.watchers };
+}
+
+/// Whether the caller's wait pends from now on.
+fn has_pended(asked: &Result<Reply, Refusal>) -> bool
+    ensures { result ≡ pended asked.now }
+{
+    matches!(asked, Ok(Reply::Pended))
+}
+
+impl Sleepers {
+    /// A dispatcher whose threads run, so that nobody sleeps.
+    ///
+    /// Refused with 87 unless there are 1 to `MAX_THREADS` threads, and with 8 if memory is refused.
+    pub fn new(alloc: Global, threads: u32) -> Result<Sleepers, Refusal>
+        ensures ok { IfOk result (λ s. (1 ≤ threads) × (threads ≤ MAX_THREADS) × (state s.core ≡ opening threads)
+            × (s.core.grants ≡ [])) }
+        ensures asleep { IfOk result (λ s. (s.alarms ≡ replicate threads None) × (s.watchers ≡ replicate threads None)
+            × (s.called ≡ None)) }
+        ensures untested { IfOk result (λ s. s.core.table.looked ≡ 0) }
+        ensures lawful { IfOk result (λ s. IsLawful s.core) }
+        ensures err { IfErr result (λ r.
+            MatchBool (nat_le 1 threads && nat_le threads MAX_THREADS) (r ≡ Memory) (r ≡ InvalidParameter)) }
+    {
+        // `Core::new` refuses them too; here it comes before the alarms' memory.
+        if threads == 0 || threads > MAX_THREADS {
+            return Err(Refusal::InvalidParameter);
+        }
+        let alarms = Alarms::with_places(alloc, threads as usize)?;
+        let watchers = Alarms::with_places(alloc, threads as usize)?;
+        let core = Core::new(alloc, threads)?;
+        Ok(Sleepers {
+            core,
+            alarms,
+            watchers,
+            called: None,
+        })
+    }
+
+    /// Makes the call of this thread, and returns its reply or why it is refused. If its wait pends, it sleeps to its deadline.
+    #[inline(always)]
+    pub fn call(&mut self, who: u32, call: &Call) -> Result<Reply, Refusal>
+        ensures called { Called (state self.old.core) who call.now result self.new.core.grants (state self.new.core) }
+        ensures lawful { IsLawful self.new.core }
+        ensures local { OnOk result (IsLocal (state self.old.core) who
+            (call_named self.old.core.handles call.now) self.new.core.table.looked self.new.core.grants) }
+        ensures untested { OnErr result (self.new.core.table.looked ≡ 0) }
+        ensures woke { Woke self.old who (pended result) self.new }
+        ensures nobody { OnErr result (self.new.called ≡ None) }
+    {
+        let result = self.core.call(who, call);
+        let began = has_pended(&result);
+        self.called = settle(&self.core, &mut self.alarms, &mut self.watchers, who, began);
+        result
+    }
+
+    /// The call `WaitCall::Objects` of this thread, for a caller whose handles stand in a slice: it takes no list of them.
+    /// The timeout is in milliseconds, and has no end at 0xFFFFFFFF.
+    pub fn wait_objects(
+        &mut self,
+        who: u32,
+        handles: &[Handle],
+        all: bool,
+        alertable: bool,
+        ms: u32,
+    ) -> Result<Reply, Refusal>
+        ensures called { Called (state self.old.core) who (Call.Wait (WaitCall.Objects all alertable ms handles.now))
+            result self.new.core.grants (state self.new.core) }
+        ensures lawful { IsLawful self.new.core }
+        ensures local { OnOk result (IsLocal (state self.old.core) who
+            (call_named self.old.core.handles (Call.Wait (WaitCall.Objects all alertable ms handles.now)))
+            self.new.core.table.looked self.new.core.grants) }
+        ensures untested { OnErr result (self.new.core.table.looked ≡ 0) }
+        ensures woke { Woke self.old who (pended result) self.new }
+        ensures nobody { OnErr result (self.new.called ≡ None) }
+    {
+        let result = self.core.wait_objects(who, handles, all, alertable, ms);
+        let began = has_pended(&result);
+        self.called = settle(&self.core, &mut self.alarms, &mut self.watchers, who, began);
+        result
+    }
+
+    /// Lets all moments up to `m`, counted in 100 ns, pass. A moment before the present one is refused.
+    pub fn tick(&mut self, m: Moment) -> Result<Reply, Refusal>
+        ensures ticked { Ticked (state self.old.core) m result self.new.core.grants (state self.new.core) }
+        ensures lawful { IsLawful self.new.core }
+        ensures local { OnOk result (IsTickLocal (state self.old.core) m self.new.core.table.looked self.new.core.grants) }
+        ensures untested { OnErr result (self.new.core.table.looked ≡ 0) }
+        ensures woke { Woke self.old 0 false self.new }
+        ensures nobody { OnErr result (self.new.called ≡ None) }
+    {
+        let result = self.core.tick(m);
+        self.called = settle(&self.core, &mut self.alarms, &mut self.watchers, 0, false);
+        result
+    }
+
+    /// A timer may end the pending wait of this thread: it watches from now on. Returns the moment to which it sleeps by itself, in units
+    /// of 100 ns; none if it sleeps until it is told. If its wait does not pend, nothing is done.
+    pub fn watch(&mut self, who: u32) -> Option<u64>
+        ensures { Watches self.old who result self.new }
+    {
+        watch(&self.core, &mut self.alarms, &mut self.watchers, who)
+    }
+
+    /// The moment to which this thread sleeps by itself, in units of 100 ns; none if it sleeps until it is told, or does not sleep.
+    pub fn moment(&self, who: u32) -> Option<u64>
+        ensures { result ≡ alarm_at self.now.alarms who }
+    {
+        self.alarms.get(who as usize)
+    }
+
+    /// This thread sleeps and watches no more, though its wait may pend: it is gone, or looks for itself. A watcher may be called in its place.
+    pub fn stop(&mut self, who: u32)
+        ensures { Stops self.old who self.new }
+    {
+        self.called = stop(&self.core, &mut self.alarms, &mut self.watchers, who);
+    }
+
+    /// Whom the last call or tick told, by index: each wait that ended, and then who is called, if anybody is.
+    pub fn told(&self, index: usize) -> Option<Told>
+        ensures { result ≡ slice_get (told_of self.now.core.grants self.now.called) index }
+    {
+        let grants = self.core.grants();
+        if let Some(grant) = grants.get(index) {
+            return Some(Told::Granted(*grant));
+        }
+        let thread = self.called?;
+        if index == grants.len() {
+            Some(Told::Called(thread))
+        } else {
+            None
+        }
+    }
+
+    /// The dispatcher, to be read.
+    pub fn core(&self) -> &Core
+        ensures { result.now ≡ self.now.core }
+    {
+        &self.core
+    }
+
+    /// An equal dispatcher with the same sleepers, in memory of its own.
+    ///
+    /// Refused with 8 if memory is refused.
+    pub fn copy(&self) -> Result<Sleepers, Refusal>
+        ensures value { IfOk result (λ copied. copied ≡ self.now) }
+        ensures memory { IfErr result (λ refusal. refusal ≡ Memory) }
+    {
+        let alarms = self.alarms.copy()?;
+        let watchers = self.watchers.copy()?;
+        let core = self.core.copy()?;
+        Ok(Sleepers {
+            core,
+            alarms,
+            watchers,
+            called: self.called,
+        })
+    }
+}
