@@ -1,0 +1,7 @@
+mod Times
+mod Spares
+mod Renewed
+mod Limits
+mod Calls
+mod Taken
+mod Choosing

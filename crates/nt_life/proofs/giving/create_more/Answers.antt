@@ -1,0 +1,58 @@
+use Rattle.std.proofs.Common.{◌≡◌, ℕ, get_or, refl, ap, subst, inr}
+use Rattle.std.specs.declared.result.Result.{Result}
+use Rattle.std.specs.declared.result.Result.TheVariants.{Ok, Err}
+use Rattle.nt_status.specs.declared.refusal.Refusal.{Refusal}
+use Rattle.nt_status.specs.declared.refusal.Refusal.TheVariants.{HandleLimit}
+use Rattle.nt_calls.specs.declared.call.Reply.{Reply}
+use Rattle.nt_core.specs.Dispatcher.{state}
+use Rattle.nt_core.specs.Renewals.{AddsVacant, CreatesAgain}
+use Rattle.nt_life.proofs.Limits.{again_limit}
+use Rattle.nt_life.proofs.Choosing.{added_spare, added_room, added_at, none_added}
+use Rattle.nt_life.proofs.giving.create_more.Goals as goal
+
+pub returns-in-Some-clause-limit : goal.returns-in-Some-clause-limit
+returns-in-Some-clause-limit c limit =
+    absurd (again_limit (state c.args.core.now) c.args.who c.args.act.now (get_or c.args.spare.now.unnamed c.in-Some.place 0) c.args.handle c.create_at.result c.create_at.new.core.grants (state c.create_at.new.core) c.create_at.ensures.created limit)
+
+pub returns-in-Err-clause-created : goal.returns-in-Err-clause-created
+returns-in-Err-clause-created c =
+    let adds = c.in-Err.ensures.added in
+    inr (c.requires.closed, c.requires.full, (Err c.in-Err.refusal, state c.add_vacant.new.self, (adds.0, refl, adds.2), (refl, adds.1, adds.2)))
+
+err_same : (cause : Refusal) (r : Result Reply Refusal) → r ≡ Err cause → r ≡ Err HandleLimit → cause ≡ HandleLimit
+err_same cause r is limit = (cc)
+
+pub returns-in-Err-clause-limit : goal.returns-in-Err-clause-limit
+returns-in-Err-clause-limit c limit =
+    inr (none_added c.args.core.now c.args.spare.now c.add_vacant.new.self.grants (state c.add_vacant.new.self) c.requires.lawful c.requires.spare c.requires.full c.in_default.ensures.none
+    (subst (λ (r : Result ℕ Refusal). AddsVacant (state c.args.core.now) r c.add_vacant.new.self.grants (state c.add_vacant.new.self)) (ap (λ (cause : Refusal). Err cause) (err_same c.in-Err.refusal (Err c.in-Err.refusal) refl limit)) c.in-Err.ensures.added))
+
+pub add_object-place-requires : goal.add_object-place-requires
+add_object-place-requires c =
+    added_room c.args.core.now c.args.spare.now c.in-Ok.object c.add_vacant.new.self.grants (state c.add_vacant.new.self) c.requires.lawful c.requires.spare c.in-Ok.ensures.added
+
+pub create_at-requires-2-clause-spare : goal.create_at-requires-2-clause-spare
+create_at-requires-2-clause-spare c =
+    added_spare c.args.core.now c.args.spare.now c.add_object-place.new.self c.in-Ok.object c.add_vacant.new.self.grants (state c.add_vacant.new.self) c.requires.lawful c.requires.spare c.in-Ok.ensures.added
+    c.add_object-place.ensures.closed c.add_object-place.ensures.unnamed
+
+pub returns-clause-created : goal.returns-clause-created
+returns-clause-created c =
+    let adds = c.in-Ok.ensures.added in
+    let mid = state c.add_vacant.new.self in
+    let at = added_at c.args.spare.now c.add_object-place.new.self c.in-Ok.object c.add_object-place.result c.add_object-place.ensures.place c.add_object-place.ensures.unnamed in
+    inr (
+      c.requires.closed,
+      c.requires.full,
+      (
+        Ok c.in-Ok.object,
+        mid,
+        (adds.0, adds.1, refl, adds.3),
+        subst (λ (h : ℕ). CreatesAgain mid c.args.who c.args.act.now c.in-Ok.object h c.create_at-2.result c.create_at-2.new.core.grants (state c.create_at-2.new.core)) c.requires.handle
+            (subst (λ (o : ℕ). CreatesAgain mid c.args.who c.args.act.now o c.args.handle c.create_at-2.result c.create_at-2.new.core.grants (state c.create_at-2.new.core)) at c.create_at-2.ensures.created),
+      ),
+    )
+
+pub returns-clause-limit : goal.returns-clause-limit
+returns-clause-limit c limit =
+    absurd (again_limit (state c.add_vacant.new.self) c.args.who c.args.act.now (get_or c.add_object-place.new.self.unnamed c.add_object-place.result 0) c.args.handle c.create_at-2.result c.create_at-2.new.core.grants (state c.create_at-2.new.core) c.create_at-2.ensures.created limit)

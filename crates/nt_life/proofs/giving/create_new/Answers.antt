@@ -1,0 +1,32 @@
+use Rattle.std.proofs.Common.{◌∙◌, ◌⊎◌, ap, subst, inl, inr}
+use Rattle.nt_calls.specs.declared.call.Call.{Call}
+use Rattle.nt_calls.specs.State.{State}
+use Rattle.nt_core.specs.Dispatcher.{state}
+use Rattle.nt_laws.specs.Laws.{call_closes}
+use Rattle.nt_life.specs.Lasting.{CreatesSpare, CreatesMore, NoHandle, NoObject}
+use Rattle.nt_life.proofs.Calls.{call_spare, creation_closes, none_closed}
+use Rattle.nt_life.proofs.Limits.{refused_full, refused_same}
+use Rattle.nt_life.proofs.giving.create_new.Goals as goal
+
+pub returns-then-not-is_limit-clause-spare : goal.returns-then-not-is_limit-clause-spare
+returns-then-not-is_limit-clause-spare c =
+    call_spare (state c.args.core.now) c.args.who c.args.call.now c.call-answer.result c.call-answer.new.self.grants (state c.call-answer.new.self) c.args.spare.now c.requires.lawful.steady.sound.handles.enough
+    (λ h. ap (λ (call : Call). call_closes h call) c.requires.act ∙ creation_closes c.args.act.now c.requires.creates h)
+    c.call-answer.ensures.moves.threads c.call-answer.ensures.called c.requires.spare
+
+pub returns-in-Some-clause-created : goal.returns-in-Some-clause-created
+returns-in-Some-clause-created c =
+    let same = refused_same (state c.args.core.now) c.args.who c.args.call.now c.call-answer.result c.call-answer.new.self.grants (state c.call-answer.new.self) c.call-answer.ensures.called (c.is_limit.ensures.0 c.if-not-is_limit.false) in
+    inr (subst (λ (s : State). CreatesSpare s c.args.spare.now c.args.who c.args.act.now c.create_more.result c.create_more.new.core.grants (state c.create_more.new.core) ⊎ CreatesMore s c.args.spare.now c.args.who c.args.act.now c.create_more.result c.create_more.new.core.grants (state c.create_more.new.core)) same c.create_more.ensures.created)
+
+pub returns-in-Some-clause-limit : goal.returns-in-Some-clause-limit
+returns-in-Some-clause-limit c limit =
+    let same = refused_same (state c.args.core.now) c.args.who c.args.call.now c.call-answer.result c.call-answer.new.self.grants (state c.call-answer.new.self) c.call-answer.ensures.called (c.is_limit.ensures.0 c.if-not-is_limit.false) in
+    subst (λ (s : State). NoHandle s ⊎ NoObject s) same (c.create_more.ensures.limit limit)
+
+pub returns-in-None-clause-limit : goal.returns-in-None-clause-limit
+returns-in-None-clause-limit c limit =
+    inl (
+      (refused_full (state c.args.core.now) c.args.who c.args.call.now c.call-answer.result c.call-answer.new.self.grants (state c.call-answer.new.self) c.call-answer.ensures.called limit).handles,
+      none_closed (state c.args.core.now) c.args.spare.now c.requires.spare c.in-None.ensures.none,
+    )

@@ -1,0 +1,35 @@
+use Rattle.std.proofs.Common.{ℕ, ◌++◌, ◌∷◌, [], sym, ap, ◌∙◌, subst}
+use Rattle.nt_calls.specs.declared.call.Call.{Call}
+use Rattle.nt_calls.specs.Steps.{Called}
+use Rattle.nt_core.specs.Dispatcher.{state}
+use Rattle.nt_laws.specs.Laws.{call_closes}
+use Rattle.nt_life.proofs.Times.{times_last}
+use Rattle.nt_life.proofs.Calls.{call_spare, none_closed}
+use Rattle.nt_life.proofs.Limits.{refused_full}
+use Rattle.nt_life.proofs.Choosing.{duplicates_own}
+use Rattle.nt_life.proofs.Renewed.{duplicated_spare}
+use Rattle.nt_life.proofs.giving.duplicate.Goals as goal
+
+pub returns-in_default-clause-duplicated : goal.returns-in_default-clause-duplicated
+returns-in_default-clause-duplicated c =
+    duplicates_own (state c.args.core.now) c.args.spare.now c.args.who c.args.source c.args.access c.call.result c.call.new.self.grants (state c.call.new.self) c.in_default.ensures.none
+    (subst (λ (call : Call). Called (state c.args.core.now) c.args.who call c.call.result c.call.new.self.grants (state c.call.new.self)) c.requires.act c.call.ensures.called)
+
+pub returns-in_default-clause-limit : goal.returns-in_default-clause-limit
+returns-in_default-clause-limit c limit = (
+  (refused_full (state c.args.core.now) c.args.who c.args.call.now c.call.result c.call.new.self.grants (state c.call.new.self) c.call.ensures.called limit).handles,
+  none_closed (state c.args.core.now) c.args.spare.now c.requires.spare c.in_default.ensures.none,
+)
+
+pub returns-in_default-clause-spare : goal.returns-in_default-clause-spare
+returns-in_default-clause-spare c =
+    call_spare (state c.args.core.now) c.args.who c.args.call.now c.call.result c.call.new.self.grants (state c.call.new.self) c.args.spare.now c.requires.lawful.steady.sound.handles.enough
+    (λ h. ap (λ (call : Call). call_closes h call) c.requires.act) c.call.ensures.moves.threads c.call.ensures.called c.requires.spare
+
+pub returns-clause-spare : goal.returns-clause-spare
+returns-clause-spare c =
+    let spare = c.args.spare.now in
+    let last = c.in-Some.ensures.some in
+    duplicated_spare (state c.args.core.now) (state c.duplicate_again.new.self) c.args.who c.args.source c.args.access c.in-Some.handle c.in_ok-reply.reply c.duplicate_again.new.self.grants spare c.take_handle.new.self c.requires.spare c.in_ok-reply.ensures.duplicated
+    (λ n. times_last n c.in-Some.handle spare.closed c.take_handle.new.self.closed (c.take_handle.ensures.closed ∙ ap (λ (h : ℕ). c.take_handle.new.self.closed ++ h ∷ []) (sym last.1)))
+    c.take_handle.ensures.unnamed

@@ -1,0 +1,34 @@
+use Rattle.std.proofs.Common.{◌∙◌, sym, ap, subst}
+use Rattle.nt_calls.specs.declared.call.Call.{Call}
+use Rattle.nt_calls.specs.Steps.{Called}
+use Rattle.nt_core.specs.Dispatcher.{state}
+use Rattle.nt_laws.specs.Laws.{call_closes}
+use Rattle.nt_life.proofs.Calls.{call_spare, act_closes}
+use Rattle.nt_life.proofs.Limits.{refused_full}
+use Rattle.nt_life.proofs.Choosing.{creates_lasts, creation_finds, other_lasts, other_full}
+use Rattle.nt_life.proofs.giving.make_act.Goals as goal
+
+pub returns-then-is_creation : goal.returns-then-is_creation
+returns-then-is_creation c =
+    let creates = sym c.is_creation.ensures ∙ c.if-is_creation.true in
+    record {
+      lasts = creates_lasts (state c.args.core.now) c.args.spare.now c.args.who c.args.act.now c.create.result c.create.new.core.grants (state c.create.new.core) creates c.create.ensures.created;
+      limit = λ limit. creation_finds (state c.args.core.now) c.args.act.now creates (c.create.ensures.limit limit);
+      lawful = c.create.ensures.lawful;
+      spare = c.create.ensures.spare;
+    }
+
+pub returns-else-is_creation : goal.returns-else-is_creation
+returns-else-is_creation c =
+    let other = sym c.is_creation.ensures ∙ c.if-is_creation.false in
+    let old = state c.args.core.now in
+    let new = state c.call.new.self in
+    let called = subst (λ (call : Call). Called old c.args.who call c.call.result c.call.new.self.grants new) c.requires.act c.call.ensures.called in
+    record {
+      lasts = other_lasts old c.args.spare.now c.args.who c.args.act.now c.call.result c.call.new.self.grants new c.in_default.not-Duplicate other called;
+      limit = λ limit. absurd (other_full old c.args.act.now c.in_default.not-Duplicate other (refused_full old c.args.who (Call.Act c.args.act.now) c.call.result c.call.new.self.grants new called limit));
+      lawful = c.call.ensures.lawful;
+      spare =
+          call_spare old c.args.who c.args.call.now c.call.result c.call.new.self.grants new c.args.spare.now c.requires.lawful.steady.sound.handles.enough
+          (λ h. ap (λ (call : Call). call_closes h call) c.requires.act ∙ act_closes c.args.act.now c.in_default.not-Close h) c.call.ensures.moves.threads c.call.ensures.called c.requires.spare;
+    }

@@ -1,0 +1,11 @@
+use Rattle.nt_core.specs.Dispatcher.{state}
+use Rattle.nt_laws.proofs.Numbers.{tick_numbers}
+use Rattle.nt_life.proofs.Spares.{spare_same}
+use Rattle.nt_life.proofs.lasting.Lasting.tick.Goals as goal
+
+pub invariant_of-self : goal.invariant_of-self
+invariant_of-self c =
+    let old = state c.self.inside.core in
+    let new = state c.tick.new.self in
+    let numbers = tick_numbers old c.args.m c.tick.result c.tick.new.self.grants new c.tick.ensures.ticked in
+    (c.tick.ensures.lawful, spare_same old new c.self.inside.spare c.self.invariant.1 numbers.0 (c.tick.ensures.moves 0).threads numbers.1)

@@ -1,0 +1,44 @@
+//! Threads that begin in the places of those that have ended.
+ghost use Rattle.std.specs.Prelude.{◌≡◌, ℕ, true, false, Ok, MatchOption};
+ghost use Rattle.nt_calls.specs.declared.call.Reply.{Reply};
+ghost use Rattle.nt_core.specs.Dispatcher.{state};
+ghost use Rattle.nt_core.specs.Lawful.{IsLawful};
+ghost use Rattle.nt_core.specs.Renewals.{is_closed, is_left, BeginsAgain};
+ghost use Rattle.nt_life.specs.Lasting.{IsSpare, BeginsSpare};
+
+use crate::begun::Begun;
+use crate::spare::Spare;
+use nt_core::Core;
+use nt_status::Handle;
+
+/// A thread begins in the first place that is free, with this handle. It answers its number; none where no place is free.
+fn begin_first(core: &mut Core, handle: Handle) -> Option<u32>
+    requires lawful { IsLawful core.old }
+    requires closed { is_closed (state core.old) handle ≡ true }
+    ensures begun { MatchOption result
+        (((t : ℕ) → is_left (state core.old) t ≡ false) × (state core.new ≡ state core.old))
+        (λ t. BeginsAgain (state core.old) t handle (Ok (Reply.Handle handle)) core.new.grants (state core.new)) }
+    ensures lawful { IsLawful core.new }
+{
+    let threads = core.threads();
+    for thread in 0..threads {
+        if core.begin_again(thread, handle).is_ok() {
+            return Some(thread);
+        }
+    }
+    None
+}
+
+/// A thread begins in the place of one that has ended, and its handle gets the number of the handle that was closed last.
+pub(crate) fn begin(core: &mut Core, spare: &mut Spare) -> Option<Begun>
+    requires lawful { IsLawful core.old }
+    requires spare { IsSpare (state core.old) spare.old }
+    ensures begun { BeginsSpare (state core.old) spare.old result core.new.grants (state core.new) }
+    ensures lawful { IsLawful core.new }
+    ensures spare { IsSpare (state core.new) spare.new }
+{
+    let handle = spare.handle()?;
+    let thread = begin_first(core, handle)?;
+    spare.take_handle();
+    Some(Begun { thread, handle })
+}

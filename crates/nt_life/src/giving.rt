@@ -1,0 +1,230 @@
+//! Creations, duplicates and closes, and what they do to the spare numbers.
+ghost use Rattle.std.specs.Prelude.{◌≡◌, ◌<◌, ◌≤◌, ◌↔◌, ◌⊎◌, ℕ, true, length, slice_index_or, Err};
+ghost use Rattle.nt_status.specs.declared.limits.TheConstants.{MAX_HANDLES};
+ghost use Rattle.nt_status.specs.declared.refusal.Refusal.TheVariants.{HandleLimit};
+ghost use Rattle.nt_calls.specs.declared.call.Call.{Call};
+ghost use Rattle.nt_calls.specs.declared.call.Act.{Act};
+ghost use Rattle.nt_calls.specs.Steps.{Called};
+ghost use Rattle.nt_core.specs.Dispatcher.{state};
+ghost use Rattle.nt_core.specs.Lawful.{IsLawful};
+ghost use Rattle.nt_core.specs.Renewals.{CreatesAgain};
+ghost use Rattle.nt_life.specs.Lasting.{IsSpare, NoHandle, NoObject, CreatesSpare, CreatesMore, CreatesElse, LastsCreation, LastsDuplicate, LastsAct, FindsNone, is_creation, is_unnamed, last_closed};
+
+use crate::spare::Spare;
+use nt_core::{Act, Call, Core, Reply};
+use nt_status::{Handle, ObjectNumber, Refusal};
+
+/// Whether no number was left.
+fn is_limit(answer: &Result<Reply, Refusal>) -> bool
+    ensures { (result ≡ true) ↔ (answer.now ≡ Err HandleLimit) }
+{
+    matches!(answer, Err(Refusal::HandleLimit))
+}
+
+/// A creation with the number of the object at this place, and with that of the handle that was closed last.
+fn create_at(
+    core: &mut Core,
+    spare: &mut Spare,
+    who: u32,
+    act: &Act,
+    handle: Handle,
+    place: usize,
+) -> Result<Reply, Refusal>
+    requires lawful { IsLawful core.old }
+    requires spare { IsSpare (state core.old) spare.old }
+    requires closed { 0 < length spare.old.closed }
+    requires handle { handle ≡ last_closed spare.old }
+    requires place { place < length spare.old.unnamed }
+    ensures created { CreatesAgain (state core.old) who act.now (slice_index_or spare.old.unnamed place 0) handle
+        result core.new.grants (state core.new) }
+    ensures lawful { IsLawful core.new }
+    ensures spare { IsSpare (state core.new) spare.new }
+{
+    let object = spare.object(place);
+    let reply = core.create_again(who, act, object, handle)?;
+    spare.take_handle();
+    spare.take_object(place);
+    Ok(reply)
+}
+
+/// A creation once each handle number was handed out. An object number is added, if each that there is is taken.
+fn create_more(
+    core: &mut Core,
+    spare: &mut Spare,
+    who: u32,
+    act: &Act,
+    handle: Handle,
+) -> Result<Reply, Refusal>
+    requires lawful { IsLawful core.old }
+    requires spare { IsSpare (state core.old) spare.old }
+    requires closed { 0 < length spare.old.closed }
+    requires handle { handle ≡ last_closed spare.old }
+    requires full { MAX_HANDLES ≤ length core.old.handles }
+    ensures created { CreatesSpare (state core.old) spare.old who act.now result core.new.grants (state core.new)
+        ⊎ CreatesMore (state core.old) spare.old who act.now result core.new.grants (state core.new) }
+    ensures limit { result ≡ Err HandleLimit → NoHandle (state core.old) ⊎ NoObject (state core.old) }
+    ensures lawful { IsLawful core.new }
+    ensures spare { IsSpare (state core.new) spare.new }
+{
+    if let Some(place) = spare.any_vacant(core) {
+        return create_at(core, spare, who, act, handle, place);
+    }
+    let object = match core.add_vacant() {
+        Ok(object) => object,
+        Err(refusal) => return Err(refusal),
+    };
+    let place = spare.add_object(object);
+    create_at(core, spare, who, act, handle, place)
+}
+
+/// A creation with the next new numbers, while there are any.
+fn create_new(
+    core: &mut Core,
+    spare: &mut Spare,
+    who: u32,
+    act: &Act,
+    call: &Call,
+) -> Result<Reply, Refusal>
+    requires lawful { IsLawful core.old }
+    requires spare { IsSpare (state core.old) spare.old }
+    requires act { call.now ≡ Call.Act act.now }
+    requires creates { is_creation act.now ≡ true }
+    ensures created { CreatesElse (state core.old) spare.old who act.now result core.new.grants (state core.new) }
+    ensures limit { result ≡ Err HandleLimit → NoHandle (state core.old) ⊎ NoObject (state core.old) }
+    ensures lawful { IsLawful core.new }
+    ensures spare { IsSpare (state core.new) spare.new }
+{
+    let answer = core.call(who, call);
+    if !is_limit(&answer) {
+        return answer;
+    }
+    match spare.handle() {
+        Some(handle) => create_more(core, spare, who, act, handle),
+        None => answer,
+    }
+}
+
+/// A creation: with the numbers that were freed last, if both can be given.
+fn create(
+    core: &mut Core,
+    spare: &mut Spare,
+    who: u32,
+    act: &Act,
+    call: &Call,
+) -> Result<Reply, Refusal>
+    requires lawful { IsLawful core.old }
+    requires spare { IsSpare (state core.old) spare.old }
+    requires act { call.now ≡ Call.Act act.now }
+    requires creates { is_creation act.now ≡ true }
+    ensures created { LastsCreation (state core.old) spare.old who act.now result core.new.grants (state core.new) }
+    ensures limit { result ≡ Err HandleLimit → NoHandle (state core.old) ⊎ NoObject (state core.old) }
+    ensures lawful { IsLawful core.new }
+    ensures spare { IsSpare (state core.new) spare.new }
+{
+    let Some(handle) = spare.handle() else {
+        return create_new(core, spare, who, act, call);
+    };
+    let Some(place) = spare.vacant(core) else {
+        return create_new(core, spare, who, act, call);
+    };
+    create_at(core, spare, who, act, handle, place)
+}
+
+/// DuplicateHandle: with the number of a closed handle, if there is one.
+fn duplicate(
+    core: &mut Core,
+    spare: &mut Spare,
+    who: u32,
+    call: &Call,
+    source: Handle,
+    access: u32,
+) -> Result<Reply, Refusal>
+    requires lawful { IsLawful core.old }
+    requires spare { IsSpare (state core.old) spare.old }
+    requires act { call.now ≡ Call.Act (Act.Duplicate source access) }
+    ensures duplicated { LastsDuplicate (state core.old) spare.old who source access
+        result core.new.grants (state core.new) }
+    ensures limit { result ≡ Err HandleLimit → NoHandle (state core.old) }
+    ensures lawful { IsLawful core.new }
+    ensures spare { IsSpare (state core.new) spare.new }
+{
+    let Some(handle) = spare.handle() else {
+        return core.call(who, call);
+    };
+    let reply = core.duplicate_again(who, source, access, handle)?;
+    spare.take_handle();
+    Ok(reply)
+}
+
+/// Whether the object is no thread's, and no handle names it.
+fn is_unnamed(core: &Core, object: ObjectNumber) -> bool
+    requires { object < length core.now.objects }
+    ensures { result ≡ is_unnamed (state core.now) object }
+{
+    core.threads() <= object.get() && !core.is_opened(object)
+}
+
+/// CloseHandle: the number of the handle is spare then, and so is that of its object if no other handle names it.
+fn close(
+    core: &mut Core,
+    spare: &mut Spare,
+    who: u32,
+    call: &Call,
+    handle: Handle,
+) -> Result<Reply, Refusal>
+    requires lawful { IsLawful core.old }
+    requires spare { IsSpare (state core.old) spare.old }
+    requires act { call.now ≡ Call.Act (Act.Close handle) }
+    ensures called { Called (state core.old) who call.now result core.new.grants (state core.new) }
+    ensures lawful { IsLawful core.new }
+    ensures spare { IsSpare (state core.new) spare.new }
+{
+    let Some(object) = core.object_number(handle) else {
+        return core.call(who, call);
+    };
+    let reply = core.call(who, call)?;
+    let unnamed = is_unnamed(core, object);
+    spare.add_closed(handle, object, unnamed);
+    Ok(reply)
+}
+
+/// Whether the act creates an object.
+fn is_creation(act: &Act) -> bool
+    ensures { result ≡ is_creation act.now }
+{
+    matches!(
+        act,
+        Act::CreateEvent(_)
+            | Act::CreateSemaphore { .. }
+            | Act::CreateMutex(_)
+            | Act::CreateTimer(_)
+    )
+}
+
+/// A call that is an act: creations, duplicates and closes take or give spare numbers, and all others are the machine's own.
+pub(crate) fn make_act(
+    core: &mut Core,
+    spare: &mut Spare,
+    who: u32,
+    act: &Act,
+    call: &Call,
+) -> Result<Reply, Refusal>
+    requires lawful { IsLawful core.old }
+    requires spare { IsSpare (state core.old) spare.old }
+    requires act { call.now ≡ Call.Act act.now }
+    ensures lasts { LastsAct (state core.old) spare.old who act.now result core.new.grants (state core.new) }
+    ensures limit { result ≡ Err HandleLimit → FindsNone (state core.old) (Call.Act act.now) }
+    ensures lawful { IsLawful core.new }
+    ensures spare { IsSpare (state core.new) spare.new }
+{
+    match *act {
+        Act::Close(handle) => close(core, spare, who, call, handle),
+        Act::Duplicate { handle, access } => duplicate(core, spare, who, call, handle, access),
+        _ => {
+            if is_creation(act) {
+                return create(core, spare, who, act, call);
+            }
+            core.call(who, call)
+        }
+    }
+}

@@ -1,0 +1,137 @@
+//! The dispatcher that lasts.
+ghost use Rattle.std.specs.Prelude.{◌≡◌, ◌≤◌, ◌&&◌, true, [], nat_le, IfOk, IfErr, OnOk, MatchBool, Err};
+ghost use Rattle.nt_status.specs.declared.limits.TheConstants.{MAX_THREADS};
+ghost use Rattle.nt_status.specs.declared.refusal.Refusal.TheVariants.{HandleLimit, InvalidParameter, Memory};
+ghost use Rattle.nt_calls.specs.State.{opening};
+ghost use Rattle.nt_calls.specs.Steps.{Called, Ticked};
+ghost use Rattle.nt_calls.specs.declared.call.Call.{Call};
+ghost use Rattle.nt_calls.specs.declared.call.WaitCall.{WaitCall};
+ghost use Rattle.nt_core.specs.Dispatcher.{state};
+ghost use Rattle.nt_core.specs.Lawful.{IsLawful};
+ghost use Rattle.nt_life.specs.Lasting.{IsSpare, LastsCall, FindsNone, BeginsSpare};
+
+use crate::beginning::begin;
+use crate::begun::Begun;
+use crate::giving::make_act;
+use crate::spare::Spare;
+use nt_core::{Call, Core, Reply};
+use nt_status::{Handle, Moment, Refusal};
+use std::alloc::Global;
+use std::marker::Model;
+
+/// A dispatcher for a fixed number of threads, driven by one, that gives numbers again.
+#[derive(Drop)]
+pub struct Lasting {
+    core: Core,
+    spare: Spare,
+}
+
+impl Model for Lasting {
+    ghost use Rattle.std.specs.Coded.{codes};
+    ghost use Rattle.nt_waits.specs.Waits.{waits_code};
+    ghost use Rattle.nt_core.specs.Dispatcher.{state};
+    ghost use Rattle.nt_core.specs.Lawful.{IsLawful};
+    ghost use Rattle.nt_life.specs.Lasting.{WithSpare, IsSpare};
+
+    ghost Value = { WithSpare };
+
+    ghost coded = { Prim.hlevel (codes, waits_code) };
+
+    ghost view = { λ l. record { core = l.core; spare = l.spare } };
+
+    ghost invariant = { λ l. IsLawful l.core × IsSpare (state l.core) l.spare };
+}
+
+impl Lasting {
+    /// A dispatcher whose threads run and wait for nothing, and no number is spare.
+    ///
+    /// Refused with 87 unless there are 1 to `MAX_THREADS` threads, and with 8 where memory is refused.
+    pub fn new(alloc: Global, threads: u32) -> Result<Lasting, Refusal>
+        ensures ok { IfOk result (λ life. (1 ≤ threads) × (threads ≤ MAX_THREADS)
+            × (state life.core ≡ opening threads) × (life.core.grants ≡ [])) }
+        ensures none { IfOk result (λ life. (life.spare.closed ≡ []) × (life.spare.unnamed ≡ [])) }
+        ensures err { IfErr result (λ r.
+            MatchBool (nat_le 1 threads && nat_le threads MAX_THREADS) (r ≡ Memory) (r ≡ InvalidParameter)) }
+    {
+        let core = Core::new(alloc, threads)?;
+        let spare = Spare::new(alloc)?;
+        Ok(Lasting { core, spare })
+    }
+
+    /// The dispatcher, for those who read.
+    pub fn core(&self) -> &Core
+        ensures { result.now ≡ self.now.core }
+    {
+        &self.core
+    }
+
+    /// Tells that the dispatcher is lawful and that each number that may be given again is spare once, and does nothing.
+    pub fn stands(&self)
+        ensures lawful { IsLawful self.now.core }
+        ensures spare { IsSpare (state self.now.core) self.now.spare }
+    {
+        let _ = &self.core;
+    }
+
+    /// Makes the call of this thread, and answers its reply or why it is refused. A creation and a duplicate take the numbers that were
+    /// freed last, if there are any, and are refused with HandleLimit only if 65,536 handles are open, or no object number is free.
+    ///
+    /// The pending waits that it ends are in `core().grants()`. It takes no memory unless `Core::call` does.
+    pub fn call(&mut self, who: u32, call: &Call) -> Result<Reply, Refusal>
+        ensures lasts { LastsCall (state self.old.core) self.old.spare who call.now
+            result self.new.core.grants (state self.new.core) }
+        ensures limit { result ≡ Err HandleLimit → FindsNone (state self.old.core) call.now }
+        ensures taken { FindsNone (state self.old.core) call.now → OnOk result ⊥ }
+    {
+        match call {
+            Call::Act(act) => make_act(&mut self.core, &mut self.spare, who, act, call),
+            _ => self.core.call(who, call),
+        }
+    }
+
+    /// The call `WaitCall::Objects` of this thread, as `Core::wait_objects` makes it.
+    pub fn wait_objects(
+        &mut self,
+        who: u32,
+        handles: &[Handle],
+        all: bool,
+        alertable: bool,
+        ms: u32,
+    ) -> Result<Reply, Refusal>
+        ensures called { Called (state self.old.core) who (Call.Wait (WaitCall.Objects all alertable ms handles.now))
+            result self.new.core.grants (state self.new.core) }
+        ensures spare { self.new.spare ≡ self.old.spare }
+    {
+        self.core.wait_objects(who, handles, all, alertable, ms)
+    }
+
+    /// Lets all moments up to `m`, counted in 100 ns, pass, as `Core::tick` does.
+    pub fn tick(&mut self, m: Moment) -> Result<Reply, Refusal>
+        ensures ticked { Ticked (state self.old.core) m result self.new.core.grants (state self.new.core) }
+        ensures spare { self.new.spare ≡ self.old.spare }
+    {
+        self.core.tick(m)
+    }
+
+    /// A thread begins in the place of one that has ended and whose object is gone, with the number of the handle that was closed last.
+    /// It takes no memory.
+    ///
+    /// None if there is no such place, or no handle was closed; then an event that is made and closed at once is enough.
+    pub fn begin(&mut self) -> Option<Begun>
+        ensures begun { BeginsSpare (state self.old.core) self.old.spare result self.new.core.grants (state self.new.core) }
+    {
+        begin(&mut self.core, &mut self.spare)
+    }
+
+    /// An equal dispatcher in memory of its own, as a point to come back to. Each goes its own way from then on.
+    ///
+    /// Refused with 8 where memory is refused.
+    pub fn copy(&self) -> Result<Lasting, Refusal>
+        ensures value { IfOk result (λ copied. copied ≡ self.now) }
+        ensures memory { IfErr result (λ refusal. refusal ≡ Memory) }
+    {
+        let spare = self.spare.copy()?;
+        let core = self.core.copy()?;
+        Ok(Lasting { core, spare })
+    }
+}
