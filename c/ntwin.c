@@ -56,6 +56,8 @@
 
 #include "win32/threads.c"
 
+#include "win32/handles.c"
+
 #include "win32/process.c"
 
 #include "win32/processors.c"

@@ -170,6 +170,19 @@ static void text(void)
     ANSWERS(WideCharToMultiByte(CP_ACP, WC_ERR_INVALID_CHARS, WIDE, 1, bytes, 16, NULL, NULL), 0, ERROR_INVALID_FLAGS);
 }
 
+static void handles(void)
+{
+    HANDLE event = CreateEvent(NULL, FALSE, FALSE, NULL);
+    DWORD flags = 9;
+    ANSWERS(GetHandleInformation(event, &flags), TRUE, UNTOUCHED);
+    IS(flags, 0);
+    ANSWERS(GetHandleInformation(GetCurrentThread(), &flags), TRUE, UNTOUCHED);
+    ANSWERS(GetHandleInformation(GetCurrentProcess(), &flags), TRUE, UNTOUCHED);
+    CloseHandle(event);
+    ANSWERS(GetHandleInformation(event, &flags), FALSE, ERROR_INVALID_HANDLE);
+    ANSWERS(GetHandleInformation(NULL, &flags), FALSE, ERROR_INVALID_HANDLE);
+}
+
 static void zones(void)
 {
     FILETIME time, there, again;
@@ -180,6 +193,10 @@ static void zones(void)
     IS(memcmp(&time, &again, sizeof time), 0);
     ANSWERS(FileTimeToLocalFileTime(&none, &there), FALSE, ERROR_INVALID_PARAMETER);
     ANSWERS(LocalFileTimeToFileTime(&none, &there), FALSE, ERROR_INVALID_PARAMETER);
+    DWORD adjustment, increment;
+    BOOL is_disabled;
+    ANSWERS(GetSystemTimeAdjustment(&adjustment, &increment, &is_disabled), TRUE, UNTOUCHED);
+    IS(adjustment == increment && increment > 0 && increment <= 200000, TRUE);
     ANSWERS(GetVersion() & 0xFFFF, 10, UNTOUCHED);
 }
 
@@ -190,6 +207,7 @@ int main(void)
     told_processors();
     memory();
     text();
+    handles();
     zones();
     return counted();
 }

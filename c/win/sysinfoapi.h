@@ -76,6 +76,8 @@ void GetSystemTime(LPSYSTEMTIME time);
 void GetLocalTime(LPSYSTEMTIME time);
 /* UTC since 1601 in units of 100 ns. */
 void GetSystemTimePreciseAsFileTime(LPFILETIME time);
+/* By how much the time of day grows in a step of its clock, in units of 100 ns; the system sees to its rate. */
+BOOL GetSystemTimeAdjustment(PDWORD adjustment, PDWORD increment, PBOOL is_disabled);
 BOOL FileTimeToSystemTime(const FILETIME *from, LPSYSTEMTIME to);
 BOOL SystemTimeToFileTime(const SYSTEMTIME *from, LPFILETIME to);
 /* By what the zone is ahead of UTC at that time. */

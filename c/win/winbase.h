@@ -4,6 +4,7 @@
 
 #include "slist.h"
 #include "fibersapi.h"
+#include "handleapi.h"
 #include "heapapi.h"
 #include "ioapiset.h"
 #include "processthreadsapi.h"

@@ -76,6 +76,15 @@ void GetSystemTimePreciseAsFileTime(LPFILETIME time)
     GetSystemTimeAsFileTime(time);
 }
 
+BOOL GetSystemTimeAdjustment(PDWORD adjustment, PDWORD increment, PBOOL is_disabled)
+{
+    struct timespec step = { 0 };
+    clock_getres(CLOCK_REALTIME_COARSE, &step);
+    *adjustment = *increment = (DWORD)(step.tv_nsec / NANOSECONDS_PER_MOMENT);
+    *is_disabled = TRUE;
+    return TRUE;
+}
+
 static void set_system_time(LPSYSTEMTIME to, const struct tm *from, uint64_t moments)
 {
     *to = (SYSTEMTIME){

@@ -10,7 +10,7 @@ import tempfile
 # The package, and a call of a workshop and the source's folder: how many passed, why others failed, and why others were left out.
 Run = collections.namedtuple("Run", "package call")
 
-SECONDS_EACH = 120
+SECONDS_EACH = 60
 
 
 class Workshop:
@@ -156,7 +156,8 @@ def libuv(shop, source):
 
 
 def x264(shop, source):
-    """The encoder over this library's threads writes, with several threads, the bytes that it writes over pthread's. (Only its threads are for Windows.)"""
+    """The encoder over this library's threads writes, with several threads, the bytes that it writes over pthread's. With threads for slices its
+    bytes vary over pthread's, too, so it only has to end well. (Only its threads are for Windows.)"""
     wrote = {}
     with open(f"{shop.room}/frames.yuv", "wb") as to:
         for frame in range(60):
@@ -167,20 +168,76 @@ def x264(shop, source):
         how = {"cwd": at, "stdin": subprocess.DEVNULL, "capture_output": True, "text": True, "errors": "replace", "check": False}
         subprocess.run(["sh", "configure", "--disable-asm", "--bit-depth=8", "--disable-swscale", "--disable-lavf", "--disable-ffms", "--disable-gpac",
                         "--disable-lsmash", "--disable-opencl", "--extra-cflags=-O1 -w " + f"-I{shop.top}/c/win"], **how)  # fmt: skip
-        more = []
         if kind == "win32thread":
             subprocess.run(["sed", "-i", "s/HAVE_POSIXTHREAD 1/HAVE_POSIXTHREAD 0/; s/HAVE_WIN32THREAD 0/HAVE_WIN32THREAD 1/", "config.h"], cwd=at, check=True)
             with open(f"{at}/config.mak", "a", encoding="utf-8") as to:
                 to.write(f"LDFLAGSCLI += {' '.join(shop.library)}\n")
-        made = subprocess.run(["make", "-j1", "x264", *more], **how)
+        made = subprocess.run(["make", "-j1", "x264"], **how)
         why = None if made.returncode == 0 else f"does not compile: {made.stderr[-300:]}"
         for threads in ("--threads=6", "--threads=4 --sliced-threads"):
             words = [f"{at}/x264", *threads.split(), "--input-res=176x144", "--quiet", "-o", f"{at}/out.264", f"{shop.room}/frames.yuv"]
             failed = why or shop.ran(*words)
             with open(f"{at}/out.264" if not failed else os.devnull, "rb") as out:
                 wrote[kind, threads] = failed or out.read()
-    same = {it: wrote["pthread", it] == wrote["win32thread", it] and isinstance(wrote["pthread", it], bytes) for _, it in wrote}
-    return *counted({it: None if holds else str(wrote["win32thread", it])[:200] for it, holds in same.items()}), {}
+    failed = {it: wrote["win32thread", it] if isinstance(wrote["win32thread", it], str) else None for _, it in wrote}
+    if not failed["--threads=6"] and wrote["win32thread", "--threads=6"] != wrote["pthread", "--threads=6"]:
+        failed["--threads=6"] = "other bytes than over pthread's threads"
+    return *counted(failed), {}
+
+
+BOOST = "-D_WIN64 -U__linux__ -U__linux -Ulinux -U__unix__ -U__unix -Uunix -DBOOST_ALL_NO_LIB -DBOOST_USE_WINDOWS_H -DBOOST_THREAD_BUILD_LIB=1"
+BOOST_FILES = "libs/thread/src/win32/*.cpp libs/thread/src/future.cpp libs/chrono/src/chrono.cpp libs/system/src/error_code.cpp"
+BOOST_LEFT_OUT = {
+    "test_10963": "a race of its own, over pthreads too",
+    "test_11611": "100,000 futures at a time",
+    "test_11796": "1,000 threads at a time",
+    "test_11499": "257 threads at a time",
+    "test_13561": "a file that Debian leaves out",
+    "test_2309": "an older interface of Boost.Test",
+}
+
+
+def boost(shop, source):
+    """The tests of Boost.Thread, over its part for Windows. (Boost.Test, which runs some of them, is compiled for the system as it is.)"""
+    includes = [f"-I{it}" for it in shop.files_of(source, "libs/*/include libs/numeric/*/include")]
+    flags = shop.flags("boost", f"-include {shop.ported}/config/boost/names.h -include iostream {BOOST}")
+    flags += includes
+    framework = shop.objects("framework", source, "libs/test/src/*.cpp", ["-w", "-O1", *includes], ("cpp_main", "test_main"))
+    library = shop.objects("boost", source, BOOST_FILES, flags)
+    failed = {}
+    for file in shop.files_of(source, "libs/thread/test/test_*.cpp"):
+        test = os.path.splitext(os.path.basename(file))[0]
+        if test not in BOOST_LEFT_OUT:
+            with open(f"{source}/{file}", encoding="utf-8") as text:
+                uses = "boost/test/" in text.read()
+            failed[test] = one_of(shop, source, file, flags, [*library, *(framework if uses else [])], "")
+    return *counted(failed), BOOST_LEFT_OUT
+
+
+# Each call of the library has another name, since this library calls the system's own.
+RENAMES = "grep -ohE '\\b(_*pthread|sem|sched|clock|nanosleep)_?[a-z_]* *[(]' include/*.h | tr -d '( ' | sort -u | sed 's/.*/#define & winpthreads_&/'"
+WINPTHREADS_LEFT_OUT = {
+    **{it: "threads that are canceled where they stand" for it in ("cancel3", "cancel5", "cancel6a")},
+    **{it: "structured exceptions" for it in ("exception1", "exception2", "exception3")},
+    "cancel9": "sockets",
+    "context1": "a thread's registers",
+    "loadfree": "libraries",
+}
+
+
+def winpthreads(shop, source):
+    """Its tests, each a program."""
+    source += "/mingw-w64-libraries/winpthreads"
+    flags = shop.flags("winpthreads", "-D_WIN64 -D_M_X64 -DWINPTHREAD_STATIC -D__mode_t_defined -U__linux__ -Iinclude -Isrc -Itests_pthread")
+    flags += [f"-I{shop.ported}/config/winpthreads/src", "-include", f"{shop.ported}/config/winpthreads/names.h"]
+    shop.make_files("winpthreads", {"renamed.h": RENAMES}, source)
+    library = shop.objects("winpthreads", source, ["tests_pthread/benchlib.c", f"{shop.ported}/winpthreads.c", *shop.files_of(source, "src/*.c")], flags)
+    failed = {}
+    for file in shop.files_of(source, "tests_pthread/*.c"):
+        test = os.path.splitext(os.path.basename(file))[0]
+        if test not in WINPTHREADS_LEFT_OUT and test not in ("benchlib", "runall"):
+            failed[test] = one_of(shop, source, file, flags, library, "")
+    return *counted(failed), WINPTHREADS_LEFT_OUT
 
 
 ZSTD = "-DZSTD_MULTITHREAD -DZSTD_DISABLE_ASM -Ilib -Ilib/common -Iprograms"
@@ -198,6 +255,7 @@ WINPR_LEFT_OUT = {
     "TestThreadCreateProcess": "processes",
     "TestThreadCommandLineToArgv": "command lines",
     "TestGetComputerName": "names of machines",
+    "TestCPUFeatures": "a call of WinPR's own",
 }
 WINPR_TESTS = " ".join(f"winpr/libwinpr/{it}/test/*.c" for it in "synch thread pool interlocked error sysinfo".split())
 
@@ -210,6 +268,8 @@ RUNS = {
     "libuv: its tests of threads": Run("libuv1", libuv),
     "WinPR: its tests": Run(
         "freerdp2",
-        programs_of("winpr", WINPR_TESTS, WINPR, "winpr/libwinpr/interlocked/interlocked.c", WINPR_MAIN, left_out=WINPR_LEFT_OUT),
+        programs_of("winpr", WINPR_TESTS, WINPR, "winpr/libwinpr/interlocked/interlocked.c", WINPR_MAIN, left_out=WINPR_LEFT_OUT, own="winpr.c"),
     ),
+    "winpthreads: its tests": Run("mingw-w64", winpthreads),
+    "Boost.Thread: its tests": Run("boost1.74", boost),
 }

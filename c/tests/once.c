@@ -1,0 +1,138 @@
+/* One-time initialization and barriers: what each call answers with its last error, row by row, from Microsoft's pages; and each under threads,
+ * with what must always hold. */
+#include <windows.h>
+
+#include "crowd.h"
+
+enum { ROUNDS = 4000 };
+
+/* ---- One-time initialization. */
+
+static LONG CALLS, FAILURES_LEFT;
+static int MADE __attribute__((aligned(8)));
+
+static BOOL CALLBACK make(PINIT_ONCE once, PVOID parameter, PVOID *context)
+{
+    (void)once;
+    CALLS++;
+    if (FAILURES_LEFT > 0) {
+        FAILURES_LEFT--;
+        SetLastError(77);
+        return FALSE;
+    }
+    *context = parameter;
+    return TRUE;
+}
+
+static INIT_ONCE ONCE = INIT_ONCE_STATIC_INIT;
+
+static void *execute_once(void *none)
+{
+    LPVOID context = NULL;
+    (void)none;
+    for (int i = 0; i < 100; i++)
+        while (!InitOnceExecuteOnce(&ONCE, make, &MADE, &context))
+            continue;
+    must(context == &MADE);
+    return NULL;
+}
+
+static void one_time_initialization(void)
+{
+    INIT_ONCE once = INIT_ONCE_STATIC_INIT;
+    LPVOID context = NULL;
+    BOOL pending = 9;
+    ANSWERS(InitOnceBeginInitialize(&once, INIT_ONCE_CHECK_ONLY, &pending, &context), FALSE, ERROR_GEN_FAILURE);
+    ANSWERS(InitOnceBeginInitialize(&once, INIT_ONCE_CHECK_ONLY | INIT_ONCE_ASYNC, &pending, &context), FALSE, ERROR_INVALID_PARAMETER);
+    ANSWERS(InitOnceComplete(&once, 0, NULL), FALSE, ERROR_GEN_FAILURE);
+    ANSWERS(InitOnceBeginInitialize(&once, 0, &pending, &context), TRUE, UNTOUCHED);
+    IS(pending, TRUE);
+    ANSWERS(InitOnceBeginInitialize(&once, INIT_ONCE_ASYNC, &pending, &context), FALSE, ERROR_INVALID_PARAMETER);
+    ANSWERS(InitOnceComplete(&once, 0, (LPVOID)1), FALSE, ERROR_INVALID_PARAMETER);
+    ANSWERS(InitOnceComplete(&once, INIT_ONCE_INIT_FAILED, &MADE), FALSE, ERROR_INVALID_PARAMETER);
+    ANSWERS(InitOnceComplete(&once, INIT_ONCE_INIT_FAILED | INIT_ONCE_ASYNC, NULL), FALSE, ERROR_INVALID_PARAMETER);
+    ANSWERS(InitOnceComplete(&once, INIT_ONCE_INIT_FAILED, NULL), TRUE, UNTOUCHED);
+    ANSWERS(InitOnceBeginInitialize(&once, 0, &pending, &context), TRUE, UNTOUCHED);
+    IS(pending, TRUE);
+    ANSWERS(InitOnceComplete(&once, 0, &MADE), TRUE, UNTOUCHED);
+    ANSWERS(InitOnceBeginInitialize(&once, INIT_ONCE_CHECK_ONLY, &pending, &context), TRUE, UNTOUCHED);
+    IS(pending, FALSE);
+    IS((ULONG_PTR)context, (ULONG_PTR)&MADE);
+    ANSWERS(InitOnceComplete(&once, 0, NULL), FALSE, ERROR_GEN_FAILURE);
+    /* More than one begins; who completes it first decides. */
+    InitOnceInitialize(&once);
+    ANSWERS(InitOnceBeginInitialize(&once, INIT_ONCE_ASYNC, &pending, NULL), TRUE, UNTOUCHED);
+    IS(pending, TRUE);
+    pending = FALSE;
+    ANSWERS(InitOnceBeginInitialize(&once, INIT_ONCE_ASYNC, &pending, NULL), TRUE, UNTOUCHED);
+    IS(pending, TRUE);
+    ANSWERS(InitOnceBeginInitialize(&once, 0, &pending, NULL), FALSE, ERROR_INVALID_PARAMETER);
+    ANSWERS(InitOnceComplete(&once, 0, &MADE), FALSE, ERROR_INVALID_PARAMETER);
+    ANSWERS(InitOnceComplete(&once, INIT_ONCE_ASYNC, &MADE), TRUE, UNTOUCHED);
+    ANSWERS(InitOnceComplete(&once, INIT_ONCE_ASYNC, NULL), FALSE, ERROR_GEN_FAILURE);
+    /* A callback that fails leaves it as it was. */
+    InitOnceInitialize(&once);
+    FAILURES_LEFT = 1;
+    CALLS = 0;
+    ANSWERS(InitOnceExecuteOnce(&once, make, &MADE, &context), FALSE, 77);
+    context = NULL;
+    ANSWERS(InitOnceExecuteOnce(&once, make, &MADE, &context), TRUE, UNTOUCHED);
+    IS((ULONG_PTR)context, (ULONG_PTR)&MADE);
+    ANSWERS(InitOnceExecuteOnce(&once, make, NULL, NULL), TRUE, UNTOUCHED);
+    IS(CALLS, 2);
+    /* By many threads, of which one initializes, once three have failed. */
+    FAILURES_LEFT = 3;
+    CALLS = 0;
+    for (int i = 0; i < THREADS; i++)
+        start(execute_once, NULL);
+    join_all();
+    IS(CALLS, 4);
+}
+
+/* ---- Barriers. */
+
+static SYNCHRONIZATION_BARRIER BARRIER;
+static LONG COME[ROUNDS], LAST;
+static DWORD HOW;
+
+static void *come_to_barrier(void *none)
+{
+    (void)none;
+    for (int i = 0; i < ROUNDS / 8; i++) {
+        InterlockedIncrement(&COME[i]);
+        if (EnterSynchronizationBarrier(&BARRIER, HOW))
+            InterlockedIncrement(&LAST);
+        must(ReadAcquire(&COME[i]) == THREADS);
+    }
+    return NULL;
+}
+
+static void barriers(void)
+{
+    const DWORD ways[] = { 0, SYNCHRONIZATION_BARRIER_FLAGS_BLOCK_ONLY, SYNCHRONIZATION_BARRIER_FLAGS_NO_DELETE };
+    ANSWERS(InitializeSynchronizationBarrier(&BARRIER, 0, -1), FALSE, ERROR_INVALID_PARAMETER);
+    ANSWERS(InitializeSynchronizationBarrier(&BARRIER, -1, -1), FALSE, ERROR_INVALID_PARAMETER);
+    ANSWERS(InitializeSynchronizationBarrier(&BARRIER, 1, -2), FALSE, ERROR_INVALID_PARAMETER);
+    ANSWERS(InitializeSynchronizationBarrier(&BARRIER, 1, 0), TRUE, UNTOUCHED);
+    ANSWERS(EnterSynchronizationBarrier(&BARRIER, 0), TRUE, UNTOUCHED);
+    ANSWERS(EnterSynchronizationBarrier(&BARRIER, SYNCHRONIZATION_BARRIER_FLAGS_SPIN_ONLY), TRUE, UNTOUCHED);
+    ANSWERS(DeleteSynchronizationBarrier(&BARRIER), TRUE, UNTOUCHED);
+    for (int i = 0; i < 3; i++) {
+        HOW = ways[i];
+        LAST = 0;
+        memset(COME, 0, sizeof COME);
+        IS(InitializeSynchronizationBarrier(&BARRIER, THREADS, i == 0 ? -1 : 10), TRUE);
+        for (int thread = 0; thread < THREADS; thread++)
+            start(come_to_barrier, NULL);
+        join_all();
+        IS(LAST, ROUNDS / 8);
+        IS(DeleteSynchronizationBarrier(&BARRIER), TRUE);
+    }
+}
+
+int main(void)
+{
+    one_time_initialization();
+    barriers();
+    return counted();
+}

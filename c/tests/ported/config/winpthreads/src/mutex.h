@@ -1,0 +1,1 @@
+/* (Its tests name it, and it is gone.) */
