@@ -55,6 +55,18 @@ static DWORD WINAPI work_in_pool(LPVOID pool);
 /* A handle of the thread itself, where others may have to call it. */
 static _Thread_local HANDLE handle_of_thread __attribute__((tls_model("initial-exec")));
 
+/* Starts a thread that is counted among the pool's. Answers whether that was done; else it is counted no longer, and the last error says why. */
+static bool start_in_pool(PTP_POOL pool)
+{
+    HANDLE thread = CreateThread(NULL, 0, work_in_pool, pool, 0, NULL);
+    if (thread != NULL)
+        return CloseHandle(thread);
+    take_latch(&pools_latch);
+    pool->threads--;
+    give_latch(&pools_latch);
+    return false;
+}
+
 /* Calls for a thread, for what was put into the queue: an idle one, or a new one. Answers whether there is any. */
 static bool call_for_thread(PTP_POOL pool)
 {
@@ -66,11 +78,10 @@ static bool call_for_thread(PTP_POOL pool)
     WakeByAddressSingle((PVOID)&pool->calls);
     if (!is_new)
         return true;
-    HANDLE thread = CreateThread(NULL, 0, work_in_pool, pool, 0, NULL);
-    if (thread != NULL)
-        return CloseHandle(thread);
+    if (start_in_pool(pool))
+        return true;
     take_latch(&pools_latch);
-    const bool is_any = --pool->threads > 0;
+    const bool is_any = pool->threads > 0;
     give_latch(&pools_latch);
     /* (Each that watches an object needs a thread to itself.) */
     return is_any && pool != &watching_pool;

@@ -51,14 +51,26 @@ void SetThreadpoolThreadMaximum(PTP_POOL pool, DWORD most)
 {
     take_latch(&pools_latch);
     pool->most = most > 0 ? most : 1;
+    if (pool->least > pool->most)
+        pool->least = pool->most;
     give_latch(&pools_latch);
 }
 
+/* Starts those that are not there yet. (Each may be at work before the next is started.) */
 BOOL SetThreadpoolThreadMinimum(PTP_POOL pool, DWORD least)
 {
-    take_latch(&pools_latch);
-    pool->least = least;
-    give_latch(&pools_latch);
+    for (bool is_lacking = true; is_lacking;) {
+        take_latch(&pools_latch);
+        is_lacking = pool->threads < least;
+        pool->threads += is_lacking;
+        if (!is_lacking)
+            pool->least = least;
+        if (!is_lacking && pool->most < least)
+            pool->most = least;
+        give_latch(&pools_latch);
+        if (is_lacking && !start_in_pool(pool))
+            return FALSE;
+    }
     return TRUE;
 }
 
