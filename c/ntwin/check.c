@@ -9,50 +9,46 @@ static void holds(bool it, const char *what)
     abort();
 }
 
-/* What holds of a thread whose wait pends. Answers its deadline. */
-static uint64_t check_pending(const struct seat *seat, const struct nt_pending_wait *wait)
+static uint64_t earlier_of(uint64_t one, uint64_t other)
 {
-    holds(seat->word != IS_GRANTED, "a thread whose wait pends is not granted");
-    holds(seat->deadline == (wait->timed ? wait->deadline : NEVER), "a thread knows its deadline");
-    holds(seat->moment <= seat->deadline, "a thread sleeps no longer than to its deadline");
-    return seat->deadline;
+    return one < other ? one : other;
 }
 
-static void check_watchers(void)
+/* What was found of the threads whose waits pend. */
+struct found {
+    uint32_t pending, watchers;
+    uint64_t deadline, moment; /* the earliest, or NEVER */
+};
+
+/* What holds of a thread whose wait pends. (One that was canceled as it waited never wakes.) */
+static void check_pending(const struct seat *seat, const struct nt_pending_wait *wait, struct found *found)
 {
-    uint32_t watchers = 0;
-    bool is_kept = false;
-    for (const struct seat *seat = waiting.watchers, *later = NULL; seat != NULL; later = seat, seat = seat->earlier) {
-        bool waits = false;
-        holds(nt_is_waiting(&waiting.dispatcher, seat->number, &waits) == 0 && waits, "a watcher's wait pends");
-        holds(seat->watches && seat->later == later, "watchers are in a list");
-        is_kept |= seat == waiting.keeper;
-        watchers++;
-    }
-    for (uint32_t i = 0; i < waiting.seated; i++)
-        watchers -= waiting.seats[i].watches;
-    holds(watchers == 0, "who watches is in the list");
-    holds(is_kept == (waiting.keeper != NULL), "the keeper is a watcher");
-    if (waiting.watchers != NULL && waiting.timers_due != NEVER)
-        holds(is_kept && waiting.keeper->moment <= waiting.timers_due, "the timers' time is kept");
+    const uint64_t deadline = wait->timed ? wait->deadline : NEVER;
+    holds(seat->word != IS_GRANTED, "a thread whose wait pends is not granted");
+    holds(seat->moment <= deadline || seat->is_gone, "a thread sleeps no longer than to its deadline");
+    found->pending++;
+    found->watchers += seat->watches;
+    found->deadline = earlier_of(found->deadline, deadline);
+    found->moment = earlier_of(found->moment, seat->moment);
 }
 
 static void check_waiting(void)
 {
-    size_t pending = 0;
-    uint64_t due = NEVER, next = NEVER;
+    struct found found = { 0, 0, NEVER, NEVER };
+    uint64_t next = NEVER;
     if (!waiting.dispatcher.live)
         return;
     holds(waiting.lock != FREE, "the lock is taken");
-    holds(nt_pending(&waiting.dispatcher, &pending) == 0 && pending == waiting.pending, "the count of waits");
     for (uint32_t i = 0; i < waiting.seated; i++) {
         struct nt_pending_wait wait;
-        if (nt_waits_for(&waiting.dispatcher, i, &wait) == 0) {
-            const uint64_t deadline = check_pending(&waiting.seats[i], &wait);
-            due = deadline < due ? deadline : due;
-        }
+        if (nt_waits_for(&waiting.dispatcher, i, &wait) == 0)
+            check_pending(&waiting.seats[i], &wait, &found);
+        else
+            holds(!waiting.seats[i].watches, "a watcher's wait pends");
     }
-    check_watchers();
-    if (nt_due(&waiting.dispatcher, NT_GREATEST_MOMENT, &next) == 0 && next < due)
-        holds(waiting.timers_due <= next, "no timer is due before that");
+    holds(found.pending == waiting.pending, "the count of waits");
+    holds(found.watchers == waiting.watchers, "the count of watchers");
+    (void)nt_due(&waiting.dispatcher, NT_GREATEST_MOMENT, &next);
+    holds(found.watchers == 0 || found.moment <= next, "some thread sleeps no longer than to what is due next");
+    holds(next >= found.deadline || waiting.timers_due <= next, "no timer is due before that");
 }

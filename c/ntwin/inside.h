@@ -78,12 +78,10 @@ struct seat {
     uint32_t status;         /* with which status it was granted */
     uint32_t number;         /* the thread's, which is also the seat's place among all */
     struct nt_reply reply;   /* what its last call was answered */
-    struct nt_grant grant;   /* the last wait of those that its last call ended */
-    uint64_t deadline;       /* of its pending wait, or NEVER */
-    uint64_t moment;         /* to which it sleeps by itself, no later than that; 0 where it was called */
-    bool watches;            /* its wait pends, and a timer may end it: */
-    struct seat *earlier;    /* it is among the watchers, whose wait began before its own */
-    struct seat *later;      /* and whose began after it */
+    struct nt_told told;     /* the last of those whom its last call told something */
+    uint64_t moment;         /* to which it sleeps by itself where its wait pends: NEVER until it is told; 0 where it was called */
+    bool watches;            /* its wait pends, and a timer may end it */
+    bool is_gone;            /* it was canceled as it waited, and never wakes */
     bool has_routines;       /* it has set a timer with a routine */
     LPTHREAD_START_ROUTINE start; /* null, but where CreateThread made the thread */
     LPVOID parameter;
@@ -126,15 +124,15 @@ static struct {
 
 /* What is kept under the lock. Whenever that is given back, this holds (check.c):
  *   - so many waits pend in the dispatcher as `pending` says, and the word of none of their threads is IS_GRANTED;
- *   - each of their threads sleeps by itself no longer than to its own deadline;
- *   - the watchers are threads whose waits pend, and the keeper is one of them;
- *   - no timer is due before `timers_due`; where that is not NEVER and there are watchers, the keeper sleeps no longer than to it. */
+ *   - each of their threads sleeps by itself no longer than to its own deadline, but one that was canceled as it waited;
+ *   - the watchers are threads whose waits pend, and so many as `watchers` says;
+ *   - where there are watchers, some thread sleeps no longer than to the next moment at which anything is due;
+ *   - no timer is due before `timers_due`. */
 static struct {
     _Atomic uint32_t lock;
     uint32_t pending;
     uint64_t timers_due;     /* NEVER where no timer is set */
-    struct seat *keeper;     /* the watcher that lets the timers' time pass */
-    struct seat *watchers;   /* those whose waits a timer may end, the last to begin first */
+    uint32_t watchers;       /* how many of them a timer may end */
     uint32_t begun;          /* how many waits have begun to pend */
     uint32_t seated;         /* how many seats were ever taken */
     uint32_t alive;          /* how many of their threads have not left */

@@ -183,7 +183,7 @@ BOOL SetWaitableTimer(HANDLE timer, const LARGE_INTEGER *due, LONG period, PTIME
     const uint32_t refused = set_timer(seat, number_of(seat, timer), moment, period, routine, argument);
     if (refused == 0) {
         note(seat);
-        note_timer(seat, now, moment < 0 ? now - (uint64_t)moment : (uint64_t)moment);
+        note_timer(now, moment < 0 ? now - (uint64_t)moment : (uint64_t)moment);
     }
     unlock_and_wake(seat);
     return refused == 0 ? TRUE : fail(refused);

@@ -27,7 +27,7 @@ static void give_seat(struct seat *seat)
 }
 
 /* The thread ends, for the dispatcher: its mutexes are abandoned, and who waits for it is granted. One that was canceled in the middle of
- * a wait can't end, but keeps no time any more. */
+ * a wait can't end, and a watcher may have to look at the time in its place. */
 static void leave(struct seat *seat)
 {
     lock(seat);
@@ -40,9 +40,11 @@ static void leave(struct seat *seat)
             seat->next = waiting.left;
             waiting.left = seat;
         }
-    } else if (seat->watches) {
+    } else if (nt_woke(&waiting.dispatcher, seat->number) == 0) {
         stop_watching(seat);
-        have_time_kept(seat);
+        seat->is_gone = true;
+        seat->moment = NEVER;
+        note(seat);
     }
     unlock_and_wake(seat);
 }

@@ -1,6 +1,7 @@
 /* ---- Those whose waits pend. Each sleeps to its own deadline, and then lets time pass, so that no timeout waits for another thread to
- * run. Those whose waits a timer may end are the watchers; one of them, the keeper, sleeps no longer than to the next moment at which a
- * timer is due. While there is no watcher nobody can see that a timer is overdue, but by a call, and so the next call lets time pass first. */
+ * run. Those whose waits a timer may end are the watchers. To which moment each sleeps the dispatcher tells (nt_pend), and also whom to
+ * call if nobody sleeps short enough for the watchers (nt_told). While there is no watcher nobody can see that a timer is overdue, but by a
+ * call, and so the next call lets time pass first. */
 
 /* The next moment at which anything is due, under the lock, or NEVER. */
 static uint64_t next_due(void)
@@ -27,86 +28,64 @@ static void tell(struct seat *caller, struct seat *seat, uint32_t how)
         caller->woken[caller->wakes++] = seat->number;
 }
 
-/* Sets to which moment the thread sleeps by itself, under the lock. A watcher is the keeper from now on where there is none. */
+/* Sets to which moment the thread sleeps by itself, under the lock. */
 static void set_moment(struct seat *seat)
 {
-    seat->moment = seat->deadline;
-    if (!seat->watches || (waiting.keeper != NULL && waiting.keeper != seat))
-        return;
-    waiting.keeper = seat;
-    if (waiting.timers_due < seat->moment)
-        seat->moment = waiting.timers_due;
+    if (nt_pend(&waiting.dispatcher, seat->number, seat->watches, &seat->moment) != 0)
+        seat->moment = NEVER;
 }
 
 /* The caller's wait pends from now on, under the lock. */
-static void fall_asleep(struct seat *seat, uint64_t deadline, bool watches)
+static void fall_asleep(struct seat *seat, bool watches)
 {
     atomic_store_explicit(&seat->word, IS_AWAKE, memory_order_relaxed);
     waiting.pending++;
-    seat->deadline = deadline;
+    waiting.watchers += watches;
     seat->watches = watches;
-    if (watches) {
-        seat->earlier = waiting.watchers;
-        seat->later = NULL;
-        if (waiting.watchers != NULL)
-            waiting.watchers->later = seat;
-        waiting.watchers = seat;
-    }
     set_moment(seat);
 }
 
-/* A watcher's wait has ended, under the lock. */
+/* The thread is no watcher any more, under the lock. */
 static void stop_watching(struct seat *seat)
 {
+    waiting.watchers -= seat->watches;
     seat->watches = false;
-    if (seat->earlier != NULL)
-        seat->earlier->later = seat->later;
-    if (seat->later != NULL)
-        seat->later->earlier = seat->earlier;
-    else
-        waiting.watchers = seat->earlier;
-    if (waiting.keeper == seat)
-        waiting.keeper = NULL;
 }
 
 /* The thread's wait has ended, under the lock, with this status. */
 static void wake_up(struct seat *caller, struct seat *seat, uint32_t status)
 {
     waiting.pending--;
-    if (seat->watches)
-        stop_watching(seat);
+    stop_watching(seat);
     seat->status = status;
     tell(caller, seat, IS_GRANTED);
 }
 
-/* Has a watcher keep the timers' time, under the lock, where the keeper would sleep too long, or there is none. */
-__attribute__((noinline)) static void have_time_kept(struct seat *caller)
+/* Has the thread look at the time, under the lock. */
+static void call_up(struct seat *caller, struct seat *seat)
 {
-    if (waiting.timers_due == NEVER || waiting.watchers == NULL)
-        return;
-    if (waiting.keeper == NULL)
-        waiting.keeper = waiting.watchers;
-    if (waiting.keeper->moment <= waiting.timers_due)
-        return;
-    waiting.keeper->moment = 0;
-    tell(caller, waiting.keeper, IS_CALLED);
+    seat->moment = 0;
+    tell(caller, seat, IS_CALLED);
 }
 
-/* The same as `note`, where there is one: it is in the caller's seat. The keeper may be among them. */
+/* The same as `note`, where there is somebody to tell: the first is in the caller's seat. */
 __attribute__((noinline)) static void note_all(struct seat *caller)
 {
     size_t index = 0;
-    do
-        wake_up(caller, &waiting.seats[caller->grant.thread], caller->grant.status);
-    while (nt_grant(&waiting.dispatcher, ++index, &caller->grant) == 0);
-    have_time_kept(caller);
+    do {
+        struct seat *seat = &waiting.seats[caller->told.thread];
+        if (caller->told.called)
+            call_up(caller, seat);
+        else
+            wake_up(caller, seat, caller->told.status);
+    } while (nt_told(&waiting.dispatcher, ++index, &caller->told) == 0);
 }
 
-/* Tells, under the lock, those whose waits the last call or tick ended: none where none pends. No thread's wait ends twice before the
- * lock is given back. */
+/* Tells, under the lock, those whose waits the last call or tick ended, and who is called: none where none pends. No thread's wait ends
+ * twice before the lock is given back. */
 static inline void note(struct seat *caller)
 {
-    if (waiting.pending != 0 && nt_grant(&waiting.dispatcher, 0, &caller->grant) == 0)
+    if (waiting.pending != 0 && nt_told(&waiting.dispatcher, 0, &caller->told) == 0)
         note_all(caller);
 }
 
@@ -128,11 +107,11 @@ __attribute__((noinline)) static void catch_up(struct seat *caller)
         pass_time(caller);
 }
 
-/* Takes the lock. Where nobody keeps the timers' time, what is overdue happens first. */
+/* Takes the lock. Where nobody watches, what is overdue happens first. */
 static inline void lock(struct seat *caller)
 {
     take_lock();
-    if (waiting.timers_due != NEVER && waiting.keeper == NULL)
+    if (waiting.timers_due != NEVER && waiting.watchers == 0)
         catch_up(caller);
 }
 
@@ -154,13 +133,12 @@ static inline void unlock_and_wake(struct seat *caller)
 }
 
 /* A timer was set at this moment, under the lock, to be due at that one. */
-static void note_timer(struct seat *caller, uint64_t now, uint64_t due)
+static void note_timer(uint64_t now, uint64_t due)
 {
     if (due <= now)
         due = next_due();
     if (due < waiting.timers_due)
         waiting.timers_due = due;
-    have_time_kept(caller);
 }
 
 /* How often the caller looks at its word before it sleeps: not at all where the moment to which it sleeps at the longest is near. */
@@ -222,17 +200,10 @@ static uint64_t look_at_time(struct seat *seat)
     return moment;
 }
 
-/* When the caller's pending wait times out, under the lock, or NEVER. */
-static uint64_t deadline_of(const struct seat *seat)
-{
-    struct nt_pending_wait wait;
-    return nt_waits_for(&waiting.dispatcher, seat->number, &wait) == 0 && wait.timed ? wait.deadline : NEVER;
-}
-
 /* Gives the lock back, sleeps until the caller's pending wait is granted, and answers its status. */
-__attribute__((noinline)) static DWORD sleep_until_granted(struct seat *seat, bool timed, bool watches)
+__attribute__((noinline)) static DWORD sleep_until_granted(struct seat *seat, bool watches)
 {
-    fall_asleep(seat, timed ? deadline_of(seat) : NEVER, watches);
+    fall_asleep(seat, watches);
     uint64_t moment = seat->moment;
     const uint32_t looks = looks_before(seat);
     unlock_and_wake(seat);

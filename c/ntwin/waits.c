@@ -68,7 +68,7 @@ static inline uint32_t waited_number_of(struct seat *seat, HANDLE handle)
     return number == NO_HANDLE && handle == CURRENT_PROCESS ? number_of_process(seat) : number;
 }
 
-/* Lets time pass, under the lock, where the call counts a time from now; and what the keeper has not come to yet, where it only looks. */
+/* Lets time pass, under the lock, where the call counts a time from now; and what no watcher has come to yet, where it only looks. */
 static inline void begin_timed(struct seat *seat, DWORD ms)
 {
     if (ms == INFINITE)
@@ -111,7 +111,7 @@ static inline DWORD finish_wait(struct seat *seat, uint32_t refused, struct wait
     note(seat);
     DWORD status = seat->reply.number;
     if (seat->reply.kind == NT_PENDED)
-        status = sleep_until_granted(seat, wait.ms != INFINITE, may_watch(seat, wait.numbers, wait.count, wait.alertable));
+        status = sleep_until_granted(seat, may_watch(seat, wait.numbers, wait.count, wait.alertable));
     else
         unlock_and_wake(seat);
     if (status == WAIT_IO_COMPLETION)

@@ -14,7 +14,7 @@
 
 static uint32_t hear_wait(uint32_t who, uint32_t refused, const struct nt_reply *reply);
 static uint32_t hear_exit(uint32_t who, uint32_t refused);
-static uint32_t hear_grant(uint32_t refused, const struct nt_grant *grant);
+static uint32_t hear_told(uint32_t refused, const struct nt_told *told);
 
 #define nt_wait(nt, who, handles, count, all, ms, alertable, reply) \
     hear_wait(who, nt_wait(nt, who, handles, count, all, ms, alertable, reply), reply)
@@ -22,7 +22,7 @@ static uint32_t hear_grant(uint32_t refused, const struct nt_grant *grant);
 #define nt_swap(nt, who, signal, object, ms, alertable, reply) \
     hear_wait(who, nt_swap(nt, who, signal, object, ms, alertable, reply), reply)
 #define nt_exit(nt, who, reply) hear_exit(who, nt_exit(nt, who, reply))
-#define nt_grant(nt, index, grant) hear_grant(nt_grant(nt, index, grant), grant)
+#define nt_told(nt, index, told) hear_told(nt_told(nt, index, told), told)
 
 static int read_clock(struct timespec *at);
 static long sleep_by_clock(_Atomic uint32_t *word, int operation, uint32_t value, const struct timespec *until);

@@ -82,10 +82,10 @@ static uint32_t hear_exit(uint32_t who, uint32_t refused)
     return refused;
 }
 
-static uint32_t hear_grant(uint32_t refused, const struct nt_grant *grant)
+static uint32_t hear_told(uint32_t refused, const struct nt_told *told)
 {
-    if (refused == 0)
-        GRANTED[GRANTS++] = grant->thread - FIRST_SEAT;
+    if (refused == 0 && !told->called)
+        GRANTED[GRANTS++] = told->thread - FIRST_SEAT;
     return refused;
 }
 

@@ -8,7 +8,7 @@
 
 static uint32_t hear_wait(uint32_t who, uint32_t refused, const struct nt_reply *reply);
 static uint32_t hear_exit(uint32_t who, uint32_t refused);
-static uint32_t hear_grant(uint32_t refused, const struct nt_grant *grant);
+static uint32_t hear_told(uint32_t refused, const struct nt_told *told);
 
 #define nt_wait(nt, who, handles, count, all, ms, alertable, reply) \
     hear_wait(who, nt_wait(nt, who, handles, count, all, ms, alertable, reply), reply)
@@ -17,7 +17,7 @@ static uint32_t hear_grant(uint32_t refused, const struct nt_grant *grant);
 #define nt_swap(nt, who, signal, object, ms, alertable, reply) \
     hear_wait(who, nt_swap(nt, who, signal, object, ms, alertable, reply), reply)
 #define nt_exit(nt, who, reply) hear_exit(who, nt_exit(nt, who, reply))
-#define nt_grant(nt, index, grant) hear_grant(nt_grant(nt, index, grant), grant)
+#define nt_told(nt, index, told) hear_told(nt_told(nt, index, told), told)
 #define nt_set_event(...) (point(), nt_set_event(__VA_ARGS__))
 #define nt_release_semaphore(...) (point(), nt_release_semaphore(__VA_ARGS__))
 #define nt_release_mutex(...) (point(), nt_release_mutex(__VA_ARGS__))
@@ -28,7 +28,7 @@ static uint32_t hear_grant(uint32_t refused, const struct nt_grant *grant);
 
 /* How often the programs did what. */
 static struct {
-    unsigned long long calls, waits, grants, timeouts, apcs, threads, ends;
+    unsigned long long calls, waits, grants, calls_up, timeouts, apcs, threads, ends;
 } sums;
 
 /* ---- What each wait has to answer. A thread's wait may end for an APC that waits: so there is one for each depth. */
@@ -53,18 +53,20 @@ static uint32_t hear_wait(uint32_t who, uint32_t refused, const struct nt_reply 
     return refused;
 }
 
-static uint32_t hear_grant(uint32_t refused, const struct nt_grant *grant)
+static uint32_t hear_told(uint32_t refused, const struct nt_told *told)
 {
     if (waiting.lock == FREE)
-        broken("grants are read without the lock");
+        broken("what is told is read without the lock");
     point();
     if (refused != 0)
         return refused;
-    sums.grants++;
-    uint32_t *last = &expected[grant->thread].status[expected[grant->thread].depth - 1];
-    if (expected[grant->thread].depth == 0 || *last != PENDS)
-        broken("thread %u is granted 0x%x, and waits for nothing", grant->thread, grant->status);
-    *last = grant->status;
+    uint32_t *last = &expected[told->thread].status[expected[told->thread].depth - 1];
+    if (expected[told->thread].depth == 0 || *last != PENDS)
+        broken("thread %u is told 0x%x, and waits for nothing", told->thread, told->status);
+    sums.calls_up += told->called;
+    sums.grants += !told->called;
+    if (!told->called)
+        *last = told->status;
     return 0;
 }
 
@@ -184,8 +186,9 @@ int main(int count, char **words)
         if (waiting.alive != 0)
             broken("%u threads have not left", waiting.alive);
     }
-    printf("%llu calls, %llu waits, %llu of them ended later, %llu timeouts, %llu APCs, %llu threads made, %llu ends\n", sums.calls, sums.waits,
-           sums.grants, sums.timeouts, sums.apcs, sums.threads, sums.ends);
+    printf("%llu calls, %llu waits, %llu of them ended later, %llu timeouts, %llu called to look at the time, ", sums.calls, sums.waits,
+           sums.grants, sums.timeouts, sums.calls_up);
+    printf("%llu APCs, %llu threads made, %llu ends\n", sums.apcs, sums.threads, sums.ends);
     printf("%llu passed, 0 failed\n", (unsigned long long)programs);
     return 0;
 }

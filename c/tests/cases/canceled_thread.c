@@ -1,8 +1,20 @@
-/* Within 10 s, unsanitized: 6 passed, 0 failed.
+/* Within 10 s: 6 passed, 0 failed.
  *
  * pthread_cancel acts once a wait has ended, and then the thread's mutexes are abandoned. A thread that is canceled asynchronously, while
  * it waits, never ends for the library; other threads' timeouts and timers come in time all the same. */
 #include "case.h"
+
+/* (A thread that is canceled as it waits is never joined.) */
+const char *__tsan_default_options(void)
+{
+    return "report_thread_leaks=0";
+}
+
+/* (AddressSanitizer takes its stack for signals away as a thread ends, and does that wrongly where the thread was canceled so.) */
+const char *__asan_default_options(void)
+{
+    return "use_sigaltstack=0";
+}
 
 static HANDLE never, mutex, timer;
 static pthread_t waiter;

@@ -20,6 +20,25 @@
 #include <time.h>
 #include <unistd.h>
 
+/* Whether the case is built with ThreadSanitizer. */
+#if defined __has_feature
+#if __has_feature(thread_sanitizer)
+#define HAS_THREAD_SANITIZER 1
+#endif
+#elif defined __SANITIZE_THREAD__
+#define HAS_THREAD_SANITIZER 1
+#endif
+#ifndef HAS_THREAD_SANITIZER
+#define HAS_THREAD_SANITIZER 0
+#endif
+
+/* For a function that stands in the place of one of the system's, which a sanitizer calls before it has begun. */
+#if defined __clang__
+#define UNSANITIZED __attribute__((disable_sanitizer_instrumentation))
+#else
+#define UNSANITIZED __attribute__((no_sanitize("address", "thread", "undefined")))
+#endif
+
 /* The monotonic clock, in ms. */
 static inline double now_ms(void)
 {

@@ -1,4 +1,4 @@
-/* Within 10 s, unsanitized, not linked: 3 passed, 0 failed.
+/* Within 10 s, not linked: 3 passed, 0 failed.
  *
  * A program opens the shared library, a thread calls it, the program closes it, and then the thread ends. */
 #include "case.h"

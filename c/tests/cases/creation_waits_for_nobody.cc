@@ -1,8 +1,8 @@
-/* Within 10 s, unsanitized: 8 passed, 0 failed.
+/* Within 10 s: 8 passed, 0 failed.
  *
  * A thread calls CreateThread while it holds a lock that a destructor of another thread wants, whose function has returned: one of a
  * thread_local object, or, in the last round of all, one of a key, when the thread's handle is signaled. CreateThread waits for no thread,
- * and so comes back. */
+ * and so comes back. (The last round is ThreadSanitizer's own, where there is one: then the first of the two is tried twice.) */
 #include "case.h"
 
 static pthread_mutex_t of_program = PTHREAD_MUTEX_INITIALIZER;
@@ -71,6 +71,9 @@ int main()
 {
     must(pthread_key_create(&key, in_last_round) == 0);
     create_beside(ends, WAIT_TIMEOUT);
-    create_beside(ends_late, WAIT_OBJECT_0);
+    if (HAS_THREAD_SANITIZER)
+        create_beside(ends, WAIT_TIMEOUT);
+    else
+        create_beside(ends_late, WAIT_OBJECT_0);
     return counted();
 }

@@ -1,4 +1,4 @@
-/* Within 10 s, unsanitized: 6 passed, 0 failed.
+/* Within 10 s: 6 passed, 0 failed.
  *
  * APCs that are queued before a thread begins run as it begins, in their order, before its function, which need make no alertable wait. So
  * do those that they queue. Here each thread waits to begin until it may. */

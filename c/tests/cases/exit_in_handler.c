@@ -1,4 +1,4 @@
-/* Within 20 s, unsanitized: 12 passed, 0 failed.
+/* Within 20 s: 12 passed, 0 failed.
  *
  * A handler of SIGTERM calls exit, wherever in a call the thread is: the process ends, also where the thread has the library's lock. */
 #include "case.h"

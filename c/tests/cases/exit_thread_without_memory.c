@@ -1,6 +1,6 @@
 /* Within 10 s, unsanitized: 1 passed, 0 failed.
  *
- * ExitThread takes no memory, the first time neither. */
+ * ExitThread takes no memory, the first time neither. (But a sanitizer does as a thread ends, and ends the process where it gets none.) */
 #include "case.h"
 
 #include <sys/resource.h>

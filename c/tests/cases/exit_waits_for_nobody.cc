@@ -1,4 +1,4 @@
-/* Within 8 s, unsanitized: 1 passed, 0 failed.
+/* Within 8 s: 1 passed, 0 failed.
  *
  * ExitProcess waits for no thread, not even for one that has returned and whose destructor never does. */
 #include "case.h"

@@ -1,4 +1,4 @@
-/* Within 10 s, unsanitized: 604 passed, 0 failed.
+/* Within 10 s: 604 passed, 0 failed.
  *
  * While the system has no thread more, CreateThread fails with ERROR_NOT_ENOUGH_MEMORY, as often as it is tried. It succeeds as soon as
  * there is one: what failed took no place, and its handle is closed. */

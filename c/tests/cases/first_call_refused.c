@@ -1,4 +1,4 @@
-/* Within 10 s, unsanitized: 6 passed, 0 failed.
+/* Within 10 s: 6 passed, 0 failed.
  *
  * The first call of the process is refused memory, and so fails. A later one finds memory, and succeeds. */
 #include "refusing.h"

@@ -1,4 +1,4 @@
-/* Within 10 s, unsanitized: 5 passed, 0 failed.
+/* Within 10 s: 5 passed, 0 failed.
  *
  * A timeout wakes nobody else, and a thread that waits for something else is not woken by a timer that nobody waits for. Told by the
  * system calls that the library makes on its words, which this program counts. */
@@ -11,14 +11,13 @@
 
 static LONG sleeps, wakes;
 
+static long (*real)(long number, ...);
+
 /* In the system's place. */
 long syscall(long number, ...)
 {
-    static long (*real)(long number, ...);
     long words[6];
     va_list list;
-    if (real == NULL)
-        *(void **)&real = dlsym(RTLD_NEXT, "syscall");
     va_start(list, number);
     for (int i = 0; i < 6; i++)
         words[i] = va_arg(list, long);
@@ -38,6 +37,7 @@ static DWORD waits(LPVOID event)
 
 int main(void)
 {
+    *(void **)&real = dlsym(RTLD_NEXT, "syscall");
     HANDLE event = CreateEvent(NULL, TRUE, FALSE, NULL), timer = CreateWaitableTimer(NULL, TRUE, NULL);
     HANDLE thread = CreateThread(NULL, 0, waits, event, 0, NULL);
     await(&begins);

@@ -1,4 +1,4 @@
-/* Within 10 s, unsanitized: 2 passed, 0 failed.
+/* Within 10 s: 2 passed, 0 failed.
  *
  * A thread's id is written before the thread runs, which may read it, and may free the memory in which it stands. Here who creates a thread
  * rests as soon as that runs. */

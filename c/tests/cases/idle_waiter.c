@@ -1,4 +1,4 @@
-/* Within 20 s, alone, unsanitized: 2 passed, 0 failed.
+/* Within 20 s, alone: 2 passed, 0 failed.
  *
  * On one busy processor a thread of the idle class waits again and again, with the next deadline. The timeouts of a usual thread come as
  * they do with no thread beside it. */

@@ -1,4 +1,4 @@
-/* Within 20 s, alone, unsanitized: 2 passed, 0 failed.
+/* Within 20 s, alone: 2 passed, 0 failed.
  *
  * On one processor a real-time thread polls a timer with timeout 0, and a usual thread merely waits, for something else, so it never runs
  * meanwhile. The poll sees the timer as soon as that is due. */

@@ -15,30 +15,44 @@ extern void *__libc_calloc(size_t count, size_t size);
 extern void *__libc_realloc(void *at, size_t size);
 extern void *__libc_memalign(size_t alignment, size_t size);
 
-static void *refuse(void)
+/* A sanitizer's, where there is one. */
+extern void *__interceptor_malloc(size_t size) __attribute__((weak));
+extern void *__interceptor_calloc(size_t count, size_t size) __attribute__((weak));
+extern void *__interceptor_realloc(void *at, size_t size) __attribute__((weak));
+extern void *__interceptor_aligned_alloc(size_t alignment, size_t size) __attribute__((weak));
+
+UNSANITIZED static void *refuse(void)
 {
     errno = ENOMEM;
     return NULL;
 }
 
-void *malloc(size_t size)
+UNSANITIZED void *malloc(size_t size)
 {
-    return refuses_memory ? refuse() : __libc_malloc(size);
+    if (refuses_memory)
+        return refuse();
+    return __interceptor_malloc != NULL ? __interceptor_malloc(size) : __libc_malloc(size);
 }
 
-void *calloc(size_t count, size_t size)
+UNSANITIZED void *calloc(size_t count, size_t size)
 {
-    return refuses_memory ? refuse() : __libc_calloc(count, size);
+    if (refuses_memory)
+        return refuse();
+    return __interceptor_calloc != NULL ? __interceptor_calloc(count, size) : __libc_calloc(count, size);
 }
 
-void *realloc(void *at, size_t size)
+UNSANITIZED void *realloc(void *at, size_t size)
 {
-    return refuses_memory ? refuse() : __libc_realloc(at, size);
+    if (refuses_memory)
+        return refuse();
+    return __interceptor_realloc != NULL ? __interceptor_realloc(at, size) : __libc_realloc(at, size);
 }
 
-void *aligned_alloc(size_t alignment, size_t size)
+UNSANITIZED void *aligned_alloc(size_t alignment, size_t size)
 {
-    return refuses_memory ? refuse() : __libc_memalign(alignment, size);
+    if (refuses_memory)
+        return refuse();
+    return __interceptor_aligned_alloc != NULL ? __interceptor_aligned_alloc(alignment, size) : __libc_memalign(alignment, size);
 }
 
 #endif

@@ -1,4 +1,4 @@
-/* Within 20 s, unsanitized: 4 passed, 0 failed.
+/* Within 20 s: 4 passed, 0 failed.
  *
  * Sleep sleeps where memory is refused, and where more threads call than there are places, and leaves the last error. */
 #include "refusing.h"

@@ -1,4 +1,4 @@
-/* Within 20 s, unsanitized: 3 passed, 0 failed.
+/* Within 20 s: 3 passed, 0 failed.
  *
  * A thread that waits is in a handler of a signal for two seconds. Another thread's wait, whose deadline comes after that thread's, ends in
  * its time. */

@@ -1,4 +1,4 @@
-/* Within 10 s, unsanitized: 4 passed, 0 failed.
+/* Within 10 s: 4 passed, 0 failed.
  *
  * A call is given a pointer that can't be read, in a program that catches SIGSEGV and goes on, as structured exceptions do. The library is
  * not left locked: other threads' calls go on. */

@@ -2,8 +2,8 @@
 use Rattle.std.proofs.Common.{◌≡◌, sym, refl}
 use Rattle.std.proofs.lemmas.Bool.{false≢true}
 use Rattle.std.specs.Prelude.{Option, None, Some, is_some, false}
-use Rattle.nt_core.specs.Dispatcher.{Dispatcher}
+use Rattle.nt_sleepers.specs.Sleepers.{Sleeping}
 
-pub none_of : (x : Option Dispatcher) → is_some x ≡ false → x ≡ None
+pub none_of : (x : Option Sleeping) → is_some x ≡ false → x ≡ None
 none_of None e = refl
 none_of (Some d) e = absurd (false≢true (sym e))

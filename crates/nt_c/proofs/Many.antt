@@ -19,7 +19,8 @@ use Rattle.nt_calls.specs.Refusals.{Cause, IsRefusal, causes, first_of_causes, i
 use Rattle.nt_calls.specs.Rights.{is_denied}
 use Rattle.nt_calls.specs.State.{State}
 use Rattle.nt_calls.specs.Steps.{Called}
-use Rattle.nt_core.specs.Dispatcher.{Dispatcher, state}
+use Rattle.nt_core.specs.Dispatcher.{state}
+use Rattle.nt_sleepers.specs.Sleepers.{Sleeping}
 use Rattle.nt_c.specs.Asks.{Asked, Makes}
 
 -- the causes that come before those of the wait, and these
@@ -82,16 +83,18 @@ never_called : {P : Type 0} (s new : State) (who : ℕ) (call : Call) (cause : R
 never_called s new who call cause reply grants is called =
     let both : Some cause ≡ None = sym is ∙ called.1.0 in (cc)
 
-makes_alike : (old new : Dispatcher) (who : ℕ) (call call' : Call) (cause : Refusal) (result : Result Reply Refusal) → IsRefusedFor (state old) who call cause → IsRefusedFor (state old) who call' cause → Makes old who call result new → Makes old who call' result new
-makes_alike old new who call call' cause (Ok reply) is is' made = never_called (state old) (state new) who call cause reply new.grants is made.called
+makes_alike : (old new : Sleeping) (who : ℕ) (call call' : Call) (cause : Refusal) (result : Result Reply Refusal) → IsRefusedFor (state old.core) who call cause → IsRefusedFor (state old.core) who call' cause → Makes old who call result new → Makes old who call' result new
+makes_alike old new who call call' cause (Ok reply) is is' made = never_called (state old.core) (state new.core) who call cause reply new.core.grants is made.called
 makes_alike old new who call call' cause (Err r) is is' made = record {
-  called = called_alike (state old) (state new) who call call' r cause new.grants is is' made.called;
+  called = called_alike (state old.core) (state new.core) who call call' r cause new.core.grants is is' made.called;
   lawful = made.lawful;
   local = tt;
   untested = made.untested;
+  woke = made.woke;
+  nobody = made.nobody;
 }
 
-asked_alike : (held new : Option Dispatcher) (who : ℕ) (call call' : Call) (result : Result Reply Refusal) → ((old : Dispatcher) → (cause : Refusal) × IsRefusedFor (state old) who call cause × IsRefusedFor (state old) who call' cause) → Asked held who call result new → Asked held who call' result new
+asked_alike : (held new : Option Sleeping) (who : ℕ) (call call' : Call) (result : Result Reply Refusal) → ((old : Sleeping) → (cause : Refusal) × IsRefusedFor (state old.core) who call cause × IsRefusedFor (state old.core) who call' cause) → Asked held who call result new → Asked held who call' result new
 asked_alike None new who call call' result why_both asked = asked
 asked_alike (Some old) new who call call' result why_both (core, is, made) =
     let both = why_both old in (core, is, makes_alike old core who call call' both.0 result both.1 both.2 made)
@@ -103,9 +106,9 @@ refused_both s who all alertable ms handles many =
     (cause.0, refused_named s who all alertable ms [] refl ∙ cause.1, refused_named s who all alertable ms handles (many_unlawful s handles many) ∙ cause.1)
 
 -- the wait for these handles is asked as one for all of them, or for none where they are too many
-pub asked_of : (held new : Option Dispatcher) (who : ℕ) (all alertable : Bool) (ms : ℕ) (handles these : List ℕ) (result : Result Reply Refusal) → (length handles ≤ MAX_WAIT_OBJECTS → these ≡ handles) → (MAX_WAIT_OBJECTS < length handles → these ≡ []) → Asked held who (Call.Wait (WaitCall.Objects all alertable ms these)) result new → Asked held who (Call.Wait (WaitCall.Objects all alertable ms handles)) result new
+pub asked_of : (held new : Option Sleeping) (who : ℕ) (all alertable : Bool) (ms : ℕ) (handles these : List ℕ) (result : Result Reply Refusal) → (length handles ≤ MAX_WAIT_OBJECTS → these ≡ handles) → (MAX_WAIT_OBJECTS < length handles → these ≡ []) → Asked held who (Call.Wait (WaitCall.Objects all alertable ms these)) result new → Asked held who (Call.Wait (WaitCall.Objects all alertable ms handles)) result new
 asked_of held new who all alertable ms handles these result few many asked =
     elim (cases_lt MAX_WAIT_OBJECTS (length handles)) [
-      | inl above ↦ asked_alike held new who (wait_for all alertable ms []) (wait_for all alertable ms handles) result (λ (old : Dispatcher). refused_both (state old) who all alertable ms handles above) (subst (λ (list : List ℕ). Asked held who (wait_for all alertable ms list) result new) (many above) asked)
+      | inl above ↦ asked_alike held new who (wait_for all alertable ms []) (wait_for all alertable ms handles) result (λ (old : Sleeping). refused_both (state old.core) who all alertable ms handles above) (subst (λ (list : List ℕ). Asked held who (wait_for all alertable ms list) result new) (many above) asked)
       | inr within ↦ subst (λ (list : List ℕ). Asked held who (wait_for all alertable ms list) result new) (few within) asked
     ]

@@ -1,5 +1,5 @@
 -- What a call through C's handle does.
-use Rattle.std.specs.Prelude.{◌≡◌, ℕ, ◌≤◌, ◌⊎◌, Bool, Option, None, Some, MatchOption, slice_get, MatchBool, nat_le, OnOk, OnErr, ◌&&◌, [], length, pos, is_some, true, false}
+use Rattle.std.specs.Prelude.{◌≡◌, ℕ, ◌≤◌, ◌⊎◌, Bool, Option, None, Some, MatchOption, slice_get, MatchBool, nat_le, OnOk, OnErr, ◌&&◌, [], length, replicate, pos, is_some, true, false}
 use Rattle.std.specs.FinMap as map
 use Rattle.nt_c.specs.declared.grants.NtGrant.{NtGrant}
 use Rattle.nt_c.specs.declared.handle.Nt.{Nt}
@@ -23,28 +23,32 @@ use Rattle.nt_core.specs.Accepts.{IsLocal, IsTickLocal}
 use Rattle.nt_calls.specs.Naming.{call_named}
 use Rattle.nt_calls.specs.State.{opening, pends}
 use Rattle.nt_calls.specs.Steps.{Called, Ticked, IsNextMoment, NothingDue}
+use Rattle.nt_calls.specs.Moves.{pended}
+use Rattle.nt_sleepers.specs.Sleepers.{Sleeping, Woke}
 
 -- a handle says that it has a dispatcher exactly where it has one
 abbrev pub IsFit : Nt → Type 0
-IsFit nt = nt.live ≡ is_some nt.cell.core
+IsFit nt = nt.live ≡ is_some nt.cell.held
 
--- the handle has the dispatcher that it had, or none as before
+-- the handle has the dispatcher and the sleepers that it had, or none as before
 abbrev pub Keeps : Nt → Nt → Type 0
-Keeps old new = new.cell.core ≡ old.cell.core
+Keeps old new = new.cell.held ≡ old.cell.held
 
 -- ---- a call
 
--- a call of the dispatcher: a step that tests no wait but those that it must, or a refusal that tests none
-pub record Makes (old : Dispatcher) (who : ℕ) (call : Call) (result : Result Reply Refusal) (new : Dispatcher) : Type 0 where
-  pub called : Called (state old) who call result new.grants (state new)
-  pub lawful : IsLawful new
-  pub local : OnOk result (IsLocal (state old) who (call_named old.handles call) new.table.looked new.grants)
-  pub untested : OnErr result (new.table.looked ≡ 0)
+-- a call of the dispatcher: a step that tests no wait but those that it must, or a refusal that tests none; and what becomes of who sleeps
+pub record Makes (old : Sleeping) (who : ℕ) (call : Call) (result : Result Reply Refusal) (new : Sleeping) : Type 0 where
+  pub called : Called (state old.core) who call result new.core.grants (state new.core)
+  pub lawful : IsLawful new.core
+  pub local : OnOk result (IsLocal (state old.core) who (call_named old.core.handles call) new.core.table.looked new.core.grants)
+  pub untested : OnErr result (new.core.table.looked ≡ 0)
+  pub woke : Woke old who (pended result) new
+  pub nobody : OnErr result (new.called ≡ None)
 
 -- a call on what the handle holds: one of the dispatcher there, or refused where there is none
-abbrev pub Asked : Option Dispatcher → ℕ → Call → Result Reply Refusal → Option Dispatcher → Type 0
+abbrev pub Asked : Option Sleeping → ℕ → Call → Result Reply Refusal → Option Sleeping → Type 0
 Asked None who call result new = (result ≡ Err InvalidHandle) × (new ≡ None)
-Asked (Some old) who call result new = (core : Dispatcher) × (new ≡ Some core) × Makes old who call result core
+Asked (Some old) who call result new = (s : Sleeping) × (new ≡ Some s) × Makes old who call result s
 
 -- the number that C sees of a result
 abbrev pub error_of : Result Reply Refusal → ℕ
@@ -79,7 +83,7 @@ told_in old (Err refusal) = old
 abbrev pub Answers : Nt → ℕ → Call → ℕ → NtReply → NtReply → Nt → Type 0
 Answers old who call number before after new =
     (result : Result Reply Refusal)
-    × Asked old.cell.core who call result new.cell.core
+    × Asked old.cell.held who call result new.cell.held
     × (number ≡ error_of result)
     × (after ≡ told_in before result)
 
@@ -93,23 +97,25 @@ WaitsWith old who wait number before after new = Answers old who (Call.Wait wait
 
 -- ---- a tick
 
--- a tick of the dispatcher, which tests no wait but those that it must, or is refused and tests none
-pub record LetsPass (old : Dispatcher) (m : ℕ) (result : Result Reply Refusal) (new : Dispatcher) : Type 0 where
-  pub ticked : Ticked (state old) m result new.grants (state new)
-  pub lawful : IsLawful new
-  pub local : OnOk result (IsTickLocal (state old) m new.table.looked new.grants)
-  pub untested : OnErr result (new.table.looked ≡ 0)
+-- a tick of the dispatcher, which tests no wait but those that it must, or is refused and tests none; and what becomes of who sleeps
+pub record LetsPass (old : Sleeping) (m : ℕ) (result : Result Reply Refusal) (new : Sleeping) : Type 0 where
+  pub ticked : Ticked (state old.core) m result new.core.grants (state new.core)
+  pub lawful : IsLawful new.core
+  pub local : OnOk result (IsTickLocal (state old.core) m new.core.table.looked new.core.grants)
+  pub untested : OnErr result (new.core.table.looked ≡ 0)
+  pub woke : Woke old 0 false new
+  pub nobody : OnErr result (new.called ≡ None)
 
 -- a tick of what the handle holds
-abbrev pub TickAsked : Option Dispatcher → ℕ → Result Reply Refusal → Option Dispatcher → Type 0
+abbrev pub TickAsked : Option Sleeping → ℕ → Result Reply Refusal → Option Sleeping → Type 0
 TickAsked None m result new = (result ≡ Err InvalidHandle) × (new ≡ None)
-TickAsked (Some old) m result new = (core : Dispatcher) × (new ≡ Some core) × LetsPass old m result core
+TickAsked (Some old) m result new = (s : Sleeping) × (new ≡ Some s) × LetsPass old m result s
 
 -- a tick of which C sees the number; no moment is above the greatest
 abbrev pub Ticks : Nt → ℕ → ℕ → Nt → Type 0
 Ticks old m number new =
     MatchBool (nat_le m MAX_MOMENT)
-    ((result : Result Reply Refusal) × TickAsked old.cell.core m result new.cell.core × (number ≡ error_of result))
+    ((result : Result Reply Refusal) × TickAsked old.cell.held m result new.cell.held × (number ≡ error_of result))
     ((number ≡ 87) × (new ≡ old))
 
 -- ---- what C reads
@@ -124,14 +130,14 @@ Told A value number after = (number ≡ 0) × (after ≡ value)
 
 -- a number of the dispatcher is told, or 6 is answered where there is none
 abbrev pub Reads : (Dispatcher → ℕ) → Nt → ℕ → ℕ → ℕ → Type 0
-Reads value nt number before after = MatchOption nt.cell.core (Untold ℕ 6 number before after) (λ core. Told ℕ (value core) number after)
+Reads value nt number before after = MatchOption nt.cell.held (Untold ℕ 6 number before after) (λ s. Told ℕ (value s.core) number after)
 
 -- whether the thread's wait pends is told, or 536870915 is answered where no thread has this number
 abbrev pub ReadsWaiting : ℕ → Nt → ℕ → Bool → Bool → Type 0
 ReadsWaiting thread nt number before after =
-    MatchOption nt.cell.core
+    MatchOption nt.cell.held
     (Untold Bool 6 number before after)
-    (λ core. MatchBool (nat_le (state core).threads thread) (Untold Bool 0x20000003 number before after) (Told Bool (pends (state core) thread) number after))
+    (λ s. MatchBool (nat_le (state s.core).threads thread) (Untold Bool 0x20000003 number before after) (Told Bool (pends (state s.core) thread) number after))
 
 -- a number, or 0 for none
 abbrev or_zero : Option ℕ → ℕ
@@ -145,11 +151,11 @@ wait_in wait = record { count = length wait.objects; all = wait.all; alertable =
 -- what is read of the pending wait of the thread, or 259 is answered where none pends, or 536870915 where no thread has this number
 abbrev ReadsOfWait : (A : Type 0) → ℕ → (Wait → Option A) → Nt → ℕ → A → A → Type 0
 ReadsOfWait A thread part nt number before after =
-    MatchOption nt.cell.core
+    MatchOption nt.cell.held
     (Untold A 6 number before after)
-    (λ core. MatchBool (nat_le (state core).threads thread)
+    (λ s. MatchBool (nat_le (state s.core).threads thread)
     (Untold A 0x20000003 number before after)
-    (MatchOption (map.get (state core).waits thread)
+    (MatchOption (map.get (state s.core).waits thread)
     (Untold A 259 number before after)
     (λ wait. MatchOption (part wait) (Untold A 259 number before after) (λ value. Told A value number after))))
 
@@ -168,9 +174,9 @@ grant_in grant = record { thread = grant.thread; status = grant.status }
 -- the grant at this index is told, or 259 is answered past the last
 abbrev pub ReadsGrant : ℕ → Nt → ℕ → NtGrant → NtGrant → Type 0
 ReadsGrant index nt number before after =
-    MatchOption nt.cell.core
+    MatchOption nt.cell.held
     (Untold NtGrant 6 number before after)
-    (λ core. MatchOption (slice_get core.grants index) (Untold NtGrant 259 number before after) (λ grant. Told NtGrant (grant_in grant) number after))
+    (λ s. MatchOption (slice_get s.core.grants index) (Untold NtGrant 259 number before after) (λ grant. Told NtGrant (grant_in grant) number after))
 
 -- the next moment up to m at which something is due is told, or 259 is answered where nothing is
 abbrev IsDueTold : Dispatcher → ℕ → ℕ → ℕ → ℕ → Type 0
@@ -181,22 +187,31 @@ IsDueTold core m number before after =
 abbrev pub ReadsDue : ℕ → Nt → ℕ → ℕ → ℕ → Type 0
 ReadsDue m nt number before after =
     MatchBool (nat_le m MAX_MOMENT)
-    (MatchOption nt.cell.core (Untold ℕ 6 number before after) (λ core. IsDueTold core m number before after))
+    (MatchOption nt.cell.held (Untold ℕ 6 number before after) (λ s. IsDueTold s.core m number before after))
     (Untold ℕ 87 number before after)
 
 -- ---- dispatchers come and go
 
--- a dispatcher for so many threads is opened where there is none; refused with 87 where there is one, and for no thread
--- or too many, and with 8 where memory is refused
-abbrev pub Opens : Option Dispatcher → ℕ → ℕ → Option Dispatcher → Type 0
+-- a dispatcher for so many threads as it is at first: nothing was called, and nobody sleeps
+pub record IsOpening (threads : ℕ) (s : Sleeping) : Type 0 where
+  pub state_is : state s.core ≡ opening threads
+  pub grants : s.core.grants ≡ []
+  pub looked : s.core.table.looked ≡ 0
+  pub alarms : s.alarms ≡ replicate threads None
+  pub watchers : s.watchers ≡ replicate threads None
+  pub called : s.called ≡ None
+
+-- a dispatcher for so many threads, of whom none sleeps, is opened where there is none; refused with 87 where there is one, and for no
+-- thread or too many, and with 8 where memory is refused
+abbrev pub Opens : Option Sleeping → ℕ → ℕ → Option Sleeping → Type 0
 Opens (Some old) threads number new = (number ≡ 87) × (new ≡ Some old)
 Opens None threads number new =
-    ((core : Dispatcher) × (new ≡ Some core) × (number ≡ 0) × (1 ≤ threads) × (threads ≤ MAX_THREADS) × (state core ≡ opening threads) × (core.grants ≡ []) × (core.table.looked ≡ 0))
+    ((s : Sleeping) × (new ≡ Some s) × (number ≡ 0) × (1 ≤ threads) × (threads ≤ MAX_THREADS) × IsOpening threads s)
     ⊎ ((new ≡ None) × MatchBool (nat_le 1 threads && nat_le threads MAX_THREADS) (number ≡ 8) (number ≡ 87))
 
 -- an equal dispatcher comes to where there was none; refused with 6 where there is nothing to copy, with 87 where there is one
 -- already, and with 8 where memory is refused
-abbrev pub Copies : Option Dispatcher → Option Dispatcher → ℕ → Option Dispatcher → Type 0
+abbrev pub Copies : Option Sleeping → Option Sleeping → ℕ → Option Sleeping → Type 0
 Copies None to number new = (number ≡ 6) × (new ≡ to)
-Copies (Some core) (Some to) number new = (number ≡ 87) × (new ≡ Some to)
-Copies (Some core) None number new = ((number ≡ 0) × (new ≡ Some core)) ⊎ ((number ≡ 8) × (new ≡ None))
+Copies (Some s) (Some to) number new = (number ≡ 87) × (new ≡ Some to)
+Copies (Some s) None number new = ((number ≡ 0) × (new ≡ Some s)) ⊎ ((number ≡ 8) × (new ≡ None))

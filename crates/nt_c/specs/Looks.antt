@@ -56,16 +56,16 @@ object_in (Thread ended) = record (plain_object 5) { set = ended }
 -- the object with this number is told, or 259 is answered where there is none
 abbrev pub ReadsNumbered : ℕ → Nt → ℕ → NtObject → NtObject → Type 0
 ReadsNumbered object nt number before after =
-    MatchOption nt.cell.core
+    MatchOption nt.cell.held
     (Untold NtObject 6 number before after)
-    (λ core. MatchOption (slice_get (state core).objects object) (Untold NtObject 259 number before after) (λ found. Told NtObject (object_in found) number after))
+    (λ s. MatchOption (slice_get (state s.core).objects object) (Untold NtObject 259 number before after) (λ found. Told NtObject (object_in found) number after))
 
 -- what the handle names is told, or 6 is answered where it names nothing
 abbrev pub ReadsOpened : ℕ → Nt → ℕ → NtOpened → NtOpened → Type 0
 ReadsOpened handle nt number before after =
-    MatchOption nt.cell.core
+    MatchOption nt.cell.held
     (Untold NtOpened 6 number before after)
-    (λ core. MatchOption (opened_at (state core).handles handle) (Untold NtOpened 6 number before after)
+    (λ s. MatchOption (opened_at (state s.core).handles handle) (Untold NtOpened 6 number before after)
     (λ opened. Told NtOpened (record { object = opened.object; access = opened.access }) number after))
 
 -- ---- why threads wait
@@ -85,9 +85,9 @@ WhyOrMemory core over m number before after knot_before knot_after =
 abbrev pub ReadsWhy : List Bool → ℕ → Nt → ℕ → NtWhy → NtWhy → List Bool → List Bool → Type 0
 ReadsWhy over m nt number before after knot_before knot_after =
     MatchBool (nat_le m MAX_MOMENT)
-    (MatchOption nt.cell.core
+    (MatchOption nt.cell.held
     (Untold NtWhy 6 number before after × (knot_after ≡ knot_before))
-    (λ core. MatchBool (length knot_before == (state core).threads)
-    (WhyOrMemory core over m number before after knot_before knot_after)
+    (λ s. MatchBool (length knot_before == (state s.core).threads)
+    (WhyOrMemory s.core over m number before after knot_before knot_after)
     (Untold NtWhy 87 number before after × (knot_after ≡ knot_before))))
     (Untold NtWhy 87 number before after × (knot_after ≡ knot_before))

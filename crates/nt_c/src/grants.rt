@@ -25,7 +25,7 @@ pub extern "C" fn nt_grant(nt: &mut Nt, index: usize, out: &mut NtGrant) -> u32
     if !nt.live {
         return NO_DISPATCHER;
     }
-    let Some(grant) = nt.cell.core_mut().grants().get(index) else {
+    let Some(grant) = nt.cell.held_mut().core().grants().get(index) else {
         return NO_MORE;
     };
     out.thread = u32::from(grant.thread.get());

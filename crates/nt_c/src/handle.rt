@@ -21,12 +21,12 @@ impl Nt {
     pub(crate) fn ask(&mut self, who: u32, call: &Call) -> Result<Reply, Refusal>
         requires fit { IsFit self.old }
         ensures fit { IsFit self.new }
-        ensures asked { Asked self.old.cell.core who call.now result self.new.cell.core }
+        ensures asked { Asked self.old.cell.held who call.now result self.new.cell.held }
     {
         if !self.live {
             return Err(Refusal::InvalidHandle);
         }
-        self.cell.core_mut().call(who, call)
+        self.cell.held_mut().call(who, call)
     }
 
     /// Makes the wait of this thread for any of the objects that these handles name, or for all.
@@ -41,14 +41,14 @@ impl Nt {
     ) -> Result<Reply, Refusal>
         requires fit { IsFit self.old }
         ensures fit { IsFit self.new }
-        ensures asked { Asked self.old.cell.core who (Call.Wait (WaitCall.Objects all alertable ms these.now))
-            result self.new.cell.core }
+        ensures asked { Asked self.old.cell.held who (Call.Wait (WaitCall.Objects all alertable ms these.now))
+            result self.new.cell.held }
     {
         if !self.live {
             return Err(Refusal::InvalidHandle);
         }
         self.cell
-            .core_mut()
+            .held_mut()
             .wait_objects(who, these, all, alertable, ms)
     }
 
@@ -56,11 +56,11 @@ impl Nt {
     pub(crate) fn pass(&mut self, m: Moment) -> Result<Reply, Refusal>
         requires fit { IsFit self.old }
         ensures fit { IsFit self.new }
-        ensures asked { TickAsked self.old.cell.core m result self.new.cell.core }
+        ensures asked { TickAsked self.old.cell.held m result self.new.cell.held }
     {
         if !self.live {
             return Err(Refusal::InvalidHandle);
         }
-        self.cell.core_mut().tick(m)
+        self.cell.held_mut().tick(m)
     }
 }

@@ -5,10 +5,10 @@
 
 mod apcs;
 mod cell;
-mod core_mut;
 mod events;
 mod grants;
 mod handle;
+mod held_mut;
 mod life;
 mod looks;
 mod mutexes;
@@ -18,5 +18,6 @@ mod pending;
 mod readers;
 mod reply;
 mod semaphores;
+mod sleeps;
 mod timers;
 mod waits;

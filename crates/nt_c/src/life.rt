@@ -1,20 +1,20 @@
 //! Dispatchers come and go.
 ghost use Rattle.std.specs.Prelude.{◌≡◌, None};
 ghost use Rattle.std.specs.Mem.{type_size};
-ghost use Rattle.nt_core.specs.contracts.dispatcher.Core.{the_row as core_row};
+ghost use Rattle.nt_sleepers.specs.contracts.sleepers.Sleepers.{the_row as sleepers_row};
 ghost use Rattle.nt_c.specs.Asks.{IsFit, Keeps, Opens, Copies};
 
 use crate::handle::Nt;
 use crate::numbers::{INVALID_PARAMETER, NO_DISPATCHER};
-use nt_core::Core;
+use nt_sleepers::Sleepers;
 use std::alloc::Global;
 
 /// How many bytes of room a dispatcher takes, at an alignment of 16.
 #[unsafe(no_mangle)]
 pub extern "C" fn nt_room() -> usize
-    ensures { result ≡ type_size core_row }
+    ensures { result ≡ type_size sleepers_row }
 {
-    size_of::<Core>()
+    size_of::<Sleepers>()
 }
 
 /// Opens a dispatcher for this many threads, which run and wait for nothing, where the handle has none.
@@ -24,14 +24,14 @@ pub extern "C" fn nt_room() -> usize
 pub extern "C" fn nt_open(alloc: Global, nt: &mut Nt, threads: u32) -> u32
     requires fit { IsFit nt.old }
     ensures fit { IsFit nt.new }
-    ensures opens { Opens nt.old.cell.core threads result nt.new.cell.core }
+    ensures opens { Opens nt.old.cell.held threads result nt.new.cell.held }
 {
     if nt.live {
         return INVALID_PARAMETER;
     }
-    match Core::new(alloc, threads) {
-        Ok(core) => {
-            nt.cell.put(core);
+    match Sleepers::new(alloc, threads) {
+        Ok(sleepers) => {
+            nt.cell.put(sleepers);
             nt.live = true;
             0
         }
@@ -49,7 +49,7 @@ pub extern "C" fn nt_copy(nt: &mut Nt, to: &mut Nt) -> u32
     ensures fit { IsFit nt.new }
     ensures to_fit { IsFit to.new }
     ensures same { Keeps nt.old nt.new }
-    ensures copies { Copies nt.old.cell.core to.old.cell.core result to.new.cell.core }
+    ensures copies { Copies nt.old.cell.held to.old.cell.held result to.new.cell.held }
 {
     if !nt.live {
         return NO_DISPATCHER;
@@ -57,9 +57,9 @@ pub extern "C" fn nt_copy(nt: &mut Nt, to: &mut Nt) -> u32
     if to.live {
         return INVALID_PARAMETER;
     }
-    match nt.cell.core_mut().copy() {
-        Ok(core) => {
-            to.cell.put(core);
+    match nt.cell.held_mut().copy() {
+        Ok(copied) => {
+            to.cell.put(copied);
             to.live = true;
             0
         }
@@ -72,7 +72,7 @@ pub extern "C" fn nt_copy(nt: &mut Nt, to: &mut Nt) -> u32
 pub extern "C" fn nt_close(nt: &mut Nt)
     requires fit { IsFit nt.old }
     ensures fit { IsFit nt.new }
-    ensures closed { nt.new.cell.core ≡ None }
+    ensures closed { nt.new.cell.held ≡ None }
 {
     if nt.live {
         nt.live = false;

@@ -164,7 +164,7 @@ pub extern "C" fn nt_object(nt: &mut Nt, object: u32, out: &mut NtObject) -> u32
     if !nt.live {
         return NO_DISPATCHER;
     }
-    let core = nt.cell.core_mut();
+    let core = nt.cell.held_mut().core();
     let Some(found) = core.objects().get(object as usize) else {
         return NO_MORE;
     };
@@ -183,7 +183,7 @@ pub extern "C" fn nt_opened(nt: &mut Nt, handle: u32, out: &mut NtOpened) -> u32
     if !nt.live {
         return NO_DISPATCHER;
     }
-    let Some(opened) = nt.cell.core_mut().opened(Handle::new(handle)) else {
+    let Some(opened) = nt.cell.held_mut().core().opened(Handle::new(handle)) else {
         return NO_DISPATCHER;
     };
     *out = NtOpened {
@@ -258,7 +258,7 @@ pub extern "C" fn nt_why(
     if !nt.live {
         return NO_DISPATCHER;
     }
-    let core = nt.cell.core_mut();
+    let core = nt.cell.held_mut().core();
     if knot.len() != core.threads() as usize {
         return INVALID_PARAMETER;
     }

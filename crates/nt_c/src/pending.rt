@@ -50,7 +50,7 @@ pub extern "C" fn nt_waits_for(nt: &mut Nt, thread: u32, out: &mut NtPendingWait
     if !nt.live {
         return NO_DISPATCHER;
     }
-    let core = nt.cell.core_mut();
+    let core = nt.cell.held_mut().core();
     if core.threads() <= thread {
         return UNKNOWN_THREAD;
     }
@@ -74,7 +74,7 @@ pub extern "C" fn nt_waited_object(nt: &mut Nt, thread: u32, index: usize, out: 
     if !nt.live {
         return NO_DISPATCHER;
     }
-    let core = nt.cell.core_mut();
+    let core = nt.cell.held_mut().core();
     if core.threads() <= thread {
         return UNKNOWN_THREAD;
     }

@@ -36,7 +36,7 @@ pub extern "C" fn nt_now(nt: &mut Nt, out: &mut u64) -> u32
     if !nt.live {
         return NO_DISPATCHER;
     }
-    *out = nt.cell.core_mut().now().get();
+    *out = nt.cell.held_mut().core().now().get();
     0
 }
 
@@ -56,7 +56,7 @@ pub extern "C" fn nt_due(nt: &mut Nt, m: u64, out: &mut u64) -> u32
     if !nt.live {
         return NO_DISPATCHER;
     }
-    let Some(moment) = nt.cell.core_mut().due(up_to) else {
+    let Some(moment) = nt.cell.held_mut().core().due(up_to) else {
         return NO_MORE;
     };
     *out = moment.get();
@@ -74,7 +74,7 @@ pub extern "C" fn nt_threads(nt: &mut Nt, out: &mut u32) -> u32
     if !nt.live {
         return NO_DISPATCHER;
     }
-    *out = nt.cell.core_mut().threads();
+    *out = nt.cell.held_mut().core().threads();
     0
 }
 
@@ -89,7 +89,7 @@ pub extern "C" fn nt_pending(nt: &mut Nt, out: &mut usize) -> u32
     if !nt.live {
         return NO_DISPATCHER;
     }
-    *out = nt.cell.core_mut().pending();
+    *out = nt.cell.held_mut().core().pending();
     0
 }
 
@@ -104,7 +104,7 @@ pub extern "C" fn nt_tested(nt: &mut Nt, out: &mut u64) -> u32
     if !nt.live {
         return NO_DISPATCHER;
     }
-    *out = nt.cell.core_mut().tested();
+    *out = nt.cell.held_mut().core().tested();
     0
 }
 
@@ -121,7 +121,7 @@ pub extern "C" fn nt_is_waiting(nt: &mut Nt, thread: u32, out: &mut bool) -> u32
     if !nt.live {
         return NO_DISPATCHER;
     }
-    let core = nt.cell.core_mut();
+    let core = nt.cell.held_mut().core();
     if core.threads() <= thread {
         return UNKNOWN_THREAD;
     }

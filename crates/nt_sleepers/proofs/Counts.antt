@@ -1,9 +1,7 @@
 -- Whoever sleeps or watches after a call or tick waits.
-use Rattle.std.proofs.Common.{◌≡◌, ◌≢◌, ◌⊎◌, ℕ, zero, suc, ◌+◌, ◌<◌, ◌≤◌, ◌==◌, Bool, true, false, List, [], ◌∷◌, length, slice_set, Option, None, Some, refl, sym, ap, ◌∙◌, inl, inr, arith, length-set, get_or-set_same, get_or-set_other}
-use Rattle.std.proofs.lemmas.Bool.{cases_eq, cases_lt, eqb-true, eq-eqb}
-use Rattle.std.proofs.lemmas.List.{get_or_past}
+use Rattle.std.proofs.Common.{◌≡◌, ◌≢◌, ℕ, zero, suc, ◌≤◌, ◌==◌, Bool, true, false, List, [], ◌∷◌, length, slice_set, Option, None, Some, refl, sym, ap, ◌∙◌, inl, inr, arith, length-set, get_or-set_other}
+use Rattle.std.proofs.lemmas.Bool.{cases_eq, eqb-true, eq-eqb}
 use Rattle.std.specs.Prelude.{if◌then◌else◌}
-use Rattle.std.specs.FinMap.{get}
 use Rattle.nt_alarms.specs.Alarms.{alarm_at}
 use Rattle.nt_calls.specs.declared.call.Grant.{Grant}
 use Rattle.nt_calls.specs.State.{State, pends}

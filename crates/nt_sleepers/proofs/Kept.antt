@@ -1,19 +1,22 @@
 -- Why some sleeper sleeps short enough.
-use Rattle.std.proofs.Common.{◌≡◌, ◌≢◌, ◌⊎◌, ℕ, zero, suc, ◌<◌, ◌≤◌, Bool, true, false, List, [], ◌∷◌, length, replicate, slice_set, Option, None, Some, refl, sym, ap, ◌∙◌, subst, inl, inr, arith, length-set, get_or-set_same, get_or-set_other}
-use Rattle.std.specs.Prelude.{Result, Ok, Err, OnErr}
-use Rattle.std.specs.FinMap.{get}
+use Rattle.std.proofs.Common.{◌≡◌, ℕ, zero, suc, ◌<◌, ◌≤◌, Bool, true, false, List, [], ◌∷◌, length, replicate, slice_set, Option, None, Some, refl, sym, ap, ◌∙◌, subst, inl, inr, arith, length-set, get_or-set_same, get_or-set_other}
+use Rattle.std.specs.Prelude.{Result, Ok, Err, OnErr, is_some}
+use Rattle.std.specs.FinMap as map
+use Rattle.nt_core.specs.Dispatcher.{Dispatcher, state}
 use Rattle.std.proofs.lemmas.List.{length-replicate}
 use Rattle.nt_status.specs.declared.limits.TheConstants.{MAX_MOMENT, MAX_THREADS}
 use Rattle.nt_status.specs.declared.refusal.Refusal.{Refusal}
 use Rattle.nt_alarms.specs.Alarms.{alarm_at, IsQuiet, IsEarliest, IsLowestAt}
 use Rattle.nt_calls.specs.declared.call.Grant.{Grant}
 use Rattle.nt_calls.specs.declared.call.Reply.{Reply}
-use Rattle.nt_calls.specs.State.{State, pends}
+use Rattle.std.specs.Ordering.{nat_cmp}
+use Rattle.nt_waits.specs.declared.wait.Wait.{Wait}
+use Rattle.nt_calls.specs.State.{State, Pending, pends}
 use Rattle.nt_calls.specs.declared.call.Call.{Call}
-use Rattle.nt_calls.specs.Steps.{IsAwaited, IsNextMoment, NothingDue, Called, Ticked}
+use Rattle.nt_calls.specs.Steps.{IsNextMoment, NothingDue, Called, Ticked}
 use Rattle.nt_calls.specs.Moves.{Moves, pended}
-use Rattle.nt_sleepers.specs.Sleepers.{Sleeping, Woke, Watches, TimeIsKept, IsInTime, IsShortEnough, IsCalled, SleepsUpTo, NoneUpTo, OnlyWaiting, without_woken, set_if, with_called}
-use Rattle.nt_sleepers.proofs.Counts.{none_woken, other_stands, woken_length, set_if_length, called_length, begun_waits, woken_waiting, set_waiting, set_if_waiting}
+use Rattle.nt_sleepers.specs.Sleepers.{Sleeping, Woke, Watches, TimeIsKept, CalledWaits, IsInTime, IsShortEnough, IsCalled, SleepsUpTo, NoneUpTo, OnlyWaiting, without_woken, set_if, with_called, settled, deadline_of}
+use Rattle.nt_sleepers.proofs.Counts.{other_stands, woken_length, set_if_length, called_length, begun_waits, woken_waiting, set_waiting, set_if_waiting}
 
 inside : (alarms : List (Option ℕ)) (place m : ℕ) → alarm_at alarms place ≡ Some m → place < length alarms
 inside [] zero m is = absurd (cc)
@@ -134,6 +137,51 @@ kept_stop s alarms watchers alarms' watchers' t called kept alarms-are watchers-
       watching = watching;
       in_time = in_time;
     }
+
+-- ---- nothing pended
+
+none_of : (o : Option ℕ) → ((m : ℕ) → o ≡ Some m → ⊥) → o ≡ None
+none_of None never = refl
+none_of (Some m) never = absurd (never m refl)
+
+no_grants : (gs : List Grant) → length gs ≤ 0 → gs ≡ []
+no_grants [] few = refl
+no_grants (g ∷ gs) few = absurd (omega (arith, few))
+
+-- no wait pends, so that of this thread does not
+none_pends : (s : State) (t : ℕ) → map.len s.waits ≡ 0 → pends s t ≡ false
+none_pends s t none = ap (λ (p : Pending). is_some (map.get p t)) (map.empty_of_len s.waits none) ∙ ap (λ (o : Option Wait). is_some o) (map.get-empty nat_cmp t)
+
+-- no wait pends, so nobody watches
+idle_quiet : (s : State) (watchers : List (Option ℕ)) → map.len s.waits ≡ 0 → OnlyWaiting s watchers → IsQuiet watchers
+idle_quiet s watchers none waiting t =
+    none_of (alarm_at watchers t) (λ m is.
+    let waits = waiting t m is in
+    let not = none_pends s t none in
+    absurd (cc (waits, not)))
+
+-- no wait pends, so nobody is called
+idle_called : (s : State) (called : Option ℕ) → map.len s.waits ≡ 0 → CalledWaits s called → called ≡ None
+idle_called s None none waits = refl
+idle_called s (Some t) none waits =
+    let not = none_pends s t none in
+    absurd (cc (waits, not))
+
+pub idle : (s : State) (gs : List Grant) (watchers : List (Option ℕ)) (called : Option ℕ) → map.len s.waits ≡ 0 → length gs ≤ map.len s.waits → OnlyWaiting s watchers → CalledWaits s called → (gs ≡ []) × IsQuiet watchers × (called ≡ None)
+idle s gs watchers called none few waiting waits = (no_grants gs (omega (arith, none, few)), idle_quiet s watchers none waiting, idle_called s called none waits)
+
+-- who is called watches, and so waits
+pub called_waits : (s : State) (settled watchers : List (Option ℕ)) (called : Option ℕ) → OnlyWaiting s watchers → IsCalled s settled watchers called → CalledWaits s called
+called_waits s settled watchers None watching is = tt
+called_waits s settled watchers (Some t) watching is = watching t is.0 is.2
+
+-- no wait ended, and none began
+pub idle_alarms : (alarms : List (Option ℕ)) (who : ℕ) (began : Bool) (d : Dispatcher) → began ≡ false → d.grants ≡ [] → alarms ≡ settled alarms who began d
+idle_alarms alarms who began d not none =
+    sym (ap (λ (b : Bool). set_if b who (deadline_of (map.get (state d).waits who)) (without_woken d.grants alarms)) not ∙ ap (λ gs. without_woken gs alarms) none)
+
+pub idle_watchers : (watchers : List (Option ℕ)) (gs : List Grant) → gs ≡ [] → watchers ≡ without_woken gs watchers
+idle_watchers watchers gs none = sym (ap (λ xs. without_woken xs watchers) none)
 
 -- ---- a refused call calls nobody
 

@@ -1,5 +1,5 @@
 -- Who sleeps to which moment.
-use Rattle.std.specs.Prelude.{◌≡◌, ◌⊎◌, ℕ, ◌≤◌, ◌<◌, Bool, true, false, ◌&&◌, List, [], ◌∷◌, ◌++◌, map, length, slice_set, Option, Some, None}
+use Rattle.std.specs.Prelude.{◌≡◌, ◌⊎◌, ℕ, ◌≤◌, ◌<◌, Bool, true, false, List, [], ◌∷◌, ◌++◌, map, length, slice_set, Option, Some, None}
 use Rattle.std.specs.FinMap.{get}
 use Rattle.nt_status.specs.declared.limits.TheConstants.{MAX_MOMENT, MAX_THREADS}
 use Rattle.nt_alarms.specs.Alarms.{alarm_at, IsQuiet}
@@ -42,6 +42,11 @@ pub record TimeIsKept (s : State) (alarms watchers : List (Option ℕ)) : Type 0
   pub asleep : OnlyWaiting s alarms
   pub watching : OnlyWaiting s watchers
   pub in_time : IsInTime s alarms watchers
+
+-- who is called waits
+abbrev pub CalledWaits : State → Option ℕ → Type 0
+CalledWaits s None = Unit {0}
+CalledWaits s (Some t) = pends s t ≡ true
 
 -- ---- a call or tick
 

@@ -1,7 +1,8 @@
 //! How the time is kept: whose alarms are cleared, who is called, and to which moment a thread sleeps.
-ghost use Rattle.std.specs.Prelude.{◌≡◌, ◌≤◌, Bool, Some, None, MatchBool, length, slice_set};
+ghost use Rattle.std.specs.Prelude.{◌≡◌, ◌≤◌, Bool, true, [], Some, None, MatchBool, length, slice_set};
 ghost use Rattle.std.specs.FinMap as map;
 ghost use Rattle.nt_status.specs.declared.limits.TheConstants.{MAX_THREADS};
+ghost use Rattle.nt_alarms.specs.Alarms.{IsQuiet};
 ghost use Rattle.nt_calls.specs.State.{pends};
 ghost use Rattle.nt_core.specs.Dispatcher.{state};
 ghost use Rattle.nt_sleepers.specs.Sleepers.{IsCalled, IsInTime, IsShortEnough, NoneUpTo, SleepsTo, SleepsUpTo, TimeIsKept, deadline_of, set_if, settled, with_called, without_woken};
@@ -89,7 +90,7 @@ fn call_one(core: &Core, alarms: &mut Alarms, watchers: &Alarms) -> Option<u32>
 }
 
 /// What becomes of alarms and watchers after a call of this thread, whose wait began or did not, or after a tick. Returns who is called.
-pub(crate) fn settle(
+fn settle_all(
     core: &Core,
     alarms: &mut Alarms,
     watchers: &mut Alarms,
@@ -107,6 +108,33 @@ pub(crate) fn settle(
     clear_all(watchers, core.grants());
     begin(core, alarms, who, began);
     call_one(core, alarms, watchers)
+}
+
+/// The same for who is called. If no wait pended before and none began, one look tells that nothing becomes of them.
+#[inline(always)]
+pub(crate) fn settle(
+    core: &Core,
+    alarms: &mut Alarms,
+    watchers: &mut Alarms,
+    called: &mut Option<u32>,
+    who: u32,
+    began: bool,
+    was_idle: bool,
+)
+    requires count { length watchers.old ≡ length alarms.old }
+    requires few { length alarms.old ≤ MAX_THREADS }
+    requires idle { was_idle ≡ true → (core.now.grants ≡ []) × IsQuiet watchers.old × (called.old ≡ None) }
+    ensures in_time { IsInTime (state core.now) alarms.new watchers.new }
+    ensures alarms { alarms.new ≡ with_called called.new (settled alarms.old who began core.now) }
+    ensures watchers { watchers.new ≡ without_woken core.now.grants watchers.old }
+    ensures called { IsCalled (state core.now) (settled alarms.old who began core.now) watchers.new called.new }
+{
+    if was_idle {
+        if !began {
+            return;
+        }
+    }
+    *called = settle_all(core, alarms, watchers, who, began);
 }
 
 /// To which moment a watcher sleeps beside these others: to its own deadline, if that or one of them is short enough.

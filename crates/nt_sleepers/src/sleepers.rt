@@ -33,7 +33,7 @@ impl Model for Sleepers {
     ghost use Rattle.std.specs.Coded.{codes};
     ghost use Rattle.nt_waits.specs.Waits.{waits_code};
     ghost use Rattle.nt_core.specs.Dispatcher.{state};
-    ghost use Rattle.nt_sleepers.specs.Sleepers.{Sleeping, TimeIsKept};
+    ghost use Rattle.nt_sleepers.specs.Sleepers.{CalledWaits, Sleeping, TimeIsKept};
 
     ghost Value = { Sleeping };
 
@@ -41,10 +41,11 @@ impl Model for Sleepers {
 
     ghost view = { λ s. record { core = s.core; alarms = s.alarms; watchers = s.watchers; called = s.called } };
 
-    ghost invariant = { λ s. TimeIsKept (state s.core) s.alarms s.watchers };
+    ghost invariant = { λ s. TimeIsKept (state s.core) s.alarms s.watchers × CalledWaits (state s.core) s.called };
 }
 
 /// Whether the caller's wait pends from now on.
+#[inline(always)]
 fn has_pended(asked: &Result<Reply, Refusal>) -> bool
     ensures { result ≡ pended asked.now }
 {
@@ -91,9 +92,10 @@ impl Sleepers {
         ensures woke { Woke self.old who (pended result) self.new }
         ensures nobody { OnErr result (self.new.called ≡ None) }
     {
+        let was_idle = self.core.pending() == 0;
         let result = self.core.call(who, call);
         let began = has_pended(&result);
-        self.called = settle(&self.core, &mut self.alarms, &mut self.watchers, who, began);
+        settle(&self.core, &mut self.alarms, &mut self.watchers, &mut self.called, who, began, was_idle);
         result
     }
 
@@ -117,9 +119,10 @@ impl Sleepers {
         ensures woke { Woke self.old who (pended result) self.new }
         ensures nobody { OnErr result (self.new.called ≡ None) }
     {
+        let was_idle = self.core.pending() == 0;
         let result = self.core.wait_objects(who, handles, all, alertable, ms);
         let began = has_pended(&result);
-        self.called = settle(&self.core, &mut self.alarms, &mut self.watchers, who, began);
+        settle(&self.core, &mut self.alarms, &mut self.watchers, &mut self.called, who, began, was_idle);
         result
     }
 
@@ -132,8 +135,9 @@ impl Sleepers {
         ensures woke { Woke self.old 0 false self.new }
         ensures nobody { OnErr result (self.new.called ≡ None) }
     {
+        let was_idle = self.core.pending() == 0;
         let result = self.core.tick(m);
-        self.called = settle(&self.core, &mut self.alarms, &mut self.watchers, 0, false);
+        settle(&self.core, &mut self.alarms, &mut self.watchers, &mut self.called, 0, false, was_idle);
         result
     }
 

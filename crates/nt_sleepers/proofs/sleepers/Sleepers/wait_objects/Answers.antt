@@ -1,25 +1,33 @@
-use Rattle.std.proofs.Common.{Bool, sym, subst}
+use Rattle.std.proofs.Common.{◌≡◌, Bool, sym, subst, ◌∙◌, arith}
+use Rattle.std.proofs.lemmas.Bool.Decides.{nat_tests}
 use Rattle.nt_calls.specs.declared.call.Call.{Call}
 use Rattle.nt_calls.specs.declared.call.WaitCall.{WaitCall}
 use Rattle.nt_calls.specs.Moves.{Moves}
 use Rattle.nt_core.specs.Dispatcher.{state}
 use Rattle.std.specs.FinMap.{get}
-use Rattle.nt_sleepers.specs.Sleepers.{deadline_of}
-use Rattle.nt_sleepers.proofs.Kept.{kept_after, nobody_by_call, woke_as}
+use Rattle.nt_sleepers.specs.Sleepers.{deadline_of, settled}
+use Rattle.nt_sleepers.proofs.Kept.{idle, kept_after, called_waits, nobody_by_call, woke_as}
 use Rattle.nt_sleepers.proofs.sleepers.Sleepers.wait_objects.Goals as goal
 
 pub invariant_of-self : goal.invariant_of-self
 invariant_of-self c =
     let moves = subst (λ (b : Bool). Moves (state c.self.inside.core) c.args.who b c.wait_objects-result.new.self.grants (state c.wait_objects-result.new.self)) (sym c.has_pended-began.ensures) c.wait_objects-result.ensures.moves in
-    kept_after (state c.self.inside.core) (state c.wait_objects-result.new.self) c.args.who c.has_pended-began.result c.wait_objects-result.new.self.grants (deadline_of (get (state c.wait_objects-result.new.self).waits c.args.who)) c.settle-self-inside.result c.self.inside.alarms c.self.inside.watchers _ _ moves c.self.invariant
-    c.settle-self-inside.ensures.alarms c.settle-self-inside.ensures.watchers c.settle-self-inside.ensures.called c.settle-self-inside.ensures.in_time
+    let kept = kept_after (state c.self.inside.core) (state c.wait_objects-result.new.self) c.args.who c.has_pended-began.result c.wait_objects-result.new.self.grants (deadline_of (get (state c.wait_objects-result.new.self).waits c.args.who)) c.settle.new.called c.self.inside.alarms c.self.inside.watchers c.settle.new.alarms c.settle.new.watchers moves c.self.invariant.0
+    c.settle.ensures.alarms c.settle.ensures.watchers c.settle.ensures.called c.settle.ensures.in_time in
+    (kept, called_waits (state c.wait_objects-result.new.self) (settled c.self.inside.alarms c.args.who c.has_pended-began.result c.wait_objects-result.new.self) c.settle.new.watchers c.settle.new.called kept.watching c.settle.ensures.called)
 
 pub returns-clause-woke : goal.returns-clause-woke
 returns-clause-woke c =
     woke_as _ _ _ _ _ _ c.self.view_is c.has_pended-began.ensures
-    (record { alarms = c.settle-self-inside.ensures.alarms; watchers = c.settle-self-inside.ensures.watchers; called = c.settle-self-inside.ensures.called })
+    (record { alarms = c.settle.ensures.alarms; watchers = c.settle.ensures.watchers; called = c.settle.ensures.called })
 
 pub returns-clause-nobody : goal.returns-clause-nobody
 returns-clause-nobody c =
-    nobody_by_call (state c.self.inside.core) (state c.wait_objects-result.new.self) c.args.who (Call.Wait (WaitCall.Objects c.args.all c.args.alertable c.args.ms c.args.handles.now)) c.wait_objects-result.result c.has_pended-began.result c.wait_objects-result.new.self.grants (deadline_of (get (state c.wait_objects-result.new.self).waits c.args.who)) c.settle-self-inside.result c.self.inside.alarms c.self.inside.watchers _
-    c.wait_objects-result.ensures.called c.has_pended-began.ensures c.self.invariant c.settle-self-inside.ensures.watchers c.settle-self-inside.ensures.called
+    nobody_by_call (state c.self.inside.core) (state c.wait_objects-result.new.self) c.args.who (Call.Wait (WaitCall.Objects c.args.all c.args.alertable c.args.ms c.args.handles.now)) c.wait_objects-result.result c.has_pended-began.result c.wait_objects-result.new.self.grants (deadline_of (get (state c.wait_objects-result.new.self).waits c.args.who)) c.settle.new.called c.self.inside.alarms c.self.inside.watchers _
+    c.wait_objects-result.ensures.called c.has_pended-began.ensures c.self.invariant.0 c.settle.ensures.watchers c.settle.ensures.called
+
+pub settle-requires-clause-idle : goal.settle-requires-clause-idle
+settle-requires-clause-idle c idle_now =
+    let zero : c.pending-was_idle.result ≡ 0 = grind (arith, nat_tests, idle_now) in
+    idle (state c.self.inside.core) c.wait_objects-result.new.self.grants c.self.inside.watchers c.self.inside.called (sym c.pending-was_idle.ensures ∙ zero) c.wait_objects-result.ensures.most
+    c.self.invariant.0.watching c.self.invariant.1

@@ -1,0 +1,111 @@
+//! Those who sleep, as C sees them.
+ghost use Rattle.std.specs.Prelude.{◌≡◌};
+ghost use Rattle.nt_c.specs.Asks.{IsFit, Keeps};
+ghost use Rattle.nt_c.specs.Sleeps.{FallsAsleep, ReadsTold, Sleeps, Wakes, told_in_numbers};
+
+use crate::handle::Nt;
+use crate::numbers::{NO_DISPATCHER, NO_MORE, UNKNOWN_THREAD};
+use nt_sleepers::{Sleepers, Told};
+
+/// What a thread is told while it sleeps: that its wait ended with this status, or, where it is called, that it is to look at the time.
+#[repr(C)]
+#[derive(Clone, Copy, PartialEq, Eq, Debug)]
+pub struct NtTold {
+    pub thread: u32,
+    pub status: u32,
+    pub called: bool,
+}
+
+/// What is told, in numbers.
+fn in_numbers(told: Told) -> NtTold
+    ensures { result ≡ told_in_numbers told }
+{
+    match told {
+        Told::Granted(grant) => NtTold {
+            thread: u32::from(grant.thread.get()),
+            status: grant.status.code(),
+            called: false,
+        },
+        Told::Called(thread) => NtTold {
+            thread,
+            status: 0,
+            called: true,
+        },
+    }
+}
+
+/// To which moment the thread sleeps, which watches or does not.
+fn sleep(sleepers: &mut Sleepers, who: u32, watches: bool) -> Option<u64>
+    ensures { Sleeps watches who result sleepers.old sleepers.new }
+{
+    if watches {
+        sleepers.watch(who)
+    } else {
+        sleepers.moment(who)
+    }
+}
+
+/// The wait of this thread pends, and it sleeps: it is told the moment to which it sleeps by itself, in units of 100 ns. Where a timer may
+/// end its wait, it `watches`, and sleeps no longer than to the next moment at which anything is due, if nobody else does.
+///
+/// Refused with 6 where the handle has no dispatcher, and with 536870915 where no thread has this number; 259 is answered where the thread
+/// sleeps until it is told.
+#[unsafe(no_mangle)]
+pub extern "C" fn nt_pend(nt: &mut Nt, who: u32, watches: bool, out: &mut u64) -> u32
+    requires fit { IsFit nt.old }
+    ensures fit { IsFit nt.new }
+    ensures falls_asleep { FallsAsleep watches who nt.old result out.old out.new nt.new }
+{
+    if !nt.live {
+        return NO_DISPATCHER;
+    }
+    let sleepers = nt.cell.held_mut();
+    if sleepers.core().threads() <= who {
+        return UNKNOWN_THREAD;
+    }
+    let Some(moment) = sleep(sleepers, who, watches) else {
+        return NO_MORE;
+    };
+    *out = moment;
+    0
+}
+
+/// This thread sleeps and watches no more, though its wait may pend. If a watcher has to look at the time in its place, `nt_told` tells.
+///
+/// Refused as `nt_pend` is.
+#[unsafe(no_mangle)]
+pub extern "C" fn nt_woke(nt: &mut Nt, who: u32) -> u32
+    requires fit { IsFit nt.old }
+    ensures fit { IsFit nt.new }
+    ensures wakes { Wakes who nt.old result nt.new }
+{
+    if !nt.live {
+        return NO_DISPATCHER;
+    }
+    let sleepers = nt.cell.held_mut();
+    if sleepers.core().threads() <= who {
+        return UNKNOWN_THREAD;
+    }
+    sleepers.stop(who);
+    0
+}
+
+/// What the last call or tick told at this index: each wait that it ended, in their order, and then who is called.
+///
+/// Refused with 6 where the handle has no dispatcher, and with 259 past the last.
+#[unsafe(no_mangle)]
+pub extern "C" fn nt_told(nt: &mut Nt, index: usize, out: &mut NtTold) -> u32
+    requires fit { IsFit nt.old }
+    ensures fit { IsFit nt.new }
+    ensures same { Keeps nt.old nt.new }
+    ensures reads { ReadsTold index nt.old result out.old out.new }
+{
+    if !nt.live {
+        return NO_DISPATCHER;
+    }
+    let Some(told) = nt.cell.held_mut().told(index) else {
+        return NO_MORE;
+    };
+    *out = in_numbers(told);
+    0
+}
