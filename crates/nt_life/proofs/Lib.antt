@@ -5,3 +5,4 @@ mod Limits
 mod Calls
 mod Taken
 mod Choosing
+mod Pacing

@@ -1,5 +1,6 @@
 -- A dispatcher that lasts: the numbers of closed handles and of objects that are gone are given again, the last that was freed first.
 use Rattle.std.specs.Prelude.{◌≡◌, ◌≤◌, ◌<◌, ◌+◌, ◌-◌, ◌⊎◌, ℕ, Bool, true, false, not, ◌&&◌, ◌==◌, nat_le, nat_lt, List, [], ◌∷◌, length, slice_index_or, if◌then◌else◌, MatchBool}
+use Rattle.std.specs.FinMap as map
 use Rattle.std.specs.declared.option.Option.{Option}
 use Rattle.std.specs.declared.option.Option.TheVariants.{None, Some}
 use Rattle.std.specs.declared.result.Result.{Result}
@@ -11,6 +12,7 @@ use Rattle.nt_calls.specs.declared.call.Call.{Call}
 use Rattle.nt_calls.specs.declared.call.Reply.{Reply}
 use Rattle.nt_calls.specs.declared.call.Grant.{Grant}
 use Rattle.nt_calls.specs.State.{State}
+use Rattle.nt_calls.specs.Moves.{Moves, pended, is_wait}
 use Rattle.nt_calls.specs.Living.{is_opened}
 use Rattle.nt_calls.specs.Steps.{Called}
 use Rattle.nt_core.specs.Dispatcher.{Dispatcher}
@@ -137,3 +139,13 @@ abbrev pub BeginsSpare : State → Spares → Option Begun → List Grant → St
 BeginsSpare old spare (Some begun) grants new =
     (0 < length spare.closed) × (begun.handle ≡ last_closed spare) × BeginsAgain old begun.thread begun.handle (Ok (Reply.Handle begun.handle)) grants new
 BeginsSpare old spare None grants new = ((length spare.closed ≡ 0) ⊎ ((t : ℕ) → is_left old t ≡ false)) × (new ≡ old)
+
+-- ---- what every call keeps
+
+-- no more waits end than pended, one begins at most and only in a wait, each pending wait pends on or is granted, and no time passes
+pub record KeepsPace (old : State) (who : ℕ) (call : Call) (result : Result Reply Refusal) (grants : List Grant) (new : State) : Type 0 where
+  pub most : length grants ≤ map.len old.waits
+  pub few : length grants + map.len new.waits ≤ map.len old.waits + 1
+  pub moves : Moves old who (pended result) grants new
+  pub waits : pended result ≡ true → is_wait call ≡ true
+  pub moment : new.now ≡ old.now

@@ -11,7 +11,7 @@ use crate::spare::Spare;
 use nt_core::Core;
 use nt_status::Handle;
 
-/// A thread begins in the first place that is free, with this handle. It answers its number; none where no place is free.
+/// A thread begins in the first place that is free, with this handle. It answers its number; none if no place is free.
 fn begin_first(core: &mut Core, handle: Handle) -> Option<u32>
     requires lawful { IsLawful core.old }
     requires closed { is_closed (state core.old) handle ≡ true }

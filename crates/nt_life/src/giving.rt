@@ -8,7 +8,7 @@ ghost use Rattle.nt_calls.specs.Steps.{Called};
 ghost use Rattle.nt_core.specs.Dispatcher.{state};
 ghost use Rattle.nt_core.specs.Lawful.{IsLawful};
 ghost use Rattle.nt_core.specs.Renewals.{CreatesAgain};
-ghost use Rattle.nt_life.specs.Lasting.{IsSpare, NoHandle, NoObject, CreatesSpare, CreatesMore, CreatesElse, LastsCreation, LastsDuplicate, LastsAct, FindsNone, is_creation, is_unnamed, last_closed};
+ghost use Rattle.nt_life.specs.Lasting.{IsSpare, NoHandle, NoObject, CreatesSpare, CreatesMore, CreatesElse, LastsCreation, LastsDuplicate, LastsAct, FindsNone, KeepsPace, is_creation, is_unnamed, last_closed};
 
 use crate::spare::Spare;
 use nt_core::{Act, Call, Core, Reply};
@@ -91,6 +91,7 @@ fn create_new(
     requires creates { is_creation act.now ≡ true }
     ensures created { CreatesElse (state core.old) spare.old who act.now result core.new.grants (state core.new) }
     ensures limit { result ≡ Err HandleLimit → NoHandle (state core.old) ⊎ NoObject (state core.old) }
+    ensures pace { KeepsPace (state core.old) who (Call.Act act.now) result core.new.grants (state core.new) }
     ensures lawful { IsLawful core.new }
     ensures spare { IsSpare (state core.new) spare.new }
 {
@@ -118,6 +119,7 @@ fn create(
     requires creates { is_creation act.now ≡ true }
     ensures created { LastsCreation (state core.old) spare.old who act.now result core.new.grants (state core.new) }
     ensures limit { result ≡ Err HandleLimit → NoHandle (state core.old) ⊎ NoObject (state core.old) }
+    ensures pace { KeepsPace (state core.old) who (Call.Act act.now) result core.new.grants (state core.new) }
     ensures lawful { IsLawful core.new }
     ensures spare { IsSpare (state core.new) spare.new }
 {
@@ -145,6 +147,8 @@ fn duplicate(
     ensures duplicated { LastsDuplicate (state core.old) spare.old who source access
         result core.new.grants (state core.new) }
     ensures limit { result ≡ Err HandleLimit → NoHandle (state core.old) }
+    ensures pace { KeepsPace (state core.old) who (Call.Act (Act.Duplicate source access))
+        result core.new.grants (state core.new) }
     ensures lawful { IsLawful core.new }
     ensures spare { IsSpare (state core.new) spare.new }
 {
@@ -176,6 +180,8 @@ fn close(
     requires spare { IsSpare (state core.old) spare.old }
     requires act { call.now ≡ Call.Act (Act.Close handle) }
     ensures called { Called (state core.old) who call.now result core.new.grants (state core.new) }
+    ensures pace { KeepsPace (state core.old) who (Call.Act (Act.Close handle))
+        result core.new.grants (state core.new) }
     ensures lawful { IsLawful core.new }
     ensures spare { IsSpare (state core.new) spare.new }
 {
@@ -214,6 +220,7 @@ pub(crate) fn make_act(
     requires act { call.now ≡ Call.Act act.now }
     ensures lasts { LastsAct (state core.old) spare.old who act.now result core.new.grants (state core.new) }
     ensures limit { result ≡ Err HandleLimit → FindsNone (state core.old) (Call.Act act.now) }
+    ensures pace { KeepsPace (state core.old) who (Call.Act act.now) result core.new.grants (state core.new) }
     ensures lawful { IsLawful core.new }
     ensures spare { IsSpare (state core.new) spare.new }
 {

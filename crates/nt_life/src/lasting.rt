@@ -1,14 +1,18 @@
 //! The dispatcher that lasts.
-ghost use Rattle.std.specs.Prelude.{◌≡◌, ◌≤◌, ◌&&◌, true, [], nat_le, IfOk, IfErr, OnOk, MatchBool, Err};
+ghost use Rattle.std.specs.Prelude.{◌≡◌, ◌≤◌, ◌+◌, ◌&&◌, ℕ, true, false, length, [], nat_le, IfOk, IfErr, OnOk, OnErr, MatchBool, Err};
 ghost use Rattle.nt_status.specs.declared.limits.TheConstants.{MAX_THREADS};
 ghost use Rattle.nt_status.specs.declared.refusal.Refusal.TheVariants.{HandleLimit, InvalidParameter, Memory};
 ghost use Rattle.nt_calls.specs.State.{opening};
 ghost use Rattle.nt_calls.specs.Steps.{Called, Ticked};
+ghost use Rattle.nt_calls.specs.Naming.{call_named};
+ghost use Rattle.nt_calls.specs.Moves.{Moves, IsMomentAfter, pended};
+ghost use Rattle.nt_core.specs.Accepts.{IsLocal, IsTickLocal};
+ghost use Rattle.std.specs.FinMap as map;
 ghost use Rattle.nt_calls.specs.declared.call.Call.{Call};
 ghost use Rattle.nt_calls.specs.declared.call.WaitCall.{WaitCall};
 ghost use Rattle.nt_core.specs.Dispatcher.{state};
 ghost use Rattle.nt_core.specs.Lawful.{IsLawful};
-ghost use Rattle.nt_life.specs.Lasting.{IsSpare, LastsCall, FindsNone, BeginsSpare};
+ghost use Rattle.nt_life.specs.Lasting.{IsSpare, LastsCall, FindsNone, BeginsSpare, KeepsPace};
 
 use crate::beginning::begin;
 use crate::begun::Begun;
@@ -45,7 +49,7 @@ impl Model for Lasting {
 impl Lasting {
     /// A dispatcher whose threads run and wait for nothing, and no number is spare.
     ///
-    /// Refused with 87 unless there are 1 to `MAX_THREADS` threads, and with 8 where memory is refused.
+    /// Refused with 87 unless there are 1 to `MAX_THREADS` threads, and with 8 if memory is refused.
     pub fn new(alloc: Global, threads: u32) -> Result<Lasting, Refusal>
         ensures ok { IfOk result (λ life. (1 ≤ threads) × (threads ≤ MAX_THREADS)
             × (state life.core ≡ opening threads) × (life.core.grants ≡ [])) }
@@ -58,7 +62,7 @@ impl Lasting {
         Ok(Lasting { core, spare })
     }
 
-    /// The dispatcher, for those who read.
+    /// The dispatcher, to be read: its grants, its present moment, whether a thread waits, and so on.
     pub fn core(&self) -> &Core
         ensures { result.now ≡ self.now.core }
     {
@@ -82,6 +86,7 @@ impl Lasting {
             result self.new.core.grants (state self.new.core) }
         ensures limit { result ≡ Err HandleLimit → FindsNone (state self.old.core) call.now }
         ensures taken { FindsNone (state self.old.core) call.now → OnOk result ⊥ }
+        ensures pace { KeepsPace (state self.old.core) who call.now result self.new.core.grants (state self.new.core) }
     {
         match call {
             Call::Act(act) => make_act(&mut self.core, &mut self.spare, who, act, call),
@@ -100,6 +105,15 @@ impl Lasting {
     ) -> Result<Reply, Refusal>
         ensures called { Called (state self.old.core) who (Call.Wait (WaitCall.Objects all alertable ms handles.now))
             result self.new.core.grants (state self.new.core) }
+        ensures local { OnOk result (IsLocal (state self.old.core) who
+            (call_named self.old.core.handles (Call.Wait (WaitCall.Objects all alertable ms handles.now)))
+            self.new.core.table.looked self.new.core.grants) }
+        ensures moves { Moves (state self.old.core) who (pended result) self.new.core.grants (state self.new.core) }
+        ensures most { length self.new.core.grants ≤ map.len (state self.old.core).waits }
+        ensures few { length self.new.core.grants + map.len (state self.new.core).waits
+            ≤ map.len (state self.old.core).waits + 1 }
+        ensures moment { (state self.new.core).now ≡ (state self.old.core).now }
+        ensures untested { OnErr result (self.new.core.table.looked ≡ 0) }
         ensures spare { self.new.spare ≡ self.old.spare }
     {
         self.core.wait_objects(who, handles, all, alertable, ms)
@@ -108,6 +122,13 @@ impl Lasting {
     /// Lets all moments up to `m`, counted in 100 ns, pass, as `Core::tick` does.
     pub fn tick(&mut self, m: Moment) -> Result<Reply, Refusal>
         ensures ticked { Ticked (state self.old.core) m result self.new.core.grants (state self.new.core) }
+        ensures local { OnOk result (IsTickLocal (state self.old.core) m
+            self.new.core.table.looked self.new.core.grants) }
+        ensures few { length self.new.core.grants + map.len (state self.new.core).waits
+            ≡ map.len (state self.old.core).waits }
+        ensures moves { (by : ℕ) → Moves (state self.old.core) by false self.new.core.grants (state self.new.core) }
+        ensures moment { IsMomentAfter (state self.old.core).now m result (state self.new.core).now }
+        ensures untested { OnErr result (self.new.core.table.looked ≡ 0) }
         ensures spare { self.new.spare ≡ self.old.spare }
     {
         self.core.tick(m)
@@ -116,7 +137,7 @@ impl Lasting {
     /// A thread begins in the place of one that has ended and whose object is gone, with the number of the handle that was closed last.
     /// It takes no memory.
     ///
-    /// None if there is no such place, or no handle was closed; then an event that is made and closed at once is enough.
+    /// None if there is no such place, or no handle is closed. An event that is made and closed at once leaves a closed handle.
     pub fn begin(&mut self) -> Option<Begun>
         ensures begun { BeginsSpare (state self.old.core) self.old.spare result self.new.core.grants (state self.new.core) }
     {
@@ -125,7 +146,7 @@ impl Lasting {
 
     /// An equal dispatcher in memory of its own, as a point to come back to. Each goes its own way from then on.
     ///
-    /// Refused with 8 where memory is refused.
+    /// Refused with 8 if memory is refused.
     pub fn copy(&self) -> Result<Lasting, Refusal>
         ensures value { IfOk result (λ copied. copied ≡ self.now) }
         ensures memory { IfErr result (λ refusal. refusal ≡ Memory) }

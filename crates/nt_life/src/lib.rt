@@ -1,29 +1,30 @@
 //! A dispatcher for a program that has no end.
 //!
-//! A dispatcher hands out 65,536 handle numbers and no more, and says so (HandleLimit) when they are used up. A program that makes an event
-//! for each request comes there within a minute, though it closes each of them. A `Lasting` gives numbers again: a creation takes the
-//! number of an object that is gone, and a handle that of one that was closed, the last first, as NT does.
+//! A dispatcher hands out 65,536 handle numbers, and then refuses each creation with HandleLimit. A program that makes an event for each
+//! request comes there within a minute, though it closes each of them. A `Lasting` gives numbers again: an object gets that of one that is
+//! gone, a handle that of one that was closed, and a thread the place of one that has ended. As in NT, the number that was freed last comes
+//! first.
 //!
 //! ```text
-//!    CreateEvent ---> a closed handle's number, and a gone object's?  --yes--> Core::create_again     nothing grows
-//!                          | no
+//!    CreateEvent ---> the numbers that were freed last, if both can be given    Core::create_again     nothing grows
+//!                          | else
 //!                          v
-//!                     Core::call          the next new numbers, as in a machine that gives none again
+//!                     the next new numbers                                      Core::call
 //!                          | HandleLimit
 //!                          v
-//!                     every spare object is looked at; else one number more is added (Core::add_vacant)
-//!                          |
+//!                     any other object number that can be given, or             Core::create_again
+//!                     one that is added                                         Core::add_vacant
+//!                          | HandleLimit
 //!                          v
-//!                     HandleLimit: 65,536 handles are open, or all 65,536 object numbers are taken
+//!                     65,536 handles are open, or none of 65,536 object numbers can be given
 //! ```
 //!
-//! Two lists hold the **spare** numbers: those of closed handles, and those of objects that no handle names. The type's invariant is that each of
-//! these numbers stands there once, and no other does: so none is lost, and none is given twice. An object that no handle names may live
-//! on, while a wait names it; its number is asked about before it is given. Numbers that are alive never change, and so whoever
-//! holds one has to follow nothing.
+//! Two lists hold the **spare** numbers: those of closed handles, and those of objects that no handle names. Each of these stands there once,
+//! and no other number does, by the invariant of the type. So none is lost, and none is given twice. An object that no handle names may
+//! live on while a wait names it, and so it is asked about before its number is given. What is alive keeps its number.
 //!
-//! The lists have room for all numbers from the opening on, so that a close never takes memory: 512 KiB of address space, of which only what was
-//! used once is touched.
+//! The lists have room for all numbers from the opening on, so that closing never takes memory: 512 KiB of addresses, of which what is used
+//! once is touched.
 #![tactic(auto)]
 
 mod beginning;

@@ -17,7 +17,7 @@ use std::marker::Model;
 pub(crate) struct Spare {
     closed: Stack,
     unnamed: Stack,
-    /// Which of the unnamed ones is looked at where the last one is not free.
+    /// Which of the unnamed ones is looked at if the last one is not free.
     turn: usize,
 }
 

@@ -4,6 +4,7 @@ use Rattle.nt_core.specs.Renewals.{CreatesAgain}
 use Rattle.nt_life.specs.Lasting.{Spares, CreatesElse}
 use Rattle.nt_life.proofs.Limits.{again_limit}
 use Rattle.nt_life.proofs.Choosing.{creates_else, creates_at, unready_object}
+use Rattle.nt_life.proofs.Pacing.{created_pace}
 use Rattle.nt_life.proofs.giving.create.Goals as goal
 
 pub returns-in_default-vacant-clause-created : goal.returns-in_default-vacant-clause-created
@@ -23,3 +24,7 @@ returns-clause-created c =
 pub returns-clause-limit : goal.returns-clause-limit
 returns-clause-limit c limit =
     absurd (again_limit (state c.args.core.now) c.args.who c.args.act.now (get_or c.vacant.new.self.unnamed c.in-Some-vacant.place 0) c.in-Some.handle c.create_at.result c.create_at.new.core.grants (state c.create_at.new.core) c.create_at.ensures.created limit)
+
+pub returns-clause-pace : goal.returns-clause-pace
+returns-clause-pace c =
+    created_pace (state c.args.core.now) c.args.who c.args.act.now (get_or c.vacant.new.self.unnamed c.in-Some-vacant.place 0) c.in-Some.handle c.create_at.result c.create_at.new.core.grants (state c.create_at.new.core) c.create_at.ensures.created

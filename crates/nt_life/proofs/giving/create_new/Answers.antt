@@ -6,6 +6,8 @@ use Rattle.nt_laws.specs.Laws.{call_closes}
 use Rattle.nt_life.specs.Lasting.{CreatesSpare, CreatesMore, NoHandle, NoObject}
 use Rattle.nt_life.proofs.Calls.{call_spare, creation_closes, none_closed}
 use Rattle.nt_life.proofs.Limits.{refused_full, refused_same}
+use Rattle.nt_life.specs.Lasting.{KeepsPace}
+use Rattle.nt_life.proofs.Pacing.{more_pace}
 use Rattle.nt_life.proofs.giving.create_new.Goals as goal
 
 pub returns-then-not-is_limit-clause-spare : goal.returns-then-not-is_limit-clause-spare
@@ -30,3 +32,9 @@ returns-in-None-clause-limit c limit =
       (refused_full (state c.args.core.now) c.args.who c.args.call.now c.call-answer.result c.call-answer.new.self.grants (state c.call-answer.new.self) c.call-answer.ensures.called limit).handles,
       none_closed (state c.args.core.now) c.args.spare.now c.requires.spare c.in-None.ensures.none,
     )
+
+pub returns-in-Some-clause-pace : goal.returns-in-Some-clause-pace
+returns-in-Some-clause-pace c =
+    let same = refused_same (state c.args.core.now) c.args.who c.args.call.now c.call-answer.result c.call-answer.new.self.grants (state c.call-answer.new.self) c.call-answer.ensures.called (c.is_limit.ensures.0 c.if-not-is_limit.false) in
+    subst (λ (s : State). KeepsPace s c.args.who (Call.Act c.args.act.now) c.create_more.result c.create_more.new.core.grants (state c.create_more.new.core)) same
+    (more_pace (state c.call-answer.new.self) c.args.spare.now c.args.who c.args.act.now c.create_more.result c.create_more.new.core.grants (state c.create_more.new.core) c.create_more.ensures.created)

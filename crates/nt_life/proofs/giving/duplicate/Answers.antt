@@ -1,5 +1,6 @@
 use Rattle.std.proofs.Common.{ℕ, ◌++◌, ◌∷◌, [], sym, ap, ◌∙◌, subst}
 use Rattle.nt_calls.specs.declared.call.Call.{Call}
+use Rattle.std.specs.declared.result.Result.TheVariants.{Ok}
 use Rattle.nt_calls.specs.Steps.{Called}
 use Rattle.nt_core.specs.Dispatcher.{state}
 use Rattle.nt_laws.specs.Laws.{call_closes}
@@ -8,6 +9,7 @@ use Rattle.nt_life.proofs.Calls.{call_spare, none_closed}
 use Rattle.nt_life.proofs.Limits.{refused_full}
 use Rattle.nt_life.proofs.Choosing.{duplicates_own}
 use Rattle.nt_life.proofs.Renewed.{duplicated_spare}
+use Rattle.nt_life.proofs.Pacing.{duplicated_pace}
 use Rattle.nt_life.proofs.giving.duplicate.Goals as goal
 
 pub returns-in_default-clause-duplicated : goal.returns-in_default-clause-duplicated
@@ -33,3 +35,7 @@ returns-clause-spare c =
     duplicated_spare (state c.args.core.now) (state c.duplicate_again.new.self) c.args.who c.args.source c.args.access c.in-Some.handle c.in_ok-reply.reply c.duplicate_again.new.self.grants spare c.take_handle.new.self c.requires.spare c.in_ok-reply.ensures.duplicated
     (λ n. times_last n c.in-Some.handle spare.closed c.take_handle.new.self.closed (c.take_handle.ensures.closed ∙ ap (λ (h : ℕ). c.take_handle.new.self.closed ++ h ∷ []) (sym last.1)))
     c.take_handle.ensures.unnamed
+
+pub returns-clause-pace : goal.returns-clause-pace
+returns-clause-pace c =
+    duplicated_pace (state c.args.core.now) c.args.who c.args.source c.args.access c.in-Some.handle (Ok c.in_ok-reply.reply) c.duplicate_again.new.self.grants (state c.duplicate_again.new.self) c.in_ok-reply.ensures.duplicated

@@ -1,6 +1,7 @@
-use Rattle.std.proofs.Common.{◌∙◌, sym, ap, subst}
+use Rattle.std.proofs.Common.{◌≡◌, ◌∙◌, true, sym, ap, subst}
 use Rattle.nt_calls.specs.declared.call.Call.{Call}
 use Rattle.nt_calls.specs.Steps.{Called}
+use Rattle.nt_calls.specs.Moves.{pended, is_wait}
 use Rattle.nt_core.specs.Dispatcher.{state}
 use Rattle.nt_laws.specs.Laws.{call_closes}
 use Rattle.nt_life.proofs.Calls.{call_spare, act_closes}
@@ -13,6 +14,7 @@ returns-then-is_creation c =
     let creates = sym c.is_creation.ensures ∙ c.if-is_creation.true in
     record {
       lasts = creates_lasts (state c.args.core.now) c.args.spare.now c.args.who c.args.act.now c.create.result c.create.new.core.grants (state c.create.new.core) creates c.create.ensures.created;
+      pace = c.create.ensures.pace;
       limit = λ limit. creation_finds (state c.args.core.now) c.args.act.now creates (c.create.ensures.limit limit);
       lawful = c.create.ensures.lawful;
       spare = c.create.ensures.spare;
@@ -26,6 +28,7 @@ returns-else-is_creation c =
     let called = subst (λ (call : Call). Called old c.args.who call c.call.result c.call.new.self.grants new) c.requires.act c.call.ensures.called in
     record {
       lasts = other_lasts old c.args.spare.now c.args.who c.args.act.now c.call.result c.call.new.self.grants new c.in_default.not-Duplicate other called;
+      pace = record { most = c.call.ensures.most; few = c.call.ensures.few; moves = c.call.ensures.moves; waits = subst (λ (call : Call). pended c.call.result ≡ true → is_wait call ≡ true) c.requires.act c.call.ensures.waits; moment = c.call.ensures.moment };
       limit = λ limit. absurd (other_full old c.args.act.now c.in_default.not-Duplicate other (refused_full old c.args.who (Call.Act c.args.act.now) c.call.result c.call.new.self.grants new called limit));
       lawful = c.call.ensures.lawful;
       spare =
