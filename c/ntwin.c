@@ -38,6 +38,8 @@
 
 #include "win32/slist.c"
 
+#include "win32/sleepers.c"
+
 #include "win32/critical_section.c"
 
 #include "win32/srw_lock.c"
@@ -81,3 +83,5 @@
 #include "win32/messages.c"
 
 #include "win32/modules.c"
+
+#include "win32/told.c"

@@ -26,6 +26,7 @@
 
 #include <stddef.h>
 #include <stdint.h>
+#include <stdio.h>
 #include <wchar.h>
 
 #ifdef __cplusplus
@@ -34,6 +35,10 @@ extern "C" {
 
 /* 1 where the dispatcher in this library is the proved one, and 0 where it was built without proofs. */
 int ntwin_is_proved(void);
+
+/* Writes a line for each thread that sleeps beside the dispatcher, with its id: for which critical section and who owns it, for which SRW lock,
+ * on which condition variable or address, at which barrier, for which initialization; and which threads hold each other by sections. */
+void ntwin_write_waits(FILE *to);
 
 /* ---- Types. */
 

@@ -32,7 +32,7 @@ static void wait_for_round(struct barrier *it, uint64_t round, DWORD flags)
         else if (only_looks)
             sched_yield();
         else
-            WaitOnAddress(&it->rounds, &round, sizeof round, INFINITE);
+            wait_on(&it->rounds, &round, sizeof round, INFINITE, AT_BARRIER);
     }
 }
 
@@ -62,6 +62,6 @@ BOOL DeleteSynchronizationBarrier(LPSYNCHRONIZATION_BARRIER barrier)
     struct barrier *it = (struct barrier *)(void *)barrier;
     uint32_t inside;
     while ((inside = atomic_load_explicit(&it->inside, memory_order_acquire)) != 0)
-        WaitOnAddress(&it->inside, &inside, sizeof inside, 1);
+        wait_on(&it->inside, &inside, sizeof inside, 1, OF_LIBRARY);
     return TRUE;
 }

@@ -19,7 +19,7 @@ static struct parking *begin_to_sleep(PCONDITION_VARIABLE variable)
     atomic_fetch_add_explicit(sleepers_of(variable), 1, memory_order_relaxed);
     atomic_fetch_add_explicit(&parking->count, 1, memory_order_relaxed);
     take_latch(&parking->latch);
-    park(parking, variable);
+    park(parking, variable, ON_VARIABLE);
     give_latch(&parking->latch);
     return parking;
 }

@@ -10,8 +10,7 @@ static _Atomic uint32_t *word_of(LPCRITICAL_SECTION section)
 /* The caller's id, which stands for it in a section that it owns. */
 static inline HANDLE mark_of_caller(void)
 {
-    const DWORD id = own.id;
-    return (HANDLE)(uintptr_t)(id != 0 ? id : GetCurrentThreadId());
+    return (HANDLE)(uintptr_t)id_of_caller();
 }
 
 static void open_section(LPCRITICAL_SECTION section, DWORD spins)
@@ -74,8 +73,14 @@ __attribute__((noinline)) static void wait_for_section(LPCRITICAL_SECTION sectio
             return;
         rest();
     }
-    while (__atomic_exchange_n(&section->LockCount, SECTION_WANTED, __ATOMIC_ACQUIRE) != SECTION_FREE)
+    if (__atomic_exchange_n(&section->LockCount, SECTION_WANTED, __ATOMIC_ACQUIRE) == SECTION_FREE)
+        return;
+    struct sleeper sleeper = { .section = section };
+    note_sleeper(&sleeper);
+    do
         sleep_on(word_of(section), SECTION_WANTED, NULL);
+    while (__atomic_exchange_n(&section->LockCount, SECTION_WANTED, __ATOMIC_ACQUIRE) != SECTION_FREE);
+    forget_sleeper(&sleeper);
 }
 
 /* The caller has it. */

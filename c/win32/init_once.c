@@ -46,7 +46,7 @@ BOOL InitOnceBeginInitialize(LPINIT_ONCE once, DWORD flags, PBOOL pending, LPVOI
         if (stand != ONCE_BEFORE && is_async != (stand == ONCE_BEGUN_BY_MANY))
             return fail(ERROR_INVALID_PARAMETER);
         if (stand == ONCE_BEGUN) {
-            WaitOnAddress(&once->Ptr, &value, sizeof value, INFINITE);
+            wait_on(&once->Ptr, &value, sizeof value, INFINITE, FOR_ONCE);
         } else if (stand == ONCE_BEGUN_BY_MANY || change_once(once, value, is_async ? ONCE_BEGUN_BY_MANY : ONCE_BEGUN)) {
             *pending = TRUE;
             return TRUE;

@@ -3,11 +3,16 @@
 
 enum { PARKING_LISTS = 256, AWAKENED_AT_ONCE = 64, PARKED = 0, UNPARKED = 1, RETRIES = 64 };
 
+/* Why a thread waits: told.c says so of each but those that are the library's own. */
+enum why { ON_ADDRESS, ON_VARIABLE, AT_BARRIER, FOR_ONCE, FOR_CALLBACKS, OF_LIBRARY };
+
 /* A thread's place in a list. It has one, since it waits at one address at a time. */
 struct parked {
     _Atomic uint32_t word;         /* PARKED or UNPARKED */
     const volatile void *address;
     struct parked *earlier, *later;
+    enum why why;
+    DWORD id;
     uint32_t looks, waits;         /* how often it looks at its word before it sleeps, and how often it has waited */
 };
 static _Thread_local struct parked parked __attribute__((tls_model("initial-exec")));
@@ -24,8 +29,10 @@ static struct parking *parking_of(const volatile void *address)
 }
 
 /* The caller waits at this address from now on, under the latch. */
-static void park(struct parking *parking, const volatile void *address)
+static void park(struct parking *parking, const volatile void *address, enum why why)
 {
+    parked.why = why;
+    parked.id = id_of_caller();
     atomic_store_explicit(&parked.word, PARKED, memory_order_relaxed);
     parked.address = address;
     parked.later = NULL;
@@ -141,7 +148,8 @@ static bool is_same(const volatile void *address, const void *compare, SIZE_T si
     }
 }
 
-BOOL WaitOnAddress(volatile VOID *address, PVOID compare, SIZE_T size, DWORD ms)
+/* As WaitOnAddress. */
+static BOOL wait_on(volatile void *address, const void *compare, SIZE_T size, DWORD ms, enum why why)
 {
     if (size != 1 && size != 2 && size != 4 && size != 8)
         return fail(ERROR_INVALID_PARAMETER);
@@ -154,11 +162,16 @@ BOOL WaitOnAddress(volatile VOID *address, PVOID compare, SIZE_T size, DWORD ms)
     take_latch(&parking->latch);
     const bool waits = is_same(address, compare, size);
     if (waits)
-        park(parking, address);
+        park(parking, address, why);
     else
         atomic_fetch_sub_explicit(&parking->count, 1, memory_order_relaxed);
     give_latch(&parking->latch);
     return !waits || sleep_parked(parking, moment) || fail(ERROR_TIMEOUT);
+}
+
+BOOL WaitOnAddress(volatile VOID *address, PVOID compare, SIZE_T size, DWORD ms)
+{
+    return wait_on(address, compare, size, ms, ON_ADDRESS);
 }
 
 static void wake_by_address(PVOID address, uint32_t most)

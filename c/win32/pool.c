@@ -223,7 +223,7 @@ static bool wait_for_work(PTP_POOL pool)
     uint32_t calls = atomic_load_explicit(&pool->calls, memory_order_relaxed);
     pool->idle++;
     give_latch(&pools_latch);
-    const bool was_called = WaitOnAddress(&pool->calls, &calls, sizeof calls, IDLE_MS);
+    const bool was_called = wait_on(&pool->calls, &calls, sizeof calls, IDLE_MS, OF_LIBRARY);
     take_latch(&pools_latch);
     pool->idle--;
     return pool->first != NULL || (was_called ? !pool->is_closed || pool->tasks > 0 : pool->threads <= pool->least);
@@ -259,7 +259,7 @@ static uint32_t wait_for_task(struct task *task, bool cancels)
     while (task->running > 0 || to_come(task) > 0) {
         uint32_t ends = atomic_load_explicit(&task->ends, memory_order_relaxed);
         give_latch(&pools_latch);
-        WaitOnAddress(&task->ends, &ends, sizeof ends, INFINITE);
+        wait_on(&task->ends, &ends, sizeof ends, INFINITE, FOR_CALLBACKS);
         take_latch(&pools_latch);
     }
     give_latch(&pools_latch);

@@ -30,7 +30,7 @@ static void close_begun(void)
     begun = NULL;
     HANDLE none = NULL;
     while (__atomic_load_n(&mine->thread, __ATOMIC_ACQUIRE) == NULL)
-        WaitOnAddress(&mine->thread, &none, sizeof none, INFINITE);
+        wait_on(&mine->thread, &none, sizeof none, INFINITE, OF_LIBRARY);
     CloseHandle(mine->thread);
     free(mine);
 }

@@ -19,6 +19,11 @@ static struct srw *srw_of(PSRWLOCK lock)
     return (struct srw *)(void *)lock;
 }
 
+static PSRWLOCK lock_of(struct srw *srw)
+{
+    return (PSRWLOCK)(void *)srw;
+}
+
 static inline bool may_share(uint32_t state)
 {
     return (state & SHARERS) < SHARERS - 1 && (state & (SHARERS_WAIT | ALONE_WAITERS)) == 0;
@@ -70,13 +75,17 @@ __attribute__((noinline)) static void wait_alone(struct srw *srw)
     while (is_nobodys(state))
         if (swap_state(srw, &state, state | ALONE))
             return;
-    state = atomic_fetch_add_explicit(&srw->state, ALONE_WAITER, memory_order_relaxed) + ALONE_WAITER;
+    struct sleeper sleeper = { .lock = lock_of(srw) };
+    note_sleeper(&sleeper);
+    atomic_fetch_add_explicit(&srw->state, ALONE_WAITER, memory_order_relaxed);
     for (;;) {
         const uint32_t seen = atomic_load_explicit(&srw->calls, memory_order_acquire);
         state = state_of(srw);
         while (is_nobodys(state))
-            if (swap_state(srw, &state, (state | ALONE) - ALONE_WAITER))
+            if (swap_state(srw, &state, (state | ALONE) - ALONE_WAITER)) {
+                forget_sleeper(&sleeper);
                 return;
+            }
         sleep_on(&srw->calls, seen, NULL);
     }
 }
@@ -92,7 +101,10 @@ __attribute__((noinline)) static void wait_to_share(struct srw *srw)
         }
         if ((state & SHARERS_WAIT) == 0 && !swap_state(srw, &state, state | SHARERS_WAIT))
             continue;
+        struct sleeper sleeper = { .lock = lock_of(srw), .shares = true };
+        note_sleeper(&sleeper);
         sleep_on(&srw->state, state | SHARERS_WAIT, NULL);
+        forget_sleeper(&sleeper);
         state = state_of(srw);
     }
 }

@@ -99,7 +99,7 @@ static DWORD WINAPI keep_timers(LPVOID none)
         const DWORD ms = ms_to(timers.count > 0 ? timers.heap[1]->due : NEVER);
         give_latch(&pools_latch);
         if (ms > 0)
-            WaitOnAddress(&timers.changes, &changes, sizeof changes, ms);
+            wait_on(&timers.changes, &changes, sizeof changes, ms, OF_LIBRARY);
         take_latch(&pools_latch);
     }
     return 0;

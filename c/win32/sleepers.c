@@ -1,0 +1,46 @@
+/* ---- Who sleeps for a lock, for those who ask why threads wait (told.c). It is noted just before a thread falls asleep, and no longer once it has
+ * the lock, so a lock that is told of is still there. */
+
+struct sleeper {
+    struct sleeper *earlier, *later;
+    LPCRITICAL_SECTION section; /* one of these two */
+    PSRWLOCK lock;
+    bool shares;                /* it wants to share that lock */
+    DWORD id;
+};
+
+static struct {
+    _Atomic uint32_t latch;
+    struct sleeper *first;
+} sleepers;
+
+/* The caller's id. */
+static inline DWORD id_of_caller(void)
+{
+    const DWORD id = own.id;
+    return id != 0 ? id : GetCurrentThreadId();
+}
+
+static void note_sleeper(struct sleeper *it)
+{
+    it->id = id_of_caller();
+    it->earlier = NULL;
+    take_latch(&sleepers.latch);
+    it->later = sleepers.first;
+    if (it->later != NULL)
+        it->later->earlier = it;
+    sleepers.first = it;
+    give_latch(&sleepers.latch);
+}
+
+static void forget_sleeper(struct sleeper *it)
+{
+    take_latch(&sleepers.latch);
+    if (it->earlier != NULL)
+        it->earlier->later = it->later;
+    else
+        sleepers.first = it->later;
+    if (it->later != NULL)
+        it->later->earlier = it->earlier;
+    give_latch(&sleepers.latch);
+}
