@@ -103,7 +103,7 @@ impl Error for RunFault {}
 
 /// Why one line can't be carried out.
 #[derive(Clone, Copy, Debug, PartialEq, Eq)]
-pub(crate) enum LineFault {
+pub enum LineFault {
     Memory,
     Script(ScriptFault),
 }

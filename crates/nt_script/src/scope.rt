@@ -1,7 +1,8 @@
 //! What a script has bound.
 
-ghost use Rattle.std.specs.Prelude.{◌≡◌, ◌++◌, ◌∷◌, ◌<◌, [], None, Some, IfSome, OnOk};
-ghost use Rattle.nt_script.specs.Scope.{bound_in};
+ghost use Rattle.std.specs.Prelude.{◌≡◌, ◌++◌, ◌∷◌, ◌<◌, [], length, None, Some, IfSome, OnOk};
+ghost use Rattle.std.specs.Option.{option_copied};
+ghost use Rattle.nt_script.specs.Scope.{bound_in, handle_in, name_in};
 
 use indexmap::IndexMap;
 use nt_status::Handle;
@@ -86,6 +87,33 @@ impl Bindings {
                 Some(handle)
             }
             None => self.find(next, name),
+        }
+    }
+
+    /// How many names are bound.
+    pub(crate) fn len(&self) -> usize
+        ensures { result ≡ length self.now.scope.names }
+    {
+        self.names.len()
+    }
+
+    /// The name at this place in the order of first use.
+    pub(crate) fn name_at(&self, place: usize) -> Option<&[u8]>
+        ensures { option_copied result ≡ name_in self.now.scope.names place }
+    {
+        match self.names.get_index(place) {
+            Some((name, _)) => Some(name.as_slice()),
+            None => None,
+        }
+    }
+
+    /// The handle that the name at this place stands for.
+    pub(crate) fn handle_at(&self, place: usize) -> Option<Handle>
+        ensures { result ≡ handle_in self.now.scope.names place }
+    {
+        match self.names.get_index(place) {
+            Some((_, handle)) => Some(*handle),
+            None => None,
         }
     }
 

@@ -6,7 +6,8 @@ ghost use Rattle.nt_core.specs.Dispatcher.{state};
 ghost use Rattle.nt_calls.specs.Steps.{Called, Ticked};
 ghost use Rattle.nt_script.specs.Reading.{Gives, statement_of, opening_of};
 ghost use Rattle.nt_script.specs.Naming.{NamesFree};
-ghost use Rattle.nt_script.specs.Scope.{bound_in};
+ghost use Rattle.nt_script.specs.Scope.{bound_in, handle_in, name_in};
+ghost use Rattle.std.specs.Option.{option_copied};
 ghost use Rattle.nt_script.specs.Transcript.{turn_text, handle_of, binds, ReadsOpening, ReadsStatement, opened_scope};
 ghost use Rattle.nt_script.specs.Progress.{Opens, AreCounted, LineAnswers, progress_of};
 
@@ -29,7 +30,7 @@ const END: &[u8] = b"end: pending";
 
 /// The core, the names bound so far, and the count of calls.
 #[derive(Drop)]
-pub(crate) struct Session {
+pub struct Session {
     pub(crate) core: Core,
     pub(crate) bindings: Bindings,
     pub(crate) tally: Tally,
@@ -250,8 +251,9 @@ fn begin(session: &mut Option<Session>, alloc: Global, line: &[u8]) -> Result<()
     Ok(())
 }
 
-/// Carries out one line, and puts what it says into `out`.
-pub(crate) fn carry_out(
+/// Carries out the line with this number, counted from 1, and puts what it says into `out`, in place of what is there. A session
+/// begins with the `threads` line. On `Err` nothing is promised of `out`.
+pub fn carry_out(
     session: &mut Option<Session>,
     alloc: Global,
     number: u64,
@@ -316,5 +318,33 @@ impl Session {
             granted: self.tally.granted,
             pending: self.core.pending(),
         }
+    }
+
+    /// The dispatcher, as the lines so far left it.
+    pub fn core(&self) -> &Core
+        ensures { result.now ≡ self.now.core }
+    {
+        &self.core
+    }
+
+    /// How many names are bound.
+    pub fn names(&self) -> usize
+        ensures { result ≡ length (progress self.now).scope.names }
+    {
+        self.bindings.len()
+    }
+
+    /// The name at this place, in the order in which names were bound.
+    pub fn name_at(&self, place: usize) -> Option<&[u8]>
+        ensures { option_copied result ≡ name_in (progress self.now).scope.names place }
+    {
+        self.bindings.name_at(place)
+    }
+
+    /// The handle that the name at this place stands for.
+    pub fn handle_at(&self, place: usize) -> Option<Handle>
+        ensures { result ≡ handle_in (progress self.now).scope.names place }
+    {
+        self.bindings.handle_at(place)
     }
 }

@@ -1,0 +1,72 @@
+-- What is told, and how a run ends.
+use Rattle.std.proofs.Common.{◌≡◌, ◌⊎◌, ◌↔◌, ◌+◌, suc, arith, slice_index_or, ℕ, Bool, true, List, [], ◌++◌, Option, Some, Result, Ok, Err, IfOk, OnOk, append_assoc, sym, ap, subst, ◌∙◌, inl, inr, codes}
+use Rattle.std.specs.Prelude.{MatchOption}
+use Rattle.std.specs.Io.KnownBytes.{Appends}
+use Rattle.std.specs.declared.alloc.AllocError.{AllocError}
+use Rattle.nt_devices.specs.Device.{AppendsPart, one_more}
+use Rattle.nt_status.specs.declared.limits.TheConstants.{MAX_MOMENT}
+use Rattle.nt_calls.specs.Steps.{IsNextMoment, NothingDue}
+use Rattle.nt_core.specs.Dispatcher.{Dispatcher, state}
+use Rattle.nt_look.specs.Hangs.{IsStuck, IsGreatestKnot}
+use Rattle.nt_script.specs.Progress.{Progress, progress}
+use Rattle.nt_script.specs.declared.session.Session.{Session}
+use Rattle.nt_script.specs.declared.fault.RunFault.{RunFault}
+use Rattle.nt_hangs.specs.declared.reports.Report.{Report}
+use Rattle.std.specs.FinMap.{get}
+use Rattle.nt_hangs.specs.Waits.{waiter_text, waiters_text}
+use Rattle.nt_hangs.specs.Verdicts.{code_of}
+use Rattle.nt_hangs.specs.Reports.{report_text, IsReport, ReportsOf}
+use Rattle.nt_hangs.specs.Watching.{Seen}
+use Rattle.nt_hangs.specs.Ending.{message_of, status_of, Says, Shows, TellsFault}
+
+-- two pieces, one after the other
+pub put_two : {X E : Type 0} (result : Result X E) (old mid new first second : List ℕ) → mid ≡ old ++ first → OnOk result (new ≡ mid ++ second) → OnOk result (new ≡ old ++ (first ++ second))
+put_two (Ok x) old mid new first second p q = q ∙ ap (λ (l : List ℕ). l ++ second) p ∙ append_assoc old first second
+put_two (Err e) old mid new first second p q = tt
+
+-- the same, where the second piece is given otherwise
+pub put_both : {X E : Type 0} (result : Result X E) (old mid new first second given : List ℕ) → mid ≡ old ++ first → given ≡ second → OnOk result (new ≡ mid ++ given) → OnOk result (new ≡ old ++ (first ++ second))
+put_both result old mid new first second given p same q = subst (λ (l : List ℕ). OnOk result (new ≡ old ++ (first ++ l))) same (put_two result old mid new first given p q)
+
+-- one thread more that waits
+pub waiters_more : (now : Progress) (objects since : List ℕ) (t line : ℕ) (old mid new : List ℕ) → line ≡ slice_index_or since t 0 → mid ≡ old ++ waiters_text now objects since t
+    → new ≡ mid ++ waiter_text now objects line t (get now.state.waits t) → new ≡ old ++ waiters_text now objects since (t + 1)
+waiters_more now objects since t line old mid new p q r =
+    let next : t + 1 ≡ suc t = omega arith in
+    let here = waiter_text now objects (slice_index_or since t 0) t (get now.state.waits t) in
+    subst (λ (n : ℕ). new ≡ old ++ waiters_text now objects since n) (sym next)
+    (r ∙ ap (λ (n : ℕ). mid ++ waiter_text now objects n t (get now.state.waits t)) p ∙ ap (λ (l : List ℕ). l ++ here) q ∙ append_assoc old (waiters_text now objects since t) here)
+
+-- a report was not handed on
+pub unshown : (given text : List ℕ) (code : ℕ) (held held' : Option (List ℕ)) (written written' : ℕ) (handed : Bool) (shown shown' : Option (List ℕ)) (failed failed' status : ℕ) → given ≡ text
+    → AppendsPart held held' given ⊎ Appends held held' given → written' ≡ one_more written → Says shown shown' failed failed' (codes "ntlook: write failed\n") → status ≡ 1
+    → Shows text code held held' written written' handed shown shown' failed failed' status
+unshown given text code held held' written written' handed shown shown' failed failed' status same part more says is =
+    inr (subst (λ (bytes : List ℕ). AppendsPart held held' bytes ⊎ Appends held held' bytes) same part, more, says, is)
+
+pub told_fault : (fault : RunFault) (line : List ℕ) (shown shown' : Option (List ℕ)) (failed failed' status : ℕ) → line ≡ message_of fault → Says shown shown' failed failed' line → status ≡ status_of fault
+    → TellsFault fault shown shown' failed failed' status
+told_fault fault line shown shown' failed failed' status same says is = inl (subst (Says shown shown' failed failed') same says, is)
+
+pub is_report : (file : List ℕ) (count : ℕ) (session : Session) (core : Dispatcher) (since objects : List ℕ) (stuck : Bool) (knot : List Bool) (next : Option ℕ) (moment : ℕ) (empty text : List ℕ) (code : ℕ)
+    → core ≡ session.core → moment ≡ MAX_MOMENT → ((stuck ≡ true) ↔ IsStuck (λ t. true) (state core)) → IsGreatestKnot (λ t. true) (state core) knot
+    → MatchOption next (NothingDue (state core) moment) (IsNextMoment (state core) moment) → empty ≡ [] → text ≡ empty ++ report_text file count (progress session) since objects stuck knot next
+    → code ≡ code_of (state core) stuck knot → IsReport file count (progress session) since objects text code
+is_report file count session core since objects stuck knot next moment empty text code same last is_stuck is_knot is_next none says is = record {
+  stuck = stuck;
+  knot = knot;
+  next = next;
+  is_stuck = subst (λ (d : Dispatcher). (stuck ≡ true) ↔ IsStuck (λ t. true) (state d)) same is_stuck;
+  is_knot = subst (λ (d : Dispatcher). IsGreatestKnot (λ t. true) (state d) knot) same is_knot;
+  is_next = subst (λ (m : ℕ). MatchOption next (NothingDue (state session.core) m) (IsNextMoment (state session.core) m)) last
+      (subst (λ (d : Dispatcher). MatchOption next (NothingDue (state d) moment) (IsNextMoment (state d) moment)) same is_next);
+  says = says ∙ ap (λ (l : List ℕ). l ++ report_text file count (progress session) since objects stuck knot next) none;
+  is = is ∙ ap (λ (d : Dispatcher). code_of (state d) stuck knot) same;
+}
+
+-- what a session's report says is said of what is seen
+pub reports_of : (file : List ℕ) (count : ℕ) (now : Progress) (since objects : List ℕ) (seen : Seen) (result : Result Report AllocError) → seen.now ≡ Some now → since ≡ seen.since → objects ≡ seen.objects
+    → IfOk result (λ report. IsReport file count now since objects report.text.items report.code) → IfOk result (ReportsOf file count seen)
+reports_of file count now since objects seen (Ok report) is p q h =
+    (now, is, subst (λ (l : List ℕ). IsReport file count now seen.since l report.text.items report.code) q (subst (λ (l : List ℕ). IsReport file count now l objects report.text.items report.code) p h))
+reports_of file count now since objects seen (Err e) is p q h = tt

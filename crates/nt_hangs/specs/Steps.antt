@@ -1,0 +1,51 @@
+-- How the watch of a script goes on, line by line. No public clause cites this.
+use Rattle.std.specs.Prelude.{◌≡◌, ℕ, ◌+◌, ◌≤◌, ◌==◌, ◌++◌, Bool, false, List, length, Option, Some, None, Result, Ok, Err}
+use Rattle.nt_lines.specs.Lines.{lines_of}
+use Rattle.nt_script.specs.Progress.{AreCounted, Progress, scope_of}
+use Rattle.nt_script.specs.Transcript.{FaultIn}
+use Rattle.nt_script.specs.declared.fault.LineFault.{LineFault}
+use Rattle.nt_script.specs.declared.fault.LineFault.TheVariants as line
+use Rattle.nt_script.specs.declared.fault.RunFault.{RunFault}
+use Rattle.nt_script.specs.declared.fault.RunFault.TheVariants.{Script, Read, Write, Memory}
+use Rattle.nt_hangs.specs.Watching.{Seen, SeesAll, StopsAt, unseen}
+
+-- the line has this first fault, or memory was refused
+abbrev pub HasFault : Option Progress → List ℕ → LineFault → Type 0
+HasFault now bytes (line.Script fault) = FaultIn (scope_of now) bytes fault
+HasFault now bytes line.Memory = Unit {0}
+
+-- the same, with the line's number
+abbrev pub IsFaultOf : ℕ → Option Progress → List ℕ → RunFault → Type 0
+IsFaultOf number now bytes (Script place fault) = (place ≡ number) × FaultIn (scope_of now) bytes fault
+IsFaultOf number now bytes (Memory place) = Unit {0}
+IsFaultOf number now bytes (Read place) = ⊥
+IsFaultOf number now bytes (Write place) = ⊥
+
+-- whether the line with this number was the last to be carried out
+abbrev pub is_last : Option ℕ → ℕ → Bool
+is_last None count = false
+is_last (Some last) count = last == count
+
+-- no more lines were carried out than were to be
+abbrev pub IsWithin : Option ℕ → ℕ → Type 0
+IsWithin None count = Unit {0}
+IsWithin (Some last) count = count ≤ last
+
+-- so many of the lines were seen, and these bytes are left
+pub record SeenSoFar (input rest : List ℕ) (last : Option ℕ) (count : ℕ) (now : Seen) : Type 0 where
+  pub before : List (List ℕ)
+  pub lines : lines_of input ≡ before ++ lines_of rest
+  pub place : count ≡ length before
+  pub sees : SeesAll 1 unseen before now
+  pub counted : AreCounted (count + 1) now.now
+  pub places : length now.since ≡ 256
+  pub within : IsWithin last count
+  pub few : count + length rest ≤ length input
+
+-- all of these lines were seen, so many; or one has a fault, or memory was refused
+abbrev pub Watches : List (List ℕ) → Result ℕ RunFault → Seen → Type 0
+Watches lines (Ok count) seen = SeesAll 1 unseen lines seen × (count ≡ length lines)
+Watches lines (Err (Script number fault)) seen = StopsAt number fault lines
+Watches lines (Err (Memory number)) seen = Unit {0}
+Watches lines (Err (Read number)) seen = ⊥
+Watches lines (Err (Write number)) seen = ⊥

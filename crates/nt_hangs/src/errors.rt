@@ -1,0 +1,43 @@
+//! What is said on standard error.
+ghost use Rattle.std.specs.Prelude.{◌≡◌, ◌++◌, IfOk, OnOk, Err};
+ghost use Rattle.nt_hangs.specs.Ending.{message_of, status_of, Says};
+
+use crate::text::put_number;
+use nt_devices::{Sink, write_whole};
+use nt_script::RunFault;
+use std::alloc::{AllocError, Global};
+
+pub(crate) const OUT_OF_MEMORY: &[u8] = b"ntlook: out of memory\n";
+
+/// Says a line, and answers the exit status that goes with it. A failure to say it is ignored.
+pub(crate) fn say<E: Sink>(errors: &mut E, line: &[u8], status: u8) -> u8
+    ensures status { result ≡ status }
+    ensures said { Says (E.contents errors.old) (E.contents errors.new) (E.failed errors.old) (E.failed errors.new)
+        line.now }
+{
+    let _ = write_whole(errors, line);
+    status
+}
+
+/// The line that tells why a run ended.
+pub(crate) fn message_of(alloc: Global, fault: RunFault) -> Result<Vec<u8>, AllocError>
+    ensures { IfOk result (λ line. line.items ≡ message_of fault) }
+{
+    let mut line = Vec::new(alloc);
+    line.extend_from_slice(b"ntlook: line ")?;
+    put_number(&mut line, fault.line())?;
+    line.extend_from_slice(b": ")?;
+    line.extend_from_slice(fault.reason().as_bytes())?;
+    line.push(b'\n')?;
+    Ok(line)
+}
+
+/// The exit status of a run that was not done.
+pub(crate) fn status_of(fault: RunFault) -> u8
+    ensures { result ≡ status_of fault }
+{
+    match fault {
+        RunFault::Script { .. } => 2,
+        RunFault::Read { .. } | RunFault::Write { .. } | RunFault::Memory { .. } => 1,
+    }
+}

@@ -1,0 +1,41 @@
+//! The bytes of a script, and its lines.
+ghost use Rattle.std.specs.Prelude.{◌≡◌, ◌≢◌, ◌<◌, ◌≤◌, ◌∷◌, [], length, position, unwrap_or, IfSome};
+ghost use Rattle.nt_lines.specs.Lines.{lines_of};
+ghost use Rattle.nt_hangs.specs.Watching.{before_zero, is_zero};
+
+use memchr::memchr;
+
+/// Where the first zero byte is.
+fn first_zero(bytes: &[u8]) -> Option<usize>
+    ensures place { result ≡ position is_zero bytes.now }
+    ensures within { IfSome result (λ place. place < length bytes.now) }
+{
+    memchr(0, bytes)
+}
+
+/// The same, or the length where there is none.
+fn zero_start(bytes: &[u8]) -> usize
+    ensures place { result ≡ unwrap_or (position is_zero bytes.now) (length bytes.now) }
+    ensures within { result ≤ length bytes.now }
+{
+    first_zero(bytes).unwrap_or(bytes.len())
+}
+
+/// The bytes before the first zero byte: a journal's file may have room for more lines than it has.
+pub(crate) fn before_zero(bytes: &[u8]) -> &[u8]
+    ensures { result.now ≡ before_zero bytes.now }
+{
+    &bytes[..zero_start(bytes)]
+}
+
+/// The first line, without the LF that ends it, and what stands after it.
+pub(crate) fn first_line(bytes: &[u8]) -> (&[u8], &[u8])
+    requires { bytes.now ≢ [] }
+    ensures lines { lines_of bytes.now ≡ result.0.now ∷ lines_of result.1.now }
+    ensures shorter { length result.1.now < length bytes.now }
+{
+    match memchr(b'\n', bytes) {
+        Some(place) => (&bytes[..place], &bytes[place + 1..]),
+        None => (bytes, &bytes[bytes.len()..]),
+    }
+}

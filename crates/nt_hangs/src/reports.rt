@@ -1,0 +1,163 @@
+//! The report of a script that was run up to a line.
+ghost use Rattle.std.specs.Prelude.{◌≡◌, ◌++◌, OnOk, IfOk, codes, decimal};
+ghost use Rattle.nt_lines.specs.Lines.{lines_of};
+ghost use Rattle.nt_core.specs.Dispatcher.{state};
+ghost use Rattle.nt_script.specs.Progress.{progress};
+ghost use Rattle.nt_status.specs.declared.limits.TheConstants.{MAX_MOMENT};
+ghost use Rattle.nt_hangs.specs.Reports.{place_text, report_text, IsReport, Reports, ReportsOf};
+ghost use Rattle.nt_hangs.specs.Verdicts.{verdict_text};
+ghost use Rattle.nt_hangs.specs.Watching.{before_zero, seen_of, unseen, up_to};
+
+use crate::input::before_zero;
+use crate::text::put_number;
+use crate::verdicts::{code_of, put_verdict};
+use crate::waits::put_waiters;
+use crate::watch::Watch;
+use nt_core::Core;
+use nt_look::{Verdict, why};
+use nt_script::{RunFault, Session};
+use nt_status::{MAX_MOMENT, Moment};
+use std::alloc::{AllocError, Global};
+
+/// Puts the file's name and a colon.
+fn put_file(out: &mut Vec<u8>, file: &[u8]) -> Result<(), AllocError>
+    ensures { OnOk result (out.new.items ≡ out.old.items ++ (file.now ++ codes ":")) }
+{
+    out.extend_from_slice(file)?;
+    out.extend_from_slice(b":")
+}
+
+/// Puts the number of the last line and a colon.
+fn put_count(out: &mut Vec<u8>, count: u64) -> Result<(), AllocError>
+    ensures { OnOk result (out.new.items ≡ out.old.items ++ (decimal count ++ codes ": ")) }
+{
+    put_number(out, count)?;
+    out.extend_from_slice(b": ")
+}
+
+/// Puts the file's name, and the number of its last line.
+fn put_place(out: &mut Vec<u8>, file: &[u8], count: u64) -> Result<(), AllocError>
+    ensures { OnOk result (out.new.items ≡ out.old.items ++ place_text file.now count) }
+{
+    put_file(out, file)?;
+    put_count(out, count)
+}
+
+/// Puts the verdict, and ends its line.
+fn put_verdict_line(out: &mut Vec<u8>, core: &Core, verdict: &Verdict) -> Result<(), AllocError>
+    ensures { OnOk result (out.new.items ≡ out.old.items
+        ++ (verdict_text (state core.now) verdict.now.stuck verdict.now.knot.items verdict.now.next ++ codes "\n")) }
+{
+    put_verdict(out, core, verdict)?;
+    out.extend_from_slice(b"\n")
+}
+
+/// Puts the report.
+fn put_report(
+    out: &mut Vec<u8>,
+    file: &[u8],
+    count: u64,
+    session: &Session,
+    since: &[u64],
+    objects: &[u32],
+    verdict: &Verdict,
+) -> Result<(), AllocError>
+    ensures { OnOk result (out.new.items ≡ out.old.items ++ report_text file.now count (progress session.now) since.now
+        objects.now verdict.now.stuck verdict.now.knot.items verdict.now.next) }
+{
+    put_place(out, file, count)?;
+    put_verdict_line(out, session.core(), verdict)?;
+    put_waiters(out, session, objects, since)
+}
+
+/// What is told of a script, and the exit status that goes with it.
+#[derive(Drop)]
+pub struct Report {
+    pub text: Vec<u8>,
+    /// 0 if nobody waits; 3 if some waits never end; 4 if some waits can end, and none is known never to.
+    pub code: u8,
+}
+
+/// The greatest moment.
+fn last_moment() -> Moment
+    ensures { result ≡ MAX_MOMENT }
+{
+    match Moment::new(MAX_MOMENT) {
+        Some(moment) => moment,
+        None => unreachable!(),
+    }
+}
+
+/// The report of a session after so many lines.
+fn report_of(
+    alloc: Global,
+    file: &[u8],
+    count: u64,
+    session: &Session,
+    since: &[u64],
+    objects: &[u32],
+) -> Result<Report, AllocError>
+    ensures { IfOk result (λ report. IsReport file.now count (progress session.now) since.now objects.now
+        report.text.items report.code) }
+{
+    let core = session.core();
+    let verdict = why(alloc, core, last_moment())?;
+    let mut text = Vec::new(alloc);
+    put_report(&mut text, file, count, session, since, objects, &verdict)?;
+    Ok(Report {
+        text,
+        code: code_of(core, &verdict),
+    })
+}
+
+impl Watch {
+    /// The report of what is seen after so many lines.
+    fn tell(&self, alloc: Global, file: &[u8], count: u64) -> Result<Report, AllocError>
+        ensures { IfOk result (ReportsOf file.now count (seen_of self.now)) }
+    {
+        match &self.session {
+            Some(session) => report_of(alloc, file, count, session, &self.since, &self.objects),
+            None => Err(AllocError),
+        }
+    }
+
+    /// Carries out the lines up to this one, and reports.
+    fn report(
+        &mut self,
+        alloc: Global,
+        file: &[u8],
+        input: &[u8],
+        last: Option<u64>,
+    ) -> Result<Report, RunFault>
+        requires { seen_of self.old ≡ unseen }
+        ensures { Reports file.now (up_to last (lines_of input.now)) result }
+    {
+        let count = self.watch(alloc, input, last)?;
+        match self.tell(alloc, file, count) {
+            Ok(report) => Ok(report),
+            Err(_) => Err(RunFault::Memory { line: count }),
+        }
+    }
+}
+
+/// Runs a script up to a line, or to its end, and reports why its threads wait there. The script ends at its first zero byte. `file` is
+/// what the report calls it.
+///
+/// A line with a fault, or no `threads` line, is told as `ntrun script` tells it; so is want of memory.
+pub fn report_on(
+    alloc: Global,
+    file: &[u8],
+    input: &[u8],
+    last: Option<u64>,
+) -> Result<Report, RunFault>
+    ensures { Reports file.now (up_to last (lines_of (before_zero input.now))) result }
+{
+    match Watch::new(alloc) {
+        Ok(mut watch) => {
+            let answer = watch.report(alloc, file, before_zero(input), last);
+            drop(watch);
+            answer
+        }
+        Err(_) => Err(RunFault::Memory { line: 1 }),
+    }
+}

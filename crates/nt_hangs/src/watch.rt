@@ -1,0 +1,227 @@
+//! A script that is run, and what is seen of it.
+ghost use Rattle.std.specs.Prelude.{◌≡◌, ◌+◌, ◌<◌, ◌≤◌, ◌^◌, ◌++◌, [], ℕ, length, replicate, slice_index_or, vec_len, IfOk, IfErr, OnOk};
+ghost use Rattle.nt_script.specs.Scope.{handle_in};
+ghost use Rattle.nt_script.specs.Progress.{AreCounted, LineAnswers, progress, progress_of};
+ghost use Rattle.nt_lines.specs.Lines.{lines_of};
+ghost use Rattle.nt_hangs.specs.Steps.{is_last, HasFault, IsFaultOf, Watches};
+ghost use Rattle.nt_hangs.specs.Watching.{is_waiting, names_of, object_named, object_of, seen_of, since_of, since_then, unseen, up_to, Sees};
+
+use crate::input::first_line;
+use nt_script::{LineFault, RunFault, ScriptFault, Session, carry_out};
+use nt_status::Handle;
+use std::alloc::{AllocError, Global};
+
+/// The greatest number of threads, each of which has a place.
+const MOST_THREADS: usize = 256;
+
+/// The most bytes in a line.
+const LINE_BYTES: usize = 4096;
+
+/// A script that is run, and what is seen of it.
+#[derive(Drop)]
+pub struct Watch {
+    pub(crate) session: Option<Session>,
+    /// By thread, the line on which its pending wait began; 0 while it does not wait.
+    pub(crate) since: Vec<u64>,
+    /// By the places of names, the numbers of the objects that they were given to.
+    pub(crate) objects: Vec<u32>,
+    /// What the last line said.
+    out: Vec<u8>,
+}
+
+/// Since when a thread waits, after the line with this number.
+fn since_then(number: u64, waits: bool, since: u64) -> u64
+    ensures { result ≡ since_then number waits since }
+{
+    if !waits {
+        0
+    } else if since == 0 {
+        number
+    } else {
+        since
+    }
+}
+
+/// Whether the thread waits.
+fn is_waiting(session: &Option<Session>, thread: u32) -> bool
+    ensures { result ≡ is_waiting (progress_of session.now) thread }
+{
+    match session {
+        Some(session) => session.core().is_waiting(thread),
+        None => false,
+    }
+}
+
+/// Notes who waits after the line with this number.
+fn note_waits(since: &mut [u64], session: &Option<Session>, number: u64)
+    requires { length since.old ≡ 256 }
+    ensures { (t : ℕ) → t < 256 → slice_index_or since.new t 0
+        ≡ since_then number (is_waiting (progress_of session.now) t) (slice_index_or since.old t 0) }
+{
+    for thread in 0..MOST_THREADS {
+        since[thread] = since_then(number, is_waiting(session, thread as u32), since[thread]);
+    }
+}
+
+/// How many names are bound.
+fn names_bound(session: &Option<Session>) -> usize
+    ensures { result ≡ length (names_of (progress_of session.now)) }
+{
+    match session {
+        Some(session) => session.names(),
+        None => 0,
+    }
+}
+
+/// The handle of the name at this place, if it is bound.
+fn handle_at(session: &Option<Session>, place: usize) -> Option<Handle>
+    ensures { result ≡ handle_in (names_of (progress_of session.now)) place }
+{
+    match session {
+        Some(session) => session.handle_at(place),
+        None => None,
+    }
+}
+
+/// The number of the object that the handle names.
+fn object_of(session: &Option<Session>, handle: Handle) -> u32
+    ensures { result ≡ object_of (progress_of session.now) handle }
+{
+    match session {
+        Some(session) => match session.core().opened(handle) {
+            Some(opened) => opened.object.get(),
+            None => 0,
+        },
+        None => 0,
+    }
+}
+
+/// Notes the object of the name at this place, if it is bound.
+fn note_object(
+    objects: &mut Vec<u32>,
+    session: &Option<Session>,
+    place: usize,
+) -> Result<(), AllocError>
+    ensures { OnOk result (objects.new.items ≡ objects.old.items
+        ++ object_named (progress_of session.now) (handle_in (names_of (progress_of session.now)) place)) }
+{
+    if let Some(handle) = handle_at(session, place) {
+        objects.push(object_of(session, handle))?;
+    }
+    Ok(())
+}
+
+/// Whether the line with this number was the last to be carried out.
+fn is_last(last: Option<u64>, count: u64) -> bool
+    ensures { result ≡ is_last last count }
+{
+    match last {
+        Some(last) => last == count,
+        None => false,
+    }
+}
+
+impl Watch {
+    /// Nothing is seen yet.
+    pub(crate) fn new(alloc: Global) -> Result<Watch, AllocError>
+        ensures { IfOk result (λ watch. seen_of watch ≡ unseen) }
+    {
+        Ok(Watch {
+            session: None,
+            since: Vec::from_elem(alloc, 0, MOST_THREADS)?,
+            objects: Vec::new(alloc),
+            out: Vec::new(alloc),
+        })
+    }
+
+    /// Carries out the line with this number, and notes what is seen.
+    fn see(&mut self, alloc: Global, number: u64, line: &[u8]) -> Result<(), LineFault>
+        requires short { length line.now ≤ 4096 }
+        requires counted { AreCounted number (progress_of self.old.session) }
+        requires places { vec_len self.old.since ≡ 256 }
+        ensures sees { OnOk result (Sees number line.now (seen_of self.old) (seen_of self.new)) }
+        ensures counted { OnOk result (AreCounted (number + 1) (progress_of self.new.session)) }
+        ensures places { vec_len self.new.since ≡ 256 }
+        ensures fault { IfErr result (λ fault. HasFault (progress_of self.old.session) line.now fault) }
+    {
+        let place = names_bound(&self.session);
+        carry_out(&mut self.session, alloc, number, line, &mut self.out)?;
+        note_waits(&mut self.since, &self.session, number);
+        note_object(&mut self.objects, &self.session, place)?;
+        Ok(())
+    }
+
+    /// The same of a line that may be too long.
+    fn see_line(&mut self, alloc: Global, number: u64, line: &[u8]) -> Result<(), RunFault>
+        requires counted { AreCounted number (progress_of self.old.session) }
+        requires places { vec_len self.old.since ≡ 256 }
+        ensures sees { OnOk result (Sees number line.now (seen_of self.old) (seen_of self.new)) }
+        ensures counted { OnOk result (AreCounted (number + 1) (progress_of self.new.session)) }
+        ensures places { vec_len self.new.since ≡ 256 }
+        ensures fault { IfErr result (λ fault. IsFaultOf number (progress_of self.old.session) line.now fault) }
+    {
+        if line.len() > LINE_BYTES {
+            let fault = ScriptFault::LineTooLong;
+            return Err(RunFault::Script {
+                line: number,
+                fault,
+            });
+        }
+        match self.see(alloc, number, line) {
+            Ok(()) => Ok(()),
+            Err(LineFault::Memory) => Err(RunFault::Memory { line: number }),
+            Err(LineFault::Script(fault)) => Err(RunFault::Script {
+                line: number,
+                fault,
+            }),
+        }
+    }
+
+    /// Carries out the lines up to this one, and answers how many there were.
+    fn see_lines(&mut self, alloc: Global, input: &[u8], last: Option<u64>) -> Result<u64, RunFault>
+        requires fresh { seen_of self.old ≡ unseen }
+        ensures watches { Watches (up_to last (lines_of input.now)) result (seen_of self.new) }
+        ensures few { IfOk result (λ count. count ≤ length input.now) }
+    {
+        let mut rest = input;
+        let mut count: u64 = 0;
+        while !rest.is_empty() {
+            if is_last(last, count) {
+                return Ok(count);
+            }
+            let (line, after) = first_line(rest);
+            match self.see_line(alloc, count + 1, line) {
+                Ok(()) => {}
+                Err(fault) => return Err(fault),
+            }
+            rest = after;
+            count += 1;
+        }
+        Ok(count)
+    }
+
+    /// The same, and that there is a `threads` line among them.
+    pub(crate) fn watch(
+        &mut self,
+        alloc: Global,
+        input: &[u8],
+        last: Option<u64>,
+    ) -> Result<u64, RunFault>
+        requires fresh { seen_of self.old ≡ unseen }
+        ensures { Watches (up_to last (lines_of input.now)) result (seen_of self.new) }
+    {
+        match self.see_lines(alloc, input, last) {
+            Ok(count) => match &self.session {
+                Some(_) => Ok(count),
+                None => {
+                    let fault = ScriptFault::ThreadsExpected;
+                    Err(RunFault::Script {
+                        line: count + 1,
+                        fault,
+                    })
+                }
+            },
+            Err(fault) => Err(fault),
+        }
+    }
+}
