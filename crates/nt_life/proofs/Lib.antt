@@ -6,3 +6,4 @@ mod Calls
 mod Taken
 mod Choosing
 mod Pacing
+mod Stacking

@@ -1,5 +1,5 @@
 -- A dispatcher that lasts: the numbers of closed handles and of objects that are gone are given again, the last that was freed first.
-use Rattle.std.specs.Prelude.{◌≡◌, ◌≤◌, ◌<◌, ◌+◌, ◌-◌, ◌⊎◌, ℕ, Bool, true, false, not, ◌&&◌, ◌==◌, nat_le, nat_lt, List, [], ◌∷◌, length, slice_index_or, if◌then◌else◌, MatchBool}
+use Rattle.std.specs.Prelude.{◌≡◌, ◌≤◌, ◌<◌, ◌+◌, ◌-◌, ◌⊎◌, ℕ, Bool, true, false, not, ◌&&◌, ◌==◌, nat_le, nat_lt, List, [], ◌∷◌, ◌++◌, length, slice_index_or, if◌then◌else◌, MatchBool}
 use Rattle.std.specs.FinMap as map
 use Rattle.std.specs.declared.option.Option.{Option}
 use Rattle.std.specs.declared.option.Option.TheVariants.{None, Some}
@@ -149,3 +149,14 @@ pub record KeepsPace (old : State) (who : ℕ) (call : Call) (result : Result Re
   pub moves : Moves old who (pended result) grants new
   pub waits : pended result ≡ true → is_wait call ≡ true
   pub moment : new.now ≡ old.now
+
+-- ---- which number comes next
+
+-- the last number is taken, or none
+abbrev pub Pops : List ℕ → List ℕ → Type 0
+Pops old new = (new ≡ old) ⊎ ((n : ℕ) × (old ≡ new ++ n ∷ []))
+
+-- what a call does to the numbers of closed handles: that of a handle that it closes comes last; else it takes the last, or none
+abbrev pub IsStacked : Call → Result Reply Refusal → List ℕ → List ℕ → Type 0
+IsStacked (Call.Act (Act.Close h)) (Ok reply) old new = new ≡ old ++ h ∷ []
+IsStacked call result old new = Pops old new

@@ -4,7 +4,7 @@ ghost use Rattle.nt_calls.specs.declared.call.Reply.{Reply};
 ghost use Rattle.nt_core.specs.Dispatcher.{state};
 ghost use Rattle.nt_core.specs.Lawful.{IsLawful};
 ghost use Rattle.nt_core.specs.Renewals.{is_closed, is_left, BeginsAgain};
-ghost use Rattle.nt_life.specs.Lasting.{IsSpare, BeginsSpare};
+ghost use Rattle.nt_life.specs.Lasting.{IsSpare, BeginsSpare, Pops};
 
 use crate::begun::Begun;
 use crate::spare::Spare;
@@ -36,6 +36,7 @@ pub(crate) fn begin(core: &mut Core, spare: &mut Spare) -> Option<Begun>
     ensures begun { BeginsSpare (state core.old) spare.old result core.new.grants (state core.new) }
     ensures lawful { IsLawful core.new }
     ensures spare { IsSpare (state core.new) spare.new }
+    ensures stacked { Pops spare.old.closed spare.new.closed }
 {
     let handle = spare.handle()?;
     let thread = begin_first(core, handle)?;

@@ -1,5 +1,5 @@
 //! Creations, duplicates and closes, and what they do to the spare numbers.
-ghost use Rattle.std.specs.Prelude.{◌≡◌, ◌<◌, ◌≤◌, ◌↔◌, ◌⊎◌, ℕ, true, length, slice_index_or, Err};
+ghost use Rattle.std.specs.Prelude.{◌≡◌, ◌<◌, ◌≤◌, ◌↔◌, ◌⊎◌, ℕ, true, length, slice_index_or, Err, ◌++◌, ◌∷◌, [], OnOk, OnErr};
 ghost use Rattle.nt_status.specs.declared.limits.TheConstants.{MAX_HANDLES};
 ghost use Rattle.nt_status.specs.declared.refusal.Refusal.TheVariants.{HandleLimit};
 ghost use Rattle.nt_calls.specs.declared.call.Call.{Call};
@@ -8,7 +8,7 @@ ghost use Rattle.nt_calls.specs.Steps.{Called};
 ghost use Rattle.nt_core.specs.Dispatcher.{state};
 ghost use Rattle.nt_core.specs.Lawful.{IsLawful};
 ghost use Rattle.nt_core.specs.Renewals.{CreatesAgain};
-ghost use Rattle.nt_life.specs.Lasting.{IsSpare, NoHandle, NoObject, CreatesSpare, CreatesMore, CreatesElse, LastsCreation, LastsDuplicate, LastsAct, FindsNone, KeepsPace, is_creation, is_unnamed, last_closed};
+ghost use Rattle.nt_life.specs.Lasting.{IsSpare, NoHandle, NoObject, CreatesSpare, CreatesMore, CreatesElse, LastsCreation, LastsDuplicate, LastsAct, FindsNone, KeepsPace, Pops, IsStacked, is_creation, is_unnamed, last_closed};
 
 use crate::spare::Spare;
 use nt_core::{Act, Call, Core, Reply};
@@ -39,6 +39,7 @@ fn create_at(
         result core.new.grants (state core.new) }
     ensures lawful { IsLawful core.new }
     ensures spare { IsSpare (state core.new) spare.new }
+    ensures stacked { Pops spare.old.closed spare.new.closed }
 {
     let object = spare.object(place);
     let reply = core.create_again(who, act, object, handle)?;
@@ -65,6 +66,7 @@ fn create_more(
     ensures limit { result ≡ Err HandleLimit → NoHandle (state core.old) ⊎ NoObject (state core.old) }
     ensures lawful { IsLawful core.new }
     ensures spare { IsSpare (state core.new) spare.new }
+    ensures stacked { Pops spare.old.closed spare.new.closed }
 {
     if let Some(place) = spare.any_vacant(core) {
         return create_at(core, spare, who, act, handle, place);
@@ -94,6 +96,7 @@ fn create_new(
     ensures pace { KeepsPace (state core.old) who (Call.Act act.now) result core.new.grants (state core.new) }
     ensures lawful { IsLawful core.new }
     ensures spare { IsSpare (state core.new) spare.new }
+    ensures stacked { Pops spare.old.closed spare.new.closed }
 {
     let answer = core.call(who, call);
     if !is_limit(&answer) {
@@ -122,6 +125,7 @@ fn create(
     ensures pace { KeepsPace (state core.old) who (Call.Act act.now) result core.new.grants (state core.new) }
     ensures lawful { IsLawful core.new }
     ensures spare { IsSpare (state core.new) spare.new }
+    ensures stacked { Pops spare.old.closed spare.new.closed }
 {
     let Some(handle) = spare.handle() else {
         return create_new(core, spare, who, act, call);
@@ -151,6 +155,7 @@ fn duplicate(
         result core.new.grants (state core.new) }
     ensures lawful { IsLawful core.new }
     ensures spare { IsSpare (state core.new) spare.new }
+    ensures stacked { Pops spare.old.closed spare.new.closed }
 {
     let Some(handle) = spare.handle() else {
         return core.call(who, call);
@@ -184,6 +189,8 @@ fn close(
         result core.new.grants (state core.new) }
     ensures lawful { IsLawful core.new }
     ensures spare { IsSpare (state core.new) spare.new }
+    ensures stacked { OnOk result (spare.new.closed ≡ spare.old.closed ++ handle ∷ []) }
+    ensures kept { OnErr result (spare.new.closed ≡ spare.old.closed) }
 {
     let Some(object) = core.object_number(handle) else {
         return core.call(who, call);
@@ -223,6 +230,7 @@ pub(crate) fn make_act(
     ensures pace { KeepsPace (state core.old) who (Call.Act act.now) result core.new.grants (state core.new) }
     ensures lawful { IsLawful core.new }
     ensures spare { IsSpare (state core.new) spare.new }
+    ensures stacked { IsStacked (Call.Act act.now) result spare.old.closed spare.new.closed }
 {
     match *act {
         Act::Close(handle) => close(core, spare, who, call, handle),

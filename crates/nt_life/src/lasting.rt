@@ -12,7 +12,7 @@ ghost use Rattle.nt_calls.specs.declared.call.Call.{Call};
 ghost use Rattle.nt_calls.specs.declared.call.WaitCall.{WaitCall};
 ghost use Rattle.nt_core.specs.Dispatcher.{state};
 ghost use Rattle.nt_core.specs.Lawful.{IsLawful};
-ghost use Rattle.nt_life.specs.Lasting.{IsSpare, LastsCall, FindsNone, BeginsSpare, KeepsPace};
+ghost use Rattle.nt_life.specs.Lasting.{IsSpare, LastsCall, FindsNone, BeginsSpare, KeepsPace, Pops, IsStacked};
 
 use crate::beginning::begin;
 use crate::begun::Begun;
@@ -86,6 +86,7 @@ impl Lasting {
             result self.new.core.grants (state self.new.core) }
         ensures limit { result ≡ Err HandleLimit → FindsNone (state self.old.core) call.now }
         ensures taken { FindsNone (state self.old.core) call.now → OnOk result ⊥ }
+        ensures stacked { IsStacked call.now result self.old.spare.closed self.new.spare.closed }
         ensures pace { KeepsPace (state self.old.core) who call.now result self.new.core.grants (state self.new.core) }
     {
         match call {
@@ -140,6 +141,7 @@ impl Lasting {
     /// None if there is no such place, or no handle is closed. An event that is made and closed at once leaves a closed handle.
     pub fn begin(&mut self) -> Option<Begun>
         ensures begun { BeginsSpare (state self.old.core) self.old.spare result self.new.core.grants (state self.new.core) }
+        ensures stacked { Pops self.old.spare.closed self.new.spare.closed }
     {
         begin(&mut self.core, &mut self.spare)
     }

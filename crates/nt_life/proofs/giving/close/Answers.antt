@@ -10,6 +10,7 @@ use Rattle.nt_core.specs.Dispatcher.{Dispatcher, state}
 use Rattle.nt_core.specs.Lawful.{IsLawful}
 use Rattle.nt_life.specs.Lasting.{is_unnamed}
 use Rattle.nt_life.proofs.Calls.{close_numbers, unopened_spare, closed_spare, closed_room, unnamed_room, found, missing, opened_there}
+use Rattle.nt_life.proofs.Stacking.{unopened_close, kept_same}
 use Rattle.nt_life.proofs.giving.close.Goals as goal
 
 pub returns-in_default-clause-spare : goal.returns-in_default-clause-spare
@@ -59,3 +60,12 @@ returns-clause-spare c =
     (c.add_closed.ensures.unnamed
     ∙ (ap (λ (b : Bool). if b then spare.unnamed ++ c.in-Some.object ∷ [] else spare.unnamed) c.is_unnamed-unnamed.ensures
     ∙ ap (λ (o : ℕ). if is_unnamed new o then spare.unnamed ++ o ∷ [] else spare.unnamed) (sym one.2)))
+
+pub returns-in_default-clause-stacked : goal.returns-in_default-clause-stacked
+returns-in_default-clause-stacked c =
+    unopened_close (c.args.spare.now.closed ≡ c.args.spare.now.closed ++ c.args.handle ∷ []) (state c.args.core.now) c.args.who c.args.handle c.call.result c.call.new.self.grants (state c.call.new.self)
+    (missing (opened_at c.args.core.now.handles c.args.handle) (sym c.object_number.ensures ∙ c.in_default.is))
+    (subst (λ (call : Call). Called (state c.args.core.now) c.args.who call c.call.result c.call.new.self.grants (state c.call.new.self)) c.requires.act c.call.ensures.called)
+
+pub returns-in_default-clause-kept : goal.returns-in_default-clause-kept
+returns-in_default-clause-kept c = kept_same c.call.result c.args.spare.now.closed

@@ -1,10 +1,11 @@
-use Rattle.std.proofs.Common.{ℕ, ◌+◌, ◌==◌, ◌++◌, ◌∷◌, [], sym, ap, ◌∙◌}
+use Rattle.std.proofs.Common.{ℕ, ◌+◌, ◌==◌, ◌++◌, ◌∷◌, [], sym, ap, ◌∙◌, inl, inr, refl}
 use Rattle.std.specs.List.{swap_remove}
 use Rattle.nt_objects.proofs.Counting.{weight}
 use Rattle.nt_core.specs.Dispatcher.{state}
 use Rattle.nt_life.specs.Lasting.{times}
 use Rattle.nt_life.proofs.Times.{times_taken, times_last}
 use Rattle.nt_life.proofs.Renewed.{created_spare}
+use Rattle.nt_life.specs.Lasting.{last_closed}
 use Rattle.nt_life.proofs.giving.create_at.Goals as goal
 
 pub returns-clause-spare : goal.returns-clause-spare
@@ -17,3 +18,9 @@ returns-clause-spare c =
     ∙ (ap (λ ns. times n (swap_remove ns c.args.place 0) + weight (c.object-object.result == n)) c.take_handle.ensures.unnamed
     ∙ (ap (λ (o : ℕ). times n (swap_remove spare.unnamed c.args.place 0) + weight (o == n)) c.object-object.ensures
     ∙ times_taken n spare.unnamed c.args.place c.requires.place)))
+
+pub returns-in_err-reply-clause-stacked : goal.returns-in_err-reply-clause-stacked
+returns-in_err-reply-clause-stacked c = inl refl
+
+pub returns-clause-stacked : goal.returns-clause-stacked
+returns-clause-stacked c = inr (last_closed c.args.spare.now, c.take_handle.ensures.closed ∙ ap (λ ns. ns ++ last_closed c.args.spare.now ∷ []) (sym c.take_object.ensures.closed))

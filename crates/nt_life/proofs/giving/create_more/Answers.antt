@@ -1,4 +1,4 @@
-use Rattle.std.proofs.Common.{◌≡◌, ℕ, get_or, refl, ap, subst, inr}
+use Rattle.std.proofs.Common.{◌≡◌, ℕ, get_or, refl, ap, subst, inr, inl}
 use Rattle.std.specs.declared.result.Result.{Result}
 use Rattle.std.specs.declared.result.Result.TheVariants.{Ok, Err}
 use Rattle.nt_status.specs.declared.refusal.Refusal.{Refusal}
@@ -8,6 +8,7 @@ use Rattle.nt_core.specs.Dispatcher.{state}
 use Rattle.nt_core.specs.Renewals.{AddsVacant, CreatesAgain}
 use Rattle.nt_life.proofs.Limits.{again_limit}
 use Rattle.nt_life.proofs.Choosing.{added_spare, added_room, added_at, none_added}
+use Rattle.nt_life.specs.Lasting.{Pops}
 use Rattle.nt_life.proofs.giving.create_more.Goals as goal
 
 pub returns-in-Some-clause-limit : goal.returns-in-Some-clause-limit
@@ -56,3 +57,9 @@ returns-clause-created c =
 pub returns-clause-limit : goal.returns-clause-limit
 returns-clause-limit c limit =
     absurd (again_limit (state c.add_vacant.new.self) c.args.who c.args.act.now (get_or c.add_object-place.new.self.unnamed c.add_object-place.result 0) c.args.handle c.create_at-2.result c.create_at-2.new.core.grants (state c.create_at-2.new.core) c.create_at-2.ensures.created limit)
+
+pub returns-in-Err-clause-stacked : goal.returns-in-Err-clause-stacked
+returns-in-Err-clause-stacked c = inl refl
+
+pub returns-clause-stacked : goal.returns-clause-stacked
+returns-clause-stacked c = subst (λ ns. Pops ns c.create_at-2.new.spare.closed) c.add_object-place.ensures.closed c.create_at-2.ensures.stacked

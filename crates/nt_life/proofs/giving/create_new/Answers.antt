@@ -1,4 +1,4 @@
-use Rattle.std.proofs.Common.{◌∙◌, ◌⊎◌, ap, subst, inl, inr}
+use Rattle.std.proofs.Common.{◌∙◌, ◌⊎◌, ap, subst, inl, inr, refl}
 use Rattle.nt_calls.specs.declared.call.Call.{Call}
 use Rattle.nt_calls.specs.State.{State}
 use Rattle.nt_core.specs.Dispatcher.{state}
@@ -38,3 +38,9 @@ returns-in-Some-clause-pace c =
     let same = refused_same (state c.args.core.now) c.args.who c.args.call.now c.call-answer.result c.call-answer.new.self.grants (state c.call-answer.new.self) c.call-answer.ensures.called (c.is_limit.ensures.0 c.if-not-is_limit.false) in
     subst (λ (s : State). KeepsPace s c.args.who (Call.Act c.args.act.now) c.create_more.result c.create_more.new.core.grants (state c.create_more.new.core)) same
     (more_pace (state c.call-answer.new.self) c.args.spare.now c.args.who c.args.act.now c.create_more.result c.create_more.new.core.grants (state c.create_more.new.core) c.create_more.ensures.created)
+
+pub returns-then-not-is_limit-clause-stacked : goal.returns-then-not-is_limit-clause-stacked
+returns-then-not-is_limit-clause-stacked c = inl refl
+
+pub returns-in-None-clause-stacked : goal.returns-in-None-clause-stacked
+returns-in-None-clause-stacked c = inl refl

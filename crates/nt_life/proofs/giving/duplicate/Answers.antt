@@ -1,4 +1,4 @@
-use Rattle.std.proofs.Common.{ℕ, ◌++◌, ◌∷◌, [], sym, ap, ◌∙◌, subst}
+use Rattle.std.proofs.Common.{ℕ, ◌++◌, ◌∷◌, [], sym, ap, ◌∙◌, subst, inl, inr, refl}
 use Rattle.nt_calls.specs.declared.call.Call.{Call}
 use Rattle.std.specs.declared.result.Result.TheVariants.{Ok}
 use Rattle.nt_calls.specs.Steps.{Called}
@@ -10,6 +10,7 @@ use Rattle.nt_life.proofs.Limits.{refused_full}
 use Rattle.nt_life.proofs.Choosing.{duplicates_own}
 use Rattle.nt_life.proofs.Renewed.{duplicated_spare}
 use Rattle.nt_life.proofs.Pacing.{duplicated_pace}
+use Rattle.nt_life.specs.Lasting.{last_closed}
 use Rattle.nt_life.proofs.giving.duplicate.Goals as goal
 
 pub returns-in_default-clause-duplicated : goal.returns-in_default-clause-duplicated
@@ -39,3 +40,12 @@ returns-clause-spare c =
 pub returns-clause-pace : goal.returns-clause-pace
 returns-clause-pace c =
     duplicated_pace (state c.args.core.now) c.args.who c.args.source c.args.access c.in-Some.handle (Ok c.in_ok-reply.reply) c.duplicate_again.new.self.grants (state c.duplicate_again.new.self) c.in_ok-reply.ensures.duplicated
+
+pub returns-in_default-clause-stacked : goal.returns-in_default-clause-stacked
+returns-in_default-clause-stacked c = inl refl
+
+pub returns-in_err-reply-clause-stacked : goal.returns-in_err-reply-clause-stacked
+returns-in_err-reply-clause-stacked c = inl refl
+
+pub returns-clause-stacked : goal.returns-clause-stacked
+returns-clause-stacked c = inr (last_closed c.args.spare.now, c.take_handle.ensures.closed)

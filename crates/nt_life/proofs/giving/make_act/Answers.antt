@@ -1,12 +1,13 @@
-use Rattle.std.proofs.Common.{◌≡◌, ◌∙◌, true, sym, ap, subst}
+use Rattle.std.proofs.Common.{◌≡◌, ◌∙◌, true, sym, ap, subst, inl, refl}
 use Rattle.nt_calls.specs.declared.call.Call.{Call}
 use Rattle.nt_calls.specs.Steps.{Called}
 use Rattle.nt_calls.specs.Moves.{pended, is_wait}
 use Rattle.nt_core.specs.Dispatcher.{state}
 use Rattle.nt_laws.specs.Laws.{call_closes}
-use Rattle.nt_life.proofs.Calls.{call_spare, act_closes}
+use Rattle.nt_life.proofs.Calls.{call_spare, act_closes, creation_closes}
 use Rattle.nt_life.proofs.Limits.{refused_full}
 use Rattle.nt_life.proofs.Choosing.{creates_lasts, creation_finds, other_lasts, other_full}
+use Rattle.nt_life.proofs.Stacking.{stacked_by, stacked_close}
 use Rattle.nt_life.proofs.giving.make_act.Goals as goal
 
 pub returns-then-is_creation : goal.returns-then-is_creation
@@ -15,6 +16,7 @@ returns-then-is_creation c =
     record {
       lasts = creates_lasts (state c.args.core.now) c.args.spare.now c.args.who c.args.act.now c.create.result c.create.new.core.grants (state c.create.new.core) creates c.create.ensures.created;
       pace = c.create.ensures.pace;
+      stacked = stacked_by (Call.Act c.args.act.now) c.create.result c.args.spare.now.closed c.create.new.spare.closed (creation_closes c.args.act.now creates) c.create.ensures.stacked;
       limit = λ limit. creation_finds (state c.args.core.now) c.args.act.now creates (c.create.ensures.limit limit);
       lawful = c.create.ensures.lawful;
       spare = c.create.ensures.spare;
@@ -28,6 +30,7 @@ returns-else-is_creation c =
     let called = subst (λ (call : Call). Called old c.args.who call c.call.result c.call.new.self.grants new) c.requires.act c.call.ensures.called in
     record {
       lasts = other_lasts old c.args.spare.now c.args.who c.args.act.now c.call.result c.call.new.self.grants new c.in_default.not-Duplicate other called;
+      stacked = stacked_by (Call.Act c.args.act.now) c.call.result c.args.spare.now.closed c.args.spare.now.closed (act_closes c.args.act.now c.in_default.not-Close) (inl refl);
       pace = record { most = c.call.ensures.most; few = c.call.ensures.few; moves = c.call.ensures.moves; waits = subst (λ (call : Call). pended c.call.result ≡ true → is_wait call ≡ true) c.requires.act c.call.ensures.waits; moment = c.call.ensures.moment };
       limit = λ limit. absurd (other_full old c.args.act.now c.in_default.not-Duplicate other (refused_full old c.args.who (Call.Act c.args.act.now) c.call.result c.call.new.self.grants new called limit));
       lawful = c.call.ensures.lawful;

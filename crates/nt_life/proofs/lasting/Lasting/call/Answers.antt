@@ -1,11 +1,12 @@
-use Rattle.std.proofs.Common.{sym, subst}
+use Rattle.std.proofs.Common.{sym, subst, inl, refl}
 use Rattle.nt_calls.specs.declared.call.Call.{Call}
 use Rattle.nt_core.specs.Dispatcher.{state}
-use Rattle.nt_life.specs.Lasting.{WithSpare, LastsCall, FindsNone, KeepsPace}
+use Rattle.nt_life.specs.Lasting.{WithSpare, LastsCall, FindsNone, KeepsPace, IsStacked}
 use Rattle.nt_life.proofs.Calls.{call_spare, no_act_closes}
 use Rattle.nt_life.proofs.Limits.{refused_full}
 use Rattle.nt_life.proofs.Choosing.{no_act_lasts, no_act_full}
 use Rattle.nt_life.proofs.Taken.{call_taken}
+use Rattle.nt_life.proofs.Stacking.{stacked_by}
 use Rattle.nt_life.proofs.lasting.Lasting.call.Goals as goal
 
 pub invariant_of-self-in_default : goal.invariant_of-self-in_default
@@ -28,6 +29,7 @@ returns-in_default c =
     let lasts = no_act_lasts old c.self.inside.spare c.args.who c.args.call.now c.call.result c.call.new.self.grants new c.in_default.not-Act c.call.ensures.called in
     record {
       lasts = subst (λ (life : WithSpare). LastsCall (state life.core) life.spare c.args.who c.args.call.now c.call.result c.call.new.self.grants new) c.self.view_is lasts;
+      stacked = subst (λ (life : WithSpare). IsStacked c.args.call.now c.call.result life.spare.closed c.self.inside.spare.closed) c.self.view_is (stacked_by c.args.call.now c.call.result c.self.inside.spare.closed c.self.inside.spare.closed (no_act_closes c.args.call.now c.in_default.not-Act) (inl refl));
       pace = subst (λ (life : WithSpare). KeepsPace (state life.core) c.args.who c.args.call.now c.call.result c.call.new.self.grants new) c.self.view_is (record { most = c.call.ensures.most; few = c.call.ensures.few; moves = c.call.ensures.moves; waits = c.call.ensures.waits; moment = c.call.ensures.moment });
       limit = λ limit. absurd (no_act_full old c.args.call.now c.in_default.not-Act (refused_full old c.args.who c.args.call.now c.call.result c.call.new.self.grants new c.call.ensures.called limit));
       taken = λ none. call_taken old c.self.inside.spare c.args.who c.args.call.now c.call.result c.call.new.self.grants new c.self.invariant.0.steady.sound.handles lasts
