@@ -9,6 +9,7 @@ mod commands;
 mod errors;
 mod input;
 mod names;
+mod objects;
 mod reading;
 mod reports;
 mod text;

@@ -2,7 +2,8 @@
 ghost use Rattle.std.specs.Prelude.{◌≡◌, ◌++◌, take, decimal, codes, OnOk};
 ghost use Rattle.nt_core.specs.Dispatcher.{state};
 ghost use Rattle.nt_look.specs.Hangs.{marked};
-ghost use Rattle.nt_hangs.specs.Verdicts.{code_of, knot_text, marks_in, members_text, next_text, others_text, separator, verdict_text};
+ghost use Rattle.nt_hangs.specs.Verdicts.{code_of, knot_text, marks_in, members_text, next_text};
+ghost use Rattle.nt_hangs.specs.Verdicts.{others_text, separator, verdict_text};
 
 use crate::names::put_thread;
 use crate::text::put_number;
@@ -65,7 +66,8 @@ fn put_members(out: &mut Vec<u8>, marks: &[bool], threads: u32) -> Result<(), Al
 
 /// Puts that the one marked thread is held.
 fn put_single(out: &mut Vec<u8>, marks: &[bool], threads: u32) -> Result<(), AllocError>
-    ensures { OnOk result (out.new.items ≡ out.old.items ++ (codes "nothing can end the wait of " ++ members_text marks.now threads)) }
+    ensures { OnOk result (out.new.items
+        ≡ out.old.items ++ (codes "nothing can end the wait of " ++ members_text marks.now threads)) }
 {
     out.extend_from_slice(b"nothing can end the wait of ")?;
     put_members(out, marks, threads)

@@ -1,7 +1,7 @@
 use Rattle.std.proofs.Common.{rules, ◌≡◌, ◌++◌, ◌∙◌, ap, codes, ℤ, w32, to_z, of_z}
 use Rattle.std.specs.Fmt.{signed_decimal}
 use Rattle.nt_hangs.proofs.Telling.{put_both}
-use Rattle.nt_hangs.proofs.waits.put_semaphore.Goals as goal
+use Rattle.nt_hangs.proofs.objects.put_semaphore.Goals as goal
 
 pub returns : goal.returns
 returns c =
