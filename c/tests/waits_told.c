@@ -25,6 +25,7 @@ static DWORD WINAPI take_both(LPVOID other)
 static DWORD WINAPI have_alone(LPVOID lock)
 {
     AcquireSRWLockExclusive(lock);
+    ReleaseSRWLockExclusive(lock);
     return 0;
 }
 
@@ -86,6 +87,14 @@ static char *told(void)
     return text;
 }
 
+static int lines_told(void)
+{
+    int lines = 0;
+    for (const char *at = told(); *at != 0; at++)
+        lines += *at == '\n';
+    return lines;
+}
+
 /* Whether a line is told, after some seconds at the latest. */
 static int is_told(const char *line)
 {
@@ -143,13 +152,8 @@ int main(void)
     EnterSynchronizationBarrier(&BARRIER, 0);
     InitOnceComplete(&ONCE, 0, NULL);
     ReleaseSRWLockExclusive(&LOCK);
-    for (int i = 0; i < 5000 && strstr(told(), "SRW") != NULL; i++)
+    for (int i = 0; i < 5000 && lines_told() > 3; i++)
         Sleep(1);
-    Sleep(50);
-    const char *at = told();
-    int lines = 0;
-    for (; *at != 0; at++)
-        lines += *at == '\n';
-    IS(lines, 3 + 1);
+    IS(lines_told(), 3);
     return counted();
 }

@@ -112,23 +112,23 @@ BOOL SetThreadGroupAffinity(HANDLE thread, const GROUP_AFFINITY *affinity, PGROU
     return TRUE;
 }
 
-/* So many of the group, or 0 where there is no such group. */
-static DWORD processors_in(WORD group, int name)
+/* So many, or 0 where there is no such group. */
+static DWORD processors_in(WORD group, long processors)
 {
     if (group == 0 || group == ALL_PROCESSOR_GROUPS)
-        return (DWORD)sysconf(name);
+        return (DWORD)processors;
     fail(ERROR_INVALID_PARAMETER);
     return 0;
 }
 
 DWORD GetActiveProcessorCount(WORD group)
 {
-    return processors_in(group, _SC_NPROCESSORS_ONLN);
+    return processors_in(group, sysconf(_SC_NPROCESSORS_ONLN));
 }
 
 DWORD GetMaximumProcessorCount(WORD group)
 {
-    return processors_in(group, _SC_NPROCESSORS_CONF);
+    return processors_in(group, sysconf(_SC_NPROCESSORS_CONF));
 }
 
 WORD GetActiveProcessorGroupCount(void)

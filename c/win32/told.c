@@ -75,7 +75,7 @@ static void look_at_parked(const struct parked *who, struct told *it)
 }
 
 /* Looks at all that sleep; each latch is held for that alone. */
-static void look_at_all(void)
+static void look_at_sleepers(void)
 {
     told_all.count = 0;
     told_all.is_whole = true;
@@ -132,7 +132,7 @@ static void write_knot(FILE *to, DWORD first)
 static void write_sleepers(FILE *to)
 {
     pthread_mutex_lock(&telling);
-    look_at_all();
+    look_at_sleepers();
     for (uint32_t i = 0; i < told_all.count; i++)
         fprintf(to, "thread %u %s\n", told_all.of[i].id, told_all.of[i].what);
     for (uint32_t i = 0; i < told_all.count; i++)
