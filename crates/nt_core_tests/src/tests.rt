@@ -11,6 +11,7 @@ mod exits;
 mod free;
 mod handles;
 mod hangs;
+mod lasting;
 pub mod memory;
 mod mutexes;
 mod openings;
