@@ -14,7 +14,7 @@ use Rattle.nt_waits.specs.declared.wait.Wait.{Wait}
 use Rattle.nt_calls.specs.State.{State, Pending, pends}
 use Rattle.nt_calls.specs.declared.call.Call.{Call}
 use Rattle.nt_calls.specs.Steps.{IsNextMoment, NothingDue, Called, Ticked}
-use Rattle.nt_calls.specs.Moves.{Moves, pended}
+use Rattle.nt_calls.specs.Moves.{Moves, pended, one_if, granted_to}
 use Rattle.nt_sleepers.specs.Sleepers.{Sleeping, Woke, Watches, TimeIsKept, CalledWaits, IsInTime, IsShortEnough, IsCalled, SleepsUpTo, NoneUpTo, OnlyWaiting, without_woken, set_if, with_called, settled, deadline_of}
 use Rattle.nt_sleepers.proofs.Counts.{other_stands, woken_length, set_if_length, called_length, begun_waits, woken_waiting, set_waiting, set_if_waiting}
 
@@ -220,3 +220,52 @@ woke_as old old' new who began began' same is woke = subst (λ (s : Sleeping). W
 
 pub watches_as : (old old' new : Sleeping) (who : ℕ) (moment : Option ℕ) → old ≡ old' → Watches old who moment new → Watches old' who moment new
 watches_as old old' new who moment same watches = subst (λ (s : Sleeping). Watches s who moment new) same watches
+
+-- ---- a call that leaves all as it was
+
+pub woke_still : (old new : Sleeping) (who : ℕ) (began : Bool) → began ≡ false → new.core.grants ≡ [] → new.alarms ≡ old.alarms → new.watchers ≡ old.watchers → new.called ≡ None → Woke old who began new
+woke_still old new who began not none alarms-are watchers-are nobody = record {
+  alarms = alarms-are ∙ idle_alarms old.alarms who began new.core not none ∙ ap (λ (c : Option ℕ). with_called c (settled old.alarms who began new.core)) (sym nobody);
+  watchers = watchers-are ∙ idle_watchers old.watchers new.core.grants none;
+  called = subst (λ (c : Option ℕ). IsCalled (state new.core) (settled old.alarms who began new.core) new.watchers c) (sym nobody) tt;
+}
+
+-- a refused call has changed nothing
+pub refused : (old new : State) (who : ℕ) (call : Call) (result : Result Reply Refusal) (gs : List Grant) (r : Refusal) → result ≡ Err r → Called old who call result gs new → (pended result ≡ false) × (gs ≡ []) × (new ≡ old)
+refused old new who call (Ok reply) gs r is made = absurd (cc)
+refused old new who call (Err cause) gs r is made = (refl, made.1, made.2)
+
+none_before : (old new : State) (who : ℕ) (began : Bool) (gs : List Grant) (t : ℕ) → Moves old who began gs new → gs ≡ [] → map.len new.waits ≡ 0 → pends old t ≡ false
+none_before old new who began gs t moves none left =
+    let each = moves.each t in let ended = ap (granted_to t) none in let after = ap one_if (none_pends new t left) in
+    no_one (pends old t) (omega (arith, each, ended, after))
+  where
+    no_one : (b : Bool) → one_if b ≤ 0 → b ≡ false
+    no_one true some = absurd (omega (arith, some))
+    no_one false some = refl
+
+none_began : (old new : State) (who : ℕ) (began : Bool) (gs : List Grant) → Moves old who began gs new → map.len new.waits ≡ 0 → began ≡ false
+none_began old new who false gs moves left = refl
+none_began old new who true gs moves left = (let waits = begun_waits old new who gs moves in let not = none_pends new who left in absurd (cc (waits, not)))
+
+nobody_before : (old new : State) (who : ℕ) (began : Bool) (gs : List Grant) (called : Option ℕ) → Moves old who began gs new → gs ≡ [] → map.len new.waits ≡ 0 → CalledWaits old called → called ≡ None
+nobody_before old new who began gs None moves none left waits = refl
+nobody_before old new who began gs (Some t) moves none left waits = (let not = none_before old new who began gs t moves none left in absurd (cc (waits, not)))
+
+-- no wait pends, and none has ended: so none pended
+pub still : (old new : State) (who : ℕ) (began : Bool) (gs : List Grant) (called : Option ℕ) (alarms watchers : List (Option ℕ)) → Moves old who began gs new → gs ≡ [] → map.len new.waits ≡ 0 → TimeIsKept old alarms watchers → CalledWaits old called → (began ≡ false) × (called ≡ None) × TimeIsKept new alarms watchers
+still old new who began gs called alarms watchers moves none left kept waits = (
+  none_began old new who began gs moves left,
+  nobody_before old new who began gs called moves none left waits,
+  record {
+    few = kept.few;
+    count = kept.count;
+    asleep = λ t m is. (let was = kept.asleep t m is in let not = none_before old new who began gs t moves none left in absurd (cc (was, not)));
+    watching = λ t m is. (let was = kept.watching t m is in let not = none_before old new who began gs t moves none left in absurd (cc (was, not)));
+    in_time = in_time_quiet new alarms watchers (λ t. none_of (alarm_at watchers t) (λ m is. (let was = kept.watching t m is in let not = none_before old new who began gs t moves none left in absurd (cc (was, not)))));
+  },
+)
+
+pub on_err : {P : Type 0} (result : Result Reply Refusal) → P → OnErr result P
+on_err (Ok reply) is = tt
+on_err (Err r) is = is

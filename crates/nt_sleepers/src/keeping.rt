@@ -90,7 +90,7 @@ fn call_one(core: &Core, alarms: &mut Alarms, watchers: &Alarms) -> Option<u32>
 }
 
 /// What becomes of alarms and watchers after a call of this thread, whose wait began or did not, or after a tick. Returns who is called.
-fn settle_all(
+pub(crate) fn settle_all(
     core: &Core,
     alarms: &mut Alarms,
     watchers: &mut Alarms,

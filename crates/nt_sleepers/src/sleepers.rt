@@ -1,5 +1,7 @@
 //! The dispatcher with those who sleep.
-ghost use Rattle.std.specs.Prelude.{◌≡◌, ◌≤◌, [], replicate, slice_get, true, false, None, IfOk, IfErr, OnOk, OnErr, MatchBool, nat_le, ◌&&◌};
+ghost use Rattle.std.specs.Prelude.{◌≡◌, ◌≤◌, [], replicate, slice_get, true, false, None, Err, IfOk, IfErr, OnOk, OnErr, MatchBool, nat_le, ◌&&◌};
+ghost use Rattle.std.specs.FinMap as map;
+ghost use Rattle.nt_status.specs.declared.refusal.Refusal.{Refusal};
 ghost use Rattle.nt_status.specs.declared.refusal.Refusal.TheVariants.{InvalidParameter, Memory};
 ghost use Rattle.nt_alarms.specs.Alarms.{alarm_at};
 ghost use Rattle.nt_calls.specs.declared.call.WaitCall.{WaitCall};
@@ -12,7 +14,7 @@ ghost use Rattle.nt_core.specs.Dispatcher.{state};
 ghost use Rattle.nt_core.specs.Lawful.{IsLawful};
 ghost use Rattle.nt_sleepers.specs.Sleepers.{Stops, Watches, Woke, told_of};
 
-use crate::keeping::{settle, stop, watch};
+use crate::keeping::{settle, settle_all, stop, watch};
 use crate::told::Told;
 use nt_alarms::Alarms;
 use nt_core::{Call, Core, Reply};
@@ -50,6 +52,25 @@ fn has_pended(asked: &Result<Reply, Refusal>) -> bool
     ensures { result ≡ pended asked.now }
 {
     matches!(asked, Ok(Reply::Pended))
+}
+
+/// Whether the call was refused, so that it has changed nothing.
+#[inline(always)]
+fn was_refused(asked: &Result<Reply, Refusal>) -> bool
+    ensures { result ≡ true → (r : Refusal) × (asked.now ≡ Err r) }
+{
+    match asked {
+        Ok(_) => false,
+        Err(_) => true,
+    }
+}
+
+/// Whether no wait pends, and none has ended.
+#[inline(always)]
+fn is_still(core: &Core) -> bool
+    ensures { result ≡ true → (core.now.grants ≡ []) × (map.len (state core.now).waits ≡ 0) }
+{
+    core.pending() == 0 && core.grants().is_empty()
 }
 
 impl Sleepers {
@@ -92,10 +113,16 @@ impl Sleepers {
         ensures woke { Woke self.old who (pended result) self.new }
         ensures nobody { OnErr result (self.new.called ≡ None) }
     {
-        let was_idle = self.core.pending() == 0;
         let result = self.core.call(who, call);
+        if was_refused(&result) {
+            self.called = None;
+            return result;
+        }
+        if is_still(&self.core) {
+            return result;
+        }
         let began = has_pended(&result);
-        settle(&self.core, &mut self.alarms, &mut self.watchers, &mut self.called, who, began, was_idle);
+        self.called = settle_all(&self.core, &mut self.alarms, &mut self.watchers, who, began);
         result
     }
 
@@ -122,7 +149,15 @@ impl Sleepers {
         let was_idle = self.core.pending() == 0;
         let result = self.core.wait_objects(who, handles, all, alertable, ms);
         let began = has_pended(&result);
-        settle(&self.core, &mut self.alarms, &mut self.watchers, &mut self.called, who, began, was_idle);
+        settle(
+            &self.core,
+            &mut self.alarms,
+            &mut self.watchers,
+            &mut self.called,
+            who,
+            began,
+            was_idle,
+        );
         result
     }
 
@@ -137,7 +172,15 @@ impl Sleepers {
     {
         let was_idle = self.core.pending() == 0;
         let result = self.core.tick(m);
-        settle(&self.core, &mut self.alarms, &mut self.watchers, &mut self.called, 0, false, was_idle);
+        settle(
+            &self.core,
+            &mut self.alarms,
+            &mut self.watchers,
+            &mut self.called,
+            0,
+            false,
+            was_idle,
+        );
         result
     }
 
