@@ -1,5 +1,5 @@
-"""Builds the program `ntrun`: proved, or once for its sources without proofs. One run of the launcher builds in a clone at a time, and others
-wait for it and use what it built.
+"""Builds a program: proved, or once for its sources without proofs. One run of a launcher builds in a clone at a time, and others wait for it
+and use what it built.
 """
 import contextlib
 import fcntl
@@ -11,12 +11,9 @@ import tempfile
 import time
 
 import kit
-from terminal import Progress, say
+from terminal import WHO, Progress, say
 
 TOP = os.path.dirname(os.path.dirname(os.path.realpath(__file__)))
-CRATE = f"{TOP}/crates/ntrun"
-PROVED = f"{CRATE}/out/ntrun"
-UNPROVED = f"{TOP}/out/ntrun_unproved"
 LOCK = f"{TOP}/out/building"
 # The seconds that the last build took.
 TOOK = f"{TOP}/out/building_took"
@@ -26,13 +23,27 @@ class NotBuilt(Exception):
     """Why there is no program."""
 
 
+class Program:
+    """A program: its name, the words before the name of a script, and how what it writes of the script `threads 1` ends."""
+
+    def __init__(self, name, words, wrote):
+        self.name, self.words, self.wrote = name, words, wrote
+        self.crate = f"{TOP}/crates/{name}"
+        self.proved = f"{self.crate}/out/{name}"
+        self.unproved = f"{TOP}/out/{name}_unproved"
+
+
+NTRUN = Program("ntrun", ["script"], b"end: pending none\n")
+NTLOOK = Program("ntlook", ["why"], b":1: nobody waits\n")
+
+
 def judged_rt():
     """The command rt. Where its kit is not the one that is wanted, that is said first."""
     status, line = kit.judged()
     if status == kit.IS_LACKING:
         raise NotBuilt(line)
     if line:
-        say(f"./ntrun: {line}")
+        say(f"{WHO}: {line}")
     return kit.find_rt()
 
 
@@ -53,20 +64,20 @@ def unwritable(folder, why):
     return NotBuilt(f"{folder}: {why}. The program is built there: make the clone yours to write, or work in a copy that is (cp -r {TOP} FOLDER)")
 
 
-def build_proved():
-    """Proves the program and all below it, and runs it once on an example."""
+def build_proved(built):
+    """Proves a program and all below it, and runs it once on an example."""
     rt, began = judged_rt(), time.time_ns()
     for folder in [f"{TOP}/crates", *glob.glob(f"{TOP}/crates/*"), *glob.glob(f"{TOP}/crates/*/out")]:
         if not os.access(folder, os.W_OK):
             raise unwritable(folder, "it can't be written")
-    say("./ntrun: proving and building. From nothing that takes about half an hour on four cores, and without a change some seconds")
-    words = [rt, "run", "--", "script", f"{TOP}/examples/hand_over.nts"]
-    if subprocess.run(words, cwd=CRATE, stdin=subprocess.DEVNULL, stdout=subprocess.DEVNULL, check=False).returncode:
+    say(f"{WHO}: proving and building. From nothing that takes about half an hour on four cores, and without a change some seconds")
+    words = [rt, "run", "--", *built.words, f"{TOP}/examples/hand_over.nts"]
+    if subprocess.run(words, cwd=built.crate, stdin=subprocess.DEVNULL, stdout=subprocess.DEVNULL, check=False).returncode not in (0, 4):
         raise NotBuilt("the program could not be proved and built")
     # What was edited meanwhile counts as newer.
-    os.utime(PROVED, ns=(began, began))
+    os.utime(built.proved, ns=(began, began))
     minutes, seconds = divmod((time.time_ns() - began) // 10**9, 60)
-    say(f"./ntrun: proved and built in {minutes} min {seconds} s")
+    say(f"{WHO}: proved and built in {minutes} min {seconds} s")
 
 
 @contextlib.contextmanager
@@ -83,7 +94,7 @@ def alone():
         try:
             fcntl.flock(lock, fcntl.LOCK_EX | fcntl.LOCK_NB)
         except BlockingIOError:
-            say("./ntrun: another run is building the program: this one waits for it")
+            say(f"{WHO}: another run is building a program: this one waits for it")
             with Progress("waiting for the other run's build"):
                 fcntl.flock(lock, fcntl.LOCK_EX)
         yield
@@ -166,32 +177,32 @@ def about_seconds():
     return "30 s on an idle machine"
 
 
-def build_unproved():
-    """Builds the program without proofs, and keeps it."""
+def build_unproved(built):
+    """Builds a program without proofs, and keeps it."""
     judged_rt()
     began = time.time_ns()
-    say(f"./ntrun: building the program without proofs, once for these sources; about {about_seconds()}")
+    say(f"{WHO}: building the program without proofs, once for these sources; about {about_seconds()}")
     with Progress("building", about_seconds()):
-        kept, status, wrote, told = try_and_keep(CRATE, ["script"], f"{UNPROVED}.new")
-    if status or wrote != b"end: pending none\n":
+        kept, status, wrote, told = try_and_keep(built.crate, built.words, f"{built.unproved}.new")
+    if status or not wrote.endswith(built.wrote):
         say(*told)
         raise NotBuilt("the program could not be built, or did not run")
     if not kept:
         raise NotBuilt("the program was built, but could not be kept: use --proved")
-    os.utime(f"{UNPROVED}.new", ns=(began, began))
-    os.replace(f"{UNPROVED}.new", UNPROVED)
+    os.utime(f"{built.unproved}.new", ns=(began, began))
+    os.replace(f"{built.unproved}.new", built.unproved)
     with open(TOOK, "w", encoding="ascii") as file:
         file.write(str((time.time_ns() - began) // 10**9))
 
 
-def program():
+def path_of(built):
     """The program of these sources: the proved one where it is built, else the unproved one, which is built where it has to be."""
-    if is_current(PROVED, ("src", "specs", "proofs")):
-        return PROVED
-    if not is_current(UNPROVED, ("src", "specs")):
+    if is_current(built.proved, ("src", "specs", "proofs")):
+        return built.proved
+    if not is_current(built.unproved, ("src", "specs")):
         with alone():
             # (Another run may have built it meanwhile.)
-            if not is_current(UNPROVED, ("src", "specs")):
-                build_unproved()
-    say("./ntrun: this is an unproved build; ./ntrun --proved script FILE proves the program first")
-    return UNPROVED
+            if not is_current(built.unproved, ("src", "specs")):
+                build_unproved(built)
+    say(f"{WHO}: this is an unproved build; {WHO} --proved {built.words[0]} FILE proves the program first")
+    return built.unproved

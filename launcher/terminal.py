@@ -5,6 +5,9 @@ import sys
 import threading
 import time
 
+# The launcher that speaks: each line of its own begins with this.
+WHO = f"./{os.path.basename(sys.argv[0])}"
+
 
 def say(*lines):
     """Writes lines to standard error. A failure to write them is ignored."""
@@ -43,7 +46,7 @@ class Progress:
 
     def tell(self):
         while not self.ends.wait(1 if self.shows else self.EVERY):
-            line = f"./ntrun: {self.what}: {self.seconds()} s{self.about}"
+            line = f"{WHO}: {self.what}: {self.seconds()} s{self.about}"
             self.write(f"\r\033[K{line}" if self.shows else f"{line}\n")
         if self.shows:
             self.write("\r\033[K")

@@ -104,29 +104,46 @@ def wrong_turns(top, tree, work, tries_all, progress):
 
 
 def unproved_build(top, progress):
-    """Builds the program without proofs, where it is not there."""
-    said = run(["./ntrun", "script", "examples/hand_over.nts"], top)
-    if said.status:
-        progress.tell(said.text.rstrip())
-    return Step(0, [f"./ntrun: status {said.status}"]) if said.status else Step(1)
+    """Builds the programs without proofs, where they are not there."""
+    failed = []
+    for who, word in (("./ntrun", "script"), ("./ntlook", "why")):
+        said = run([who, word, "examples/hand_over.nts"], top)
+        if said.status:
+            progress.tell(said.text.rstrip())
+            failed.append(f"{who}: status {said.status}")
+    return Step(2 - len(failed), failed)
+
+
+# What is run on each example, and the ending of the file beside it that has what is written; then the exit statuses.
+ON_EXAMPLES = ((["./ntrun", "script"], ".transcript", (0,)), (["./ntlook", "why"], ".why", (0, 3, 4)))
+
+
+def example(top, script, words, ending, statuses):
+    """Runs the words on an example, and answers what is told where it does not write the file beside it."""
+    wanted = text_of(script.removesuffix(".nts") + ending)
+    words = [*words, os.path.relpath(script, top)]
+    how = {"stdin": subprocess.DEVNULL, "capture_output": True, "errors": "backslashreplace"}
+    ran = subprocess.run(words, cwd=top, check=False, **how)
+    told = [] if ran.returncode in statuses else [f"{' '.join(words)}: exit status {ran.returncode}", *ran.stderr.splitlines()]
+    if ran.stdout != wanted:
+        told += failures.transcript_failure(script, wanted, ran.stdout, f"what {' '.join(words)} wrote", ending)
+    return told
 
 
 def examples(top, progress):
-    """The launcher's transcript of each example is the file beside it."""
+    """What the launchers write of each example is the file beside it. Not each has a file of why its threads wait."""
     passed, failed = 0, []
     for script in sorted(glob.glob(f"{top}/examples/*.nts")):
-        name, wanted = os.path.relpath(script, top), text_of(script.removesuffix(".nts") + ".transcript")
-        how = {"stdin": subprocess.DEVNULL, "capture_output": True, "errors": "backslashreplace"}
-        ran = subprocess.run(["./ntrun", "script", name], cwd=top, check=False, **how)
-        if ran.returncode == 0 and ran.stdout == wanted:
-            passed += 1
-            continue
-        failed.append(name)
-        lines = [f"{name}: exit status {ran.returncode}", *ran.stderr.splitlines()] if ran.returncode else []
-        if ran.stdout != wanted:
-            lines += failures.transcript_failure(script, wanted, ran.stdout, f"what ./ntrun script {name} wrote")
-        for it in lines:
-            progress.tell(it.replace(f"{top}/", ""))
+        for words, ending, statuses in ON_EXAMPLES:
+            if ending == ".why" and not os.path.exists(script.removesuffix(".nts") + ending):
+                continue
+            told = example(top, script, words, ending, statuses)
+            for it in told:
+                progress.tell(it.replace(f"{top}/", ""))
+            if told:
+                failed.append(os.path.relpath(script, top))
+            else:
+                passed += 1
     return Step(passed, failed)
 
 

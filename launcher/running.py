@@ -1,0 +1,50 @@
+"""Whether a program can be run on a file, and running it."""
+import errno
+import os
+import signal
+import stat
+import subprocess
+
+import building
+from terminal import say
+
+
+def is_operand(word):
+    return word == "-" or not word.startswith("-")
+
+
+def why_not_open(path, cannot_open, not_read):
+    """The line of these two that the program says, and the reason, where the file can't be opened or is a folder, else None. A pipe is not opened."""
+    try:
+        kind = os.stat(path).st_mode
+        if stat.S_ISDIR(kind):
+            return not_read, "Is a directory"
+        if not stat.S_ISFIFO(kind):
+            os.close(os.open(path, os.O_RDONLY | os.O_NOCTTY | os.O_NONBLOCK))
+        elif not os.access(path, os.R_OK):
+            return cannot_open, os.strerror(errno.EACCES)
+    except OSError as error:
+        return cannot_open, error.strerror
+    return None
+
+
+def run(built, words, notes_taken=None):
+    """Runs a program, hands on what it says on standard error, and answers its exit status and what it said. What it writes goes by way of
+    the notes, if any are taken."""
+    piped = subprocess.PIPE if notes_taken else None
+    child = subprocess.Popen([building.path_of(built), *words], stdout=piped, stderr=subprocess.PIPE, close_fds=False)
+    # A signal from the terminal reaches the program too, which then ends.
+    signal.signal(signal.SIGINT, signal.SIG_IGN)
+    signal.signal(signal.SIGTERM, lambda *_: child.terminate())
+    if notes_taken:
+        notes_taken.begin(child.stdout)
+    said = b""
+    for line in child.stderr:
+        said += line
+        say(line.rstrip(b"\n"))
+    status = child.wait()
+    if notes_taken and not notes_taken.end() and not status:
+        # (The program had handed all of it on, to this launcher.)
+        say(f"{built.name}: write failed")
+        status = 1
+    return (128 - status if status < 0 else status), said
