@@ -190,12 +190,20 @@ def x264(shop, source):
 BOOST = "-D_WIN64 -U__linux__ -U__linux -Ulinux -U__unix__ -U__unix -Uunix -DBOOST_ALL_NO_LIB -DBOOST_USE_WINDOWS_H -DBOOST_THREAD_BUILD_LIB=1"
 BOOST_FILES = "libs/thread/src/win32/*.cpp libs/thread/src/future.cpp libs/chrono/src/chrono.cpp libs/system/src/error_code.cpp"
 BOOST_LEFT_OUT = {
+    **dict.fromkeys("test_5502 test_lock_concept test_once test_shared_mutex test_shared_mutex_part_2".split(), "a long of 32 bits"),
+    **dict.fromkeys("test_shared_mutex_timed_locks test_shared_mutex_timed_locks_chrono".split(), "a long of 32 bits"),
+    **dict.fromkeys("test_2309 test_ml".split(), "an older Boost.Test"),
     "test_10963": "a race of its own, over pthreads too",
     "test_11611": "more than 65,536 handles",
     "test_11796": THREADS,
-    "test_11499": THREADS,
     "test_13561": "a file that Debian leaves out",
-    "test_2309": "an older interface of Boost.Test",
+    "test_3837": "an older C++",
+    "test_8455": "blocks, as it says",
+    "test_8557": "counts of the C library's memory",
+    "test_9192": "files",
+    "test_9303": "sockets",
+    "test_time_jumps": "a clock that is set",
+    "test_tss": "a loader that tells of a thread's end",
 }
 
 
@@ -221,7 +229,7 @@ RENAMES = "grep -ohE '\\b(_*pthread|sem|sched|clock|nanosleep)_?[a-z_]* *[(]' in
 WINPTHREADS_LEFT_OUT = {
     **dict.fromkeys("barrier6 create2 once2 once3 reuse2".split(), THREADS),
     **dict.fromkeys("mutex4 mutex6e mutex6es mutex7 mutex7e mutex7n spin1 spin3".split(), "older than the library's mutexes"),
-    **dict.fromkeys("benchtest1 benchtest2 benchtest3 benchtest4 benchtest5 loadfree tryentercs tryentercs2".split(), "libraries that are loaded"),
+    **dict.fromkeys("benchtest1 benchtest2 benchtest3 benchtest4 loadfree tryentercs tryentercs2".split(), "libraries that are loaded"),
     **dict.fromkeys("cancel3 cancel5 cancel6a".split(), "threads that are canceled where they stand"),
     **dict.fromkeys("exception1 exception2 exception3".split(), "structured exceptions"),
     **dict.fromkeys("condvar1_1 condvar1_2".split(), "a RAND_MAX of 32,767"),
