@@ -1,5 +1,7 @@
 //! A script that is run, and what is seen of it.
-ghost use Rattle.std.specs.Prelude.{◌≡◌, ◌+◌, ◌<◌, ◌≤◌, ◌^◌, ◌++◌, [], ℕ, length, replicate, slice_index_or, vec_len, IfOk, IfErr, OnOk};
+ghost use Rattle.std.specs.Prelude.{◌≡◌, ◌+◌, ◌<◌, ◌≤◌, ◌++◌, ℕ, codes, nat_eq, length, slice_index_or, vec_len};
+ghost use Rattle.std.specs.Prelude.{IfOk, IfErr, OnOk};
+ghost use Rattle.std.specs.List.{ends_with};
 ghost use Rattle.nt_script.specs.Scope.{handle_in};
 ghost use Rattle.nt_script.specs.Progress.{AreCounted, LineAnswers, progress, progress_of};
 ghost use Rattle.nt_lines.specs.Lines.{lines_of};
@@ -121,6 +123,13 @@ fn is_last(last: Option<u64>, count: u64) -> bool
     }
 }
 
+/// Whether a line says that its call was refused for want of memory. A report of what came after would be one of another run.
+fn wants_memory(said: &[u8]) -> bool
+    ensures { result ≡ ends_with nat_eq said.now (codes ": error 8\n") }
+{
+    said.ends_with(b": error 8\n")
+}
+
 impl Watch {
     /// Nothing is seen yet.
     pub(crate) fn new(alloc: Global) -> Result<Watch, AllocError>
@@ -146,6 +155,9 @@ impl Watch {
     {
         let place = names_bound(&self.session);
         carry_out(&mut self.session, alloc, number, line, &mut self.out)?;
+        if wants_memory(&self.out) {
+            return Err(LineFault::Memory);
+        }
         note_waits(&mut self.since, &self.session, number);
         note_object(&mut self.objects, &self.session, place)?;
         Ok(())
