@@ -1,6 +1,5 @@
 /* Each function of nt.h: what it answers and writes, row by row. The answers are those of docs/WIN32.md. */
-#include "../nt.h"
-#include "check.h"
+#include "room.h"
 
 #include <stdlib.h>
 #include <string.h>
@@ -46,14 +45,6 @@ static const struct nt_reply UNTOLD = { 99, 99, 99, true, 99, 99, 99 };
         IS(nt_grant(&nt, index, &grant), NT_ERROR_NO_MORE_ITEMS); \
         IS(grant.thread, 99); \
     } while (0)
-
-static void *room(void)
-{
-    void *at = aligned_alloc(16, (nt_room() + 15) / 16 * 16);
-    if (at == NULL)
-        abort();
-    return at;
-}
 
 /* A handle with no dispatcher: every call answers 6, but for those that look at their arguments first. */
 static void without_dispatcher(void)

@@ -1,7 +1,6 @@
 /* What nt_grant answers after a call of nt.h that is refused: there is no grant, or those of the call before are still there. A driver that
  * reads the grants of each accepted call before the next one is told each wait once. */
-#include "../nt.h"
-#include "check.h"
+#include "room.h"
 
 static struct nt nt;
 static struct nt_reply reply;
@@ -45,8 +44,8 @@ static const struct {
 
 int main(void)
 {
-    nt.room = aligned_alloc(16, (nt_room() + 15) / 16 * 16);
-    must(nt.room != NULL && nt_open(&nt, 2) == 0 && nt_create_event(&nt, 0, 0, &reply) == 0);
+    nt.room = room();
+    must(nt_open(&nt, 2) == 0 && nt_create_event(&nt, 0, 0, &reply) == 0);
     const uint32_t event = reply.number;
     for (size_t i = 0; i < sizeof rows / sizeof *rows; i++) {
         struct nt_grant grant = { 99, 99 };

@@ -1,6 +1,5 @@
 /* What nt.h tells of objects and handles, and why threads wait: row by row, for a dispatcher of three threads. */
-#include "../nt.h"
-#include "check.h"
+#include "room.h"
 
 #include <stdlib.h>
 #include <string.h>
@@ -10,8 +9,7 @@ static struct nt_reply reply;
 
 static void open_three(void)
 {
-    nt.room = aligned_alloc(16, (nt_room() + 15) / 16 * 16);
-    must(nt.room != NULL);
+    nt.room = room();
     must(nt_open(&nt, 3) == 0);
 }
 
