@@ -1,5 +1,5 @@
 -- What C asks of those who sleep.
-use Rattle.std.specs.Prelude.{◌≡◌, ℕ, Bool, true, false, Option, None, Some, MatchOption, MatchBool, nat_le, slice_get}
+use Rattle.std.specs.Prelude.{◌≡◌, ℕ, Bool, true, false, Option, Some, MatchOption, MatchBool, nat_le, slice_get}
 use Rattle.nt_alarms.specs.Alarms.{alarm_at}
 use Rattle.nt_core.specs.Dispatcher.{state}
 use Rattle.nt_sleepers.specs.Sleepers.{Sleeping, Watches, Stops, told_of}

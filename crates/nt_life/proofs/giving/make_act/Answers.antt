@@ -7,7 +7,7 @@ use Rattle.nt_laws.specs.Laws.{call_closes}
 use Rattle.nt_life.proofs.Calls.{call_spare, act_closes, creation_closes}
 use Rattle.nt_life.proofs.Limits.{refused_full}
 use Rattle.nt_life.proofs.Choosing.{creates_lasts, creation_finds, other_lasts, other_full}
-use Rattle.nt_life.proofs.Stacking.{stacked_by, stacked_close}
+use Rattle.nt_life.proofs.Stacking.{stacked_by}
 use Rattle.nt_life.proofs.giving.make_act.Goals as goal
 
 pub returns-then-is_creation : goal.returns-then-is_creation
