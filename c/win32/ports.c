@@ -226,7 +226,10 @@ static ULONG get_packets(HANDLE handle, LPOVERLAPPED_ENTRY entries, ULONG count,
         return 0;
     take_latch(&ports_latch);
     struct packet *packet = take_packet(port);
-    if (packet == NULL && event != NULL && (ms > 0 || alertable))
+    /* (It may be closed since its handle was looked up: who waits from then on would be told by nobody.) */
+    if (packet == NULL && port->is_closed)
+        error = ERROR_ABANDONED_WAIT_0;
+    else if (packet == NULL && event != NULL && (ms > 0 || alertable))
         packet = wait_for_packet(port, ms, alertable, event, &error);
     for (; packet != NULL; packet = taken < count ? take_packet(port) : NULL) {
         entries[taken++] = packet->entry;
