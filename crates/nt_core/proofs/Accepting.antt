@@ -12,7 +12,7 @@ use Rattle.nt_objects.specs.declared.object.Object.{Object}
 use Rattle.nt_objects.specs.declared.object.Object.TheVariants.{Thread}
 use Rattle.nt_objects.specs.Object.{due_of, setter_of, is_thread, taken, IsLawfulObject}
 use Rattle.nt_alarms.specs.Alarms.{alarm_at}
-use Rattle.nt_status.specs.declared.limits.TheConstants.{MAX_THREADS, MAX_WAIT_OBJECTS}
+use Rattle.nt_status.specs.declared.limits.TheConstants.{MAX_MANY_THREADS, MAX_WAIT_OBJECTS}
 use Rattle.nt_calls.specs.declared.call.Call.{Call}
 use Rattle.nt_calls.specs.declared.call.Reply.{Reply}
 use Rattle.nt_calls.specs.declared.call.Grant.{Grant}
@@ -157,7 +157,7 @@ quiet_alarms zero h = refl
 quiet_alarms (suc n) zero = refl
 quiet_alarms (suc n) (suc h) = quiet_alarms n h
 
-pub opening_steady : (d : Dispatcher) → d.threads ≤ MAX_THREADS → d.handles ≡ own_handles d.threads (full_access (Thread false)) → d.objects ≡ replicate d.threads (Thread false) → d.table.pending ≡ fin.empty → Agrees d.table.pending d.table.queues → length d.handing ≡ d.threads → length d.apcs.queues ≡ d.threads → d.grants ≡ [] → d.alarms ≡ replicate d.threads None → d.leaving ≡ replicate d.threads None → d.marked.changed ≡ replicate d.threads None → d.marked.alerted ≡ replicate d.threads None → IsSteady d
+pub opening_steady : (d : Dispatcher) → d.threads ≤ MAX_MANY_THREADS → d.handles ≡ own_handles d.threads (full_access (Thread false)) → d.objects ≡ replicate d.threads (Thread false) → d.table.pending ≡ fin.empty → Agrees d.table.pending d.table.queues → length d.handing ≡ d.threads → length d.apcs.queues ≡ d.threads → d.grants ≡ [] → d.alarms ≡ replicate d.threads None → d.leaving ≡ replicate d.threads None → d.marked.changed ≡ replicate d.threads None → d.marked.alerted ≡ replicate d.threads None → IsSteady d
 opening_steady d few handles objects waits agrees hands inboxes grants alarms leaving changed alerted = record {
   sound = record {
     few = few;

@@ -62,7 +62,7 @@ tick_first d m fresh = record {
 -- what is left to test fits the counter
 pub tick_countable : (old now : Dispatcher) (m : ℕ) → IsSound old → TickSoFar old now m → now.table.looked + due_weight (blocks_in (state now)) m 0 now.objects < 2 ^ 64
 tick_countable old now m sound far =
-    let bound = due_weight_bound (blocks_in (state old)) m 0 256 old.objects (λ h. queue_few old h sound) in
+    let bound = due_weight_bound (blocks_in (state old)) m 0 4096 old.objects (λ h. queue_few old h sound) in
     let most = far.most in
     let handles = sound.handles.few in
     let enough = sound.handles.enough in

@@ -239,7 +239,7 @@ exited_fit old t numbers steady known runs changed = fit_only_in numbers old (ob
       | inr same ↦ inl same
     ]
 
-sequence_few : (s : State) (numbers : List ℕ) → ((h : ℕ) → length (s.queues h) ≤ 256) → length (sequence s numbers) ≤ 256 * length numbers
+sequence_few : (s : State) (numbers : List ℕ) → ((h : ℕ) → length (s.queues h) ≤ 4096) → length (sequence s numbers) ≤ 4096 * length numbers
 sequence_few s [] few = omega arith
 sequence_few s (h ∷ numbers) few =
     let here = few h in

@@ -1,6 +1,6 @@
 -- Handles name objects that there are.
 use Rattle.std.proofs.Common.{◌≡◌, ℕ, zero, suc, ◌+◌, ◌<◌, ◌≤◌, List, [], ◌∷◌, ◌++◌, length, length-append, refl, sym, ap, ◌∙◌, subst, arith, Option, Some, None, inl, inr, ◌⊎◌}
-use Rattle.nt_status.specs.declared.limits.TheConstants.{MAX_HANDLES, MAX_THREADS}
+use Rattle.nt_status.specs.declared.limits.TheConstants.{MAX_HANDLES, MAX_MANY_THREADS}
 use Rattle.nt_objects.specs.declared.handles.Opened.{Opened}
 use Rattle.nt_objects.specs.Handles.{opened_at, own_handles}
 use Rattle.nt_calls.specs.Naming.{object_in}
@@ -56,6 +56,6 @@ none_opened zero opened is = let e : None ≡ Some opened = is in (cc)
 none_opened (suc h) opened is = let e : None ≡ Some opened = is in (cc)
 
 -- at first each object is a thread's, and has a handle
-pub own_agree : (n access : ℕ) → n ≤ MAX_THREADS → HandlesAgree n (own_handles n access)
+pub own_agree : (n access : ℕ) → n ≤ MAX_MANY_THREADS → HandlesAgree n (own_handles n access)
 own_agree zero access few = record { few = omega arith; enough = omega arith; named = λ h opened is. none_opened h opened is }
 own_agree (suc n) access few = handles_created (suc n) (own_handles n access) n access (let count = own_count n access in omega (arith, few, count)) (own_agree n access (omega (arith, few))) (omega arith)

@@ -127,11 +127,11 @@ due_weight_less light heavy m k (o ∷ os) less = go (is_up_to m (due_of o)) (du
     go true rest here = omega (arith, rest, here)
     go false rest here = omega (arith, rest)
 
-pub due_weight_bound : (weight : ℕ → ℕ) (m k bound : ℕ) (os : List Object) → ((h : ℕ) → weight h ≤ 256) → due_weight weight m k os ≤ 256 * length os
+pub due_weight_bound : (weight : ℕ → ℕ) (m k bound : ℕ) (os : List Object) → ((h : ℕ) → weight h ≤ 4096) → due_weight weight m k os ≤ 4096 * length os
 due_weight_bound weight m k bound [] below = omega arith
 due_weight_bound weight m k bound (o ∷ os) below = go (is_up_to m (due_of o)) (due_weight_bound weight m (k + 1) bound os below) (below k)
   where
-    go : (b : Bool) → due_weight weight m (k + 1) os ≤ 256 * length os → weight k ≤ 256 → (if b then weight k else 0) + due_weight weight m (k + 1) os ≤ 256 * length (o ∷ os)
+    go : (b : Bool) → due_weight weight m (k + 1) os ≤ 4096 * length os → weight k ≤ 4096 → (if b then weight k else 0) + due_weight weight m (k + 1) os ≤ 4096 * length (o ∷ os)
     go true rest here = omega (arith, rest, here)
     go false rest here = omega (arith, rest)
 

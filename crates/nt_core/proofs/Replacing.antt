@@ -38,7 +38,7 @@ use Rattle.nt_core.proofs.Accepting.{accepted, settled_after, reading_taken_by, 
 
 -- ---- a queue holds each thread once at most
 
-pub queue_few : (d : Dispatcher) (h : ℕ) → IsSound d → length ((state d).queues h) ≤ 256
+pub queue_few : (d : Dispatcher) (h : ℕ) → IsSound d → length ((state d).queues h) ≤ 4096
 queue_few d h sound =
     let few = few_below d.threads ((state d).queues h) (sound.blocks.once h) (λ u m. let own = sound.blocks.named u h m in (sound.waits u own.0 own.1).known) in
     let all = sound.few in

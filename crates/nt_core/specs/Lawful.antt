@@ -3,7 +3,7 @@ use Rattle.std.specs.declared.option.Option.{Option}
 use Rattle.std.specs.Prelude.{◌≡◌, ℕ, ◌<◌, ◌≤◌, ◌+◌, ◌⊎◌, true, false, not, ◌&&◌, List, [], length, Some, nat_eq}
 use Rattle.std.specs.FinMap as map
 use Rattle.std.specs.FinMap.{get}
-use Rattle.nt_status.specs.declared.limits.TheConstants.{MAX_HANDLES, MAX_THREADS, MAX_WAIT_OBJECTS}
+use Rattle.nt_status.specs.declared.limits.TheConstants.{MAX_HANDLES, MAX_MANY_THREADS, MAX_WAIT_OBJECTS}
 use Rattle.nt_objects.specs.declared.object.Object.{Object}
 use Rattle.nt_objects.specs.declared.handles.Opened.{Opened}
 use Rattle.nt_objects.specs.Handles.{opened_at, count_named}
@@ -76,7 +76,7 @@ pub record IsUnmarked (marked : Marked) : Type 0 where
 
 -- what holds also between a change and the serving after it
 pub record IsSound (d : Dispatcher) : Type 0 where
-  pub few : d.threads ≤ MAX_THREADS
+  pub few : d.threads ≤ MAX_MANY_THREADS
   pub waits : (t : ℕ) (w : Wait) → get (state d).waits t ≡ Some w → IsSoundWait d.threads d.objects t w
   -- wait blocks and pending waits name each other exactly
   pub blocks : Agrees d.table.pending d.table.queues

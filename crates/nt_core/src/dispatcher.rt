@@ -14,7 +14,7 @@ ghost use Rattle.nt_calls.specs.Moves.{Moves, IsMomentAfter, pended, is_wait};
 
 use crate::machine::Machine;
 use nt_calls::{Call, Grant, Reply, count_living};
-use nt_status::{Handle, MAX_THREADS, Moment, Refusal};
+use nt_status::{Handle, MAX_MANY_THREADS, MAX_THREADS, Moment, Refusal};
 use nt_waits::Reader;
 use std::alloc::Global;
 use std::marker::Model;
@@ -29,7 +29,7 @@ pub struct Core {
 
 impl Model for Core {
     ghost use Rattle.std.specs.Coded.{codes};
-    ghost use Rattle.nt_status.specs.declared.limits.TheConstants.{MAX_THREADS};
+    ghost use Rattle.nt_status.specs.declared.limits.TheConstants.{MAX_MANY_THREADS, MAX_THREADS};
     ghost use Rattle.nt_waits.specs.Waits.{waits_code};
     ghost use Rattle.nt_core.specs.Dispatcher.{Dispatcher};
     ghost use Rattle.nt_core.specs.Lawful.{IsLawful};
@@ -58,6 +58,33 @@ impl Core {
         if threads == 0 || threads > MAX_THREADS {
             return Err(Refusal::InvalidParameter);
         }
+        Core::open(alloc, threads)
+    }
+
+    /// A dispatcher for many threads, as `new` makes one for fewer. More threads take more memory, and no call looks at all of them.
+    ///
+    /// Refused with 87 unless there are 1 to `MAX_MANY_THREADS` threads, and with 8 where memory is refused.
+    pub fn with_many_threads(alloc: Global, threads: u32) -> Result<Core, Refusal>
+        ensures ok { IfOk result (λ core. (1 ≤ threads) × (threads ≤ MAX_MANY_THREADS) × (state core ≡ opening threads)
+            × (core.grants ≡ [])) }
+        ensures untested { IfOk result (λ core. core.table.looked ≡ 0) }
+        ensures lawful { IfOk result (λ core. IsLawful core) }
+        ensures err { IfErr result (λ r.
+            MatchBool (nat_le 1 threads && nat_le threads MAX_MANY_THREADS) (r ≡ Memory) (r ≡ InvalidParameter)) }
+    {
+        if threads == 0 || threads > MAX_MANY_THREADS {
+            return Err(Refusal::InvalidParameter);
+        }
+        Core::open(alloc, threads)
+    }
+
+    /// A dispatcher whose threads run and wait for nothing.
+    fn open(alloc: Global, threads: u32) -> Result<Core, Refusal>
+        requires { threads ≤ MAX_MANY_THREADS }
+        ensures ok { IfOk result (λ core. (state core ≡ opening threads) × (core.grants ≡ [])
+            × (core.table.looked ≡ 0) × IsLawful core) }
+        ensures memory { IfErr result (λ refusal. refusal ≡ Memory) }
+    {
         let (machine, reader) = Machine::new(alloc, threads)?;
         machine.objects.agree();
         Ok(Core { machine, reader })

@@ -12,7 +12,7 @@ use nt_apc::ApcQueues;
 use nt_calls::{Grant, Reply};
 use nt_objects::{HandleTable, Object};
 use nt_owners::ObjectTable;
-use nt_status::{MAX_THREADS, Moment, Refusal};
+use nt_status::{MAX_MANY_THREADS, Moment, Refusal};
 use nt_waits::{Reader, WaitTable};
 use std::alloc::{AllocError, Global};
 use std::marker::Model;
@@ -49,7 +49,7 @@ pub struct Machine {
 
 impl Model for Machine {
     ghost use Rattle.std.specs.Prelude.{◌≡◌, ◌≤◌, length, vec_capacity};
-    ghost use Rattle.nt_status.specs.declared.limits.TheConstants.{MAX_THREADS};
+    ghost use Rattle.nt_status.specs.declared.limits.TheConstants.{MAX_MANY_THREADS};
     ghost use Rattle.nt_core.specs.Dispatcher.{Dispatcher, dispatcher_of};
     ghost use Rattle.nt_waits.specs.Waits.{waits_code};
     ghost use Rattle.std.specs.Coded.{codes};
@@ -61,14 +61,14 @@ impl Model for Machine {
     ghost view = { λ m. dispatcher_of m.threads m.handles.opened m.objects.items m.objects.owned m.waits m.apcs
         m.handing.items m.moment m.grants.items m.alarms m.leaving m.changed m.alerted };
 
-    ghost invariant = { λ m. (m.threads ≤ MAX_THREADS) × (m.threads ≤ vec_capacity m.grants)
+    ghost invariant = { λ m. (m.threads ≤ MAX_MANY_THREADS) × (m.threads ≤ vec_capacity m.grants)
         × (length m.objects.owned ≡ m.threads) };
 }
 
 impl Machine {
     /// Running threads that wait for nothing, and the reader of their waits.
     pub fn new(alloc: Global, threads: u32) -> Result<(Self, Reader), Refusal>
-        requires { threads ≤ MAX_THREADS }
+        requires { threads ≤ MAX_MANY_THREADS }
         ensures opening { IfOk result (λ r. state r.0 ≡ opening threads) }
         ensures grants { IfOk result (λ r. r.0.grants ≡ []) }
         ensures untested { IfOk result (λ r. r.0.table.looked ≡ 0) }

@@ -163,6 +163,7 @@ impl Machine {
         requires steady { IsSteady self.old }
         requires living { LivesWhileKept (state self.old) }
         ensures added { AddsVacant (state self.old) result self.new.grants (state self.new) }
+        ensures untested { self.new.table.looked ≡ 0 }
         ensures steady { IsSteady self.new }
         ensures living { LivesWhileKept (state self.new) }
     {
@@ -185,6 +186,7 @@ impl Machine {
         requires living { LivesWhileKept (state self.old) }
         ensures created { CreatesAgain (state self.old) who act.now object handle
             result self.new.grants (state self.new) }
+        ensures untested { self.new.table.looked ≡ 0 }
         ensures steady { IsSteady self.new }
         ensures living { LivesWhileKept (state self.new) }
     {
@@ -214,6 +216,7 @@ impl Machine {
         requires living { LivesWhileKept (state self.old) }
         ensures duplicated { DuplicatesAgain (state self.old) who source access handle
             result self.new.grants (state self.new) }
+        ensures untested { self.new.table.looked ≡ 0 }
         ensures steady { IsSteady self.new }
         ensures living { LivesWhileKept (state self.new) }
     {
@@ -243,6 +246,7 @@ impl Machine {
         requires steady { IsSteady self.old }
         requires living { LivesWhileKept (state self.old) }
         ensures begun { BeginsAgain (state self.old) thread handle result self.new.grants (state self.new) }
+        ensures untested { self.new.table.looked ≡ 0 }
         ensures steady { IsSteady self.new }
         ensures living { LivesWhileKept (state self.new) }
     {
@@ -262,6 +266,7 @@ impl Core {
     /// Refused with `HandleLimit` where there are as many object numbers as handle numbers, and with 8 where memory is refused.
     pub fn add_vacant(&mut self) -> Result<ObjectNumber, Refusal>
         ensures added { AddsVacant (state self.old) result self.new.grants (state self.new) }
+        ensures untested { self.new.table.looked ≡ 0 }
         ensures lawful { IsLawful self.new }
     {
         let result = self.machine.add_vacant();
@@ -283,6 +288,7 @@ impl Core {
     ) -> Result<Reply, Refusal>
         ensures created { CreatesAgain (state self.old) who act.now object handle
             result self.new.grants (state self.new) }
+        ensures untested { self.new.table.looked ≡ 0 }
         ensures lawful { IsLawful self.new }
     {
         let result = self.machine.create_again(who, act, object, handle);
@@ -304,6 +310,7 @@ impl Core {
     ) -> Result<Reply, Refusal>
         ensures duplicated { DuplicatesAgain (state self.old) who source access handle
             result self.new.grants (state self.new) }
+        ensures untested { self.new.table.looked ≡ 0 }
         ensures lawful { IsLawful self.new }
     {
         let result = self.machine.duplicate_again(who, source, access, handle);
@@ -318,6 +325,7 @@ impl Core {
     /// Refused with 6 where one of the numbers can't be given again.
     pub fn begin_again(&mut self, thread: u32, handle: Handle) -> Result<Reply, Refusal>
         ensures begun { BeginsAgain (state self.old) thread handle result self.new.grants (state self.new) }
+        ensures untested { self.new.table.looked ≡ 0 }
         ensures lawful { IsLawful self.new }
     {
         let result = self.machine.begin_again(thread, handle);

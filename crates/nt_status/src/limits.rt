@@ -3,6 +3,9 @@
 /// The most threads of a dispatcher. Their numbers are 0 to 255.
 pub const MAX_THREADS: u32 = 256;
 
+/// The most threads of a dispatcher that is opened for many. Their numbers are 0 to 4095.
+pub const MAX_MANY_THREADS: u32 = 4096;
+
 /// The most handles that a dispatcher gives in its life, so also the most objects. Their numbers are 0 to 65535.
 pub const MAX_HANDLES: usize = 65536;
 
