@@ -1,4 +1,4 @@
-/* The calls that crates/nt_bench times on the front, made on the dispatcher of bench/dispatcher.c, and what lies below both:
+/* The calls that crates/nt_front_bench times on the front, made on the dispatcher of bench/dispatcher.c, and what lies below both:
    a bare pthread mutex, and a round trip over two futexes.
 
    usage: front [SHAPE ROUNDS]      without words, a few rounds of each shape, without times; with them, one shape twice: first on

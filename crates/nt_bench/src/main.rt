@@ -1,45 +1,42 @@
-//! Makes the same calls over and over, on a core alone and on a front under real threads.
-//!
-//! - `nt_bench` makes a few rounds of each shape, and prints how many calls and grants those were;
-//! - `nt_bench core ROUNDS [NUMBER]` times the core's shapes, or the one with this number, which counts from 0;
-//! - `nt_bench front SHAPE ROUNDS` times one of the front's shapes twice: first on a journal whose memory was never touched, and
-//!   then on one that was.
+//! `nt_bench [ROUNDS [SHAPE]]` makes the same calls on the core round by round, and prints for each shape how many calls and
+//! grants a round has, and with ROUNDS the picoseconds of a call. SHAPE, which counts from 0, runs that one alone.
 #![tactic(auto)]
 
-ghost use Rattle.std.specs.Prelude.{◌≡◌};
+mod shapes;
+mod turns;
 
-mod fault;
-mod on_core;
-mod on_front;
-
-use fault::Fault;
-use on_core::Rounds;
-use on_front::shapes::{Shape, shape_named};
-use std::alloc::Global;
-use std::env::{self, Args};
+use shapes::{SHAPES, Shape, shape_of};
+use std::alloc::AllocError;
+use std::env;
 use std::io::{self, Write};
 use std::process::ExitCode;
-use std::sync::Wait;
-use std::thread::Threads;
-use std::time::Clock;
+use std::time::{Duration, Instant};
+use turns::{Counts, Fault, Stage};
 
 /// How often a round is made where nothing is timed.
-const FEW: u32 = 3;
+const FEW: u64 = 3;
 
-/// What the command line asks for.
+/// What the command line asks for: so many rounds, timed or not, of all shapes or of one.
 #[derive(Clone, Copy)]
-enum Plan {
-    /// A few rounds of each shape.
-    Each,
-    /// So many rounds of the core's shapes.
-    Core(Rounds),
-    /// So many rounds of one of the front's shapes, twice.
-    Front(Shape, u32),
+struct Plan {
+    rounds: u64,
+    is_timed: bool,
+    only: Option<u32>,
 }
 
-/// What the words after `core` ask for.
-fn plan_on_core(words: &mut Args) -> Result<Plan, Fault> {
-    let rounds = match words.next() {
+impl Plan {
+    fn has(self, shape: u32) -> bool {
+        match self.only {
+            Some(only) => only == shape,
+            None => true,
+        }
+    }
+}
+
+fn plan_of(rt: &HostRuntime) -> Result<Plan, AllocError> {
+    let mut words = env::args(rt).map_err(|_| AllocError)?;
+    let _program = words.next();
+    let asked = match words.next() {
         Some(word) => word.as_str().parse::<u64>().ok(),
         None => None,
     };
@@ -47,79 +44,72 @@ fn plan_on_core(words: &mut Args) -> Result<Plan, Fault> {
         Some(word) => word.as_str().parse::<u32>().ok(),
         None => None,
     };
-    let Some(rounds) = rounds else {
-        return Err(Fault::Usage);
-    };
-    Ok(Plan::Core(Rounds {
-        rounds,
-        is_timed: true,
-        only,
-    }))
-}
-
-/// What the words after `front` ask for.
-fn plan_on_front(words: &mut Args) -> Result<Plan, Fault> {
-    let shape = match words.next() {
-        Some(word) => shape_named(word.as_str()),
-        None => None,
-    };
-    let rounds = match words.next() {
-        Some(word) => word.as_str().parse::<u32>().ok(),
-        None => None,
-    };
-    match (shape, rounds) {
-        (Some(shape), Some(rounds)) => Ok(Plan::Front(shape, rounds)),
-        _ => Err(Fault::Usage),
-    }
-}
-
-fn plan_of(rt: &HostRuntime) -> Result<Plan, Fault> {
-    let mut words = env::args(rt).map_err(|_| Fault::Memory)?;
-    let _program = words.next();
-    match words.next() {
-        None => Ok(Plan::Each),
-        Some(word) => match word.as_str() {
-            "core" => plan_on_core(&mut words),
-            "front" => plan_on_front(&mut words),
-            _ => Err(Fault::Usage),
+    Ok(match asked {
+        Some(rounds) => Plan {
+            rounds,
+            is_timed: true,
+            only,
         },
-    }
+        None => Plan {
+            rounds: FEW,
+            is_timed: false,
+            only,
+        },
+    })
 }
 
-/// Makes a few rounds of each shape, and prints what they were.
-fn run_each<R: Threads + Wait + Clock + Sync>(
-    rt: &R,
-    alloc: Global,
-    out: &mut impl Write,
-) -> Result<(), Fault> {
-    let few = Rounds {
-        rounds: u64::from(FEW),
-        is_timed: false,
-        only: None,
+/// What a shape counted, and how long it took.
+#[derive(Clone, Copy)]
+struct Measured {
+    counts: Counts,
+    took: Duration,
+}
+
+/// Makes the stage's round so many times.
+fn timed(rt: &HostRuntime, stage: &mut Stage<'_>, rounds: u64) -> Result<Measured, Fault> {
+    let began = Instant::now(rt).map_err(|_| Fault::Clock)?;
+    let counts = stage.run(rounds)?;
+    let took = began.elapsed(rt).map_err(|_| Fault::Clock)?;
+    Ok(Measured { counts, took })
+}
+
+/// Opens a stage for the shape, and makes its round so many times.
+fn measure(rt: &HostRuntime, shape: &Shape, rounds: u64) -> Result<Measured, Fault> {
+    let mut stage = Stage::open(rt.alloc(), shape)?;
+    timed(rt, &mut stage, rounds)
+}
+
+/// Runs one shape, and prints its line.
+fn run_shape(rt: &HostRuntime, number: u32, plan: Plan, out: &mut impl Write) -> Result<(), Fault> {
+    let shape = shape_of(rt.alloc(), number)?;
+    let Measured { counts, took } = measure(rt, &shape, plan.rounds)?;
+    let Counts { calls, grants } = counts;
+    let told = if plan.is_timed {
+        let picoseconds = took.as_nanos().saturating_mul(1000) / (calls.max(1) as u128);
+        writeln!(
+            out,
+            "{}: {calls} calls, {grants} grants, {picoseconds} ps a call",
+            shape.name
+        )
+    } else {
+        writeln!(out, "{}: {calls} calls, {grants} grants", shape.name)
     };
-    on_core::run(rt, alloc, few, out)?;
-    on_front::run_each(rt, alloc, FEW, out)
+    told.map_err(|_| Fault::Output)
 }
 
-fn run<R: Threads + Wait + Clock + Sync>(
-    rt: &R,
-    alloc: Global,
-    plan: Plan,
-    out: &mut impl Write,
-) -> Result<(), Fault> {
-    match plan {
-        Plan::Each => run_each(rt, alloc, out),
-        Plan::Core(rounds) => on_core::run(rt, alloc, rounds, out),
-        Plan::Front(shape, rounds) => on_front::run_timed(rt, alloc, shape, rounds, out),
+fn run_all(rt: &HostRuntime) -> Result<(), Fault> {
+    let plan = plan_of(rt)?;
+    let mut out = io::writer(rt);
+    for number in 0..SHAPES {
+        if plan.has(number) {
+            run_shape(rt, number, plan, &mut out)?;
+        }
     }
+    Ok(())
 }
 
 fn main(rt: HostRuntime) -> ExitCode {
-    let Ok(plan) = plan_of(&rt) else {
-        return ExitCode::FAILURE;
-    };
-    let mut out = io::writer(&rt);
-    match run(&rt, rt.alloc(), plan, &mut out) {
+    match run_all(&rt) {
         Ok(()) => ExitCode::SUCCESS,
         Err(_) => ExitCode::FAILURE,
     }

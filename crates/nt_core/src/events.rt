@@ -37,7 +37,6 @@ impl Machine {
     }
 
     /// SetEvent.
-    #[inline(always)]
     pub(crate) fn set_event(&mut self, handle: Handle) -> Answer
         requires fresh { IsFresh self.old }
         ensures { IsActOfAny self.old self.new (Act.SetEvent handle) result }

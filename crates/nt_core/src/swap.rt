@@ -43,7 +43,6 @@ impl Machine {
     }
 
     /// Makes all the room that the caller's wait for this object may need. With a timeout of 0 it needs none.
-    #[inline(always)]
     fn prepare(&mut self, thread: ThreadId, object: ObjectNumber, mode: Mode) -> Result<(), Refusal>
         ensures ready { OnOk result (mode.ms ≢ 0 → self.new.table.prepared
             ≡ Some (thread, wait_of self.old.now (objects_call (record mode { all = false }) (object ∷ [])))) }
@@ -108,7 +107,6 @@ impl Machine {
     }
 
     /// A swap of the objects that these handles name, made or refused by its own causes.
-    #[inline(always)]
     pub(crate) fn signal_and_wait(
         &mut self,
         thread: ThreadId,

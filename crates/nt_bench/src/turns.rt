@@ -1,11 +1,31 @@
 //! Calls that are made over and over.
 
-use crate::fault::Fault;
-use crate::on_core::shapes::Shape;
+use crate::shapes::Shape;
 use nt_apc::Apc;
 use nt_core::{Call, Core};
 use nt_status::Refusal;
-use std::alloc::Global;
+use std::alloc::{AllocError, Global};
+
+/// Why a bench can't go on.
+#[derive(Clone, Copy, Debug)]
+pub enum Fault {
+    Memory,
+    Refused(Refusal),
+    Clock,
+    Output,
+}
+
+impl From<AllocError> for Fault {
+    fn from(_: AllocError) -> Fault {
+        Fault::Memory
+    }
+}
+
+impl From<Refusal> for Fault {
+    fn from(refusal: Refusal) -> Fault {
+        Fault::Refused(refusal)
+    }
+}
 
 /// One call by one thread.
 #[derive(Drop)]

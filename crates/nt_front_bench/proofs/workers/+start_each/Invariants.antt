@@ -1,5 +1,5 @@
 use Rattle.std.proofs.Common.{vec_len}
-use Rattle.nt_bench.proofs.on_front.workers.+start_each.Given as goal
+use Rattle.nt_front_bench.proofs.workers.+start_each.Given as goal
 
 abbrev pub decreases-start_each : goal.decreases-start_each
 decreases-start_each g l = vec_len l.carriers

@@ -1,6 +1,6 @@
 use Rattle.std.proofs.Common.{◌≤◌, ◌+◌}
 use Rattle.std.specs.Prelude.{vec_len, vec_capacity}
-use Rattle.nt_bench.proofs.on_front.workers.finish.Given as goal
+use Rattle.nt_front_bench.proofs.workers.finish.Given as goal
 
 abbrev pub invariant-loop-one : goal.invariant-loop-one
 invariant-loop-one g l = vec_len l.holds + vec_len l.back ≤ vec_capacity l.holds

@@ -1,8 +1,8 @@
 //! 64 threads wait for all of a common event and one of their own.
-use crate::on_front::alone::set_stage;
-use crate::on_front::moves::{call, nanos_since, now, objects};
-use crate::on_front::shapes::Shape;
-use crate::on_front::told::Told;
+use crate::alone::set_stage;
+use crate::moves::{call, nanos_since, now, objects};
+use crate::shapes::Shape;
+use crate::told::Told;
 use nt_core::Act;
 use nt_front::{Begun, Carried, Front, Named, Pass, Polled, Sleeper};
 use nt_status::{Handle, INFINITE};

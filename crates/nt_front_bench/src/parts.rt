@@ -1,7 +1,6 @@
 //! What a call of the front is made of: the dispatcher's own work, the journal's entry, and the lock.
-use crate::fault::Fault;
-use crate::on_front::moves::{nanos_since, now, objects};
-use crate::on_front::told::Told;
+use crate::moves::{nanos_since, now, objects};
+use crate::told::{Fault, Told};
 use nt_core::{Act, Call, Core, Reply};
 use nt_front::Entry;
 use nt_status::{Handle, Refusal, Status, ThreadId};

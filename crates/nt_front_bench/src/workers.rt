@@ -1,8 +1,8 @@
 //! Workers take a mutex, release a semaphore and release the mutex, as `ntrun threads` has them do.
 ghost use Rattle.std.specs.Prelude.{◌≡◌, ◌+◌, ◌<◌, ◌≤◌, [], vec_len, vec_capacity};
 
-use crate::on_front::moves::{call, objects, wait, wait_for};
-use crate::on_front::told::Told;
+use crate::moves::{call, objects, wait, wait_for};
+use crate::told::Told;
 use nt_core::Act;
 use nt_front::{Carried, Exited, Front, Held, History, Named, Pass};
 use nt_status::{Handle, INFINITE};

@@ -1,10 +1,10 @@
 //! The pairs of one thread beside another that waits. A program that needs a lock has several threads, and some C libraries take a lock
 //! with no atomic step while there is only one.
-use crate::on_front::alone::{rounds_of, set_stage};
-use crate::on_front::moves::{call, wait_for};
-use crate::on_front::pair::Back;
-use crate::on_front::shapes::Shape;
-use crate::on_front::told::Told;
+use crate::alone::{rounds_of, set_stage};
+use crate::moves::{call, wait_for};
+use crate::pair::Back;
+use crate::shapes::Shape;
+use crate::told::Told;
 use nt_core::Act;
 use nt_front::{Carried, Front, Named, Pass};
 use std::alloc::Global;

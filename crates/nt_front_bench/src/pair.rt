@@ -1,8 +1,8 @@
 //! Two threads set each other's event and wait for their own.
-use crate::on_front::alone::set_stage;
-use crate::on_front::moves::{call, nanos_since, now, wait_for};
-use crate::on_front::shapes::Shape;
-use crate::on_front::told::Told;
+use crate::alone::set_stage;
+use crate::moves::{call, nanos_since, now, wait_for};
+use crate::shapes::Shape;
+use crate::told::Told;
 use nt_core::Act;
 use nt_front::{Carried, Front, Named, Pass};
 use nt_status::Handle;

@@ -1,5 +1,5 @@
 //! Calls of a thread, counted.
-use crate::on_front::told::Told;
+use crate::told::Told;
 use nt_core::{Act, Reply, WaitCall};
 use nt_front::{Begun, Front, Named, Pass, Waited};
 use nt_status::{Handle, Handles, INFINITE, Status};

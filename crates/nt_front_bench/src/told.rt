@@ -1,4 +1,29 @@
-//! What a shape did.
+//! What a shape did, and why it could not.
+use nt_status::Refusal;
+use std::alloc::AllocError;
+
+/// Why a bench can't go on.
+#[derive(Clone, Copy, Debug)]
+pub enum Fault {
+    Memory,
+    Refused(Refusal),
+    /// A call answered something else than the shape expects.
+    Wrong,
+    Usage,
+    Output,
+}
+
+impl From<AllocError> for Fault {
+    fn from(_: AllocError) -> Fault {
+        Fault::Memory
+    }
+}
+
+impl From<Refusal> for Fault {
+    fn from(refusal: Refusal) -> Fault {
+        Fault::Refused(refusal)
+    }
+}
 
 /// How many calls were made and how many grants taken, how many answers were others than expected, and how long it took.
 #[derive(Clone, Copy, Default)]

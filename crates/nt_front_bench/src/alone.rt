@@ -1,7 +1,7 @@
 //! What one thread does.
-use crate::on_front::moves::{call, nanos_since, now, try_wait, wait_for};
-use crate::on_front::shapes::{Company, Kind, Shape};
-use crate::on_front::told::Told;
+use crate::moves::{call, nanos_since, now, try_wait, wait_for};
+use crate::shapes::{Company, Kind, Shape};
+use crate::told::Told;
 use nt_core::Act;
 use nt_front::{Front, Named, Pass};
 use nt_status::{Handle, Moment, Status};

@@ -1,6 +1,6 @@
 use Rattle.std.proofs.Common.{◌≡◌, ◌+◌}
 use Rattle.std.specs.Prelude.{vec_len, vec_capacity}
-use Rattle.nt_bench.proofs.on_front.measure.carry.Given as goal
+use Rattle.nt_front_bench.proofs.measure.carry.Given as goal
 
 abbrev pub invariant-loop-pass : goal.invariant-loop-pass
 invariant-loop-pass g l = (vec_len l.carriers + vec_len l.passes ≡ vec_len l.fn.passes) × (vec_capacity l.carriers ≡ vec_capacity l.fn.carriers)

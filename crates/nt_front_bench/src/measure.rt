@@ -1,16 +1,15 @@
 //! Opens a front for a shape, and makes its rounds.
 ghost use Rattle.std.specs.Prelude.{◌≡◌, ◌+◌, ◌<◌, ◌≤◌, [], vec_len, vec_capacity, IfOk};
 
-use crate::fault::Fault;
-use crate::on_front::alone::alone;
-use crate::on_front::beside::beside;
-use crate::on_front::moves::{nanos_since, now};
-use crate::on_front::pair::round_trips;
-use crate::on_front::parts::{bare_lock, core_alone, core_and_journal};
-use crate::on_front::queue::one_of_64;
-use crate::on_front::shapes::{Company, Kind, Shape};
-use crate::on_front::told::Told;
-use crate::on_front::workers::{Back, Objects, with_all};
+use crate::alone::alone;
+use crate::beside::beside;
+use crate::moves::{nanos_since, now};
+use crate::pair::round_trips;
+use crate::parts::{bare_lock, core_alone, core_and_journal};
+use crate::queue::one_of_64;
+use crate::shapes::{Company, Kind, Shape};
+use crate::told::{Fault, Told};
+use crate::workers::{Back, Objects, with_all};
 use nt_core::{Act, Call};
 use nt_front::{Blank, Carried, Entry, Front, Held, History, Named, Pass, open, prepare};
 use nt_status::Handle;

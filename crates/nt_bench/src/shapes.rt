@@ -1,6 +1,6 @@
 //! What is timed.
 
-use crate::on_core::turns::Turn;
+use crate::turns::Turn;
 use nt_core::{Act, Call, WaitCall};
 use nt_status::{Handle, Handles, INFINITE};
 use std::alloc::{AllocError, Global};
