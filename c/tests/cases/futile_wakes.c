@@ -10,6 +10,7 @@
 #include <sys/syscall.h>
 
 static LONG sleeps, wakes;
+static _Thread_local LONG own_wakes; /* those that the caller made: a thread that has ended may still make its last */
 
 static long (*real)(long number, ...);
 
@@ -22,8 +23,11 @@ long syscall(long number, ...)
     for (int i = 0; i < 6; i++)
         words[i] = va_arg(list, long);
     va_end(list);
-    if (number == SYS_futex)
-        InterlockedIncrement((words[1] & FUTEX_CMD_MASK) == FUTEX_WAKE ? &wakes : &sleeps);
+    if (number == SYS_futex) {
+        const BOOL is_wake = (words[1] & FUTEX_CMD_MASK) == FUTEX_WAKE;
+        InterlockedIncrement(is_wake ? &wakes : &sleeps);
+        own_wakes += is_wake;
+    }
     return real(number, words[0], words[1], words[2], words[3], words[4], words[5]);
 }
 
@@ -51,10 +55,9 @@ static void time_out_beside(HANDLE event)
     IS(SetWaitableTimer(timer, &due, 0, NULL, NULL, FALSE), TRUE);
     HANDLE thread = CreateThread(NULL, 0, waits_later, timer, 0, NULL);
     await(&begins);
-    rest_ms(20);
-    const LONG wakes_before = wakes;
+    const LONG wakes_before = own_wakes;
     must(WaitForSingleObject(event, 300) == WAIT_TIMEOUT);
-    IS(wakes - wakes_before, 0);
+    IS(own_wakes - wakes_before, 0);
     due.QuadPart = 0;
     IS(SetWaitableTimer(timer, &due, 0, NULL, NULL, FALSE), TRUE);
     IS(WaitForSingleObject(thread, INFINITE), WAIT_OBJECT_0);
