@@ -133,14 +133,31 @@ struct wanted {
     LONG initial, maximum;
     DWORD flags, known_flags;
     DWORD access;
+    const void *place;      /* where in the program it was called */
 };
+
+/* The object that this handle names was created, under the lock, and has no name that the program calls it by. */
+static void note_made(uint32_t number, const void *place)
+{
+    struct nt_opened opened;
+    if (nt_opened(&waiting.dispatcher, number, &opened) != 0)
+        return;
+    waiting.made_at[opened.object] = place;
+    free(waiting.called[opened.object]);
+    waiting.called[opened.object] = NULL;
+}
 
 /* Makes the object, under the lock, with a handle that has all rights. */
 static uint32_t make_object(const struct seat *seat, const struct wanted *wanted, struct nt_reply *reply)
 {
+    uint32_t refused;
     if (wanted->make != NULL)
-        return wanted->make(&waiting.dispatcher, seat->number, wanted->flags, reply);
-    return nt_create_semaphore(&waiting.dispatcher, seat->number, wanted->initial, wanted->maximum, reply);
+        refused = wanted->make(&waiting.dispatcher, seat->number, wanted->flags, reply);
+    else
+        refused = nt_create_semaphore(&waiting.dispatcher, seat->number, wanted->initial, wanted->maximum, reply);
+    if (refused == 0)
+        note_made(reply->number, wanted->place);
+    return refused;
 }
 
 /* Makes an object with this name, under the lock, with a handle for the program. It is `fresh`, and in the list from now on. */

@@ -10,15 +10,20 @@
 #include <errno.h>
 #include <fcntl.h>
 #include <limits.h>
+#include <link.h>
 #include <linux/futex.h>
 #include <pthread.h>
 #include <sched.h>
 #include <setjmp.h>
+#include <signal.h>
 #include <stdatomic.h>
 #include <stdio.h>
 #include <stdlib.h>
+#include <string.h>
 #include <strings.h>
+#include <sys/mman.h>
 #include <sys/resource.h>
+#include <sys/stat.h>
 #include <sys/syscall.h>
 #include <sys/sysinfo.h>
 #include <time.h>
@@ -92,6 +97,8 @@ struct seat {
     pthread_t thread;
     struct seat *next;       /* among the spare seats, or among those whose threads have left */
     uint32_t looks;          /* how often it looks at its word before it sleeps: 0 where that was in vain of late */
+    const void *waits_at;    /* where in the program its last wait that pended was called */
+    bool tells;              /* its call has tied a knot, of which it tells once the lock is given back */
     uint32_t wakes;          /* how many threads its call has told something while they slept: it wakes them, */
     uint32_t woken[NT_MAXIMUM_THREADS]; /* once the lock is given back */
 };
@@ -145,7 +152,15 @@ static struct {
     uint8_t threads[NT_MAXIMUM_HANDLES]; /* where that is a thread, which one; */
     struct named *named[NT_MAXIMUM_HANDLES]; /* where it has a name, which; else null; */
     struct port *ports[NT_MAXIMUM_HANDLES]; /* where it is a completion port, which; else null */
+    const void *made_at[NT_MAXIMUM_HANDLES]; /* of an object, by its own number: where in the program it was created, or null; */
+    char *called[NT_MAXIMUM_HANDLES];  /* and how ntwin_name calls it, or null */
 } waiting;
+
+/* Tells on standard error of the knot that the caller's call has tied (why.c). */
+static void tell_knot(struct seat *caller);
+
+/* This is a child that was forked: it goes on without a journal, and without a thread that takes SIGQUIT. */
+static void stop_looking(void);
 
 #ifdef CHECKS_WAITING
 static void check_waiting(void);

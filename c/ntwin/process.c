@@ -60,6 +60,7 @@ static uint32_t seat_thread(const struct seat *caller, struct seat **seat, struc
         give_seat(*seat);
     else
         name_thread(reply->number, *seat);
+    (*seat)->life.id = id_of(*seat);
     return refused;
 }
 
@@ -83,7 +84,6 @@ HANDLE CreateThread(LPSECURITY_ATTRIBUTES attributes, SIZE_T stack, LPTHREAD_STA
     seat->start = start;
     seat->parameter = parameter;
     seat->suspended = (flags & CREATE_SUSPENDED) != 0;
-    seat->life.id = id_of(seat);
     /* The new thread may end before this call does, and with it what `id` points to. */
     if (id != NULL)
         *id = id_of(seat);

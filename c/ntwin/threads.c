@@ -67,6 +67,7 @@ static void leave_last(void *round)
 static void note_fork(void)
 {
     const bool is_opening = pthread_mutex_trylock(&process.opening) != 0;
+    stop_looking();
     own.id = 0;
     waiting.left = NULL;
     if (!is_opening)

@@ -122,6 +122,8 @@ __attribute__((noinline)) static void wake_all(struct seat *caller)
     caller->wakes = 0;
     for (uint32_t i = 0; i < wakes; i++)
         wake_one(&waiting.seats[caller->woken[i]].word);
+    if (caller->tells)
+        tell_knot(caller);
 }
 
 /* Gives the lock back, and wakes whom the call told something. */

@@ -103,23 +103,26 @@ struct wait {
     BOOL alertable;
 };
 
-/* What a wait answers: at once, or once it is granted. The caller's APCs run before. */
-static inline DWORD finish_wait(struct seat *seat, uint32_t refused, struct wait wait)
+/* What a wait answers: at once, or once it is granted. The caller's APCs run before. (It is a part of the call that the program makes, and so knows
+ * where that is.) */
+static inline __attribute__((always_inline)) DWORD finish_wait(struct seat *seat, uint32_t refused, struct wait wait)
 {
     if (refused != 0)
         return fail_wait(seat, refused);
     note(seat);
     DWORD status = seat->reply.number;
-    if (seat->reply.kind == NT_PENDED)
+    if (seat->reply.kind == NT_PENDED) {
+        seat->waits_at = __builtin_return_address(0);
         status = sleep_until_granted(seat, may_watch(seat, wait.numbers, wait.count, wait.alertable));
-    else
+    } else {
         unlock_and_wake(seat);
+    }
     if (status == WAIT_IO_COMPLETION)
         run_apcs(seat);
     return status;
 }
 
-DWORD WaitForMultipleObjectsEx(DWORD count, const HANDLE *objects, BOOL all, DWORD ms, BOOL alertable)
+static inline __attribute__((always_inline)) DWORD await_objects(DWORD count, const HANDLE *objects, BOOL all, DWORD ms, BOOL alertable)
 {
     uint32_t numbers[MAXIMUM_WAIT_OBJECTS];
     if (objects == NULL || count > MAXIMUM_WAIT_OBJECTS) {
@@ -137,12 +140,17 @@ DWORD WaitForMultipleObjectsEx(DWORD count, const HANDLE *objects, BOOL all, DWO
                        (struct wait){ numbers, count, ms, alertable });
 }
 
-DWORD WaitForMultipleObjects(DWORD count, const HANDLE *objects, BOOL all, DWORD ms)
+DWORD WaitForMultipleObjectsEx(DWORD count, const HANDLE *objects, BOOL all, DWORD ms, BOOL alertable)
 {
-    return WaitForMultipleObjectsEx(count, objects, all, ms, FALSE);
+    return await_objects(count, objects, all, ms, alertable);
 }
 
-DWORD WaitForSingleObjectEx(HANDLE object, DWORD ms, BOOL alertable)
+DWORD WaitForMultipleObjects(DWORD count, const HANDLE *objects, BOOL all, DWORD ms)
+{
+    return await_objects(count, objects, all, ms, FALSE);
+}
+
+static inline __attribute__((always_inline)) DWORD await_object(HANDLE object, DWORD ms, BOOL alertable)
 {
     struct seat *seat = begin();
     if (seat == NULL)
@@ -153,9 +161,14 @@ DWORD WaitForSingleObjectEx(HANDLE object, DWORD ms, BOOL alertable)
                        (struct wait){ &number, 1, ms, alertable });
 }
 
+DWORD WaitForSingleObjectEx(HANDLE object, DWORD ms, BOOL alertable)
+{
+    return await_object(object, ms, alertable);
+}
+
 DWORD WaitForSingleObject(HANDLE object, DWORD ms)
 {
-    return WaitForSingleObjectEx(object, ms, FALSE);
+    return await_object(object, ms, FALSE);
 }
 
 DWORD SignalObjectAndWait(HANDLE signal, HANDLE object, DWORD ms, BOOL alertable)
@@ -170,7 +183,7 @@ DWORD SignalObjectAndWait(HANDLE signal, HANDLE object, DWORD ms, BOOL alertable
                        (struct wait){ &number, 1, ms, alertable });
 }
 
-DWORD SleepEx(DWORD ms, BOOL alertable)
+static inline __attribute__((always_inline)) DWORD await_time(DWORD ms, BOOL alertable)
 {
     struct seat *seat = begin();
     if (seat == NULL)
@@ -183,11 +196,16 @@ DWORD SleepEx(DWORD ms, BOOL alertable)
     return status;
 }
 
+DWORD SleepEx(DWORD ms, BOOL alertable)
+{
+    return await_time(ms, alertable);
+}
+
 /* A sleep can't fail: a thread that has no seat, or no memory for its wait, sleeps by itself. */
 void Sleep(DWORD ms)
 {
     const DWORD error = own.last_error;
-    if (SleepEx(ms, FALSE) != WAIT_FAILED)
+    if (await_time(ms, FALSE) != WAIT_FAILED)
         return;
     own.last_error = error;
     struct timespec left = { .tv_sec = ms / 1000, .tv_nsec = (long)(ms % 1000) * 1000000 };

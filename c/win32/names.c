@@ -11,13 +11,14 @@ struct named {
     WCHAR name[];
 };
 
-/* A name as a call gives it: the one or the other, or none. */
+/* A name as a call gives it: the one or the other, or none; and where in the program that call is. */
 struct given_name {
     LPCSTR narrow;
     LPCWSTR wide;
+    const void *place;
 };
-#define NARROW(name) ((struct given_name){ .narrow = (name) })
-#define WIDE(name) ((struct given_name){ .wide = (name) })
+#define NARROW(name) ((struct given_name){ .narrow = (name), .place = __builtin_return_address(0) })
+#define WIDE(name) ((struct given_name){ .wide = (name), .place = __builtin_return_address(0) })
 
 static bool is_named(struct given_name given)
 {

@@ -150,6 +150,7 @@ HRESULT SetThreadDescription(HANDLE thread, PCWSTR description)
     WCHAR *before = seat->life.description;
     const pid_t task = seat->has_left ? 0 : seat->life.task;
     seat->life.description = copy;
+    write_description(seat->number, copy);
     unlock_and_wake(caller);
     if (task != 0)
         name_task(task, description != NULL ? description : L"");
