@@ -97,15 +97,19 @@ static inline struct seat *begin(void)
     return seat;
 }
 
+/* What a call answers that was refused. */
+__attribute__((noinline, cold)) static BOOL fail_call(struct seat *seat, uint32_t refused)
+{
+    unlock_and_wake(seat);
+    return fail(refused);
+}
+
 /* Gives the lock back, wakes whom the call granted, and answers whether it was accepted. */
 static inline BOOL finish(struct seat *seat, uint32_t refused)
 {
-    if (refused != 0) {
-        unlock_and_wake(seat);
-        return fail(refused);
-    }
-    note(seat);
-    unlock_and_wake(seat);
+    if (refused != 0)
+        return fail_call(seat, refused);
+    note_and_unlock(seat);
     return TRUE;
 }
 

@@ -134,6 +134,17 @@ static inline void unlock_and_wake(struct seat *caller)
         wake_all(caller);
 }
 
+/* As `note`, and then as `unlock_and_wake`: where no wait pended before the call, one look tells that there is nobody to tell or to wake. */
+static inline void note_and_unlock(struct seat *caller)
+{
+    if ((waiting.pending | caller->wakes) == 0) {
+        give_lock();
+        return;
+    }
+    note(caller);
+    unlock_and_wake(caller);
+}
+
 /* A timer was set at this moment, under the lock, to be due at that one. */
 static void note_timer(uint64_t now, uint64_t due)
 {

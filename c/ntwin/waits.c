@@ -79,13 +79,20 @@ static inline void begin_timed(struct seat *seat, DWORD ms)
         catch_up(seat);
 }
 
-/* Whether a timer may end the caller's wait for these. */
-static bool may_watch(const struct seat *seat, const uint32_t *numbers, DWORD count, BOOL alertable)
+/* A wait, as it was asked for: what it waits for, and whether APCs may end it. */
+struct wait {
+    const uint32_t *numbers;
+    DWORD count;
+    BOOL alertable;
+};
+
+/* Whether a timer may end the caller's wait. */
+static bool may_watch(const struct seat *seat, struct wait wait)
 {
-    for (DWORD i = 0; i < count; i++)
-        if (kind_of(numbers[i]) == KIND_TIMER)
+    for (DWORD i = 0; i < wait.count; i++)
+        if (kind_of(wait.numbers[i]) == KIND_TIMER)
             return true;
-    return alertable && seat->has_routines;
+    return wait.alertable && seat->has_routines;
 }
 
 /* What a wait answers that was refused. */
@@ -96,33 +103,45 @@ __attribute__((noinline, cold)) static DWORD fail_wait(struct seat *seat, uint32
     return WAIT_FAILED;
 }
 
-/* A wait, as it was asked for: what it waits for, and how. */
-struct wait {
-    const uint32_t *numbers;
-    DWORD count, ms;
-    BOOL alertable;
-};
-
-/* What a wait answers: at once, or once it is granted. The caller's APCs run before. (It is a part of the call that the program makes, and so knows
- * where that is.) */
-static inline __attribute__((always_inline)) DWORD finish_wait(struct seat *seat, uint32_t refused, struct wait wait)
+/* What a wait answers that pends: its status, once it is granted. The caller's APCs run before. */
+__attribute__((noinline)) static DWORD finish_pending(struct seat *seat, struct wait wait)
 {
-    if (refused != 0)
-        return fail_wait(seat, refused);
     note(seat);
-    DWORD status = seat->reply.number;
-    if (seat->reply.kind == NT_PENDED) {
-        seat->waits_at = __builtin_return_address(0);
-        status = sleep_until_granted(seat, may_watch(seat, wait.numbers, wait.count, wait.alertable));
-    } else {
-        unlock_and_wake(seat);
-    }
+    const DWORD status = sleep_until_granted(seat, may_watch(seat, wait));
     if (status == WAIT_IO_COMPLETION)
         run_apcs(seat);
     return status;
 }
 
-static inline __attribute__((always_inline)) DWORD await_objects(DWORD count, const HANDLE *objects, BOOL all, DWORD ms, BOOL alertable)
+/* The same for one object. */
+__attribute__((noinline)) static DWORD finish_pending_for_one(struct seat *seat, uint32_t number, BOOL alertable)
+{
+    return finish_pending(seat, (struct wait){ &number, 1, alertable });
+}
+
+/* What a wait answers that ended at once. */
+static inline DWORD finish_ended(struct seat *seat, BOOL alertable)
+{
+    const DWORD status = seat->reply.number;
+    note_and_unlock(seat);
+    if (alertable && status == WAIT_IO_COMPLETION)
+        run_apcs(seat);
+    return status;
+}
+
+/* What a wait answers: at once, or once it is granted. (In line in the call that the program makes, as all that waits is, so that it knows where that
+ * is.) */
+__attribute__((always_inline)) static inline DWORD finish_wait(struct seat *seat, uint32_t refused, struct wait wait)
+{
+    if (refused != 0)
+        return fail_wait(seat, refused);
+    if (seat->reply.kind != NT_PENDED)
+        return finish_ended(seat, wait.alertable);
+    seat->waits_at = __builtin_return_address(0);
+    return finish_pending(seat, wait);
+}
+
+__attribute__((always_inline)) static inline DWORD wait_for_objects(DWORD count, const HANDLE *objects, BOOL all, DWORD ms, BOOL alertable)
 {
     uint32_t numbers[MAXIMUM_WAIT_OBJECTS];
     if (objects == NULL || count > MAXIMUM_WAIT_OBJECTS) {
@@ -137,38 +156,44 @@ static inline __attribute__((always_inline)) DWORD await_objects(DWORD count, co
         return WAIT_FAILED;
     begin_timed(seat, ms);
     return finish_wait(seat, nt_wait(&waiting.dispatcher, seat->number, numbers, count, all != FALSE, ms, alertable != FALSE, &seat->reply),
-                       (struct wait){ numbers, count, ms, alertable });
+                       (struct wait){ numbers, count, alertable });
 }
 
 DWORD WaitForMultipleObjectsEx(DWORD count, const HANDLE *objects, BOOL all, DWORD ms, BOOL alertable)
 {
-    return await_objects(count, objects, all, ms, alertable);
+    return wait_for_objects(count, objects, all, ms, alertable);
 }
 
 DWORD WaitForMultipleObjects(DWORD count, const HANDLE *objects, BOOL all, DWORD ms)
 {
-    return await_objects(count, objects, all, ms, FALSE);
+    return wait_for_objects(count, objects, all, ms, FALSE);
 }
 
-static inline __attribute__((always_inline)) DWORD await_object(HANDLE object, DWORD ms, BOOL alertable)
+/* A wait for one object. (In line, so that what is for APCs goes where none is asked for.) */
+__attribute__((always_inline)) static inline DWORD wait_for_object(HANDLE object, DWORD ms, BOOL alertable)
 {
     struct seat *seat = begin();
     if (seat == NULL)
         return WAIT_FAILED;
     const uint32_t number = waited_number_of(seat, object);
     begin_timed(seat, ms);
-    return finish_wait(seat, nt_wait_object(&waiting.dispatcher, seat->number, number, ms, alertable != FALSE, &seat->reply),
-                       (struct wait){ &number, 1, ms, alertable });
+    const uint32_t refused = nt_wait_object(&waiting.dispatcher, seat->number, number, ms, alertable != FALSE, &seat->reply);
+    if (refused != 0)
+        return fail_wait(seat, refused);
+    if (seat->reply.kind != NT_PENDED)
+        return finish_ended(seat, alertable);
+    seat->waits_at = __builtin_return_address(0);
+    return finish_pending_for_one(seat, number, alertable);
 }
 
 DWORD WaitForSingleObjectEx(HANDLE object, DWORD ms, BOOL alertable)
 {
-    return await_object(object, ms, alertable);
+    return wait_for_object(object, ms, alertable);
 }
 
 DWORD WaitForSingleObject(HANDLE object, DWORD ms)
 {
-    return await_object(object, ms, FALSE);
+    return wait_for_object(object, ms, FALSE);
 }
 
 DWORD SignalObjectAndWait(HANDLE signal, HANDLE object, DWORD ms, BOOL alertable)
@@ -180,17 +205,17 @@ DWORD SignalObjectAndWait(HANDLE signal, HANDLE object, DWORD ms, BOOL alertable
     begin_timed(seat, ms);
     return finish_wait(seat, nt_swap(&waiting.dispatcher, seat->number, number_of(seat, signal), number, ms, alertable != FALSE,
                                      &seat->reply),
-                       (struct wait){ &number, 1, ms, alertable });
+                       (struct wait){ &number, 1, alertable });
 }
 
-static inline __attribute__((always_inline)) DWORD await_time(DWORD ms, BOOL alertable)
+__attribute__((always_inline)) static inline DWORD sleep_for_ms(DWORD ms, BOOL alertable)
 {
     struct seat *seat = begin();
     if (seat == NULL)
         return WAIT_FAILED;
     begin_timed(seat, ms);
     const DWORD status = finish_wait(seat, nt_sleep(&waiting.dispatcher, seat->number, ms, alertable != FALSE, &seat->reply),
-                                     (struct wait){ NULL, 0, ms, alertable });
+                                     (struct wait){ NULL, 0, alertable });
     if (ms == 0)
         sched_yield();
     return status;
@@ -198,14 +223,14 @@ static inline __attribute__((always_inline)) DWORD await_time(DWORD ms, BOOL ale
 
 DWORD SleepEx(DWORD ms, BOOL alertable)
 {
-    return await_time(ms, alertable);
+    return sleep_for_ms(ms, alertable);
 }
 
 /* A sleep can't fail: a thread that has no seat, or no memory for its wait, sleeps by itself. */
 void Sleep(DWORD ms)
 {
     const DWORD error = own.last_error;
-    if (await_time(ms, FALSE) != WAIT_FAILED)
+    if (sleep_for_ms(ms, FALSE) != WAIT_FAILED)
         return;
     own.last_error = error;
     struct timespec left = { .tv_sec = ms / 1000, .tv_nsec = (long)(ms % 1000) * 1000000 };
