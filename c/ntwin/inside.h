@@ -98,7 +98,7 @@ struct seat {
     struct seat *next;       /* among the spare seats, or among those whose threads have left */
     uint32_t looks;          /* how often it looks at its word before it sleeps: 0 where that was in vain of late */
     const void *waits_at;    /* where in the program its last wait that pended was called */
-    bool tells;              /* its call has tied a knot, of which it tells once the lock is given back */
+    bool tells;              /* its call has tied a knot, of which it tells as it gives the lock back */
     uint32_t wakes;          /* how many threads its call has told something while they slept: it wakes them, */
     uint32_t woken[NT_MAXIMUM_THREADS]; /* once the lock is given back */
 };
@@ -156,8 +156,9 @@ static struct {
     char *called[NT_MAXIMUM_HANDLES];  /* and how ntwin_name calls it, or null */
 } waiting;
 
-/* Tells on standard error of the knot that the caller's call has tied (why.c). */
-static void tell_knot(struct seat *caller);
+/* Why threads wait, under the lock, and telling that on standard error, without it (looking.c). */
+static char *text_of_knot(void);
+static void tell_knot(struct seat *caller, char *text);
 
 /* This is a child that was forked: it goes on without a journal, and without a thread that takes SIGQUIT. */
 static void stop_looking(void);

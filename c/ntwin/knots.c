@@ -35,8 +35,15 @@ static bool waits_for_those(uint32_t thread, const bool *holders)
     return held > 0 && (wait.all || held == wait.count);
 }
 
-/* Those of the knot that only wait for what others hold, of whom was told, are no knot of their own. Answers whether any is left. Of all of them was
- * told then. */
+/* Whether the thread sleeps without end, which it does on purpose. */
+static bool is_asleep_for_good(uint32_t thread)
+{
+    struct nt_pending_wait wait;
+    return nt_waits_for(&waiting.dispatcher, thread, &wait) == 0 && wait.count == 0;
+}
+
+/* Those of the knot that only wait for what others hold, of whom was told, are no knot of their own, and neither is one that sleeps. Answers whether any
+ * is left. Of all these was told then. */
 static bool is_new_knot(const bool *knot)
 {
     static bool told[NT_MAXIMUM_THREADS];
@@ -47,14 +54,13 @@ static bool is_new_knot(const bool *knot)
             if (knot[i] && !told[i] && waits_for_those(i, told))
                 told[i] = again = true;
     }
-    for (uint32_t i = 0; i < NT_MAXIMUM_THREADS; i++) {
-        is_new |= knot[i] && !told[i];
-        told[i] |= knot[i];
-    }
+    for (uint32_t i = 0; i < NT_MAXIMUM_THREADS; i++)
+        if (knot[i] && !told[i] && !is_asleep_for_good(i))
+            told[i] = is_new = true;
     return is_new;
 }
 
-/* Has the caller tell of a knot that its call has tied, once it has given the lock back. (It wakes itself, and so comes to `wake_all`.) */
+/* Has the caller tell of a knot that its call has tied, as it gives the lock back. (It wakes itself, and so comes to `unlock_and_wake_all`.) */
 static void look_for_knot(void)
 {
     bool over[NT_MAXIMUM_THREADS], knot[NT_MAXIMUM_THREADS];

@@ -44,22 +44,6 @@ static void write_with_places(FILE *to, const char *text)
     fputs(text, to);
 }
 
-/* Writes why threads wait, with places as numbers. */
-static void write_why(FILE *to, const char *none)
-{
-    (void)none;
-    if (process.is_forked) {
-        fputs("ntwin: the threads of the process that was forked are not here\n", to);
-        return;
-    }
-    pthread_mutex_lock(&telling);
-    look_at_sleepers();
-    take_lock();
-    write_all(to);
-    give_lock();
-    pthread_mutex_unlock(&telling);
-}
-
 /* What is written there, as a text; null where memory is refused. Who asks for it frees it. */
 static char *text_written_by(void (*write)(FILE *to, const char *from), const char *from)
 {
@@ -76,22 +60,53 @@ static char *text_written_by(void (*write)(FILE *to, const char *from), const ch
     return NULL;
 }
 
-static char *text_of_why(void)
+/* Writes why threads wait, under the lock, with places as numbers. */
+static void write_why(FILE *to, const char *none)
 {
-    char *marked = text_written_by(write_why, NULL), *text = marked != NULL ? text_written_by(write_with_places, marked) : NULL;
+    (void)none;
+    pthread_mutex_lock(&telling);
+    look_at_sleepers();
+    write_all(to);
+    pthread_mutex_unlock(&telling);
+}
+
+static char *text_of_knot(void)
+{
+    return text_written_by(write_why, NULL);
+}
+
+/* The same text with files and offsets as places, in the place of this one. */
+static char *with_places(char *marked)
+{
+    char *text = marked != NULL ? text_written_by(write_with_places, marked) : NULL;
     free(marked);
     return text;
 }
 
+static char *text_of_why(void)
+{
+    take_lock();
+    char *marked = text_written_by(write_why, NULL);
+    give_lock();
+    return with_places(marked);
+}
+
 static const char no_memory[] = "ntwin: out of memory: not told why threads wait\n";
+static const char not_here[] = "ntwin: this child was forked beside other threads, which are not here\n";
 
 void ntwin_why(FILE *to)
 {
-    const DWORD error = own.last_error;
-    char *text = text_of_why();
+    char *text = process.is_forked ? NULL : text_of_why();
+    fputs(text != NULL ? text : process.is_forked ? not_here : no_memory, to);
+    free(text);
+}
+
+/* (It is written to memory first: who holds the stream may wait for what is held meanwhile.) */
+void ntwin_write_waits(FILE *to)
+{
+    char *text = text_written_by(write_waits, NULL);
     fputs(text != NULL ? text : no_memory, to);
     free(text);
-    own.last_error = error;
 }
 
 /* Writes to standard error, which may be closed. (Not through its stream: who waits may hold that.) */
@@ -113,19 +128,19 @@ static void say(const char *text)
     errno = error;
 }
 
-static void say_why(void)
+/* Says this text, and frees it. */
+static void say_text(char *text)
 {
-    char *text = text_of_why();
     say(text != NULL ? text : no_memory);
     free(text);
 }
 
 static bool aborts; /* written before main */
 
-static void tell_knot(struct seat *caller)
+static void tell_knot(struct seat *caller, char *text)
 {
     caller->tells = false;
-    say_why();
+    say_text(with_places(text));
     if (aborts)
         abort();
 }
@@ -171,7 +186,7 @@ static void *tell_at_signal(void *signals)
 {
     int number;
     while (sigwait(signals, &number) == 0)
-        say_why();
+        say_text(text_of_why());
     return NULL;
 }
 

@@ -122,16 +122,25 @@ __attribute__((noinline)) static void wake_all(struct seat *caller)
     caller->wakes = 0;
     for (uint32_t i = 0; i < wakes; i++)
         wake_one(&waiting.seats[caller->woken[i]].word);
+}
+
+/* The same, once the lock is given back; and tells of the knot that the caller's call has tied, as all stands before that. */
+__attribute__((noinline)) static void unlock_and_wake_all(struct seat *caller)
+{
+    char *text = caller->tells ? text_of_knot() : NULL;
+    give_lock();
+    wake_all(caller);
     if (caller->tells)
-        tell_knot(caller);
+        tell_knot(caller, text);
 }
 
 /* Gives the lock back, and wakes whom the call told something. */
 static inline void unlock_and_wake(struct seat *caller)
 {
-    give_lock();
     if (caller->wakes > 0)
-        wake_all(caller);
+        unlock_and_wake_all(caller);
+    else
+        give_lock();
 }
 
 /* As `note`, and then as `unlock_and_wake`: where no wait pended before the call, one look tells that there is nobody to tell or to wake. */

@@ -270,6 +270,16 @@ static void write_verdict(FILE *to)
     write_knots(to);
 }
 
+/* A line for each place beside the dispatcher at which this thread sleeps; null: for each that has no seat. */
+static void write_sleeping(FILE *to, const struct seat *seat)
+{
+    for (uint32_t i = 0; i < told_all.count; i++)
+        if (seat_of_id(told_all.of[i].id) == seat) {
+            fputs("  ", to);
+            write_told(to, &told_all.of[i], write_thread_of_id);
+        }
+}
+
 static void write_all(FILE *to)
 {
     look_at_threads();
@@ -279,12 +289,11 @@ static void write_all(FILE *to)
     if (known.held > 1)
         fprintf(to, ", %u hold each other", known.held);
     fputc('\n', to);
-    for (uint32_t i = 0; i < waiting.seated; i++)
+    for (uint32_t i = 0; i < waiting.seated; i++) {
         write_pending(to, i);
-    for (uint32_t i = 0; i < told_all.count; i++) {
-        fputs("  ", to);
-        write_told(to, &told_all.of[i], write_thread_of_id);
+        write_sleeping(to, &waiting.seats[i]);
     }
+    write_sleeping(to, NULL);
     if (!told_all.is_whole)
         fputs("  not all threads could be looked at\n", to);
     write_verdict(to);

@@ -148,8 +148,9 @@ static void write_knot_of_ids(FILE *to, DWORD first)
 }
 
 /* Writes a line for each thread that sleeps, and for each knot of critical sections. */
-void ntwin_write_waits(FILE *to)
+static void write_waits(FILE *to, const char *none)
 {
+    (void)none;
     pthread_mutex_lock(&telling);
     look_at_sleepers();
     for (uint32_t i = 0; i < told_all.count; i++)
