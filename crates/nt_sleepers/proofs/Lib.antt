@@ -1,3 +1,5 @@
 pub mod Waking
 pub mod Kept
 pub mod Counts
+pub mod Staying
+pub mod Deadlines

@@ -28,19 +28,41 @@ abbrev pub NoneUpTo : List (Option ℕ) → ℕ → Type 0
 NoneUpTo alarms u = (t m : ℕ) → alarm_at alarms t ≡ Some m → u < m
 
 -- whatever is awaited, some thread sleeps no longer than to that moment, or no thread watches
+abbrev pub IsWatched : State → List (Option ℕ) → List (Option ℕ) → Type 0
+IsWatched s alarms watchers = (u : ℕ) → u ≤ MAX_MOMENT → IsAwaited s u → IsQuiet watchers ⊎ SleepsUpTo alarms u
+
+-- when a wait times out
+abbrev pub deadline_of : Option Wait → Option ℕ
+deadline_of None = None
+deadline_of (Some w) = w.deadline
+
+-- this thread sleeps by itself no longer than to this moment, or was stopped, and has no alarm
+abbrev pub IsBack : List (Option ℕ) → ℕ → ℕ → Type 0
+IsBack alarms t u = (alarm_at alarms t ≡ None) ⊎ ((m : ℕ) × (alarm_at alarms t ≡ Some m) × (m ≤ u))
+
+-- each thread whose wait times out is back by then
+abbrev pub MeetsDeadlines : State → List (Option ℕ) → Type 0
+MeetsDeadlines s alarms = (t u : ℕ) → deadline_of (get s.waits t) ≡ Some u → IsBack alarms t u
+
+-- whatever is awaited, some thread sleeps no longer than to that moment; or no thread watches, and only waits of threads that were stopped
+-- time out then. (No thread watches: of each whose wait pends it was said that no timer may end it, or nothing yet.)
 abbrev pub IsInTime : State → List (Option ℕ) → List (Option ℕ) → Type 0
-IsInTime s alarms watchers = (u : ℕ) → u ≤ MAX_MOMENT → IsAwaited s u → IsQuiet watchers ⊎ SleepsUpTo alarms u
+IsInTime s alarms watchers =
+    (u : ℕ) → u ≤ MAX_MOMENT → IsAwaited s u →
+    SleepsUpTo alarms u ⊎ (IsQuiet watchers × ((t : ℕ) → deadline_of (get s.waits t) ≡ Some u → alarm_at alarms t ≡ None))
 
 -- only threads whose waits pend have an alarm, or a mark
 abbrev pub OnlyWaiting : State → List (Option ℕ) → Type 0
 OnlyWaiting s places = (t m : ℕ) → alarm_at places t ≡ Some m → pends s t ≡ true
 
--- whoever sleeps or watches waits, and if anybody watches, the time is kept
+-- whoever sleeps or watches waits, and the time is kept: for each deadline by the thread itself, and for timers by one of those who watch or sleep
 pub record TimeIsKept (s : State) (alarms watchers : List (Option ℕ)) : Type 0 where
   pub few : length alarms ≤ MAX_THREADS
+  pub places : length alarms ≡ s.threads
   pub count : length watchers ≡ length alarms
   pub asleep : OnlyWaiting s alarms
   pub watching : OnlyWaiting s watchers
+  pub deadlines : MeetsDeadlines s alarms
   pub in_time : IsInTime s alarms watchers
 
 -- who is called waits
@@ -59,11 +81,6 @@ without_woken (g ∷ gs) places = without_woken gs (slice_set places g.thread No
 abbrev pub set_if : Bool → ℕ → Option ℕ → List (Option ℕ) → List (Option ℕ)
 set_if false t x places = places
 set_if true t x places = slice_set places t x
-
--- when a wait times out
-abbrev pub deadline_of : Option Wait → Option ℕ
-deadline_of None = None
-deadline_of (Some w) = w.deadline
 
 -- who is called sleeps no longer than to moment 0
 abbrev pub with_called : Option ℕ → List (Option ℕ) → List (Option ℕ)

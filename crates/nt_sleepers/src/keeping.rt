@@ -5,7 +5,7 @@ ghost use Rattle.nt_status.specs.declared.limits.TheConstants.{MAX_THREADS};
 ghost use Rattle.nt_alarms.specs.Alarms.{IsQuiet};
 ghost use Rattle.nt_calls.specs.State.{pends};
 ghost use Rattle.nt_core.specs.Dispatcher.{state};
-ghost use Rattle.nt_sleepers.specs.Sleepers.{IsCalled, IsInTime, IsShortEnough, NoneUpTo, SleepsTo, SleepsUpTo, TimeIsKept, deadline_of, set_if, settled, with_called, without_woken};
+ghost use Rattle.nt_sleepers.specs.Sleepers.{IsCalled, IsShortEnough, IsWatched, NoneUpTo, SleepsTo, SleepsUpTo, TimeIsKept, deadline_of, set_if, settled, with_called, without_woken};
 
 use nt_alarms::Alarms;
 use nt_core::{Core, Grant};
@@ -75,7 +75,7 @@ fn sleeps_up_to(alarms: &Alarms, u: u64) -> bool
 fn call_one(core: &Core, alarms: &mut Alarms, watchers: &Alarms) -> Option<u32>
     requires count { length watchers.now ≡ length alarms.old }
     requires few { length alarms.old ≤ MAX_THREADS }
-    ensures in_time { IsInTime (state core.now) alarms.new watchers.now }
+    ensures in_time { IsWatched (state core.now) alarms.new watchers.now }
     ensures alarms { alarms.new ≡ with_called result alarms.old }
     ensures called { IsCalled (state core.now) alarms.old watchers.now result }
 {
@@ -99,7 +99,7 @@ pub(crate) fn settle_all(
 ) -> Option<u32>
     requires count { length watchers.old ≡ length alarms.old }
     requires few { length alarms.old ≤ MAX_THREADS }
-    ensures in_time { IsInTime (state core.now) alarms.new watchers.new }
+    ensures in_time { IsWatched (state core.now) alarms.new watchers.new }
     ensures alarms { alarms.new ≡ with_called result (settled alarms.old who began core.now) }
     ensures watchers { watchers.new ≡ without_woken core.now.grants watchers.old }
     ensures called { IsCalled (state core.now) (settled alarms.old who began core.now) watchers.new result }
@@ -124,7 +124,7 @@ pub(crate) fn settle(
     requires count { length watchers.old ≡ length alarms.old }
     requires few { length alarms.old ≤ MAX_THREADS }
     requires idle { was_idle ≡ true → (core.now.grants ≡ []) × IsQuiet watchers.old × (called.old ≡ None) }
-    ensures in_time { IsInTime (state core.now) alarms.new watchers.new }
+    ensures in_time { IsWatched (state core.now) alarms.new watchers.new }
     ensures alarms { alarms.new ≡ with_called called.new (settled alarms.old who began core.now) }
     ensures watchers { watchers.new ≡ without_woken core.now.grants watchers.old }
     ensures called { IsCalled (state core.now) (settled alarms.old who began core.now) watchers.new called.new }

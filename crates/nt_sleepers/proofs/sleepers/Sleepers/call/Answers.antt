@@ -1,16 +1,18 @@
-use Rattle.std.proofs.Common.{ℕ, Bool, Option, ap, sym, subst}
+use Rattle.std.proofs.Common.{refl, ℕ, Bool, Option, ap, sym, subst}
 use Rattle.nt_calls.specs.Moves.{Moves, pended}
 use Rattle.nt_calls.specs.State.{State}
 use Rattle.nt_core.specs.Dispatcher.{state}
 use Rattle.std.specs.FinMap.{get}
 use Rattle.nt_sleepers.specs.Sleepers.{Sleeping, TimeIsKept, CalledWaits, deadline_of, settled}
+use Rattle.nt_sleepers.proofs.Staying.{StayedOrBegan, call_stayed}
 use Rattle.nt_sleepers.proofs.Kept.{refused, still, woke_still, on_err, kept_after, called_waits, nobody_by_call, woke_as}
 use Rattle.nt_sleepers.proofs.sleepers.Sleepers.call.Goals as goal
 
 pub invariant_of-self-2 : goal.invariant_of-self-2
 invariant_of-self-2 c =
     let moves = subst (λ (b : Bool). Moves (state c.self.inside.core) c.args.who b c.call-result.new.self.grants (state c.call-result.new.self)) (sym c.has_pended-began.ensures) c.call-result.ensures.moves in
-    let kept = kept_after (state c.self.inside.core) (state c.call-result.new.self) c.args.who c.has_pended-began.result c.call-result.new.self.grants (deadline_of (get (state c.call-result.new.self).waits c.args.who)) c.settle_all-self-inside.result c.self.inside.alarms c.self.inside.watchers c.settle_all-self-inside.new.alarms c.settle_all-self-inside.new.watchers moves c.self.invariant.0
+    let stayed = subst (λ (b : Bool). StayedOrBegan (state c.self.inside.core) c.args.who b (state c.call-result.new.self)) (sym c.has_pended-began.ensures) (call_stayed (state c.self.inside.core) c.args.who c.args.call.now c.call-result.result c.call-result.new.self.grants (state c.call-result.new.self) c.call-result.ensures.called) in
+    let kept = kept_after (state c.self.inside.core) (state c.call-result.new.self) c.args.who c.has_pended-began.result c.call-result.new.self.grants (deadline_of (get (state c.call-result.new.self).waits c.args.who)) c.settle_all-self-inside.result c.self.inside.alarms c.self.inside.watchers c.settle_all-self-inside.new.alarms c.settle_all-self-inside.new.watchers moves stayed (λ began. refl) c.self.invariant.0
     c.settle_all-self-inside.ensures.alarms c.settle_all-self-inside.ensures.watchers c.settle_all-self-inside.ensures.called c.settle_all-self-inside.ensures.in_time in
     (kept, called_waits (state c.call-result.new.self) (settled c.self.inside.alarms c.args.who c.has_pended-began.result c.call-result.new.self) c.settle_all-self-inside.new.watchers c.settle_all-self-inside.result kept.watching c.settle_all-self-inside.ensures.called)
 

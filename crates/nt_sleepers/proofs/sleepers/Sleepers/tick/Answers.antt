@@ -4,12 +4,14 @@ use Rattle.std.specs.FinMap as map
 use Rattle.std.specs.Prelude.{false, None}
 use Rattle.nt_core.specs.Dispatcher.{state}
 use Rattle.nt_sleepers.specs.Sleepers.{settled}
+use Rattle.nt_sleepers.proofs.Staying.{tick_stayed}
 use Rattle.nt_sleepers.proofs.Kept.{idle, kept_after, called_waits, nobody_by_tick}
 use Rattle.nt_sleepers.proofs.sleepers.Sleepers.tick.Goals as goal
 
 pub invariant_of-self : goal.invariant_of-self
 invariant_of-self c =
-    let kept = kept_after (state c.self.inside.core) (state c.tick-result.new.self) 0 false c.tick-result.new.self.grants None c.settle.new.called c.self.inside.alarms c.self.inside.watchers c.settle.new.alarms c.settle.new.watchers (c.tick-result.ensures.moves 0) c.self.invariant.0
+    let kept = kept_after (state c.self.inside.core) (state c.tick-result.new.self) 0 false c.tick-result.new.self.grants None c.settle.new.called c.self.inside.alarms c.self.inside.watchers c.settle.new.alarms c.settle.new.watchers (c.tick-result.ensures.moves 0)
+    (tick_stayed (state c.self.inside.core) c.args.m c.tick-result.result c.tick-result.new.self.grants (state c.tick-result.new.self) c.tick-result.ensures.ticked) (λ began. absurd (cc (began))) c.self.invariant.0
     c.settle.ensures.alarms c.settle.ensures.watchers c.settle.ensures.called c.settle.ensures.in_time in
     (kept, called_waits (state c.tick-result.new.self) (settled c.self.inside.alarms 0 false c.tick-result.new.self) c.settle.new.watchers c.settle.new.called kept.watching c.settle.ensures.called)
 
