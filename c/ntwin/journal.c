@@ -218,21 +218,30 @@ static void write_description(uint32_t number, const WCHAR *description)
     write_name(number, name);
 }
 
+/* Empties the file, which is ours alone from now on: to cut what another process has mapped would end that. */
+static bool takes_file(void)
+{
+    struct stat it;
+    if (flock(journal.file, LOCK_EX | LOCK_NB) != 0 || ftruncate(journal.file, 0) != 0 || fstat(journal.file, &it) != 0)
+        return false;
+    journal.device = it.st_dev;
+    journal.node = it.st_ino;
+    return true;
+}
+
 /* Begins a journal in this file, before the first call. Answers 0, or the system's error. */
 static int open_journal(const char *path)
 {
-    struct stat it;
-    journal.file = open(path, O_RDWR | O_CREAT | O_TRUNC | O_CLOEXEC, 0666);
-    if (journal.file < 0 || fstat(journal.file, &it) != 0)
+    journal.file = open(path, O_RDWR | O_CREAT | O_CLOEXEC, 0666);
+    if (journal.file < 0)
         return errno;
-    journal.device = it.st_dev;
-    journal.node = it.st_ino;
-    const int refused = posix_fallocate(journal.file, 0, JOURNAL_STEP);
-    char *text = refused == 0 ? mmap(NULL, JOURNAL_STEP, PROT_READ | PROT_WRITE, MAP_SHARED, journal.file, 0) : MAP_FAILED;
-    if (text == MAP_FAILED) {
-        const int error = refused != 0 ? refused : errno;
+    int error = takes_file() ? posix_fallocate(journal.file, 0, JOURNAL_STEP) : errno;
+    char *text = error == 0 ? mmap(NULL, JOURNAL_STEP, PROT_READ | PROT_WRITE, MAP_SHARED, journal.file, 0) : NULL;
+    if (text == MAP_FAILED)
+        error = errno;
+    if (error != 0) {
         close(journal.file);
-        return error;
+        return error == EWOULDBLOCK ? EBUSY : error;
     }
     fill_journal(text);
     journal.text = text;

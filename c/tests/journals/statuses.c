@@ -4,7 +4,7 @@
 #include <stdio.h>
 #include <stdlib.h>
 
-enum { SEATS = 256, MOST_WAITS = 1 << 17 };
+enum { SEATS = 256, MOST_WAITS = 1 << 14 };
 
 /* What the waits of a thread answered, which it alone writes. */
 static struct {
@@ -34,6 +34,7 @@ static DWORD note_status(DWORD status)
 #define SignalObjectAndWait(signal, object, ms, alertable) note_status(SignalObjectAndWait(signal, object, ms, alertable))
 #define Sleep(ms) note_status((SleepEx)(ms, FALSE))
 #define SleepEx(ms, alertable) note_status((SleepEx)(ms, alertable))
+#define ROUNDS 200
 #define main run_threads
 #include "../threads.c"
 #undef main
