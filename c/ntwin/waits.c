@@ -56,6 +56,7 @@ __attribute__((noinline, cold)) static uint32_t number_of_process(struct seat *s
     close_number(seat->number, made.number);
     if (refused != 0)
         return NO_HANDLE;
+    note_made(reply.number, NULL);
     waiting.kinds[reply.number] = KIND_PROCESS;
     waiting.process_handle = reply.number;
     return reply.number;

@@ -10,7 +10,7 @@ static struct {
     bool knot[NT_MAXIMUM_THREADS];         /* threads that hold each other */
     uint32_t waiting, running, held;       /* how many there are */
     struct nt_why why;
-    uint32_t handles[NT_MAXIMUM_HANDLES];  /* of an object, by its number: a handle that names it; 0 where none does */
+    uint32_t handles[NT_MAXIMUM_HANDLES];  /* of an object, by its number: a handle that names it, or NO_HANDLE */
 } known;
 
 /* Writes a name, without what would spoil the line. */
@@ -65,35 +65,37 @@ static void write_place(FILE *to, const char *before, const void *place)
 static void find_handles(void)
 {
     struct nt_opened opened;
-    memset(known.handles, 0, sizeof known.handles);
-    for (uint32_t number = NT_MAXIMUM_THREADS; number < NT_MAXIMUM_HANDLES; number++)
-        if (nt_opened(&waiting.dispatcher, number, &opened) == 0 && (known.handles[opened.object] == 0 || waiting.named[number] != NULL))
+    for (uint32_t object = 0; object < NT_MAXIMUM_HANDLES; object++)
+        known.handles[object] = NO_HANDLE;
+    for (uint32_t number = 0; number < NT_MAXIMUM_HANDLES; number++)
+        if (nt_opened(&waiting.dispatcher, number, &opened) == 0
+            && (known.handles[opened.object] == NO_HANDLE || waiting.named[number] != NULL))
             known.handles[opened.object] = number;
 }
 
 static void write_object(FILE *to, uint32_t number, const struct nt_object *object)
 {
-    static const char *const kinds[] = { "object", "event", "semaphore", "mutex", "timer", "thread" };
+    static const char *const kinds[] = { "object ", "event ", "semaphore ", "mutex ", "timer ", "thread " };
     const uint32_t handle = known.handles[number];
+    const struct named *named = handle != NO_HANDLE ? waiting.named[handle] : NULL;
     if (object->kind == NT_THREAD) {
         fputs("thread ", to);
         write_thread(to, number);
         return;
     }
-    if (handle != 0 && kind_of(handle) == KIND_PROCESS) {
-        fputs("process", to);
+    if (handle != NO_HANDLE && kind_of(handle) == KIND_PROCESS) {
+        fputs("the process", to);
         return;
     }
-    fputs(handle != 0 && kind_of(handle) == KIND_PORT ? "completion port" : kinds[object->kind], to);
-    if (waiting.called[number] != NULL) {
-        fputc(' ', to);
+    fputs(handle != NO_HANDLE && kind_of(handle) == KIND_PORT ? "completion port " : kinds[object->kind], to);
+    if (waiting.called[number] != NULL)
         write_name_of(to, waiting.called[number]);
-    } else if (handle != 0 && waiting.named[handle] != NULL) {
-        fputc(' ', to);
-        write_wide_name(to, waiting.named[handle]->name);
-    } else if (handle != 0) {
-        fprintf(to, " h%u", handle);
-    }
+    else if (named != NULL)
+        write_wide_name(to, named->name);
+    else if (handle != NO_HANDLE)
+        fprintf(to, "h%u", handle);
+    else
+        fputs("without a name", to);
 }
 
 /* How long it is to this moment. */
@@ -133,18 +135,25 @@ static void write_state(FILE *to, const struct nt_object *object)
     }
 }
 
+/* Whether the object is what it is called: the process and a completion port are events, for the dispatcher. */
+static bool is_as_called(uint32_t number)
+{
+    const uint32_t handle = known.handles[number];
+    return handle == NO_HANDLE || (kind_of(handle) != KIND_PROCESS && kind_of(handle) != KIND_PORT);
+}
+
 /* A line for an object that a wait names. A thread has none. */
 static void write_object_line(FILE *to, uint32_t number)
 {
     struct nt_object object;
-    if (nt_object(&waiting.dispatcher, number, &object) != 0 || object.kind == NT_THREAD)
+    if (nt_object(&waiting.dispatcher, number, &object) != 0 || object.kind == NT_THREAD || !is_as_called(number))
         return;
     fputs("      ", to);
     write_object(to, number, &object);
     write_place(to, ", created in ", waiting.made_at[number]);
     fputs(": ", to);
     write_state(to, &object);
-    if (object.kind != NT_MUTEX && known.handles[number] == 0)
+    if (object.kind != NT_MUTEX && known.handles[number] == NO_HANDLE)
         fputs(", and no handle names it any more", to);
     fputc('\n', to);
 }

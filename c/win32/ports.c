@@ -84,6 +84,7 @@ HANDLE CreateIoCompletionPort(HANDLE file, HANDLE port, ULONG_PTR key, DWORD thr
         close_number(seat->number, event.number);
     }
     if (refused == 0) {
+        note_made(reply.number, NULL);
         waiting.kinds[reply.number] = KIND_PORT;
         waiting.ports[reply.number] = made;
         made->handles = 1;
