@@ -90,6 +90,8 @@
 
 #include "win32/modules.c"
 
+#include "ntwin/report.c"
+
 #include "win32/told.c"
 
 #include "ntwin/why.c"

@@ -40,10 +40,11 @@ int ntwin_is_proved(void);
  * on which condition variable or address, at which barrier, for which initialization; and which threads hold each other by sections. */
 void ntwin_write_waits(FILE *to);
 
-/* Writes why threads wait: for each that does its name, for what and where in the program; of each object its name, its state and where it was created;
- * which threads hold each other, so that none of them ever goes on; and if there are none, what comes next. It holds what ntwin_write_waits writes, too.
- * With NTWIN_WHY=signal in the environment the process writes this to standard error at SIGQUIT; with NTWIN_WHY=knot also at the call that ties a
- * knot; with NTWIN_WHY=abort it then aborts. NTWIN_JOURNAL=FILE writes each call to FILE, as a script for `ntrun` and `ntlook`. */
+/* Writes why threads wait: for each that does its name, for what and where in the program; of each object its name, its state and where it was
+ * created; which threads hold each other, so that none of them ever goes on; and if there are none, what comes next. It holds what
+ * ntwin_write_waits writes, too. With NTWIN_WHY=signal in the environment the process writes this to standard error at SIGQUIT; with NTWIN_WHY=knot
+ * also at the call that ties a knot; with NTWIN_WHY=abort it then aborts. NTWIN_JOURNAL=FILE writes each call to FILE, as a script for `ntrun` and
+ * `ntlook`. */
 void ntwin_why(FILE *to);
 
 /* Names an object for that, or a thread, as SetThreadDescription does: by at most 64 bytes. Where it can't, it sets the last error. */

@@ -1,5 +1,5 @@
-/* ---- The journal of a run: each call of the dispatcher, each tick and each name, as a line of a script (docs/SCRIPTS.md). It is a file that is mapped,
- * so a line stays there however the process ends. What is not written yet are blank lines. All of this is under the lock. */
+/* ---- The journal of a run: each call of the dispatcher, each tick and each name, as a line of a script (docs/SCRIPTS.md). It is a file that is
+ * mapped, so a line stays there however the process ends. What is not written yet are blank lines. All of this is under the lock. */
 
 enum {
     JOURNAL_STEP = 1 << 20, /* the file grows by so many bytes */

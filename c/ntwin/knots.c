@@ -42,8 +42,8 @@ static bool is_asleep_for_good(uint32_t thread)
     return nt_waits_for(&waiting.dispatcher, thread, &wait) == 0 && wait.count == 0;
 }
 
-/* Those of the knot that only wait for what others hold, of whom was told, are no knot of their own, and neither is one that sleeps. Answers whether any
- * is left. Of all these was told then. */
+/* Those of the knot that only wait for what others hold, of whom was told, are no knot of their own, and neither is one that sleeps. Answers
+ * whether any is left. Of all these was told then. */
 static bool is_new_knot(const bool *knot)
 {
     static bool told[NT_MAXIMUM_THREADS];

@@ -1,5 +1,5 @@
-/* ---- The calls of the dispatcher, by pointers: so that they cost nothing more where nobody looks at them, and are looked at where the environment asks
- * for that (why.c). Each is then written to the journal, and may have tied a knot. */
+/* ---- The calls of the dispatcher, by pointers: so that they cost nothing more where nobody looks at them, and are looked at where the environment
+ * asks for that (looking.c). Each is then written to the journal, and may have tied a knot. */
 
 typedef uint32_t call_by_caller(struct nt *nt, uint32_t who, struct nt_reply *reply);
 typedef uint32_t call_by_handle(struct nt *nt, uint32_t who, uint32_t handle, struct nt_reply *reply);

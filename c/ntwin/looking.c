@@ -26,42 +26,26 @@ static int find_module(struct dl_phdr_info *info, size_t size, void *at)
 }
 
 /* Writes the place whose number stands here, as addr2line takes it: that of the call, and not of what comes after. Answers where its mark ends. */
-static const char *write_file_and_offset(FILE *to, const char *number)
+static const char *write_file_and_offset(struct report *to, const char *number)
 {
     char *end;
     struct module module = { .place = (uintptr_t)strtoull(number, &end, 16) - 1 };
     if (dl_iterate_phdr(find_module, &module) != 0)
-        fprintf(to, "%s+0x%zx", module.name, (size_t)module.offset);
+        add(to, "%s+0x%zx", module.name, (size_t)module.offset);
     else
-        fprintf(to, "0x%zx", (size_t)module.place);
+        add(to, "0x%zx", (size_t)module.place);
     return end + 1;
 }
 
-static void write_with_places(FILE *to, const char *text)
+static void write_with_places(struct report *to, const char *text)
 {
     for (const char *mark; (mark = strchr(text, MARK)) != NULL; text = write_file_and_offset(to, mark + 1))
-        fwrite(text, 1, (size_t)(mark - text), to);
-    fputs(text, to);
-}
-
-/* What is written there, as a text; null where memory is refused. Who asks for it frees it. */
-static char *text_written_by(void (*write)(FILE *to, const char *from), const char *from)
-{
-    char *text = NULL;
-    size_t length;
-    FILE *to = open_memstream(&text, &length);
-    if (to == NULL)
-        return NULL;
-    write(to, from);
-    const bool failed = ferror(to) != 0;
-    if (fclose(to) == 0 && !failed)
-        return text;
-    free(text);
-    return NULL;
+        add(to, "%.*s", (int)(mark - text), text);
+    add_text(to, text);
 }
 
 /* Writes why threads wait, under the lock, with places as numbers. */
-static void write_why(FILE *to, const char *none)
+static void write_why(struct report *to, const char *none)
 {
     (void)none;
     pthread_mutex_lock(&telling);

@@ -1,5 +1,5 @@
-/* ---- Why threads wait, as a text. It is made under the lock. A place in the program stands in it as a number between two marks until the lock is given
- * back: which file that is the loader tells, which has a lock of its own. */
+/* ---- Why threads wait, as a text. It is made under the lock. A place in the program stands in it as a number between two marks until the lock is
+ * given back: which file that is the loader tells, which has a lock of its own. */
 
 enum { MARK = 1 };
 
@@ -14,24 +14,24 @@ static struct {
 } known;
 
 /* Writes a name, without what would spoil the line. */
-static void write_name_of(FILE *to, const char *name)
+static void write_name_of(struct report *to, const char *name)
 {
     for (; *name != 0; name++)
-        fputc((unsigned char)*name < ' ' || *name == 127 ? '?' : *name, to);
+        add_letter(to, (unsigned char)*name < ' ' || *name == 127 ? '?' : *name);
 }
 
-static void write_wide_name(FILE *to, const WCHAR *name)
+static void write_wide_name(struct report *to, const WCHAR *name)
 {
     for (; *name != 0; name++)
-        fputc(*name >= ' ' && *name < 127 ? (char)*name : '?', to);
+        add_letter(to, *name >= ' ' && *name < 127 ? (char)*name : '?');
 }
 
-static void write_thread(FILE *to, uint32_t number)
+static void write_thread(struct report *to, uint32_t number)
 {
     const WCHAR *name = waiting.seats[number].life.description;
-    fprintf(to, "t%u", number);
+    add(to, "t%u", number);
     if (name != NULL && *name != 0) {
-        fputc(' ', to);
+        add_letter(to, ' ');
         write_wide_name(to, name);
     }
 }
@@ -45,7 +45,7 @@ static struct seat *seat_of_id(DWORD id)
     return NULL;
 }
 
-static void write_thread_of_id(FILE *to, DWORD id)
+static void write_thread_of_id(struct report *to, DWORD id)
 {
     const struct seat *seat = seat_of_id(id);
     if (seat != NULL)
@@ -54,10 +54,10 @@ static void write_thread_of_id(FILE *to, DWORD id)
         write_id(to, id);
 }
 
-static void write_place(FILE *to, const char *before, const void *place)
+static void write_place(struct report *to, const char *before, const void *place)
 {
     if (place != NULL)
-        fprintf(to, "%s%c%zx%c", before, MARK, (size_t)place, MARK);
+        add(to, "%s%c%zx%c", before, MARK, (size_t)place, MARK);
 }
 
 /* ---- Objects. */
@@ -73,65 +73,65 @@ static void find_handles(void)
             known.handles[opened.object] = number;
 }
 
-static void write_object(FILE *to, uint32_t number, const struct nt_object *object)
+static void write_object(struct report *to, uint32_t number, const struct nt_object *object)
 {
     static const char *const kinds[] = { "object ", "event ", "semaphore ", "mutex ", "timer ", "thread " };
     const uint32_t handle = known.handles[number];
     const struct named *named = handle != NO_HANDLE ? waiting.named[handle] : NULL;
     if (object->kind == NT_THREAD) {
-        fputs("thread ", to);
+        add_text(to, "thread ");
         write_thread(to, number);
         return;
     }
     if (handle != NO_HANDLE && kind_of(handle) == KIND_PROCESS) {
-        fputs("the process", to);
+        add_text(to, "the process");
         return;
     }
-    fputs(handle != NO_HANDLE && kind_of(handle) == KIND_PORT ? "completion port " : kinds[object->kind], to);
+    add_text(to, handle != NO_HANDLE && kind_of(handle) == KIND_PORT ? "completion port " : kinds[object->kind]);
     if (waiting.called[number] != NULL)
         write_name_of(to, waiting.called[number]);
     else if (named != NULL)
         write_wide_name(to, named->name);
     else if (handle != NO_HANDLE)
-        fprintf(to, "h%u", handle);
+        add(to, "h%u", handle);
     else
-        fputs("without a name", to);
+        add_text(to, "without a name");
 }
 
 /* How long it is to this moment. */
-static void write_time_to(FILE *to, uint64_t moment)
+static void write_time_to(struct report *to, uint64_t moment)
 {
     const uint64_t now = present(), grain = MOMENTS_PER_SECOND / 1000;
-    fprintf(to, "%llu ms", moment > now ? (unsigned long long)((moment - now + grain - 1) / grain) : 0);
+    add(to, "%llu ms", moment > now ? (unsigned long long)((moment - now + grain - 1) / grain) : 0);
 }
 
-static void write_state(FILE *to, const struct nt_object *object)
+static void write_state(struct report *to, const struct nt_object *object)
 {
     switch (object->kind) {
     case NT_MUTEX:
         if (!object->owned) {
-            fputs(object->abandoned ? "free, and abandoned" : "free", to);
+            add_text(to, object->abandoned ? "free, and abandoned" : "free");
             break;
         }
-        fputs("owned by ", to);
+        add_text(to, "owned by ");
         write_thread(to, object->owner);
-        fprintf(to, ", who owes %u release%s and %s", object->depth, object->depth == 1 ? "" : "s",
+        add(to, ", who owes %u release%s and %s", object->depth, object->depth == 1 ? "" : "s",
                 waiting.seats[object->owner].is_gone ? "was canceled" : known.waits[object->owner] ? "waits" : "runs");
         break;
     case NT_SEMAPHORE:
-        fprintf(to, "its count is %d of %d", object->count, object->maximum);
+        add(to, "its count is %d of %d", object->count, object->maximum);
         break;
     case NT_TIMER:
-        fputs(object->set ? "set" : "not set", to);
+        add_text(to, object->set ? "set" : "not set");
         if (object->armed) {
-            fputs(", due in ", to);
+            add_text(to, ", due in ");
             write_time_to(to, object->due);
         } else {
-            fputs(", not armed", to);
+            add_text(to, ", not armed");
         }
         break;
     default:
-        fputs(object->set ? "set" : "not set", to);
+        add_text(to, object->set ? "set" : "not set");
     }
 }
 
@@ -143,54 +143,54 @@ static bool is_as_called(uint32_t number)
 }
 
 /* A line for an object that a wait names. A thread has none. */
-static void write_object_line(FILE *to, uint32_t number)
+static void write_object_line(struct report *to, uint32_t number)
 {
     struct nt_object object;
     if (nt_object(&waiting.dispatcher, number, &object) != 0 || object.kind == NT_THREAD || !is_as_called(number))
         return;
-    fputs("      ", to);
+    add_text(to, "      ");
     write_object(to, number, &object);
     write_place(to, ", created in ", waiting.made_at[number]);
-    fputs(": ", to);
+    add_text(to, ": ");
     write_state(to, &object);
     if (object.kind != NT_MUTEX && known.handles[number] == NO_HANDLE)
-        fputs(", and no handle names it any more", to);
-    fputc('\n', to);
+        add_text(to, ", and no handle names it any more");
+    add_letter(to, '\n');
 }
 
 /* ---- Threads. */
 
-static void write_names(FILE *to, uint32_t thread, const struct nt_pending_wait *wait)
+static void write_names(struct report *to, uint32_t thread, const struct nt_pending_wait *wait)
 {
     uint32_t number;
     struct nt_object object;
-    fputs(wait->count == 0 ? " sleeps" : wait->count == 1 ? " waits for " : wait->all ? " waits for all of " : " waits for any of ", to);
+    add_text(to, wait->count == 0 ? " sleeps" : wait->count == 1 ? " waits for " : wait->all ? " waits for all of " : " waits for any of ");
     for (size_t i = 0; i < wait->count; i++) {
         if (nt_waited_object(&waiting.dispatcher, thread, i, &number) != 0 || nt_object(&waiting.dispatcher, number, &object) != 0)
             return;
-        fputs(i > 0 ? ", " : "", to);
+        add_text(to, i > 0 ? ", " : "");
         write_object(to, number, &object);
     }
 }
 
 /* A line for a thread whose wait pends, and one for each object of that. */
-static void write_pending(FILE *to, uint32_t thread)
+static void write_pending(struct report *to, uint32_t thread)
 {
     struct nt_pending_wait wait;
     uint32_t number;
     if (waiting.seats[thread].is_gone || nt_waits_for(&waiting.dispatcher, thread, &wait) != 0)
         return;
-    fputs("  ", to);
+    add_text(to, "  ");
     write_thread(to, thread);
     write_names(to, thread, &wait);
     if (wait.timed) {
-        fputs(", for ", to);
+        add_text(to, ", for ");
         write_time_to(to, wait.deadline);
-        fputs(" more at the longest", to);
+        add_text(to, " more at the longest");
     }
-    fputs(wait.alertable ? ", alertable" : "", to);
+    add_text(to, wait.alertable ? ", alertable" : "");
     write_place(to, ", in ", waiting.seats[thread].waits_at);
-    fputc('\n', to);
+    add_letter(to, '\n');
     for (size_t i = 0; i < wait.count && nt_waited_object(&waiting.dispatcher, thread, i, &number) == 0; i++)
         write_object_line(to, number);
 }
@@ -234,76 +234,76 @@ static bool has_section_knot(void)
     return false;
 }
 
-static void write_section_knot(FILE *to, DWORD first)
+static void write_section_knot(struct report *to, DWORD first)
 {
-    fputs("  KNOT by critical sections: ", to);
+    add_text(to, "  KNOT by critical sections: ");
     write_thread_of_id(to, first);
     for (DWORD at = held_by(first); at != first; at = held_by(at)) {
-        fputc(' ', to);
+        add_letter(to, ' ');
         write_thread_of_id(to, at);
     }
-    fputs(": none of them ever goes on, whatever the others do\n", to);
+    add_text(to, ": none of them ever goes on, whatever the others do\n");
 }
 
-static void write_knots(FILE *to)
+static void write_knots(struct report *to)
 {
     for (uint32_t i = 0; i < told_all.count; i++)
         if (told_all.of[i].owner != 0 && begins_knot(told_all.of[i].id))
             write_section_knot(to, told_all.of[i].id);
     if (known.held > 0) {
-        fputs("  KNOT:", to);
+        add_text(to, "  KNOT:");
         for (uint32_t i = 0; i < waiting.seated; i++)
             if (known.knot[i]) {
-                fputc(' ', to);
+                add_letter(to, ' ');
                 write_thread(to, i);
             }
-        fputs(known.held > 1 ? ": none of them ever goes on, whatever the others do\n" : ": it never goes on, whatever the others do\n", to);
+        add_text(to, known.held > 1 ? ": none of them ever goes on, whatever the others do\n" : ": it never goes on, whatever the others do\n");
     }
 }
 
-static void write_verdict(FILE *to)
+static void write_verdict(struct report *to)
 {
     const bool is_tied = known.held > 0 || has_section_knot();
     if (known.waiting == 0) {
-        fputs("  nobody waits\n", to);
+        add_text(to, "  nobody waits\n");
     } else if (known.why.stuck) {
         if (known.held < known.waiting)
-            fputs("  STUCK: of the threads that have called, none goes on by itself\n", to);
+            add_text(to, "  STUCK: of the threads that have called, none goes on by itself\n");
     } else if (known.why.due && !is_tied) {
-        fputs("  NEXT: a timer or a deadline, in ", to);
+        add_text(to, "  NEXT: a timer or a deadline, in ");
         write_time_to(to, known.why.next);
-        fputc('\n', to);
+        add_letter(to, '\n');
     } else if (!is_tied) {
-        fputs(known.running > 0 ? "  NEXT: a call of a thread that runs\n" : "  NEXT: what wakes those that wait beside the dispatcher\n", to);
+        add_text(to, known.running > 0 ? "  NEXT: a call of a thread that runs\n" : "  NEXT: what wakes those that wait beside the dispatcher\n");
     }
     write_knots(to);
 }
 
 /* A line for each place beside the dispatcher at which this thread sleeps; null: for each that has no seat. */
-static void write_sleeping(FILE *to, const struct seat *seat)
+static void write_sleeping(struct report *to, const struct seat *seat)
 {
     for (uint32_t i = 0; i < told_all.count; i++)
         if (seat_of_id(told_all.of[i].id) == seat) {
-            fputs("  ", to);
+            add_text(to, "  ");
             write_told(to, &told_all.of[i], write_thread_of_id);
         }
 }
 
-static void write_all(FILE *to)
+static void write_all(struct report *to)
 {
     look_at_threads();
     find_handles();
-    fprintf(to, "ntwin: %u thread%s wait%s, %u run%s", known.waiting, known.waiting == 1 ? "" : "s", known.waiting == 1 ? "s" : "", known.running,
+    add(to, "ntwin: %u thread%s wait%s, %u run%s", known.waiting, known.waiting == 1 ? "" : "s", known.waiting == 1 ? "s" : "", known.running,
             known.running == 1 ? "s" : "");
     if (known.held > 1)
-        fprintf(to, ", %u hold each other", known.held);
-    fputc('\n', to);
+        add(to, ", %u hold each other", known.held);
+    add_letter(to, '\n');
     for (uint32_t i = 0; i < waiting.seated; i++) {
         write_pending(to, i);
         write_sleeping(to, &waiting.seats[i]);
     }
     write_sleeping(to, NULL);
     if (!told_all.is_whole)
-        fputs("  not all threads could be looked at\n", to);
+        add_text(to, "  not all threads could be looked at\n");
     write_verdict(to);
 }

@@ -120,35 +120,35 @@ static bool begins_knot(DWORD first)
 }
 
 /* Writes which thread that is. */
-typedef void thread_writer(FILE *to, DWORD id);
+typedef void thread_writer(struct report *to, DWORD id);
 
-static void write_id(FILE *to, DWORD id)
+static void write_id(struct report *to, DWORD id)
 {
-    fprintf(to, "thread %u", id);
+    add(to, "thread %u", id);
 }
 
-static void write_told(FILE *to, const struct told *it, thread_writer *write_thread)
+static void write_told(struct report *to, const struct told *it, thread_writer *write_thread)
 {
     write_thread(to, it->id);
-    fprintf(to, " %s", it->what);
+    add(to, " %s", it->what);
     if (it->owner != 0) {
-        fputs(", which ", to);
+        add_text(to, ", which ");
         write_thread(to, it->owner);
-        fprintf(to, " owns, %d deep", it->depth);
+        add(to, " owns, %d deep", it->depth);
     }
-    fputc('\n', to);
+    add_letter(to, '\n');
 }
 
-static void write_knot_of_ids(FILE *to, DWORD first)
+static void write_knot_of_ids(struct report *to, DWORD first)
 {
-    fprintf(to, "by critical sections, none of which is ever left, hold each other: thread %u", first);
+    add(to, "by critical sections, none of which is ever left, hold each other: thread %u", first);
     for (DWORD at = held_by(first); at != first; at = held_by(at))
-        fprintf(to, ", %u", at);
-    fputc('\n', to);
+        add(to, ", %u", at);
+    add_letter(to, '\n');
 }
 
 /* Writes a line for each thread that sleeps, and for each knot of critical sections. */
-static void write_waits(FILE *to, const char *none)
+static void write_waits(struct report *to, const char *none)
 {
     (void)none;
     pthread_mutex_lock(&telling);
@@ -159,6 +159,6 @@ static void write_waits(FILE *to, const char *none)
         if (told_all.of[i].owner != 0 && begins_knot(told_all.of[i].id))
             write_knot_of_ids(to, told_all.of[i].id);
     if (!told_all.is_whole)
-        fputs("not all threads could be looked at\n", to);
+        add_text(to, "not all threads could be looked at\n");
     pthread_mutex_unlock(&telling);
 }

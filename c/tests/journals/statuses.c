@@ -1,4 +1,5 @@
-/* The many threads of ../threads.c, with what each wait answered: a line for each thread, `tN STATUS..`, in its own order. Words: how many hand-overs. */
+/* The many threads of ../threads.c, with what each wait answered: a line for each thread, `tN STATUS..`, in its own order. Words: how many
+ * hand-overs. */
 #include <windows.h>
 
 #include <stdio.h>
