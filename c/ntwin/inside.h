@@ -87,6 +87,7 @@ struct seat {
     struct nt_reply reply;   /* what its last call was answered */
     struct nt_told told;     /* the last of those whom its last call told something */
     uint64_t moment;         /* to which it sleeps by itself where its wait pends: NEVER until it is told; 0 where it was called */
+    uint64_t timer_due;      /* when the first of the timers that it waits for was due, as it began: it sleeps no longer than to then; or NEVER */
     bool watches;            /* its wait pends, and a timer may end it */
     bool is_gone;            /* it was canceled as it waited, and never wakes */
     bool has_routines;       /* it has set a timer with a routine */

@@ -28,20 +28,23 @@ static void tell(struct seat *caller, struct seat *seat, uint32_t how)
         caller->woken[caller->wakes++] = seat->number;
 }
 
-/* Sets to which moment the thread sleeps by itself, under the lock. */
+/* Sets to which moment the thread sleeps by itself, under the lock. It is awake when its own timer is due, whoever keeps the time till then. */
 static void set_moment(struct seat *seat)
 {
     if (nt_pend(&waiting.dispatcher, seat->number, seat->watches, &seat->moment) != 0)
         seat->moment = NEVER;
+    if (seat->timer_due < seat->moment)
+        seat->moment = seat->timer_due;
 }
 
-/* The caller's wait pends from now on, under the lock. */
-static void fall_asleep(struct seat *seat, bool watches)
+/* The caller's wait pends from now on, under the lock. A timer may end it, where it watches; the first that it waits for is due then. */
+static void fall_asleep(struct seat *seat, bool watches, uint64_t timer_due)
 {
     atomic_store_explicit(&seat->word, IS_AWAKE, memory_order_relaxed);
     waiting.pending++;
     waiting.watchers += watches;
     seat->watches = watches;
+    seat->timer_due = timer_due;
     set_moment(seat);
 }
 
@@ -61,9 +64,15 @@ static void wake_up(struct seat *caller, struct seat *seat, uint32_t status)
     tell(caller, seat, IS_GRANTED);
 }
 
-/* Has the thread look at the time, under the lock. */
+/* The thread keeps the time from now on, under the lock. It is to look at it, unless it wakes soon enough by itself. */
 static void call_up(struct seat *caller, struct seat *seat)
 {
+    const uint64_t before = seat->moment;
+    set_moment(seat);
+    if (before <= seat->moment) {
+        seat->moment = before;
+        return;
+    }
     seat->moment = 0;
     tell(caller, seat, IS_CALLED);
 }
@@ -211,7 +220,8 @@ static uint64_t look_at_time(struct seat *seat)
     take_lock();
     if (atomic_load_explicit(&seat->word, memory_order_relaxed) != IS_GRANTED) {
         atomic_store_explicit(&seat->word, IS_AWAKE, memory_order_relaxed);
-        pass_time(seat);
+        if (pass_time(seat) >= seat->timer_due)
+            seat->timer_due = NEVER;
     }
     if (atomic_load_explicit(&seat->word, memory_order_relaxed) != IS_GRANTED) {
         atomic_store_explicit(&seat->word, IS_AWAKE, memory_order_relaxed);
@@ -223,9 +233,9 @@ static uint64_t look_at_time(struct seat *seat)
 }
 
 /* Gives the lock back, sleeps until the caller's pending wait is granted, and answers its status. */
-__attribute__((noinline)) static DWORD sleep_until_granted(struct seat *seat, bool watches)
+__attribute__((noinline)) static DWORD sleep_until_granted(struct seat *seat, bool watches, uint64_t timer_due)
 {
-    fall_asleep(seat, watches);
+    fall_asleep(seat, watches, timer_due);
     uint64_t moment = seat->moment;
     const uint32_t looks = looks_before(seat);
     unlock_and_wake(seat);

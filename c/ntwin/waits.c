@@ -87,13 +87,28 @@ struct wait {
     BOOL alertable;
 };
 
-/* Whether a timer may end the caller's wait. */
-static bool may_watch(const struct seat *seat, struct wait wait)
+/* When the timer with this number is due, under the lock: NEVER where it is not set. */
+static uint64_t due_of_timer(uint32_t number)
 {
+    struct nt_opened opened;
+    struct nt_object timer;
+    const bool is_set = nt_opened(&waiting.dispatcher, number, &opened) == 0
+        && nt_object(&waiting.dispatcher, opened.object, &timer) == 0 && timer.armed;
+    return is_set ? timer.due : NEVER;
+}
+
+/* Whether a timer may end the caller's wait, and when the first that it names is due. */
+static bool may_watch(const struct seat *seat, struct wait wait, uint64_t *due)
+{
+    bool names_timers = false;
+    *due = NEVER;
     for (DWORD i = 0; i < wait.count; i++)
-        if (kind_of(wait.numbers[i]) == KIND_TIMER)
-            return true;
-    return wait.alertable && seat->has_routines;
+        if (kind_of(wait.numbers[i]) == KIND_TIMER) {
+            const uint64_t one = due_of_timer(wait.numbers[i]);
+            names_timers = true;
+            *due = one < *due ? one : *due;
+        }
+    return names_timers || (wait.alertable && seat->has_routines);
 }
 
 /* What a wait answers that was refused. */
@@ -107,8 +122,10 @@ __attribute__((noinline, cold)) static DWORD fail_wait(struct seat *seat, uint32
 /* What a wait answers that pends: its status, once it is granted. The caller's APCs run before. */
 __attribute__((noinline)) static DWORD finish_pending(struct seat *seat, struct wait wait)
 {
+    uint64_t due;
     note(seat);
-    const DWORD status = sleep_until_granted(seat, may_watch(seat, wait));
+    const bool watches = may_watch(seat, wait, &due);
+    const DWORD status = sleep_until_granted(seat, watches, due);
     if (status == WAIT_IO_COMPLETION)
         run_apcs(seat);
     return status;

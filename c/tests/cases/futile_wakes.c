@@ -1,7 +1,7 @@
-/* Within 10 s: 5 passed, 0 failed.
+/* Within 10 s: 11 passed, 0 failed.
  *
- * A timeout wakes nobody else, and a thread that waits for something else is not woken by a timer that nobody waits for. Told by the
- * system calls that the library makes on its words, which this program counts. */
+ * A timeout wakes nobody else, not even one who waits for a timer and began as another kept the time. A thread that waits for something
+ * else is not woken by a timer that nobody waits for. Told by the system calls that the library makes on its words, which this program counts. */
 #include "case.h"
 
 #include <dlfcn.h>
@@ -35,6 +35,31 @@ static DWORD waits(LPVOID event)
     return WaitForSingleObject(event, INFINITE);
 }
 
+/* Begins to wait while another thread is in the midst of a wait with a timeout. */
+static DWORD waits_later(LPVOID timer)
+{
+    raise_flag(&begins);
+    rest_ms(100);
+    return WaitForSingleObject(timer, INFINITE);
+}
+
+/* The other's timeout does not wake who waits for the timer. */
+static void time_out_beside(HANDLE event)
+{
+    HANDLE timer = CreateWaitableTimer(NULL, TRUE, NULL);
+    LARGE_INTEGER due = { .QuadPart = -600000000 };
+    IS(SetWaitableTimer(timer, &due, 0, NULL, NULL, FALSE), TRUE);
+    HANDLE thread = CreateThread(NULL, 0, waits_later, timer, 0, NULL);
+    await(&begins);
+    rest_ms(20);
+    const LONG wakes_before = wakes;
+    must(WaitForSingleObject(event, 300) == WAIT_TIMEOUT);
+    IS(wakes - wakes_before, 0);
+    due.QuadPart = 0;
+    IS(SetWaitableTimer(timer, &due, 0, NULL, NULL, FALSE), TRUE);
+    IS(WaitForSingleObject(thread, INFINITE), WAIT_OBJECT_0);
+}
+
 int main(void)
 {
     *(void **)&real = dlsym(RTLD_NEXT, "syscall");
@@ -53,5 +78,9 @@ int main(void)
     IS(sleeps - sleeps_before, 0);
     IS(SetEvent(event), TRUE);
     IS(WaitForSingleObject(thread, INFINITE), WAIT_OBJECT_0);
+    begins = 0;
+    IS(CancelWaitableTimer(timer), TRUE);
+    IS(ResetEvent(event), TRUE);
+    time_out_beside(event);
     return counted();
 }
