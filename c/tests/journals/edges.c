@@ -2,6 +2,7 @@
  *   knot      two threads hold each other, and main ends the process
  *   many      so many calls that the journal grows several times
  *   numbers   objects, until all numbers were given
+ *   closed    events, each of which is closed before the next is made
  *   fork      a child goes on, and then its parent
  *   closes    the program closes each file that it did not open, and opens one */
 #include <windows.h>
@@ -60,6 +61,15 @@ static void use_all_numbers(void)
     IS(GetLastError(), ERROR_NO_SYSTEM_RESOURCES);
 }
 
+static void close_each(void)
+{
+    for (int i = 0; i < 300; i++) {
+        HANDLE event = CreateEvent(NULL, TRUE, i % 2, NULL);
+        must(WaitForSingleObject(event, 0) == (DWORD)(i % 2 ? WAIT_OBJECT_0 : WAIT_TIMEOUT) && CloseHandle(event));
+    }
+    IS(GetLastError(), ERROR_SUCCESS);
+}
+
 static void fork_once(void)
 {
     int status = 0;
@@ -93,6 +103,8 @@ int main(int count, char **words)
         make_calls(60000);
     else if (strcmp(what, "numbers") == 0)
         use_all_numbers();
+    else if (strcmp(what, "closed") == 0)
+        close_each();
     else if (strcmp(what, "fork") == 0)
         fork_once();
     else if (strcmp(what, "closes") == 0)
