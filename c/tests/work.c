@@ -135,6 +135,58 @@ static void pool_work(void)
     DestroyThreadpoolEnvironment(&environment);
 }
 
+static HANDLE SEMAPHORE, MUTEX;
+
+static void CALLBACK give_when_it_returns(PTP_CALLBACK_INSTANCE instance, PVOID context)
+{
+    (void)context;
+    must(WaitForSingleObject(MUTEX, INFINITE) == WAIT_OBJECT_0);
+    ReleaseMutexWhenCallbackReturns(instance, MUTEX);
+    ReleaseSemaphoreWhenCallbackReturns(instance, SEMAPHORE, 3);
+    IS(WaitForSingleObject(SEMAPHORE, 0), WAIT_TIMEOUT);
+}
+
+/* A callback asks for a semaphore's units and a mutex to be released, which is then no abandoned one. */
+static void released_when_it_returns(void)
+{
+    TP_CALLBACK_ENVIRON environment;
+    must((SEMAPHORE = CreateSemaphore(NULL, 0, 9, NULL)) != NULL && (MUTEX = CreateMutex(NULL, FALSE, NULL)) != NULL);
+    InitializeThreadpoolEnvironment(&environment);
+    SetThreadpoolCallbackRunsLong(&environment);
+    IS(environment.Flags, 1);
+    must(TrySubmitThreadpoolCallback(give_when_it_returns, NULL, &environment));
+    for (int i = 0; i < 3; i++)
+        IS(WaitForSingleObject(SEMAPHORE, INFINITE), WAIT_OBJECT_0);
+    IS(WaitForSingleObject(SEMAPHORE, 0), WAIT_TIMEOUT);
+    IS(WaitForSingleObject(MUTEX, INFINITE), WAIT_OBJECT_0);
+    ANSWERS(ReleaseMutex(MUTEX), TRUE, UNTOUCHED);
+    CloseHandle(SEMAPHORE);
+    CloseHandle(MUTEX);
+}
+
+static void CALLBACK leave_who_waits(PTP_CALLBACK_INSTANCE instance, PVOID steps, PTP_WORK work)
+{
+    (void)work;
+    InterlockedIncrement(steps);
+    DisassociateCurrentThreadFromCallback(instance);
+    must(WaitForSingleObject(GO, INFINITE) == WAIT_OBJECT_0);
+    InterlockedIncrement(steps);
+}
+
+/* Who waits for the work's callbacks goes on while one that has left them still runs. */
+static void left_callbacks(void)
+{
+    static LONG steps;
+    ResetEvent(GO);
+    PTP_WORK work = CreateThreadpoolWork(leave_who_waits, &steps, NULL);
+    SubmitThreadpoolWork(work);
+    WaitForThreadpoolWorkCallbacks(work, FALSE);
+    IS(ReadAcquire(&steps), 1);
+    CloseThreadpoolWork(work);
+    SetEvent(GO);
+    IS(settled(&steps, 2), 2);
+}
+
 /* Callbacks that have not begun are dropped; those that run are waited for. */
 static void canceled_work(void)
 {
@@ -236,6 +288,8 @@ int main(void)
     must((EVENT = CreateEvent(NULL, TRUE, FALSE, NULL)) != NULL);
     least_threads();
     pool_work();
+    released_when_it_returns();
+    left_callbacks();
     canceled_work();
     pool_timers_and_waits();
     return counted();
