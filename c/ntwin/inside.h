@@ -105,6 +105,8 @@ struct own {
     DWORD last_error;
     DWORD id;          /* 0 until it was asked for */
     jmp_buf *end;      /* where ExitThread goes to, in a thread of CreateThread */
+    struct port *port; /* the completion port whose packet it has; null before it got one, and once it asks for the next */
+    bool rests;        /* it sleeps with that packet, and does not count among those that run */
 };
 #ifndef own
 static _Thread_local struct own own __attribute__((tls_model("initial-exec")));

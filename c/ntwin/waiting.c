@@ -200,17 +200,24 @@ static uint64_t look_at_time(struct seat *seat)
     return moment;
 }
 
+static void rest_beside_wait(struct seat *caller);
+static void go_on_with_packet(void);
+
 /* Gives the lock back, sleeps until the caller's pending wait is granted, and answers its status. */
 __attribute__((noinline)) static DWORD sleep_until_granted(struct seat *seat, bool watches)
 {
     fall_asleep(seat, watches);
     uint64_t moment = seat->moment;
     const uint32_t looks = looks_before(seat);
+    if (own.port != NULL)
+        rest_beside_wait(seat);
     unlock_and_wake(seat);
     if (looks > 0)
         look(seat, looks);
     while (!sleep_to(seat, moment))
         moment = look_at_time(seat);
     comes_after(&seat->word);
+    if (own.rests)
+        go_on_with_packet();
     return seat->status;
 }

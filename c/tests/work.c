@@ -92,6 +92,37 @@ static void least_threads(void)
     ResetEvent(GO);
     CloseThreadpoolWork(work);
     IS(threads_once(before + 5), before + 5);
+    /* Idle threads past a lower maximum end, and the least number is no greater than that. */
+    SetThreadpoolThreadMaximum(pool, 2);
+    IS(threads_once(before + 2), before + 2);
+    CloseThreadpool(pool);
+    IS(threads_once(before), before);
+}
+
+/* The maximum changes while callbacks run: more come for those that wait, and what is past it ends as its callback returns. */
+static void changed_maximum(void)
+{
+    TP_CALLBACK_ENVIRON environment;
+    PTP_POOL pool = CreateThreadpool(NULL);
+    LONG ran = 0;
+    const int before = threads_now();
+    SetThreadpoolThreadMaximum(pool, 1);
+    InitializeThreadpoolEnvironment(&environment);
+    SetThreadpoolCallbackPool(&environment, pool);
+    PTP_WORK work = CreateThreadpoolWork(wait_in_work, &ran, &environment);
+    for (int i = 0; i < 9; i++)
+        SubmitThreadpoolWork(work);
+    IS(settled(&ran, 1), 1);
+    SetThreadpoolThreadMaximum(pool, 4);
+    IS(settled(&ran, 4), 4);
+    IS(threads_now(), before + 4);
+    SetThreadpoolThreadMaximum(pool, 3);
+    SetEvent(GO);
+    WaitForThreadpoolWorkCallbacks(work, FALSE);
+    IS(ran, 9);
+    IS(threads_once(before + 3), before + 3);
+    ResetEvent(GO);
+    CloseThreadpoolWork(work);
     CloseThreadpool(pool);
     IS(threads_once(before), before);
 }
@@ -287,6 +318,7 @@ int main(void)
     must((GO = CreateEvent(NULL, TRUE, FALSE, NULL)) != NULL && (DONE = CreateEvent(NULL, FALSE, FALSE, NULL)) != NULL);
     must((EVENT = CreateEvent(NULL, TRUE, FALSE, NULL)) != NULL);
     least_threads();
+    changed_maximum();
     pool_work();
     released_when_it_returns();
     left_callbacks();
