@@ -107,6 +107,7 @@ struct own {
     jmp_buf *end;      /* where ExitThread goes to, in a thread of CreateThread */
     struct port *port; /* the completion port whose packet it has; null before it got one, and once it asks for the next */
     bool rests;        /* it sleeps with that packet, and does not count among those that run */
+    DWORD mark;        /* its id once it has entered a critical section, by which it enters the next; 0 where a sanitizer is told of each */
 };
 #ifndef own
 static _Thread_local struct own own __attribute__((tls_model("initial-exec")));

@@ -67,7 +67,7 @@ static void leave_last(void *round)
 static void note_fork(void)
 {
     const bool is_opening = pthread_mutex_trylock(&process.opening) != 0;
-    own.id = 0;
+    own.id = own.mark = 0;
     waiting.left = NULL;
     if (!is_opening)
         pthread_mutex_unlock(&process.opening);

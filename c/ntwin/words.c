@@ -5,9 +5,11 @@
 #include <valgrind/helgrind.h>
 #define comes_after(word) ANNOTATE_HAPPENS_AFTER(word)
 #define comes_before(word) ANNOTATE_HAPPENS_BEFORE(word)
+#define has_sanitizer() true
 #elif defined __SANITIZE_THREAD__
 #define comes_after(word) ((void)(word))
 #define comes_before(word) ((void)(word))
+#define has_sanitizer() false
 #else
 extern void __tsan_acquire(void *) __attribute__((weak));
 extern void __tsan_release(void *) __attribute__((weak));
@@ -22,6 +24,12 @@ static inline void comes_before(_Atomic uint32_t *word)
 {
     if (__tsan_release != NULL)
         __tsan_release((void *)word);
+}
+
+/* Whether there is one, to be told. */
+static inline bool has_sanitizer(void)
+{
+    return __tsan_acquire != NULL;
 }
 #endif
 
