@@ -232,7 +232,6 @@ WINPTHREADS_LEFT_OUT = {
     **dict.fromkeys("benchtest1 benchtest2 benchtest3 benchtest4 loadfree tryentercs tryentercs2".split(), "libraries that are loaded"),
     **dict.fromkeys("cancel3 cancel5 cancel6a".split(), "threads that are canceled where they stand"),
     **dict.fromkeys("exception1 exception2 exception3".split(), "structured exceptions"),
-    **dict.fromkeys("condvar1_1 condvar1_2".split(), "a RAND_MAX of 32,767"),
     "cancel9": "sockets",
     "context1": "a thread's registers",
     "once4": "priorities of processes",
@@ -271,7 +270,6 @@ WINPR_LEFT_OUT = {
     "TestThreadCommandLineToArgv": "command lines",
     "TestGetComputerName": "names of machines",
     "TestThreadExitThread": THREADS,
-    "TestCPUFeatures": "a call of WinPR's own",
 }
 WINPR_TESTS = " ".join(f"winpr/libwinpr/{it}/test/*.c" for it in "synch thread pool interlocked error sysinfo".split())
 
@@ -284,7 +282,7 @@ RUNS = {
     "libuv: its tests of threads": Run("libuv1", libuv),
     "WinPR: its tests": Run(
         "freerdp2",
-        programs_of("winpr", WINPR_TESTS, WINPR, "winpr/libwinpr/interlocked/interlocked.c", WINPR_MAIN, left_out=WINPR_LEFT_OUT, own="winpr.c"),
+        programs_of("winpr", WINPR_TESTS, WINPR, "winpr/libwinpr/interlocked/interlocked.c winpr/libwinpr/sysinfo/sysinfo.c", WINPR_MAIN, left_out=WINPR_LEFT_OUT, own="winpr.c"),
     ),
     "winpthreads: its tests": Run("mingw-w64", winpthreads),
     "Boost.Thread: its tests": Run("boost1.74", boost),
