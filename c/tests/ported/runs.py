@@ -212,8 +212,9 @@ def boost(shop, source):
     includes = [f"-I{it}" for it in shop.files_of(source, "libs/*/include libs/numeric/*/include")]
     flags = shop.flags("boost", f"-include {shop.ported}/config/boost/names.h -include iostream {BOOST}")
     flags += includes
-    framework = shop.objects("framework", source, "libs/test/src/*.cpp", ["-w", "-O1", *includes], ("cpp_main", "test_main"))
+    framework = shop.objects("framework", source, "libs/test/src/*.cpp", ["-w", "-O1", *includes], ("/cpp_main", "/test_main"))
     library = shop.objects("boost", source, BOOST_FILES, flags)
+    library += shop.objects("boost", source, [f"{shop.ported}/boost.cc"], flags)
     failed = {}
     for file in shop.files_of(source, "libs/thread/test/test_*.cpp"):
         test = os.path.splitext(os.path.basename(file))[0]
