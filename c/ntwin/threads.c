@@ -67,10 +67,11 @@ static void leave_last(void *round)
 static void note_fork(void)
 {
     const bool is_opening = pthread_mutex_trylock(&process.opening) != 0;
-    own.id = own.mark = 0;
+    own.id = 0;
     waiting.left = NULL;
     if (!is_opening)
         pthread_mutex_unlock(&process.opening);
+    own.mark = 0;
     if (!is_opening && atomic_load_explicit(&waiting.lock, memory_order_relaxed) == FREE && waiting.alive == (own.seat != NULL))
         return;
     process.is_forked = true;
