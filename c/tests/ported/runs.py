@@ -134,7 +134,7 @@ def one_of(shop, source, file, flags, objects, main):
         with open(f"{shop.room}/main.c", "w", encoding="utf-8") as to:
             to.write(main)
         made += shop.objects("main", shop.room, "main.c", [])
-    return shop.linked(program, [*made, *objects], spare=True) or shop.ran(program, "test")
+    return shop.linked(program, [*made, *objects], spare=True) or shop.ran(program, *(["test"] if main else []))
 
 
 def libuv(shop, source):
