@@ -189,17 +189,17 @@ def x264(shop, source):
 
 BOOST = "-D_WIN64 -U__linux__ -U__linux -Ulinux -U__unix__ -U__unix -Uunix -DBOOST_ALL_NO_LIB -DBOOST_USE_WINDOWS_H -DBOOST_THREAD_BUILD_LIB=1"
 BOOST_FILES = "libs/thread/src/win32/*.cpp libs/thread/src/future.cpp libs/chrono/src/chrono.cpp libs/system/src/error_code.cpp"
+# What a test calls and includes no header for.
+BOOST_LACKING = {"test_3837": ["-include", "boost/utility/in_place_factory.hpp"]}
 BOOST_LEFT_OUT = {
     **dict.fromkeys("test_5502 test_lock_concept test_once test_shared_mutex test_shared_mutex_part_2".split(), "a long of 32 bits"),
     **dict.fromkeys("test_shared_mutex_timed_locks test_shared_mutex_timed_locks_chrono".split(), "a long of 32 bits"),
-    **dict.fromkeys("test_2309 test_ml".split(), "an older Boost.Test"),
     "test_10963": "a race of its own, over pthreads too",
     "test_11611": "more than 65,536 handles",
     "test_11796": THREADS,
     "test_13561": "a file that Debian leaves out",
-    "test_3837": "an older C++",
     "test_8455": "blocks, as it says",
-    "test_8557": "counts of the C library's memory",
+    "test_8557": "ends with 1 itself",
     "test_9192": "files",
     "test_9303": "sockets",
     "test_time_jumps": "a clock that is set",
@@ -220,8 +220,8 @@ def boost(shop, source):
         test = os.path.splitext(os.path.basename(file))[0]
         if test not in BOOST_LEFT_OUT:
             with open(f"{source}/{file}", encoding="utf-8", errors="replace") as text:
-                uses = "boost/test/" in text.read()
-            failed[test] = one_of(shop, source, file, flags, [*library, *(framework if uses else [])], "")
+                uses = re.search(r"(?m)^ *# *include <boost/test/", text.read())
+            failed[test] = one_of(shop, source, file, flags + BOOST_LACKING.get(test, []), [*library, *(framework if uses else [])], "")
     return *counted(failed), BOOST_LEFT_OUT
 
 
