@@ -15,6 +15,8 @@ use Rattle.nt_calls.specs.State.{State, Pending, pends}
 use Rattle.nt_calls.specs.declared.call.Call.{Call}
 use Rattle.nt_calls.specs.Steps.{IsNextMoment, NothingDue, Called, Ticked}
 use Rattle.nt_calls.specs.Moves.{Moves, pended, one_if, granted_to}
+use Rattle.nt_life.specs.Lasting.{IsAsItWas, IsUnchanged}
+use Rattle.nt_sleepers.proofs.Renewing.{kept_as_it_was}
 use Rattle.nt_sleepers.specs.Sleepers.{Sleeping, Woke, Watches, TimeIsKept, CalledWaits, IsWatched, MeetsDeadlines, IsShortEnough, IsCalled, SleepsUpTo, NoneUpTo, OnlyWaiting, without_woken, set_if, with_called, settled, deadline_of, SleepsTo}
 use Rattle.nt_sleepers.proofs.Staying.{StayedOrBegan}
 use Rattle.nt_sleepers.proofs.Deadlines.{deadlines_after, deadlines_watch, deadlines_stop, in_time, watched}
@@ -208,25 +210,33 @@ not_called s alarms watchers (Some t) in_time (mark, u, here, low, awaited, none
       | inr (o, m, is, soon) ↦ (let later = none o m is in absurd (omega (arith, soon, later)))
     ]
 
--- nothing has changed, and nobody is called
-nobody_called : (old new : State) (who : ℕ) (began : Bool) (gs : List Grant) (own called : Option ℕ) (alarms watchers watchers' : List (Option ℕ)) → new ≡ old → gs ≡ [] → began ≡ false → TimeIsKept old alarms watchers → watchers' ≡ without_woken gs watchers → IsCalled new (set_if began who own (without_woken gs alarms)) watchers' called → called ≡ None
-nobody_called old new who began gs own called alarms watchers watchers' same none not kept watchers-are is =
-    let here : IsWatched new alarms watchers = subst (λ (s : State). IsWatched s alarms watchers) (sym same) (watched old alarms watchers kept.in_time) in
+-- nothing has changed but that, and nobody is called
+nobody_called : (new : State) (who : ℕ) (began : Bool) (gs : List Grant) (own called : Option ℕ) (alarms watchers watchers' : List (Option ℕ)) → gs ≡ [] → began ≡ false → TimeIsKept new alarms watchers → watchers' ≡ without_woken gs watchers → IsCalled new (set_if began who own (without_woken gs alarms)) watchers' called → called ≡ None
+nobody_called new who began gs own called alarms watchers watchers' none not kept watchers-are is =
     let alarms-are : set_if began who own (without_woken gs alarms) ≡ alarms = ap (λ (b : Bool). set_if b who own (without_woken gs alarms)) not ∙ ap (λ xs. without_woken xs alarms) none in
     let as_before : watchers' ≡ watchers = watchers-are ∙ ap (λ xs. without_woken xs watchers) none in
-    not_called new alarms watchers called here
+    not_called new alarms watchers called (watched new alarms watchers kept.in_time)
     (subst (λ (xs : List (Option ℕ)). IsCalled new alarms xs called) as_before
     (subst (λ (xs : List (Option ℕ)). IsCalled new xs watchers' called) alarms-are is))
+
+kept_same : (old new : State) (alarms watchers : List (Option ℕ)) → new ≡ old → TimeIsKept old alarms watchers → TimeIsKept new alarms watchers
+kept_same old new alarms watchers same kept = subst (λ (s : State). TimeIsKept s alarms watchers) (sym same) kept
 
 pub nobody_by_call : (old new : State) (who : ℕ) (call : Call) (result : Result Reply Refusal) (began : Bool) (gs : List Grant) (own called : Option ℕ) (alarms watchers watchers' : List (Option ℕ)) → Called old who call result gs new → began ≡ pended result → TimeIsKept old alarms watchers → watchers' ≡ without_woken gs watchers → IsCalled new (set_if began who own (without_woken gs alarms)) watchers' called → OnErr result (called ≡ None)
 nobody_by_call old new who call (Ok reply) began gs own called alarms watchers watchers' made b kept watchers-are is = tt
 nobody_by_call old new who call (Err r) began gs own called alarms watchers watchers' made b kept watchers-are is =
-    nobody_called old new who began gs own called alarms watchers watchers' made.2 made.1 b kept watchers-are is
+    nobody_called new who began gs own called alarms watchers watchers' made.1 b (kept_same old new alarms watchers made.2 kept) watchers-are is
+
+-- the same where numbers may be given again
+pub nobody_by_renewal : (old new : State) (who : ℕ) (result : Result Reply Refusal) (began : Bool) (gs : List Grant) (own called : Option ℕ) (alarms watchers watchers' : List (Option ℕ)) → IsUnchanged old result gs new → began ≡ pended result → TimeIsKept old alarms watchers → watchers' ≡ without_woken gs watchers → IsCalled new (set_if began who own (without_woken gs alarms)) watchers' called → OnErr result (called ≡ None)
+nobody_by_renewal old new who (Ok reply) began gs own called alarms watchers watchers' made b kept watchers-are is = tt
+nobody_by_renewal old new who (Err r) began gs own called alarms watchers watchers' made b kept watchers-are is =
+    nobody_called new who began gs own called alarms watchers watchers' made.0 b (kept_as_it_was old new alarms watchers made.1 kept) watchers-are is
 
 pub nobody_by_tick : (old new : State) (m : ℕ) (result : Result Reply Refusal) (gs : List Grant) (own called : Option ℕ) (alarms watchers watchers' : List (Option ℕ)) → Ticked old m result gs new → TimeIsKept old alarms watchers → watchers' ≡ without_woken gs watchers → IsCalled new (without_woken gs alarms) watchers' called → OnErr result (called ≡ None)
 nobody_by_tick old new m (Ok reply) gs own called alarms watchers watchers' ticked kept watchers-are is = tt
 nobody_by_tick old new m (Err r) gs own called alarms watchers watchers' ticked kept watchers-are is =
-    nobody_called old new 0 false gs own called alarms watchers watchers' ticked.3 ticked.2 refl kept watchers-are is
+    nobody_called new 0 false gs own called alarms watchers watchers' ticked.2 refl (kept_same old new alarms watchers ticked.3 kept) watchers-are is
 
 -- ---- the same values
 
@@ -245,10 +255,10 @@ woke_still old new who began not none alarms-are watchers-are nobody = record {
   called = subst (λ (c : Option ℕ). IsCalled (state new.core) (settled old.alarms who began new.core) new.watchers c) (sym nobody) tt;
 }
 
--- a refused call has changed nothing
-pub refused : (old new : State) (who : ℕ) (call : Call) (result : Result Reply Refusal) (gs : List Grant) (r : Refusal) → result ≡ Err r → Called old who call result gs new → (pended result ≡ false) × (gs ≡ []) × (new ≡ old)
-refused old new who call (Ok reply) gs r is made = absurd (cc)
-refused old new who call (Err cause) gs r is made = (refl, made.1, made.2)
+-- a refused call has changed nothing that counts here
+pub refused : (old new : State) (result : Result Reply Refusal) (gs : List Grant) (r : Refusal) → result ≡ Err r → IsUnchanged old result gs new → (pended result ≡ false) × (gs ≡ []) × IsAsItWas old new
+refused old new (Ok reply) gs r is made = absurd (cc)
+refused old new (Err cause) gs r is made = (refl, made.0, made.1)
 
 none_before : (old new : State) (who : ℕ) (began : Bool) (gs : List Grant) (t : ℕ) → Moves old who began gs new → gs ≡ [] → map.len new.waits ≡ 0 → pends old t ≡ false
 none_before old new who began gs t moves none left =

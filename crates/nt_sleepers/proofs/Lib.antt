@@ -3,3 +3,4 @@ pub mod Kept
 pub mod Counts
 pub mod Staying
 pub mod Deadlines
+mod Renewing

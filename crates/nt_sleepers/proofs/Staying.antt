@@ -81,7 +81,7 @@ after_waits _ s = refl
 
 -- ---- the caller's own wait
 
-same_stayed : (s new : State) (who : ℕ) (began : Bool) → new.waits ≡ s.waits → StayedOrBegan s who began new
+pub same_stayed : (s new : State) (who : ℕ) (began : Bool) → new.waits ≡ s.waits → StayedOrBegan s who began new
 same_stayed s new who began same t w e = inr (subst (λ (m : Pending). get m t ≡ Some w) same e)
 
 inserted : (m : Pending) (who : ℕ) (w : Wait) (t : ℕ) (v : Wait) → get (insert m who w) t ≡ Some v → (t ≡ who) ⊎ (get m t ≡ Some v)

@@ -8,11 +8,14 @@ use Rattle.nt_calls.specs.declared.call.Grant.{Grant}
 use Rattle.nt_calls.specs.State.{State, pends}
 use Rattle.nt_calls.specs.Steps.{IsAwaited, IsNextMoment}
 use Rattle.nt_core.specs.Dispatcher.{Dispatcher, state}
+use Rattle.nt_life.specs.Lasting.{Spares}
 use Rattle.nt_sleepers.specs.declared.told.Told.{Told}
 
--- the dispatcher; by thread the moment to which it sleeps by itself, and a mark if a timer may end its wait; and who is called
+-- the dispatcher, and the numbers that are spare in it, if it gives any again; by thread the moment to which it sleeps by itself, and a mark
+-- if a timer may end its wait; and who is called
 pub record Sleeping : Type 0 where
   pub core : Dispatcher
+  pub spare : Option Spares
   pub alarms : List (Option ℕ)
   pub watchers : List (Option ℕ)
   pub called : Option ℕ
@@ -122,6 +125,7 @@ SleepsTo s own moment = (moment ≡ own) ⊎ ((u : ℕ) × (moment ≡ Some u) �
 -- thread t watches from now on, if its wait pends, and sleeps to this moment
 pub record Watches (old : Sleeping) (t : ℕ) (moment : Option ℕ) (new : Sleeping) : Type 0 where
   pub core : new.core ≡ old.core
+  pub spare : new.spare ≡ old.spare
   pub called : new.called ≡ old.called
   pub sleeps : SleepsTo (state old.core) (deadline_of (get (state old.core).waits t)) moment
   pub alarms : new.alarms ≡ set_if (pends (state old.core) t) t moment old.alarms
@@ -130,6 +134,15 @@ pub record Watches (old : Sleeping) (t : ℕ) (moment : Option ℕ) (new : Sleep
 -- thread t sleeps and watches no more, though its wait may pend, and a watcher may be called in its place
 pub record Stops (old : Sleeping) (t : ℕ) (new : Sleeping) : Type 0 where
   pub core : new.core ≡ old.core
+  pub spare : new.spare ≡ old.spare
   pub alarms : new.alarms ≡ with_called new.called (slice_set old.alarms t None)
   pub watchers : new.watchers ≡ slice_set old.watchers t None
   pub called : IsCalled (state old.core) (slice_set old.alarms t None) new.watchers new.called
+
+-- ---- a thread that begins
+
+-- those who sleep and watch are the same, and nobody is called
+pub record LetsSleep (old new : Sleeping) : Type 0 where
+  pub alarms : new.alarms ≡ old.alarms
+  pub watchers : new.watchers ≡ old.watchers
+  pub called : new.called ≡ None

@@ -18,6 +18,7 @@
 #![tactic(auto)]
 
 mod keeping;
+mod life;
 mod sleepers;
 mod told;
 
