@@ -4,10 +4,11 @@
  * in which order and with which status is decided by the proved dispatcher (nt.h); this layer puts threads to sleep and wakes them.
  *
  * What differs from Windows:
- *   - At most 256 threads make calls in a process's life, the first thread among them; a thread that ends gives no place back. The
- *     257th gets ERROR_NO_SYSTEM_RESOURCES from each call.
- *   - At most 65,536 handles in a process's life, 256 of them the threads': CreateEvent and its like then fail with
- *     ERROR_NO_SYSTEM_RESOURCES, since no number of a closed handle is used again.
+ *   - A process makes as many handles and threads in its life as it likes. At once 65,280 handles are open at the most, and 256 threads make
+ *     calls, the first thread among them; then CreateEvent and its like, or each call of the 257th thread, fail with ERROR_NO_SYSTEM_RESOURCES.
+ *     A thread's place is another's once the thread has ended and its handles are closed.
+ *   - A handle that was closed is refused with ERROR_INVALID_HANDLE though its number is another handle's now, until that number was given
+ *     16,382 times more.
  *   - Names are the process's own (win/synchapi.h opens objects by them). Security attributes are ignored. Nothing is shared with other
  *     processes. In a child that is forked beside other threads that have called, each call fails with ERROR_NOT_SUPPORTED.
  *   - DWORD, LONG and ULONG have 32 bits, as on Windows, and so are no `long` here: print them with %u and %d.

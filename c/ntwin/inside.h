@@ -72,11 +72,18 @@ struct life {
     uint64_t used[2];        /* how long it ran, once it has ended, in units of 100 ns: as the program, and in the system */
 };
 
-/* A thread's place in the dispatcher. */
+/* A thread of CreateThread, as the system has it. It may run on for a while once it has left its seat. */
+struct runner {
+    pthread_t thread;
+    struct runner *next;     /* among those that have left */
+};
+
+/* A thread's place in the dispatcher. Once the thread has left and no handle names it any longer, the seat is another thread's. */
 struct seat {
     _Atomic uint32_t word;   /* how its wait stands: written by others under the lock */
     uint32_t status;         /* with which status it was granted */
     uint32_t number;         /* the thread's, which is also the seat's place among all */
+    uint32_t handle;         /* the number of its own handle, which no program sees */
     struct nt_reply reply;   /* what its last call was answered */
     struct nt_told told;     /* the last of those whom its last call told something */
     uint64_t moment;         /* to which it sleeps by itself where its wait pends: NEVER until it is told; 0 where it was called */
@@ -90,8 +97,8 @@ struct seat {
     bool has_left;           /* it has ended, with this exit code: */
     DWORD exit_code;
     struct life life;        /* what is told of it (win32/threads.c) */
-    pthread_t thread;
-    struct seat *next;       /* among the spare seats, or among those whose threads have left */
+    struct runner *runner;   /* of a thread of CreateThread that has not left */
+    struct seat *next;       /* among the spare seats */
     uint32_t looks;          /* how often it looks at its word before it sleeps: 0 where that was in vain of late */
     uint32_t wakes;          /* how many threads its call has told something while they slept: it wakes them, */
     uint32_t woken[NT_MAXIMUM_THREADS]; /* once the lock is given back */
@@ -102,7 +109,8 @@ enum kind { KIND_THREAD, KIND_EVENT, KIND_SEMAPHORE, KIND_MUTEX, KIND_TIMER, KIN
 
 /* What a thread finds of its own with no call, also where this is a shared library. (A test may have threads of its own making.) */
 struct own {
-    struct seat *seat; /* null before its first call */
+    struct seat *seat; /* null before its first call, and once it has left */
+    bool has_left;
     DWORD last_error;
     DWORD id;          /* 0 until it was asked for */
     jmp_buf *end;      /* where ExitThread goes to, in a thread of CreateThread */
@@ -119,7 +127,8 @@ static struct {
     pthread_key_t leaving;  /* its value in a thread: at which round of its destructors the thread is */
     pid_t id;
     bool looks;             /* threads look at a word before they sleep on it: there are several processors */
-    bool is_forked;         /* this is a child of a process with threads that are not here */
+    bool is_forked;         /* this is a child of a process with threads that are not here, */
+    struct runner *lost;    /* these among them */
     uint64_t start;         /* the dispatcher's moment 0, on the monotonic clock */
 } process = { .opening = PTHREAD_MUTEX_INITIALIZER };
 
@@ -137,11 +146,13 @@ static struct {
     uint32_t begun;          /* how many waits have begun to pend */
     uint32_t seated;         /* how many seats were ever taken */
     uint32_t alive;          /* how many of their threads have not left */
-    struct seat *spare;      /* seats whose threads could not be started */
-    struct seat *left;       /* threads of CreateThread that have left and are not joined */
-    uint32_t process_handle; /* the number of an event that is never set, which stands for the process; 0 before that is waited for */
+    uint32_t ended;          /* how many have left, and some handle named them when that was looked at last */
+    struct seat *spare;      /* seats that are free again */
+    struct runner *left;     /* threads of CreateThread that have left and are not joined */
+    uint32_t process_handle; /* the number of an event that is never set, which stands for the process; NO_HANDLE before that is waited for */
     struct nt dispatcher;
     struct seat seats[NT_MAXIMUM_THREADS];
+    uint32_t given[NT_MAXIMUM_HANDLES]; /* by number the program's handle, or that which was closed last (calls.c); */
     uint8_t kinds[NT_MAXIMUM_HANDLES]; /* of what each number names, or named last; */
     uint8_t threads[NT_MAXIMUM_HANDLES]; /* where that is a thread, which one; */
     struct named *named[NT_MAXIMUM_HANDLES]; /* where it has a name, which; else null; */

@@ -48,12 +48,12 @@ static void run_apcs(struct seat *seat)
 __attribute__((noinline, cold)) static uint32_t number_of_process(struct seat *seat)
 {
     struct nt_reply made, reply;
-    if (waiting.process_handle != 0)
+    if (waiting.process_handle != NO_HANDLE)
         return waiting.process_handle;
     if (nt_create_event(&waiting.dispatcher, seat->number, 0, &made) != 0)
         return NO_HANDLE;
     const uint32_t refused = nt_duplicate(&waiting.dispatcher, seat->number, made.number, SYNCHRONIZE, &reply);
-    close_number(seat->number, made.number);
+    close_number(seat, made.number);
     if (refused != 0)
         return NO_HANDLE;
     waiting.kinds[reply.number] = KIND_PROCESS;
@@ -156,6 +156,7 @@ static inline DWORD finish_wait(struct seat *seat, uint32_t refused, struct wait
 
 DWORD WaitForMultipleObjectsEx(DWORD count, const HANDLE *objects, BOOL all, DWORD ms, BOOL alertable)
 {
+    HANDLE handles[MAXIMUM_WAIT_OBJECTS];
     uint32_t numbers[MAXIMUM_WAIT_OBJECTS];
     if (objects == NULL || count > MAXIMUM_WAIT_OBJECTS) {
         fail(ERROR_INVALID_PARAMETER);
@@ -163,10 +164,12 @@ DWORD WaitForMultipleObjectsEx(DWORD count, const HANDLE *objects, BOOL all, DWO
     }
     /* (A list that can't be read does no harm while the lock is free. Pseudo handles stand in none.) */
     for (DWORD i = 0; i < count; i++)
-        numbers[i] = listed_number_of(objects[i]);
+        handles[i] = objects[i];
     struct seat *seat = begin();
     if (seat == NULL)
         return WAIT_FAILED;
+    for (DWORD i = 0; i < count; i++)
+        numbers[i] = listed_number_of(handles[i]);
     begin_timed(seat, ms);
     return finish_wait(seat, nt_wait(&waiting.dispatcher, seat->number, numbers, count, all != FALSE, ms, alertable != FALSE, &seat->reply),
                        (struct wait){ numbers, count, alertable });

@@ -86,9 +86,8 @@ static void note_named(struct named *named, uint32_t number)
 }
 
 /* The program has this handle of a named object no longer, under the lock. */
-static void forget_named(uint32_t caller, uint32_t number)
+static void forget_named(struct seat *caller, uint32_t number)
 {
-    struct nt_reply reply;
     struct named *named = waiting.named[number];
     waiting.named[number] = NULL;
     if (--named->handles > 0)
@@ -97,7 +96,7 @@ static void forget_named(uint32_t caller, uint32_t number)
     while (*at != named)
         at = &(*at)->next;
     *at = named->next;
-    nt_close_handle(&waiting.dispatcher, caller, named->number, &reply);
+    nt_close_handle(&waiting.dispatcher, caller->number, named->number, &caller->reply);
     free(named);
 }
 

@@ -81,7 +81,7 @@ HANDLE CreateIoCompletionPort(HANDLE file, HANDLE port, ULONG_PTR key, DWORD thr
     uint32_t refused = nt_create_event(&waiting.dispatcher, seat->number, 0, &event);
     if (refused == 0) {
         refused = nt_duplicate(&waiting.dispatcher, seat->number, event.number, SYNCHRONIZE, &reply);
-        close_number(seat->number, event.number);
+        close_number(seat, event.number);
     }
     if (refused == 0) {
         waiting.kinds[reply.number] = KIND_PORT;
@@ -90,7 +90,7 @@ HANDLE CreateIoCompletionPort(HANDLE file, HANDLE port, ULONG_PTR key, DWORD thr
     } else {
         free(made);
     }
-    return finish(seat, refused) ? handle_of(reply.number) : NULL;
+    return finish_creation(seat, refused, &reply, own.last_error);
 }
 
 /* The port that a handle names, which stays until `leave_port`; null, with the last error set, where it names none. */
