@@ -119,7 +119,7 @@ __attribute__((noinline, cold)) static DWORD fail_wait(struct seat *seat, uint32
 }
 
 /* What a wait answers that pends: its status, once it is granted. The caller's APCs run before. */
-__attribute__((noinline)) static DWORD finish_pending(struct seat *seat, struct wait wait)
+static inline DWORD finish_pending(struct seat *seat, struct wait wait)
 {
     uint64_t due;
     note(seat);
