@@ -1,4 +1,5 @@
 /* What Win32's locks cost beside pthread's own: `locks SHAPE PEER ROUNDS` writes the picoseconds of a round. */
+#define _GNU_SOURCE
 #include <windows.h>
 
 #include <pthread.h>
@@ -14,6 +15,7 @@ static CRITICAL_SECTION SECTION;
 static SRWLOCK LOCK = SRWLOCK_INIT;
 static CONDITION_VARIABLE VARIABLES[2];
 static pthread_mutex_t MUTEX = PTHREAD_MUTEX_INITIALIZER;
+static pthread_mutex_t RECURSIVE = PTHREAD_RECURSIVE_MUTEX_INITIALIZER_NP;
 static pthread_rwlock_t RWLOCK = PTHREAD_RWLOCK_INITIALIZER;
 static pthread_cond_t CONDITIONS[2] = { PTHREAD_COND_INITIALIZER, PTHREAD_COND_INITIALIZER };
 
@@ -34,6 +36,33 @@ static void *mutexes(void *none)
         PLACE++;
         pthread_mutex_unlock(&MUTEX);
     }
+    return none;
+}
+
+static void *recursive_mutexes(void *none)
+{
+    for (long i = 0; i < ROUNDS; i++) {
+        pthread_mutex_lock(&RECURSIVE);
+        PLACE++;
+        pthread_mutex_unlock(&RECURSIVE);
+    }
+    return none;
+}
+
+/* What the caller has it takes once more. */
+static void *inner_sections(void *none)
+{
+    EnterCriticalSection(&SECTION);
+    sections(none);
+    LeaveCriticalSection(&SECTION);
+    return none;
+}
+
+static void *inner_mutexes(void *none)
+{
+    pthread_mutex_lock(&RECURSIVE);
+    recursive_mutexes(none);
+    pthread_mutex_unlock(&RECURSIVE);
     return none;
 }
 
@@ -110,7 +139,8 @@ static const struct {
     int threads;
     void *(*here)(void *), *(*there)(void *);
 } SHAPES[] = {
-    { "section", 1, sections, mutexes },         { "exclusive", 1, exclusives, write_locks },
+    { "section", 1, sections, recursive_mutexes }, { "section_mutex", 1, sections, mutexes },
+    { "section_inner", 1, inner_sections, inner_mutexes }, { "exclusive", 1, exclusives, write_locks },
     { "exclusive_mutex", 1, exclusives, mutexes }, { "shared", 1, shares, read_locks },
     { "section_2", 2, sections, mutexes },       { "section_4", 4, sections, mutexes },
     { "exclusive_4", 4, exclusives, write_locks }, { "shared_4", 4, shares, read_locks },

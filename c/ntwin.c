@@ -16,6 +16,12 @@
 
 #include "ntwin/times.c"
 
+#include "ntwin/journal.c"
+
+#include "ntwin/knots.c"
+
+#include "ntwin/looked.c"
+
 #include "ntwin/waiting.c"
 
 #include "win32/life.c"
@@ -84,4 +90,10 @@
 
 #include "win32/modules.c"
 
+#include "ntwin/report.c"
+
 #include "win32/told.c"
+
+#include "ntwin/why.c"
+
+#include "ntwin/looking.c"

@@ -4,10 +4,11 @@
  * in which order and with which status is decided by the proved dispatcher (nt.h); this layer puts threads to sleep and wakes them.
  *
  * What differs from Windows:
- *   - At most 256 threads make calls in a process's life, the first thread among them; a thread that ends gives no place back. The
- *     257th gets ERROR_NO_SYSTEM_RESOURCES from each call.
- *   - At most 65,536 handles in a process's life, 256 of them the threads': CreateEvent and its like then fail with
- *     ERROR_NO_SYSTEM_RESOURCES, since no number of a closed handle is used again.
+ *   - A process makes as many handles and threads in its life as it likes. At once 61,440 handles are open at the most, and 4,096 threads make
+ *     calls, the first thread among them; then CreateEvent and its like, or each call of one thread more, fail with ERROR_NO_SYSTEM_RESOURCES.
+ *     A thread's place is another's once the thread has ended and its handles are closed.
+ *   - A handle that was closed is refused with ERROR_INVALID_HANDLE though its number is another handle's now, until that number was given
+ *     16,382 times more.
  *   - Names are the process's own (win/synchapi.h opens objects by them). Security attributes are ignored. Nothing is shared with other
  *     processes. In a child that is forked beside other threads that have called, each call fails with ERROR_NOT_SUPPORTED.
  *   - DWORD, LONG and ULONG have 32 bits, as on Windows, and so are no `long` here: print them with %u and %d.
@@ -39,6 +40,16 @@ int ntwin_is_proved(void);
 /* Writes a line for each thread that sleeps beside the dispatcher, with its id: for which critical section and who owns it, for which SRW lock,
  * on which condition variable or address, at which barrier, for which initialization; and which threads hold each other by sections. */
 void ntwin_write_waits(FILE *to);
+
+/* Writes why threads wait: for each that does its name, for what and where in the program; of each object its name, its state and where it was
+ * created; which threads hold each other, so that none of them ever goes on; and if there are none, what comes next. It holds what
+ * ntwin_write_waits writes, too. With NTWIN_WHY=signal in the environment the process writes this to standard error at SIGQUIT; with NTWIN_WHY=knot
+ * also at the call that ties a knot; with NTWIN_WHY=abort it then aborts. NTWIN_JOURNAL=FILE writes each call to FILE, as a script for `ntrun` and
+ * `ntlook`. */
+void ntwin_why(FILE *to);
+
+/* Names an object for that, or a thread, as SetThreadDescription does: by at most 64 bytes. Where it can't, it sets the last error. */
+void ntwin_name(void *object, const char *name);
 
 /* ---- Types. */
 

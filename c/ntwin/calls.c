@@ -1,60 +1,65 @@
-/* ---- Handles: numbers of the dispatcher, plus 1, times 4. The two lowest bits are the program's own, and the threads' own numbers are not
- * handed out. */
+/* ---- Handles. The two lowest bits are the program's own. Above them stand the number of the dispatcher's handle, in 16 bits, and how often it was
+ * given to the program, in 14. So a handle that was closed is refused, though its number was given again, until it was given 16,382 times more.
+ * Threads' own handles are given to nobody. */
 
-static HANDLE handle_of(uint32_t number)
+enum { IS_OPEN = 2, COUNT_AT = 18, MOST_COUNT = 0x3FFE }; /* (No pseudo handle has such a count, nor has NULL one from 1 on.) */
+
+/* Gives the handle with this number to the program, under the lock. */
+static HANDLE give_handle(uint32_t number)
 {
-    return (HANDLE)(((uintptr_t)number + 1) * 4);
+    const uint32_t count = waiting.given[number] >> COUNT_AT, value = (count < MOST_COUNT ? count + 1 : 1) << COUNT_AT | number << 2;
+    waiting.given[number] = value | IS_OPEN;
+    return (HANDLE)(uintptr_t)value;
 }
 
-/* From now on, under the lock, the handle with this number names nothing. It is refused only where it named nothing before. */
-static uint32_t close_number(uint32_t caller, uint32_t number)
-{
-    struct nt_reply reply;
-    const uint32_t refused = nt_close_handle(&waiting.dispatcher, caller, number, &reply);
-    if (refused == 0 && waiting.named[number] != NULL)
-        forget_named(caller, number);
-    look_for_timers();
-    return refused;
-}
-
-/* As `close_number`, for a call of the program. The port that goes with the last handle is in `port`, to be closed without the lock; else null. */
-static uint32_t close_programs_number(uint32_t caller, uint32_t number, struct port **port)
-{
-    const uint32_t refused = close_number(caller, number);
-    *port = refused == 0 ? forget_port(number) : NULL;
-    return refused;
-}
-
-/* The number of a handle that is no pseudo handle; NO_HANDLE where it is none. */
+/* The number of a handle that is no pseudo handle, under the lock; NO_HANDLE if the program has no such handle. */
 static inline uint32_t listed_number_of(HANDLE handle)
 {
-    const uintptr_t number = ((uintptr_t)handle >> 2) - 1;
-    return number - NT_MAXIMUM_THREADS < NT_MAXIMUM_HANDLES - NT_MAXIMUM_THREADS ? (uint32_t)number : NO_HANDLE;
+    const uint32_t value = (uint32_t)(uintptr_t)handle, number = value >> 2 & (NT_MAXIMUM_HANDLES - 1);
+    return waiting.given[number] == (value & ~3u) + IS_OPEN ? number : NO_HANDLE;
 }
 
-/* The number of a handle, which may be the caller's pseudo handle of itself. */
+/* The number of a handle, under the lock, which may be the caller's pseudo handle of itself. */
 static inline uint32_t number_of(const struct seat *caller, HANDLE handle)
 {
     const uint32_t number = listed_number_of(handle);
-    return number == NO_HANDLE && handle == CURRENT_THREAD ? caller->number : number;
+    return number == NO_HANDLE && handle == CURRENT_THREAD ? caller->handle : number;
 }
 
 /* The number of the thread that this number names, where it names one. */
-static uint8_t thread_of(uint32_t number)
+static uint16_t thread_of(uint32_t number)
 {
-    return number < NT_MAXIMUM_THREADS ? (uint8_t)number : number < NT_MAXIMUM_HANDLES ? waiting.threads[number] : 0;
-}
-
-/* The number names this thread. */
-static void name_thread(uint32_t number, const struct seat *seat)
-{
-    waiting.kinds[number] = KIND_THREAD;
-    waiting.threads[number] = (uint8_t)seat->number;
+    return number < NT_MAXIMUM_HANDLES ? waiting.threads[number] : 0;
 }
 
 static enum kind kind_of(uint32_t number)
 {
     return number < NT_MAXIMUM_HANDLES ? (enum kind)waiting.kinds[number] : KIND_THREAD;
+}
+
+/* From now on, under the lock, the handle with this number names nothing. It is refused only where it named nothing before. */
+static uint32_t close_number(struct seat *caller, uint32_t number)
+{
+    const uint32_t refused = nt_close_handle(&waiting.dispatcher, caller->number, number, &caller->reply);
+    look_for_timers();
+    if (refused != 0)
+        return refused;
+    waiting.given[number] &= ~(uint32_t)IS_OPEN;
+    if (waiting.named[number] != NULL)
+        forget_named(caller, number);
+    if (kind_of(number) == KIND_THREAD && waiting.seats[thread_of(number)].has_left) {
+        note(caller);
+        renew_seats();
+    }
+    return 0;
+}
+
+/* As `close_number`, for a call of the program. The port that goes with the last handle is in `port`, to be closed without the lock; else null. */
+static uint32_t close_programs_number(struct seat *caller, uint32_t number, struct port **port)
+{
+    const uint32_t refused = close_number(caller, number);
+    *port = refused == 0 ? forget_port(number) : NULL;
+    return refused;
 }
 
 /* ---- Rights. Those that the dispatcher does not know are ignored. */
@@ -97,15 +102,19 @@ static inline struct seat *begin(void)
     return seat;
 }
 
+/* What a call answers that was refused. */
+__attribute__((noinline, cold)) static BOOL fail_call(struct seat *seat, uint32_t refused)
+{
+    unlock_and_wake(seat);
+    return fail(refused);
+}
+
 /* Gives the lock back, wakes whom the call granted, and answers whether it was accepted. */
 static inline BOOL finish(struct seat *seat, uint32_t refused)
 {
-    if (refused != 0) {
-        unlock_and_wake(seat);
-        return fail(refused);
-    }
-    note(seat);
-    unlock_and_wake(seat);
+    if (refused != 0)
+        return fail_call(seat, refused);
+    note_and_unlock(seat);
     return TRUE;
 }
 
@@ -133,14 +142,31 @@ struct wanted {
     LONG initial, maximum;
     DWORD flags, known_flags;
     DWORD access;
+    const void *place;      /* where in the program it was called */
 };
+
+/* The object that this handle names was created, under the lock, and has no name that the program calls it by. */
+static void note_made(uint32_t number, const void *place)
+{
+    struct nt_opened opened;
+    if (nt_opened(&waiting.dispatcher, number, &opened) != 0)
+        return;
+    waiting.made_at[opened.object] = place;
+    free(waiting.called[opened.object]);
+    waiting.called[opened.object] = NULL;
+}
 
 /* Makes the object, under the lock, with a handle that has all rights. */
 static uint32_t make_object(const struct seat *seat, const struct wanted *wanted, struct nt_reply *reply)
 {
+    uint32_t refused;
     if (wanted->make != NULL)
-        return wanted->make(&waiting.dispatcher, seat->number, wanted->flags, reply);
-    return nt_create_semaphore(&waiting.dispatcher, seat->number, wanted->initial, wanted->maximum, reply);
+        refused = wanted->make(&waiting.dispatcher, seat->number, wanted->flags, reply);
+    else
+        refused = nt_create_semaphore(&waiting.dispatcher, seat->number, wanted->initial, wanted->maximum, reply);
+    if (refused == 0)
+        note_made(reply->number, wanted->place);
+    return refused;
 }
 
 /* Makes an object with this name, under the lock, with a handle for the program. It is `fresh`, and in the list from now on. */
@@ -154,7 +180,7 @@ static uint32_t make_with_name(struct seat *seat, const struct wanted *wanted, s
     waiting.kinds[fresh->number] = (uint8_t)wanted->kind;
     refused = open_named(seat, fresh, rights_asked(wanted->kind, wanted->access), reply);
     if (refused != 0) {
-        close_number(seat->number, fresh->number);
+        close_number(seat, fresh->number);
         return refused;
     }
     struct named **list = list_of_name(fresh->name);
@@ -164,14 +190,14 @@ static uint32_t make_with_name(struct seat *seat, const struct wanted *wanted, s
 }
 
 /* Makes an object without a name, under the lock, with a handle that has the rights that are asked for. */
-static uint32_t make_without_name(const struct seat *seat, const struct wanted *wanted, struct nt_reply *reply)
+static uint32_t make_without_name(struct seat *seat, const struct wanted *wanted, struct nt_reply *reply)
 {
     const DWORD rights = rights_asked(wanted->kind, wanted->access);
     uint32_t refused = make_object(seat, wanted, reply);
     if (refused == 0 && rights != rights_of_kinds[wanted->kind].all) {
         const uint32_t first = reply->number;
         refused = nt_duplicate(&waiting.dispatcher, seat->number, first, rights, reply);
-        close_number(seat->number, first);
+        close_number(seat, first);
     }
     if (refused == 0)
         waiting.kinds[reply->number] = (uint8_t)wanted->kind;
@@ -181,10 +207,10 @@ static uint32_t make_without_name(const struct seat *seat, const struct wanted *
 /* What a creation answers: its handle, with this last error. */
 static HANDLE finish_creation(struct seat *seat, uint32_t refused, const struct nt_reply *reply, DWORD error)
 {
-    if (!finish(seat, refused))
-        return NULL;
-    own.last_error = error;
-    return handle_of(reply->number);
+    HANDLE made = refused == 0 ? give_handle(reply->number) : NULL;
+    if (finish(seat, refused))
+        own.last_error = error;
+    return made;
 }
 
 /* Makes an object with this name, or opens the one that has it. */

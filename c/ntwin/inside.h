@@ -10,15 +10,22 @@
 #include <errno.h>
 #include <fcntl.h>
 #include <limits.h>
+#include <link.h>
 #include <linux/futex.h>
 #include <pthread.h>
 #include <sched.h>
 #include <setjmp.h>
+#include <signal.h>
+#include <stdarg.h>
 #include <stdatomic.h>
 #include <stdio.h>
 #include <stdlib.h>
+#include <string.h>
 #include <strings.h>
+#include <sys/file.h>
+#include <sys/mman.h>
 #include <sys/resource.h>
+#include <sys/stat.h>
 #include <sys/syscall.h>
 #include <sys/sysinfo.h>
 #include <time.h>
@@ -72,14 +79,25 @@ struct life {
     uint64_t used[2];        /* how long it ran, once it has ended, in units of 100 ns: as the program, and in the system */
 };
 
-/* A thread's place in the dispatcher. */
+/* A thread of CreateThread, as the system has it. It may run on for a while once it has left its seat. */
+struct runner {
+    pthread_t thread;
+    struct runner *next;     /* among those that have left */
+};
+
+/* How many sleeping threads a call wakes once it has given the lock back. */
+enum { WOKEN_LATER = 64 };
+
+/* A thread's place in the dispatcher. Once the thread has left and no handle names it any longer, the seat is another thread's. */
 struct seat {
     _Atomic uint32_t word;   /* how its wait stands: written by others under the lock */
     uint32_t status;         /* with which status it was granted */
     uint32_t number;         /* the thread's, which is also the seat's place among all */
+    uint32_t handle;         /* the number of its own handle, which no program sees */
     struct nt_reply reply;   /* what its last call was answered */
     struct nt_told told;     /* the last of those whom its last call told something */
     uint64_t moment;         /* to which it sleeps by itself where its wait pends: NEVER until it is told; 0 where it was called */
+    uint64_t timer_due;      /* when the first of the timers that it waits for was due, as it began: it sleeps no longer than to then; or NEVER */
     bool watches;            /* its wait pends, and a timer may end it */
     bool is_gone;            /* it was canceled as it waited, and never wakes */
     bool has_routines;       /* it has set a timer with a routine */
@@ -89,11 +107,13 @@ struct seat {
     bool has_left;           /* it has ended, with this exit code: */
     DWORD exit_code;
     struct life life;        /* what is told of it (win32/threads.c) */
-    pthread_t thread;
-    struct seat *next;       /* among the spare seats, or among those whose threads have left */
+    struct runner *runner;   /* of a thread of CreateThread that has not left */
+    struct seat *next;       /* among the spare seats */
     uint32_t looks;          /* how often it looks at its word before it sleeps: 0 where that was in vain of late */
-    uint32_t wakes;          /* how many threads its call has told something while they slept: it wakes them, */
-    uint32_t woken[NT_MAXIMUM_THREADS]; /* once the lock is given back */
+    const void *waits_at;    /* where in the program its last wait that pended was called */
+    bool tells;              /* its call has tied a knot, of which it tells as it gives the lock back */
+    uint32_t wakes;          /* how many threads its call has told something while they slept: it wakes these, by their numbers, */
+    uint32_t woken[WOKEN_LATER]; /* once the lock is given back, and any further ones at once */
 };
 
 /* Kinds of objects, for what the dispatcher's handles do not tell: the rights that generic ones stand for, and which waits timers may end. */
@@ -101,10 +121,14 @@ enum kind { KIND_THREAD, KIND_EVENT, KIND_SEMAPHORE, KIND_MUTEX, KIND_TIMER, KIN
 
 /* What a thread finds of its own with no call, also where this is a shared library. (A test may have threads of its own making.) */
 struct own {
-    struct seat *seat; /* null before its first call */
+    struct seat *seat; /* null before its first call, and once it has left */
+    bool has_left;
     DWORD last_error;
     DWORD id;          /* 0 until it was asked for */
     jmp_buf *end;      /* where ExitThread goes to, in a thread of CreateThread */
+    struct port *port; /* the completion port whose packet it has; null before it got one, and once it asks for the next */
+    bool rests;        /* it sleeps with that packet, and does not count among those that run */
+    DWORD mark;        /* its id once it has entered a critical section, by which it enters the next; 0 where a sanitizer is told of each */
 };
 #ifndef own
 static _Thread_local struct own own __attribute__((tls_model("initial-exec")));
@@ -118,7 +142,8 @@ static struct {
     pthread_key_t leaving;  /* its value in a thread: at which round of its destructors the thread is */
     pid_t id;
     bool looks;             /* threads look at a word before they sleep on it: there are several processors */
-    bool is_forked;         /* this is a child of a process with threads that are not here */
+    bool is_forked;         /* this is a child of a process with threads that are not here, */
+    struct runner *lost;    /* these among them */
     uint64_t start;         /* the dispatcher's moment 0, on the monotonic clock */
 } process = { .opening = PTHREAD_MUTEX_INITIALIZER };
 
@@ -136,16 +161,28 @@ static struct {
     uint32_t begun;          /* how many waits have begun to pend */
     uint32_t seated;         /* how many seats were ever taken */
     uint32_t alive;          /* how many of their threads have not left */
-    struct seat *spare;      /* seats whose threads could not be started */
-    struct seat *left;       /* threads of CreateThread that have left and are not joined */
-    uint32_t process_handle; /* the number of an event that is never set, which stands for the process; 0 before that is waited for */
+    uint32_t ended;          /* how many have left, and some handle named them when that was looked at last */
+    struct seat *spare;      /* seats that are free again */
+    struct runner *left;     /* threads of CreateThread that have left and are not joined */
+    uint32_t process_handle; /* the number of an event that is never set, which stands for the process; NO_HANDLE before that is waited for */
     struct nt dispatcher;
-    struct seat seats[NT_MAXIMUM_THREADS];
+    uint32_t places;         /* how many threads the dispatcher has */
+    struct seat seats[NT_MANY_THREADS];
+    uint32_t given[NT_MAXIMUM_HANDLES]; /* by number the program's handle, or that which was closed last (calls.c); */
     uint8_t kinds[NT_MAXIMUM_HANDLES]; /* of what each number names, or named last; */
-    uint8_t threads[NT_MAXIMUM_HANDLES]; /* where that is a thread, which one; */
+    uint16_t threads[NT_MAXIMUM_HANDLES]; /* where that is a thread, which one; */
     struct named *named[NT_MAXIMUM_HANDLES]; /* where it has a name, which; else null; */
     struct port *ports[NT_MAXIMUM_HANDLES]; /* where it is a completion port, which; else null */
+    const void *made_at[NT_MAXIMUM_HANDLES]; /* of an object, by its own number: where in the program it was created, or null; */
+    char *called[NT_MAXIMUM_HANDLES];  /* and how ntwin_name calls it, or null */
 } waiting;
+
+/* Why threads wait, under the lock, and telling that on standard error, without it (looking.c). */
+static char *text_of_knot(void);
+static void tell_knot(struct seat *caller, char *text);
+
+/* This is a child that was forked: it goes on without a journal, and without a thread that takes SIGQUIT. */
+static void stop_looking(void);
 
 #ifdef CHECKS_WAITING
 static void check_waiting(void);

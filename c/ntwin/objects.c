@@ -2,7 +2,7 @@
 
 static HANDLE create_event(struct given_name name, DWORD flags, DWORD access)
 {
-    return create(&(struct wanted){ .kind = KIND_EVENT, .make = nt_create_event, .flags = flags, .access = access,
+    return create(&(struct wanted){ .kind = KIND_EVENT, .make = nt_create_event, .flags = flags, .access = access, .place = name.place,
                                     .known_flags = CREATE_EVENT_MANUAL_RESET | CREATE_EVENT_INITIAL_SET }, name);
 }
 
@@ -25,12 +25,14 @@ static DWORD event_flags(BOOL manual, BOOL set)
 
 HANDLE CreateEventA(LPSECURITY_ATTRIBUTES attributes, BOOL manual, BOOL set, LPCSTR name)
 {
-    return CreateEventExA(attributes, name, event_flags(manual, set), EVENT_ALL_ACCESS);
+    (void)attributes;
+    return create_event(NARROW(name), event_flags(manual, set), EVENT_ALL_ACCESS);
 }
 
 HANDLE CreateEventW(LPSECURITY_ATTRIBUTES attributes, BOOL manual, BOOL set, LPCWSTR name)
 {
-    return CreateEventExW(attributes, name, event_flags(manual, set), EVENT_ALL_ACCESS);
+    (void)attributes;
+    return create_event(WIDE(name), event_flags(manual, set), EVENT_ALL_ACCESS);
 }
 
 BOOL SetEvent(HANDLE event)
@@ -55,7 +57,8 @@ BOOL PulseEvent(HANDLE event)
 
 static HANDLE create_semaphore(struct given_name name, LONG initial, LONG maximum, DWORD flags, DWORD access)
 {
-    return create(&(struct wanted){ .kind = KIND_SEMAPHORE, .initial = initial, .maximum = maximum, .flags = flags, .access = access }, name);
+    return create(&(struct wanted){ .kind = KIND_SEMAPHORE, .initial = initial, .maximum = maximum, .flags = flags, .access = access,
+                                    .place = name.place }, name);
 }
 
 HANDLE CreateSemaphoreExA(LPSECURITY_ATTRIBUTES attributes, LONG initial, LONG maximum, LPCSTR name, DWORD flags, DWORD access)
@@ -72,12 +75,14 @@ HANDLE CreateSemaphoreExW(LPSECURITY_ATTRIBUTES attributes, LONG initial, LONG m
 
 HANDLE CreateSemaphoreA(LPSECURITY_ATTRIBUTES attributes, LONG initial, LONG maximum, LPCSTR name)
 {
-    return CreateSemaphoreExA(attributes, initial, maximum, name, 0, SEMAPHORE_ALL_ACCESS);
+    (void)attributes;
+    return create_semaphore(NARROW(name), initial, maximum, 0, SEMAPHORE_ALL_ACCESS);
 }
 
 HANDLE CreateSemaphoreW(LPSECURITY_ATTRIBUTES attributes, LONG initial, LONG maximum, LPCWSTR name)
 {
-    return CreateSemaphoreExW(attributes, initial, maximum, name, 0, SEMAPHORE_ALL_ACCESS);
+    (void)attributes;
+    return create_semaphore(WIDE(name), initial, maximum, 0, SEMAPHORE_ALL_ACCESS);
 }
 
 BOOL ReleaseSemaphore(HANDLE semaphore, LONG count, LPLONG previous)
@@ -96,7 +101,7 @@ BOOL ReleaseSemaphore(HANDLE semaphore, LONG count, LPLONG previous)
 
 static HANDLE create_mutex(struct given_name name, DWORD flags, DWORD access)
 {
-    return create(&(struct wanted){ .kind = KIND_MUTEX, .make = nt_create_mutex, .flags = flags, .access = access,
+    return create(&(struct wanted){ .kind = KIND_MUTEX, .make = nt_create_mutex, .flags = flags, .access = access, .place = name.place,
                                     .known_flags = CREATE_MUTEX_INITIAL_OWNER }, name);
 }
 
@@ -114,12 +119,14 @@ HANDLE CreateMutexExW(LPSECURITY_ATTRIBUTES attributes, LPCWSTR name, DWORD flag
 
 HANDLE CreateMutexA(LPSECURITY_ATTRIBUTES attributes, BOOL owned, LPCSTR name)
 {
-    return CreateMutexExA(attributes, name, owned ? CREATE_MUTEX_INITIAL_OWNER : 0, MUTEX_ALL_ACCESS);
+    (void)attributes;
+    return create_mutex(NARROW(name), owned ? CREATE_MUTEX_INITIAL_OWNER : 0, MUTEX_ALL_ACCESS);
 }
 
 HANDLE CreateMutexW(LPSECURITY_ATTRIBUTES attributes, BOOL owned, LPCWSTR name)
 {
-    return CreateMutexExW(attributes, name, owned ? CREATE_MUTEX_INITIAL_OWNER : 0, MUTEX_ALL_ACCESS);
+    (void)attributes;
+    return create_mutex(WIDE(name), owned ? CREATE_MUTEX_INITIAL_OWNER : 0, MUTEX_ALL_ACCESS);
 }
 
 BOOL ReleaseMutex(HANDLE mutex)
@@ -132,7 +139,7 @@ BOOL ReleaseMutex(HANDLE mutex)
 
 static HANDLE create_timer(struct given_name name, DWORD flags, DWORD access)
 {
-    return create(&(struct wanted){ .kind = KIND_TIMER, .make = nt_create_timer, .flags = flags, .access = access,
+    return create(&(struct wanted){ .kind = KIND_TIMER, .make = nt_create_timer, .flags = flags, .access = access, .place = name.place,
                                     .known_flags = CREATE_WAITABLE_TIMER_MANUAL_RESET }, name);
 }
 
@@ -150,12 +157,14 @@ HANDLE CreateWaitableTimerExW(LPSECURITY_ATTRIBUTES attributes, LPCWSTR name, DW
 
 HANDLE CreateWaitableTimerA(LPSECURITY_ATTRIBUTES attributes, BOOL manual, LPCSTR name)
 {
-    return CreateWaitableTimerExA(attributes, name, manual ? CREATE_WAITABLE_TIMER_MANUAL_RESET : 0, TIMER_ALL_ACCESS);
+    (void)attributes;
+    return create_timer(NARROW(name), manual ? CREATE_WAITABLE_TIMER_MANUAL_RESET : 0, TIMER_ALL_ACCESS);
 }
 
 HANDLE CreateWaitableTimerW(LPSECURITY_ATTRIBUTES attributes, BOOL manual, LPCWSTR name)
 {
-    return CreateWaitableTimerExW(attributes, name, manual ? CREATE_WAITABLE_TIMER_MANUAL_RESET : 0, TIMER_ALL_ACCESS);
+    (void)attributes;
+    return create_timer(WIDE(name), manual ? CREATE_WAITABLE_TIMER_MANUAL_RESET : 0, TIMER_ALL_ACCESS);
 }
 
 /* Sets a timer, under the lock, to a due time as `nt_set_timer` has it. */

@@ -11,9 +11,10 @@ static void *run_thread(void *at)
     jmp_buf end;
     struct seat *seat = own.seat = at;
     const bool leaves_by_key = pthread_setspecific(process.leaving, rounds) == 0;
-    seat->thread = pthread_self();
+    own.id = id_of(seat);
+    seat->runner->thread = pthread_self();
     take_lock();
-    begin_life(seat, id_of(seat));
+    begin_life(seat, own.id);
     give_lock();
     own.end = &end;
     if (_setjmp(end) == 0) {
@@ -50,16 +51,17 @@ static int start_thread(struct seat *seat, SIZE_T stack, bool is_reserved)
 }
 
 /* Takes a seat for a new thread, under the lock: its handle, a duplicate, is in the reply. Answers 0, or why not. */
-static uint32_t seat_thread(const struct seat *caller, struct seat **seat, struct nt_reply *reply)
+static uint32_t seat_thread(struct seat *caller, struct seat **seat, struct nt_reply *reply)
 {
     *seat = take_seat();
     if (*seat == NULL)
         return ERROR_NO_SYSTEM_RESOURCES;
-    const uint32_t refused = nt_duplicate(&waiting.dispatcher, caller->number, (*seat)->number, SYNCHRONIZE | THREAD_SET_CONTEXT, reply);
+    const uint32_t refused = nt_duplicate(&waiting.dispatcher, caller->number, (*seat)->handle, SYNCHRONIZE | THREAD_SET_CONTEXT, reply);
     if (refused != 0)
         give_seat(*seat);
     else
         name_thread(reply->number, *seat);
+    (*seat)->life.id = id_of(*seat);
     return refused;
 }
 
@@ -77,24 +79,34 @@ HANDLE CreateThread(LPSECURITY_ATTRIBUTES attributes, SIZE_T stack, LPTHREAD_STA
     if (caller == NULL)
         return NULL;
     join_those_who_are_gone();
-    lock(caller);
-    if (!finish(caller, seat_thread(caller, &seat, &reply)))
+    struct runner *runner = calloc(1, sizeof *runner);
+    if (runner == NULL) {
+        fail(ERROR_NOT_ENOUGH_MEMORY);
         return NULL;
+    }
+    lock(caller);
+    const uint32_t refused = seat_thread(caller, &seat, &reply);
+    HANDLE made = refused == 0 ? give_handle(reply.number) : NULL;
+    if (!finish(caller, refused)) {
+        free(runner);
+        return NULL;
+    }
+    seat->runner = runner;
     seat->start = start;
     seat->parameter = parameter;
     seat->suspended = (flags & CREATE_SUSPENDED) != 0;
-    seat->life.id = id_of(seat);
     /* The new thread may end before this call does, and with it what `id` points to. */
     if (id != NULL)
         *id = id_of(seat);
     if (start_thread(seat, stack, (flags & STACK_SIZE_PARAM_IS_A_RESERVATION) != 0) != 0) {
         lock(caller);
         give_seat(seat);
-        finish(caller, close_number(caller->number, reply.number));
+        finish(caller, close_number(caller, reply.number));
+        free(runner);
         fail(NT_ERROR_NOT_ENOUGH_MEMORY);
         return NULL;
     }
-    return handle_of(reply.number);
+    return made;
 }
 
 /* As on Windows no destructor is called on the way, and no memory is needed, where CreateThread made the thread. */
@@ -177,11 +189,13 @@ BOOL DuplicateHandle(HANDLE from, HANDLE handle, HANDLE to, LPHANDLE duplicate, 
     struct seat *seat = begin();
     if (seat == NULL)
         return FALSE;
-    const uint32_t caller = seat->number, number = waited_number_of(seat, handle);
+    HANDLE made = NULL;
+    const uint32_t number = waited_number_of(seat, handle);
     const bool is_same = (options & DUPLICATE_SAME_ACCESS) != 0 || (access & MAXIMUM_ALLOWED) != 0;
-    const uint32_t refused = is_same ? duplicate_same_access(caller, number, &reply)
-                                     : nt_duplicate(&waiting.dispatcher, caller, number, rights_of(kind_of(number), access), &reply);
+    const uint32_t refused = is_same ? duplicate_same_access(seat->number, number, &reply)
+                                     : nt_duplicate(&waiting.dispatcher, seat->number, number, rights_of(kind_of(number), access), &reply);
     if (refused == 0) {
+        made = give_handle(reply.number);
         waiting.kinds[reply.number] = (uint8_t)kind_of(number);
         waiting.threads[reply.number] = thread_of(number);
         if (number < NT_MAXIMUM_HANDLES && waiting.named[number] != NULL)
@@ -190,14 +204,14 @@ BOOL DuplicateHandle(HANDLE from, HANDLE handle, HANDLE to, LPHANDLE duplicate, 
     }
     /* (That a duplicate is refused keeps no source open.) */
     if (closes && handle != CURRENT_THREAD && handle != CURRENT_PROCESS)
-        close_programs_number(caller, number, &port);
+        close_programs_number(seat, number, &port);
     const BOOL is_made = finish(seat, refused);
     if (port != NULL)
         close_port(port);
     if (!is_made)
         return FALSE;
     if (duplicate != NULL)
-        *duplicate = handle_of(reply.number);
+        *duplicate = made;
     return TRUE;
 }
 
@@ -207,7 +221,7 @@ BOOL CloseHandle(HANDLE handle)
         return TRUE;
     struct port *port;
     struct seat *seat = begin();
-    if (seat == NULL || !finish(seat, close_programs_number(seat->number, number_of(seat, handle), &port)))
+    if (seat == NULL || !finish(seat, close_programs_number(seat, number_of(seat, handle), &port)))
         return FALSE;
     if (port != NULL)
         close_port(port);

@@ -1,5 +1,31 @@
 /* ---- Threads come and go. */
 
+/* The number names this thread. */
+static void name_thread(uint32_t number, const struct seat *seat)
+{
+    waiting.kinds[number] = KIND_THREAD;
+    waiting.threads[number] = (uint16_t)seat->number;
+}
+
+/* The seat is free, under the lock, and its thread's place in the dispatcher that of one that runs. */
+static void add_spare(struct seat *seat, uint32_t handle)
+{
+    free(seat->life.description);
+    *seat = (struct seat){ .number = seat->number, .handle = handle, .looks = process.looks ? LOOKS_AT_WORD : 0, .next = waiting.spare };
+    name_thread(handle, seat);
+    waiting.spare = seat;
+}
+
+/* Threads begin, under the lock, in the places of those that have left and that no handle names any longer. What the last call told was noted. */
+static void renew_seats(void)
+{
+    struct nt_begun begun;
+    while (waiting.ended > 0 && nt_begin(&waiting.dispatcher, &begun) == 0) {
+        waiting.ended--;
+        add_spare(&waiting.seats[begun.thread], begun.handle);
+    }
+}
+
 /* Takes a seat, under the lock; null where none is left. */
 static struct seat *take_seat(void)
 {
@@ -7,11 +33,12 @@ static struct seat *take_seat(void)
     if (seat != NULL) {
         waiting.spare = seat->next;
     } else {
-        if (waiting.seated == NT_MAXIMUM_THREADS)
+        if (waiting.seated == waiting.places)
             return NULL;
         seat = &waiting.seats[waiting.seated];
-        seat->number = waiting.seated++;
+        seat->number = seat->handle = waiting.seated++;
         seat->looks = process.looks ? LOOKS_AT_WORD : 0;
+        name_thread(seat->handle, seat);
     }
     waiting.alive++;
     return seat;
@@ -21,26 +48,43 @@ static struct seat *take_seat(void)
 static void give_seat(struct seat *seat)
 {
     waiting.alive--;
-    seat->start = NULL;
-    seat->next = waiting.spare;
-    waiting.spare = seat;
+    add_spare(seat, seat->handle);
 }
 
-/* The thread ends, for the dispatcher: its mutexes are abandoned, and who waits for it is granted. One that was canceled in the middle of
- * a wait can't end, and a watcher may have to look at the time in its place. */
+/* The caller has left, for the dispatcher, under the lock. From now on it has no seat, though destructors that run later may still call. */
+static void end_seat(struct seat *seat)
+{
+    end_life(seat);
+    waiting.alive--;
+    waiting.ended++;
+    if (seat->runner != NULL) {
+        seat->runner->next = waiting.left;
+        waiting.left = seat->runner;
+        seat->runner = NULL;
+    }
+    own.seat = NULL;
+    own.has_left = true;
+}
+
+/* The thread ends, for the dispatcher: its mutexes are abandoned, and who waits for it is granted; those are woken before the lock is given
+ * back, since the seat may be another thread's then. One that was canceled in the middle of a wait can't end, and a watcher may have to look
+ * at the time in its place. */
 static void leave(struct seat *seat)
 {
     lock(seat);
+    if (nt_close_handle(&waiting.dispatcher, seat->number, seat->handle, &seat->reply) == 0)
+        note(seat);
     if (nt_exit(&waiting.dispatcher, seat->number, &seat->reply) == 0) {
         note(seat);
         look_for_timers();
-        waiting.alive--;
-        end_life(seat);
-        if (seat->start != NULL) {
-            seat->next = waiting.left;
-            waiting.left = seat;
-        }
-    } else if (nt_woke(&waiting.dispatcher, seat->number) == 0) {
+        end_seat(seat);
+        if (seat->wakes > 0)
+            wake_all(seat);
+        renew_seats();
+        give_lock();
+        return;
+    }
+    if (nt_woke(&waiting.dispatcher, seat->number) == 0) {
         stop_watching(seat);
         seat->is_gone = true;
         seat->moment = NEVER;
@@ -67,10 +111,13 @@ static void leave_last(void *round)
 static void note_fork(void)
 {
     const bool is_opening = pthread_mutex_trylock(&process.opening) != 0;
+    stop_looking();
     own.id = 0;
+    process.lost = waiting.left;
     waiting.left = NULL;
     if (!is_opening)
         pthread_mutex_unlock(&process.opening);
+    own.mark = 0;
     if (!is_opening && atomic_load_explicit(&waiting.lock, memory_order_relaxed) == FREE && waiting.alive == (own.seat != NULL))
         return;
     process.is_forked = true;
@@ -81,6 +128,18 @@ __attribute__((constructor)) static void begin_process(void)
 {
     process.looks = sysconf(_SC_NPROCESSORS_ONLN) > 1;
     pthread_atfork(NULL, NULL, note_fork);
+}
+
+/* Opens the dispatcher for as many threads as there may be, under the lock, since a thread that tells why others wait may be there. A journal is
+ * a run of the machine, in which no number is given again. */
+static uint32_t open_for_all(void)
+{
+    const bool again = gives_numbers_again();
+    take_lock();
+    waiting.places = again ? NT_MANY_THREADS : NT_MAXIMUM_THREADS;
+    const uint32_t refused = (again ? nt_open_lasting : nt_open)(&waiting.dispatcher, waiting.places);
+    give_lock();
+    return refused;
 }
 
 /* Opens the dispatcher, where it is not open. Answers 0, or why not; a later call tries again. */
@@ -94,13 +153,14 @@ static uint32_t open_dispatcher(void)
         process.id = getpid();
         process.start = monotonic();
         waiting.timers_due = NEVER;
+        waiting.process_handle = NO_HANDLE;
         if (waiting.dispatcher.room == NULL)
             waiting.dispatcher.room = aligned_alloc(16, (nt_room() + 15) / 16 * 16);
         if (!process.has_key)
             process.has_key = pthread_key_create(&process.leaving, leave_last) == 0;
         refused = NT_ERROR_NOT_ENOUGH_MEMORY;
         if (waiting.dispatcher.room != NULL && process.has_key)
-            refused = nt_open(&waiting.dispatcher, NT_MAXIMUM_THREADS);
+            refused = open_for_all();
         process.is_open = refused == 0;
     }
     pthread_mutex_unlock(&process.opening);
@@ -110,7 +170,7 @@ static uint32_t open_dispatcher(void)
 /* The caller's seat, which it takes now. Null, with the last error set, where it can't have one. */
 __attribute__((noinline, cold)) static struct seat *join_first(void)
 {
-    uint32_t refused = open_dispatcher();
+    uint32_t refused = own.has_left ? NT_ERROR_THREAD_ENDED : open_dispatcher();
     if (refused == 0 && pthread_setspecific(process.leaving, rounds) != 0)
         refused = NT_ERROR_NOT_ENOUGH_MEMORY;
     if (refused != 0) {
@@ -140,11 +200,13 @@ static inline struct seat *join(void)
 static void join_those_who_are_gone(void)
 {
     take_lock();
-    for (struct seat **at = &waiting.left; *at != NULL;)
-        if (pthread_tryjoin_np((*at)->thread, NULL) != EBUSY)
-            *at = (*at)->next;
-        else
-            at = &(*at)->next;
+    for (struct runner **at = &waiting.left, *runner; (runner = *at) != NULL;)
+        if (pthread_tryjoin_np(runner->thread, NULL) != EBUSY) {
+            *at = runner->next;
+            free(runner);
+        } else {
+            at = &runner->next;
+        }
     give_lock();
 }
 
@@ -157,11 +219,12 @@ __attribute__((destructor)) static void end_process(void)
     if (process.id != getpid())
         return;
     while (take_lock_at_last()) {
-        struct seat *seat = waiting.left;
-        if (seat != NULL)
-            waiting.left = seat->next;
+        struct runner *runner = waiting.left;
+        if (runner != NULL)
+            waiting.left = runner->next;
         give_lock();
-        if (seat == NULL || pthread_timedjoin_np(seat->thread, NULL, &until) == ETIMEDOUT)
+        if (runner == NULL || pthread_timedjoin_np(runner->thread, NULL, &until) == ETIMEDOUT)
             return;
+        free(runner);
     }
 }

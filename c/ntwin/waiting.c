@@ -24,24 +24,31 @@ static void look_for_timers(void)
 static void tell(struct seat *caller, struct seat *seat, uint32_t how)
 {
     comes_before(&seat->word);
-    if (atomic_exchange_explicit(&seat->word, how, memory_order_release) == IS_ASLEEP)
+    if (atomic_exchange_explicit(&seat->word, how, memory_order_release) != IS_ASLEEP)
+        return;
+    if (caller->wakes < WOKEN_LATER)
         caller->woken[caller->wakes++] = seat->number;
+    else
+        wake_one(&seat->word);
 }
 
-/* Sets to which moment the thread sleeps by itself, under the lock. */
+/* Sets to which moment the thread sleeps by itself, under the lock. It is awake when its own timer is due, whoever keeps the time till then. */
 static void set_moment(struct seat *seat)
 {
     if (nt_pend(&waiting.dispatcher, seat->number, seat->watches, &seat->moment) != 0)
         seat->moment = NEVER;
+    if (seat->timer_due < seat->moment)
+        seat->moment = seat->timer_due;
 }
 
-/* The caller's wait pends from now on, under the lock. */
-static void fall_asleep(struct seat *seat, bool watches)
+/* The caller's wait pends from now on, under the lock. A timer may end it, where it watches; the first that it waits for is due then. */
+static void fall_asleep(struct seat *seat, bool watches, uint64_t timer_due)
 {
     atomic_store_explicit(&seat->word, IS_AWAKE, memory_order_relaxed);
     waiting.pending++;
     waiting.watchers += watches;
     seat->watches = watches;
+    seat->timer_due = timer_due;
     set_moment(seat);
 }
 
@@ -61,9 +68,15 @@ static void wake_up(struct seat *caller, struct seat *seat, uint32_t status)
     tell(caller, seat, IS_GRANTED);
 }
 
-/* Has the thread look at the time, under the lock. */
+/* The thread keeps the time from now on, under the lock. It is to look at it, unless it wakes soon enough by itself. */
 static void call_up(struct seat *caller, struct seat *seat)
 {
+    const uint64_t before = seat->moment;
+    set_moment(seat);
+    if (before <= seat->moment) {
+        seat->moment = before;
+        return;
+    }
     seat->moment = 0;
     tell(caller, seat, IS_CALLED);
 }
@@ -124,12 +137,34 @@ __attribute__((noinline)) static void wake_all(struct seat *caller)
         wake_one(&waiting.seats[caller->woken[i]].word);
 }
 
+/* The same, once the lock is given back; and tells of the knot that the caller's call has tied, as all stands before that. */
+__attribute__((noinline)) static void unlock_and_wake_all(struct seat *caller)
+{
+    char *text = caller->tells ? text_of_knot() : NULL;
+    give_lock();
+    wake_all(caller);
+    if (caller->tells)
+        tell_knot(caller, text);
+}
+
 /* Gives the lock back, and wakes whom the call told something. */
 static inline void unlock_and_wake(struct seat *caller)
 {
-    give_lock();
     if (caller->wakes > 0)
-        wake_all(caller);
+        unlock_and_wake_all(caller);
+    else
+        give_lock();
+}
+
+/* As `note`, and then as `unlock_and_wake`: where no wait pended before the call, one look tells that there is nobody to tell or to wake. */
+static inline void note_and_unlock(struct seat *caller)
+{
+    if ((waiting.pending | caller->wakes) == 0) {
+        give_lock();
+        return;
+    }
+    note(caller);
+    unlock_and_wake(caller);
 }
 
 /* A timer was set at this moment, under the lock, to be due at that one. */
@@ -189,7 +224,8 @@ static uint64_t look_at_time(struct seat *seat)
     take_lock();
     if (atomic_load_explicit(&seat->word, memory_order_relaxed) != IS_GRANTED) {
         atomic_store_explicit(&seat->word, IS_AWAKE, memory_order_relaxed);
-        pass_time(seat);
+        if (pass_time(seat) >= seat->timer_due)
+            seat->timer_due = NEVER;
     }
     if (atomic_load_explicit(&seat->word, memory_order_relaxed) != IS_GRANTED) {
         atomic_store_explicit(&seat->word, IS_AWAKE, memory_order_relaxed);
@@ -200,17 +236,24 @@ static uint64_t look_at_time(struct seat *seat)
     return moment;
 }
 
+static void rest_beside_wait(struct seat *caller);
+static void go_on_with_packet(void);
+
 /* Gives the lock back, sleeps until the caller's pending wait is granted, and answers its status. */
-__attribute__((noinline)) static DWORD sleep_until_granted(struct seat *seat, bool watches)
+__attribute__((noinline)) static DWORD sleep_until_granted(struct seat *seat, bool watches, uint64_t timer_due)
 {
-    fall_asleep(seat, watches);
+    fall_asleep(seat, watches, timer_due);
     uint64_t moment = seat->moment;
     const uint32_t looks = looks_before(seat);
+    if (own.port != NULL)
+        rest_beside_wait(seat);
     unlock_and_wake(seat);
     if (looks > 0)
         look(seat, looks);
     while (!sleep_to(seat, moment))
         moment = look_at_time(seat);
     comes_after(&seat->word);
+    if (own.rests)
+        go_on_with_packet();
     return seat->status;
 }

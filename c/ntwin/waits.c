@@ -48,14 +48,15 @@ static void run_apcs(struct seat *seat)
 __attribute__((noinline, cold)) static uint32_t number_of_process(struct seat *seat)
 {
     struct nt_reply made, reply;
-    if (waiting.process_handle != 0)
+    if (waiting.process_handle != NO_HANDLE)
         return waiting.process_handle;
     if (nt_create_event(&waiting.dispatcher, seat->number, 0, &made) != 0)
         return NO_HANDLE;
     const uint32_t refused = nt_duplicate(&waiting.dispatcher, seat->number, made.number, SYNCHRONIZE, &reply);
-    close_number(seat->number, made.number);
+    close_number(seat, made.number);
     if (refused != 0)
         return NO_HANDLE;
+    note_made(reply.number, NULL);
     waiting.kinds[reply.number] = KIND_PROCESS;
     waiting.process_handle = reply.number;
     return reply.number;
@@ -79,13 +80,35 @@ static inline void begin_timed(struct seat *seat, DWORD ms)
         catch_up(seat);
 }
 
-/* Whether a timer may end the caller's wait for these. */
-static bool may_watch(const struct seat *seat, const uint32_t *numbers, DWORD count, BOOL alertable)
+/* A wait, as it was asked for: what it waits for, and whether APCs may end it. */
+struct wait {
+    const uint32_t *numbers;
+    DWORD count;
+    BOOL alertable;
+};
+
+/* When the timer with this number is due, under the lock: NEVER where it is not set. */
+static uint64_t due_of_timer(uint32_t number)
 {
-    for (DWORD i = 0; i < count; i++)
-        if (kind_of(numbers[i]) == KIND_TIMER)
-            return true;
-    return alertable && seat->has_routines;
+    struct nt_opened opened;
+    struct nt_object timer;
+    const bool is_set = nt_opened(&waiting.dispatcher, number, &opened) == 0
+        && nt_object(&waiting.dispatcher, opened.object, &timer) == 0 && timer.armed;
+    return is_set ? timer.due : NEVER;
+}
+
+/* Whether a timer may end the caller's wait, and when the first that it names is due. */
+static bool may_watch(const struct seat *seat, struct wait wait, uint64_t *due)
+{
+    bool names_timers = false;
+    *due = NEVER;
+    for (DWORD i = 0; i < wait.count; i++)
+        if (kind_of(wait.numbers[i]) == KIND_TIMER) {
+            const uint64_t one = due_of_timer(wait.numbers[i]);
+            names_timers = true;
+            *due = one < *due ? one : *due;
+        }
+    return names_timers || (wait.alertable && seat->has_routines);
 }
 
 /* What a wait answers that was refused. */
@@ -96,31 +119,49 @@ __attribute__((noinline, cold)) static DWORD fail_wait(struct seat *seat, uint32
     return WAIT_FAILED;
 }
 
-/* A wait, as it was asked for: what it waits for, and how. */
-struct wait {
-    const uint32_t *numbers;
-    DWORD count, ms;
-    BOOL alertable;
-};
-
-/* What a wait answers: at once, or once it is granted. The caller's APCs run before. */
-static inline DWORD finish_wait(struct seat *seat, uint32_t refused, struct wait wait)
+/* What a wait answers that pends: its status, once it is granted. The caller's APCs run before. */
+static inline DWORD finish_pending(struct seat *seat, struct wait wait)
 {
-    if (refused != 0)
-        return fail_wait(seat, refused);
+    uint64_t due;
     note(seat);
-    DWORD status = seat->reply.number;
-    if (seat->reply.kind == NT_PENDED)
-        status = sleep_until_granted(seat, may_watch(seat, wait.numbers, wait.count, wait.alertable));
-    else
-        unlock_and_wake(seat);
+    const bool watches = may_watch(seat, wait, &due);
+    const DWORD status = sleep_until_granted(seat, watches, due);
     if (status == WAIT_IO_COMPLETION)
         run_apcs(seat);
     return status;
 }
 
-DWORD WaitForMultipleObjectsEx(DWORD count, const HANDLE *objects, BOOL all, DWORD ms, BOOL alertable)
+/* The same for one object. */
+__attribute__((noinline)) static DWORD finish_pending_for_one(struct seat *seat, uint32_t number, BOOL alertable)
 {
+    return finish_pending(seat, (struct wait){ &number, 1, alertable });
+}
+
+/* What a wait answers that ended at once. */
+static inline DWORD finish_ended(struct seat *seat, BOOL alertable)
+{
+    const DWORD status = seat->reply.number;
+    note_and_unlock(seat);
+    if (alertable && status == WAIT_IO_COMPLETION)
+        run_apcs(seat);
+    return status;
+}
+
+/* What a wait answers: at once, or once it is granted. (In line in the call that the program makes, as all that waits is, so that it knows where that
+ * is.) */
+__attribute__((always_inline)) static inline DWORD finish_wait(struct seat *seat, uint32_t refused, struct wait wait)
+{
+    if (refused != 0)
+        return fail_wait(seat, refused);
+    if (seat->reply.kind != NT_PENDED)
+        return finish_ended(seat, wait.alertable);
+    seat->waits_at = __builtin_return_address(0);
+    return finish_pending(seat, wait);
+}
+
+__attribute__((always_inline)) static inline DWORD wait_for_objects(DWORD count, const HANDLE *objects, BOOL all, DWORD ms, BOOL alertable)
+{
+    HANDLE handles[MAXIMUM_WAIT_OBJECTS];
     uint32_t numbers[MAXIMUM_WAIT_OBJECTS];
     if (objects == NULL || count > MAXIMUM_WAIT_OBJECTS) {
         fail(ERROR_INVALID_PARAMETER);
@@ -128,34 +169,52 @@ DWORD WaitForMultipleObjectsEx(DWORD count, const HANDLE *objects, BOOL all, DWO
     }
     /* (A list that can't be read does no harm while the lock is free. Pseudo handles stand in none.) */
     for (DWORD i = 0; i < count; i++)
-        numbers[i] = listed_number_of(objects[i]);
+        handles[i] = objects[i];
     struct seat *seat = begin();
     if (seat == NULL)
         return WAIT_FAILED;
+    for (DWORD i = 0; i < count; i++)
+        numbers[i] = listed_number_of(handles[i]);
     begin_timed(seat, ms);
     return finish_wait(seat, nt_wait(&waiting.dispatcher, seat->number, numbers, count, all != FALSE, ms, alertable != FALSE, &seat->reply),
-                       (struct wait){ numbers, count, ms, alertable });
+                       (struct wait){ numbers, count, alertable });
+}
+
+DWORD WaitForMultipleObjectsEx(DWORD count, const HANDLE *objects, BOOL all, DWORD ms, BOOL alertable)
+{
+    return wait_for_objects(count, objects, all, ms, alertable);
 }
 
 DWORD WaitForMultipleObjects(DWORD count, const HANDLE *objects, BOOL all, DWORD ms)
 {
-    return WaitForMultipleObjectsEx(count, objects, all, ms, FALSE);
+    return wait_for_objects(count, objects, all, ms, FALSE);
 }
 
-DWORD WaitForSingleObjectEx(HANDLE object, DWORD ms, BOOL alertable)
+/* A wait for one object. (In line, so that what is for APCs goes where none is asked for.) */
+__attribute__((always_inline)) static inline DWORD wait_for_object(HANDLE object, DWORD ms, BOOL alertable)
 {
     struct seat *seat = begin();
     if (seat == NULL)
         return WAIT_FAILED;
     const uint32_t number = waited_number_of(seat, object);
     begin_timed(seat, ms);
-    return finish_wait(seat, nt_wait_object(&waiting.dispatcher, seat->number, number, ms, alertable != FALSE, &seat->reply),
-                       (struct wait){ &number, 1, ms, alertable });
+    const uint32_t refused = nt_wait_object(&waiting.dispatcher, seat->number, number, ms, alertable != FALSE, &seat->reply);
+    if (refused != 0)
+        return fail_wait(seat, refused);
+    if (seat->reply.kind != NT_PENDED)
+        return finish_ended(seat, alertable);
+    seat->waits_at = __builtin_return_address(0);
+    return finish_pending_for_one(seat, number, alertable);
+}
+
+DWORD WaitForSingleObjectEx(HANDLE object, DWORD ms, BOOL alertable)
+{
+    return wait_for_object(object, ms, alertable);
 }
 
 DWORD WaitForSingleObject(HANDLE object, DWORD ms)
 {
-    return WaitForSingleObjectEx(object, ms, FALSE);
+    return wait_for_object(object, ms, FALSE);
 }
 
 DWORD SignalObjectAndWait(HANDLE signal, HANDLE object, DWORD ms, BOOL alertable)
@@ -167,27 +226,32 @@ DWORD SignalObjectAndWait(HANDLE signal, HANDLE object, DWORD ms, BOOL alertable
     begin_timed(seat, ms);
     return finish_wait(seat, nt_swap(&waiting.dispatcher, seat->number, number_of(seat, signal), number, ms, alertable != FALSE,
                                      &seat->reply),
-                       (struct wait){ &number, 1, ms, alertable });
+                       (struct wait){ &number, 1, alertable });
 }
 
-DWORD SleepEx(DWORD ms, BOOL alertable)
+__attribute__((always_inline)) static inline DWORD sleep_for_ms(DWORD ms, BOOL alertable)
 {
     struct seat *seat = begin();
     if (seat == NULL)
         return WAIT_FAILED;
     begin_timed(seat, ms);
     const DWORD status = finish_wait(seat, nt_sleep(&waiting.dispatcher, seat->number, ms, alertable != FALSE, &seat->reply),
-                                     (struct wait){ NULL, 0, ms, alertable });
+                                     (struct wait){ NULL, 0, alertable });
     if (ms == 0)
         sched_yield();
     return status;
+}
+
+DWORD SleepEx(DWORD ms, BOOL alertable)
+{
+    return sleep_for_ms(ms, alertable);
 }
 
 /* A sleep can't fail: a thread that has no seat, or no memory for its wait, sleeps by itself. */
 void Sleep(DWORD ms)
 {
     const DWORD error = own.last_error;
-    if (SleepEx(ms, FALSE) != WAIT_FAILED)
+    if (sleep_for_ms(ms, FALSE) != WAIT_FAILED)
         return;
     own.last_error = error;
     struct timespec left = { .tv_sec = ms / 1000, .tv_nsec = (long)(ms % 1000) * 1000000 };

@@ -5,9 +5,11 @@
 #include <valgrind/helgrind.h>
 #define comes_after(word) ANNOTATE_HAPPENS_AFTER(word)
 #define comes_before(word) ANNOTATE_HAPPENS_BEFORE(word)
+#define has_sanitizer() true
 #elif defined __SANITIZE_THREAD__
 #define comes_after(word) ((void)(word))
 #define comes_before(word) ((void)(word))
+#define has_sanitizer() false
 #else
 extern void __tsan_acquire(void *) __attribute__((weak));
 extern void __tsan_release(void *) __attribute__((weak));
@@ -23,6 +25,12 @@ static inline void comes_before(_Atomic uint32_t *word)
     if (__tsan_release != NULL)
         __tsan_release((void *)word);
 }
+
+/* Whether there is one, to be told. */
+static inline bool has_sanitizer(void)
+{
+    return __tsan_acquire != NULL;
+}
 #endif
 
 /* ---- Words that threads sleep on. */
@@ -36,7 +44,7 @@ static void sleep_on(_Atomic uint32_t *word, uint32_t seen, const struct timespe
 }
 
 /* Wakes one thread that sleeps on the word. */
-static void wake_one(_Atomic uint32_t *word)
+__attribute__((noinline)) static void wake_one(_Atomic uint32_t *word)
 {
     const int error = errno;
     syscall(SYS_futex, word, FUTEX_WAKE_PRIVATE, 1, NULL, NULL, 0);
@@ -85,6 +93,17 @@ __attribute__((noinline, cold)) static void wait_for_lock(void)
         sleep_on(&waiting.lock, WANTED, NULL);
 }
 
+/* What a sanitizer is told of the lock. (These are functions so that a call keeps no register for them where there is none.) */
+__attribute__((noinline, cold)) static void tell_of_taking(void)
+{
+    comes_after(&waiting.lock);
+}
+
+__attribute__((noinline, cold)) static void tell_of_giving(void)
+{
+    comes_before(&waiting.lock);
+}
+
 static inline void take_lock(void)
 {
     if (is_alone() && atomic_load_explicit(&waiting.lock, memory_order_relaxed) == FREE) {
@@ -93,17 +112,19 @@ static inline void take_lock(void)
     }
     if (!try_lock())
         wait_for_lock();
-    comes_after(&waiting.lock);
+    if (has_sanitizer())
+        tell_of_taking();
 }
 
-static inline void give_lock(void)
+__attribute__((always_inline)) static inline void give_lock(void)
 {
     check_waiting();
     if (is_alone()) {
         atomic_store_explicit(&waiting.lock, FREE, memory_order_relaxed);
         return;
     }
-    comes_before(&waiting.lock);
+    if (has_sanitizer())
+        tell_of_giving();
     if (atomic_exchange_explicit(&waiting.lock, FREE, memory_order_release) == WANTED)
         wake_one(&waiting.lock);
 }

@@ -2,6 +2,8 @@
  * Each row is a question to the compiler, in C and in C++. */
 #include "rows.h"
 
+extern int THREE[3];
+
 VALUE(WAIT_OBJECT_0, 0);
 VALUE(WAIT_ABANDONED, 0x80);
 VALUE(WAIT_IO_COMPLETION, 0xC0);
@@ -138,6 +140,23 @@ VALUE((DWORD)HRESULT_FROM_WIN32(5u), 0x80070005);
 VALUE(SUCCEEDED(0), 1);
 VALUE(FAILED(0), 0);
 VALUE(FAILED(0x80004005u), 1);
+VALUE(IS_ERROR(0x80004005u), 1);
+VALUE(IS_ERROR(1), 0);
+VALUE((DWORD)MAKE_HRESULT(1, 7, 5), 0x80070005);
+VALUE(HRESULT_CODE(0x80070005), 5);
+VALUE(HRESULT_FACILITY(0x80070005), 7);
+VALUE(HRESULT_SEVERITY(0x80070005), 1);
+VALUE(UInt32x32To64(0xFFFFFFFF,0xFFFFFFFF), 0xFFFFFFFE00000001);
+VALUE(Int64ShllMod32(1,33), 2);
+VALUE(Int64ShraMod32(-8,1), -4);
+VALUE(Int64ShrlMod32(-8,1), 0x7FFFFFFFFFFFFFFC);
+VALUE(FIELD_OFFSET(LIST_ENTRY,Blink), 8);
+VALUE(RTL_FIELD_SIZE(FILETIME,dwHighDateTime), 4);
+VALUE(RTL_NUMBER_OF(THREE), 3);
+VALUE(_ARRAYSIZE(THREE), 3);
+VALUE(sizeof(TEXT("ab")), 3 * sizeof(TCHAR));
+VALUE(sizeof(_TEXT("ab")), 3 * sizeof(TCHAR));
+VALUE(sizeof(__T("ab")), 3 * sizeof(TCHAR));
 
 VALUE(CP_UTF8, 65001);
 VALUE(MB_ERR_INVALID_CHARS, 8);
@@ -199,6 +218,28 @@ static __inline int thrice(int UNALIGNED number)
     return number * 3;
 }
 
+/* The calls on memory do what those of C do. */
+static int works_on_memory(void)
+{
+    char one[4], other[4];
+    RtlFillMemory(one, sizeof one, 'a');
+    RtlCopyMemory(other, one, sizeof one);
+    if (!RtlEqualMemory(one, other, sizeof one))
+        return 0;
+    RtlZeroMemory(other, 2);
+    RtlMoveMemory(other + 1, other, 3);
+    return other[0] == 0 && other[1] == 0 && other[2] == 0 && other[3] == 'a' && !RtlEqualMemory(one, other, 4);
+}
+
+/* What is here is what Windows 10 has, on no server. */
+static int has_versions(void)
+{
+    return IsWindowsXPOrGreater() && IsWindowsXPSP1OrGreater() && IsWindowsXPSP2OrGreater() && IsWindowsXPSP3OrGreater()
+        && IsWindowsVistaOrGreater() && IsWindowsVistaSP1OrGreater() && IsWindowsVistaSP2OrGreater() && IsWindows7OrGreater()
+        && IsWindows7SP1OrGreater() && IsWindows8OrGreater() && IsWindows8Point1OrGreater() && IsWindows10OrGreater()
+        && !IsWindowsVersionOrGreater(10, 0, 1) && !IsWindowsVersionOrGreater(11, 0, 0) && !IsWindowsServer();
+}
+
 int main(void)
 {
     struct held held;
@@ -217,6 +258,6 @@ int main(void)
     _ReadWriteBarrier();
     YieldProcessor();
     return !(CONTAINING_RECORD(&held.entry, struct held, entry) == &held && of_each_thread_too == 14 && on_16[15] == 1 && id.Data1 == 0
-             && (ULONG_PTR)on_a_line % 64 == 0 && IsWindowsVistaOrGreater() && !IsWindowsVersionOrGreater(10, 0, 1)
+             && (ULONG_PTR)on_a_line % 64 == 0 && works_on_memory() && has_versions()
              && Int32x32To64(-70000, 70000) == -4900000000 && SUCCEEDED(S_OK));
 }

@@ -3,8 +3,12 @@
 #include <windows.h>
 
 #include <intrin.h>
+#include <malloc.h>
 
 #include "check.h"
+
+#include <sys/wait.h>
+#include <unistd.h>
 
 /* The call on a place of this type with this value answers that, and leaves the third. */
 #define ROW(type, before, call, answer, after) \
@@ -15,7 +19,7 @@
     } while (0)
 
 /* Each name of one width with its variants. The greatest value is followed by the least. */
-#define COUNTS(type, least, greatest, Increment, Decrement, Add, ExchangeAdd, Exchange, CompareExchange) \
+#define COUNTS(type, least, greatest, Increment, Decrement, Add, ExchangeAdd, ExchangeSubtract, Exchange, CompareExchange) \
     ROW(type, 5, Increment(&at), 6, 6); \
     ROW(type, -1, Increment(&at), 0, 0); \
     ROW(type, greatest, Increment(&at), least, least); \
@@ -25,6 +29,8 @@
     ROW(type, 5, Add(&at, -7), -2, -2); \
     ROW(type, 5, ExchangeAdd(&at, 7), 5, 12); \
     ROW(type, greatest, ExchangeAdd(&at, 1), greatest, least); \
+    ROW(type, 5, ExchangeSubtract(&at, 7), 5, -2); \
+    ROW(type, least, ExchangeSubtract(&at, 1), least, greatest); \
     ROW(type, 5, Exchange(&at, -9), 5, -9); \
     ROW(type, 5, CompareExchange(&at, 8, 5), 5, 8); \
     ROW(type, 5, CompareExchange(&at, 8, 4), 5, 5)
@@ -34,54 +40,52 @@
     ROW(type, 0x6C, Or(&at, 0x13), 0x6C, 0x7F); \
     ROW(type, 0x6C, Xor(&at, -1), 0x6C, ~0x6C)
 
-#define WITH_ORDER(type, least, greatest, order) \
-    COUNTS(type, least, greatest, InterlockedIncrement##order, InterlockedDecrement##order, InterlockedAdd##order, \
-           InterlockedExchangeAdd##order, InterlockedExchange##order, InterlockedCompareExchange##order)
+/* The calls whose names begin and end so. */
+#define COUNTS_OF(type, least, greatest, begin, end) \
+    COUNTS(type, least, greatest, begin##Increment##end, begin##Decrement##end, begin##Add##end, begin##ExchangeAdd##end, \
+           begin##ExchangeSubtract##end, begin##Exchange##end, begin##CompareExchange##end)
+#define BITS_OF(type, begin, end) BITS(type, begin##And##end, begin##Or##end, begin##Xor##end)
+
+#define IN_EACH_ORDER(type, least, greatest, width) \
+    COUNTS_OF(type, least, greatest, Interlocked, width); \
+    COUNTS_OF(type, least, greatest, Interlocked, Acquire##width); \
+    COUNTS_OF(type, least, greatest, Interlocked, Release##width); \
+    COUNTS_OF(type, least, greatest, Interlocked, NoFence##width); \
+    COUNTS_OF(type, least, greatest, _Interlocked, width)
+
+#define BITS_IN_EACH_ORDER(type, width) \
+    BITS_OF(type, Interlocked, width); \
+    BITS_OF(type, Interlocked, width##Acquire); \
+    BITS_OF(type, Interlocked, width##Release); \
+    BITS_OF(type, Interlocked, width##NoFence); \
+    BITS_OF(type, _Interlocked, width)
 
 static void counts(void)
 {
     COUNTS(LONG, INT32_MIN, INT32_MAX, InterlockedIncrement, InterlockedDecrement, InterlockedAdd, InterlockedExchangeAdd,
-           InterlockedExchange, InterlockedCompareExchange);
-    COUNTS(LONG, INT32_MIN, INT32_MAX, _InterlockedIncrement, _InterlockedDecrement, _InterlockedAdd, _InterlockedExchangeAdd,
-           _InterlockedExchange, _InterlockedCompareExchange);
-    COUNTS(LONG64, INT64_MIN, INT64_MAX, _InterlockedIncrement64, _InterlockedDecrement64, _InterlockedAdd64, _InterlockedExchangeAdd64,
-           _InterlockedExchange64, _InterlockedCompareExchange64);
-    COUNTS(SHORT, INT16_MIN, INT16_MAX, _InterlockedIncrement16, _InterlockedDecrement16, _InterlockedAdd16, _InterlockedExchangeAdd16,
-           _InterlockedExchange16, _InterlockedCompareExchange16);
-    COUNTS(CHAR, INT8_MIN, INT8_MAX, _InterlockedIncrement8, _InterlockedDecrement8, _InterlockedAdd8, _InterlockedExchangeAdd8,
-           _InterlockedExchange8, _InterlockedCompareExchange8);
-    WITH_ORDER(LONG, INT32_MIN, INT32_MAX, Acquire);
-    WITH_ORDER(LONG, INT32_MIN, INT32_MAX, Release);
-    WITH_ORDER(LONG, INT32_MIN, INT32_MAX, NoFence);
-    WITH_ORDER(LONG64, INT64_MIN, INT64_MAX, 64);
-    WITH_ORDER(LONG64, INT64_MIN, INT64_MAX, Acquire64);
-    WITH_ORDER(LONG64, INT64_MIN, INT64_MAX, Release64);
-    WITH_ORDER(LONG64, INT64_MIN, INT64_MAX, NoFence64);
-    WITH_ORDER(SHORT, INT16_MIN, INT16_MAX, 16);
-    WITH_ORDER(SHORT, INT16_MIN, INT16_MAX, Acquire16);
-    WITH_ORDER(SHORT, INT16_MIN, INT16_MAX, Release16);
-    WITH_ORDER(SHORT, INT16_MIN, INT16_MAX, NoFence16);
-    WITH_ORDER(CHAR, INT8_MIN, INT8_MAX, 8);
+           InterlockedExchangeSubtract, InterlockedExchange, InterlockedCompareExchange);
+    COUNTS_OF(LONG, INT32_MIN, INT32_MAX, Interlocked, Acquire);
+    COUNTS_OF(LONG, INT32_MIN, INT32_MAX, Interlocked, Release);
+    COUNTS_OF(LONG, INT32_MIN, INT32_MAX, Interlocked, NoFence);
+    COUNTS_OF(LONG, INT32_MIN, INT32_MAX, _Interlocked, );
+    IN_EACH_ORDER(LONG64, INT64_MIN, INT64_MAX, 64);
+    IN_EACH_ORDER(SHORT, INT16_MIN, INT16_MAX, 16);
+    IN_EACH_ORDER(CHAR, INT8_MIN, INT8_MAX, 8);
     /* A `long` in the place of a LONG is changed as a whole. */
     COUNTS(long, INT64_MIN, INT64_MAX, InterlockedIncrement, InterlockedDecrement, InterlockedAdd, InterlockedExchangeAdd,
-           InterlockedExchange, InterlockedCompareExchange);
-    ROW(LONG, 5, InterlockedExchangeSubtract(&at, 7), 5, -2);
+           InterlockedExchangeSubtract, InterlockedExchange, InterlockedCompareExchange);
 }
 
 static void bits(void)
 {
     BITS(LONG, InterlockedAnd, InterlockedOr, InterlockedXor);
-    BITS(LONG, InterlockedAndAcquire, InterlockedOrAcquire, InterlockedXorAcquire);
-    BITS(LONG, InterlockedAndRelease, InterlockedOrRelease, InterlockedXorRelease);
-    BITS(LONG, InterlockedAndNoFence, InterlockedOrNoFence, InterlockedXorNoFence);
-    BITS(LONG, _InterlockedAnd, _InterlockedOr, _InterlockedXor);
-    BITS(LONG64, InterlockedAnd64, InterlockedOr64, InterlockedXor64);
-    BITS(LONG64, InterlockedAnd64Acquire, InterlockedOr64Release, InterlockedXor64NoFence);
-    BITS(LONG64, _InterlockedAnd64, _InterlockedOr64, _InterlockedXor64);
-    BITS(SHORT, InterlockedAnd16, InterlockedOr16, InterlockedXor16);
-    BITS(SHORT, InterlockedAnd16Acquire, InterlockedOr16Release, InterlockedXor16NoFence);
-    BITS(CHAR, InterlockedAnd8, InterlockedOr8, InterlockedXor8);
-    BITS(CHAR, _InterlockedAnd8, _InterlockedOr8, _InterlockedXor8);
+    BITS_OF(LONG, Interlocked, Acquire);
+    BITS_OF(LONG, Interlocked, Release);
+    BITS_OF(LONG, Interlocked, NoFence);
+    BITS_OF(LONG, _Interlocked, );
+    BITS_IN_EACH_ORDER(LONG64, 64);
+    BITS_IN_EACH_ORDER(SHORT, 16);
+    BITS_IN_EACH_ORDER(CHAR, 8);
     BITS(long, InterlockedAnd, InterlockedOr, InterlockedXor);
 }
 
@@ -94,17 +98,27 @@ static void bits(void)
         IS(at[1], (type)(second_after)); \
     } while (0)
 
+/* The three tests of bits whose names end so. */
+#define BIT_ROWS(type, end) \
+    BIT_ROW(type, 0, 0, InterlockedBitTestAndSet##end(&at[0], 1), 0, 2, 0); \
+    BIT_ROW(type, 2, 0, InterlockedBitTestAndSet##end(&at[0], 1), 1, 2, 0); \
+    BIT_ROW(type, 3, 0, InterlockedBitTestAndReset##end(&at[0], 1), 1, 1, 0); \
+    BIT_ROW(type, 1, 0, InterlockedBitTestAndReset##end(&at[0], 1), 0, 1, 0); \
+    BIT_ROW(type, 0, 0, InterlockedBitTestAndComplement##end(&at[0], 4), 0, 16, 0); \
+    BIT_ROW(type, 16, 0, InterlockedBitTestAndComplement##end(&at[0], 4), 1, 0, 0)
+
 static void tests_of_bits(void)
 {
+    BIT_ROWS(LONG, );
+    BIT_ROWS(LONG, Acquire);
+    BIT_ROWS(LONG, Release);
+    BIT_ROWS(LONG, NoFence);
+    BIT_ROWS(LONG64, 64);
     BIT_ROW(LONG, 0, 0, InterlockedBitTestAndSet(&at[0], 31), 0, INT32_MIN, 0);
     BIT_ROW(LONG, -1, 0, InterlockedBitTestAndSet(&at[0], 3), 1, -1, 0);
     BIT_ROW(LONG, 0, 0, InterlockedBitTestAndSet(&at[0], 33), 0, 0, 2);
     BIT_ROW(LONG, -1, -1, InterlockedBitTestAndReset(&at[0], 0), 1, -2, -1);
     BIT_ROW(LONG, 0, 0, InterlockedBitTestAndReset(&at[0], 5), 0, 0, 0);
-    BIT_ROW(LONG, 0, 0, InterlockedBitTestAndComplement(&at[0], 4), 0, 16, 0);
-    BIT_ROW(LONG, 16, 0, InterlockedBitTestAndComplement(&at[0], 4), 1, 0, 0);
-    BIT_ROW(LONG, 0, 0, InterlockedBitTestAndSetAcquire(&at[0], 1), 0, 2, 0);
-    BIT_ROW(LONG, 2, 0, InterlockedBitTestAndResetRelease(&at[0], 1), 1, 0, 0);
     BIT_ROW(LONG, 0, 0, _interlockedbittestandset(&at[0], 1), 0, 2, 0);
     BIT_ROW(LONG, 2, 0, _interlockedbittestandreset(&at[0], 1), 1, 0, 0);
     BIT_ROW(LONG64, 0, 0, InterlockedBitTestAndSet64(&at[0], 63), 0, INT64_MIN, 0);
@@ -127,8 +141,57 @@ static void scans_of_bits(void)
     IS(_BitScanForward(&at, 0), 0);
     IS(_BitScanReverse64(&at, 0), 0);
     IS(__popcnt(0xF0F1), 9);
+    IS(__popcnt64(UINT64_C(0xF000000000000001)), 5);
+    IS(_byteswap_ushort(0x0102), 0x0201);
     IS(_byteswap_ulong(0x01020304), 0x04030201);
+    IS(_byteswap_uint64(UINT64_C(0x0102030405060708)), UINT64_C(0x0807060504030201));
 }
+
+/* Answers whether the place of the return address has it. */
+__attribute__((noinline)) static BOOL knows_who_called(void **caller)
+{
+    *caller = _ReturnAddress();
+    return *(void **)_AddressOfReturnAddress() == *caller;
+}
+
+static void intrinsics(void)
+{
+    void *first, *second;
+    int status = 0;
+    IS(knows_who_called(&first), TRUE);
+    IS(knows_who_called(&second), TRUE);
+    IS(first < second && (char *)second - (char *)first < 4096, 1);
+    char *bytes = _alloca(100);
+    memset(bytes, 1, 100);
+    IS(bytes[99], 1);
+    __nop();
+    const pid_t child = fork();
+    if (child == 0) {
+        __debugbreak();
+        _exit(0);
+    }
+    must(child > 0 && waitpid(child, &status, 0) == child);
+    IS(WIFSIGNALED(status), 1);
+}
+
+#define POINTERS(Exchange, CompareExchange) \
+    at = NULL; \
+    IS((ULONG_PTR)Exchange(&at, &one), 0); \
+    IS((ULONG_PTR)CompareExchange(&at, NULL, &other), (ULONG_PTR)&one); \
+    IS((ULONG_PTR)CompareExchange(&at, &other, &one), (ULONG_PTR)&one); \
+    IS((ULONG_PTR)at, (ULONG_PTR)&other)
+
+/* What is written is read. */
+#define READS(type, value, read_acquire, read, write_release, write) \
+    do { \
+        type at = 0; \
+        _WriteBarrier(); \
+        write_release(&at, (type)(value)); \
+        IS((ULONG_PTR)read_acquire(&at), value); \
+        write(&at, (type)((value)-1)); \
+        _ReadBarrier(); \
+        IS((ULONG_PTR)read(&at), (value)-1); \
+    } while (0)
 
 static void pointers_and_pairs(void)
 {
@@ -139,10 +202,10 @@ static void pointers_and_pairs(void)
     IS((ULONG_PTR)at, (ULONG_PTR)&other);
     IS((ULONG_PTR)InterlockedCompareExchangePointer(&at, NULL, &other), (ULONG_PTR)&other);
     IS((ULONG_PTR)at, 0);
-    IS((ULONG_PTR)InterlockedExchangePointerAcquire(&at, &one), 0);
-    IS((ULONG_PTR)InterlockedCompareExchangePointerRelease(&at, &other, &one), (ULONG_PTR)&one);
-    IS((ULONG_PTR)_InterlockedExchangePointer(&at, NULL), (ULONG_PTR)&other);
-    IS((ULONG_PTR)ReadPointerAcquire(&at), 0);
+    POINTERS(InterlockedExchangePointerAcquire, InterlockedCompareExchangePointerAcquire);
+    POINTERS(InterlockedExchangePointerRelease, InterlockedCompareExchangePointerRelease);
+    POINTERS(InterlockedExchangePointerNoFence, InterlockedCompareExchangePointerNoFence);
+    POINTERS(_InterlockedExchangePointer, _InterlockedCompareExchangePointer);
     LONG64 pair[2] __attribute__((aligned(16))) = { 1, 2 }, seen[2] = { 1, 3 };
     IS(InterlockedCompareExchange128(pair, 9, 8, seen), 0);
     IS(seen[0], 1);
@@ -152,11 +215,9 @@ static void pointers_and_pairs(void)
     IS(pair[0], 8);
     IS(pair[1], 9);
     IS(seen[1], 2);
-    LONG number = 7;
-    WriteRelease(&number, 8);
-    IS(ReadAcquire(&number), 8);
-    WriteNoFence(&number, 9);
-    IS(ReadNoFence(&number), 9);
+    READS(LONG, 8, ReadAcquire, ReadNoFence, WriteRelease, WriteNoFence);
+    READS(LONG64, INT64_C(1) << 40, ReadAcquire64, ReadNoFence64, WriteRelease64, WriteNoFence64);
+    READS(PVOID, UINT64_C(1) << 40, ReadPointerAcquire, ReadPointerNoFence, WritePointerRelease, WritePointerNoFence);
 }
 
 struct item {
@@ -254,6 +315,7 @@ int main(void)
     bits();
     tests_of_bits();
     scans_of_bits();
+    intrinsics();
     pointers_and_pairs();
     lists();
     by_many_threads();

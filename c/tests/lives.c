@@ -298,6 +298,40 @@ static void looks_end_no_wait(void)
     }
 }
 
+static DWORD WINAPI open_itself(LPVOID none)
+{
+    (void)none;
+    HANDLE own = OpenThread(SYNCHRONIZE, FALSE, GetCurrentThreadId());
+    must(own != NULL && CloseHandle(own));
+    return 0;
+}
+
+/* Handles by a thread's id, with the rights that are asked for. */
+static void opened(void)
+{
+    DWORD id, code;
+    HANDLE all, waits, thread = CreateThread(NULL, 0, wait_to_go, (LPVOID)5, 0, &id);
+    must(thread != NULL && WaitForSingleObject(READY, INFINITE) == WAIT_OBJECT_0);
+    ANSWERS((all = OpenThread(THREAD_ALL_ACCESS, FALSE, id)) != NULL, TRUE, UNTOUCHED);
+    ANSWERS((waits = OpenThread(SYNCHRONIZE | THREAD_QUERY_INFORMATION, TRUE, id)) != NULL, TRUE, UNTOUCHED);
+    IS(GetThreadId(all), id);
+    IS(GetThreadId(waits), id);
+    ANSWERS(QueueUserAPC(note_apc, waits, 0), 0, ERROR_ACCESS_DENIED);
+    ANSWERS(WaitForSingleObject(waits, 0), WAIT_TIMEOUT, UNTOUCHED);
+    SetEvent(GO);
+    join(waits);
+    /* (The thread has ended, and its id is nobody's; its handles stay.) */
+    ANSWERS(OpenThread(SYNCHRONIZE, FALSE, id), NULL, ERROR_INVALID_PARAMETER);
+    ANSWERS(GetExitCodeThread(all, &code), TRUE, UNTOUCHED);
+    IS(code, 5);
+    ANSWERS(CloseHandle(all) && CloseHandle(waits) && CloseHandle(thread), TRUE, UNTOUCHED);
+    ANSWERS(OpenThread(SYNCHRONIZE, FALSE, 0), NULL, ERROR_INVALID_PARAMETER);
+    ANSWERS(OpenThread(SYNCHRONIZE, FALSE, 0xFFFFFFFF), NULL, ERROR_INVALID_PARAMETER);
+    must((thread = CreateThread(NULL, 0, open_itself, NULL, 0, NULL)) != NULL);
+    join(thread);
+    CloseHandle(thread);
+}
+
 int main(void)
 {
     must((GO = CreateEvent(NULL, FALSE, FALSE, NULL)) != NULL && (READY = CreateEvent(NULL, FALSE, FALSE, NULL)) != NULL);
@@ -310,5 +344,6 @@ int main(void)
     descriptions();
     times();
     looks_end_no_wait();
+    opened();
     return counted();
 }

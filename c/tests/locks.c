@@ -4,6 +4,9 @@
 
 #include "crowd.h"
 
+#include <sys/wait.h>
+#include <unistd.h>
+
 enum { ROUNDS = 4000 };
 
 /* ---- Critical sections. */
@@ -101,6 +104,27 @@ static void crowd_in_a_section(void)
     DeleteCriticalSection(&SECTION);
 }
 
+/* A child owns what it enters by its own id, and what its parent had entered is another thread's. */
+static void entered_after_a_fork(void)
+{
+    static CRITICAL_SECTION held, free_one;
+    int status = 0;
+    InitializeCriticalSection(&held);
+    InitializeCriticalSection(&free_one);
+    EnterCriticalSection(&held);
+    const DWORD parent = GetCurrentThreadId();
+    const pid_t child = fork();
+    if (child == 0) {
+        EnterCriticalSection(&free_one);
+        const DWORD id = GetCurrentThreadId();
+        _exit(id != parent && free_one.OwningThread == (HANDLE)(ULONG_PTR)id && !TryEnterCriticalSection(&held) ? 7 : 1);
+    }
+    must(child > 0 && waitpid(child, &status, 0) == child);
+    IS(WIFEXITED(status) ? WEXITSTATUS(status) : 0, 7);
+    SECTION_IS(held, 0, 1, parent);
+    LeaveCriticalSection(&held);
+}
+
 /* ---- SRW locks. */
 
 static SRWLOCK LOCK = SRWLOCK_INIT;
@@ -196,6 +220,7 @@ int main(void)
     critical_sections();
     crowd_in_a_section();
     DeleteCriticalSection(&SECTION);
+    entered_after_a_fork();
     srw_locks();
     crowd_over_a_lock();
     return counted();

@@ -1,6 +1,10 @@
 /* The machine, memory and text: what each call answers with its last error. The values are those of Microsoft's pages and docs/WIN32.md. */
 #include <windows.h>
 
+#include <errno.h>
+#include <malloc.h>
+#include <sys/timeb.h>
+
 #include "check.h"
 
 static DWORD WINAPI wait_for(LPVOID event)
@@ -42,12 +46,14 @@ static void processors(void)
 
 static void groups_and_nodes(void)
 {
-    SYSTEM_INFO info;
+    SYSTEM_INFO info, native;
     GROUP_AFFINITY node;
     ULONGLONG mask;
     ULONG highest;
     UCHAR number;
     GetSystemInfo(&info);
+    GetNativeSystemInfo(&native);
+    IS(memcmp(&info, &native, sizeof info), 0);
     ANSWERS(GetActiveProcessorCount(0), info.dwNumberOfProcessors, UNTOUCHED);
     ANSWERS(GetActiveProcessorCount(ALL_PROCESSOR_GROUPS), info.dwNumberOfProcessors, UNTOUCHED);
     ANSWERS(GetActiveProcessorCount(1), 0, ERROR_INVALID_PARAMETER);
@@ -121,6 +127,28 @@ static void memory(void)
     ANSWERS(LocalAlloc(2, 1), NULL, ERROR_INVALID_PARAMETER);
 }
 
+#define ALIGNS_NONE(size, alignment, error) \
+    do { \
+        errno = 0; \
+        IS((uintptr_t)_aligned_malloc(size, alignment), 0); \
+        IS(errno, error); \
+    } while (0)
+
+static void aligned_memory(void)
+{
+    for (size_t alignment = 1; alignment <= 4096; alignment *= 2) {
+        char *bytes = _aligned_malloc(100, alignment);
+        must(bytes != NULL);
+        memset(bytes, 1, 100);
+        IS((uintptr_t)bytes % alignment, 0);
+        _aligned_free(bytes);
+    }
+    _aligned_free(NULL);
+    ALIGNS_NONE(100, 24, EINVAL);
+    ALIGNS_NONE(100, 0, EINVAL);
+    ALIGNS_NONE(0, 16, EINVAL);
+}
+
 static const WCHAR WIDE[] = { 'a', 0xE9, 0x20AC, 0x1F600, 0 };
 #define BYTES "a\xC3\xA9\xE2\x82\xAC\xF0\x9F\x98\x80"
 
@@ -183,6 +211,26 @@ static void handles(void)
     ANSWERS(GetHandleInformation(NULL, &flags), FALSE, ERROR_INVALID_HANDLE);
 }
 
+static void clocks(void)
+{
+    TIMECAPS caps = { 0 };
+    struct _timeb now;
+    FILETIME before, after;
+    IS(timeGetDevCaps(&caps, sizeof caps), TIMERR_NOERROR);
+    IS(caps.wPeriodMin, 1);
+    IS(caps.wPeriodMax >= 1000, 1);
+    IS(timeGetDevCaps(NULL, sizeof caps), TIMERR_NOCANDO);
+    IS(timeGetDevCaps(&caps, sizeof caps - 1), TIMERR_NOCANDO);
+    GetSystemTimeAsFileTime(&before);
+    _ftime(&now);
+    GetSystemTimeAsFileTime(&after);
+    /* (1970 began that long after 1601.) */
+    const ULONGLONG moment = ((ULONGLONG)now.time + UINT64_C(11644473600)) * 1000 + now.millitm;
+    IS(moment >= ((ULONGLONG)before.dwHighDateTime << 32 | before.dwLowDateTime) / 10000, 1);
+    IS(moment <= ((ULONGLONG)after.dwHighDateTime << 32 | after.dwLowDateTime) / 10000, 1);
+    IS(now.timezone | now.dstflag, 0);
+}
+
 static void zones(void)
 {
     FILETIME time, there, again;
@@ -198,6 +246,7 @@ static void zones(void)
     ANSWERS(GetSystemTimeAdjustment(&adjustment, &increment, &is_disabled), TRUE, UNTOUCHED);
     IS(adjustment == increment && increment > 0 && increment <= 200000, TRUE);
     ANSWERS(GetVersion() & 0xFFFF, 10, UNTOUCHED);
+    ANSWERS(ntwin_is_proved() == TRUE || ntwin_is_proved() == FALSE, TRUE, UNTOUCHED);
 }
 
 int main(void)
@@ -206,8 +255,10 @@ int main(void)
     groups_and_nodes();
     told_processors();
     memory();
+    aligned_memory();
     text();
     handles();
+    clocks();
     zones();
     return counted();
 }

@@ -99,10 +99,47 @@ static void other_kinds(void)
     ANSWERS(WaitForSingleObject(same, 0), WAIT_OBJECT_0, UNTOUCHED);
     ANSWERS(ReleaseMutex(mutex), TRUE, UNTOUCHED);
     CloseHandle(same);
+    GETS(same, OpenMutexW(SYNCHRONIZE, FALSE, L"mutex"), UNTOUCHED);
+    ANSWERS(WaitForSingleObject(same, 0), WAIT_OBJECT_0, UNTOUCHED);
+    ANSWERS(ReleaseMutex(mutex), TRUE, UNTOUCHED);
+    CloseHandle(same);
+    GETS_NONE(OpenMutexW(SYNCHRONIZE, FALSE, L"Mutex"), ERROR_FILE_NOT_FOUND);
     CloseHandle(mutex);
     GETS(same, OpenWaitableTimer(TIMER_ALL_ACCESS, FALSE, "timer"), UNTOUCHED);
     ANSWERS(SetWaitableTimer(same, &due, 0, NULL, NULL, FALSE), TRUE, UNTOUCHED);
     ANSWERS(WaitForSingleObject(timer, 1000), WAIT_OBJECT_0, UNTOUCHED);
+    CloseHandle(same);
+    CloseHandle(timer);
+}
+
+/* Creations with flags and rights: an object that is there has its own count and kind, and the new handle the rights that are asked for. */
+static void extended_creations(void)
+{
+    HANDLE semaphore, timer, same;
+    LONG before = 9;
+    LARGE_INTEGER due = { .QuadPart = 0 };
+    GETS(semaphore, CreateSemaphoreExW(NULL, 2, 3, L"units", 0, SEMAPHORE_ALL_ACCESS), ERROR_SUCCESS);
+    GETS(same, CreateSemaphoreExW(NULL, 0, 1, L"units", 0, SYNCHRONIZE), ERROR_ALREADY_EXISTS);
+    ANSWERS(ReleaseSemaphore(same, 1, NULL), FALSE, ERROR_ACCESS_DENIED);
+    ANSWERS(WaitForSingleObject(same, 0), WAIT_OBJECT_0, UNTOUCHED);
+    ANSWERS(ReleaseSemaphore(semaphore, 2, &before), TRUE, UNTOUCHED);
+    IS(before, 1);
+    CloseHandle(same);
+    GETS(same, CreateSemaphoreExW(NULL, 0, 1, L"units", 0, SEMAPHORE_MODIFY_STATE), ERROR_ALREADY_EXISTS);
+    ANSWERS(WaitForSingleObject(same, 0), WAIT_FAILED, ERROR_ACCESS_DENIED);
+    ANSWERS(ReleaseSemaphore(same, 1, NULL), FALSE, ERROR_TOO_MANY_POSTS);
+    GETS_NONE(CreateSemaphoreExW(NULL, 1, 1, L"units", 1, SEMAPHORE_ALL_ACCESS), ERROR_INVALID_PARAMETER);
+    GETS_NONE(CreateSemaphoreExW(NULL, 1, 0, NULL, 0, SEMAPHORE_ALL_ACCESS), ERROR_INVALID_PARAMETER);
+    GETS_NONE(CreateWaitableTimerExW(NULL, L"units", 0, TIMER_ALL_ACCESS), ERROR_INVALID_HANDLE);
+    CloseHandle(same);
+    CloseHandle(semaphore);
+    GETS(timer, CreateWaitableTimerExW(NULL, L"clock", CREATE_WAITABLE_TIMER_MANUAL_RESET, TIMER_ALL_ACCESS), ERROR_SUCCESS);
+    GETS(same, CreateWaitableTimerExW(NULL, L"clock", 0, SYNCHRONIZE), ERROR_ALREADY_EXISTS);
+    ANSWERS(SetWaitableTimer(same, &due, 0, NULL, NULL, FALSE), FALSE, ERROR_ACCESS_DENIED);
+    ANSWERS(SetWaitableTimer(timer, &due, 0, NULL, NULL, FALSE), TRUE, UNTOUCHED);
+    ANSWERS(WaitForSingleObject(same, INFINITE), WAIT_OBJECT_0, UNTOUCHED);
+    ANSWERS(WaitForSingleObject(same, 0), WAIT_OBJECT_0, UNTOUCHED);
+    GETS_NONE(CreateWaitableTimerExW(NULL, L"clock", 4, TIMER_ALL_ACCESS), ERROR_INVALID_PARAMETER);
     CloseHandle(same);
     CloseHandle(timer);
 }
@@ -181,6 +218,7 @@ int main(void)
 {
     events();
     other_kinds();
+    extended_creations();
     which_names();
     by_many_threads();
     return counted();

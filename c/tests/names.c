@@ -89,16 +89,22 @@ static uint32_t hear_told(uint32_t refused, const struct nt_told *told)
     return refused;
 }
 
-/* ---- Calls. The script's handles are those of the threads from 0 on, and so are those of CreateThread from NT_MAXIMUM_THREADS on. */
+/* ---- Calls. A script numbers its handles as they are handed out, the threads' first. ntwin.c gives numbers again, so each is looked up here. */
+
+static HANDLE HANDED_OUT[NT_MAXIMUM_HANDLES];
+static uint32_t HANDLES;
 
 static HANDLE named(uint32_t number)
 {
-    return (HANDLE)(((uintptr_t)number + NT_MAXIMUM_THREADS + 1) * 4);
+    const HANDLE none = (HANDLE)(uintptr_t)0x3FFFC;
+    return number < HANDLES ? HANDED_OUT[number] : none;
 }
 
-static uint32_t number_in_script(HANDLE it)
+/* The script's number of a handle that was made just now. */
+static uint32_t hand_out(HANDLE it)
 {
-    return (uint32_t)((uintptr_t)it / 4 - 1 - NT_MAXIMUM_THREADS);
+    HANDED_OUT[HANDLES] = it;
+    return HANDLES++;
 }
 
 static struct answer refused(void)
@@ -120,8 +126,9 @@ static struct answer created(HANDLE it)
 {
     if (it == NULL)
         return refused();
-    give_name(number_in_script(it));
-    return (struct answer){ HANDLE_OF, number_in_script(it), NULL };
+    const uint32_t number = hand_out(it);
+    give_name(number);
+    return (struct answer){ HANDLE_OF, number, NULL };
 }
 
 static struct answer duplicated(void)
@@ -371,9 +378,11 @@ int main(void)
     if (!read_line() || strcmp(word(0), "threads") != 0 || number(1) >= NT_MAXIMUM_THREADS)
         stop();
     THREADS = (uint32_t)number(1);
-    for (uint32_t thread = 0; thread < THREADS; thread++)
-        if (CreateThread(NULL, 0, play, &PLAYERS[thread], 0, NULL) != named(thread))
+    for (uint32_t thread = 0; thread < THREADS; thread++) {
+        HANDLE made = CreateThread(NULL, 0, play, &PLAYERS[thread], 0, NULL);
+        if (made == NULL || hand_out(made) != thread)
             abort();
+    }
     while (read_line())
         carry_out();
     write_end();

@@ -170,7 +170,26 @@ static void timer_queues(void)
     ANSWERS(DeleteTimerQueueTimer(NULL, timer, INVALID_HANDLE_VALUE), TRUE, UNTOUCHED);
     ANSWERS(CreateTimerQueueTimer(&timer, NULL, NULL, NULL, 1, 0, 0), FALSE, ERROR_INVALID_PARAMETER);
     ANSWERS(DeleteTimerQueueEx(NULL, NULL), FALSE, ERROR_INVALID_HANDLE);
+    ANSWERS(DeleteTimerQueue(NULL), FALSE, ERROR_INVALID_HANDLE);
     ANSWERS(DeleteTimerQueueTimer(NULL, NULL, NULL), FALSE, ERROR_INVALID_PARAMETER);
+}
+
+/* The call without an event: the queue's timers are gone, and what runs is not waited for. */
+static void deleted_queue(void)
+{
+    LONG steps = 0;
+    HANDLE queue = CreateTimerQueue(), timer = NULL;
+    must(CreateTimerQueueTimer(&timer, queue, note_wait, NULL, 100000, 0, WT_EXECUTEDEFAULT));
+    ANSWERS(DeleteTimerQueue(queue), TRUE, UNTOUCHED);
+    ResetEvent(GO);
+    queue = CreateTimerQueue();
+    must(CreateTimerQueueTimer(&timer, queue, stay, &steps, 0, 0, WT_EXECUTEDEFAULT));
+    must(CreateTimerQueueTimer(&timer, queue, note_wait, NULL, 100000, 0, WT_EXECUTEDEFAULT));
+    IS(settled(&steps, 1), 1);
+    ANSWERS(DeleteTimerQueue(queue), FALSE, ERROR_IO_PENDING);
+    IS(ReadAcquire(&steps), 1);
+    SetEvent(GO);
+    IS(settled(&steps, 2), 2);
 }
 
 int main(void)
@@ -181,5 +200,6 @@ int main(void)
     registered_waits();
     ends_of_registered_waits();
     timer_queues();
+    deleted_queue();
     return counted();
 }

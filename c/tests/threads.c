@@ -6,7 +6,11 @@
 
 #include <stdlib.h>
 
-enum { WORKERS = 8, CROWD = 64, ROUNDS = 2000, SLOTS = 16, APCS = 10 };
+#ifndef ROUNDS
+#define ROUNDS 2000
+#endif
+
+enum { WORKERS = 8, CROWD = 64, SLOTS = 16, APCS = 10 };
 
 static HANDLE GO, MUTEX, SLOTS_LEFT, ITEMS, DONE[WORKERS], RELAY[WORKERS];
 static LONGLONG TOTAL, PUT, GOT, LAPS, APC_SUM;

@@ -94,6 +94,19 @@ static char *told(void)
     return text;
 }
 
+/* What ntwin_why writes while no thread waits: how many wait and run, and that nobody waits. */
+static void nobody_waits(void)
+{
+    char text[128];
+    FILE *file = tmpfile();
+    must(file != NULL);
+    ntwin_why(file);
+    rewind(file);
+    text[fread(text, 1, sizeof text - 1, file)] = 0;
+    fclose(file);
+    IS(strcmp(text, "ntwin: 0 threads wait, 1 runs\n  nobody waits\n"), 0);
+}
+
 static int lines_told(void)
 {
     int lines = 0;
@@ -125,6 +138,8 @@ int main(void)
 {
     BOOL pending;
     IS(told()[0], 0);
+    must(CloseHandle(CreateEventA(NULL, FALSE, FALSE, NULL)));
+    nobody_waits();
     InitializeCriticalSection(&ONE);
     InitializeCriticalSection(&OTHER);
     InitializeSynchronizationBarrier(&BARRIER, 2, -1);

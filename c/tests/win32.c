@@ -280,8 +280,8 @@ static void *join_and_end(void *answer)
     return NULL;
 }
 
-/* Threads that CreateThread did not make join by their first call, until no place is left. */
-static void last_thread(void)
+/* Threads that CreateThread did not make join by their first call, and give their places back as they end. */
+static void joining_threads(void)
 {
     DWORD answer = ERROR_SUCCESS;
     int joined = 0;
@@ -292,9 +292,8 @@ static void last_thread(void)
         pthread_join(thread, NULL);
         joined += answer == ERROR_SUCCESS;
     }
-    IS(answer, ERROR_NO_SYSTEM_RESOURCES);
-    IS(joined > 200 && joined < 256, 1);
-    NO_CREATION(CreateThread(NULL, 0, tell_id, &answer, 0, NULL), ERROR_NO_SYSTEM_RESOURCES);
+    IS(answer, ERROR_SUCCESS);
+    IS(joined, 300);
 }
 
 int main(void)
@@ -308,6 +307,6 @@ int main(void)
     threads();
     handles();
     clocks_and_interlocked();
-    last_thread();
+    joining_threads();
     return counted();
 }

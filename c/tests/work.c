@@ -92,6 +92,37 @@ static void least_threads(void)
     ResetEvent(GO);
     CloseThreadpoolWork(work);
     IS(threads_once(before + 5), before + 5);
+    /* Idle threads past a lower maximum end, and the least number is no greater than that. */
+    SetThreadpoolThreadMaximum(pool, 2);
+    IS(threads_once(before + 2), before + 2);
+    CloseThreadpool(pool);
+    IS(threads_once(before), before);
+}
+
+/* The maximum changes while callbacks run: more come for those that wait, and what is past it ends as its callback returns. */
+static void changed_maximum(void)
+{
+    TP_CALLBACK_ENVIRON environment;
+    PTP_POOL pool = CreateThreadpool(NULL);
+    LONG ran = 0;
+    const int before = threads_now();
+    SetThreadpoolThreadMaximum(pool, 1);
+    InitializeThreadpoolEnvironment(&environment);
+    SetThreadpoolCallbackPool(&environment, pool);
+    PTP_WORK work = CreateThreadpoolWork(wait_in_work, &ran, &environment);
+    for (int i = 0; i < 9; i++)
+        SubmitThreadpoolWork(work);
+    IS(settled(&ran, 1), 1);
+    SetThreadpoolThreadMaximum(pool, 4);
+    IS(settled(&ran, 4), 4);
+    IS(threads_now(), before + 4);
+    SetThreadpoolThreadMaximum(pool, 3);
+    SetEvent(GO);
+    WaitForThreadpoolWorkCallbacks(work, FALSE);
+    IS(ran, 9);
+    IS(threads_once(before + 3), before + 3);
+    ResetEvent(GO);
+    CloseThreadpoolWork(work);
     CloseThreadpool(pool);
     IS(threads_once(before), before);
 }
@@ -133,6 +164,58 @@ static void pool_work(void)
     LeaveCriticalSection(&SECTION);
     DeleteCriticalSection(&SECTION);
     DestroyThreadpoolEnvironment(&environment);
+}
+
+static HANDLE SEMAPHORE, MUTEX;
+
+static void CALLBACK give_when_it_returns(PTP_CALLBACK_INSTANCE instance, PVOID context)
+{
+    (void)context;
+    must(WaitForSingleObject(MUTEX, INFINITE) == WAIT_OBJECT_0);
+    ReleaseMutexWhenCallbackReturns(instance, MUTEX);
+    ReleaseSemaphoreWhenCallbackReturns(instance, SEMAPHORE, 3);
+    IS(WaitForSingleObject(SEMAPHORE, 0), WAIT_TIMEOUT);
+}
+
+/* A callback asks for a semaphore's units and a mutex to be released, which is then no abandoned one. */
+static void released_when_it_returns(void)
+{
+    TP_CALLBACK_ENVIRON environment;
+    must((SEMAPHORE = CreateSemaphore(NULL, 0, 9, NULL)) != NULL && (MUTEX = CreateMutex(NULL, FALSE, NULL)) != NULL);
+    InitializeThreadpoolEnvironment(&environment);
+    SetThreadpoolCallbackRunsLong(&environment);
+    IS(environment.Flags, 1);
+    must(TrySubmitThreadpoolCallback(give_when_it_returns, NULL, &environment));
+    for (int i = 0; i < 3; i++)
+        IS(WaitForSingleObject(SEMAPHORE, INFINITE), WAIT_OBJECT_0);
+    IS(WaitForSingleObject(SEMAPHORE, 0), WAIT_TIMEOUT);
+    IS(WaitForSingleObject(MUTEX, INFINITE), WAIT_OBJECT_0);
+    ANSWERS(ReleaseMutex(MUTEX), TRUE, UNTOUCHED);
+    CloseHandle(SEMAPHORE);
+    CloseHandle(MUTEX);
+}
+
+static void CALLBACK leave_who_waits(PTP_CALLBACK_INSTANCE instance, PVOID steps, PTP_WORK work)
+{
+    (void)work;
+    InterlockedIncrement(steps);
+    DisassociateCurrentThreadFromCallback(instance);
+    must(WaitForSingleObject(GO, INFINITE) == WAIT_OBJECT_0);
+    InterlockedIncrement(steps);
+}
+
+/* Who waits for the work's callbacks goes on while one that has left them still runs. */
+static void left_callbacks(void)
+{
+    static LONG steps;
+    ResetEvent(GO);
+    PTP_WORK work = CreateThreadpoolWork(leave_who_waits, &steps, NULL);
+    SubmitThreadpoolWork(work);
+    WaitForThreadpoolWorkCallbacks(work, FALSE);
+    IS(ReadAcquire(&steps), 1);
+    CloseThreadpoolWork(work);
+    SetEvent(GO);
+    IS(settled(&steps, 2), 2);
 }
 
 /* Callbacks that have not begun are dropped; those that run are waited for. */
@@ -235,7 +318,10 @@ int main(void)
     must((GO = CreateEvent(NULL, TRUE, FALSE, NULL)) != NULL && (DONE = CreateEvent(NULL, FALSE, FALSE, NULL)) != NULL);
     must((EVENT = CreateEvent(NULL, TRUE, FALSE, NULL)) != NULL);
     least_threads();
+    changed_maximum();
     pool_work();
+    released_when_it_returns();
+    left_callbacks();
     canceled_work();
     pool_timers_and_waits();
     return counted();

@@ -51,6 +51,7 @@ NTWIN_INLINE BYTE _BitScanReverse64(DWORD *at, ULONG64 bits)
 #define __debugbreak() __builtin_trap()
 #define __nop() __asm__ __volatile__("nop")
 #define _ReturnAddress() __builtin_return_address(0)
-#define _AddressOfReturnAddress() __builtin_frame_address(0)
+/* (It lies above the frame that the compiler knows by its lowest word.) */
+#define _AddressOfReturnAddress() ((void *)((void **)__builtin_frame_address(0) + 1))
 
 #endif

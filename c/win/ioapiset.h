@@ -28,7 +28,8 @@ typedef struct _OVERLAPPED_ENTRY {
     DWORD dwNumberOfBytesTransferred;
 } OVERLAPPED_ENTRY, *LPOVERLAPPED_ENTRY;
 
-/* A new port: `file` is INVALID_HANDLE_VALUE, and `port` null. How many threads may run at once is not kept. */
+/* A new port: `file` is INVALID_HANDLE_VALUE, and `port` null. No thread gets a packet while `threads` run that have one, 0 for as many as there are
+ * processors. A thread has its packet until it asks for the next, and does not run while it waits in a call of these headers. */
 HANDLE CreateIoCompletionPort(HANDLE file, HANDLE port, ULONG_PTR key, DWORD threads);
 BOOL PostQueuedCompletionStatus(HANDLE port, DWORD bytes, ULONG_PTR key, LPOVERLAPPED overlapped);
 /* The packet that was posted first goes to the thread that came last. FALSE and WAIT_TIMEOUT after `ms`; FALSE and ERROR_ABANDONED_WAIT_0 once

@@ -4,6 +4,7 @@
 #ifndef NTWIN_MALLOC_H
 #define NTWIN_MALLOC_H
 
+#include <errno.h>
 #include <stdlib.h>
 
 #ifdef __cplusplus
@@ -12,11 +13,17 @@ extern "C" int posix_memalign(void **, size_t, size_t);
 extern int posix_memalign(void **, size_t, size_t);
 #endif
 
-/* Null where `alignment` is no power of two, or memory is refused. */
+/* Null, with errno, where `alignment` is no power of two or the size is 0 (EINVAL), or memory is refused (ENOMEM). */
 static __inline__ __attribute__((__unused__)) void *_aligned_malloc(size_t size, size_t alignment)
 {
     void *memory;
-    return posix_memalign(&memory, alignment < sizeof(void *) ? sizeof(void *) : alignment, size) == 0 ? memory : NULL;
+    if (size == 0 || alignment == 0 || (alignment & (alignment - 1)) != 0)
+        errno = EINVAL;
+    else if (posix_memalign(&memory, alignment < sizeof(void *) ? sizeof(void *) : alignment, size) != 0)
+        errno = ENOMEM;
+    else
+        return memory;
+    return NULL;
 }
 
 static __inline__ __attribute__((__unused__)) void _aligned_free(void *memory)

@@ -32,6 +32,8 @@ BOOL TlsSetValue(DWORD index, LPVOID value);
 /* STILL_ACTIVE while the thread runs. */
 BOOL GetExitCodeThread(HANDLE thread, LPDWORD code);
 DWORD GetThreadId(HANDLE thread);
+/* A handle of the thread with this id; ERROR_INVALID_PARAMETER where none has it, or that has ended or has made no call. */
+HANDLE OpenThread(DWORD access, BOOL inherit, DWORD id);
 /* A thread that was created suspended begins once it was resumed as often as it was suspended. They answer how often that was before, or
  * 0xFFFFFFFF. A thread that has begun is not suspended: ERROR_NOT_SUPPORTED. */
 DWORD ResumeThread(HANDLE thread);

@@ -7,12 +7,6 @@ static _Atomic uint32_t *word_of(LPCRITICAL_SECTION section)
     return (_Atomic uint32_t *)(void *)&section->LockCount;
 }
 
-/* The caller's id, which stands for it in a section that it owns. */
-static inline HANDLE mark_of_caller(void)
-{
-    return (HANDLE)(uintptr_t)id_of_caller();
-}
-
 static void open_section(LPCRITICAL_SECTION section, DWORD spins)
 {
     section->DebugInfo = (PRTL_CRITICAL_SECTION_DEBUG)(intptr_t)-1;
@@ -49,16 +43,16 @@ DWORD SetCriticalSectionSpinCount(LPCRITICAL_SECTION section, DWORD spins)
     return (DWORD)__atomic_exchange_n(&section->SpinCount, spins & SECTION_SPINS, __ATOMIC_RELAXED);
 }
 
+/* Takes it where it is free. (A process with one thread needs no step that is one for others.) */
 static inline bool try_section(LPCRITICAL_SECTION section)
 {
     LONG seen = SECTION_FREE;
-    if (is_alone()) {
-        if (__atomic_load_n(&section->LockCount, __ATOMIC_RELAXED) != SECTION_FREE)
-            return false;
-        __atomic_store_n(&section->LockCount, SECTION_TAKEN, __ATOMIC_RELAXED);
-        return true;
-    }
-    return __atomic_compare_exchange_n(&section->LockCount, &seen, SECTION_TAKEN, 0, __ATOMIC_ACQUIRE, __ATOMIC_RELAXED);
+    if (!is_alone())
+        return __atomic_compare_exchange_n(&section->LockCount, &seen, SECTION_TAKEN, 0, __ATOMIC_ACQUIRE, __ATOMIC_RELAXED);
+    if (__atomic_load_n(&section->LockCount, __ATOMIC_RELAXED) != SECTION_FREE)
+        return false;
+    __atomic_store_n(&section->LockCount, SECTION_TAKEN, __ATOMIC_RELAXED);
+    return true;
 }
 
 /* Looks for a while whether it is free, and then sleeps until it is. */
@@ -83,38 +77,108 @@ __attribute__((noinline)) static void wait_for_section(LPCRITICAL_SECTION sectio
     forget_sleeper(&sleeper);
 }
 
-/* The caller has it. */
-static inline void own_section(LPCRITICAL_SECTION section, HANDLE caller)
+/* The id by which the caller owns a section. */
+static HANDLE handle_of_id(DWORD id)
 {
-    comes_after(word_of(section));
-    __atomic_store_n(&section->OwningThread, caller, __ATOMIC_RELAXED);
+    return (HANDLE)(uintptr_t)id;
+}
+
+/* The caller, which has this id, has it. */
+static inline void own_section(LPCRITICAL_SECTION section, DWORD id)
+{
+    __atomic_store_n(&section->OwningThread, handle_of_id(id), __ATOMIC_RELAXED);
     section->RecursionCount = 1;
 }
 
+/* Once more where the caller has it. Answers whether it does. */
+static inline bool enter_again(LPCRITICAL_SECTION section, DWORD id)
+{
+    const bool owns = __atomic_load_n(&section->OwningThread, __ATOMIC_RELAXED) == handle_of_id(id);
+    if (owns)
+        section->RecursionCount++;
+    return owns;
+}
+
+/* Enters a section that another thread has. */
+__attribute__((noinline)) static void enter_taken(LPCRITICAL_SECTION section, DWORD id)
+{
+    wait_for_section(section);
+    own_section(section, id);
+}
+
+/* What a sanitizer is told of who enters and leaves. */
+__attribute__((noinline, cold)) static void tell_of_entering(LPCRITICAL_SECTION section)
+{
+    comes_after(word_of(section));
+}
+
+/* The caller's id, which is its mark from now on, where no sanitizer is told of each section. */
+__attribute__((noinline)) static DWORD mark_caller(void)
+{
+    const DWORD id = id_of_caller();
+    if (!has_sanitizer())
+        own.mark = id;
+    return id;
+}
+
+__attribute__((noinline)) static void enter_unmarked(LPCRITICAL_SECTION section)
+{
+    const DWORD id = mark_caller();
+    if (enter_again(section, id))
+        return;
+    if (try_section(section))
+        own_section(section, id);
+    else
+        enter_taken(section, id);
+    tell_of_entering(section);
+}
+
+/* (What is rare is a last call, so that the rest keeps no register for it.) */
 void EnterCriticalSection(LPCRITICAL_SECTION section)
 {
-    const HANDLE caller = mark_of_caller();
-    if (!try_section(section)) {
-        if (__atomic_load_n(&section->OwningThread, __ATOMIC_RELAXED) == caller) {
-            section->RecursionCount++;
-            return;
-        }
-        wait_for_section(section);
+    const DWORD id = own.mark;
+    if (id == 0) {
+        enter_unmarked(section);
+        return;
     }
-    own_section(section, caller);
+    if (enter_again(section, id))
+        return;
+    if (!try_section(section)) {
+        enter_taken(section, id);
+        return;
+    }
+    own_section(section, id);
 }
 
 BOOL TryEnterCriticalSection(LPCRITICAL_SECTION section)
 {
-    const HANDLE caller = mark_of_caller();
-    if (try_section(section)) {
-        own_section(section, caller);
+    const DWORD id = own.mark != 0 ? own.mark : mark_caller();
+    if (enter_again(section, id))
         return TRUE;
-    }
-    if (__atomic_load_n(&section->OwningThread, __ATOMIC_RELAXED) != caller)
+    if (!try_section(section))
         return FALSE;
-    section->RecursionCount++;
+    own_section(section, id);
+    if (has_sanitizer())
+        tell_of_entering(section);
     return TRUE;
+}
+
+__attribute__((noinline, cold)) static void wake_for_section(LPCRITICAL_SECTION section)
+{
+    wake_one(word_of(section));
+}
+
+/* It is nobody's. */
+static inline void give_section(LPCRITICAL_SECTION section)
+{
+    if (__atomic_exchange_n(&section->LockCount, SECTION_FREE, __ATOMIC_RELEASE) == SECTION_WANTED)
+        wake_for_section(section);
+}
+
+__attribute__((noinline, cold)) static void tell_and_give_section(LPCRITICAL_SECTION section)
+{
+    comes_before(word_of(section));
+    give_section(section);
 }
 
 void LeaveCriticalSection(LPCRITICAL_SECTION section)
@@ -122,13 +186,12 @@ void LeaveCriticalSection(LPCRITICAL_SECTION section)
     if (--section->RecursionCount > 0)
         return;
     __atomic_store_n(&section->OwningThread, NULL, __ATOMIC_RELAXED);
-    if (is_alone()) {
+    if (is_alone())
         __atomic_store_n(&section->LockCount, SECTION_FREE, __ATOMIC_RELAXED);
-        return;
-    }
-    comes_before(word_of(section));
-    if (__atomic_exchange_n(&section->LockCount, SECTION_FREE, __ATOMIC_RELEASE) == SECTION_WANTED)
-        wake_one(word_of(section));
+    else if (has_sanitizer())
+        tell_and_give_section(section);
+    else
+        give_section(section);
 }
 
 void DeleteCriticalSection(LPCRITICAL_SECTION section)

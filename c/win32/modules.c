@@ -142,6 +142,7 @@ static const struct {
     NAMED(OpenMutexW),
     NAMED(OpenSemaphoreA),
     NAMED(OpenSemaphoreW),
+    NAMED(OpenThread),
     NAMED(OpenWaitableTimerA),
     NAMED(OpenWaitableTimerW),
     NAMED(PostQueuedCompletionStatus),

@@ -11,13 +11,14 @@ struct named {
     WCHAR name[];
 };
 
-/* A name as a call gives it: the one or the other, or none. */
+/* A name as a call gives it: the one or the other, or none; and where in the program that call is. */
 struct given_name {
     LPCSTR narrow;
     LPCWSTR wide;
+    const void *place;
 };
-#define NARROW(name) ((struct given_name){ .narrow = (name) })
-#define WIDE(name) ((struct given_name){ .wide = (name) })
+#define NARROW(name) ((struct given_name){ .narrow = (name), .place = __builtin_return_address(0) })
+#define WIDE(name) ((struct given_name){ .wide = (name), .place = __builtin_return_address(0) })
 
 static bool is_named(struct given_name given)
 {
@@ -86,9 +87,8 @@ static void note_named(struct named *named, uint32_t number)
 }
 
 /* The program has this handle of a named object no longer, under the lock. */
-static void forget_named(uint32_t caller, uint32_t number)
+static void forget_named(struct seat *caller, uint32_t number)
 {
-    struct nt_reply reply;
     struct named *named = waiting.named[number];
     waiting.named[number] = NULL;
     if (--named->handles > 0)
@@ -97,7 +97,7 @@ static void forget_named(uint32_t caller, uint32_t number)
     while (*at != named)
         at = &(*at)->next;
     *at = named->next;
-    nt_close_handle(&waiting.dispatcher, caller, named->number, &reply);
+    nt_close_handle(&waiting.dispatcher, caller->number, named->number, &caller->reply);
     free(named);
 }
 

@@ -21,7 +21,7 @@ static HANDLE open_by_name(enum kind kind, struct given_name given, DWORD access
         refused = ERROR_FILE_NOT_FOUND;
     else
         refused = named->kind != kind ? ERROR_INVALID_HANDLE : open_named(seat, named, rights_asked(kind, access), &reply);
-    return finish(seat, refused) ? handle_of(reply.number) : NULL;
+    return finish_creation(seat, refused, &reply, own.last_error);
 }
 
 HANDLE OpenEventA(DWORD access, BOOL inherit, LPCSTR name)

@@ -92,6 +92,8 @@ static bool sleep_parked(struct parking *parking, uint64_t moment)
         .tv_nsec = (long)(moment % MOMENTS_PER_SECOND) * NANOSECONDS_PER_MOMENT,
     };
     bool was_unparked = moment == NEVER && look_whether_unparked();
+    if (!was_unparked)
+        rest_with_packet();
     while (!was_unparked && (moment == NEVER || monotonic() < moment)) {
         sleep_on(&parked.word, PARKED, moment == NEVER ? NULL : &until);
         was_unparked = is_unparked();
@@ -104,6 +106,8 @@ static bool sleep_parked(struct parking *parking, uint64_t moment)
         give_latch(&parking->latch);
     }
     comes_after(&parked.word);
+    if (own.rests)
+        go_on_with_packet();
     return was_unparked;
 }
 

@@ -1,6 +1,6 @@
 /* ---- A pool of threads. What has callbacks is a task: it counts those that are to come and those that run. Tasks with callbacks to come stand in the
  * pool's queue, and its threads take them from there, one callback at a time. A thread that finds none for a minute ends, but the least that the
- * pool keeps. */
+ * pool keeps; and so does one that is past the most, once its callback has returned. */
 
 enum { USUAL_MAXIMUM = 64, WATCHES = 160, IDLE_MS = 60000, SIGNALED = 0, TIMED_OUT, OUTCOMES };
 
@@ -217,6 +217,12 @@ static void run_callback(struct task *task, uint32_t outcome)
     settle_task(task);
 }
 
+/* Whether a thread has to go, under the latch: the pool has had its maximum lowered. */
+static bool is_one_too_many(const struct _TP_POOL *pool)
+{
+    return pool->threads > pool->most;
+}
+
 /* Waits for work, under the latch. Answers whether the thread goes on. */
 static bool wait_for_work(PTP_POOL pool)
 {
@@ -235,15 +241,20 @@ static DWORD WINAPI work_in_pool(LPVOID at)
     uint32_t outcome;
     take_latch(&pools_latch);
     do {
-        for (struct task *task; (task = take_callback(pool, &outcome)) != NULL;) {
+        for (struct task *task; !is_one_too_many(pool) && (task = take_callback(pool, &outcome)) != NULL;) {
             give_latch(&pools_latch);
             run_callback(task, outcome);
             take_latch(&pools_latch);
         }
-    } while ((!pool->is_closed || pool->tasks > 0) && wait_for_work(pool));
+    } while ((!pool->is_closed || pool->tasks > 0) && !is_one_too_many(pool) && wait_for_work(pool));
     pool->threads--;
-    const bool ends = is_over(pool);
+    /* (Another takes up what it was called for.) */
+    const bool ends = is_over(pool), leaves_work = pool->first != NULL;
+    if (leaves_work)
+        atomic_fetch_add_explicit(&pool->calls, 1, memory_order_relaxed);
     give_latch(&pools_latch);
+    if (leaves_work)
+        WakeByAddressSingle((PVOID)&pool->calls);
     if (ends)
         free(pool);
     if (handle_of_thread != NULL)

@@ -47,30 +47,67 @@ PTP_POOL CreateThreadpool(PVOID reserved)
     return pool;
 }
 
-void SetThreadpoolThreadMaximum(PTP_POOL pool, DWORD most)
+/* How many threads a pool has. */
+struct bounds {
+    uint32_t least, most;
+};
+
+static struct bounds bounds_of(PTP_POOL pool)
 {
     take_latch(&pools_latch);
-    pool->most = most > 0 ? most : 1;
-    if (pool->least > pool->most)
-        pool->least = pool->most;
+    const struct bounds found = { pool->least, pool->most };
     give_latch(&pools_latch);
+    return found;
+}
+
+/* Threads that are too many now go; where more may be than before, they come for callbacks that wait. */
+static void set_bounds(PTP_POOL pool, struct bounds bounds)
+{
+    take_latch(&pools_latch);
+    pool->least = bounds.least;
+    pool->most = bounds.most;
+    const bool is_past = is_one_too_many(pool);
+    const uint32_t room = is_past ? 0 : pool->most - pool->threads;
+    const uint32_t more = pool->waiting_callbacks < room ? pool->waiting_callbacks : room;
+    if (is_past)
+        atomic_fetch_add_explicit(&pool->calls, 1, memory_order_relaxed);
+    give_latch(&pools_latch);
+    if (is_past)
+        WakeByAddressAll((PVOID)&pool->calls);
+    for (uint32_t i = 0; i < more; i++)
+        call_for_thread(pool);
+}
+
+void SetThreadpoolThreadMaximum(PTP_POOL pool, DWORD most)
+{
+    struct bounds bounds = bounds_of(pool);
+    bounds.most = most > 0 ? most : 1;
+    if (bounds.least > bounds.most)
+        bounds.least = bounds.most;
+    set_bounds(pool, bounds);
+}
+
+/* Counts one thread more, where fewer than the least number are there. Answers whether it is to be started. */
+static bool lacks_thread(PTP_POOL pool)
+{
+    take_latch(&pools_latch);
+    const bool is_lacking = pool->threads < pool->least;
+    pool->threads += is_lacking;
+    give_latch(&pools_latch);
+    return is_lacking;
 }
 
 /* Starts those that are not there yet. (Each may be at work before the next is started.) */
 BOOL SetThreadpoolThreadMinimum(PTP_POOL pool, DWORD least)
 {
-    for (bool is_lacking = true; is_lacking;) {
-        take_latch(&pools_latch);
-        is_lacking = pool->threads < least;
-        pool->threads += is_lacking;
-        if (!is_lacking)
-            pool->least = least;
-        if (!is_lacking && pool->most < least)
-            pool->most = least;
-        give_latch(&pools_latch);
-        if (is_lacking && !start_in_pool(pool))
-            return FALSE;
-    }
+    const struct bounds before = bounds_of(pool);
+    set_bounds(pool, (struct bounds){ least, before.most > least ? before.most : least });
+    while (lacks_thread(pool))
+        if (!start_in_pool(pool)) {
+            const DWORD error = own.last_error;
+            set_bounds(pool, before);
+            return fail(error);
+        }
     return TRUE;
 }
 

@@ -1,5 +1,5 @@
-/* ---- Completion ports. A packet that is posted goes to the thread that came last, or waits in the port. A thread that waits for a packet waits for an
- * event of its own. For the dispatcher a port is an event that is never set. */
+/* ---- Completion ports. A packet that is posted goes to the thread that came last, if the port lets one more run, or waits in the port. A thread that
+ * waits for a packet waits for an event of its own. For the dispatcher a port is an event that is never set. */
 
 struct packet {
     struct packet *next;
@@ -17,8 +17,9 @@ struct getter {
 struct port {
     struct packet *first, *last;
     struct getter *top;           /* the thread that came last */
+    uint32_t running, most;       /* how many threads have a packet of it and do not sleep, and how many may */
     uint32_t handles;             /* under the dispatcher's lock */
-    uint32_t users;               /* how many calls are in it */
+    uint32_t users;               /* how many calls are in it, and threads have its packets */
     bool is_closed;
 };
 static _Atomic uint32_t ports_latch;
@@ -28,44 +29,10 @@ static uint32_t *handles_of_port(struct port *port)
     return &port->handles;
 }
 
-/* The event of the caller. It is closed as the thread ends. */
-static _Thread_local HANDLE event_of_thread __attribute__((tls_model("initial-exec")));
-static pthread_key_t event_leaving;
-static bool has_event_key;
-
-static void close_event_of_thread(void *event)
-{
-    event_of_thread = NULL;
-    CloseHandle(event);
-}
-
-__attribute__((constructor)) static void make_event_key(void)
-{
-    has_event_key = pthread_key_create(&event_leaving, close_event_of_thread) == 0;
-}
-
-/* The caller's event; null, with the last error set, where there is none. */
-static HANDLE event_to_wait(void)
-{
-    const DWORD error = own.last_error;
-    if (event_of_thread != NULL)
-        return event_of_thread;
-    HANDLE made = CreateEventA(NULL, FALSE, FALSE, NULL);
-    if (made != NULL && (!has_event_key || pthread_setspecific(event_leaving, made) != 0)) {
-        CloseHandle(made);
-        fail(ERROR_NOT_ENOUGH_MEMORY);
-        return NULL;
-    }
-    if (made != NULL)
-        own.last_error = error;
-    return event_of_thread = made;
-}
-
 HANDLE CreateIoCompletionPort(HANDLE file, HANDLE port, ULONG_PTR key, DWORD threads)
 {
     struct nt_reply event, reply;
     (void)key;
-    (void)threads;
     if (file != INVALID_HANDLE_VALUE || port != NULL) {
         fail(file != INVALID_HANDLE_VALUE ? ERROR_INVALID_HANDLE : ERROR_INVALID_PARAMETER);
         return NULL;
@@ -81,16 +48,18 @@ HANDLE CreateIoCompletionPort(HANDLE file, HANDLE port, ULONG_PTR key, DWORD thr
     uint32_t refused = nt_create_event(&waiting.dispatcher, seat->number, 0, &event);
     if (refused == 0) {
         refused = nt_duplicate(&waiting.dispatcher, seat->number, event.number, SYNCHRONIZE, &reply);
-        close_number(seat->number, event.number);
+        close_number(seat, event.number);
     }
     if (refused == 0) {
+        note_made(reply.number, NULL);
         waiting.kinds[reply.number] = KIND_PORT;
         waiting.ports[reply.number] = made;
         made->handles = 1;
+        made->most = threads != 0 ? threads : GetActiveProcessorCount(ALL_PROCESSOR_GROUPS);
     } else {
         free(made);
     }
-    return finish(seat, refused) ? handle_of(reply.number) : NULL;
+    return finish_creation(seat, refused, &reply, own.last_error);
 }
 
 /* The port that a handle names, which stays until `leave_port`; null, with the last error set, where it names none. */
@@ -134,6 +103,122 @@ static void leave_stack(struct port *port, struct getter *getter)
         getter->below->above = getter->above;
 }
 
+/* Takes the packet that was posted first, under the latch; null where there is none. */
+static struct packet *take_packet(struct port *port)
+{
+    struct packet *packet = port->first;
+    if (packet != NULL)
+        port->first = packet->next;
+    return packet;
+}
+
+/* Gives the first packet, under the latch, to the thread that came last, where there are both and one more may run. Answers the event that is to be set
+ * for it once the latch is given back; else null. */
+static HANDLE hand_over(struct port *port)
+{
+    struct getter *getter = port->top;
+    if (getter == NULL || port->first == NULL || port->running >= port->most)
+        return NULL;
+    leave_stack(port, getter);
+    getter->packet = take_packet(port);
+    getter->is_told = true;
+    port->running++;
+    return getter->event;
+}
+
+/* ---- Threads with a packet. One that sleeps lets another run in its place; once it is awake it counts again, even if too many run then. */
+
+/* The caller has no packet any longer. */
+static void drop_packet(void)
+{
+    struct port *port = own.port;
+    if (port == NULL)
+        return;
+    take_latch(&ports_latch);
+    port->running -= !own.rests;
+    HANDLE event = hand_over(port);
+    own.port = NULL;
+    own.rests = false;
+    leave_port(port);
+    if (event != NULL)
+        SetEvent(event);
+}
+
+/* The caller sleeps with its packet from now on. Answers the event that is to be set; null where there is none. */
+static HANDLE begin_to_rest(void)
+{
+    take_latch(&ports_latch);
+    own.rests = true;
+    own.port->running--;
+    HANDLE event = hand_over(own.port);
+    give_latch(&ports_latch);
+    return event;
+}
+
+static void rest_with_packet(void)
+{
+    HANDLE event = own.port != NULL && !own.rests ? begin_to_rest() : NULL;
+    if (event != NULL)
+        SetEvent(event);
+}
+
+/* The same, under the lock, where the caller's wait pends. It makes no call then, so a thread sets the event that is yet to come; where none is, the
+ * caller counts among those that run. */
+static void rest_beside_wait(struct seat *caller)
+{
+    struct nt_reply reply;
+    if (waiting.seated == waiting.places)
+        return;
+    HANDLE event = begin_to_rest();
+    if (event != NULL && nt_set_event(&waiting.dispatcher, waiting.places - 1, listed_number_of(event), &reply) == 0)
+        note(caller);
+}
+
+static void go_on_with_packet(void)
+{
+    take_latch(&ports_latch);
+    own.rests = false;
+    own.port->running++;
+    give_latch(&ports_latch);
+}
+
+/* ---- The event of a thread, which is closed as it ends. */
+
+static _Thread_local HANDLE event_of_thread __attribute__((tls_model("initial-exec")));
+static pthread_key_t event_leaving;
+static bool has_event_key;
+
+static void end_getter(void *event)
+{
+    drop_packet();
+    event_of_thread = NULL;
+    CloseHandle(event);
+}
+
+__attribute__((constructor)) static void make_event_key(void)
+{
+    has_event_key = pthread_key_create(&event_leaving, end_getter) == 0;
+}
+
+/* The caller's event; null, with the last error set, where there is none. */
+static HANDLE event_to_wait(void)
+{
+    const DWORD error = own.last_error;
+    if (event_of_thread != NULL)
+        return event_of_thread;
+    HANDLE made = CreateEventA(NULL, FALSE, FALSE, NULL);
+    if (made != NULL && (!has_event_key || pthread_setspecific(event_leaving, made) != 0)) {
+        CloseHandle(made);
+        fail(ERROR_NOT_ENOUGH_MEMORY);
+        return NULL;
+    }
+    if (made != NULL)
+        own.last_error = error;
+    return event_of_thread = made;
+}
+
+/* ---- Packets are posted and gotten. */
+
 /* The last handle of a port is closed: who waits there is told so. */
 static void close_port(struct port *port)
 {
@@ -153,7 +238,6 @@ static void close_port(struct port *port)
 
 BOOL PostQueuedCompletionStatus(HANDLE handle, DWORD bytes, ULONG_PTR key, LPOVERLAPPED overlapped)
 {
-    HANDLE event = NULL;
     struct packet *packet = malloc(sizeof *packet);
     if (packet == NULL)
         return fail(ERROR_NOT_ENOUGH_MEMORY);
@@ -164,29 +248,27 @@ BOOL PostQueuedCompletionStatus(HANDLE handle, DWORD bytes, ULONG_PTR key, LPOVE
         return FALSE;
     }
     take_latch(&ports_latch);
-    struct getter *getter = port->top;
-    if (getter != NULL) {
-        leave_stack(port, getter);
-        getter->packet = packet;
-        getter->is_told = true;
-        event = getter->event;
-    } else if (port->first == NULL) {
+    if (port->first == NULL)
         port->first = port->last = packet;
-    } else {
+    else
         port->last = port->last->next = packet;
-    }
+    HANDLE event = hand_over(port);
     leave_port(port);
     if (event != NULL)
         SetEvent(event);
     return TRUE;
 }
 
-/* Takes the packet that was posted first, under the latch; null where there is none. */
-static struct packet *take_packet(struct port *port)
+/* The caller, which is done with a packet of this port or has none, gets one at once, under the latch, where there is one and it may run. */
+static struct packet *begin_to_get(struct port *port)
 {
-    struct packet *packet = port->first;
-    if (packet != NULL)
-        port->first = packet->next;
+    if (own.port != NULL) {
+        port->running--;
+        port->users--;
+        own.port = NULL;
+    }
+    struct packet *packet = port->running < port->most ? take_packet(port) : NULL;
+    port->running += packet != NULL;
     return packet;
 }
 
@@ -224,13 +306,17 @@ static ULONG get_packets(HANDLE handle, LPOVERLAPPED_ENTRY entries, ULONG count,
     ULONG taken = 0;
     if (port == NULL)
         return 0;
+    if (own.port != port)
+        drop_packet();
     take_latch(&ports_latch);
-    struct packet *packet = take_packet(port);
+    struct packet *packet = begin_to_get(port);
     /* (It may be closed since its handle was looked up: who waits from then on would be told by nobody.) */
     if (packet == NULL && port->is_closed)
         error = ERROR_ABANDONED_WAIT_0;
     else if (packet == NULL && event != NULL && (ms > 0 || alertable))
         packet = wait_for_packet(port, ms, alertable, event, &error);
+    own.port = packet != NULL ? port : NULL;
+    port->users += packet != NULL;
     for (; packet != NULL; packet = taken < count ? take_packet(port) : NULL) {
         entries[taken++] = packet->entry;
         free(packet);

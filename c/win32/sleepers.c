@@ -21,8 +21,11 @@ static inline DWORD id_of_caller(void)
     return id != 0 ? id : GetCurrentThreadId();
 }
 
+static void rest_with_packet(void);
+
 static void note_sleeper(struct sleeper *it)
 {
+    rest_with_packet();
     it->id = id_of_caller();
     it->earlier = NULL;
     take_latch(&sleepers.latch);
@@ -43,4 +46,6 @@ static void forget_sleeper(struct sleeper *it)
     if (it->later != NULL)
         it->later->earlier = it->earlier;
     give_latch(&sleepers.latch);
+    if (own.rests)
+        go_on_with_packet();
 }

@@ -37,6 +37,37 @@ DWORD GetThreadId(HANDLE thread)
     return id;
 }
 
+/* The thread with this id, under the lock, that has not ended; null where there is none, or it has made no call. */
+static struct seat *seat_with_id(DWORD id)
+{
+    for (uint32_t i = 0; i < waiting.seated; i++)
+        if (waiting.seats[i].life.id == id && !waiting.seats[i].has_left)
+            return &waiting.seats[i];
+    return NULL;
+}
+
+HANDLE OpenThread(DWORD access, BOOL inherit, DWORD id)
+{
+    struct nt_reply reply;
+    struct seat *caller = begin();
+    (void)inherit;
+    if (caller == NULL)
+        return NULL;
+    const struct seat *seat = id != 0 ? seat_with_id(id) : NULL;
+    if (seat == NULL) {
+        end_look(caller, ERROR_INVALID_PARAMETER);
+        return NULL;
+    }
+    HANDLE made = NULL;
+    const uint32_t refused =
+        nt_duplicate(&waiting.dispatcher, caller->number, seat->handle, rights_asked(KIND_THREAD, access), &reply);
+    if (refused == 0) {
+        name_thread(reply.number, seat);
+        made = give_handle(reply.number);
+    }
+    return finish(caller, refused) ? made : NULL;
+}
+
 DWORD ResumeThread(HANDLE thread)
 {
     struct seat *caller, *seat = begin_with_thread(thread, &caller);
@@ -150,6 +181,7 @@ HRESULT SetThreadDescription(HANDLE thread, PCWSTR description)
     WCHAR *before = seat->life.description;
     const pid_t task = seat->has_left ? 0 : seat->life.task;
     seat->life.description = copy;
+    write_description(seat->number, copy);
     unlock_and_wake(caller);
     if (task != 0)
         name_task(task, description != NULL ? description : L"");

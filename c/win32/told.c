@@ -6,6 +6,7 @@ enum { TOLD_AT_MOST = 512 };
 /* A thread that waits, with what was seen of what it waits for. */
 struct told {
     DWORD id, owner; /* of a critical section; 0 where it has none just now */
+    int depth;       /* how deep that owns it */
     char what[128];
 };
 
@@ -45,11 +46,9 @@ static bool take_latch_at_last(_Atomic uint32_t *latch)
 static void look_at_sleeper(const struct sleeper *sleeper, struct told *it)
 {
     if (sleeper->section != NULL) {
-        const int deep = __atomic_load_n(&sleeper->section->RecursionCount, __ATOMIC_RELAXED);
+        it->depth = __atomic_load_n(&sleeper->section->RecursionCount, __ATOMIC_RELAXED);
         it->owner = (DWORD)(uintptr_t)__atomic_load_n(&sleeper->section->OwningThread, __ATOMIC_RELAXED);
-        const int length = snprintf(it->what, sizeof it->what, "waits for the critical section %p", (void *)sleeper->section);
-        if (it->owner != 0)
-            snprintf(it->what + length, sizeof it->what - (size_t)length, ", which thread %u owns, %d deep", it->owner, deep);
+        snprintf(it->what, sizeof it->what, "waits for the critical section %p", (void *)sleeper->section);
         return;
     }
     const uint32_t state = state_of(srw_of(sleeper->lock));
@@ -120,30 +119,46 @@ static bool begins_knot(DWORD first)
     return at == first;
 }
 
-static void write_knot(FILE *to, DWORD first)
+/* Writes which thread that is. */
+typedef void thread_writer(struct report *to, DWORD id);
+
+static void write_id(struct report *to, DWORD id)
 {
-    fprintf(to, "by critical sections, none of which is ever left, hold each other: thread %u", first);
+    add(to, "thread %u", id);
+}
+
+static void write_told(struct report *to, const struct told *it, thread_writer *write_thread)
+{
+    write_thread(to, it->id);
+    add(to, " %s", it->what);
+    if (it->owner != 0) {
+        add_text(to, ", which ");
+        write_thread(to, it->owner);
+        add(to, " owns, %d deep", it->depth);
+    }
+    add_letter(to, '\n');
+}
+
+static void write_knot_of_ids(struct report *to, DWORD first)
+{
+    add(to, "by critical sections, none of which is ever left, hold each other: thread %u", first);
     for (DWORD at = held_by(first); at != first; at = held_by(at))
-        fprintf(to, ", %u", at);
-    fputc('\n', to);
+        add(to, ", %u", at);
+    add_letter(to, '\n');
 }
 
 /* Writes a line for each thread that sleeps, and for each knot of critical sections. */
-static void write_sleepers(FILE *to)
+static void write_waits(struct report *to, const char *none)
 {
+    (void)none;
     pthread_mutex_lock(&telling);
     look_at_sleepers();
     for (uint32_t i = 0; i < told_all.count; i++)
-        fprintf(to, "thread %u %s\n", told_all.of[i].id, told_all.of[i].what);
+        write_told(to, &told_all.of[i], write_id);
     for (uint32_t i = 0; i < told_all.count; i++)
         if (told_all.of[i].owner != 0 && begins_knot(told_all.of[i].id))
-            write_knot(to, told_all.of[i].id);
+            write_knot_of_ids(to, told_all.of[i].id);
     if (!told_all.is_whole)
-        fputs("not all threads could be looked at\n", to);
+        add_text(to, "not all threads could be looked at\n");
     pthread_mutex_unlock(&telling);
-}
-
-void ntwin_write_waits(FILE *to)
-{
-    write_sleepers(to);
 }

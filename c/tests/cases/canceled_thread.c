@@ -1,4 +1,4 @@
-/* Within 10 s: 6 passed, 0 failed.
+/* Within 10 s: 7 passed, 0 failed.
  *
  * pthread_cancel acts once a wait has ended, and then the thread's mutexes are abandoned. A thread that is canceled asynchronously, while
  * it waits, never ends for the library; other threads' timeouts and timers come in time all the same. */
@@ -43,6 +43,11 @@ static HANDLE cancel_one(LPVOID is_asynchronous)
     return thread;
 }
 
+static VOID CALLBACK comes(LPVOID unused, DWORD low, DWORD high)
+{
+    (void)unused, (void)low, (void)high;
+}
+
 int main(void)
 {
     never = CreateEvent(NULL, FALSE, FALSE, NULL);
@@ -53,8 +58,9 @@ int main(void)
     ReleaseMutex(mutex);
     HANDLE thread = cancel_one(&timer);
     const LARGE_INTEGER due = { .QuadPart = -200000 };
-    IS(SetWaitableTimer(timer, &due, 0, NULL, NULL, FALSE), TRUE);
+    IS(SetWaitableTimer(timer, &due, 0, comes, NULL, FALSE), TRUE);
     const double began = now_ms();
+    IS(SleepEx(5000, TRUE), WAIT_IO_COMPLETION);
     IS(WaitForSingleObject(timer, 5000), WAIT_OBJECT_0);
     IS(WaitForSingleObject(thread, 300), WAIT_TIMEOUT);
     IS(now_ms() - began < 2000, 1);

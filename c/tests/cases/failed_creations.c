@@ -1,4 +1,4 @@
-/* Within 10 s: 604 passed, 0 failed.
+/* Within 10 s: 8404 passed, 0 failed.
  *
  * While the system has no thread more, CreateThread fails with ERROR_NOT_ENOUGH_MEMORY, as often as it is tried. It succeeds as soon as
  * there is one: what failed took no place, and its handle is closed. */
@@ -23,7 +23,7 @@ int main(void)
 {
     HANDLE event = CreateEvent(NULL, TRUE, FALSE, NULL);
     is_full = true;
-    for (int i = 0; i < 300; i++) {
+    for (int i = 0; i < 4200; i++) {
         SetLastError(0);
         IS(CreateThread(NULL, 0, does_nothing, NULL, 0, NULL) == NULL, 1);
         IS(GetLastError(), ERROR_NOT_ENOUGH_MEMORY);

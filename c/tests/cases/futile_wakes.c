@@ -1,7 +1,7 @@
-/* Within 10 s: 5 passed, 0 failed.
+/* Within 10 s: 11 passed, 0 failed.
  *
- * A timeout wakes nobody else, and a thread that waits for something else is not woken by a timer that nobody waits for. Told by the
- * system calls that the library makes on its words, which this program counts. */
+ * A timeout wakes nobody else, not even one who waits for a timer and began as another kept the time. A thread that waits for something
+ * else is not woken by a timer that nobody waits for. Told by the system calls that the library makes on its words, which this program counts. */
 #include "case.h"
 
 #include <dlfcn.h>
@@ -10,6 +10,7 @@
 #include <sys/syscall.h>
 
 static LONG sleeps, wakes;
+static _Thread_local LONG own_wakes; /* those that the caller made: a thread that has ended may still make its last */
 
 static long (*real)(long number, ...);
 
@@ -22,8 +23,11 @@ long syscall(long number, ...)
     for (int i = 0; i < 6; i++)
         words[i] = va_arg(list, long);
     va_end(list);
-    if (number == SYS_futex)
-        InterlockedIncrement((words[1] & FUTEX_CMD_MASK) == FUTEX_WAKE ? &wakes : &sleeps);
+    if (number == SYS_futex) {
+        const BOOL is_wake = (words[1] & FUTEX_CMD_MASK) == FUTEX_WAKE;
+        InterlockedIncrement(is_wake ? &wakes : &sleeps);
+        own_wakes += is_wake;
+    }
     return real(number, words[0], words[1], words[2], words[3], words[4], words[5]);
 }
 
@@ -33,6 +37,30 @@ static DWORD waits(LPVOID event)
 {
     raise_flag(&begins);
     return WaitForSingleObject(event, INFINITE);
+}
+
+/* Begins to wait while another thread is in the midst of a wait with a timeout. */
+static DWORD waits_later(LPVOID timer)
+{
+    raise_flag(&begins);
+    rest_ms(100);
+    return WaitForSingleObject(timer, INFINITE);
+}
+
+/* The other's timeout does not wake who waits for the timer. */
+static void time_out_beside(HANDLE event)
+{
+    HANDLE timer = CreateWaitableTimer(NULL, TRUE, NULL);
+    LARGE_INTEGER due = { .QuadPart = -600000000 };
+    IS(SetWaitableTimer(timer, &due, 0, NULL, NULL, FALSE), TRUE);
+    HANDLE thread = CreateThread(NULL, 0, waits_later, timer, 0, NULL);
+    await(&begins);
+    const LONG wakes_before = own_wakes;
+    must(WaitForSingleObject(event, 300) == WAIT_TIMEOUT);
+    IS(own_wakes - wakes_before, 0);
+    due.QuadPart = 0;
+    IS(SetWaitableTimer(timer, &due, 0, NULL, NULL, FALSE), TRUE);
+    IS(WaitForSingleObject(thread, INFINITE), WAIT_OBJECT_0);
 }
 
 int main(void)
@@ -53,5 +81,9 @@ int main(void)
     IS(sleeps - sleeps_before, 0);
     IS(SetEvent(event), TRUE);
     IS(WaitForSingleObject(thread, INFINITE), WAIT_OBJECT_0);
+    begins = 0;
+    IS(CancelWaitableTimer(timer), TRUE);
+    IS(ResetEvent(event), TRUE);
+    time_out_beside(event);
     return counted();
 }

@@ -1,9 +1,9 @@
-/* Within 20 s: 4 passed, 0 failed.
+/* Within 120 s: 4 passed, 0 failed.
  *
  * Sleep sleeps where memory is refused, and where more threads call than there are places, and leaves the last error. */
 #include "refusing.h"
 
-enum { THREADS = 260, SLEEP_MS = 30 };
+enum { THREADS = 4100, SLEEP_MS = 30 };
 
 static HANDLE event;
 static pthread_barrier_t all_have_called;
@@ -24,7 +24,8 @@ static void *sleeps(void *unused)
 
 int main(void)
 {
-    pthread_t threads[THREADS];
+    static pthread_t threads[THREADS];
+    pthread_attr_t small;
     event = CreateEvent(NULL, FALSE, FALSE, NULL);
     SetLastError(12345);
     refuses_memory = true;
@@ -35,11 +36,12 @@ int main(void)
     IS(took >= SLEEP_MS, 1);
     IS(GetLastError(), 12345);
     pthread_barrier_init(&all_have_called, NULL, THREADS);
+    must(pthread_attr_init(&small) == 0 && pthread_attr_setstacksize(&small, 1 << 16) == 0);
     for (int i = 0; i < THREADS; i++)
-        must(pthread_create(&threads[i], NULL, sleeps, NULL) == 0);
+        must(pthread_create(&threads[i], &small, sleeps, NULL) == 0);
     for (int i = 0; i < THREADS; i++)
         pthread_join(threads[i], NULL);
-    IS(refused, THREADS - 255);
+    IS(refused, THREADS - 4095);
     IS(short_sleeps, 0);
     return counted();
 }

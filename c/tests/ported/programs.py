@@ -76,10 +76,15 @@ PROGRAMS = {
         "absl/synchronization/internal/per_thread_sem.cc absl/base/internal/spinlock.cc absl/base/internal/spinlock_wait.cc absl/time/clock.cc",
         "-U__linux__ -I.",
     ),
-    "onetbb": Program("onetbb", "src/tbb/semaphore.cpp src/tbb/private_server.cpp src/tbb/concurrent_monitor.h", "-Iinclude -Isrc"),
+    # (Fibers are not here. Its build may choose threads in their place.)
+    "onetbb": Program(
+        "onetbb",
+        "src/tbb/semaphore.cpp src/tbb/private_server.cpp src/tbb/concurrent_monitor.h src/tbb/address_waiter.cpp src/tbb/rtm_mutex.cpp",
+        "-D__TBB_RESUMABLE_TASKS_USE_THREADS=1 -Iinclude -Isrc",
+    ),
     "mimalloc": Program("mimalloc", "test/test-stress.c src/init.c", "-Iinclude"),
     "gperftools": Program("google-perftools", "src/windows/port.cc src/base/spinlock.cc src/base/spinlock_internal.cc", "-Isrc -Isrc/windows"),
-    "googletest": Program("googletest", "googletest/src/gtest-port.cc", "-Igoogletest -Igoogletest/include"),
+    "googletest": Program("googletest", "googletest/src/gtest-port.cc", "-include names.h -Igoogletest -Igoogletest/include"),
     "glib": Program("glib2.0", "glib/gthread-win32.c glib/gthread.c", "-I. -Iglib"),
     "libgc": Program("libgc", "win32_threads.c", "-Iinclude -Iinclude/private -DGC_THREADS"),
 }

@@ -134,7 +134,7 @@ def one_of(shop, source, file, flags, objects, main):
         with open(f"{shop.room}/main.c", "w", encoding="utf-8") as to:
             to.write(main)
         made += shop.objects("main", shop.room, "main.c", [])
-    return shop.linked(program, [*made, *objects], spare=True) or shop.ran(program, "test")
+    return shop.linked(program, [*made, *objects], spare=True) or shop.ran(program, *(["test"] if main else []))
 
 
 def libuv(shop, source):
@@ -189,17 +189,17 @@ def x264(shop, source):
 
 BOOST = "-D_WIN64 -U__linux__ -U__linux -Ulinux -U__unix__ -U__unix -Uunix -DBOOST_ALL_NO_LIB -DBOOST_USE_WINDOWS_H -DBOOST_THREAD_BUILD_LIB=1"
 BOOST_FILES = "libs/thread/src/win32/*.cpp libs/thread/src/future.cpp libs/chrono/src/chrono.cpp libs/system/src/error_code.cpp"
+# What a test calls and includes no header for.
+BOOST_LACKING = {"test_3837": ["-include", "boost/utility/in_place_factory.hpp"]}
 BOOST_LEFT_OUT = {
     **dict.fromkeys("test_5502 test_lock_concept test_once test_shared_mutex test_shared_mutex_part_2".split(), "a long of 32 bits"),
     **dict.fromkeys("test_shared_mutex_timed_locks test_shared_mutex_timed_locks_chrono".split(), "a long of 32 bits"),
-    **dict.fromkeys("test_2309 test_ml".split(), "an older Boost.Test"),
     "test_10963": "a race of its own, over pthreads too",
     "test_11611": "more than 65,536 handles",
     "test_11796": THREADS,
     "test_13561": "a file that Debian leaves out",
-    "test_3837": "an older C++",
     "test_8455": "blocks, as it says",
-    "test_8557": "counts of the C library's memory",
+    "test_8557": "ends with 1 itself",
     "test_9192": "files",
     "test_9303": "sockets",
     "test_time_jumps": "a clock that is set",
@@ -212,27 +212,26 @@ def boost(shop, source):
     includes = [f"-I{it}" for it in shop.files_of(source, "libs/*/include libs/numeric/*/include")]
     flags = shop.flags("boost", f"-include {shop.ported}/config/boost/names.h -include iostream {BOOST}")
     flags += includes
-    framework = shop.objects("framework", source, "libs/test/src/*.cpp", ["-w", "-O1", *includes], ("cpp_main", "test_main"))
+    framework = shop.objects("framework", source, "libs/test/src/*.cpp", ["-w", "-O1", *includes], ("/cpp_main", "/test_main"))
     library = shop.objects("boost", source, BOOST_FILES, flags)
+    library += shop.objects("boost", source, [f"{shop.ported}/boost.cc"], flags)
     failed = {}
     for file in shop.files_of(source, "libs/thread/test/test_*.cpp"):
         test = os.path.splitext(os.path.basename(file))[0]
         if test not in BOOST_LEFT_OUT:
             with open(f"{source}/{file}", encoding="utf-8", errors="replace") as text:
-                uses = "boost/test/" in text.read()
-            failed[test] = one_of(shop, source, file, flags, [*library, *(framework if uses else [])], "")
+                uses = re.search(r"(?m)^ *# *include <boost/test/", text.read())
+            failed[test] = one_of(shop, source, file, flags + BOOST_LACKING.get(test, []), [*library, *(framework if uses else [])], "")
     return *counted(failed), BOOST_LEFT_OUT
 
 
 # Each call of the library has another name, since this library calls the system's own.
 RENAMES = "grep -ohE '\\b(_*pthread|sem|sched|clock|nanosleep)_?[a-z_]* *[(]' include/*.h | tr -d '( ' | sort -u | sed 's/.*/#define & winpthreads_&/'"
 WINPTHREADS_LEFT_OUT = {
-    **dict.fromkeys("barrier6 create2 once2 once3 reuse2".split(), THREADS),
     **dict.fromkeys("mutex4 mutex6e mutex6es mutex7 mutex7e mutex7n spin1 spin3".split(), "older than the library's mutexes"),
     **dict.fromkeys("benchtest1 benchtest2 benchtest3 benchtest4 loadfree tryentercs tryentercs2".split(), "libraries that are loaded"),
     **dict.fromkeys("cancel3 cancel5 cancel6a".split(), "threads that are canceled where they stand"),
     **dict.fromkeys("exception1 exception2 exception3".split(), "structured exceptions"),
-    **dict.fromkeys("condvar1_1 condvar1_2".split(), "a RAND_MAX of 32,767"),
     "cancel9": "sockets",
     "context1": "a thread's registers",
     "once4": "priorities of processes",
@@ -270,8 +269,6 @@ WINPR_LEFT_OUT = {
     "TestThreadCreateProcess": "processes",
     "TestThreadCommandLineToArgv": "command lines",
     "TestGetComputerName": "names of machines",
-    "TestThreadExitThread": THREADS,
-    "TestCPUFeatures": "a call of WinPR's own",
 }
 WINPR_TESTS = " ".join(f"winpr/libwinpr/{it}/test/*.c" for it in "synch thread pool interlocked error sysinfo".split())
 
@@ -284,7 +281,7 @@ RUNS = {
     "libuv: its tests of threads": Run("libuv1", libuv),
     "WinPR: its tests": Run(
         "freerdp2",
-        programs_of("winpr", WINPR_TESTS, WINPR, "winpr/libwinpr/interlocked/interlocked.c", WINPR_MAIN, left_out=WINPR_LEFT_OUT, own="winpr.c"),
+        programs_of("winpr", WINPR_TESTS, WINPR, "winpr/libwinpr/interlocked/interlocked.c winpr/libwinpr/sysinfo/sysinfo.c", WINPR_MAIN, left_out=WINPR_LEFT_OUT, own="winpr.c"),
     ),
     "winpthreads: its tests": Run("mingw-w64", winpthreads),
     "Boost.Thread: its tests": Run("boost1.74", boost),

@@ -22,6 +22,7 @@ use Rattle.nt_calls.specs.Steps.{Called}
 use Rattle.nt_core.specs.Dispatcher.{state}
 use Rattle.nt_sleepers.specs.Sleepers.{Sleeping}
 use Rattle.nt_c.specs.Asks.{Asked, Makes}
+use Rattle.nt_c.proofs.Renewing.{wait_makes, wait_own, wait_renews, wait_limit}
 
 -- the causes that come before those of the wait, and these
 abbrev callers : State → ℕ → List Cause → List Cause
@@ -83,21 +84,24 @@ never_called : {P : Type 0} (s new : State) (who : ℕ) (call : Call) (cause : R
 never_called s new who call cause reply grants is called =
     let both : Some cause ≡ None = sym is ∙ called.1.0 in (cc)
 
-makes_alike : (old new : Sleeping) (who : ℕ) (call call' : Call) (cause : Refusal) (result : Result Reply Refusal) → IsRefusedFor (state old.core) who call cause → IsRefusedFor (state old.core) who call' cause → Makes old who call result new → Makes old who call' result new
-makes_alike old new who call call' cause (Ok reply) is is' made = never_called (state old.core) (state new.core) who call cause reply new.core.grants is made.called
-makes_alike old new who call call' cause (Err r) is is' made = record {
-  called = called_alike (state old.core) (state new.core) who call call' r cause new.core.grants is is' made.called;
+makes_alike : (old new : Sleeping) (who : ℕ) (wait wait' : WaitCall) (cause : Refusal) (result : Result Reply Refusal) → IsRefusedFor (state old.core) who (Call.Wait wait) cause → IsRefusedFor (state old.core) who (Call.Wait wait') cause → Makes old who (Call.Wait wait) result new → Makes old who (Call.Wait wait') result new
+makes_alike old new who wait wait' cause (Ok reply) is is' made =
+    never_called (state old.core) (state new.core) who (Call.Wait wait) cause reply new.core.grants is (wait_own (state old.core) old.spare who wait (Ok reply) new.core.grants (state new.core) made.makes)
+makes_alike old new who wait wait' cause (Err r) is is' made = record {
+  makes = wait_makes (state old.core) old.spare who wait' (Err r) new.core.grants (state new.core)
+      (called_alike (state old.core) (state new.core) who (Call.Wait wait) (Call.Wait wait') r cause new.core.grants is is' (wait_own (state old.core) old.spare who wait (Err r) new.core.grants (state new.core) made.makes));
+  limit = λ limit. wait_limit (state old.core) old.spare wait wait' (made.limit limit);
+  unchanged = made.unchanged;
   lawful = made.lawful;
-  local = tt;
-  untested = made.untested;
+  looks = record { local = λ own. tt; untested = λ own. made.looks.untested (wait_renews old.spare wait) };
   woke = made.woke;
   nobody = made.nobody;
 }
 
-asked_alike : (held new : Option Sleeping) (who : ℕ) (call call' : Call) (result : Result Reply Refusal) → ((old : Sleeping) → (cause : Refusal) × IsRefusedFor (state old.core) who call cause × IsRefusedFor (state old.core) who call' cause) → Asked held who call result new → Asked held who call' result new
-asked_alike None new who call call' result why_both asked = asked
-asked_alike (Some old) new who call call' result why_both (core, is, made) =
-    let both = why_both old in (core, is, makes_alike old core who call call' both.0 result both.1 both.2 made)
+asked_alike : (held new : Option Sleeping) (who : ℕ) (wait wait' : WaitCall) (result : Result Reply Refusal) → ((old : Sleeping) → (cause : Refusal) × IsRefusedFor (state old.core) who (Call.Wait wait) cause × IsRefusedFor (state old.core) who (Call.Wait wait') cause) → Asked held who (Call.Wait wait) result new → Asked held who (Call.Wait wait') result new
+asked_alike None new who wait wait' result why_both asked = asked
+asked_alike (Some old) new who wait wait' result why_both (core, is, made) =
+    let both = why_both old in (core, is, makes_alike old core who wait wait' both.0 result both.1 both.2 made)
 
 -- both waits are refused for one cause
 refused_both : (s : State) (who : ℕ) (all alertable : Bool) (ms : ℕ) (handles : List ℕ) → MAX_WAIT_OBJECTS < length handles → (cause : Refusal) × IsRefusedFor s who (wait_for all alertable ms []) cause × IsRefusedFor s who (wait_for all alertable ms handles) cause
@@ -109,6 +113,6 @@ refused_both s who all alertable ms handles many =
 pub asked_of : (held new : Option Sleeping) (who : ℕ) (all alertable : Bool) (ms : ℕ) (handles these : List ℕ) (result : Result Reply Refusal) → (length handles ≤ MAX_WAIT_OBJECTS → these ≡ handles) → (MAX_WAIT_OBJECTS < length handles → these ≡ []) → Asked held who (Call.Wait (WaitCall.Objects all alertable ms these)) result new → Asked held who (Call.Wait (WaitCall.Objects all alertable ms handles)) result new
 asked_of held new who all alertable ms handles these result few many asked =
     elim (cases_lt MAX_WAIT_OBJECTS (length handles)) [
-      | inl above ↦ asked_alike held new who (wait_for all alertable ms []) (wait_for all alertable ms handles) result (λ (old : Sleeping). refused_both (state old.core) who all alertable ms handles above) (subst (λ (list : List ℕ). Asked held who (wait_for all alertable ms list) result new) (many above) asked)
+      | inl above ↦ asked_alike held new who (WaitCall.Objects all alertable ms []) (WaitCall.Objects all alertable ms handles) result (λ (old : Sleeping). refused_both (state old.core) who all alertable ms handles above) (subst (λ (list : List ℕ). Asked held who (wait_for all alertable ms list) result new) (many above) asked)
       | inr within ↦ subst (λ (list : List ℕ). Asked held who (wait_for all alertable ms list) result new) (few within) asked
     ]

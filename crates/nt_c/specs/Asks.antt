@@ -2,15 +2,16 @@
 use Rattle.std.specs.Prelude.{◌≡◌, ℕ, ◌≤◌, ◌⊎◌, Bool, Option, None, Some, MatchOption, slice_get, MatchBool, nat_le, OnOk, OnErr, ◌&&◌, [], length, replicate, pos, is_some, true, false}
 use Rattle.std.specs.FinMap as map
 use Rattle.nt_c.specs.declared.grants.NtGrant.{NtGrant}
+use Rattle.nt_c.specs.declared.begins.NtBegun.{NtBegun}
 use Rattle.nt_c.specs.declared.handle.Nt.{Nt}
 use Rattle.nt_c.specs.declared.pending.NtPendingWait.{NtPendingWait}
 use Rattle.nt_c.specs.declared.reply.NtReply.{NtReply}
 use Rattle.std.specs.declared.result.Result.{Result}
 use Rattle.std.specs.declared.result.Result.TheVariants.{Ok, Err}
-use Rattle.nt_status.specs.declared.limits.TheConstants.{MAX_MOMENT, MAX_THREADS}
+use Rattle.nt_status.specs.declared.limits.TheConstants.{MAX_MOMENT}
 use Rattle.nt_status.specs.Refusal.{number_of}
 use Rattle.nt_status.specs.declared.refusal.Refusal.{Refusal}
-use Rattle.nt_status.specs.declared.refusal.Refusal.TheVariants.{InvalidHandle}
+use Rattle.nt_status.specs.declared.refusal.Refusal.TheVariants.{HandleLimit, InvalidHandle}
 use Rattle.nt_waits.specs.declared.wait.Wait.{Wait}
 use Rattle.nt_calls.specs.declared.call.Act.{Act}
 use Rattle.nt_calls.specs.declared.call.Call.{Call}
@@ -19,12 +20,13 @@ use Rattle.nt_calls.specs.declared.call.Reply.{Reply}
 use Rattle.nt_calls.specs.declared.call.WaitCall.{WaitCall}
 use Rattle.nt_core.specs.Dispatcher.{Dispatcher, state}
 use Rattle.nt_core.specs.Lawful.{IsLawful}
-use Rattle.nt_core.specs.Accepts.{IsLocal, IsTickLocal}
-use Rattle.nt_calls.specs.Naming.{call_named}
+use Rattle.nt_core.specs.Accepts.{IsTickLocal}
 use Rattle.nt_calls.specs.State.{opening, pends}
-use Rattle.nt_calls.specs.Steps.{Called, Ticked, IsNextMoment, NothingDue}
+use Rattle.nt_calls.specs.Steps.{Ticked, IsNextMoment, NothingDue}
 use Rattle.nt_calls.specs.Moves.{pended}
-use Rattle.nt_sleepers.specs.Sleepers.{Sleeping, Woke}
+use Rattle.nt_life.specs.Lasting.{Spares, MakesCall, FindsNoneFor, IsUnchanged, LooksAt, MayBegin}
+use Rattle.nt_life.specs.declared.begun.Begun.{Begun}
+use Rattle.nt_sleepers.specs.Sleepers.{LetsSleep, Sleeping, Woke}
 
 -- a handle says that it has a dispatcher exactly where it has one
 abbrev pub IsFit : Nt → Type 0
@@ -36,12 +38,14 @@ Keeps old new = new.cell.held ≡ old.cell.held
 
 -- ---- a call
 
--- a call of the dispatcher: a step that tests no wait but those that it must, or a refusal that tests none; and what becomes of who sleeps
+-- a call of the dispatcher: the machine's own step, or, if numbers are given again, a renewal; no number is told to be left only if there is
+-- none; it tests no wait but those that it must, or, refused, none, and then changes nothing; and what becomes of who sleeps
 pub record Makes (old : Sleeping) (who : ℕ) (call : Call) (result : Result Reply Refusal) (new : Sleeping) : Type 0 where
-  pub called : Called (state old.core) who call result new.core.grants (state new.core)
+  pub makes : MakesCall (state old.core) old.spare who call result new.core.grants (state new.core)
+  pub limit : result ≡ Err HandleLimit → FindsNoneFor (state old.core) old.spare call
+  pub unchanged : IsUnchanged (state old.core) result new.core.grants (state new.core)
   pub lawful : IsLawful new.core
-  pub local : OnOk result (IsLocal (state old.core) who (call_named old.core.handles call) new.core.table.looked new.core.grants)
-  pub untested : OnErr result (new.core.table.looked ≡ 0)
+  pub looks : LooksAt old.core old.spare who call result new.core
   pub woke : Woke old who (pended result) new
   pub nobody : OnErr result (new.called ≡ None)
 
@@ -103,6 +107,7 @@ pub record LetsPass (old : Sleeping) (m : ℕ) (result : Result Reply Refusal) (
   pub lawful : IsLawful new.core
   pub local : OnOk result (IsTickLocal (state old.core) m new.core.table.looked new.core.grants)
   pub untested : OnErr result (new.core.table.looked ≡ 0)
+  pub spare : new.spare ≡ old.spare
   pub woke : Woke old 0 false new
   pub nobody : OnErr result (new.called ≡ None)
 
@@ -193,7 +198,8 @@ ReadsDue m nt number before after =
 -- ---- dispatchers come and go
 
 -- a dispatcher for so many threads as it is at first: nothing was called, and nobody sleeps
-pub record IsOpening (threads : ℕ) (s : Sleeping) : Type 0 where
+pub record IsOpening (spare : Option Spares) (threads : ℕ) (s : Sleeping) : Type 0 where
+  pub spare_is : s.spare ≡ spare
   pub state_is : state s.core ≡ opening threads
   pub grants : s.core.grants ≡ []
   pub looked : s.core.table.looked ≡ 0
@@ -202,12 +208,12 @@ pub record IsOpening (threads : ℕ) (s : Sleeping) : Type 0 where
   pub called : s.called ≡ None
 
 -- a dispatcher for so many threads, of whom none sleeps, is opened where there is none; refused with 87 where there is one, and for no
--- thread or too many, and with 8 where memory is refused
-abbrev pub Opens : Option Sleeping → ℕ → ℕ → Option Sleeping → Type 0
-Opens (Some old) threads number new = (number ≡ 87) × (new ≡ Some old)
-Opens None threads number new =
-    ((s : Sleeping) × (new ≡ Some s) × (number ≡ 0) × (1 ≤ threads) × (threads ≤ MAX_THREADS) × IsOpening threads s)
-    ⊎ ((new ≡ None) × MatchBool (nat_le 1 threads && nat_le threads MAX_THREADS) (number ≡ 8) (number ≡ 87))
+-- thread or more than `most`, and with 8 where memory is refused
+abbrev pub Opens : ℕ → Option Spares → Option Sleeping → ℕ → ℕ → Option Sleeping → Type 0
+Opens most spare (Some old) threads number new = (number ≡ 87) × (new ≡ Some old)
+Opens most spare None threads number new =
+    ((s : Sleeping) × (new ≡ Some s) × (number ≡ 0) × (1 ≤ threads) × (threads ≤ most) × IsOpening spare threads s)
+    ⊎ ((new ≡ None) × MatchBool (nat_le 1 threads && nat_le threads most) (number ≡ 8) (number ≡ 87))
 
 -- an equal dispatcher comes to where there was none; refused with 6 where there is nothing to copy, with 87 where there is one
 -- already, and with 8 where memory is refused
@@ -215,3 +221,18 @@ abbrev pub Copies : Option Sleeping → Option Sleeping → ℕ → Option Sleep
 Copies None to number new = (number ≡ 6) × (new ≡ to)
 Copies (Some s) (Some to) number new = (number ≡ 87) × (new ≡ Some to)
 Copies (Some s) None number new = ((number ≡ 0) × (new ≡ Some s)) ⊎ ((number ≡ 8) × (new ≡ None))
+
+-- ---- threads that begin
+
+-- a thread begins in the place of one that has ended, and its number and that of its handle are told; or none does, and 259 is answered
+pub record Begins (old : Sleeping) (number : ℕ) (before after : NtBegun) (new : Sleeping) : Type 0 where
+  pub begun : Option Begun
+  pub begins : MayBegin (state old.core) old.spare begun new.core.grants (state new.core)
+  pub lawful : IsLawful new.core
+  pub sleeps : LetsSleep old new
+  pub told : MatchOption begun (Untold NtBegun 259 number before after) (λ b. Told NtBegun (record { thread = b.thread; handle = b.handle }) number after)
+
+-- the same of what the handle holds
+abbrev pub BeginsIn : Option Sleeping → ℕ → NtBegun → NtBegun → Option Sleeping → Type 0
+BeginsIn None number before after new = Untold NtBegun 6 number before after × (new ≡ None)
+BeginsIn (Some old) number before after new = (s : Sleeping) × (new ≡ Some s) × Begins old number before after s

@@ -4,6 +4,7 @@
 #![tactic(auto)]
 
 mod apcs;
+mod begins;
 mod cell;
 mod events;
 mod grants;

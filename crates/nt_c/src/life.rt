@@ -1,5 +1,7 @@
 //! Dispatchers come and go.
-ghost use Rattle.std.specs.Prelude.{◌≡◌, None};
+ghost use Rattle.std.specs.Prelude.{◌≡◌, None, Some};
+ghost use Rattle.nt_life.specs.Lasting.{no_spares};
+ghost use Rattle.nt_status.specs.declared.limits.TheConstants.{MAX_MANY_THREADS, MAX_THREADS};
 ghost use Rattle.std.specs.Mem.{type_size};
 ghost use Rattle.nt_sleepers.specs.contracts.sleepers.Sleepers.{the_row as sleepers_row};
 ghost use Rattle.nt_c.specs.Asks.{IsFit, Keeps, Opens, Copies};
@@ -24,12 +26,33 @@ pub extern "C" fn nt_room() -> usize
 pub extern "C" fn nt_open(alloc: Global, nt: &mut Nt, threads: u32) -> u32
     requires fit { IsFit nt.old }
     ensures fit { IsFit nt.new }
-    ensures opens { Opens nt.old.cell.held threads result nt.new.cell.held }
+    ensures opens { Opens MAX_THREADS None nt.old.cell.held threads result nt.new.cell.held }
 {
     if nt.live {
         return INVALID_PARAMETER;
     }
     match Sleepers::new(alloc, threads) {
+        Ok(sleepers) => {
+            nt.cell.put(sleepers);
+            nt.live = true;
+            0
+        }
+        Err(refusal) => refusal.number(),
+    }
+}
+
+/// The same, but a dispatcher that gives numbers again: of handles that were closed, of objects that are gone, and of threads that have ended.
+/// It has 1 to 4,096 threads.
+#[unsafe(no_mangle)]
+pub extern "C" fn nt_open_lasting(alloc: Global, nt: &mut Nt, threads: u32) -> u32
+    requires fit { IsFit nt.old }
+    ensures fit { IsFit nt.new }
+    ensures opens { Opens MAX_MANY_THREADS (Some no_spares) nt.old.cell.held threads result nt.new.cell.held }
+{
+    if nt.live {
+        return INVALID_PARAMETER;
+    }
+    match Sleepers::lasting(alloc, threads) {
         Ok(sleepers) => {
             nt.cell.put(sleepers);
             nt.live = true;

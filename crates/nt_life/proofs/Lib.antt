@@ -7,3 +7,4 @@ mod Taken
 mod Choosing
 mod Pacing
 mod Stacking
+pub mod Once

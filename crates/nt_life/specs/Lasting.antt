@@ -1,5 +1,5 @@
 -- A dispatcher that lasts: the numbers of closed handles and of objects that are gone are given again, the last that was freed first.
-use Rattle.std.specs.Prelude.{◌≡◌, ◌≤◌, ◌<◌, ◌+◌, ◌-◌, ◌⊎◌, ℕ, Bool, true, false, not, ◌&&◌, ◌==◌, nat_le, nat_lt, List, [], ◌∷◌, ◌++◌, length, slice_index_or, if◌then◌else◌, MatchBool}
+use Rattle.std.specs.Prelude.{◌≡◌, ◌≤◌, ◌<◌, ◌+◌, ◌-◌, ◌⊎◌, ℕ, Bool, true, false, not, ◌&&◌, ◌==◌, nat_le, nat_lt, List, [], ◌∷◌, ◌++◌, length, slice_index_or, if◌then◌else◌, MatchBool, OnOk, OnErr}
 use Rattle.std.specs.FinMap as map
 use Rattle.std.specs.declared.option.Option.{Option}
 use Rattle.std.specs.declared.option.Option.TheVariants.{None, Some}
@@ -7,6 +7,7 @@ use Rattle.std.specs.declared.result.Result.{Result}
 use Rattle.std.specs.declared.result.Result.TheVariants.{Ok, Err}
 use Rattle.nt_status.specs.declared.limits.TheConstants.{MAX_HANDLES}
 use Rattle.nt_status.specs.declared.refusal.Refusal.{Refusal}
+use Rattle.nt_objects.specs.declared.object.Object.TheVariants.{Gone}
 use Rattle.nt_calls.specs.declared.call.Act.{Act}
 use Rattle.nt_calls.specs.declared.call.Call.{Call}
 use Rattle.nt_calls.specs.declared.call.Reply.{Reply}
@@ -15,7 +16,9 @@ use Rattle.nt_calls.specs.State.{State}
 use Rattle.nt_calls.specs.Moves.{Moves, pended, is_wait}
 use Rattle.nt_calls.specs.Living.{is_opened}
 use Rattle.nt_calls.specs.Steps.{Called}
-use Rattle.nt_core.specs.Dispatcher.{Dispatcher}
+use Rattle.nt_core.specs.Dispatcher.{Dispatcher, state}
+use Rattle.nt_core.specs.Accepts.{IsLocal}
+use Rattle.nt_calls.specs.Naming.{call_named}
 use Rattle.nt_core.specs.Renewals.{is_closed, is_vacant, is_left, AddsVacant, CreatesAgain, DuplicatesAgain, BeginsAgain}
 use Rattle.nt_life.specs.declared.begun.Begun.{Begun}
 
@@ -26,10 +29,14 @@ pub record Spares : Type 0 where
   pub closed : List ℕ
   pub unnamed : List ℕ
 
--- a dispatcher, and the numbers that are spare in it
+-- no number is spare
+abbrev pub no_spares : Spares
+no_spares = record { closed = []; unnamed = [] }
+
+-- a dispatcher, and the numbers that are spare in it; none if it gives no number again
 pub record WithSpare : Type 0 where
   pub core : Dispatcher
-  pub spare : Spares
+  pub spare : Option Spares
 
 -- the object is no thread's, and no open handle names it
 abbrev pub is_unnamed : State → ℕ → Bool
@@ -52,6 +59,11 @@ last_closed spare = slice_index_or spare.closed (length spare.closed - 1) 0
 -- the number of the object of which the last handle was closed last
 abbrev pub last_unnamed : Spares → ℕ
 last_unnamed spare = slice_index_or spare.unnamed (length spare.unnamed - 1) 0
+
+-- the same; if no number is given again, none is spare
+abbrev pub MaySpare : State → Option Spares → Type 0
+MaySpare s None = Unit {0}
+MaySpare s (Some spare) = IsSpare s spare
 
 -- ---- creations and duplicates
 
@@ -105,6 +117,18 @@ LastsDuplicate old spare who source access result grants new =
 
 -- ---- a call
 
+-- it takes a number, or gives one back: a creation, a duplicate or a close
+abbrev pub is_numbered : Call → Bool
+is_numbered (Call.Act (Act.Duplicate source access)) = true
+is_numbered (Call.Act (Act.Close handle)) = true
+is_numbered (Call.Act act) = is_creation act
+is_numbered call = false
+
+-- the same of a dispatcher that gives numbers again
+abbrev pub gives : Option Spares → Call → Bool
+gives None call = false
+gives (Some spare) call = is_numbered call
+
 abbrev pub LastsAct : State → Spares → ℕ → Act → Result Reply Refusal → List Grant → State → Type 0
 LastsAct old spare who (Act.Duplicate source access) result grants new = LastsDuplicate old spare who source access result grants new
 LastsAct old spare who act result grants new =
@@ -114,6 +138,20 @@ LastsAct old spare who act result grants new =
 abbrev pub LastsCall : State → Spares → ℕ → Call → Result Reply Refusal → List Grant → State → Type 0
 LastsCall old spare who (Call.Act act) result grants new = LastsAct old spare who act result grants new
 LastsCall old spare who call result grants new = Called old who call result grants new
+
+-- the same; if the dispatcher gives no number again, every call is the machine's own
+abbrev pub MakesCall : State → Option Spares → ℕ → Call → Result Reply Refusal → List Grant → State → Type 0
+MakesCall old None who call result grants new = Called old who call result grants new
+MakesCall old (Some spare) who call result grants new = LastsCall old spare who call result grants new
+
+-- the state, or the same with one object number more, of an object that is gone
+abbrev pub IsAsItWas : State → State → Type 0
+IsAsItWas old new = (new ≡ old) ⊎ (new ≡ record old { objects = old.objects ++ Gone ∷ [] })
+
+-- a refused call changes nothing and ends no wait; but it may leave an object number more, where numbers are given again
+abbrev pub IsUnchanged : State → Result Reply Refusal → List Grant → State → Type 0
+IsUnchanged old (Ok reply) grants new = Unit {0}
+IsUnchanged old (Err cause) grants new = (grants ≡ []) × IsAsItWas old new
 
 -- ---- the limit
 
@@ -131,6 +169,11 @@ FindsNone s (Call.Act (Act.Duplicate source access)) = NoHandle s
 FindsNone s (Call.Act act) = (is_creation act ≡ true) × (NoHandle s ⊎ NoObject s)
 FindsNone s call = ⊥
 
+-- the same; if the dispatcher gives no number again, the machine's own words say when there is none
+abbrev pub FindsNoneFor : State → Option Spares → Call → Type 0
+FindsNoneFor s None call = Unit {0}
+FindsNoneFor s (Some spare) call = FindsNone s call
+
 -- ---- threads
 
 -- a thread begins in the place of one that has ended, and its handle gets the number of the handle that was closed last; or nothing
@@ -139,6 +182,11 @@ abbrev pub BeginsSpare : State → Spares → Option Begun → List Grant → St
 BeginsSpare old spare (Some begun) grants new =
     (0 < length spare.closed) × (begun.handle ≡ last_closed spare) × BeginsAgain old begun.thread begun.handle (Ok (Reply.Handle begun.handle)) grants new
 BeginsSpare old spare None grants new = ((length spare.closed ≡ 0) ⊎ ((t : ℕ) → is_left old t ≡ false)) × (new ≡ old)
+
+-- the same; none begins if no number is given again
+abbrev pub MayBegin : State → Option Spares → Option Begun → List Grant → State → Type 0
+MayBegin old None begun grants new = (begun ≡ None) × (new ≡ old)
+MayBegin old (Some spare) begun grants new = BeginsSpare old spare begun grants new
 
 -- ---- what every call keeps
 
@@ -150,6 +198,18 @@ pub record KeepsPace (old : State) (who : ℕ) (call : Call) (result : Result Re
   pub waits : pended result ≡ true → is_wait call ≡ true
   pub moment : new.now ≡ old.now
 
+-- the call may be a renewal: it is a creation or a duplicate, and numbers are given again
+abbrev pub may_renew : Option Spares → Call → Bool
+may_renew None call = false
+may_renew (Some spare) (Call.Act (Act.Duplicate source access)) = true
+may_renew (Some spare) (Call.Act act) = is_creation act
+may_renew (Some spare) call = false
+
+-- a call that is no renewal looks at no waits but those that it must, and a refused one at none
+pub record LooksAt (old : Dispatcher) (spare : Option Spares) (who : ℕ) (call : Call) (result : Result Reply Refusal) (new : Dispatcher) : Type 0 where
+  pub local : may_renew spare call ≡ false → OnOk result (IsLocal (state old) who (call_named old.handles call) new.table.looked new.grants)
+  pub untested : may_renew spare call ≡ false → OnErr result (new.table.looked ≡ 0)
+
 -- ---- which number comes next
 
 -- the last number is taken, or none
@@ -160,3 +220,13 @@ Pops old new = (new ≡ old) ⊎ ((n : ℕ) × (old ≡ new ++ n ∷ []))
 abbrev pub IsStacked : Call → Result Reply Refusal → List ℕ → List ℕ → Type 0
 IsStacked (Call.Act (Act.Close h)) (Ok reply) old new = new ≡ old ++ h ∷ []
 IsStacked call result old new = Pops old new
+
+-- the same; if no number is given again, there is none before or after
+abbrev pub MayStack : Call → Result Reply Refusal → Option Spares → Option Spares → Type 0
+MayStack call result (Some old) (Some new) = IsStacked call result old.closed new.closed
+MayStack call result old new = (old ≡ None) × (new ≡ None)
+
+-- the last number is taken, or none; if no number is given again, there is none before or after
+abbrev pub MayPop : Option Spares → Option Spares → Type 0
+MayPop (Some old) (Some new) = Pops old.closed new.closed
+MayPop old new = (old ≡ None) × (new ≡ None)

@@ -4,7 +4,7 @@ ghost use Rattle.nt_calls.specs.declared.call.Reply.{Reply};
 ghost use Rattle.nt_core.specs.Dispatcher.{state};
 ghost use Rattle.nt_core.specs.Lawful.{IsLawful};
 ghost use Rattle.nt_core.specs.Renewals.{is_closed, is_left, BeginsAgain};
-ghost use Rattle.nt_life.specs.Lasting.{IsSpare, BeginsSpare, Pops};
+ghost use Rattle.nt_life.specs.Lasting.{IsSpare, MaySpare, BeginsSpare, MayBegin, Pops, MayPop};
 
 use crate::begun::Begun;
 use crate::spare::Spare;
@@ -30,7 +30,7 @@ fn begin_first(core: &mut Core, handle: Handle) -> Option<u32>
 }
 
 /// A thread begins in the place of one that has ended, and its handle gets the number of the handle that was closed last.
-pub(crate) fn begin(core: &mut Core, spare: &mut Spare) -> Option<Begun>
+fn begin(core: &mut Core, spare: &mut Spare) -> Option<Begun>
     requires lawful { IsLawful core.old }
     requires spare { IsSpare (state core.old) spare.old }
     ensures begun { BeginsSpare (state core.old) spare.old result core.new.grants (state core.new) }
@@ -42,4 +42,19 @@ pub(crate) fn begin(core: &mut Core, spare: &mut Spare) -> Option<Begun>
     let thread = begin_first(core, handle)?;
     spare.take_handle();
     Some(Begun { thread, handle })
+}
+
+/// The same; none begins if each number is given once.
+pub(crate) fn begin_with(core: &mut Core, spare: &mut Option<Spare>) -> Option<Begun>
+    requires lawful { IsLawful core.old }
+    requires spare { MaySpare (state core.old) spare.old }
+    ensures begun { MayBegin (state core.old) spare.old result core.new.grants (state core.new) }
+    ensures lawful { IsLawful core.new }
+    ensures spare { MaySpare (state core.new) spare.new }
+    ensures stacked { MayPop spare.old spare.new }
+{
+    match spare {
+        Some(spare) => begin(core, spare),
+        None => None,
+    }
 }

@@ -1,5 +1,5 @@
 //! Creations, duplicates and closes, and what they do to the spare numbers.
-ghost use Rattle.std.specs.Prelude.{◌≡◌, ◌<◌, ◌≤◌, ◌↔◌, ◌⊎◌, ℕ, true, length, slice_index_or, Err, ◌++◌, ◌∷◌, [], OnOk, OnErr};
+ghost use Rattle.std.specs.Prelude.{◌≡◌, ◌<◌, ◌≤◌, ◌↔◌, ◌⊎◌, ℕ, true, length, slice_index_or, Err, Some, IfSome, false, ◌++◌, ◌∷◌, [], OnOk, OnErr};
 ghost use Rattle.nt_status.specs.declared.limits.TheConstants.{MAX_HANDLES};
 ghost use Rattle.nt_status.specs.declared.refusal.Refusal.TheVariants.{HandleLimit};
 ghost use Rattle.nt_calls.specs.declared.call.Call.{Call};
@@ -8,7 +8,9 @@ ghost use Rattle.nt_calls.specs.Steps.{Called};
 ghost use Rattle.nt_core.specs.Dispatcher.{state};
 ghost use Rattle.nt_core.specs.Lawful.{IsLawful};
 ghost use Rattle.nt_core.specs.Renewals.{CreatesAgain};
-ghost use Rattle.nt_life.specs.Lasting.{IsSpare, NoHandle, NoObject, CreatesSpare, CreatesMore, CreatesElse, LastsCreation, LastsDuplicate, LastsAct, FindsNone, KeepsPace, Pops, IsStacked, is_creation, is_unnamed, last_closed};
+ghost use Rattle.nt_calls.specs.Naming.{call_named};
+ghost use Rattle.nt_core.specs.Accepts.{IsLocal};
+ghost use Rattle.nt_life.specs.Lasting.{IsSpare, MaySpare, MakesCall, FindsNoneFor, LastsCall, MayStack, LooksAt, IsUnchanged, gives, is_numbered, NoHandle, NoObject, CreatesSpare, CreatesMore, CreatesElse, LastsCreation, LastsDuplicate, LastsAct, FindsNone, KeepsPace, Pops, IsStacked, is_creation, is_unnamed, last_closed};
 
 use crate::spare::Spare;
 use nt_core::{Act, Call, Core, Reply};
@@ -187,6 +189,9 @@ fn close(
     ensures called { Called (state core.old) who call.now result core.new.grants (state core.new) }
     ensures pace { KeepsPace (state core.old) who (Call.Act (Act.Close handle))
         result core.new.grants (state core.new) }
+    ensures local { OnOk result (IsLocal (state core.old) who
+        (call_named core.old.handles call.now) core.new.table.looked core.new.grants) }
+    ensures untested { OnErr result (core.new.table.looked ≡ 0) }
     ensures lawful { IsLawful core.new }
     ensures spare { IsSpare (state core.new) spare.new }
     ensures stacked { OnOk result (spare.new.closed ≡ spare.old.closed ++ handle ∷ []) }
@@ -228,6 +233,7 @@ pub(crate) fn make_act(
     ensures lasts { LastsAct (state core.old) spare.old who act.now result core.new.grants (state core.new) }
     ensures limit { result ≡ Err HandleLimit → FindsNone (state core.old) (Call.Act act.now) }
     ensures pace { KeepsPace (state core.old) who (Call.Act act.now) result core.new.grants (state core.new) }
+    ensures looks { LooksAt core.old (Some spare.old) who (Call.Act act.now) result core.new }
     ensures lawful { IsLawful core.new }
     ensures spare { IsSpare (state core.new) spare.new }
     ensures stacked { IsStacked (Call.Act act.now) result spare.old.closed spare.new.closed }
@@ -241,5 +247,68 @@ pub(crate) fn make_act(
             }
             core.call(who, call)
         }
+    }
+}
+
+/// Whether the call takes a number or gives one back.
+#[inline(always)]
+fn is_numbered(call: &Call) -> bool
+    ensures { result ≡ is_numbered call.now }
+{
+    match call {
+        Call::Act(act) => matches!(act, Act::Duplicate { .. } | Act::Close(_)) || is_creation(act),
+        _ => false,
+    }
+}
+
+/// A call of a dispatcher that gives numbers again.
+fn call_giving(core: &mut Core, spare: &mut Spare, who: u32, call: &Call) -> Result<Reply, Refusal>
+    requires lawful { IsLawful core.old }
+    requires spare { IsSpare (state core.old) spare.old }
+    ensures lasts { LastsCall (state core.old) spare.old who call.now result core.new.grants (state core.new) }
+    ensures limit { result ≡ Err HandleLimit → FindsNone (state core.old) call.now }
+    ensures taken { FindsNone (state core.old) call.now → OnOk result ⊥ }
+    ensures stacked { IsStacked call.now result spare.old.closed spare.new.closed }
+    ensures pace { KeepsPace (state core.old) who call.now result core.new.grants (state core.new) }
+    ensures looks { LooksAt core.old (Some spare.old) who call.now result core.new }
+    ensures lawful { IsLawful core.new }
+    ensures spare { IsSpare (state core.new) spare.new }
+{
+    match call {
+        Call::Act(act) => make_act(core, spare, who, act, call),
+        _ => core.call(who, call),
+    }
+}
+
+/// Whether the call takes a number or gives one back that may be given again.
+#[inline(always)]
+pub(crate) fn gives(spare: &Option<Spare>, call: &Call) -> bool
+    ensures { result ≡ gives spare.now call.now }
+{
+    is_numbered(call) && spare.is_some()
+}
+
+/// A call. If there are spare numbers, creations and duplicates take them, and closes give them back.
+pub(crate) fn make_call(
+    core: &mut Core,
+    spare: &mut Option<Spare>,
+    who: u32,
+    call: &Call,
+) -> Result<Reply, Refusal>
+    requires lawful { IsLawful core.old }
+    requires spare { MaySpare (state core.old) spare.old }
+    ensures makes { MakesCall (state core.old) spare.old who call.now result core.new.grants (state core.new) }
+    ensures limit { result ≡ Err HandleLimit → FindsNoneFor (state core.old) spare.old call.now }
+    ensures taken { IfSome spare.old (λ spare. FindsNone (state core.old) call.now → OnOk result ⊥) }
+    ensures stacked { MayStack call.now result spare.old spare.new }
+    ensures pace { KeepsPace (state core.old) who call.now result core.new.grants (state core.new) }
+    ensures unchanged { IsUnchanged (state core.old) result core.new.grants (state core.new) }
+    ensures looks { LooksAt core.old spare.old who call.now result core.new }
+    ensures lawful { IsLawful core.new }
+    ensures spare { MaySpare (state core.new) spare.new }
+{
+    match spare {
+        Some(spare) => call_giving(core, spare, who, call),
+        None => core.call(who, call),
     }
 }

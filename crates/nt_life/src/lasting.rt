@@ -1,6 +1,6 @@
 //! The dispatcher that lasts.
-ghost use Rattle.std.specs.Prelude.{◌≡◌, ◌≤◌, ◌+◌, ◌&&◌, ℕ, true, false, length, [], nat_le, IfOk, IfErr, OnOk, OnErr, MatchBool, Err};
-ghost use Rattle.nt_status.specs.declared.limits.TheConstants.{MAX_THREADS};
+ghost use Rattle.std.specs.Prelude.{◌≡◌, ◌≤◌, ◌+◌, ◌&&◌, ℕ, true, false, length, [], nat_le, IfOk, IfErr, OnOk, OnErr, MatchBool, Err, Some, None, IfSome};
+ghost use Rattle.nt_status.specs.declared.limits.TheConstants.{MAX_MANY_THREADS, MAX_THREADS};
 ghost use Rattle.nt_status.specs.declared.refusal.Refusal.TheVariants.{HandleLimit, InvalidParameter, Memory};
 ghost use Rattle.nt_calls.specs.State.{opening};
 ghost use Rattle.nt_calls.specs.Steps.{Called, Ticked};
@@ -12,22 +12,23 @@ ghost use Rattle.nt_calls.specs.declared.call.Call.{Call};
 ghost use Rattle.nt_calls.specs.declared.call.WaitCall.{WaitCall};
 ghost use Rattle.nt_core.specs.Dispatcher.{state};
 ghost use Rattle.nt_core.specs.Lawful.{IsLawful};
-ghost use Rattle.nt_life.specs.Lasting.{IsSpare, LastsCall, FindsNone, BeginsSpare, KeepsPace, Pops, IsStacked};
+ghost use Rattle.nt_life.specs.Lasting.{MaySpare, MakesCall, FindsNone, FindsNoneFor, MayBegin, KeepsPace, LooksAt, IsUnchanged, MayPop, MayStack, no_spares};
 
-use crate::beginning::begin;
+use crate::beginning::begin_with;
 use crate::begun::Begun;
-use crate::giving::make_act;
-use crate::spare::Spare;
+use crate::giving::{gives, make_call};
+use crate::spare::{Spare, copy_of};
 use nt_core::{Call, Core, Reply};
 use nt_status::{Handle, Moment, Refusal};
 use std::alloc::Global;
 use std::marker::Model;
 
-/// A dispatcher for a fixed number of threads, driven by one, that gives numbers again.
+/// A dispatcher for a fixed number of threads, driven by one, that gives numbers again, or gives each once.
 #[derive(Drop)]
 pub struct Lasting {
     core: Core,
-    spare: Spare,
+    /// None if each number is given once.
+    spare: Option<Spare>,
 }
 
 impl Model for Lasting {
@@ -35,7 +36,7 @@ impl Model for Lasting {
     ghost use Rattle.nt_waits.specs.Waits.{waits_code};
     ghost use Rattle.nt_core.specs.Dispatcher.{state};
     ghost use Rattle.nt_core.specs.Lawful.{IsLawful};
-    ghost use Rattle.nt_life.specs.Lasting.{WithSpare, IsSpare};
+    ghost use Rattle.nt_life.specs.Lasting.{WithSpare, MaySpare};
 
     ghost Value = { WithSpare };
 
@@ -43,26 +44,46 @@ impl Model for Lasting {
 
     ghost view = { λ l. record { core = l.core; spare = l.spare } };
 
-    ghost invariant = { λ l. IsLawful l.core × IsSpare (state l.core) l.spare };
+    ghost invariant = { λ l. IsLawful l.core × MaySpare (state l.core) l.spare };
 }
 
 impl Lasting {
-    /// A dispatcher whose threads run and wait for nothing, and no number is spare.
+    /// A dispatcher that gives numbers again. Its threads run and wait for nothing, and no number is spare.
+    ///
+    /// Refused with 87 unless there are 1 to `MAX_MANY_THREADS` threads, and with 8 if memory is refused.
+    pub fn new(alloc: Global, threads: u32) -> Result<Lasting, Refusal>
+        ensures ok { IfOk result (λ life. (1 ≤ threads) × (threads ≤ MAX_MANY_THREADS)
+            × (state life.core ≡ opening threads) × (life.core.grants ≡ [])) }
+        ensures none { IfOk result (λ life. life.spare ≡ Some no_spares) }
+        ensures untested { IfOk result (λ life. life.core.table.looked ≡ 0) }
+        ensures err { IfErr result (λ r.
+            MatchBool (nat_le 1 threads && nat_le threads MAX_MANY_THREADS) (r ≡ Memory) (r ≡ InvalidParameter)) }
+    {
+        let core = Core::with_many_threads(alloc, threads)?;
+        let spare = Spare::new(alloc)?;
+        Ok(Lasting {
+            core,
+            spare: Some(spare),
+        })
+    }
+
+    /// A dispatcher that gives each number once, so that each of its calls is the machine's own. Its threads run and wait for nothing.
     ///
     /// Refused with 87 unless there are 1 to `MAX_THREADS` threads, and with 8 if memory is refused.
-    pub fn new(alloc: Global, threads: u32) -> Result<Lasting, Refusal>
+    pub fn once(alloc: Global, threads: u32) -> Result<Lasting, Refusal>
         ensures ok { IfOk result (λ life. (1 ≤ threads) × (threads ≤ MAX_THREADS)
             × (state life.core ≡ opening threads) × (life.core.grants ≡ [])) }
-        ensures none { IfOk result (λ life. (life.spare.closed ≡ []) × (life.spare.unnamed ≡ [])) }
+        ensures none { IfOk result (λ life. life.spare ≡ None) }
+        ensures untested { IfOk result (λ life. life.core.table.looked ≡ 0) }
         ensures err { IfErr result (λ r.
             MatchBool (nat_le 1 threads && nat_le threads MAX_THREADS) (r ≡ Memory) (r ≡ InvalidParameter)) }
     {
         let core = Core::new(alloc, threads)?;
-        let spare = Spare::new(alloc)?;
-        Ok(Lasting { core, spare })
+        Ok(Lasting { core, spare: None })
     }
 
     /// The dispatcher, to be read: its grants, its present moment, whether a thread waits, and so on.
+    #[inline(always)]
     pub fn core(&self) -> &Core
         ensures { result.now ≡ self.now.core }
     {
@@ -72,27 +93,34 @@ impl Lasting {
     /// Tells that the dispatcher is lawful and that each number that may be given again is spare once, and does nothing.
     pub fn stands(&self)
         ensures lawful { IsLawful self.now.core }
-        ensures spare { IsSpare (state self.now.core) self.now.spare }
+        ensures spare { MaySpare (state self.now.core) self.now.spare }
     {
         let _ = &self.core;
     }
 
     /// Makes the call of this thread, and answers its reply or why it is refused. A creation and a duplicate take the numbers that were
     /// freed last, if there are any, and are refused with HandleLimit only if 65,536 handles are open, or no object number is free.
+    /// If each number is given once, every call is the machine's own.
     ///
-    /// The pending waits that it ends are in `core().grants()`. It takes no memory unless `Core::call` does.
+    /// The pending waits that it ends are in `core().grants()`. It takes no memory unless `Core::call` does. A refused call changes
+    /// nothing.
+    #[inline(always)]
     pub fn call(&mut self, who: u32, call: &Call) -> Result<Reply, Refusal>
-        ensures lasts { LastsCall (state self.old.core) self.old.spare who call.now
+        ensures makes { MakesCall (state self.old.core) self.old.spare who call.now
             result self.new.core.grants (state self.new.core) }
-        ensures limit { result ≡ Err HandleLimit → FindsNone (state self.old.core) call.now }
-        ensures taken { FindsNone (state self.old.core) call.now → OnOk result ⊥ }
-        ensures stacked { IsStacked call.now result self.old.spare.closed self.new.spare.closed }
+        ensures limit { result ≡ Err HandleLimit → FindsNoneFor (state self.old.core) self.old.spare call.now }
+        ensures taken { IfSome self.old.spare (λ spare. FindsNone (state self.old.core) call.now → OnOk result ⊥) }
+        ensures stacked { MayStack call.now result self.old.spare self.new.spare }
         ensures pace { KeepsPace (state self.old.core) who call.now result self.new.core.grants (state self.new.core) }
+        ensures unchanged { IsUnchanged (state self.old.core) result self.new.core.grants (state self.new.core) }
+        ensures looks { LooksAt self.old.core self.old.spare who call.now result self.new.core }
+        ensures lawful { IsLawful self.new.core }
     {
-        match call {
-            Call::Act(act) => make_act(&mut self.core, &mut self.spare, who, act, call),
-            _ => self.core.call(who, call),
+        // (Here, so that each other call is as short as a `Core`'s.)
+        if !gives(&self.spare, call) {
+            return self.core.call(who, call);
         }
+        make_call(&mut self.core, &mut self.spare, who, call)
     }
 
     /// The call `WaitCall::Objects` of this thread, as `Core::wait_objects` makes it.
@@ -115,6 +143,7 @@ impl Lasting {
             ≤ map.len (state self.old.core).waits + 1 }
         ensures moment { (state self.new.core).now ≡ (state self.old.core).now }
         ensures untested { OnErr result (self.new.core.table.looked ≡ 0) }
+        ensures lawful { IsLawful self.new.core }
         ensures spare { self.new.spare ≡ self.old.spare }
     {
         self.core.wait_objects(who, handles, all, alertable, ms)
@@ -130,6 +159,7 @@ impl Lasting {
         ensures moves { (by : ℕ) → Moves (state self.old.core) by false self.new.core.grants (state self.new.core) }
         ensures moment { IsMomentAfter (state self.old.core).now m result (state self.new.core).now }
         ensures untested { OnErr result (self.new.core.table.looked ≡ 0) }
+        ensures lawful { IsLawful self.new.core }
         ensures spare { self.new.spare ≡ self.old.spare }
     {
         self.core.tick(m)
@@ -138,12 +168,14 @@ impl Lasting {
     /// A thread begins in the place of one that has ended and whose object is gone, with the number of the handle that was closed last.
     /// It takes no memory.
     ///
-    /// None if there is no such place, or no handle is closed. An event that is made and closed at once leaves a closed handle.
+    /// None if there is no such place, or no handle is closed, or each number is given once. An event that is made and closed at once
+    /// leaves a closed handle.
     pub fn begin(&mut self) -> Option<Begun>
-        ensures begun { BeginsSpare (state self.old.core) self.old.spare result self.new.core.grants (state self.new.core) }
-        ensures stacked { Pops self.old.spare.closed self.new.spare.closed }
+        ensures begun { MayBegin (state self.old.core) self.old.spare result self.new.core.grants (state self.new.core) }
+        ensures lawful { IsLawful self.new.core }
+        ensures stacked { MayPop self.old.spare self.new.spare }
     {
-        begin(&mut self.core, &mut self.spare)
+        begin_with(&mut self.core, &mut self.spare)
     }
 
     /// An equal dispatcher in memory of its own, as a point to come back to. Each goes its own way from then on.
@@ -153,7 +185,7 @@ impl Lasting {
         ensures value { IfOk result (λ copied. copied ≡ self.now) }
         ensures memory { IfErr result (λ refusal. refusal ≡ Memory) }
     {
-        let spare = self.spare.copy()?;
+        let spare = copy_of(&self.spare)?;
         let core = self.core.copy()?;
         Ok(Lasting { core, spare })
     }

@@ -23,6 +23,8 @@
 //! and no other number does, by the invariant of the type. So none is lost, and none is given twice. An object that no handle names may
 //! live on while a wait names it, and so it is asked about before its number is given. What is alive keeps its number.
 //!
+//! Opened by `Lasting::once` it gives each number once, and each of its calls is the machine's own. So one type serves whoever may want either.
+//!
 //! The lists have room for all numbers from the opening on, so that closing never takes memory: 512 KiB of addresses, of which what is used
 //! once is touched.
 #![tactic(auto)]

@@ -168,3 +168,13 @@ impl Spare {
         place
     }
 }
+
+/// The same numbers in memory of their own; none of none.
+pub(crate) fn copy_of(spare: &Option<Spare>) -> Result<Option<Spare>, AllocError>
+    ensures { IfOk result (λ copied. copied ≡ spare.now) }
+{
+    match spare {
+        Some(spare) => Ok(Some(spare.copy()?)),
+        None => Ok(None),
+    }
+}

@@ -4,7 +4,7 @@ use Rattle.std.specs.Prelude.{Result, Ok, Err, OnErr, is_some}
 use Rattle.std.specs.FinMap as map
 use Rattle.nt_core.specs.Dispatcher.{Dispatcher, state}
 use Rattle.std.proofs.lemmas.List.{length-replicate}
-use Rattle.nt_status.specs.declared.limits.TheConstants.{MAX_MOMENT, MAX_THREADS}
+use Rattle.nt_status.specs.declared.limits.TheConstants.{MAX_MOMENT, MAX_MANY_THREADS}
 use Rattle.nt_status.specs.declared.refusal.Refusal.{Refusal}
 use Rattle.nt_alarms.specs.Alarms.{alarm_at, IsQuiet, IsEarliest, IsLowestAt}
 use Rattle.nt_calls.specs.declared.call.Grant.{Grant}
@@ -15,7 +15,11 @@ use Rattle.nt_calls.specs.State.{State, Pending, pends}
 use Rattle.nt_calls.specs.declared.call.Call.{Call}
 use Rattle.nt_calls.specs.Steps.{IsNextMoment, NothingDue, Called, Ticked}
 use Rattle.nt_calls.specs.Moves.{Moves, pended, one_if, granted_to}
-use Rattle.nt_sleepers.specs.Sleepers.{Sleeping, Woke, Watches, TimeIsKept, CalledWaits, IsInTime, IsShortEnough, IsCalled, SleepsUpTo, NoneUpTo, OnlyWaiting, without_woken, set_if, with_called, settled, deadline_of}
+use Rattle.nt_life.specs.Lasting.{IsAsItWas, IsUnchanged}
+use Rattle.nt_sleepers.proofs.Renewing.{kept_as_it_was}
+use Rattle.nt_sleepers.specs.Sleepers.{Sleeping, Woke, Watches, TimeIsKept, CalledWaits, IsWatched, MeetsDeadlines, IsShortEnough, IsCalled, SleepsUpTo, NoneUpTo, OnlyWaiting, without_woken, set_if, with_called, settled, deadline_of, SleepsTo}
+use Rattle.nt_sleepers.proofs.Staying.{StayedOrBegan}
+use Rattle.nt_sleepers.proofs.Deadlines.{deadlines_after, deadlines_watch, deadlines_stop, in_time, watched}
 use Rattle.nt_sleepers.proofs.Counts.{other_stands, woken_length, set_if_length, called_length, begun_waits, woken_waiting, set_waiting, set_if_waiting}
 
 inside : (alarms : List (Option ℕ)) (place m : ℕ) → alarm_at alarms place ≡ Some m → place < length alarms
@@ -37,16 +41,16 @@ some_up_to alarms u first earliest soon = (earliest.set.0, first, earliest.set.1
 
 -- ---- who is called
 
-pub in_time_quiet : (s : State) (alarms watchers : List (Option ℕ)) → IsQuiet watchers → IsInTime s alarms watchers
+pub in_time_quiet : (s : State) (alarms watchers : List (Option ℕ)) → IsQuiet watchers → IsWatched s alarms watchers
 in_time_quiet s alarms watchers quiet u low awaited = inl quiet
 
-pub in_time_idle : (s : State) (alarms watchers : List (Option ℕ)) (up_to : ℕ) → up_to ≡ MAX_MOMENT → NothingDue s up_to → IsInTime s alarms watchers
+pub in_time_idle : (s : State) (alarms watchers : List (Option ℕ)) (up_to : ℕ) → up_to ≡ MAX_MOMENT → NothingDue s up_to → IsWatched s alarms watchers
 in_time_idle s alarms watchers up_to is none u low awaited = (let late = none u awaited in absurd (omega (arith, is, low, late)))
 
-pub in_time_soon : (s : State) (alarms watchers : List (Option ℕ)) (up_to due : ℕ) → IsNextMoment s up_to due → SleepsUpTo alarms due → IsInTime s alarms watchers
+pub in_time_soon : (s : State) (alarms watchers : List (Option ℕ)) (up_to due : ℕ) → IsNextMoment s up_to due → SleepsUpTo alarms due → IsWatched s alarms watchers
 in_time_soon s alarms watchers up_to due next (t, m, is, soon) u low awaited = (let least = next.2 u awaited in inr (t, m, is, omega (arith, soon, least)))
 
-pub in_time_called : (s : State) (alarms watchers : List (Option ℕ)) (place mark : ℕ) → length watchers ≡ length alarms → IsLowestAt watchers mark place → IsInTime s (slice_set alarms place (Some 0)) watchers
+pub in_time_called : (s : State) (alarms watchers : List (Option ℕ)) (place mark : ℕ) → length watchers ≡ length alarms → IsLowestAt watchers mark place → IsWatched s (slice_set alarms place (Some 0)) watchers
 in_time_called s alarms watchers place mark same lowest u low awaited =
     let near = inside watchers place mark lowest.here in
     inr (place, 0, get_or-set_same alarms place (Some 0) None (omega (arith, near, same)), omega arith)
@@ -74,48 +78,58 @@ none_waits : (s : State) (count : ℕ) → OnlyWaiting s (replicate count None)
 none_waits s count t m is = (let none = none_at_first count t in absurd (cc (none, is)))
 
 -- nobody sleeps at first
-kept_at_first : (s : State) (count : ℕ) → count ≤ MAX_THREADS → TimeIsKept s (replicate count None) (replicate count None)
-kept_at_first s count few = record {
+back_at_first : (s : State) (count : ℕ) → MeetsDeadlines s (replicate count None)
+back_at_first s count t u due = inl (none_at_first count t)
+
+kept_at_first : (s : State) (count : ℕ) → count ≤ MAX_MANY_THREADS → s.threads ≡ count → TimeIsKept s (replicate count None) (replicate count None)
+kept_at_first s count few all = record {
   few = (let as_many = length-replicate {A = Option ℕ} count None in omega (arith, few, as_many));
+  places = length-replicate {A = Option ℕ} count None ∙ sym all;
   count = refl;
   asleep = none_waits s count;
   watching = none_waits s count;
-  in_time = in_time_quiet s (replicate count None) (replicate count None) (none_at_first count);
+  deadlines = back_at_first s count;
+  in_time = in_time s (replicate count None) (replicate count None) (back_at_first s count) (in_time_quiet s (replicate count None) (replicate count None) (none_at_first count));
 }
 
-pub kept_first : (s : State) (count : ℕ) (alarms watchers : List (Option ℕ)) → count ≤ MAX_THREADS → alarms ≡ replicate count None → watchers ≡ replicate count None → TimeIsKept s alarms watchers
-kept_first s count alarms watchers few alarms-are watchers-are =
+pub kept_first : (s : State) (count : ℕ) (alarms watchers : List (Option ℕ)) → count ≤ MAX_MANY_THREADS → s.threads ≡ count → alarms ≡ replicate count None → watchers ≡ replicate count None → TimeIsKept s alarms watchers
+kept_first s count alarms watchers few all alarms-are watchers-are =
     subst (λ (xs : List (Option ℕ)). TimeIsKept s xs watchers) (sym alarms-are)
-    (subst (λ (xs : List (Option ℕ)). TimeIsKept s (replicate count None) xs) (sym watchers-are) (kept_at_first s count few))
+    (subst (λ (xs : List (Option ℕ)). TimeIsKept s (replicate count None) xs) (sym watchers-are) (kept_at_first s count few all))
 
 called_waiting : (s : State) (settled alarms watchers : List (Option ℕ)) (called : Option ℕ) → OnlyWaiting s watchers → IsCalled s settled watchers called → OnlyWaiting s alarms → OnlyWaiting s (with_called called alarms)
 called_waiting s settled alarms watchers None watching is before = before
 called_waiting s settled alarms watchers (Some t) watching is before = set_waiting s t (Some 0) alarms (watching t is.0 is.2) before
 
 -- after a call or tick; the caller's alarm is this where its wait began
-pub kept_after : (old new : State) (who : ℕ) (began : Bool) (gs : List Grant) (own called : Option ℕ) (alarms watchers alarms' watchers' : List (Option ℕ)) → Moves old who began gs new → TimeIsKept old alarms watchers → alarms' ≡ with_called called (set_if began who own (without_woken gs alarms)) → watchers' ≡ without_woken gs watchers → IsCalled new (set_if began who own (without_woken gs alarms)) watchers' called → IsInTime new alarms' watchers' → TimeIsKept new alarms' watchers'
-kept_after old new who began gs own called alarms watchers alarms' watchers' moves kept alarms-are watchers-are is in_time =
+pub kept_after : (old new : State) (who : ℕ) (began : Bool) (gs : List Grant) (own called : Option ℕ) (alarms watchers alarms' watchers' : List (Option ℕ)) → Moves old who began gs new → StayedOrBegan old who began new → (began ≡ true → own ≡ deadline_of (map.get new.waits who)) → TimeIsKept old alarms watchers → alarms' ≡ with_called called (set_if began who own (without_woken gs alarms)) → watchers' ≡ without_woken gs watchers → IsCalled new (set_if began who own (without_woken gs alarms)) watchers' called → IsWatched new alarms' watchers' → TimeIsKept new alarms' watchers'
+kept_after old new who began gs own called alarms watchers alarms' watchers' moves stayed own-is kept alarms-are watchers-are is watched =
     let settled = set_if began who own (without_woken gs alarms) in
     let watching : OnlyWaiting new watchers' = subst (OnlyWaiting new) (sym watchers-are) (woken_waiting old new who began gs watchers moves kept.watching) in
     let waits : OnlyWaiting new settled = set_if_waiting new began who own (without_woken gs alarms) (λ b. begun_waits old new who gs (subst (λ (x : Bool). Moves old who x gs new) b moves)) (woken_waiting old new who began gs alarms moves kept.asleep) in
     let few = ap length alarms-are ∙ called_length called settled ∙ set_if_length began who own (without_woken gs alarms) ∙ woken_length gs alarms in
     let enough = kept.few in
+    let back = deadlines_after old new who began gs own called alarms alarms' stayed own-is kept.deadlines alarms-are in
     record {
       few = omega (arith, few, enough);
+      places = few ∙ kept.places ∙ sym moves.threads;
       count = ap length watchers-are ∙ woken_length gs watchers ∙ kept.count ∙ sym few;
       asleep = subst (OnlyWaiting new) (sym alarms-are) (called_waiting new settled settled watchers' called watching is waits);
       watching = watching;
-      in_time = in_time;
+      deadlines = back;
+      in_time = in_time new alarms' watchers' back watched;
     }
 
 -- a watcher more
-pub kept_watch : (s : State) (alarms watchers alarms' watchers' : List (Option ℕ)) (t : ℕ) (moment : Option ℕ) → pends s t ≡ true → t < length alarms → TimeIsKept s alarms watchers → alarms' ≡ slice_set alarms t moment → watchers' ≡ slice_set watchers t (Some 0) → IsShortEnough s (slice_set alarms t None) moment → TimeIsKept s alarms' watchers'
-kept_watch s alarms watchers alarms' watchers' t moment waits near kept alarms-are watchers-are short = record {
+pub kept_watch : (s : State) (alarms watchers alarms' watchers' : List (Option ℕ)) (t : ℕ) (moment : Option ℕ) → pends s t ≡ true → t < length alarms → TimeIsKept s alarms watchers → SleepsTo s (deadline_of (map.get s.waits t)) moment → alarms' ≡ slice_set alarms t moment → watchers' ≡ slice_set watchers t (Some 0) → IsShortEnough s (slice_set alarms t None) moment → TimeIsKept s alarms' watchers'
+kept_watch s alarms watchers alarms' watchers' t moment waits near kept sleeps alarms-are watchers-are short = record {
   few = (let as_many = ap length alarms-are ∙ length-set alarms t moment in let enough = kept.few in omega (arith, as_many, enough));
+  places = ap length alarms-are ∙ length-set alarms t moment ∙ kept.places;
   count = ap length watchers-are ∙ length-set watchers t (Some 0) ∙ kept.count ∙ sym (ap length alarms-are ∙ length-set alarms t moment);
   asleep = subst (OnlyWaiting s) (sym alarms-are) (set_waiting s t moment alarms waits kept.asleep);
   watching = subst (OnlyWaiting s) (sym watchers-are) (set_waiting s t (Some 0) watchers waits kept.watching);
-  in_time = λ u low awaited. inr (subst (λ (xs : List (Option ℕ)). SleepsUpTo xs u) (sym alarms-are) (elim (short u low awaited) [
+  deadlines = deadlines_watch s alarms alarms' t moment sleeps kept.deadlines alarms-are;
+  in_time = λ u low awaited. inl (subst (λ (xs : List (Option ℕ)). SleepsUpTo xs u) (sym alarms-are) (elim (short u low awaited) [
     | inl itself ↦ (t, itself.0, get_or-set_same alarms t moment None near ∙ itself.1, itself.2)
     | inr other ↦ (let stands = other_stands alarms t other.0 other.1 other.2 in (other.0, other.1, get_or-set_other alarms t other.0 moment None stands.0 ∙ stands.1, other.3))
   ]));
@@ -125,17 +139,20 @@ still_waiting : (s : State) (places : List (Option ℕ)) (t : ℕ) → OnlyWaiti
 still_waiting s places t before o m is = before o m (other_stands places t o m is).1
 
 -- a sleeper less
-pub kept_stop : (s : State) (alarms watchers alarms' watchers' : List (Option ℕ)) (t : ℕ) (called : Option ℕ) → TimeIsKept s alarms watchers → alarms' ≡ with_called called (slice_set alarms t None) → watchers' ≡ slice_set watchers t None → IsCalled s (slice_set alarms t None) watchers' called → IsInTime s alarms' watchers' → TimeIsKept s alarms' watchers'
-kept_stop s alarms watchers alarms' watchers' t called kept alarms-are watchers-are is in_time =
+pub kept_stop : (s : State) (alarms watchers alarms' watchers' : List (Option ℕ)) (t : ℕ) (called : Option ℕ) → TimeIsKept s alarms watchers → alarms' ≡ with_called called (slice_set alarms t None) → watchers' ≡ slice_set watchers t None → IsCalled s (slice_set alarms t None) watchers' called → IsWatched s alarms' watchers' → TimeIsKept s alarms' watchers'
+kept_stop s alarms watchers alarms' watchers' t called kept alarms-are watchers-are is watched =
     let watching : OnlyWaiting s watchers' = subst (OnlyWaiting s) (sym watchers-are) (still_waiting s watchers t kept.watching) in
     let as_many = ap length alarms-are ∙ called_length called (slice_set alarms t None) ∙ length-set alarms t None in
     let enough = kept.few in
+    let back = deadlines_stop s alarms alarms' t called kept.deadlines alarms-are in
     record {
       few = omega (arith, as_many, enough);
+      places = as_many ∙ kept.places;
       count = ap length watchers-are ∙ length-set watchers t None ∙ kept.count ∙ sym (ap length alarms-are ∙ called_length called (slice_set alarms t None) ∙ length-set alarms t None);
       asleep = subst (OnlyWaiting s) (sym alarms-are) (called_waiting s (slice_set alarms t None) (slice_set alarms t None) watchers' called watching is (still_waiting s alarms t kept.asleep));
       watching = watching;
-      in_time = in_time;
+      deadlines = back;
+      in_time = in_time s alarms' watchers' back watched;
     }
 
 -- ---- nothing pended
@@ -185,7 +202,7 @@ idle_watchers watchers gs none = sym (ap (λ xs. without_woken xs watchers) none
 
 -- ---- a refused call calls nobody
 
-not_called : (s : State) (alarms watchers : List (Option ℕ)) (called : Option ℕ) → IsInTime s alarms watchers → IsCalled s alarms watchers called → called ≡ None
+not_called : (s : State) (alarms watchers : List (Option ℕ)) (called : Option ℕ) → IsWatched s alarms watchers → IsCalled s alarms watchers called → called ≡ None
 not_called s alarms watchers None in_time is = refl
 not_called s alarms watchers (Some t) in_time (mark, u, here, low, awaited, none) =
     elim (in_time u low awaited) [
@@ -193,25 +210,33 @@ not_called s alarms watchers (Some t) in_time (mark, u, here, low, awaited, none
       | inr (o, m, is, soon) ↦ (let later = none o m is in absurd (omega (arith, soon, later)))
     ]
 
--- nothing has changed, and nobody is called
-nobody_called : (old new : State) (who : ℕ) (began : Bool) (gs : List Grant) (own called : Option ℕ) (alarms watchers watchers' : List (Option ℕ)) → new ≡ old → gs ≡ [] → began ≡ false → TimeIsKept old alarms watchers → watchers' ≡ without_woken gs watchers → IsCalled new (set_if began who own (without_woken gs alarms)) watchers' called → called ≡ None
-nobody_called old new who began gs own called alarms watchers watchers' same none not kept watchers-are is =
-    let here : IsInTime new alarms watchers = subst (λ (s : State). IsInTime s alarms watchers) (sym same) kept.in_time in
+-- nothing has changed but that, and nobody is called
+nobody_called : (new : State) (who : ℕ) (began : Bool) (gs : List Grant) (own called : Option ℕ) (alarms watchers watchers' : List (Option ℕ)) → gs ≡ [] → began ≡ false → TimeIsKept new alarms watchers → watchers' ≡ without_woken gs watchers → IsCalled new (set_if began who own (without_woken gs alarms)) watchers' called → called ≡ None
+nobody_called new who began gs own called alarms watchers watchers' none not kept watchers-are is =
     let alarms-are : set_if began who own (without_woken gs alarms) ≡ alarms = ap (λ (b : Bool). set_if b who own (without_woken gs alarms)) not ∙ ap (λ xs. without_woken xs alarms) none in
     let as_before : watchers' ≡ watchers = watchers-are ∙ ap (λ xs. without_woken xs watchers) none in
-    not_called new alarms watchers called here
+    not_called new alarms watchers called (watched new alarms watchers kept.in_time)
     (subst (λ (xs : List (Option ℕ)). IsCalled new alarms xs called) as_before
     (subst (λ (xs : List (Option ℕ)). IsCalled new xs watchers' called) alarms-are is))
+
+kept_same : (old new : State) (alarms watchers : List (Option ℕ)) → new ≡ old → TimeIsKept old alarms watchers → TimeIsKept new alarms watchers
+kept_same old new alarms watchers same kept = subst (λ (s : State). TimeIsKept s alarms watchers) (sym same) kept
 
 pub nobody_by_call : (old new : State) (who : ℕ) (call : Call) (result : Result Reply Refusal) (began : Bool) (gs : List Grant) (own called : Option ℕ) (alarms watchers watchers' : List (Option ℕ)) → Called old who call result gs new → began ≡ pended result → TimeIsKept old alarms watchers → watchers' ≡ without_woken gs watchers → IsCalled new (set_if began who own (without_woken gs alarms)) watchers' called → OnErr result (called ≡ None)
 nobody_by_call old new who call (Ok reply) began gs own called alarms watchers watchers' made b kept watchers-are is = tt
 nobody_by_call old new who call (Err r) began gs own called alarms watchers watchers' made b kept watchers-are is =
-    nobody_called old new who began gs own called alarms watchers watchers' made.2 made.1 b kept watchers-are is
+    nobody_called new who began gs own called alarms watchers watchers' made.1 b (kept_same old new alarms watchers made.2 kept) watchers-are is
+
+-- the same where numbers may be given again
+pub nobody_by_renewal : (old new : State) (who : ℕ) (result : Result Reply Refusal) (began : Bool) (gs : List Grant) (own called : Option ℕ) (alarms watchers watchers' : List (Option ℕ)) → IsUnchanged old result gs new → began ≡ pended result → TimeIsKept old alarms watchers → watchers' ≡ without_woken gs watchers → IsCalled new (set_if began who own (without_woken gs alarms)) watchers' called → OnErr result (called ≡ None)
+nobody_by_renewal old new who (Ok reply) began gs own called alarms watchers watchers' made b kept watchers-are is = tt
+nobody_by_renewal old new who (Err r) began gs own called alarms watchers watchers' made b kept watchers-are is =
+    nobody_called new who began gs own called alarms watchers watchers' made.0 b (kept_as_it_was old new alarms watchers made.1 kept) watchers-are is
 
 pub nobody_by_tick : (old new : State) (m : ℕ) (result : Result Reply Refusal) (gs : List Grant) (own called : Option ℕ) (alarms watchers watchers' : List (Option ℕ)) → Ticked old m result gs new → TimeIsKept old alarms watchers → watchers' ≡ without_woken gs watchers → IsCalled new (without_woken gs alarms) watchers' called → OnErr result (called ≡ None)
 nobody_by_tick old new m (Ok reply) gs own called alarms watchers watchers' ticked kept watchers-are is = tt
 nobody_by_tick old new m (Err r) gs own called alarms watchers watchers' ticked kept watchers-are is =
-    nobody_called old new 0 false gs own called alarms watchers watchers' ticked.3 ticked.2 refl kept watchers-are is
+    nobody_called new 0 false gs own called alarms watchers watchers' ticked.2 refl (kept_same old new alarms watchers ticked.3 kept) watchers-are is
 
 -- ---- the same values
 
@@ -230,10 +255,10 @@ woke_still old new who began not none alarms-are watchers-are nobody = record {
   called = subst (λ (c : Option ℕ). IsCalled (state new.core) (settled old.alarms who began new.core) new.watchers c) (sym nobody) tt;
 }
 
--- a refused call has changed nothing
-pub refused : (old new : State) (who : ℕ) (call : Call) (result : Result Reply Refusal) (gs : List Grant) (r : Refusal) → result ≡ Err r → Called old who call result gs new → (pended result ≡ false) × (gs ≡ []) × (new ≡ old)
-refused old new who call (Ok reply) gs r is made = absurd (cc)
-refused old new who call (Err cause) gs r is made = (refl, made.1, made.2)
+-- a refused call has changed nothing that counts here
+pub refused : (old new : State) (result : Result Reply Refusal) (gs : List Grant) (r : Refusal) → result ≡ Err r → IsUnchanged old result gs new → (pended result ≡ false) × (gs ≡ []) × IsAsItWas old new
+refused old new (Ok reply) gs r is made = absurd (cc)
+refused old new (Err cause) gs r is made = (refl, made.0, made.1)
 
 none_before : (old new : State) (who : ℕ) (began : Bool) (gs : List Grant) (t : ℕ) → Moves old who began gs new → gs ≡ [] → map.len new.waits ≡ 0 → pends old t ≡ false
 none_before old new who began gs t moves none left =
@@ -252,6 +277,13 @@ nobody_before : (old new : State) (who : ℕ) (began : Bool) (gs : List Grant) (
 nobody_before old new who began gs None moves none left waits = refl
 nobody_before old new who began gs (Some t) moves none left waits = (let not = none_before old new who began gs t moves none left in absurd (cc (waits, not)))
 
+-- no wait pends, so none times out
+idle_back : (s : State) (alarms : List (Option ℕ)) → map.len s.waits ≡ 0 → MeetsDeadlines s alarms
+idle_back s alarms none t u due =
+    let empty = ap (λ (p : Pending). map.get p t) (map.empty_of_len s.waits none) ∙ map.get-empty nat_cmp t in
+    let not = ap deadline_of empty in
+    absurd (cc (not, due))
+
 -- no wait pends, and none has ended: so none pended
 pub still : (old new : State) (who : ℕ) (began : Bool) (gs : List Grant) (called : Option ℕ) (alarms watchers : List (Option ℕ)) → Moves old who began gs new → gs ≡ [] → map.len new.waits ≡ 0 → TimeIsKept old alarms watchers → CalledWaits old called → (began ≡ false) × (called ≡ None) × TimeIsKept new alarms watchers
 still old new who began gs called alarms watchers moves none left kept waits = (
@@ -259,10 +291,12 @@ still old new who began gs called alarms watchers moves none left kept waits = (
   nobody_before old new who began gs called moves none left waits,
   record {
     few = kept.few;
+    places = kept.places ∙ sym moves.threads;
     count = kept.count;
     asleep = λ t m is. (let was = kept.asleep t m is in let not = none_before old new who began gs t moves none left in absurd (cc (was, not)));
     watching = λ t m is. (let was = kept.watching t m is in let not = none_before old new who began gs t moves none left in absurd (cc (was, not)));
-    in_time = in_time_quiet new alarms watchers (λ t. none_of (alarm_at watchers t) (λ m is. (let was = kept.watching t m is in let not = none_before old new who began gs t moves none left in absurd (cc (was, not)))));
+    deadlines = idle_back new alarms left;
+    in_time = in_time new alarms watchers (idle_back new alarms left) (in_time_quiet new alarms watchers (λ t. none_of (alarm_at watchers t) (λ m is. (let was = kept.watching t m is in let not = none_before old new who began gs t moves none left in absurd (cc (was, not))))));
   },
 )
 

@@ -1,18 +1,21 @@
 -- Who sleeps to which moment.
 use Rattle.std.specs.Prelude.{◌≡◌, ◌⊎◌, ℕ, ◌≤◌, ◌<◌, Bool, true, false, List, [], ◌∷◌, ◌++◌, map, length, slice_set, Option, Some, None}
 use Rattle.std.specs.FinMap.{get}
-use Rattle.nt_status.specs.declared.limits.TheConstants.{MAX_MOMENT, MAX_THREADS}
+use Rattle.nt_status.specs.declared.limits.TheConstants.{MAX_MOMENT, MAX_MANY_THREADS}
 use Rattle.nt_alarms.specs.Alarms.{alarm_at, IsQuiet}
 use Rattle.nt_waits.specs.declared.wait.Wait.{Wait}
 use Rattle.nt_calls.specs.declared.call.Grant.{Grant}
 use Rattle.nt_calls.specs.State.{State, pends}
 use Rattle.nt_calls.specs.Steps.{IsAwaited, IsNextMoment}
 use Rattle.nt_core.specs.Dispatcher.{Dispatcher, state}
+use Rattle.nt_life.specs.Lasting.{Spares}
 use Rattle.nt_sleepers.specs.declared.told.Told.{Told}
 
--- the dispatcher; by thread the moment to which it sleeps by itself, and a mark if a timer may end its wait; and who is called
+-- the dispatcher, and the numbers that are spare in it, if it gives any again; by thread the moment to which it sleeps by itself, and a mark
+-- if a timer may end its wait; and who is called
 pub record Sleeping : Type 0 where
   pub core : Dispatcher
+  pub spare : Option Spares
   pub alarms : List (Option ℕ)
   pub watchers : List (Option ℕ)
   pub called : Option ℕ
@@ -28,19 +31,41 @@ abbrev pub NoneUpTo : List (Option ℕ) → ℕ → Type 0
 NoneUpTo alarms u = (t m : ℕ) → alarm_at alarms t ≡ Some m → u < m
 
 -- whatever is awaited, some thread sleeps no longer than to that moment, or no thread watches
+abbrev pub IsWatched : State → List (Option ℕ) → List (Option ℕ) → Type 0
+IsWatched s alarms watchers = (u : ℕ) → u ≤ MAX_MOMENT → IsAwaited s u → IsQuiet watchers ⊎ SleepsUpTo alarms u
+
+-- when a wait times out
+abbrev pub deadline_of : Option Wait → Option ℕ
+deadline_of None = None
+deadline_of (Some w) = w.deadline
+
+-- this thread sleeps by itself no longer than to this moment, or was stopped, and has no alarm
+abbrev pub IsBack : List (Option ℕ) → ℕ → ℕ → Type 0
+IsBack alarms t u = (alarm_at alarms t ≡ None) ⊎ ((m : ℕ) × (alarm_at alarms t ≡ Some m) × (m ≤ u))
+
+-- each thread whose wait times out is back by then
+abbrev pub MeetsDeadlines : State → List (Option ℕ) → Type 0
+MeetsDeadlines s alarms = (t u : ℕ) → deadline_of (get s.waits t) ≡ Some u → IsBack alarms t u
+
+-- whatever is awaited, some thread sleeps no longer than to that moment; or no thread watches, and only waits of threads that were stopped
+-- time out then. (No thread watches: of each whose wait pends it was said that no timer may end it, or nothing yet.)
 abbrev pub IsInTime : State → List (Option ℕ) → List (Option ℕ) → Type 0
-IsInTime s alarms watchers = (u : ℕ) → u ≤ MAX_MOMENT → IsAwaited s u → IsQuiet watchers ⊎ SleepsUpTo alarms u
+IsInTime s alarms watchers =
+    (u : ℕ) → u ≤ MAX_MOMENT → IsAwaited s u →
+    SleepsUpTo alarms u ⊎ (IsQuiet watchers × ((t : ℕ) → deadline_of (get s.waits t) ≡ Some u → alarm_at alarms t ≡ None))
 
 -- only threads whose waits pend have an alarm, or a mark
 abbrev pub OnlyWaiting : State → List (Option ℕ) → Type 0
 OnlyWaiting s places = (t m : ℕ) → alarm_at places t ≡ Some m → pends s t ≡ true
 
--- whoever sleeps or watches waits, and if anybody watches, the time is kept
+-- whoever sleeps or watches waits, and the time is kept: for each deadline by the thread itself, and for timers by one of those who watch or sleep
 pub record TimeIsKept (s : State) (alarms watchers : List (Option ℕ)) : Type 0 where
-  pub few : length alarms ≤ MAX_THREADS
+  pub few : length alarms ≤ MAX_MANY_THREADS
+  pub places : length alarms ≡ s.threads
   pub count : length watchers ≡ length alarms
   pub asleep : OnlyWaiting s alarms
   pub watching : OnlyWaiting s watchers
+  pub deadlines : MeetsDeadlines s alarms
   pub in_time : IsInTime s alarms watchers
 
 -- who is called waits
@@ -59,11 +84,6 @@ without_woken (g ∷ gs) places = without_woken gs (slice_set places g.thread No
 abbrev pub set_if : Bool → ℕ → Option ℕ → List (Option ℕ) → List (Option ℕ)
 set_if false t x places = places
 set_if true t x places = slice_set places t x
-
--- when a wait times out
-abbrev pub deadline_of : Option Wait → Option ℕ
-deadline_of None = None
-deadline_of (Some w) = w.deadline
 
 -- who is called sleeps no longer than to moment 0
 abbrev pub with_called : Option ℕ → List (Option ℕ) → List (Option ℕ)
@@ -105,6 +125,7 @@ SleepsTo s own moment = (moment ≡ own) ⊎ ((u : ℕ) × (moment ≡ Some u) �
 -- thread t watches from now on, if its wait pends, and sleeps to this moment
 pub record Watches (old : Sleeping) (t : ℕ) (moment : Option ℕ) (new : Sleeping) : Type 0 where
   pub core : new.core ≡ old.core
+  pub spare : new.spare ≡ old.spare
   pub called : new.called ≡ old.called
   pub sleeps : SleepsTo (state old.core) (deadline_of (get (state old.core).waits t)) moment
   pub alarms : new.alarms ≡ set_if (pends (state old.core) t) t moment old.alarms
@@ -113,6 +134,15 @@ pub record Watches (old : Sleeping) (t : ℕ) (moment : Option ℕ) (new : Sleep
 -- thread t sleeps and watches no more, though its wait may pend, and a watcher may be called in its place
 pub record Stops (old : Sleeping) (t : ℕ) (new : Sleeping) : Type 0 where
   pub core : new.core ≡ old.core
+  pub spare : new.spare ≡ old.spare
   pub alarms : new.alarms ≡ with_called new.called (slice_set old.alarms t None)
   pub watchers : new.watchers ≡ slice_set old.watchers t None
   pub called : IsCalled (state old.core) (slice_set old.alarms t None) new.watchers new.called
+
+-- ---- a thread that begins
+
+-- those who sleep and watch are the same, and nobody is called
+pub record LetsSleep (old new : Sleeping) : Type 0 where
+  pub alarms : new.alarms ≡ old.alarms
+  pub watchers : new.watchers ≡ old.watchers
+  pub called : new.called ≡ None

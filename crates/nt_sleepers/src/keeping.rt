@@ -1,11 +1,11 @@
 //! How the time is kept: whose alarms are cleared, who is called, and to which moment a thread sleeps.
 ghost use Rattle.std.specs.Prelude.{◌≡◌, ◌≤◌, Bool, true, [], Some, None, MatchBool, length, slice_set};
 ghost use Rattle.std.specs.FinMap as map;
-ghost use Rattle.nt_status.specs.declared.limits.TheConstants.{MAX_THREADS};
+ghost use Rattle.nt_status.specs.declared.limits.TheConstants.{MAX_MANY_THREADS};
 ghost use Rattle.nt_alarms.specs.Alarms.{IsQuiet};
 ghost use Rattle.nt_calls.specs.State.{pends};
 ghost use Rattle.nt_core.specs.Dispatcher.{state};
-ghost use Rattle.nt_sleepers.specs.Sleepers.{IsCalled, IsInTime, IsShortEnough, NoneUpTo, SleepsTo, SleepsUpTo, TimeIsKept, deadline_of, set_if, settled, with_called, without_woken};
+ghost use Rattle.nt_sleepers.specs.Sleepers.{IsCalled, IsShortEnough, IsWatched, NoneUpTo, SleepsTo, SleepsUpTo, TimeIsKept, deadline_of, set_if, settled, with_called, without_woken};
 
 use nt_alarms::Alarms;
 use nt_core::{Core, Grant};
@@ -74,8 +74,8 @@ fn sleeps_up_to(alarms: &Alarms, u: u64) -> bool
 #[tactic(auto, using(crate::proofs::Kept::in_time_quiet))]
 fn call_one(core: &Core, alarms: &mut Alarms, watchers: &Alarms) -> Option<u32>
     requires count { length watchers.now ≡ length alarms.old }
-    requires few { length alarms.old ≤ MAX_THREADS }
-    ensures in_time { IsInTime (state core.now) alarms.new watchers.now }
+    requires few { length alarms.old ≤ MAX_MANY_THREADS }
+    ensures in_time { IsWatched (state core.now) alarms.new watchers.now }
     ensures alarms { alarms.new ≡ with_called result alarms.old }
     ensures called { IsCalled (state core.now) alarms.old watchers.now result }
 {
@@ -98,8 +98,8 @@ pub(crate) fn settle_all(
     began: bool,
 ) -> Option<u32>
     requires count { length watchers.old ≡ length alarms.old }
-    requires few { length alarms.old ≤ MAX_THREADS }
-    ensures in_time { IsInTime (state core.now) alarms.new watchers.new }
+    requires few { length alarms.old ≤ MAX_MANY_THREADS }
+    ensures in_time { IsWatched (state core.now) alarms.new watchers.new }
     ensures alarms { alarms.new ≡ with_called result (settled alarms.old who began core.now) }
     ensures watchers { watchers.new ≡ without_woken core.now.grants watchers.old }
     ensures called { IsCalled (state core.now) (settled alarms.old who began core.now) watchers.new result }
@@ -122,9 +122,9 @@ pub(crate) fn settle(
     was_idle: bool,
 )
     requires count { length watchers.old ≡ length alarms.old }
-    requires few { length alarms.old ≤ MAX_THREADS }
+    requires few { length alarms.old ≤ MAX_MANY_THREADS }
     requires idle { was_idle ≡ true → (core.now.grants ≡ []) × IsQuiet watchers.old × (called.old ≡ None) }
-    ensures in_time { IsInTime (state core.now) alarms.new watchers.new }
+    ensures in_time { IsWatched (state core.now) alarms.new watchers.new }
     ensures alarms { alarms.new ≡ with_called called.new (settled alarms.old who began core.now) }
     ensures watchers { watchers.new ≡ without_woken core.now.grants watchers.old }
     ensures called { IsCalled (state core.now) (settled alarms.old who began core.now) watchers.new called.new }

@@ -12,11 +12,13 @@
 //!     watch      ──▶ a moment    to which a watcher sleeps: no longer than to what is due next, if nobody else does
 //! ```
 //!
-//! **What always holds** (`TimeIsKept`): if anybody watches, some thread sleeps no longer than to whichever moment is awaited, and its wait
-//! pends. A thread that was called counts as one that sleeps to moment 0, until it has looked.
+//! **What always holds** (`TimeIsKept`): each thread whose wait times out sleeps no longer than to then, unless it was stopped. If anybody
+//! watches, some thread sleeps no longer than to whichever moment is awaited. Whoever sleeps has a wait that pends. A thread that was called
+//! counts as one that sleeps to moment 0, until it has looked.
 #![tactic(auto)]
 
 mod keeping;
+mod life;
 mod sleepers;
 mod told;
 

@@ -1,8 +1,8 @@
 //! The dispatcher with those who sleep.
-ghost use Rattle.std.specs.Prelude.{◌≡◌, ◌≤◌, [], replicate, slice_get, true, false, None, Err, IfOk, IfErr, OnOk, OnErr, MatchBool, nat_le, ◌&&◌};
+ghost use Rattle.std.specs.Prelude.{◌≡◌, ◌≤◌, [], replicate, slice_get, true, false, None, Some, Err, IfOk, IfErr, OnOk, OnErr, MatchBool, nat_le, ◌&&◌};
 ghost use Rattle.std.specs.FinMap as map;
 ghost use Rattle.nt_status.specs.declared.refusal.Refusal.{Refusal};
-ghost use Rattle.nt_status.specs.declared.refusal.Refusal.TheVariants.{InvalidParameter, Memory};
+ghost use Rattle.nt_status.specs.declared.refusal.Refusal.TheVariants.{InvalidParameter, Memory, HandleLimit};
 ghost use Rattle.nt_alarms.specs.Alarms.{alarm_at};
 ghost use Rattle.nt_calls.specs.declared.call.WaitCall.{WaitCall};
 ghost use Rattle.nt_calls.specs.Moves.{pended};
@@ -10,22 +10,24 @@ ghost use Rattle.nt_calls.specs.Naming.{call_named};
 ghost use Rattle.nt_calls.specs.State.{opening};
 ghost use Rattle.nt_calls.specs.Steps.{Called, Ticked};
 ghost use Rattle.nt_core.specs.Accepts.{IsLocal, IsTickLocal};
+ghost use Rattle.nt_life.specs.Lasting.{MakesCall, FindsNoneFor, IsUnchanged, LooksAt, MayBegin, no_spares};
 ghost use Rattle.nt_core.specs.Dispatcher.{state};
 ghost use Rattle.nt_core.specs.Lawful.{IsLawful};
-ghost use Rattle.nt_sleepers.specs.Sleepers.{Stops, Watches, Woke, told_of};
+ghost use Rattle.nt_sleepers.specs.Sleepers.{LetsSleep, Stops, Watches, Woke, told_of};
 
-use crate::keeping::{settle, settle_all, stop, watch};
+use crate::life::{is_idle, is_still, settle, settle_all, stop, watch};
 use crate::told::Told;
 use nt_alarms::Alarms;
 use nt_core::{Call, Core, Reply};
-use nt_status::{Handle, MAX_THREADS, Moment, Refusal};
+use nt_life::{Begun, Lasting};
+use nt_status::{Handle, MAX_MANY_THREADS, MAX_THREADS, Moment, Refusal};
 use std::alloc::Global;
 use std::marker::Model;
 
 /// A dispatcher, and to which moment each thread sleeps by itself.
 #[derive(Drop)]
 pub struct Sleepers {
-    core: Core,
+    life: Lasting,
     alarms: Alarms,
     watchers: Alarms,
     called: Option<u32>,
@@ -41,9 +43,9 @@ impl Model for Sleepers {
 
     ghost coded = { Prim.hlevel (codes, waits_code) };
 
-    ghost view = { λ s. record { core = s.core; alarms = s.alarms; watchers = s.watchers; called = s.called } };
+    ghost view = { λ s. record { core = s.life.core; spare = s.life.spare; alarms = s.alarms; watchers = s.watchers; called = s.called } };
 
-    ghost invariant = { λ s. TimeIsKept (state s.core) s.alarms s.watchers × CalledWaits (state s.core) s.called };
+    ghost invariant = { λ s. TimeIsKept (state s.life.core) s.alarms s.watchers × CalledWaits (state s.life.core) s.called };
 }
 
 /// Whether the caller's wait pends from now on.
@@ -65,21 +67,14 @@ fn was_refused(asked: &Result<Reply, Refusal>) -> bool
     }
 }
 
-/// Whether no wait pends, and none has ended.
-#[inline(always)]
-fn is_still(core: &Core) -> bool
-    ensures { result ≡ true → (core.now.grants ≡ []) × (map.len (state core.now).waits ≡ 0) }
-{
-    core.pending() == 0 && core.grants().is_empty()
-}
-
 impl Sleepers {
-    /// A dispatcher whose threads run, so that nobody sleeps.
+    /// A dispatcher that gives each number once. Its threads run, so that nobody sleeps.
     ///
     /// Refused with 87 unless there are 1 to `MAX_THREADS` threads, and with 8 if memory is refused.
     pub fn new(alloc: Global, threads: u32) -> Result<Sleepers, Refusal>
         ensures ok { IfOk result (λ s. (1 ≤ threads) × (threads ≤ MAX_THREADS) × (state s.core ≡ opening threads)
             × (s.core.grants ≡ [])) }
+        ensures spare { IfOk result (λ s. s.spare ≡ None) }
         ensures asleep { IfOk result (λ s. (s.alarms ≡ replicate threads None) × (s.watchers ≡ replicate threads None)
             × (s.called ≡ None)) }
         ensures untested { IfOk result (λ s. s.core.table.looked ≡ 0) }
@@ -87,15 +82,42 @@ impl Sleepers {
         ensures err { IfErr result (λ r.
             MatchBool (nat_le 1 threads && nat_le threads MAX_THREADS) (r ≡ Memory) (r ≡ InvalidParameter)) }
     {
-        // `Core::new` refuses them too; here it comes before the alarms' memory.
+        // `Lasting::once` refuses them too; here it comes before the alarms' memory.
         if threads == 0 || threads > MAX_THREADS {
             return Err(Refusal::InvalidParameter);
         }
         let alarms = Alarms::with_places(alloc, threads as usize)?;
         let watchers = Alarms::with_places(alloc, threads as usize)?;
-        let core = Core::new(alloc, threads)?;
+        let life = Lasting::once(alloc, threads)?;
         Ok(Sleepers {
-            core,
+            life,
+            alarms,
+            watchers,
+            called: None,
+        })
+    }
+
+    /// The same, but a dispatcher that gives numbers again, for 1 to `MAX_MANY_THREADS` threads.
+    pub fn lasting(alloc: Global, threads: u32) -> Result<Sleepers, Refusal>
+        ensures ok { IfOk result (λ s. (1 ≤ threads) × (threads ≤ MAX_MANY_THREADS) × (state s.core ≡ opening threads)
+            × (s.core.grants ≡ [])) }
+        ensures spare { IfOk result (λ s. s.spare ≡ Some no_spares) }
+        ensures asleep { IfOk result (λ s. (s.alarms ≡ replicate threads None) × (s.watchers ≡ replicate threads None)
+            × (s.called ≡ None)) }
+        ensures untested { IfOk result (λ s. s.core.table.looked ≡ 0) }
+        ensures lawful { IfOk result (λ s. IsLawful s.core) }
+        ensures err { IfErr result (λ r.
+            MatchBool (nat_le 1 threads && nat_le threads MAX_MANY_THREADS) (r ≡ Memory) (r ≡ InvalidParameter)) }
+    {
+        // `Lasting::new` refuses them too; here it comes before the alarms' memory.
+        if threads == 0 || threads > MAX_MANY_THREADS {
+            return Err(Refusal::InvalidParameter);
+        }
+        let alarms = Alarms::with_places(alloc, threads as usize)?;
+        let watchers = Alarms::with_places(alloc, threads as usize)?;
+        let life = Lasting::new(alloc, threads)?;
+        Ok(Sleepers {
+            life,
             alarms,
             watchers,
             called: None,
@@ -105,24 +127,25 @@ impl Sleepers {
     /// Makes the call of this thread, and returns its reply or why it is refused. If its wait pends, it sleeps to its deadline.
     #[inline(always)]
     pub fn call(&mut self, who: u32, call: &Call) -> Result<Reply, Refusal>
-        ensures called { Called (state self.old.core) who call.now result self.new.core.grants (state self.new.core) }
+        ensures makes { MakesCall (state self.old.core) self.old.spare who call.now
+            result self.new.core.grants (state self.new.core) }
+        ensures limit { result ≡ Err HandleLimit → FindsNoneFor (state self.old.core) self.old.spare call.now }
+        ensures unchanged { IsUnchanged (state self.old.core) result self.new.core.grants (state self.new.core) }
         ensures lawful { IsLawful self.new.core }
-        ensures local { OnOk result (IsLocal (state self.old.core) who
-            (call_named self.old.core.handles call.now) self.new.core.table.looked self.new.core.grants) }
-        ensures untested { OnErr result (self.new.core.table.looked ≡ 0) }
+        ensures looks { LooksAt self.old.core self.old.spare who call.now result self.new.core }
         ensures woke { Woke self.old who (pended result) self.new }
         ensures nobody { OnErr result (self.new.called ≡ None) }
     {
-        let result = self.core.call(who, call);
+        let result = self.life.call(who, call);
         if was_refused(&result) {
             self.called = None;
             return result;
         }
-        if is_still(&self.core) {
+        if is_still(&self.life) {
             return result;
         }
         let began = has_pended(&result);
-        self.called = settle_all(&self.core, &mut self.alarms, &mut self.watchers, who, began);
+        self.called = settle_all(&self.life, &mut self.alarms, &mut self.watchers, who, began);
         result
     }
 
@@ -145,12 +168,13 @@ impl Sleepers {
         ensures untested { OnErr result (self.new.core.table.looked ≡ 0) }
         ensures woke { Woke self.old who (pended result) self.new }
         ensures nobody { OnErr result (self.new.called ≡ None) }
+        ensures spare { self.new.spare ≡ self.old.spare }
     {
-        let was_idle = self.core.pending() == 0;
-        let result = self.core.wait_objects(who, handles, all, alertable, ms);
+        let was_idle = is_idle(&self.life);
+        let result = self.life.wait_objects(who, handles, all, alertable, ms);
         let began = has_pended(&result);
         settle(
-            &self.core,
+            &self.life,
             &mut self.alarms,
             &mut self.watchers,
             &mut self.called,
@@ -169,11 +193,12 @@ impl Sleepers {
         ensures untested { OnErr result (self.new.core.table.looked ≡ 0) }
         ensures woke { Woke self.old 0 false self.new }
         ensures nobody { OnErr result (self.new.called ≡ None) }
+        ensures spare { self.new.spare ≡ self.old.spare }
     {
-        let was_idle = self.core.pending() == 0;
-        let result = self.core.tick(m);
+        let was_idle = is_idle(&self.life);
+        let result = self.life.tick(m);
         settle(
-            &self.core,
+            &self.life,
             &mut self.alarms,
             &mut self.watchers,
             &mut self.called,
@@ -184,12 +209,22 @@ impl Sleepers {
         result
     }
 
+    /// A thread begins in the place of one that has ended and whose object is gone, as `Lasting::begin` has it. Nobody is told anything.
+    pub fn begin(&mut self) -> Option<Begun>
+        ensures begun { MayBegin (state self.old.core) self.old.spare result self.new.core.grants (state self.new.core) }
+        ensures lawful { IsLawful self.new.core }
+        ensures sleeps { LetsSleep self.old self.new }
+    {
+        self.called = None;
+        self.life.begin()
+    }
+
     /// A timer may end the pending wait of this thread: it watches from now on. Returns the moment to which it sleeps by itself, in units
     /// of 100 ns; none if it sleeps until it is told. If its wait does not pend, nothing is done.
     pub fn watch(&mut self, who: u32) -> Option<u64>
         ensures { Watches self.old who result self.new }
     {
-        watch(&self.core, &mut self.alarms, &mut self.watchers, who)
+        watch(&self.life, &mut self.alarms, &mut self.watchers, who)
     }
 
     /// The moment to which this thread sleeps by itself, in units of 100 ns; none if it sleeps until it is told, or does not sleep.
@@ -203,14 +238,14 @@ impl Sleepers {
     pub fn stop(&mut self, who: u32)
         ensures { Stops self.old who self.new }
     {
-        self.called = stop(&self.core, &mut self.alarms, &mut self.watchers, who);
+        self.called = stop(&self.life, &mut self.alarms, &mut self.watchers, who);
     }
 
     /// Whom the last call or tick told, by index: each wait that ended, and then who is called, if anybody is.
     pub fn told(&self, index: usize) -> Option<Told>
         ensures { result ≡ slice_get (told_of self.now.core.grants self.now.called) index }
     {
-        let grants = self.core.grants();
+        let grants = self.life.core().grants();
         if let Some(grant) = grants.get(index) {
             return Some(Told::Granted(*grant));
         }
@@ -226,7 +261,7 @@ impl Sleepers {
     pub fn core(&self) -> &Core
         ensures { result.now ≡ self.now.core }
     {
-        &self.core
+        self.life.core()
     }
 
     /// An equal dispatcher with the same sleepers, in memory of its own.
@@ -238,9 +273,9 @@ impl Sleepers {
     {
         let alarms = self.alarms.copy()?;
         let watchers = self.watchers.copy()?;
-        let core = self.core.copy()?;
+        let life = self.life.copy()?;
         Ok(Sleepers {
-            core,
+            life,
             alarms,
             watchers,
             called: self.called,

@@ -17,7 +17,9 @@ mod timer_flags;
 pub use access::Access;
 pub use event_flags::EventFlags;
 pub use handles::{Handle, Handles};
-pub use limits::{INFINITE, MAX_HANDLES, MAX_MANY_THREADS, MAX_MOMENT, MAX_THREADS, MAX_WAIT_OBJECTS};
+pub use limits::{
+    INFINITE, MAX_HANDLES, MAX_MANY_THREADS, MAX_MOMENT, MAX_THREADS, MAX_WAIT_OBJECTS,
+};
 pub use moment::Moment;
 pub use mutex_flags::MutexFlags;
 pub use object_numbers::{ObjectNumber, ObjectNumbers};

@@ -3,7 +3,7 @@ use crate::tests::calls::{answer_of, call_of};
 use crate::tests::script::{Answer, Ask};
 use nt_core::{Call, Core, Reply, WaitCall};
 use nt_status::Refusal;
-use std::alloc::AllocError;
+use std::alloc::{AllocError, Global};
 use std::env::Env;
 use std::io::Print;
 use std::process::Abort;
@@ -34,14 +34,23 @@ pub fn rounds(rt: &impl Host, often: u16, seldom: u16) -> u16 {
     if is_refusing(rt) { seldom } else { often }
 }
 
+/// A dispatcher with this many threads, opened for many if there are more than a usual one has.
+fn opened(alloc: Global, threads: u32) -> Result<Core, Refusal> {
+    if threads <= 256 {
+        Core::new(alloc, threads)
+    } else {
+        Core::with_many_threads(alloc, threads)
+    }
+}
+
 /// A dispatcher, with a second try where memory is refused.
 pub fn open(rt: &impl Host, threads: u32) -> Result<Core, Refusal> {
-    match Core::new(rt.alloc(), threads) {
+    match opened(rt.alloc(), threads) {
         Ok(core) => Ok(core),
         Err(refusal) => {
             assert_eq!(rt; refusal.number(), NOT_ENOUGH_MEMORY);
             tell_refused(rt, "an opening");
-            Core::new(rt.alloc(), threads)
+            opened(rt.alloc(), threads)
         }
     }
 }

@@ -1,12 +1,12 @@
-//! Openings: a dispatcher has 1 to 256 threads.
+//! Openings: a dispatcher has 1 to 256 threads, or 4,096 at the most if it is opened for many.
 use crate::tests::memory::{Host, let_go};
 use crate::tests::play::play_all;
-use crate::tests::script::Answer::Handle;
-use crate::tests::script::Ask::Event;
+use crate::tests::script::Answer::{Done, Handle, Pended};
+use crate::tests::script::Ask::{Any, Event, Pulse};
 use crate::tests::script::Step::{Call, Waiting};
-use crate::tests::script::{Answer, INVALID_PARAMETER, Scenario};
+use crate::tests::script::{Answer, INFINITE, INVALID_PARAMETER, Scenario};
 use nt_core::Core;
-use std::alloc::Global;
+use nt_status::Refusal;
 use std::test::Fail;
 
 const SCENARIOS: &[Scenario] = &[
@@ -20,14 +20,28 @@ const SCENARIOS: &[Scenario] = &[
         threads: 256,
         steps: &[Call(255, Event(0), &[], Handle(256), &[]), Waiting(&[])],
     },
+    Scenario {
+        shows: "one for many may have 4096 threads, and the last waits and is granted as the first",
+        threads: 4096,
+        steps: &[
+            Call(4095, Event(1), &[], Handle(4096), &[]),
+            Call(4095, Any(INFINITE), &[4096], Pended, &[]),
+            Call(0, Any(INFINITE), &[4096], Pended, &[]),
+            Waiting(&[0, 4095]),
+            Call(1, Pulse, &[4096], Done, &[(4095, 0), (0, 0)]),
+            Waiting(&[]),
+        ],
+    },
 ];
 
-/// Numbers of threads that no dispatcher has.
+/// Numbers of threads that no dispatcher has, and those that none for many has.
 const TOO_FEW_OR_MANY: &[u32] = &[0, 257, u32::MAX];
 
-/// What an opening with so many threads answers.
-fn opening(alloc: Global, threads: u32) -> Answer {
-    match Core::new(alloc, threads) {
+const TOO_FEW_OR_TOO_MANY: &[u32] = &[0, 4097, u32::MAX];
+
+/// What an opening answered.
+fn answer(opened: Result<Core, Refusal>) -> Answer {
+    match opened {
         Ok(core) => {
             let_go(core);
             Answer::Done
@@ -39,15 +53,26 @@ fn opening(alloc: Global, threads: u32) -> Answer {
 fn refuse_openings(rt: &impl Host) {
     for threads in TOO_FEW_OR_MANY {
         assert_eq!(rt;
-            opening(rt.alloc(), *threads),
+            answer(Core::new(rt.alloc(), *threads)),
             INVALID_PARAMETER,
             "{threads} threads"
         );
     }
 }
 
+fn refuse_openings_for_many(rt: &impl Host) {
+    for threads in TOO_FEW_OR_TOO_MANY {
+        assert_eq!(rt;
+            answer(Core::with_many_threads(rt.alloc(), *threads)),
+            INVALID_PARAMETER,
+            "{threads} of many threads"
+        );
+    }
+}
+
 #[test]
-fn a_dispatcher_has_1_to_256_threads(rt: HostRuntime) -> Result<(), Fail> {
+fn a_dispatcher_has_1_to_256_threads_or_4096_if_many(rt: HostRuntime) -> Result<(), Fail> {
     refuse_openings(&rt);
+    refuse_openings_for_many(&rt);
     play_all(&rt, SCENARIOS)
 }

@@ -36,3 +36,8 @@ HRESULT StringCchCopyNA(char *to, size_t size, const char *from, size_t length);
 HRESULT StringCchPrintfA(char *to, size_t size, const char *format, ...);
 BOOL IsDebuggerPresent(void);
 #include "renamed.h"
+/* (The greatest random number of Microsoft's C library, from which tests reckon an index.) */
+#include <stdlib.h>
+#undef RAND_MAX
+#define RAND_MAX 0x7FFF
+#define rand() (rand() & RAND_MAX)

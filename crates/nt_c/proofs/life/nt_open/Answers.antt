@@ -1,5 +1,6 @@
+use Rattle.nt_status.specs.declared.limits.TheConstants.{MAX_THREADS}
 use Rattle.std.proofs.Common.{sym, subst, refl, ◌∙◌, inl}
-use Rattle.std.specs.Prelude.{Option}
+use Rattle.std.specs.Prelude.{Option, None}
 use Rattle.nt_sleepers.specs.Sleepers.{Sleeping}
 use Rattle.nt_c.specs.Asks.{Opens}
 use Rattle.nt_c.proofs.Fitting.{none_of}
@@ -7,7 +8,7 @@ use Rattle.nt_c.proofs.life.nt_open.Goals as goal
 
 pub returns-in-Ok-clause-opens : goal.returns-in-Ok-clause-opens
 returns-in-Ok-clause-opens c =
-    subst (λ (x : Option Sleeping). Opens x c.args.threads 0 c.put.new.self.held) (sym (none_of c.args.nt.now.cell.held (sym c.requires.fit ∙ c.if-nt.false)))
+    subst (λ (x : Option Sleeping). Opens MAX_THREADS None x c.args.threads 0 c.put.new.self.held) (sym (none_of c.args.nt.now.cell.held (sym c.requires.fit ∙ c.if-nt.false)))
     (inl (
       c.in-Ok.sleepers,
       c.put.ensures,
@@ -15,6 +16,7 @@ returns-in-Ok-clause-opens c =
       c.in-Ok.ensures.ok.0,
       c.in-Ok.ensures.ok.1,
       record {
+        spare_is = c.in-Ok.ensures.spare;
         state_is = c.in-Ok.ensures.ok.2;
         grants = c.in-Ok.ensures.ok.3;
         looked = c.in-Ok.ensures.untested;

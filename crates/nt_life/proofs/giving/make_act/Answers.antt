@@ -7,7 +7,11 @@ use Rattle.nt_laws.specs.Laws.{call_closes}
 use Rattle.nt_life.proofs.Calls.{call_spare, act_closes, creation_closes}
 use Rattle.nt_life.proofs.Limits.{refused_full}
 use Rattle.nt_life.proofs.Choosing.{creates_lasts, creation_finds, other_lasts, other_full}
+use Rattle.nt_life.proofs.Once.{creation_looks}
 use Rattle.nt_life.proofs.Stacking.{stacked_by}
+use Rattle.std.specs.Prelude.{OnOk}
+use Rattle.nt_calls.specs.Naming.{call_named}
+use Rattle.nt_core.specs.Accepts.{IsLocal}
 use Rattle.nt_life.proofs.giving.make_act.Goals as goal
 
 pub returns-then-is_creation : goal.returns-then-is_creation
@@ -18,6 +22,7 @@ returns-then-is_creation c =
       pace = c.create.ensures.pace;
       stacked = stacked_by (Call.Act c.args.act.now) c.create.result c.args.spare.now.closed c.create.new.spare.closed (creation_closes c.args.act.now creates) c.create.ensures.stacked;
       limit = λ limit. creation_finds (state c.args.core.now) c.args.act.now creates (c.create.ensures.limit limit);
+      looks = creation_looks c.args.core.now c.create.new.core c.args.spare.now c.args.who c.args.act.now c.create.result creates;
       lawful = c.create.ensures.lawful;
       spare = c.create.ensures.spare;
     }
@@ -33,6 +38,10 @@ returns-else-is_creation c =
       stacked = stacked_by (Call.Act c.args.act.now) c.call.result c.args.spare.now.closed c.args.spare.now.closed (act_closes c.args.act.now c.in_default.not-Close) (inl refl);
       pace = record { most = c.call.ensures.most; few = c.call.ensures.few; moves = c.call.ensures.moves; waits = subst (λ (call : Call). pended c.call.result ≡ true → is_wait call ≡ true) c.requires.act c.call.ensures.waits; moment = c.call.ensures.moment };
       limit = λ limit. absurd (other_full old c.args.act.now c.in_default.not-Duplicate other (refused_full old c.args.who (Call.Act c.args.act.now) c.call.result c.call.new.self.grants new called limit));
+      looks = record {
+        local = λ own. subst (λ (call : Call). OnOk c.call.result (IsLocal old c.args.who (call_named c.args.core.now.handles call) c.call.new.self.table.looked c.call.new.self.grants)) c.requires.act c.call.ensures.local;
+        untested = λ own. c.call.ensures.untested;
+      };
       lawful = c.call.ensures.lawful;
       spare =
           call_spare old c.args.who c.args.call.now c.call.result c.call.new.self.grants new c.args.spare.now c.requires.lawful.steady.sound.handles.enough

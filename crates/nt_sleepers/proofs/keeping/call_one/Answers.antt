@@ -1,6 +1,6 @@
 use Rattle.std.proofs.Common.{ℕ, List, Option, sym, subst}
 use Rattle.nt_core.specs.Dispatcher.{state}
-use Rattle.nt_sleepers.specs.Sleepers.{IsInTime, SleepsUpTo}
+use Rattle.nt_sleepers.specs.Sleepers.{IsWatched, SleepsUpTo}
 use Rattle.nt_sleepers.proofs.Kept.{in_time_idle, in_time_soon, in_time_called}
 use Rattle.nt_sleepers.proofs.keeping.call_one.Goals as goal
 
@@ -14,5 +14,5 @@ returns-then-sleeps_up_to-clause-in_time c =
 
 pub returns-clause-in_time : goal.returns-clause-in_time
 returns-clause-in_time c =
-    subst (λ (xs : List (Option ℕ)). IsInTime (state c.args.core.now) xs c.args.watchers.now) (sym c.set.ensures)
+    subst (λ (xs : List (Option ℕ)). IsWatched (state c.args.core.now) xs c.args.watchers.now) (sym c.set.ensures)
     (in_time_called (state c.args.core.now) _ _ c.in_ok-watcher.watcher c.in_ok-mark.mark c.requires.count c.in_ok-watcher.ensures)

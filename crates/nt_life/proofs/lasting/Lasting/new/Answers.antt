@@ -3,7 +3,7 @@ use Rattle.std.specs.Prelude.{nat_le, MatchBool, IfErr}
 use Rattle.std.proofs.lemmas.Bool.Decides.{nat_tests}
 use Rattle.std.specs.declared.result.Result.{Result}
 use Rattle.std.specs.declared.result.Result.TheVariants.{Ok, Err}
-use Rattle.nt_status.specs.declared.limits.TheConstants.{MAX_THREADS}
+use Rattle.nt_status.specs.declared.limits.TheConstants.{MAX_MANY_THREADS}
 use Rattle.nt_status.specs.declared.refusal.Refusal.{Refusal}
 use Rattle.nt_status.specs.declared.refusal.Refusal.TheVariants.{InvalidParameter, Memory}
 use Rattle.nt_calls.specs.State.{State, opening}
@@ -13,12 +13,12 @@ use Rattle.nt_life.proofs.Renewed.{opening_spare}
 use Rattle.nt_life.proofs.lasting.Lasting.new.Goals as goal
 
 -- with as many threads as there may be, only memory is refused
-refused : {A : Type 0} (threads : ℕ) (r : Result A Refusal) → 1 ≤ threads → threads ≤ MAX_THREADS → IfErr r (λ cause. cause ≡ Memory) → IfErr r (λ cause. MatchBool (nat_le 1 threads && nat_le threads MAX_THREADS) (cause ≡ Memory) (cause ≡ InvalidParameter))
+refused : {A : Type 0} (threads : ℕ) (r : Result A Refusal) → 1 ≤ threads → threads ≤ MAX_MANY_THREADS → IfErr r (λ cause. cause ≡ Memory) → IfErr r (λ cause. MatchBool (nat_le 1 threads && nat_le threads MAX_MANY_THREADS) (cause ≡ Memory) (cause ≡ InvalidParameter))
 refused threads (Ok life) some most memory = tt
 refused threads (Err cause) some most memory =
     let a : nat_le 1 threads ≡ true = grind (arith, nat_tests, some) in
-    let b : nat_le threads MAX_THREADS ≡ true = grind (arith, nat_tests, most) in
-    subst (λ (x : Bool). MatchBool x (cause ≡ Memory) (cause ≡ InvalidParameter)) (sym (ap (λ x. x && nat_le threads MAX_THREADS) a ∙ b)) memory
+    let b : nat_le threads MAX_MANY_THREADS ≡ true = grind (arith, nat_tests, most) in
+    subst (λ (x : Bool). MatchBool x (cause ≡ Memory) (cause ≡ InvalidParameter)) (sym (ap (λ x. x && nat_le threads MAX_MANY_THREADS) a ∙ b)) memory
 
 pub returns-in_err-spare-clause-err : goal.returns-in_err-spare-clause-err
 returns-in_err-spare-clause-err c =

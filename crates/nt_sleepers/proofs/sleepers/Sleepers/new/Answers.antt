@@ -1,7 +1,9 @@
+use Rattle.std.proofs.Common.{ap, arith}
+use Rattle.nt_calls.specs.State.{State}
 use Rattle.nt_core.specs.Dispatcher.{state}
 use Rattle.nt_sleepers.proofs.Kept.{kept_first}
 use Rattle.nt_sleepers.proofs.sleepers.Sleepers.new.Goals as goal
 
 pub invariant_of-result : goal.invariant_of-result
 invariant_of-result c =
-    (kept_first (state c.in_ok-core.core) c.args.threads c.in_ok-alarms.alarms c.in_ok-watchers.watchers c.in_ok-core.ensures.ok.1 c.in_ok-alarms.ensures c.in_ok-watchers.ensures, tt)
+    (kept_first (state c.in_ok-life.life.core) c.args.threads c.in_ok-alarms.alarms c.in_ok-watchers.watchers (let few = c.in_ok-life.ensures.ok.1 in omega (arith, few)) (ap (λ (s : State). s.threads) c.in_ok-life.ensures.ok.2) c.in_ok-alarms.ensures c.in_ok-watchers.ensures, tt)

@@ -1,0 +1,251 @@
+/* ---- The journal of a run: each call of the dispatcher, each tick and each name, as a line of a script (docs/SCRIPTS.md). It is a file that is
+ * mapped, so a line stays there however the process ends. What is not written yet are blank lines. All of this is under the lock. */
+
+enum {
+    JOURNAL_STEP = 1 << 20, /* the file grows by so many bytes */
+    BLANK_LINE = 2048,      /* so long is a blank line (and one that is broken off goes on to its end, which a reader has to stand) */
+    LONGEST_LINE = 1024,    /* so many bytes are left for a line, and for one more that ends the journal */
+    LONGEST_NAME = 64
+};
+
+static struct {
+    char *text;          /* null where no journal is written, or no more */
+    size_t length, room; /* of the text, and of what is mapped */
+    int file;
+    dev_t device;        /* which file that is: a program may close what it did not open */
+    ino_t node;
+} journal;
+
+/* Whether a number may name another object, or thread, once what it named is gone: in a journal it names one alone. */
+static inline bool gives_numbers_again(void)
+{
+    return journal.text == NULL;
+}
+
+/* ---- The caller is not ended by a signal where it writes what nobody reads, or more than a file may hold. */
+
+struct quiet {
+    sigset_t signals, before, pended;
+};
+
+static void begin_quiet(struct quiet *it)
+{
+    sigemptyset(&it->signals);
+    sigaddset(&it->signals, SIGPIPE);
+    sigaddset(&it->signals, SIGXFSZ);
+    sigpending(&it->pended);
+    pthread_sigmask(SIG_BLOCK, &it->signals, &it->before);
+}
+
+/* A signal that came of it is taken. */
+static void end_quiet(struct quiet *it)
+{
+    const struct timespec now = { 0, 0 };
+    if (sigismember(&it->pended, SIGPIPE))
+        sigdelset(&it->signals, SIGPIPE);
+    if (sigismember(&it->pended, SIGXFSZ))
+        sigdelset(&it->signals, SIGXFSZ);
+    while (sigtimedwait(&it->signals, NULL, &now) > 0)
+        continue;
+    pthread_sigmask(SIG_SETMASK, &it->before, NULL);
+}
+
+/* ---- Lines. Each begins as a comment, and has its first letter once it is whole: so one that is broken off is no call. */
+
+static inline char *put_text(char *at, const char *text)
+{
+    const size_t length = strlen(text);
+    memcpy(at, text, length);
+    return at + length;
+}
+
+static inline char *put_number(char *at, uint64_t number)
+{
+    char digits[20];
+    int count = 0;
+    do
+        digits[count++] = (char)('0' + number % 10);
+    while ((number /= 10) != 0);
+    while (count > 0)
+        *at++ = digits[--count];
+    return at;
+}
+
+static inline char *put_signed(char *at, int64_t number)
+{
+    if (number < 0)
+        *at++ = '-';
+    return put_number(at, number < 0 ? 0 - (uint64_t)number : (uint64_t)number);
+}
+
+/* The line that was begun ends here, and begins with this letter. */
+static inline void end_line(char *at, char first)
+{
+    char *line = journal.text + journal.length;
+    *at++ = '\n';
+    journal.length = (size_t)(at - journal.text);
+    __atomic_store_n(line, first, __ATOMIC_RELEASE);
+}
+
+static bool has_its_file(void)
+{
+    struct stat it;
+    return fstat(journal.file, &it) == 0 && it.st_dev == journal.device && it.st_ino == journal.node;
+}
+
+/* The journal ends, and its file is no longer than it. */
+static void close_journal(void)
+{
+    const int error = errno;
+    munmap(journal.text, journal.room);
+    journal.text = NULL;
+    if (has_its_file() && (ftruncate(journal.file, (off_t)journal.length) != 0 || close(journal.file) != 0))
+        journal.file = -1; /* (Zeros stay at its end.) */
+    errno = error;
+}
+
+/* The journal ends before the run does, and says why. */
+static void end_journal(const char *why)
+{
+    if (journal.text == NULL)
+        return;
+    char *at = journal.text + journal.length;
+    *at++ = ';';
+    end_line(put_text(put_text(at, " the journal ends here: "), why), ';');
+    close_journal();
+}
+
+/* Fills what was mapped at last with blank lines. */
+static void fill_journal(char *text)
+{
+    memset(text, ' ', JOURNAL_STEP);
+    for (size_t i = BLANK_LINE; i <= JOURNAL_STEP; i += BLANK_LINE)
+        text[i - 1] = '\n';
+}
+
+/* Makes the file longer. Answers whether it could: else the journal ends. (The room is the file's before it is mapped: to write to a page that a full
+ * disk has not would end the process.) */
+__attribute__((noinline, cold)) static bool grow_journal(void)
+{
+    const int error = errno;
+    const size_t room = journal.room + JOURNAL_STEP;
+    struct quiet quiet;
+    char *text = MAP_FAILED;
+    int refused;
+    begin_quiet(&quiet);
+    do
+        refused = has_its_file() ? posix_fallocate(journal.file, (off_t)journal.room, JOURNAL_STEP) : EBADF;
+    while (refused == EINTR);
+    end_quiet(&quiet);
+    if (refused == 0)
+        text = journal.room == 0 ? mmap(NULL, room, PROT_READ | PROT_WRITE, MAP_SHARED, journal.file, 0)
+                                 : mremap(journal.text, journal.room, room, MREMAP_MAYMOVE);
+    errno = error;
+    if (text == MAP_FAILED) {
+        end_journal("the file could not grow");
+        return false;
+    }
+    fill_journal(text + journal.room);
+    journal.text = text;
+    journal.room = room;
+    return true;
+}
+
+/* Where a line goes on after its first letter; null where there is no journal. */
+static inline char *begin_line(void)
+{
+    if (journal.text == NULL || (journal.room - journal.length < 2 * LONGEST_LINE && !grow_journal()))
+        return NULL;
+    char *at = journal.text + journal.length;
+    __atomic_store_n(at, ';', __ATOMIC_RELAXED);
+    atomic_signal_fence(memory_order_seq_cst);
+    return at + 1;
+}
+
+/* Begins the line of a call of this thread. A call for which memory was refused is none in another run, and so it is a comment. */
+static inline char *begin_call(uint32_t refused, uint32_t who, const char *word)
+{
+    char *at = begin_line();
+    if (at == NULL)
+        return NULL;
+    if (refused == NT_ERROR_NOT_ENOUGH_MEMORY)
+        at = put_text(at, " no memory for: t");
+    at = put_number(at, who);
+    *at++ = ' ';
+    return put_text(at, word);
+}
+
+static inline void end_call(uint32_t refused, char *at)
+{
+    end_line(at, refused == NT_ERROR_NOT_ENOUGH_MEMORY ? ';' : 't');
+}
+
+/* How a wait waits, and for what. */
+static inline char *put_wait(char *at, uint32_t ms, bool alertable, const uint32_t *handles, size_t count)
+{
+    *at++ = ' ';
+    at = ms == NT_INFINITE ? put_text(at, "inf") : put_number(at, ms);
+    at = put_text(at, alertable ? " alertable" : " plain");
+    for (size_t i = 0; i < count; i++) {
+        *at++ = ' ';
+        at = put_number(at, handles[i]);
+    }
+    return at;
+}
+
+/* What this number names has a name, which is no longer than the longest: a comment says so. */
+static void write_name(uint32_t number, const char *name)
+{
+    char *at = begin_line();
+    if (at == NULL)
+        return;
+    *at++ = ' ';
+    *at++ = number < NT_MAXIMUM_THREADS ? 't' : 'h';
+    at = put_text(put_number(at, number), " is ");
+    for (; *name != 0; name++)
+        *at++ = (unsigned char)*name < ' ' ? '?' : *name;
+    end_line(at, ';');
+}
+
+/* So has this thread. */
+static void write_description(uint32_t number, const WCHAR *description)
+{
+    char name[LONGEST_NAME + 1];
+    size_t length = 0;
+    for (; length < LONGEST_NAME && description[length] != 0; length++)
+        name[length] = description[length] < 127 ? (char)description[length] : '?';
+    name[length] = 0;
+    write_name(number, name);
+}
+
+/* Empties the file, which is ours alone from now on: to cut what another process has mapped would end that. */
+static bool takes_file(void)
+{
+    struct stat it;
+    if (flock(journal.file, LOCK_EX | LOCK_NB) != 0 || ftruncate(journal.file, 0) != 0 || fstat(journal.file, &it) != 0)
+        return false;
+    journal.device = it.st_dev;
+    journal.node = it.st_ino;
+    return true;
+}
+
+/* Begins a journal in this file, before the first call. Answers 0, or the system's error. */
+static int open_journal(const char *path)
+{
+    journal.file = open(path, O_RDWR | O_CREAT | O_CLOEXEC, 0666);
+    if (journal.file < 0)
+        return errno;
+    int error = takes_file() ? posix_fallocate(journal.file, 0, JOURNAL_STEP) : errno;
+    char *text = error == 0 ? mmap(NULL, JOURNAL_STEP, PROT_READ | PROT_WRITE, MAP_SHARED, journal.file, 0) : NULL;
+    if (text == MAP_FAILED)
+        error = errno;
+    if (error != 0) {
+        close(journal.file);
+        return error == EWOULDBLOCK ? EBUSY : error;
+    }
+    fill_journal(text);
+    journal.text = text;
+    journal.room = JOURNAL_STEP;
+    end_line(put_text(begin_line(), "hreads 256"), 't');
+    return 0;
+}

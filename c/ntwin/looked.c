@@ -1,0 +1,304 @@
+/* ---- The calls of the dispatcher, by pointers: so that they cost nothing more where nobody looks at them, and are looked at where the environment
+ * asks for that (looking.c). Each is then written to the journal, and may have tied a knot. */
+
+typedef uint32_t call_by_caller(struct nt *nt, uint32_t who, struct nt_reply *reply);
+typedef uint32_t call_by_handle(struct nt *nt, uint32_t who, uint32_t handle, struct nt_reply *reply);
+
+struct calls {
+    call_by_caller *exit, *next_apc;
+    call_by_handle *create_event, *create_mutex, *create_timer; /* (by flags) */
+    call_by_handle *set_event, *reset_event, *pulse_event, *release_mutex, *cancel_timer, *close_handle;
+    uint32_t (*create_semaphore)(struct nt *nt, uint32_t who, int32_t initial, int32_t maximum, struct nt_reply *reply);
+    uint32_t (*release_semaphore)(struct nt *nt, uint32_t who, uint32_t semaphore, int32_t count, struct nt_reply *reply);
+    uint32_t (*set_timer)(struct nt *nt, uint32_t who, uint32_t timer, int64_t due, int32_t period, struct nt_reply *reply);
+    uint32_t (*set_timer_apc)(struct nt *nt, uint32_t who, uint32_t timer, int64_t due, int32_t period, uint64_t routine, uint64_t argument,
+                              struct nt_reply *reply);
+    uint32_t (*queue_apc)(struct nt *nt, uint32_t who, uint32_t thread, uint64_t routine, uint64_t argument, struct nt_reply *reply);
+    uint32_t (*duplicate)(struct nt *nt, uint32_t who, uint32_t handle, uint32_t access, struct nt_reply *reply);
+    uint32_t (*wait_objects)(struct nt *nt, uint32_t who, const uint32_t *handles, size_t count, bool all, uint32_t ms, bool alertable,
+                             struct nt_reply *reply);
+    uint32_t (*wait_object)(struct nt *nt, uint32_t who, uint32_t handle, uint32_t ms, bool alertable, struct nt_reply *reply);
+    uint32_t (*sleep)(struct nt *nt, uint32_t who, uint32_t ms, bool alertable, struct nt_reply *reply);
+    uint32_t (*swap)(struct nt *nt, uint32_t who, uint32_t signal, uint32_t object, uint32_t ms, bool alertable, struct nt_reply *reply);
+    uint32_t (*tick)(struct nt *nt, uint64_t moment);
+};
+
+/* A call, or a tick, ties a knot only where it pends, closes a handle, or ends a wait. */
+static inline uint32_t looked_at(uint32_t refused, bool may_tie)
+{
+    struct nt_told told;
+    if (tells_knots && refused == 0 && (may_tie || (waiting.pending != 0 && nt_told(&waiting.dispatcher, 0, &told) == 0)))
+        look_for_knot();
+    return refused;
+}
+
+/* ---- Each call, where somebody looks. */
+
+static uint32_t looked_by_caller(uint32_t refused, uint32_t who, const char *word)
+{
+    char *at = begin_call(refused, who, word);
+    if (at != NULL)
+        end_call(refused, at);
+    return looked_at(refused, false);
+}
+
+static uint32_t looked_by_handle(uint32_t refused, uint32_t who, const char *word, uint32_t handle, bool may_tie)
+{
+    char *at = begin_call(refused, who, word);
+    if (at != NULL)
+        end_call(refused, put_number(at, handle));
+    return looked_at(refused, may_tie);
+}
+
+static uint32_t look_exit(struct nt *nt, uint32_t who, struct nt_reply *reply)
+{
+    return looked_by_caller(nt_exit(nt, who, reply), who, "exit");
+}
+
+static uint32_t look_next_apc(struct nt *nt, uint32_t who, struct nt_reply *reply)
+{
+    return looked_by_caller(nt_next_apc(nt, who, reply), who, "next");
+}
+
+static uint32_t look_set_event(struct nt *nt, uint32_t who, uint32_t event, struct nt_reply *reply)
+{
+    return looked_by_handle(nt_set_event(nt, who, event, reply), who, "set ", event, false);
+}
+
+static uint32_t look_reset_event(struct nt *nt, uint32_t who, uint32_t event, struct nt_reply *reply)
+{
+    return looked_by_handle(nt_reset_event(nt, who, event, reply), who, "reset ", event, false);
+}
+
+static uint32_t look_pulse_event(struct nt *nt, uint32_t who, uint32_t event, struct nt_reply *reply)
+{
+    return looked_by_handle(nt_pulse_event(nt, who, event, reply), who, "pulse ", event, false);
+}
+
+static uint32_t look_release_mutex(struct nt *nt, uint32_t who, uint32_t mutex, struct nt_reply *reply)
+{
+    return looked_by_handle(nt_release_mutex(nt, who, mutex, reply), who, "unlock ", mutex, false);
+}
+
+static uint32_t look_cancel_timer(struct nt *nt, uint32_t who, uint32_t timer, struct nt_reply *reply)
+{
+    return looked_by_handle(nt_cancel_timer(nt, who, timer, reply), who, "cancel ", timer, false);
+}
+
+static uint32_t look_close_handle(struct nt *nt, uint32_t who, uint32_t handle, struct nt_reply *reply)
+{
+    return looked_by_handle(nt_close_handle(nt, who, handle, reply), who, "close ", handle, waiting.pending != 0);
+}
+
+/* Writes a creation, whose last words are these. With the last number that there is the journal ends. */
+static uint32_t looked_creation(uint32_t refused, uint32_t who, const char *word, const char *words, const struct nt_reply *reply)
+{
+    if (refused == NT_ERROR_HANDLE_LIMIT) {
+        end_journal("each handle's number was used once");
+        return refused;
+    }
+    char *at = begin_call(refused, who, word);
+    if (at == NULL)
+        return refused;
+    at = put_text(at, "h");
+    if (refused == 0)
+        at = put_number(at, reply->number);
+    end_call(refused, put_text(at, words));
+    return refused;
+}
+
+static uint32_t look_create_event(struct nt *nt, uint32_t who, uint32_t flags, struct nt_reply *reply)
+{
+    static const char *const words[] = { "", " manual", " set", " manual set" };
+    return looked_creation(nt_create_event(nt, who, flags, reply), who, "event ", words[flags % 4], reply);
+}
+
+static uint32_t look_create_mutex(struct nt *nt, uint32_t who, uint32_t flags, struct nt_reply *reply)
+{
+    return looked_creation(nt_create_mutex(nt, who, flags, reply), who, "mutex ", (flags & NT_MUTEX_INITIAL_OWNER) != 0 ? " owned" : "", reply);
+}
+
+static uint32_t look_create_timer(struct nt *nt, uint32_t who, uint32_t flags, struct nt_reply *reply)
+{
+    return looked_creation(nt_create_timer(nt, who, flags, reply), who, "timer ", (flags & NT_TIMER_MANUAL_RESET) != 0 ? " manual" : "", reply);
+}
+
+/* Two numbers, each after a space. */
+static const char *pair_of(char *to, int64_t one, int64_t other)
+{
+    char *at = to;
+    *at++ = ' ';
+    at = put_signed(at, one);
+    *at++ = ' ';
+    *put_signed(at, other) = 0;
+    return to;
+}
+
+static uint32_t look_create_semaphore(struct nt *nt, uint32_t who, int32_t initial, int32_t maximum, struct nt_reply *reply)
+{
+    char words[48];
+    return looked_creation(nt_create_semaphore(nt, who, initial, maximum, reply), who, "semaphore ", pair_of(words, initial, maximum), reply);
+}
+
+static uint32_t look_duplicate(struct nt *nt, uint32_t who, uint32_t handle, uint32_t access, struct nt_reply *reply)
+{
+    char words[48];
+    return looked_creation(nt_duplicate(nt, who, handle, access, reply), who, "dup ", pair_of(words, handle, access), reply);
+}
+
+static uint32_t look_release_semaphore(struct nt *nt, uint32_t who, uint32_t semaphore, int32_t count, struct nt_reply *reply)
+{
+    const uint32_t refused = nt_release_semaphore(nt, who, semaphore, count, reply);
+    char *at = begin_call(refused, who, "release ");
+    if (at != NULL) {
+        at = put_number(at, semaphore);
+        *at++ = ' ';
+        end_call(refused, put_signed(at, count));
+    }
+    return looked_at(refused, false);
+}
+
+/* Goes on with a timer's line: when it is due, and its period. */
+static char *put_armed(char *at, uint32_t timer, int64_t due, int32_t period)
+{
+    char words[48];
+    return put_text(put_number(at, timer), pair_of(words, due, period));
+}
+
+static uint32_t look_set_timer(struct nt *nt, uint32_t who, uint32_t timer, int64_t due, int32_t period, struct nt_reply *reply)
+{
+    const uint32_t refused = nt_set_timer(nt, who, timer, due, period, reply);
+    char *at = begin_call(refused, who, "arm ");
+    if (at != NULL)
+        end_call(refused, put_armed(at, timer, due, period));
+    return looked_at(refused, false);
+}
+
+/* Goes on with what an APC calls, and with what. */
+static char *put_routine(char *at, uint64_t routine, uint64_t argument)
+{
+    *at++ = ' ';
+    at = put_number(at, routine);
+    *at++ = ' ';
+    return put_number(at, argument);
+}
+
+static uint32_t look_set_timer_apc(struct nt *nt, uint32_t who, uint32_t timer, int64_t due, int32_t period, uint64_t routine,
+                                   uint64_t argument, struct nt_reply *reply)
+{
+    const uint32_t refused = nt_set_timer_apc(nt, who, timer, due, period, routine, argument, reply);
+    char *at = begin_call(refused, who, "arm ");
+    if (at != NULL)
+        end_call(refused, put_routine(put_armed(at, timer, due, period), routine, argument));
+    return looked_at(refused, false);
+}
+
+static uint32_t look_queue_apc(struct nt *nt, uint32_t who, uint32_t thread, uint64_t routine, uint64_t argument, struct nt_reply *reply)
+{
+    const uint32_t refused = nt_queue_apc(nt, who, thread, routine, argument, reply);
+    char *at = begin_call(refused, who, "apc ");
+    if (at != NULL)
+        end_call(refused, put_routine(put_number(at, thread), routine, argument));
+    return looked_at(refused, false);
+}
+
+/* ---- Waits. */
+
+static bool pends(uint32_t refused, const struct nt_reply *reply)
+{
+    return refused == 0 && reply->kind == NT_PENDED;
+}
+
+static uint32_t look_wait_objects(struct nt *nt, uint32_t who, const uint32_t *handles, size_t count, bool all, uint32_t ms, bool alertable,
+                                  struct nt_reply *reply)
+{
+    const uint32_t refused = nt_wait_objects(nt, who, handles, count, all, ms, alertable, reply);
+    char *at = begin_call(refused, who, all ? "all" : "any");
+    if (at != NULL)
+        end_call(refused, put_wait(at, ms, alertable, handles, count));
+    return looked_at(refused, pends(refused, reply));
+}
+
+static uint32_t look_wait_object(struct nt *nt, uint32_t who, uint32_t handle, uint32_t ms, bool alertable, struct nt_reply *reply)
+{
+    const uint32_t refused = nt_wait_object(nt, who, handle, ms, alertable, reply);
+    char *at = begin_call(refused, who, "any");
+    if (at != NULL)
+        end_call(refused, put_wait(at, ms, alertable, &handle, 1));
+    return looked_at(refused, pends(refused, reply));
+}
+
+static uint32_t look_sleep(struct nt *nt, uint32_t who, uint32_t ms, bool alertable, struct nt_reply *reply)
+{
+    const uint32_t refused = nt_sleep(nt, who, ms, alertable, reply);
+    char *at = begin_call(refused, who, "sleep");
+    if (at != NULL)
+        end_call(refused, put_wait(at, ms, alertable, NULL, 0));
+    return looked_at(refused, pends(refused, reply));
+}
+
+static uint32_t look_swap(struct nt *nt, uint32_t who, uint32_t signal, uint32_t object, uint32_t ms, bool alertable, struct nt_reply *reply)
+{
+    const uint32_t refused = nt_swap(nt, who, signal, object, ms, alertable, reply);
+    char *at = begin_call(refused, who, "swap ");
+    if (at != NULL) {
+        at = put_number(at, signal);
+        *at++ = ' ';
+        end_call(refused, put_wait(put_number(at, object), ms, alertable, NULL, 0));
+    }
+    return looked_at(refused, pends(refused, reply));
+}
+
+static uint32_t look_tick(struct nt *nt, uint64_t moment)
+{
+    const uint32_t refused = nt_tick(nt, moment);
+    char *at = begin_line();
+    if (at != NULL)
+        end_line(put_number(put_text(at, "ick "), moment), 't');
+    return looked_at(refused, false);
+}
+
+static const struct calls looked_calls = {
+    look_exit, look_next_apc, look_create_event, look_create_mutex, look_create_timer, look_set_event, look_reset_event, look_pulse_event,
+    look_release_mutex, look_cancel_timer, look_close_handle, look_create_semaphore, look_release_semaphore, look_set_timer,
+    look_set_timer_apc, look_queue_apc, look_duplicate, look_wait_objects, look_wait_object, look_sleep, look_swap, look_tick,
+};
+static struct calls made_by = {
+    nt_exit, nt_next_apc, nt_create_event, nt_create_mutex, nt_create_timer, nt_set_event, nt_reset_event, nt_pulse_event,
+    nt_release_mutex, nt_cancel_timer, nt_close_handle, nt_create_semaphore, nt_release_semaphore, nt_set_timer,
+    nt_set_timer_apc, nt_queue_apc, nt_duplicate, nt_wait_objects, nt_wait_object, nt_sleep, nt_swap, nt_tick,
+};
+
+/* From here on each call goes by its pointer, but in a test that hears the calls itself. */
+#ifndef nt_exit
+static inline uint32_t wait_by_pointer(struct nt *nt, uint32_t who, const uint32_t *handles, size_t count, bool all, uint32_t ms,
+                                       bool alertable, struct nt_reply *reply)
+{
+    const uint32_t nothing = 0;
+    const bool is_list = handles != NULL && count <= NT_MAXIMUM_WAIT_OBJECTS;
+    return made_by.wait_objects(nt, who, is_list ? handles : &nothing, is_list ? count : 0, all, ms, alertable, reply);
+}
+
+#define nt_exit made_by.exit
+#define nt_next_apc made_by.next_apc
+#define nt_create_event made_by.create_event
+#define nt_create_mutex made_by.create_mutex
+#define nt_create_timer made_by.create_timer
+#define nt_set_event made_by.set_event
+#define nt_reset_event made_by.reset_event
+#define nt_pulse_event made_by.pulse_event
+#define nt_release_mutex made_by.release_mutex
+#define nt_cancel_timer made_by.cancel_timer
+#define nt_close_handle made_by.close_handle
+#define nt_create_semaphore made_by.create_semaphore
+#define nt_release_semaphore made_by.release_semaphore
+#define nt_set_timer made_by.set_timer
+#define nt_set_timer_apc made_by.set_timer_apc
+#define nt_queue_apc made_by.queue_apc
+#define nt_duplicate made_by.duplicate
+#define nt_wait wait_by_pointer
+#define nt_wait_object made_by.wait_object
+#define nt_sleep made_by.sleep
+#define nt_swap made_by.swap
+#define nt_tick made_by.tick
+#endif

@@ -1,0 +1,241 @@
+/* ---- What tells why threads wait: the program, by ntwin_why, and what the environment asks for, before main.
+ *
+ * NTWIN_WHY=signal   at SIGQUIT, on standard error
+ * NTWIN_WHY=knot     so, too, and at each call that ties a knot
+ * NTWIN_WHY=abort    the same, and then abort()
+ * NTWIN_JOURNAL=FILE the run as a script */
+
+/* A place in the program, and the file it is in. */
+struct module {
+    uintptr_t place, offset;
+    const char *name;
+};
+
+static int find_module(struct dl_phdr_info *info, size_t size, void *at)
+{
+    struct module *module = at;
+    (void)size;
+    for (int i = 0; i < info->dlpi_phnum; i++)
+        if (info->dlpi_phdr[i].p_type == PT_LOAD
+            && module->place - info->dlpi_addr - info->dlpi_phdr[i].p_vaddr < info->dlpi_phdr[i].p_memsz) {
+            module->offset = module->place - info->dlpi_addr;
+            module->name = info->dlpi_name[0] != 0 ? info->dlpi_name : program_invocation_name;
+            return 1;
+        }
+    return 0;
+}
+
+/* Writes the place whose number stands here, as addr2line takes it: that of the call, and not of what comes after. Answers where its mark ends. */
+static const char *write_file_and_offset(struct report *to, const char *number)
+{
+    char *end;
+    struct module module = { .place = (uintptr_t)strtoull(number, &end, 16) - 1 };
+    if (dl_iterate_phdr(find_module, &module) != 0)
+        add(to, "%s+0x%zx", module.name, (size_t)module.offset);
+    else
+        add(to, "0x%zx", (size_t)module.place);
+    return end + 1;
+}
+
+static void write_with_places(struct report *to, const char *text)
+{
+    for (const char *mark; (mark = strchr(text, MARK)) != NULL; text = write_file_and_offset(to, mark + 1))
+        add(to, "%.*s", (int)(mark - text), text);
+    add_text(to, text);
+}
+
+/* Writes why threads wait, under the lock, with places as numbers. */
+static void write_why(struct report *to, const char *none)
+{
+    (void)none;
+    pthread_mutex_lock(&telling);
+    look_at_sleepers();
+    write_all(to);
+    pthread_mutex_unlock(&telling);
+}
+
+static char *text_of_knot(void)
+{
+    return text_written_by(write_why, NULL);
+}
+
+/* The same text with files and offsets as places, in the place of this one. */
+static char *with_places(char *marked)
+{
+    char *text = marked != NULL ? text_written_by(write_with_places, marked) : NULL;
+    free(marked);
+    return text;
+}
+
+static char *text_of_why(void)
+{
+    take_lock();
+    char *marked = text_written_by(write_why, NULL);
+    give_lock();
+    return with_places(marked);
+}
+
+static const char no_memory[] = "ntwin: out of memory: not told why threads wait\n";
+static const char not_here[] = "ntwin: this child was forked beside other threads, which are not here\n";
+
+void ntwin_why(FILE *to)
+{
+    char *text = process.is_forked ? NULL : text_of_why();
+    fputs(text != NULL ? text : process.is_forked ? not_here : no_memory, to);
+    free(text);
+}
+
+/* (It is written to memory first: who holds the stream may wait for what is held meanwhile.) */
+void ntwin_write_waits(FILE *to)
+{
+    char *text = text_written_by(write_waits, NULL);
+    fputs(text != NULL ? text : no_memory, to);
+    free(text);
+}
+
+/* Writes to standard error, which may be closed. (Not through its stream: who waits may hold that.) */
+static void say(const char *text)
+{
+    const int error = errno;
+    struct quiet quiet;
+    begin_quiet(&quiet);
+    for (size_t left = strlen(text); left > 0;) {
+        const ssize_t written = write(STDERR_FILENO, text, left);
+        if (written < 0 && errno != EINTR)
+            break;
+        if (written > 0) {
+            text += written;
+            left -= (size_t)written;
+        }
+    }
+    end_quiet(&quiet);
+    errno = error;
+}
+
+/* Says this text, and frees it. */
+static void say_text(char *text)
+{
+    say(text != NULL ? text : no_memory);
+    free(text);
+}
+
+static bool aborts; /* written before main */
+
+static void tell_knot(struct seat *caller, char *text)
+{
+    caller->tells = false;
+    say_text(with_places(text));
+    if (aborts)
+        abort();
+}
+
+/* ---- Names. */
+
+static void call_thread(HANDLE thread, const char *name)
+{
+    WCHAR wide[LONGEST_NAME + 1];
+    size_t length = 0;
+    for (; length < LONGEST_NAME && name[length] != 0; length++)
+        wide[length] = (unsigned char)name[length];
+    wide[length] = 0;
+    if (SetThreadDescription(thread, wide) == E_OUTOFMEMORY)
+        fail(ERROR_NOT_ENOUGH_MEMORY);
+}
+
+void ntwin_name(HANDLE handle, const char *name)
+{
+    struct nt_opened opened;
+    struct seat *seat = begin();
+    if (seat == NULL)
+        return;
+    const uint32_t number = number_of(seat, handle), refused = nt_opened(&waiting.dispatcher, number, &opened);
+    if (refused == 0 && opened.object >= waiting.places) {
+        char *copy = strndup(name, LONGEST_NAME);
+        if (copy != NULL) {
+            free(waiting.called[opened.object]);
+            waiting.called[opened.object] = copy;
+            write_name(number, copy);
+        }
+        end_look(seat, copy != NULL ? 0 : ERROR_NOT_ENOUGH_MEMORY);
+        return;
+    }
+    end_look(seat, refused);
+    if (refused == 0)
+        call_thread(handle, name);
+}
+
+/* ---- Before main. */
+
+static void *tell_at_signal(void *signals)
+{
+    int number;
+    while (sigwait(signals, &number) == 0)
+        say_text(text_of_why());
+    return NULL;
+}
+
+static sigset_t quit;
+
+/* SIGQUIT is blocked in all threads from now on, and taken by one of its own, which takes no other. */
+static void begin_telling(void)
+{
+    pthread_t thread;
+    sigset_t all, before;
+    sigemptyset(&quit);
+    sigaddset(&quit, SIGQUIT);
+    sigfillset(&all);
+    pthread_sigmask(SIG_SETMASK, &all, &before);
+    const int refused = pthread_create(&thread, NULL, tell_at_signal, &quit);
+    if (refused == 0) {
+        pthread_detach(thread);
+        sigaddset(&before, SIGQUIT);
+    } else {
+        say("ntwin: NTWIN_WHY: no thread could be made for SIGQUIT\n");
+    }
+    pthread_sigmask(SIG_SETMASK, &before, NULL);
+}
+
+static void begin_looking(const char *why, const char *path)
+{
+    if (why != NULL) {
+        aborts = strcmp(why, "abort") == 0;
+        tells_knots = aborts || strcmp(why, "knot") == 0;
+        if (tells_knots || strcmp(why, "signal") == 0)
+            begin_telling();
+        else
+            say("ntwin: NTWIN_WHY is none of signal, knot, abort\n");
+    }
+    const int refused = path != NULL ? open_journal(path) : 0;
+    if (refused != 0) {
+        char line[256];
+        snprintf(line, sizeof line, "ntwin: NTWIN_JOURNAL: no journal is written: %s\n", strerror(refused));
+        say(line);
+    }
+    if (tells_knots || journal.text != NULL)
+        made_by = looked_calls;
+}
+
+/* In a child that was forked: its parent goes on with the journal, and the thread that takes SIGQUIT is not here. */
+static void stop_looking(void)
+{
+    journal.text = NULL;
+    if (sigismember(&quit, SIGQUIT) == 1)
+        pthread_sigmask(SIG_UNBLOCK, &quit, NULL);
+}
+
+/* After all else: the journal's file ends where it does. */
+__attribute__((destructor(101))) static void end_looking(void)
+{
+    if (journal.text == NULL || !take_lock_at_last())
+        return;
+    if (journal.text != NULL)
+        close_journal();
+    give_lock();
+}
+
+__attribute__((constructor(101))) static void read_environment(void)
+{
+    const char *why = secure_getenv("NTWIN_WHY"), *path = secure_getenv("NTWIN_JOURNAL");
+    if ((why != NULL && *why != 0) || (path != NULL && *path != 0))
+        begin_looking(why != NULL && *why != 0 ? why : NULL, path != NULL && *path != 0 ? path : NULL);
+}

@@ -1,0 +1,8 @@
+use Rattle.std.proofs.Common.{subst}
+use Rattle.nt_core.specs.Dispatcher.{Dispatcher, state}
+use Rattle.nt_sleepers.specs.Sleepers.{IsWatched}
+use Rattle.nt_sleepers.proofs.life.settle.Goals as goal
+
+pub returns-clause-in_time : goal.returns-clause-in_time
+returns-clause-in_time c =
+    subst (λ (d : Dispatcher). IsWatched (state d) c.settle.new.alarms c.settle.new.watchers) c.core.ensures c.settle.ensures.in_time
