@@ -5,8 +5,10 @@ import os
 import re
 from typing import Callable
 
-# What a check takes of memory, in bytes: for itself, for each line of code, of proofs and specs, and of code below, and for each library of the kit.
+# What a check takes of memory, in bytes: for itself, for each line of code, of proofs and specs, and of code below, and for each library of the kit. (A
+# crate of tests is rows, which few functions walk: its lines take less.)
 ITSELF, LINE, PROOF, BELOW, OF_KIT = 1_000_000_000, 1_000_000, 200_000, 80_000, 300_000_000
+LINE_OF_TESTS = 300_000
 KIT_AT_MOST = 2_500_000_000
 # What a check over kept work takes of the memory of one from nothing.
 OVER_KEPT = 0.7
@@ -26,7 +28,7 @@ def memory_of(crate):
     """The most memory that a check of the crate from nothing is likely to take, in bytes."""
     below = crate.below()
     of_kit = {name for it in [crate, *below] for name in it.of_kit}
-    own = LINE * crate.lines() + PROOF * crate.lines(".antt")
+    own = (LINE_OF_TESTS if crate.has_tests() else LINE) * crate.lines() + PROOF * crate.lines(".antt")
     return ITSELF + own + BELOW * sum(it.lines() for it in below) + min(OF_KIT * len(of_kit), KIT_AT_MOST)
 
 
