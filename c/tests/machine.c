@@ -1,14 +1,9 @@
-/* The machine, the process, memory and text: what each call answers with its last error. The values are those of Microsoft's pages and docs/WIN32.md. */
-#define _GNU_SOURCE
+/* The machine, memory and text: what each call answers with its last error. The values are those of Microsoft's pages and docs/WIN32.md. */
 #include <windows.h>
 
 #include <errno.h>
 #include <malloc.h>
-#include <signal.h>
-#include <sys/resource.h>
 #include <sys/timeb.h>
-#include <sys/wait.h>
-#include <unistd.h>
 
 #include "check.h"
 
@@ -19,7 +14,7 @@ static DWORD WINAPI wait_for(LPVOID event)
 
 static void processors(void)
 {
-    DWORD_PTR mask, system, one;
+    DWORD_PTR mask, system, one, other;
     GROUP_AFFINITY before, now = { 0 };
     PROCESSOR_NUMBER number;
     HANDLE event = CreateEvent(NULL, TRUE, FALSE, NULL), thread = CreateThread(NULL, 0, wait_for, event, 0, NULL);
@@ -32,6 +27,15 @@ static void processors(void)
     ANSWERS(SetThreadAffinityMask(thread, 0), 0, ERROR_INVALID_PARAMETER);
     ANSWERS(SetThreadAffinityMask(event, mask), 0, ERROR_INVALID_HANDLE);
     ANSWERS(GetProcessAffinityMask(GetCurrentProcess(), &system, &system), TRUE, UNTOUCHED);
+    ANSWERS(SetProcessAffinityMask(GetCurrentProcess(), one), TRUE, UNTOUCHED);
+    IS(GetProcessAffinityMask(GetCurrentProcess(), &other, &system) && other == one, TRUE);
+    ANSWERS(SetThreadAffinityMask(thread, one), one, UNTOUCHED);
+    ANSWERS(SetProcessAffinityMask(GetCurrentProcess(), mask), TRUE, UNTOUCHED);
+    ANSWERS(SetThreadAffinityMask(thread, mask), mask, UNTOUCHED);
+    ANSWERS(SetProcessAffinityMask(GetCurrentProcess(), 0), FALSE, ERROR_INVALID_PARAMETER);
+    if (system != ~(DWORD_PTR)0)
+        ANSWERS(SetProcessAffinityMask(GetCurrentProcess(), ~(DWORD_PTR)0), FALSE, ERROR_INVALID_PARAMETER);
+    ANSWERS(SetProcessAffinityMask(NULL, mask), FALSE, ERROR_INVALID_HANDLE);
     now.Mask = one;
     ANSWERS(SetThreadGroupAffinity(GetCurrentThread(), &now, &before), TRUE, UNTOUCHED);
     IS(before.Mask, mask);
@@ -278,97 +282,8 @@ static void versions(void)
     ANSWERS(GetVersionExW((LPOSVERSIONINFOW)(void *)&wide), FALSE, ERROR_INSUFFICIENT_BUFFER);
 }
 
-static ULONGLONG moments(FILETIME time)
-{
-    return (ULONGLONG)time.dwHighDateTime << 32 | time.dwLowDateTime;
-}
-
-static void process(void)
-{
-    FILETIME began, ended, system, user, now;
-    HANDLE self = GetCurrentProcess();
-    DWORD code = 0;
-    ANSWERS(OpenProcess(PROCESS_ALL_ACCESS, FALSE, GetCurrentProcessId()), self, UNTOUCHED);
-    ANSWERS(OpenProcess(PROCESS_ALL_ACCESS, FALSE, 0), NULL, ERROR_INVALID_PARAMETER);
-    ANSWERS(OpenProcess(PROCESS_ALL_ACCESS, FALSE, 0xFFFFFFFF), NULL, ERROR_INVALID_PARAMETER);
-    const pid_t other = fork();
-    must(other >= 0);
-    if (other == 0) {
-        pause();
-        _exit(0);
-    }
-    ANSWERS(OpenProcess(PROCESS_ALL_ACCESS, FALSE, (DWORD)other), NULL, ERROR_ACCESS_DENIED);
-    must(kill(other, SIGKILL) == 0 && waitpid(other, NULL, 0) == other);
-    ANSWERS(GetProcessId(self), GetCurrentProcessId(), UNTOUCHED);
-    ANSWERS(GetProcessId(NULL), 0, ERROR_INVALID_HANDLE);
-    ANSWERS(GetExitCodeProcess(self, &code), TRUE, UNTOUCHED);
-    IS(code, STILL_ACTIVE);
-    ANSWERS(GetExitCodeProcess(NULL, &code), FALSE, ERROR_INVALID_HANDLE);
-    ANSWERS(GetProcessTimes(self, &began, &ended, &system, &user), TRUE, UNTOUCHED);
-    GetSystemTimeAsFileTime(&now);
-    /* (Of this process, which is a test, and not of the machine: it began within the hour, up to a clock tick later than now.) */
-    IS(moments(began) < moments(now) + 1000000 && moments(now) < moments(began) + UINT64_C(36000000000), 1);
-    IS(moments(ended), 0);
-    IS(moments(system) + moments(user) < UINT64_C(36000000000), 1);
-    ANSWERS(GetProcessTimes(NULL, &began, &ended, &system, &user), FALSE, ERROR_INVALID_HANDLE);
-}
-
-/* Priorities are kept, and change nothing of the system's. */
-static void priority_classes(void)
-{
-    const DWORD classes[] = { IDLE_PRIORITY_CLASS, BELOW_NORMAL_PRIORITY_CLASS, ABOVE_NORMAL_PRIORITY_CLASS, HIGH_PRIORITY_CLASS,
-                              REALTIME_PRIORITY_CLASS, NORMAL_PRIORITY_CLASS };
-    const DWORD none[] = { 0, 1, 0x10, 0x30, 0xFFFFFFFF };
-    HANDLE self = GetCurrentProcess();
-    ANSWERS(GetPriorityClass(self), NORMAL_PRIORITY_CLASS, UNTOUCHED);
-    for (size_t i = 0; i < ARRAYSIZE(classes); i++) {
-        ANSWERS(SetPriorityClass(self, classes[i]), TRUE, UNTOUCHED);
-        ANSWERS(GetPriorityClass(self), classes[i], UNTOUCHED);
-    }
-    for (size_t i = 0; i < ARRAYSIZE(none); i++)
-        ANSWERS(SetPriorityClass(self, none[i]), FALSE, ERROR_INVALID_PARAMETER);
-    ANSWERS(SetPriorityClass(self, PROCESS_MODE_BACKGROUND_END), FALSE, ERROR_PROCESS_MODE_NOT_BACKGROUND);
-    ANSWERS(SetPriorityClass(self, PROCESS_MODE_BACKGROUND_BEGIN), TRUE, UNTOUCHED);
-    ANSWERS(SetPriorityClass(self, PROCESS_MODE_BACKGROUND_BEGIN), FALSE, ERROR_PROCESS_MODE_ALREADY_BACKGROUND);
-    ANSWERS(SetPriorityClass(self, PROCESS_MODE_BACKGROUND_END), TRUE, UNTOUCHED);
-    ANSWERS(GetPriorityClass(self), NORMAL_PRIORITY_CLASS, UNTOUCHED);
-    ANSWERS(SetPriorityClass(NULL, NORMAL_PRIORITY_CLASS), FALSE, ERROR_INVALID_HANDLE);
-    ANSWERS(GetPriorityClass(NULL), 0, ERROR_INVALID_HANDLE);
-}
-
-/* By which signal a process ends that raises this exception; 0 where it goes on. */
-static int signal_after(DWORD exception)
-{
-    int status = 0;
-    const pid_t child = fork();
-    must(child >= 0);
-    if (child == 0) {
-        const struct rlimit nothing = { 0 };
-        setrlimit(RLIMIT_CORE, &nothing);
-        RaiseException(exception, 0, 0, NULL);
-        _exit(0);
-    }
-    must(waitpid(child, &status, 0) == child);
-    return WIFSIGNALED(status) ? WTERMSIG(status) : 0;
-}
-
-static void errors_told(void)
-{
-    ANSWERS(SetErrorMode(SEM_FAILCRITICALERRORS | SEM_NOOPENFILEERRORBOX), 0, UNTOUCHED);
-    ANSWERS(GetErrorMode(), 0x8001, UNTOUCHED);
-    ANSWERS(SetErrorMode(0), 0x8001, UNTOUCHED);
-    ANSWERS(IsDebuggerPresent() == TRUE || IsDebuggerPresent() == FALSE, TRUE, UNTOUCHED);
-    OutputDebugString("nobody reads it");
-    OutputDebugStringA("nobody reads it");
-    OutputDebugStringW(L"nobody reads it");
-    IS(signal_after(0x406D1388), 0);
-    IS(signal_after(0x40010006), 0);
-    IS(signal_after(0xE0000001), SIGABRT);
-}
-
 int main(void)
 {
-    errors_told();
     processors();
     groups_and_nodes();
     told_processors();
@@ -379,7 +294,5 @@ int main(void)
     clocks();
     zones();
     versions();
-    process();
-    priority_classes();
     return counted();
 }

@@ -16,8 +16,13 @@ extern "C" {
 /* Kept, and no error shows a box. They answer the mode before, and the mode. */
 UINT SetErrorMode(UINT mode);
 UINT GetErrorMode(void);
-/* The process ends, by SIGABRT; but 0x406D1388, by which a debugger is told a thread's name, changes nothing. */
+/* Calls the handlers of below, until one answers EXCEPTION_CONTINUE_EXECUTION. If none does the process ends, by SIGABRT; but 0x406D1388, by which a
+ * debugger is told a thread's name, then changes nothing. */
 void RaiseException(DWORD code, DWORD flags, DWORD count, const ULONG_PTR *arguments);
+/* A handler, as the first or the last, of exceptions that are raised by this call: what the processor finds wrong is a signal. Answers what removes
+ * it; null where memory was refused. */
+PVOID AddVectoredExceptionHandler(ULONG first, PVECTORED_EXCEPTION_HANDLER handler);
+ULONG RemoveVectoredExceptionHandler(PVOID handler);
 
 #ifdef __cplusplus
 }

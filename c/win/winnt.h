@@ -109,6 +109,30 @@ typedef union _SLIST_HEADER {
 typedef PVOID PSECURITY_DESCRIPTOR;
 typedef PVOID PSID;
 
+#define EXCEPTION_NONCONTINUABLE 0x1u
+#define EXCEPTION_MAXIMUM_PARAMETERS 15
+#define EXCEPTION_EXECUTE_HANDLER 1
+#define EXCEPTION_CONTINUE_SEARCH 0
+#define EXCEPTION_CONTINUE_EXECUTION (-1)
+
+typedef struct _EXCEPTION_RECORD {
+    DWORD ExceptionCode;
+    DWORD ExceptionFlags;
+    struct _EXCEPTION_RECORD *ExceptionRecord;
+    PVOID ExceptionAddress;
+    DWORD NumberParameters;
+    ULONG_PTR ExceptionInformation[EXCEPTION_MAXIMUM_PARAMETERS];
+} EXCEPTION_RECORD, *PEXCEPTION_RECORD;
+
+/* (The context is null: no registers are told.) */
+typedef struct _CONTEXT *PCONTEXT, *LPCONTEXT;
+typedef struct _EXCEPTION_POINTERS {
+    PEXCEPTION_RECORD ExceptionRecord;
+    PCONTEXT ContextRecord;
+} EXCEPTION_POINTERS, *PEXCEPTION_POINTERS, *LPEXCEPTION_POINTERS;
+
+typedef LONG(NTAPI *PVECTORED_EXCEPTION_HANDLER)(PEXCEPTION_POINTERS exception);
+
 /* (The first field is the structure's size, before the call.) */
 #define NTWIN_VERSION_FIELDS(character) \
     DWORD dwOSVersionInfoSize; \

@@ -8,6 +8,7 @@ static const struct {
 } calls[] = {
     NAMED(AcquireSRWLockExclusive),
     NAMED(AcquireSRWLockShared),
+    NAMED(AddVectoredExceptionHandler),
     NAMED(CallbackMayRunLong),
     NAMED(CancelWaitableTimer),
     NAMED(ChangeTimerQueueTimer),
@@ -184,6 +185,7 @@ static const struct {
     NAMED(ReleaseSRWLockShared),
     NAMED(ReleaseSemaphore),
     NAMED(ReleaseSemaphoreWhenCallbackReturns),
+    NAMED(RemoveVectoredExceptionHandler),
     NAMED(ResetEvent),
     NAMED(ResumeThread),
     NAMED(RtlFirstEntrySList),
@@ -194,6 +196,7 @@ static const struct {
     NAMED(SetEventWhenCallbackReturns),
     NAMED(SetLastError),
     NAMED(SetPriorityClass),
+    NAMED(SetProcessAffinityMask),
     NAMED(SetProcessPriorityBoost),
     NAMED(SetThreadAffinityMask),
     NAMED(SetThreadDescription),

@@ -201,13 +201,57 @@ void OutputDebugStringW(LPCWSTR text)
     (void)text;
 }
 
-/* No code here handles an exception, so the process ends; but for those by which a program tells a debugger a thread's name, or a text. */
+/* Handlers of exceptions, the first to be called first. One that is removed stays in the list, since a thread may be there, and is not called. */
+struct handler {
+    _Atomic PVECTORED_EXCEPTION_HANDLER call;
+    struct handler *_Atomic next;
+};
+static struct handler *_Atomic handlers;
+static _Atomic uint32_t handlers_latch;
+
+PVOID AddVectoredExceptionHandler(ULONG first, PVECTORED_EXCEPTION_HANDLER call)
+{
+    struct handler *made = calloc(1, sizeof *made), *_Atomic *at = &handlers;
+    if (made == NULL)
+        return NULL;
+    atomic_init(&made->call, call);
+    take_latch(&handlers_latch);
+    while (first == 0 && *at != NULL)
+        at = &(*at)->next;
+    atomic_init(&made->next, *at);
+    *at = made;
+    give_latch(&handlers_latch);
+    return made;
+}
+
+ULONG RemoveVectoredExceptionHandler(PVOID handler)
+{
+    for (struct handler *at = handlers; at != NULL; at = at->next)
+        if (at == handler)
+            return atomic_exchange(&at->call, NULL) != NULL;
+    return 0;
+}
+
+static bool is_handled(PEXCEPTION_RECORD record)
+{
+    EXCEPTION_POINTERS told = { .ExceptionRecord = record };
+    for (struct handler *at = handlers; at != NULL; at = at->next) {
+        const PVECTORED_EXCEPTION_HANDLER call = at->call;
+        if (call != NULL && call(&told) == EXCEPTION_CONTINUE_EXECUTION)
+            return (record->ExceptionFlags & EXCEPTION_NONCONTINUABLE) == 0;
+    }
+    return false;
+}
+
+/* An exception that nobody handles ends the process; but not those by which a program tells a debugger a thread's name, or a text. */
 void RaiseException(DWORD code, DWORD flags, DWORD count, const ULONG_PTR *arguments)
 {
     enum { NAMES_A_THREAD = 0x406D1388, HAS_A_TEXT = 0x40010006, HAS_A_WIDE_TEXT = 0x4001000A };
-    (void)flags;
-    (void)count;
-    (void)arguments;
-    if (code != NAMES_A_THREAD && code != HAS_A_TEXT && code != HAS_A_WIDE_TEXT)
+    EXCEPTION_RECORD record = { .ExceptionCode = code, .ExceptionFlags = flags & EXCEPTION_NONCONTINUABLE, .ExceptionAddress = __builtin_return_address(0) };
+    if (arguments != NULL) {
+        record.NumberParameters = count < EXCEPTION_MAXIMUM_PARAMETERS ? count : EXCEPTION_MAXIMUM_PARAMETERS;
+        memcpy(record.ExceptionInformation, arguments, record.NumberParameters * sizeof *arguments);
+    }
+    if (!is_handled(&record) && code != NAMES_A_THREAD && code != HAS_A_TEXT && code != HAS_A_WIDE_TEXT)
         abort();
 }

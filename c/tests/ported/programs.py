@@ -85,6 +85,6 @@ PROGRAMS = {
     "mimalloc": Program("mimalloc", "test/test-stress.c src/init.c", "-Iinclude"),
     "gperftools": Program("google-perftools", "src/windows/port.cc src/base/spinlock.cc src/base/spinlock_internal.cc", "-Isrc -Isrc/windows"),
     "googletest": Program("googletest", "googletest/src/gtest-port.cc", "-include names.h -Igoogletest -Igoogletest/include"),
-    "glib": Program("glib2.0", "glib/gthread-win32.c glib/gthread.c", "-I. -Iglib"),
-    "libgc": Program("libgc", "win32_threads.c", "-Iinclude -Iinclude/private -DGC_THREADS"),
+    "glib": Program("glib2.0", "glib/gthread-win32.c glib/gthread.c", "-DGLIB_COMPILATION -I. -Iglib"),
+    "libgc": Program("libgc", "win32_threads.c", "-Iinclude -Iinclude/private -DGC_THREADS -DGC_BUILTIN_ATOMIC"),
 }
