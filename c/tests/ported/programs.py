@@ -16,7 +16,7 @@ PROGRAMS = {
         "-DHAVE_CONFIG_H -DTUKLIB_SYMBOL_PREFIX=lzma_ -Isrc/common -Isrc/liblzma " + " ".join(f"-Isrc/liblzma/{it}" for it in XZ.split()),
     ),
     "x264": Program("x264", "common/win32thread.c common/threadpool.c common/cpu.c encoder/lookahead.c", "-I."),
-    "git": Program("git", "compat/win32/pthread.c thread-utils.c", "-DWIN32 -DNO_UNIX_SOCKETS -Icompat/win32 -I."),
+    "git": Program("git", "compat/win32/pthread.c thread-utils.c", "-include process.h -DWIN32 -DNO_UNIX_SOCKETS -Icompat/win32 -I."),
     "dav1d": Program("dav1d", "src/win32/thread.c src/thread_task.c src/cpu.c src/lib.c", "-std=c99 -I. -Iinclude -Iinclude/dav1d -Isrc"),
     "libvpx": Program(
         "libvpx",

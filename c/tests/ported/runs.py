@@ -224,12 +224,12 @@ def boost(shop, source):
 # Each call of the library has another name, since this library calls the system's own.
 RENAMES = "grep -ohE '\\b(_*pthread|sem|sched|clock|nanosleep)_?[a-z_]* *[(]' include/*.h | tr -d '( ' | sort -u | sed 's/.*/#define & winpthreads_&/'"
 WINPTHREADS_LEFT_OUT = {
-    **dict.fromkeys("mutex4 mutex6e mutex6es mutex7 mutex7e mutex7n spin1 spin3".split(), "mutexes that its own code has no longer"),
+    **dict.fromkeys("mutex4 mutex6e mutex6es mutex7 mutex7e mutex7n spin1 spin3".split(), "what its own code contradicts"),
     **dict.fromkeys("cancel3 cancel5 cancel6a".split(), "the registers of a thread that runs"),
     **dict.fromkeys("exception1 exception2 exception3".split(), "another compiler"),
     "cancel9": "sockets",
     "context1": "the registers of a thread that runs",
-    "sizes": "types that its own code has no longer",
+    "sizes": "what its own code contradicts",
 }
 
 
@@ -256,7 +256,7 @@ XZ = (
 )
 XZ_FILES = "src/liblzma/*/*.c src/common/tuklib_cpucores.c src/common/tuklib_physmem.c"
 # (Its pthread_create has the system's name, which this library calls.)
-GIT = "-DWIN32 -DNO_UNIX_SOCKETS -Dpthread_create=git_pthread_create -Dpthread_self=git_pthread_self -Icompat/win32 -I."
+GIT = "-include process.h -DWIN32 -DNO_UNIX_SOCKETS -Dpthread_create=git_pthread_create -Dpthread_self=git_pthread_self -Icompat/win32 -I."
 WINPR = "-D_WIN64 -D_WIN32_WINNT=0x0A00 -U__linux__ -include inttypes.h -Iwinpr/include"
 WINPR_MAIN = "int {0}(int, char **);\nint main(int count, char **words) {{ return {0}(count, words); }}\n"
 WINPR_LEFT_OUT = {
