@@ -74,6 +74,7 @@ struct life {
     DWORD id;                /* as GetCurrentThreadId answers it */
     pid_t task;              /* the system's number of it */
     int priority;
+    uint8_t boost;           /* whether waits raise its priority (win32/threads.c) */
     WCHAR *description;      /* null where there is none */
     int64_t began, ended;    /* in UTC */
     uint64_t used[2];        /* how long it ran, once it has ended, in units of 100 ns: as the program, and in the system */

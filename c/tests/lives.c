@@ -208,6 +208,49 @@ static void priorities(void)
     CloseHandle(thread);
 }
 
+/* The process's answer is that of each thread that was told none since. */
+static void boosts(void)
+{
+    HANDLE thread, self = GetCurrentThread(), process = GetCurrentProcess();
+    BOOL is_disabled = 9;
+    must((thread = CreateThread(NULL, 0, answer, NULL, CREATE_SUSPENDED, NULL)) != NULL);
+    ANSWERS(GetThreadPriorityBoost(thread, &is_disabled), TRUE, UNTOUCHED);
+    IS(is_disabled, FALSE);
+    ANSWERS(SetThreadPriorityBoost(thread, TRUE), TRUE, UNTOUCHED);
+    IS(GetThreadPriorityBoost(thread, &is_disabled) && is_disabled == TRUE, 1);
+    IS(GetThreadPriorityBoost(self, &is_disabled) && is_disabled == FALSE, 1);
+    ANSWERS(GetProcessPriorityBoost(process, &is_disabled), TRUE, UNTOUCHED);
+    IS(is_disabled, FALSE);
+    ANSWERS(SetProcessPriorityBoost(process, TRUE), TRUE, UNTOUCHED);
+    IS(GetProcessPriorityBoost(process, &is_disabled) && is_disabled == TRUE, 1);
+    IS(GetThreadPriorityBoost(self, &is_disabled) && is_disabled == TRUE, 1);
+    ANSWERS(SetProcessPriorityBoost(process, FALSE), TRUE, UNTOUCHED);
+    IS(GetThreadPriorityBoost(thread, &is_disabled) && is_disabled == FALSE, 1);
+    ANSWERS(SetThreadPriorityBoost(EVENT, TRUE), FALSE, ERROR_INVALID_HANDLE);
+    ANSWERS(GetThreadPriorityBoost(NO_SUCH, &is_disabled), FALSE, ERROR_INVALID_HANDLE);
+    ANSWERS(SetProcessPriorityBoost(NULL, TRUE), FALSE, ERROR_INVALID_HANDLE);
+    ANSWERS(GetProcessPriorityBoost(EVENT, &is_disabled), FALSE, ERROR_INVALID_HANDLE);
+    ResumeThread(thread);
+    join(thread);
+    CloseHandle(thread);
+}
+
+static DWORD WINAPI tell_block(LPVOID at)
+{
+    *(struct _TEB **)at = NtCurrentTeb();
+    return 0;
+}
+
+static void blocks(void)
+{
+    struct _TEB *told = NULL, *own = NtCurrentTeb();
+    HANDLE thread;
+    must((thread = CreateThread(NULL, 0, tell_block, &told, 0, NULL)) != NULL);
+    join(thread);
+    CloseHandle(thread);
+    IS(own != NULL && told != NULL && told != own && NtCurrentTeb() == own, 1);
+}
+
 static DWORD WINAPI read_own_name(LPVOID name)
 {
     FILE *file = fopen("/proc/thread-self/comm", "r");
@@ -341,6 +384,8 @@ int main(void)
     apcs_before_the_beginning();
     ids();
     priorities();
+    boosts();
+    blocks();
     descriptions();
     times();
     looks_end_no_wait();

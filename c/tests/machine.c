@@ -14,7 +14,7 @@ static DWORD WINAPI wait_for(LPVOID event)
 
 static void processors(void)
 {
-    DWORD_PTR mask, system, one;
+    DWORD_PTR mask, system, one, other;
     GROUP_AFFINITY before, now = { 0 };
     PROCESSOR_NUMBER number;
     HANDLE event = CreateEvent(NULL, TRUE, FALSE, NULL), thread = CreateThread(NULL, 0, wait_for, event, 0, NULL);
@@ -27,6 +27,15 @@ static void processors(void)
     ANSWERS(SetThreadAffinityMask(thread, 0), 0, ERROR_INVALID_PARAMETER);
     ANSWERS(SetThreadAffinityMask(event, mask), 0, ERROR_INVALID_HANDLE);
     ANSWERS(GetProcessAffinityMask(GetCurrentProcess(), &system, &system), TRUE, UNTOUCHED);
+    ANSWERS(SetProcessAffinityMask(GetCurrentProcess(), one), TRUE, UNTOUCHED);
+    IS(GetProcessAffinityMask(GetCurrentProcess(), &other, &system) && other == one, TRUE);
+    ANSWERS(SetThreadAffinityMask(thread, one), one, UNTOUCHED);
+    ANSWERS(SetProcessAffinityMask(GetCurrentProcess(), mask), TRUE, UNTOUCHED);
+    ANSWERS(SetThreadAffinityMask(thread, mask), mask, UNTOUCHED);
+    ANSWERS(SetProcessAffinityMask(GetCurrentProcess(), 0), FALSE, ERROR_INVALID_PARAMETER);
+    if (system != ~(DWORD_PTR)0)
+        ANSWERS(SetProcessAffinityMask(GetCurrentProcess(), ~(DWORD_PTR)0), FALSE, ERROR_INVALID_PARAMETER);
+    ANSWERS(SetProcessAffinityMask(NULL, mask), FALSE, ERROR_INVALID_HANDLE);
     now.Mask = one;
     ANSWERS(SetThreadGroupAffinity(GetCurrentThread(), &now, &before), TRUE, UNTOUCHED);
     IS(before.Mask, mask);
@@ -249,6 +258,30 @@ static void zones(void)
     ANSWERS(ntwin_is_proved() == TRUE || ntwin_is_proved() == FALSE, TRUE, UNTOUCHED);
 }
 
+static void versions(void)
+{
+    OSVERSIONINFOA version = { .dwOSVersionInfoSize = sizeof version, .szCSDVersion = "?" };
+    OSVERSIONINFOEXA longer = { .dwOSVersionInfoSize = sizeof longer, .wServicePackMajor = 9, .wSuiteMask = 9 };
+    OSVERSIONINFOEXW wide = { .dwOSVersionInfoSize = sizeof wide, .wServicePackMajor = 9 };
+    ANSWERS(GetVersionExA(&version), TRUE, UNTOUCHED);
+    IS(version.dwMajorVersion | version.dwMinorVersion << 8 | version.dwBuildNumber << 16, GetVersion());
+    IS(version.dwPlatformId, VER_PLATFORM_WIN32_NT);
+    IS(strlen(version.szCSDVersion), 0);
+    ANSWERS(GetVersionEx((LPOSVERSIONINFO)(void *)&longer), TRUE, UNTOUCHED);
+    IS(longer.dwBuildNumber, version.dwBuildNumber);
+    IS(longer.wProductType, VER_NT_WORKSTATION);
+    IS(longer.wServicePackMajor | longer.wSuiteMask, 0);
+    ANSWERS(GetVersionExW((LPOSVERSIONINFOW)(void *)&wide), TRUE, UNTOUCHED);
+    IS(wide.dwMajorVersion, 10);
+    IS(wide.wProductType, VER_NT_WORKSTATION);
+    wide.dwMajorVersion = 9;
+    ANSWERS(RtlGetVersion((PRTL_OSVERSIONINFOW)(void *)&wide), 0, UNTOUCHED);
+    IS(wide.dwMajorVersion, 10);
+    version.dwOSVersionInfoSize = wide.dwOSVersionInfoSize = sizeof version - 1;
+    ANSWERS(GetVersionExA(&version), FALSE, ERROR_INSUFFICIENT_BUFFER);
+    ANSWERS(GetVersionExW((LPOSVERSIONINFOW)(void *)&wide), FALSE, ERROR_INSUFFICIENT_BUFFER);
+}
+
 int main(void)
 {
     processors();
@@ -260,5 +293,6 @@ int main(void)
     handles();
     clocks();
     zones();
+    versions();
     return counted();
 }

@@ -1,7 +1,10 @@
 /* Texts of errors, modules with their calls, and the waits of a thread with a queue of messages: what each answers with its last error. */
+#define _GNU_SOURCE
 #include <windows.h>
 
 #include "check.h"
+
+#include <unistd.h>
 
 enum { SYSTEM = FORMAT_MESSAGE_FROM_SYSTEM | FORMAT_MESSAGE_IGNORE_INSERTS };
 
@@ -19,9 +22,12 @@ static const struct {
     { 50, "The request is not supported.\r\n" },
     { 87, "The parameter is incorrect.\r\n" },
     { 183, "Cannot create a file when that file already exists.\r\n" },
+    { 193, "%1 is not a valid Win32 application.\r\n" },
     { 258, "The wait operation timed out.\r\n" },
     { 288, "Attempt to release mutex not owned by caller.\r\n" },
     { 298, "Too many posts were made to a semaphore.\r\n" },
+    { 402, "The process is already in background processing mode.\r\n" },
+    { 403, "The process is not in background processing mode.\r\n" },
     { 587, "An attempt was made to acquire a mutant such that its maximum count would have been exceeded.\r\n" },
     { 1450, "Insufficient system resources exist to complete the requested service.\r\n" },
     { 1460, "This operation returned because the timeout period expired.\r\n" },
@@ -67,7 +73,7 @@ static void modules(void)
     SetLastError(UNTOUCHED);
     must((here = GetModuleHandle("kernel32.dll")) != NULL);
     IS(GetLastError(), UNTOUCHED);
-    IS(GetModuleHandleA("KERNEL32") == here && GetModuleHandleW(L"ntdll.dll") == here && GetModuleHandle(NULL) == here, 1);
+    IS(GetModuleHandleA("KERNEL32") == here && GetModuleHandleW(L"ntdll.dll") == here, 1);
     ANSWERS(GetModuleHandle("user32.dll"), 0, ERROR_MOD_NOT_FOUND);
     ANSWERS(GetModuleHandleW(L"kernel"), 0, ERROR_MOD_NOT_FOUND);
     ((set_error)(void (*)(void))GetProcAddress(here, "SetLastError"))(77);
@@ -80,7 +86,114 @@ static void modules(void)
     const char *const lacking[] = { "CreateFileA", "A", "zz", "", "timeGetTim", "timeGetTimes", "getlasterror" };
     for (size_t i = 0; i < ARRAYSIZE(lacking); i++)
         ANSWERS(GetProcAddress(here, lacking[i]), 0, ERROR_PROC_NOT_FOUND);
+    ANSWERS(GetProcAddress(here, (LPCSTR)(uintptr_t)7), 0, ERROR_INVALID_ORDINAL);
     ANSWERS(GetProcAddress(NULL, "SetEvent"), 0, ERROR_MOD_NOT_FOUND);
+    ANSWERS(LoadLibrary("ntdll"), here, UNTOUCHED);
+    ANSWERS(FreeLibrary(here), TRUE, UNTOUCHED);
+    ANSWERS(DisableThreadLibraryCalls(here), TRUE, UNTOUCHED);
+}
+
+/* A library that each system with this C library has, and that no program here is linked with. */
+#define LIBRARY "libanl.so.1"
+
+static DWORD WINAPI load_and_exit(LPVOID none)
+{
+    (void)none;
+    FreeLibraryAndExitThread(LoadLibrary(LIBRARY), 7);
+}
+
+static void libraries(void)
+{
+    HMODULE library, math;
+    DWORD code;
+    ANSWERS(GetModuleHandle(LIBRARY), 0, ERROR_MOD_NOT_FOUND);
+    ANSWERS((library = LoadLibraryA(LIBRARY)) != NULL, 1, UNTOUCHED);
+    ANSWERS(LoadLibraryW(L"" LIBRARY), library, UNTOUCHED);
+    ANSWERS(GetModuleHandle(LIBRARY), library, UNTOUCHED);
+    ANSWERS(FreeLibrary(library), TRUE, UNTOUCHED);
+    ANSWERS(GetModuleHandleW(L"" LIBRARY), library, UNTOUCHED);
+    HANDLE thread = CreateThread(NULL, 0, load_and_exit, NULL, 0, NULL);
+    must(WaitForSingleObject(thread, INFINITE) == WAIT_OBJECT_0 && GetExitCodeThread(thread, &code));
+    IS(code, 7);
+    CloseHandle(thread);
+    ANSWERS(GetModuleHandle(LIBRARY), library, UNTOUCHED);
+    ANSWERS(FreeLibrary(library), TRUE, UNTOUCHED);
+    ANSWERS(GetModuleHandle(LIBRARY), 0, ERROR_MOD_NOT_FOUND);
+    ANSWERS(FreeLibrary(library), FALSE, ERROR_MOD_NOT_FOUND);
+    ANSWERS(DisableThreadLibraryCalls(library), FALSE, ERROR_MOD_NOT_FOUND);
+    ANSWERS(FreeLibrary(NULL), FALSE, ERROR_INVALID_HANDLE);
+    must((math = LoadLibraryEx("libm.so.6", NULL, LOAD_WITH_ALTERED_SEARCH_PATH)) != NULL);
+    IS(((double (*)(double))(void (*)(void))GetProcAddress(math, "cos"))(0), 1);
+    ANSWERS(GetProcAddress(math, "no_such_call"), 0, ERROR_PROC_NOT_FOUND);
+    const struct {
+        const char *name;
+        HANDLE file;
+        DWORD flags, error;
+    } refused[] = {
+        { NULL, NULL, 0, ERROR_INVALID_PARAMETER },
+        { LIBRARY, thread, 0, ERROR_INVALID_PARAMETER },
+        { LIBRARY, NULL, 0x80000000u, ERROR_INVALID_PARAMETER },
+        { LIBRARY, NULL, LOAD_LIBRARY_AS_DATAFILE, ERROR_NOT_SUPPORTED },
+        { LIBRARY, NULL, DONT_RESOLVE_DLL_REFERENCES, ERROR_NOT_SUPPORTED },
+        { "", NULL, 0, ERROR_MOD_NOT_FOUND },
+        { "no_such_library.so", NULL, 0, ERROR_MOD_NOT_FOUND },
+        { "/no/such/library.so", NULL, 0, ERROR_MOD_NOT_FOUND },
+        { "/proc/self/status", NULL, 0, ERROR_BAD_EXE_FORMAT },
+    };
+    for (size_t i = 0; i < ARRAYSIZE(refused); i++)
+        ANSWERS(LoadLibraryExA(refused[i].name, refused[i].file, refused[i].flags), 0, refused[i].error);
+    ANSWERS(LoadLibraryExW(NULL, NULL, 0), 0, ERROR_INVALID_PARAMETER);
+    ANSWERS(LoadLibraryExW(L"/no/such/library.so", NULL, 0), 0, ERROR_MOD_NOT_FOUND);
+}
+
+int main(void);
+
+/* Modules by their names, and by what is in them; and how long each stays. */
+static void held_modules(void)
+{
+    const DWORD at = GET_MODULE_HANDLE_EX_FLAG_FROM_ADDRESS, stays = GET_MODULE_HANDLE_EX_FLAG_UNCHANGED_REFCOUNT;
+    HMODULE math = GetModuleHandle("libm.so.6"), found = math, program = GetModuleHandle(NULL);
+    const LPCSTR in_math = (LPCSTR)(uintptr_t)GetProcAddress(math, "cos"), in_program = (LPCSTR)(uintptr_t)&main;
+    IS(program != NULL && program != math && program != GetModuleHandle("kernel32"), 1);
+    ANSWERS(GetModuleHandleExA(at | stays, in_math, &found) && found == math, TRUE, UNTOUCHED);
+    ANSWERS(GetModuleHandleExW(at | stays, (LPCWSTR)(const void *)in_program, &found) && found == program, TRUE, UNTOUCHED);
+    ANSWERS(GetModuleHandleExW(0, NULL, &found) && found == program, TRUE, UNTOUCHED);
+    ANSWERS(FreeLibrary(program), TRUE, UNTOUCHED);
+    ANSWERS(GetModuleHandleEx(at | stays, (LPCSTR)&found, &found), FALSE, ERROR_MOD_NOT_FOUND);
+    IS(found == NULL, 1);
+    ANSWERS(GetModuleHandleEx(0, "libm.so.6", NULL), FALSE, ERROR_INVALID_PARAMETER);
+    ANSWERS(GetModuleHandleEx(8, "libm.so.6", &found), FALSE, ERROR_INVALID_PARAMETER);
+    ANSWERS(GetModuleHandleEx(stays | GET_MODULE_HANDLE_EX_FLAG_PIN, "libm.so.6", &found), FALSE, ERROR_INVALID_PARAMETER);
+    must((found = LoadLibrary(LIBRARY)) != NULL);
+    /* (By the next call the library is held once more.) */
+    ANSWERS(GetModuleHandleEx(0, LIBRARY, &math) && math == found, TRUE, UNTOUCHED);
+    IS(FreeLibrary(found) && GetModuleHandle(LIBRARY) == found, 1);
+    ANSWERS(GetModuleHandleExW(GET_MODULE_HANDLE_EX_FLAG_PIN, L"" LIBRARY, &math) && math == found, TRUE, UNTOUCHED);
+    IS(FreeLibrary(found) && FreeLibrary(found) && FreeLibrary(found), 1);
+    ANSWERS(GetModuleHandle(LIBRARY), found, UNTOUCHED);
+}
+
+static void module_files(void)
+{
+    enum { ROOM = 4096 };
+    char path[ROOM], real[ROOM] = "", library[ROOM];
+    WCHAR wide[ROOM];
+    must(readlink("/proc/self/exe", real, ROOM - 1) > 0);
+    const DWORD length = (DWORD)strlen(real);
+    ANSWERS(GetModuleFileName(NULL, path, ROOM), length, ERROR_SUCCESS);
+    IS(strcmp(path, real), 0);
+    ANSWERS(GetModuleFileNameW(GetModuleHandle(NULL), wide, ROOM), length, ERROR_SUCCESS);
+    IS(wide[0] == '/' && wcslen(wide) == length, 1);
+    ANSWERS(GetModuleFileNameA(NULL, path, 5), 5, ERROR_INSUFFICIENT_BUFFER);
+    IS(strlen(path) == 4 && strncmp(path, real, 4) == 0, 1);
+    ANSWERS(GetModuleFileNameW(NULL, wide, length), length, ERROR_INSUFFICIENT_BUFFER);
+    IS(wcslen(wide), length - 1);
+    ANSWERS(GetModuleFileNameA(NULL, path, 0), 0, ERROR_INSUFFICIENT_BUFFER);
+    DWORD found = GetModuleFileNameA(GetModuleHandle("libm.so.6"), library, ROOM);
+    IS(found == strlen(library) && library[0] == '/' && strstr(library, "libm") != NULL, 1);
+    found = GetModuleFileNameA(GetModuleHandle("kernel32"), library, ROOM);
+    IS(found == strlen(library) && library[0] == '/', 1);
+    ANSWERS(GetModuleFileNameA((HMODULE)(uintptr_t)&length, path, ROOM), 0, ERROR_MOD_NOT_FOUND);
 }
 
 static void CALLBACK nothing(ULONG_PTR none)
@@ -113,6 +226,9 @@ int main(void)
 {
     texts();
     modules();
+    libraries();
+    held_modules();
+    module_files();
     waits_with_messages();
     return counted();
 }

@@ -196,6 +196,7 @@ static void __cdecl begun_to_end(void *event)
 static void threads_of_the_runtime(void)
 {
     unsigned id = 0;
+    unsigned long error = 0;
     LONG ran = 0;
     HANDLE thread, event;
     must((event = CreateEvent(NULL, FALSE, FALSE, NULL)) != NULL);
@@ -209,8 +210,12 @@ static void threads_of_the_runtime(void)
     IS(ran, 2);
     IS(CloseHandle(thread), TRUE);
     errno = 0;
+    IS(_set_doserrno(77), 0);
     IS(_beginthreadex(NULL, 0, NULL, NULL, 0, NULL), 0);
     IS(errno, EINVAL);
+    IS(_get_doserrno(&error), 0);
+    IS(error, ERROR_INVALID_PARAMETER);
+    _doserrno = 0;
     void (*const starts[])(void *) = { begun_by_return, begun_to_end };
     for (int i = 0; i < 2; i++) {
         must((thread = (HANDLE)_beginthread(starts[i], 0, event)) != (HANDLE)(intptr_t)-1);
@@ -221,8 +226,10 @@ static void threads_of_the_runtime(void)
         ANSWERS(WaitForSingleObject(thread, 0), WAIT_FAILED, ERROR_INVALID_HANDLE);
     }
     errno = 0;
+    IS(_doserrno, 0);
     IS(_beginthread(NULL, 0, NULL), (uintptr_t)-1);
     IS(errno, EINVAL);
+    IS(_doserrno, ERROR_INVALID_PARAMETER);
     IS(_getpid(), GetCurrentProcessId());
     CloseHandle(event);
 }

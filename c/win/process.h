@@ -19,6 +19,22 @@ uintptr_t _beginthread(_beginthread_proc_type start, unsigned stack, void *argum
 void _endthread(void) __attribute__((noreturn));
 int _getpid(void);
 
+/* The last error of the call of these that failed last in this thread. (`unsigned long` has 64 bits here.) */
+unsigned long *ntwin_doserrno(void);
+#define _doserrno (*ntwin_doserrno())
+
+static __inline__ __attribute__((__unused__)) int _get_doserrno(unsigned long *error)
+{
+    *error = _doserrno;
+    return 0;
+}
+
+static __inline__ __attribute__((__unused__)) int _set_doserrno(unsigned long error)
+{
+    _doserrno = error;
+    return 0;
+}
+
 #ifdef __cplusplus
 }
 #endif

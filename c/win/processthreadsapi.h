@@ -43,13 +43,42 @@ BOOL GetThreadTimes(HANDLE thread, LPFILETIME began, LPFILETIME ended, LPFILETIM
 /* A priority is kept, and has no effect. */
 BOOL SetThreadPriority(HANDLE thread, int priority);
 int GetThreadPriority(HANDLE thread);
+/* Whether a wait's end raises its thread's priority for a while: kept, without effect. */
+BOOL SetThreadPriorityBoost(HANDLE thread, BOOL is_disabled);
+BOOL GetThreadPriorityBoost(HANDLE thread, PBOOL is_disabled);
 /* The system shows the first 15 characters. LocalFree frees what is answered. */
 HRESULT SetThreadDescription(HANDLE thread, PCWSTR description);
 HRESULT GetThreadDescription(HANDLE thread, PWSTR *description);
+/* An address that no other thread has. (What is there is no concern of a program's.) */
+struct _TEB *NtCurrentTeb(void);
 /* Lets other threads run. Answers TRUE, whether one did or not. */
 BOOL SwitchToThread(void);
 /* Whether the processor has it, and FALSE where this is not known. */
 BOOL IsProcessorFeaturePresent(DWORD feature);
+
+/* ---- The process: these are for the process itself alone, whose handle is GetCurrentProcess(). */
+
+#define NORMAL_PRIORITY_CLASS 0x00000020u
+#define IDLE_PRIORITY_CLASS 0x00000040u
+#define HIGH_PRIORITY_CLASS 0x00000080u
+#define REALTIME_PRIORITY_CLASS 0x00000100u
+#define BELOW_NORMAL_PRIORITY_CLASS 0x00004000u
+#define ABOVE_NORMAL_PRIORITY_CLASS 0x00008000u
+#define PROCESS_MODE_BACKGROUND_BEGIN 0x00100000u
+#define PROCESS_MODE_BACKGROUND_END 0x00200000u
+
+/* Another process is refused with ERROR_ACCESS_DENIED, and an id that none has with ERROR_INVALID_PARAMETER. */
+HANDLE OpenProcess(DWORD access, BOOL inherit, DWORD id);
+DWORD GetProcessId(HANDLE process);
+/* STILL_ACTIVE. */
+BOOL GetExitCodeProcess(HANDLE process, LPDWORD code);
+/* As GetThreadTimes, for all threads together. */
+BOOL GetProcessTimes(HANDLE process, LPFILETIME began, LPFILETIME ended, LPFILETIME system, LPFILETIME user);
+/* A class of priorities is kept, and has no effect. */
+BOOL SetPriorityClass(HANDLE process, DWORD priority_class);
+DWORD GetPriorityClass(HANDLE process);
+BOOL SetProcessPriorityBoost(HANDLE process, BOOL is_disabled);
+BOOL GetProcessPriorityBoost(HANDLE process, PBOOL is_disabled);
 
 #ifdef __cplusplus
 }

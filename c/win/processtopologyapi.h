@@ -26,6 +26,8 @@ DWORD GetCurrentProcessorNumber(void);
 void GetCurrentProcessorNumberEx(PPROCESSOR_NUMBER number);
 /* The processors on which the process may run, a bit each, and those of the machine; for the process itself. */
 BOOL GetProcessAffinityMask(HANDLE process, PDWORD_PTR process_mask, PDWORD_PTR system_mask);
+/* From now on all threads of the process run on these alone. */
+BOOL SetProcessAffinityMask(HANDLE process, DWORD_PTR mask);
 /* From now on the thread runs on these of the process's processors alone. Answers the mask before, or 0. */
 DWORD_PTR SetThreadAffinityMask(HANDLE thread, DWORD_PTR mask);
 BOOL GetThreadGroupAffinity(HANDLE thread, PGROUP_AFFINITY affinity);

@@ -67,8 +67,12 @@ typedef struct _MEMORYSTATUS {
 
 void GetSystemInfo(LPSYSTEM_INFO info);
 void GetNativeSystemInfo(LPSYSTEM_INFO info);
-/* That of Windows 10. */
+/* That of Windows 10, a workstation. */
 DWORD GetVersion(void);
+BOOL GetVersionExA(LPOSVERSIONINFOA version);
+BOOL GetVersionExW(LPOSVERSIONINFOW version);
+/* (Sources get it by its name, from ntdll.) */
+NTSTATUS RtlGetVersion(PRTL_OSVERSIONINFOW version);
 BOOL GlobalMemoryStatusEx(LPMEMORYSTATUSEX status);
 void GlobalMemoryStatus(LPMEMORYSTATUS status);
 /* UTC, and the time of the zone. */
@@ -83,6 +87,12 @@ BOOL SystemTimeToFileTime(const SYSTEMTIME *from, LPFILETIME to);
 /* By what the zone is ahead of UTC at that time. */
 BOOL FileTimeToLocalFileTime(const FILETIME *from, LPFILETIME to);
 BOOL LocalFileTimeToFileTime(const FILETIME *from, LPFILETIME to);
+
+#ifdef UNICODE
+#define GetVersionEx GetVersionExW
+#else
+#define GetVersionEx GetVersionExA
+#endif
 
 #ifdef __cplusplus
 }

@@ -3,10 +3,13 @@
 #define NTWIN_WINBASE_H
 
 #include "slist.h"
+#include "debugapi.h"
+#include "errhandlingapi.h"
 #include "fibersapi.h"
 #include "handleapi.h"
 #include "heapapi.h"
 #include "ioapiset.h"
+#include "libloaderapi.h"
 #include "processthreadsapi.h"
 #include "stringapiset.h"
 #include "synchapi.h"
@@ -35,12 +38,6 @@ extern "C" {
 DWORD FormatMessageA(DWORD flags, LPCVOID source, DWORD error, DWORD language, LPSTR buffer, DWORD size, va_list *arguments);
 DWORD FormatMessageW(DWORD flags, LPCVOID source, DWORD error, DWORD language, LPWSTR buffer, DWORD size, va_list *arguments);
 
-/* ---- Modules: kernel32, kernelbase, ntdll and winmm are one here, with the calls of these headers. */
-
-HMODULE GetModuleHandleA(LPCSTR name);
-HMODULE GetModuleHandleW(LPCWSTR name);
-FARPROC GetProcAddress(HMODULE module, LPCSTR name);
-
 /* ---- Waits of a thread with a queue of messages. There is none, so these are the waits without it, for up to 63 objects. */
 
 #define QS_KEY 0x0001u
@@ -58,10 +55,8 @@ DWORD MsgWaitForMultipleObjectsEx(DWORD count, const HANDLE *objects, DWORD ms, 
 
 #ifdef UNICODE
 #define FormatMessage FormatMessageW
-#define GetModuleHandle GetModuleHandleW
 #else
 #define FormatMessage FormatMessageA
-#define GetModuleHandle GetModuleHandleA
 #endif
 
 #ifdef __cplusplus

@@ -212,6 +212,23 @@ typedef struct tagRECT {
 #define NULL 0
 #endif
 
+/* ---- Numbers for handles and pointers. */
+
+#define HandleToLong(handle) ((LONG)(LONG_PTR)(handle))
+#define HandleToUlong(handle) ((ULONG)(ULONG_PTR)(handle))
+#define HandleToULong HandleToUlong
+#define LongToHandle(number) ((HANDLE)(LONG_PTR)(LONG)(number))
+#define UlongToHandle(number) ((HANDLE)(ULONG_PTR)(ULONG)(number))
+#define ULongToHandle UlongToHandle
+#define PtrToInt(pointer) ((INT)(INT_PTR)(pointer))
+#define PtrToUint(pointer) ((UINT)(UINT_PTR)(pointer))
+#define PtrToLong(pointer) ((LONG)(LONG_PTR)(pointer))
+#define PtrToUlong(pointer) ((ULONG)(ULONG_PTR)(pointer))
+#define IntToPtr(number) ((PVOID)(INT_PTR)(INT)(number))
+#define UIntToPtr(number) ((PVOID)(UINT_PTR)(UINT)(number))
+#define LongToPtr(number) ((PVOID)(LONG_PTR)(LONG)(number))
+#define ULongToPtr(number) ((PVOID)(ULONG_PTR)(ULONG)(number))
+
 /* ---- Parts of a word. */
 
 #define LOBYTE(word) ((BYTE)((DWORD_PTR)(word) & 0xFF))

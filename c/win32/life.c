@@ -26,6 +26,11 @@ static void begin_life(struct seat *seat, DWORD id)
         name_task(seat->life.task, seat->life.description);
 }
 
+static uint64_t moments_used(struct timeval time)
+{
+    return (uint64_t)time.tv_sec * MOMENTS_PER_SECOND + (uint64_t)time.tv_usec * 10;
+}
+
 /* The caller ends, under the lock. */
 static void end_life(struct seat *seat)
 {
@@ -33,8 +38,8 @@ static void end_life(struct seat *seat)
     seat->has_left = true;
     seat->life.ended = universal();
     if (getrusage(RUSAGE_THREAD, &used) == 0) {
-        seat->life.used[0] = (uint64_t)used.ru_utime.tv_sec * MOMENTS_PER_SECOND + (uint64_t)used.ru_utime.tv_usec * 10;
-        seat->life.used[1] = (uint64_t)used.ru_stime.tv_sec * MOMENTS_PER_SECOND + (uint64_t)used.ru_stime.tv_usec * 10;
+        seat->life.used[0] = moments_used(used.ru_utime);
+        seat->life.used[1] = moments_used(used.ru_stime);
     }
 }
 

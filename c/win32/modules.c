@@ -1,227 +1,12 @@
-/* ---- Modules: the calls that are here, by their names. They are of one module, by whichever of the system's names. */
+/* ---- Modules: the libraries of the system, and one with the calls that are here, by whichever of Windows' names. */
 
-#define NAMED(call) { #call, (FARPROC)(void (*)(void))(call) }
+#include <dlfcn.h>
 
-/* In the order of their names. */
-static const struct {
-    const char *name;
-    FARPROC call;
-} calls[] = {
-    NAMED(AcquireSRWLockExclusive),
-    NAMED(AcquireSRWLockShared),
-    NAMED(CallbackMayRunLong),
-    NAMED(CancelWaitableTimer),
-    NAMED(ChangeTimerQueueTimer),
-    NAMED(CloseHandle),
-    NAMED(CloseThreadpool),
-    NAMED(CloseThreadpoolCleanupGroup),
-    NAMED(CloseThreadpoolCleanupGroupMembers),
-    NAMED(CloseThreadpoolTimer),
-    NAMED(CloseThreadpoolWait),
-    NAMED(CloseThreadpoolWork),
-    NAMED(CreateEventA),
-    NAMED(CreateEventExA),
-    NAMED(CreateEventExW),
-    NAMED(CreateEventW),
-    NAMED(CreateIoCompletionPort),
-    NAMED(CreateMutexA),
-    NAMED(CreateMutexExA),
-    NAMED(CreateMutexExW),
-    NAMED(CreateMutexW),
-    NAMED(CreateSemaphoreA),
-    NAMED(CreateSemaphoreExA),
-    NAMED(CreateSemaphoreExW),
-    NAMED(CreateSemaphoreW),
-    NAMED(CreateThread),
-    NAMED(CreateThreadpool),
-    NAMED(CreateThreadpoolCleanupGroup),
-    NAMED(CreateThreadpoolTimer),
-    NAMED(CreateThreadpoolWait),
-    NAMED(CreateThreadpoolWork),
-    NAMED(CreateTimerQueue),
-    NAMED(CreateTimerQueueTimer),
-    NAMED(CreateWaitableTimerA),
-    NAMED(CreateWaitableTimerExA),
-    NAMED(CreateWaitableTimerExW),
-    NAMED(CreateWaitableTimerW),
-    NAMED(DeleteCriticalSection),
-    NAMED(DeleteSynchronizationBarrier),
-    NAMED(DeleteTimerQueue),
-    NAMED(DeleteTimerQueueEx),
-    NAMED(DeleteTimerQueueTimer),
-    NAMED(DestroyThreadpoolEnvironment),
-    NAMED(DisassociateCurrentThreadFromCallback),
-    NAMED(DuplicateHandle),
-    NAMED(EnterCriticalSection),
-    NAMED(EnterSynchronizationBarrier),
-    NAMED(ExitProcess),
-    NAMED(ExitThread),
-    NAMED(FileTimeToLocalFileTime),
-    NAMED(FileTimeToSystemTime),
-    NAMED(FlsAlloc),
-    NAMED(FlsFree),
-    NAMED(FlsGetValue),
-    NAMED(FlsSetValue),
-    NAMED(FormatMessageA),
-    NAMED(FormatMessageW),
-    NAMED(GetActiveProcessorCount),
-    NAMED(GetActiveProcessorGroupCount),
-    NAMED(GetCurrentProcess),
-    NAMED(GetCurrentProcessId),
-    NAMED(GetCurrentProcessorNumber),
-    NAMED(GetCurrentProcessorNumberEx),
-    NAMED(GetCurrentThread),
-    NAMED(GetCurrentThreadId),
-    NAMED(GetExitCodeThread),
-    NAMED(GetHandleInformation),
-    NAMED(GetLastError),
-    NAMED(GetLocalTime),
-    NAMED(GetLogicalProcessorInformation),
-    NAMED(GetMaximumProcessorCount),
-    NAMED(GetMaximumProcessorGroupCount),
-    NAMED(GetModuleHandleA),
-    NAMED(GetModuleHandleW),
-    NAMED(GetNativeSystemInfo),
-    NAMED(GetNumaHighestNodeNumber),
-    NAMED(GetNumaNodeProcessorMask),
-    NAMED(GetNumaNodeProcessorMaskEx),
-    NAMED(GetNumaProcessorNode),
-    NAMED(GetProcAddress),
-    NAMED(GetProcessAffinityMask),
-    NAMED(GetProcessHeap),
-    NAMED(GetQueuedCompletionStatus),
-    NAMED(GetQueuedCompletionStatusEx),
-    NAMED(GetSystemInfo),
-    NAMED(GetSystemTime),
-    NAMED(GetSystemTimeAdjustment),
-    NAMED(GetSystemTimeAsFileTime),
-    NAMED(GetSystemTimePreciseAsFileTime),
-    NAMED(GetThreadDescription),
-    NAMED(GetThreadGroupAffinity),
-    NAMED(GetThreadId),
-    NAMED(GetThreadPriority),
-    NAMED(GetThreadTimes),
-    NAMED(GetTickCount),
-    NAMED(GetTickCount64),
-    NAMED(GetVersion),
-    NAMED(GlobalMemoryStatus),
-    NAMED(GlobalMemoryStatusEx),
-    NAMED(HeapAlloc),
-    NAMED(HeapFree),
-    NAMED(HeapReAlloc),
-    NAMED(HeapSize),
-    NAMED(InitOnceBeginInitialize),
-    NAMED(InitOnceComplete),
-    NAMED(InitOnceExecuteOnce),
-    NAMED(InitOnceInitialize),
-    NAMED(InitializeConditionVariable),
-    NAMED(InitializeCriticalSection),
-    NAMED(InitializeCriticalSectionAndSpinCount),
-    NAMED(InitializeCriticalSectionEx),
-    NAMED(InitializeSListHead),
-    NAMED(InitializeSRWLock),
-    NAMED(InitializeSynchronizationBarrier),
-    NAMED(InitializeThreadpoolEnvironment),
-    NAMED(InterlockedFlushSList),
-    NAMED(InterlockedPopEntrySList),
-    NAMED(InterlockedPushEntrySList),
-    NAMED(InterlockedPushListSListEx),
-    NAMED(IsProcessorFeaturePresent),
-    NAMED(IsThreadpoolTimerSet),
-    NAMED(LeaveCriticalSection),
-    NAMED(LeaveCriticalSectionWhenCallbackReturns),
-    NAMED(LocalAlloc),
-    NAMED(LocalFileTimeToFileTime),
-    NAMED(LocalFree),
-    NAMED(MsgWaitForMultipleObjects),
-    NAMED(MsgWaitForMultipleObjectsEx),
-    NAMED(MultiByteToWideChar),
-    NAMED(OpenEventA),
-    NAMED(OpenEventW),
-    NAMED(OpenMutexA),
-    NAMED(OpenMutexW),
-    NAMED(OpenSemaphoreA),
-    NAMED(OpenSemaphoreW),
-    NAMED(OpenThread),
-    NAMED(OpenWaitableTimerA),
-    NAMED(OpenWaitableTimerW),
-    NAMED(PostQueuedCompletionStatus),
-    NAMED(PulseEvent),
-    NAMED(QueryDepthSList),
-    NAMED(QueryPerformanceCounter),
-    NAMED(QueryPerformanceFrequency),
-    NAMED(QueueUserAPC),
-    NAMED(QueueUserWorkItem),
-    NAMED(RegisterWaitForSingleObject),
-    NAMED(ReleaseMutex),
-    NAMED(ReleaseMutexWhenCallbackReturns),
-    NAMED(ReleaseSRWLockExclusive),
-    NAMED(ReleaseSRWLockShared),
-    NAMED(ReleaseSemaphore),
-    NAMED(ReleaseSemaphoreWhenCallbackReturns),
-    NAMED(ResetEvent),
-    NAMED(ResumeThread),
-    NAMED(RtlFirstEntrySList),
-    NAMED(SetCriticalSectionSpinCount),
-    NAMED(SetEvent),
-    NAMED(SetEventWhenCallbackReturns),
-    NAMED(SetLastError),
-    NAMED(SetThreadAffinityMask),
-    NAMED(SetThreadDescription),
-    NAMED(SetThreadGroupAffinity),
-    NAMED(SetThreadPriority),
-    NAMED(SetThreadpoolCallbackCleanupGroup),
-    NAMED(SetThreadpoolCallbackPool),
-    NAMED(SetThreadpoolCallbackRunsLong),
-    NAMED(SetThreadpoolThreadMaximum),
-    NAMED(SetThreadpoolThreadMinimum),
-    NAMED(SetThreadpoolTimer),
-    NAMED(SetThreadpoolWait),
-    NAMED(SetWaitableTimer),
-    NAMED(SetWaitableTimerEx),
-    NAMED(SignalObjectAndWait),
-    NAMED(Sleep),
-    NAMED(SleepConditionVariableCS),
-    NAMED(SleepConditionVariableSRW),
-    NAMED(SleepEx),
-    NAMED(SubmitThreadpoolWork),
-    NAMED(SuspendThread),
-    NAMED(SwitchToThread),
-    NAMED(SystemTimeToFileTime),
-    NAMED(TerminateProcess),
-    NAMED(TlsAlloc),
-    NAMED(TlsFree),
-    NAMED(TlsGetValue),
-    NAMED(TlsSetValue),
-    NAMED(TryAcquireSRWLockExclusive),
-    NAMED(TryAcquireSRWLockShared),
-    NAMED(TryEnterCriticalSection),
-    NAMED(TrySubmitThreadpoolCallback),
-    NAMED(UnregisterWait),
-    NAMED(UnregisterWaitEx),
-    NAMED(WaitForMultipleObjects),
-    NAMED(WaitForMultipleObjectsEx),
-    NAMED(WaitForSingleObject),
-    NAMED(WaitForSingleObjectEx),
-    NAMED(WaitForThreadpoolTimerCallbacks),
-    NAMED(WaitForThreadpoolWaitCallbacks),
-    NAMED(WaitForThreadpoolWorkCallbacks),
-    NAMED(WaitOnAddress),
-    NAMED(WakeAllConditionVariable),
-    NAMED(WakeByAddressAll),
-    NAMED(WakeByAddressSingle),
-    NAMED(WakeConditionVariable),
-    NAMED(WideCharToMultiByte),
-    NAMED(timeBeginPeriod),
-    NAMED(timeEndPeriod),
-    NAMED(timeGetDevCaps),
-    NAMED(timeGetTime),
-};
-#undef NAMED
+#include "calls_by_name.h"
 
 static const char module_here;
 
-static bool is_module(const char *name)
+static bool is_here(const char *name)
 {
     static const char *const names[] = { "kernel32", "kernelbase", "ntdll", "winmm", "api-ms-win-core-synch-l1-2-0" };
     size_t length = strlen(name);
@@ -233,31 +18,9 @@ static bool is_module(const char *name)
     return false;
 }
 
-HMODULE GetModuleHandleA(LPCSTR name)
-{
-    if (name == NULL || is_module(name))
-        return (HMODULE)(uintptr_t)&module_here;
-    fail(ERROR_MOD_NOT_FOUND);
-    return NULL;
-}
-
-HMODULE GetModuleHandleW(LPCWSTR name)
-{
-    char narrow[MAX_PATH + 1];
-    size_t length = 0;
-    for (; name != NULL && name[length] != 0 && length < MAX_PATH; length++)
-        narrow[length] = name[length] < 128 ? (char)name[length] : '?';
-    narrow[length] = 0;
-    return GetModuleHandleA(name != NULL ? narrow : NULL);
-}
-
-FARPROC GetProcAddress(HMODULE module, LPCSTR name)
+static FARPROC call_by_name(const char *name)
 {
     size_t low = 0, high = ARRAYSIZE(calls);
-    if (module != (HMODULE)(uintptr_t)&module_here) {
-        fail(ERROR_MOD_NOT_FOUND);
-        return NULL;
-    }
     while (low < high) {
         const size_t middle = (low + high) / 2;
         const int order = strcmp(name, calls[middle].name);
@@ -268,8 +31,224 @@ FARPROC GetProcAddress(HMODULE module, LPCSTR name)
         else
             low = middle + 1;
     }
-    fail(ERROR_PROC_NOT_FOUND);
     return NULL;
+}
+
+#define MODULE_HERE ((HMODULE)(uintptr_t)&module_here)
+
+/* The program's place in the loader's list of what is in the process, and what is looked for there. */
+struct search {
+    const struct link_map *program;
+    const void *wanted;
+};
+
+/* (The loader neither adds nor takes away a library while this is called.) */
+static int look_for(struct dl_phdr_info *info, size_t size, void *at)
+{
+    enum { FOUND = 1, NOT_FOUND };
+    const struct search *search = at;
+    (void)info;
+    (void)size;
+    for (const struct link_map *map = search->program; map != NULL; map = map->l_next)
+        if (map == search->wanted)
+            return FOUND;
+    return NOT_FOUND;
+}
+
+/* Whether this is the program, or a library that is in the process: what dlopen answers is its place in the list. */
+static bool is_loaded(HMODULE module)
+{
+    void *program = dlopen(NULL, RTLD_LAZY);
+    struct search search = { .program = program, .wanted = module };
+    const bool is_there = module != NULL && dl_iterate_phdr(look_for, &search) == 1;
+    dlclose(program);
+    return is_there;
+}
+
+/* What dlopen has answered for the name. Null, with the last error set, where that is null. */
+static HMODULE module_of(const char *name, void *library)
+{
+    if (library == NULL)
+        fail(name != NULL && strchr(name, '/') != NULL && access(name, F_OK) == 0 ? ERROR_BAD_EXE_FORMAT : ERROR_MOD_NOT_FOUND);
+    return library;
+}
+
+/* The module with this name, or the program, where it is in the process: `how` is of dlopen. */
+static HMODULE module_named(const char *name, int how)
+{
+    if (name != NULL && is_here(name))
+        return MODULE_HERE;
+    return module_of(NULL, name == NULL || name[0] != 0 ? dlopen(name, RTLD_LAZY | RTLD_NOLOAD | how) : NULL);
+}
+
+/* The module in which this address is. */
+static HMODULE module_at(const void *address, int how)
+{
+    Dl_info info;
+    void *map = NULL;
+    if (dladdr1(address, &info, &map, RTLD_DL_LINKMAP) == 0 || map == NULL)
+        return module_of(NULL, NULL);
+    const char *name = ((const struct link_map *)map)->l_name;
+    return module_named(name[0] != 0 ? name : NULL, how);
+}
+
+/* A name in UTF-8. Null, with the last error set, where it is too long. */
+static char *narrow_name(LPCWSTR name, char narrow[PATH_MAX])
+{
+    if (WideCharToMultiByte(CP_UTF8, 0, name, -1, narrow, PATH_MAX, NULL, NULL) > 0)
+        return narrow;
+    fail(ERROR_FILENAME_EXCED_RANGE);
+    return NULL;
+}
+
+HMODULE LoadLibraryExA(LPCSTR name, HANDLE file, DWORD flags)
+{
+    const DWORD only_data = DONT_RESOLVE_DLL_REFERENCES | LOAD_LIBRARY_AS_DATAFILE | LOAD_LIBRARY_AS_IMAGE_RESOURCE
+        | LOAD_LIBRARY_AS_DATAFILE_EXCLUSIVE;
+    const DWORD where = LOAD_WITH_ALTERED_SEARCH_PATH | LOAD_IGNORE_CODE_AUTHZ_LEVEL | LOAD_LIBRARY_REQUIRE_SIGNED_TARGET
+        | LOAD_LIBRARY_SEARCH_DLL_LOAD_DIR | LOAD_LIBRARY_SEARCH_APPLICATION_DIR | LOAD_LIBRARY_SEARCH_USER_DIRS
+        | LOAD_LIBRARY_SEARCH_SYSTEM32 | LOAD_LIBRARY_SEARCH_DEFAULT_DIRS;
+    if (name == NULL || file != NULL || (flags & ~(only_data | where)) != 0 || (flags & only_data) != 0) {
+        fail((flags & only_data) != 0 ? ERROR_NOT_SUPPORTED : ERROR_INVALID_PARAMETER);
+        return NULL;
+    }
+    if (is_here(name))
+        return MODULE_HERE;
+    return module_of(name, name[0] != 0 ? dlopen(name, RTLD_LAZY) : NULL);
+}
+
+HMODULE LoadLibraryExW(LPCWSTR name, HANDLE file, DWORD flags)
+{
+    char narrow[PATH_MAX];
+    if (name != NULL && narrow_name(name, narrow) == NULL)
+        return NULL;
+    return LoadLibraryExA(name != NULL ? narrow : NULL, file, flags);
+}
+
+HMODULE LoadLibraryA(LPCSTR name)
+{
+    return LoadLibraryExA(name, NULL, 0);
+}
+
+HMODULE LoadLibraryW(LPCWSTR name)
+{
+    return LoadLibraryExW(name, NULL, 0);
+}
+
+BOOL FreeLibrary(HMODULE module)
+{
+    if (module == NULL)
+        return fail(ERROR_INVALID_HANDLE);
+    if (module == MODULE_HERE)
+        return TRUE;
+    if (!is_loaded(module))
+        return fail(ERROR_MOD_NOT_FOUND);
+    /* (It refuses a library that no call has loaded, and that stays.) */
+    dlclose(module);
+    return TRUE;
+}
+
+void FreeLibraryAndExitThread(HMODULE module, DWORD code)
+{
+    FreeLibrary(module);
+    ExitThread(code);
+}
+
+BOOL GetModuleHandleExA(DWORD flags, LPCSTR name, HMODULE *module)
+{
+    const DWORD stays = flags & (GET_MODULE_HANDLE_EX_FLAG_PIN | GET_MODULE_HANDLE_EX_FLAG_UNCHANGED_REFCOUNT);
+    if (module == NULL)
+        return fail(ERROR_INVALID_PARAMETER);
+    *module = NULL;
+    if ((flags & ~(stays | GET_MODULE_HANDLE_EX_FLAG_FROM_ADDRESS)) != 0
+        || stays == (GET_MODULE_HANDLE_EX_FLAG_PIN | GET_MODULE_HANDLE_EX_FLAG_UNCHANGED_REFCOUNT))
+        return fail(ERROR_INVALID_PARAMETER);
+    const int how = stays == GET_MODULE_HANDLE_EX_FLAG_PIN ? RTLD_NODELETE : 0;
+    *module = name != NULL && (flags & GET_MODULE_HANDLE_EX_FLAG_FROM_ADDRESS) != 0 ? module_at(name, how) : module_named(name, how);
+    if (stays == GET_MODULE_HANDLE_EX_FLAG_UNCHANGED_REFCOUNT && *module != NULL)
+        FreeLibrary(*module);
+    return *module != NULL;
+}
+
+BOOL GetModuleHandleExW(DWORD flags, LPCWSTR name, HMODULE *module)
+{
+    char narrow[PATH_MAX];
+    if (name == NULL || (flags & GET_MODULE_HANDLE_EX_FLAG_FROM_ADDRESS) != 0)
+        return GetModuleHandleExA(flags, (LPCSTR)name, module);
+    return narrow_name(name, narrow) != NULL ? GetModuleHandleExA(flags, narrow, module) : FALSE;
+}
+
+HMODULE GetModuleHandleA(LPCSTR name)
+{
+    HMODULE found;
+    return GetModuleHandleExA(GET_MODULE_HANDLE_EX_FLAG_UNCHANGED_REFCOUNT, name, &found) ? found : NULL;
+}
+
+HMODULE GetModuleHandleW(LPCWSTR name)
+{
+    HMODULE found;
+    return GetModuleHandleExW(GET_MODULE_HANDLE_EX_FLAG_UNCHANGED_REFCOUNT, name, &found) ? found : NULL;
+}
+
+FARPROC GetProcAddress(HMODULE module, LPCSTR name)
+{
+    const bool is_number = (uintptr_t)name <= 0xFFFF;
+    if (module != MODULE_HERE && !is_loaded(module)) {
+        fail(ERROR_MOD_NOT_FOUND);
+        return NULL;
+    }
+    FARPROC found = NULL;
+    if (!is_number)
+        found = module == MODULE_HERE ? call_by_name(name) : (FARPROC)(uintptr_t)dlsym(module, name);
+    if (found == NULL)
+        fail(is_number ? ERROR_INVALID_ORDINAL : ERROR_PROC_NOT_FOUND);
+    return found;
+}
+
+/* The file of a module, by its whole path: what is linked into the program is there. */
+static bool read_path(HMODULE module, char path[PATH_MAX])
+{
+    Dl_info info;
+    void *map = module;
+    if (module == MODULE_HERE && dladdr1(&module_here, &info, &map, RTLD_DL_LINKMAP) == 0)
+        map = NULL;
+    if (module != MODULE_HERE && module != NULL && !is_loaded(module))
+        return fail(ERROR_MOD_NOT_FOUND);
+    const char *name = map != NULL ? ((const struct link_map *)map)->l_name : "";
+    return realpath(name[0] != 0 ? name : "/proc/self/exe", path) != NULL || fail(ERROR_MOD_NOT_FOUND);
+}
+
+/* Gives a text, whose characters have so many bytes, and what ends it, or as much as there is room for. Answers as GetModuleFileName. */
+static DWORD give_text(void *to, DWORD room, const void *text, size_t length, size_t bytes)
+{
+    const bool fits = length < room;
+    const size_t given = (fits ? length : room - 1) * bytes;
+    if (room > 0) {
+        memcpy(to, text, given);
+        memset((char *)to + given, 0, bytes);
+    }
+    own.last_error = fits ? ERROR_SUCCESS : ERROR_INSUFFICIENT_BUFFER;
+    return fits ? (DWORD)length : room;
+}
+
+DWORD GetModuleFileNameA(HMODULE module, LPSTR buffer, DWORD size)
+{
+    char path[PATH_MAX];
+    return read_path(module, path) ? give_text(buffer, size, path, strlen(path), sizeof *path) : 0;
+}
+
+DWORD GetModuleFileNameW(HMODULE module, LPWSTR buffer, DWORD size)
+{
+    char path[PATH_MAX];
+    WCHAR wide[PATH_MAX];
+    if (!read_path(module, path) || MultiByteToWideChar(CP_UTF8, 0, path, -1, wide, PATH_MAX) == 0)
+        return 0;
+    return give_text(buffer, size, wide, wcslen(wide), sizeof *wide);
+}
+
+BOOL DisableThreadLibraryCalls(HMODULE module)
+{
+    return module == MODULE_HERE || is_loaded(module) || fail(ERROR_MOD_NOT_FOUND);
 }
 
 /* ---- Waits of a thread with a queue of messages: there is none, so they are the waits without it. */

@@ -1,5 +1,7 @@
 /* ---- Processors: one group and one node, the first 64 of them in a mask. */
 
+#include <dirent.h>
+
 DWORD GetCurrentProcessorNumber(void)
 {
     const int processor = sched_getcpu();
@@ -30,16 +32,22 @@ static DWORD_PTR processors_of(pid_t task)
     return mask;
 }
 
-/* The processors on which the process may run: those of its first thread, when that was asked first. */
+/* The processors on which the process may run: those that were set, or those of its first thread, when that was asked first. */
+static _Atomic DWORD_PTR processors_found;
+
 static DWORD_PTR processors_here(void)
 {
-    static _Atomic DWORD_PTR found;
-    DWORD_PTR mask = atomic_load_explicit(&found, memory_order_relaxed);
+    DWORD_PTR mask = atomic_load_explicit(&processors_found, memory_order_relaxed);
     if (mask == 0) {
         mask = processors_of(getpid());
-        atomic_store_explicit(&found, mask, memory_order_relaxed);
+        atomic_store_explicit(&processors_found, mask, memory_order_relaxed);
     }
     return mask;
+}
+
+static DWORD_PTR processors_of_all(void)
+{
+    return mask_of(sysconf(_SC_NPROCESSORS_ONLN)) | processors_here();
 }
 
 BOOL GetProcessAffinityMask(HANDLE process_handle, PDWORD_PTR process_mask, PDWORD_PTR system_mask)
@@ -47,7 +55,35 @@ BOOL GetProcessAffinityMask(HANDLE process_handle, PDWORD_PTR process_mask, PDWO
     if (process_handle != CURRENT_PROCESS)
         return fail(ERROR_INVALID_HANDLE);
     *process_mask = processors_here();
-    *system_mask = mask_of(sysconf(_SC_NPROCESSORS_ONLN)) | *process_mask;
+    *system_mask = processors_of_all();
+    return TRUE;
+}
+
+static cpu_set_t set_of(DWORD_PTR mask)
+{
+    cpu_set_t set;
+    CPU_ZERO(&set);
+    for (int i = 0; i < MAXIMUM_PROCESSORS; i++)
+        if ((mask >> i & 1) != 0)
+            CPU_SET(i, &set);
+    return set;
+}
+
+/* All threads run on these processors alone, as do those that they create. */
+BOOL SetProcessAffinityMask(HANDLE process_handle, DWORD_PTR mask)
+{
+    const cpu_set_t set = set_of(mask);
+    if (process_handle != CURRENT_PROCESS)
+        return fail(ERROR_INVALID_HANDLE);
+    if (mask == 0 || (mask & ~processors_of_all()) != 0 || sched_setaffinity(0, sizeof set, &set) != 0)
+        return fail(ERROR_INVALID_PARAMETER);
+    DIR *tasks = opendir("/proc/self/task");
+    for (const struct dirent *task; tasks != NULL && (task = readdir(tasks)) != NULL;)
+        if (task->d_name[0] != '.')
+            sched_setaffinity((pid_t)atoi(task->d_name), sizeof set, &set);
+    if (tasks != NULL)
+        closedir(tasks);
+    atomic_store_explicit(&processors_found, mask, memory_order_relaxed);
     return TRUE;
 }
 
@@ -74,16 +110,12 @@ static pid_t task_of(HANDLE thread)
 
 DWORD_PTR SetThreadAffinityMask(HANDLE thread, DWORD_PTR mask)
 {
-    cpu_set_t set;
+    const cpu_set_t set = set_of(mask);
     const DWORD_PTR all = processors_here();
     const pid_t task = task_of(thread);
     if (task == 0)
         return 0;
     const DWORD_PTR before = processors_of(task);
-    CPU_ZERO(&set);
-    for (int i = 0; i < MAXIMUM_PROCESSORS; i++)
-        if ((mask >> i & 1) != 0)
-            CPU_SET(i, &set);
     if (mask == 0 || (mask & ~all) != 0 || sched_setaffinity(task, sizeof set, &set) != 0) {
         fail(ERROR_INVALID_PARAMETER);
         return 0;

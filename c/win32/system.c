@@ -38,10 +38,35 @@ void GetNativeSystemInfo(LPSYSTEM_INFO info)
     GetSystemInfo(info);
 }
 
+enum { MAJOR = 10, MINOR = 0, BUILD = 19045 };
+
 DWORD GetVersion(void)
 {
-    enum { MAJOR = 10, MINOR = 0, BUILD = 19045 };
     return MAJOR | MINOR << 8 | (DWORD)BUILD << 16;
+}
+
+/* What begins each of the longer structures is the shorter one. */
+BOOL GetVersionExA(LPOSVERSIONINFOA version)
+{
+    const OSVERSIONINFOEXA found = { version->dwOSVersionInfoSize, MAJOR, MINOR, BUILD, VER_PLATFORM_WIN32_NT, .wProductType = VER_NT_WORKSTATION };
+    if (version->dwOSVersionInfoSize != sizeof *version && version->dwOSVersionInfoSize != sizeof found)
+        return fail(ERROR_INSUFFICIENT_BUFFER);
+    memcpy(version, &found, version->dwOSVersionInfoSize);
+    return TRUE;
+}
+
+NTSTATUS RtlGetVersion(PRTL_OSVERSIONINFOW version)
+{
+    const OSVERSIONINFOEXW found = { version->dwOSVersionInfoSize, MAJOR, MINOR, BUILD, VER_PLATFORM_WIN32_NT, .wProductType = VER_NT_WORKSTATION };
+    memcpy(version, &found, version->dwOSVersionInfoSize == sizeof found ? sizeof found : sizeof *version);
+    return 0;
+}
+
+BOOL GetVersionExW(LPOSVERSIONINFOW version)
+{
+    if (version->dwOSVersionInfoSize != sizeof *version && version->dwOSVersionInfoSize != sizeof(OSVERSIONINFOEXW))
+        return fail(ERROR_INSUFFICIENT_BUFFER);
+    return RtlGetVersion(version) == 0;
 }
 
 BOOL GlobalMemoryStatusEx(LPMEMORYSTATUSEX status)

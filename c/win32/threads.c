@@ -99,20 +99,26 @@ DWORD SuspendThread(HANDLE thread)
     return end_look(caller, refused) ? before : UINT32_MAX;
 }
 
+/* What the system has of a thread, or the process, after its name: that is in brackets, and may have any character. Null where it is gone. */
+static const char *read_state(const char *path, char line[1024])
+{
+    FILE *file = fopen(path, "re");
+    if (file == NULL)
+        return NULL;
+    const char *rest = fgets(line, 1024, file) != NULL ? strrchr(line, ')') : NULL;
+    fclose(file);
+    return rest;
+}
+
 /* How long a thread ran that has not ended, as the program and in the system. */
 static void read_times_used(const struct life *life, uint64_t used[2])
 {
-    char path[64], line[512] = "";
+    char path[64], line[1024];
     unsigned long ticks[2] = { 0, 0 };
     snprintf(path, sizeof path, "/proc/self/task/%d/stat", (int)life->task);
-    FILE *file = fopen(path, "re");
-    if (file != NULL) {
-        /* (Its name, in brackets, may have any character.) */
-        const char *rest = fgets(line, sizeof line, file) != NULL ? strrchr(line, ')') : NULL;
-        if (rest != NULL && sscanf(rest, ") %*c %*d %*d %*d %*d %*d %*u %*u %*u %*u %*u %lu %lu", &ticks[0], &ticks[1]) != 2)
-            ticks[0] = ticks[1] = 0;
-        fclose(file);
-    }
+    const char *rest = read_state(path, line);
+    if (rest != NULL && sscanf(rest, ") %*c %*d %*d %*d %*d %*d %*u %*u %*u %*u %*u %lu %lu", &ticks[0], &ticks[1]) != 2)
+        ticks[0] = ticks[1] = 0;
     for (int i = 0; i < 2; i++)
         used[i] = ticks[i] * (MOMENTS_PER_SECOND / (uint64_t)sysconf(_SC_CLK_TCK));
 }
@@ -161,6 +167,64 @@ int GetThreadPriority(HANDLE thread)
     const int priority = seat->life.priority;
     unlock_and_wake(caller);
     return priority;
+}
+
+/* Whether waits raise the priority of threads for a while: one thread's own answer, or the process's for all that have none. It is kept, and that
+ * is all. */
+enum { AS_THE_PROCESS, BOOSTED, NOT_BOOSTED };
+static _Atomic bool is_process_boosted = true;
+
+BOOL SetThreadPriorityBoost(HANDLE thread, BOOL is_disabled)
+{
+    struct seat *caller, *seat = begin_with_thread(thread, &caller);
+    if (seat == NULL)
+        return FALSE;
+    seat->life.boost = is_disabled ? NOT_BOOSTED : BOOSTED;
+    unlock_and_wake(caller);
+    return TRUE;
+}
+
+BOOL GetThreadPriorityBoost(HANDLE thread, PBOOL is_disabled)
+{
+    struct seat *caller, *seat = begin_with_thread(thread, &caller);
+    if (seat == NULL)
+        return FALSE;
+    const bool is_boosted = seat->life.boost == AS_THE_PROCESS ? is_process_boosted : seat->life.boost == BOOSTED;
+    unlock_and_wake(caller);
+    *is_disabled = !is_boosted;
+    return TRUE;
+}
+
+static BOOL is_process(HANDLE handle)
+{
+    return handle == CURRENT_PROCESS || fail(ERROR_INVALID_HANDLE);
+}
+
+/* For all threads, whatever was said of one before. */
+BOOL SetProcessPriorityBoost(HANDLE handle, BOOL is_disabled)
+{
+    struct seat *caller = is_process(handle) ? begin() : NULL;
+    if (caller == NULL)
+        return FALSE;
+    is_process_boosted = !is_disabled;
+    for (uint32_t i = 0; i < waiting.seated; i++)
+        waiting.seats[i].life.boost = AS_THE_PROCESS;
+    unlock_and_wake(caller);
+    return TRUE;
+}
+
+BOOL GetProcessPriorityBoost(HANDLE handle, PBOOL is_disabled)
+{
+    if (!is_process(handle))
+        return FALSE;
+    *is_disabled = !is_process_boosted;
+    return TRUE;
+}
+
+/* (No other thread has one at this address.) */
+struct _TEB *NtCurrentTeb(void)
+{
+    return (struct _TEB *)(void *)&own;
 }
 
 /* What is answered where a handle names no thread: STATUS_INVALID_HANDLE as an HRESULT. */

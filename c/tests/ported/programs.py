@@ -16,7 +16,7 @@ PROGRAMS = {
         "-DHAVE_CONFIG_H -DTUKLIB_SYMBOL_PREFIX=lzma_ -Isrc/common -Isrc/liblzma " + " ".join(f"-Isrc/liblzma/{it}" for it in XZ.split()),
     ),
     "x264": Program("x264", "common/win32thread.c common/threadpool.c common/cpu.c encoder/lookahead.c", "-I."),
-    "git": Program("git", "compat/win32/pthread.c thread-utils.c", "-DWIN32 -DNO_UNIX_SOCKETS -Icompat/win32 -I."),
+    "git": Program("git", "compat/win32/pthread.c thread-utils.c", "-include process.h -DWIN32 -DNO_UNIX_SOCKETS -Icompat/win32 -I."),
     "dav1d": Program("dav1d", "src/win32/thread.c src/thread_task.c src/cpu.c src/lib.c", "-std=c99 -I. -Iinclude -Iinclude/dav1d -Isrc"),
     "libvpx": Program(
         "libvpx",
@@ -85,6 +85,6 @@ PROGRAMS = {
     "mimalloc": Program("mimalloc", "test/test-stress.c src/init.c", "-Iinclude"),
     "gperftools": Program("google-perftools", "src/windows/port.cc src/base/spinlock.cc src/base/spinlock_internal.cc", "-Isrc -Isrc/windows"),
     "googletest": Program("googletest", "googletest/src/gtest-port.cc", "-include names.h -Igoogletest -Igoogletest/include"),
-    "glib": Program("glib2.0", "glib/gthread-win32.c glib/gthread.c", "-I. -Iglib"),
-    "libgc": Program("libgc", "win32_threads.c", "-Iinclude -Iinclude/private -DGC_THREADS"),
+    "glib": Program("glib2.0", "glib/gthread-win32.c glib/gthread.c", "-DGLIB_COMPILATION -I. -Iglib"),
+    "libgc": Program("libgc", "win32_threads.c", "-Iinclude -Iinclude/private -DGC_THREADS -DGC_BUILTIN_ATOMIC"),
 }

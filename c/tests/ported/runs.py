@@ -11,8 +11,6 @@ import tempfile
 Run = collections.namedtuple("Run", "package call")
 
 SECONDS_EACH = 60
-# Why some are left out: what a process here can have in its life.
-THREADS = "more than 256 threads"
 
 
 class Workshop:
@@ -196,14 +194,12 @@ BOOST_LEFT_OUT = {
     **dict.fromkeys("test_shared_mutex_timed_locks test_shared_mutex_timed_locks_chrono".split(), "a long of 32 bits"),
     "test_10963": "a race of its own, over pthreads too",
     "test_11611": "more than 65,536 handles",
-    "test_11796": THREADS,
     "test_13561": "a file that Debian leaves out",
     "test_8455": "blocks, as it says",
     "test_8557": "ends with 1 itself",
     "test_9192": "files",
     "test_9303": "sockets",
     "test_time_jumps": "a clock that is set",
-    "test_tss": "a loader that tells of a thread's end",
 }
 
 
@@ -228,14 +224,12 @@ def boost(shop, source):
 # Each call of the library has another name, since this library calls the system's own.
 RENAMES = "grep -ohE '\\b(_*pthread|sem|sched|clock|nanosleep)_?[a-z_]* *[(]' include/*.h | tr -d '( ' | sort -u | sed 's/.*/#define & winpthreads_&/'"
 WINPTHREADS_LEFT_OUT = {
-    **dict.fromkeys("mutex4 mutex6e mutex6es mutex7 mutex7e mutex7n spin1 spin3".split(), "older than the library's mutexes"),
-    **dict.fromkeys("benchtest1 benchtest2 benchtest3 benchtest4 loadfree tryentercs tryentercs2".split(), "libraries that are loaded"),
-    **dict.fromkeys("cancel3 cancel5 cancel6a".split(), "threads that are canceled where they stand"),
-    **dict.fromkeys("exception1 exception2 exception3".split(), "structured exceptions"),
+    **dict.fromkeys("mutex4 mutex6e mutex6es mutex7 mutex7e mutex7n spin1 spin3".split(), "what its own code contradicts"),
+    **dict.fromkeys("cancel3 cancel5 cancel6a".split(), "the registers of a thread that runs"),
+    **dict.fromkeys("exception1 exception2 exception3".split(), "another compiler"),
     "cancel9": "sockets",
-    "context1": "a thread's registers",
-    "once4": "priorities of processes",
-    "sizes": "types that are gone",
+    "context1": "the registers of a thread that runs",
+    "sizes": "what its own code contradicts",
 }
 
 
@@ -262,7 +256,7 @@ XZ = (
 )
 XZ_FILES = "src/liblzma/*/*.c src/common/tuklib_cpucores.c src/common/tuklib_physmem.c"
 # (Its pthread_create has the system's name, which this library calls.)
-GIT = "-DWIN32 -DNO_UNIX_SOCKETS -Dpthread_create=git_pthread_create -Dpthread_self=git_pthread_self -Icompat/win32 -I."
+GIT = "-include process.h -DWIN32 -DNO_UNIX_SOCKETS -Dpthread_create=git_pthread_create -Dpthread_self=git_pthread_self -Icompat/win32 -I."
 WINPR = "-D_WIN64 -D_WIN32_WINNT=0x0A00 -U__linux__ -include inttypes.h -Iwinpr/include"
 WINPR_MAIN = "int {0}(int, char **);\nint main(int count, char **words) {{ return {0}(count, words); }}\n"
 WINPR_LEFT_OUT = {

@@ -1,4 +1,4 @@
-/* What winpthreads asks of the system that is not here: exceptions, contexts and other processes, of which it is told that there are none; and its
+/* What winpthreads asks of the system that is not here: contexts, of which it is told that there are none; and its
  * hook for a thread's end, which Windows calls. */
 #include <stdarg.h>
 #include <string.h>
@@ -24,25 +24,6 @@ void _fpreset(void)
     FlsSetValue(slot, &slot);
 }
 
-PVOID AddVectoredExceptionHandler(ULONG first, LONG (*handler)(PEXCEPTION_POINTERS))
-{
-    return NULL;
-}
-
-ULONG RemoveVectoredExceptionHandler(PVOID handler)
-{
-    return 0;
-}
-
-void RaiseException(DWORD code, DWORD flags, DWORD count, const ULONG_PTR *arguments)
-{
-}
-
-BOOL IsDebuggerPresent(void)
-{
-    return FALSE;
-}
-
 BOOL GetThreadContext(HANDLE thread, CONTEXT *context)
 {
     return FALSE;
@@ -51,11 +32,6 @@ BOOL GetThreadContext(HANDLE thread, CONTEXT *context)
 BOOL SetThreadContext(HANDLE thread, const CONTEXT *context)
 {
     return FALSE;
-}
-
-HANDLE OpenProcess(DWORD access, BOOL inherit, DWORD id)
-{
-    return id == GetCurrentProcessId() ? GetCurrentProcess() : NULL;
 }
 
 HRESULT StringCchCopyNA(char *to, size_t size, const char *from, size_t length)
@@ -71,8 +47,4 @@ HRESULT StringCchPrintfA(char *to, size_t size, const char *format, ...)
     vsnprintf(to, size, format, arguments);
     va_end(arguments);
     return S_OK;
-}
-
-void OutputDebugStringA(LPCSTR text)
-{
 }

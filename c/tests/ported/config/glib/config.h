@@ -1,0 +1,13 @@
+#define GLIB_VERSION "of Debian"
+#define G_LOG_DOMAIN "GLib"
+#define GLIB_MAJOR_VERSION 2
+#define GLIB_MINOR_VERSION 74
+#define HAVE_UNISTD_H 1
+#define HAVE_SYS_TIME_H 1
+#define SIZEOF_CHAR 1
+#define SIZEOF_SHORT 2
+#define SIZEOF_INT 4
+#define SIZEOF_LONG 8
+#define SIZEOF_LONG_LONG 8
+#define SIZEOF_SIZE_T 8
+#define SIZEOF_VOID_P 8
