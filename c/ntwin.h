@@ -6,7 +6,7 @@
  * What differs from Windows:
  *   - A process makes as many handles and threads in its life as it likes. At once 61,440 handles are open at the most, and 4,096 threads make
  *     calls, the first thread among them; then CreateEvent and its like, or each call of one thread more, fail with ERROR_NO_SYSTEM_RESOURCES.
- *     A thread's place is another's once the thread has ended and its handles are closed.
+ *     A thread's place is another's once the thread has ended, though its handles may be open; its id is then another's too.
  *   - A handle that was closed is refused with ERROR_INVALID_HANDLE though its number is another handle's now, until that number was given
  *     16,382 times more.
  *   - Names are the process's own (win/synchapi.h opens objects by them). Security attributes are ignored. Nothing is shared with other

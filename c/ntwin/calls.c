@@ -2,7 +2,7 @@
  * given to the program, in 14. So a handle that was closed is refused, though its number was given again, until it was given 16,382 times more.
  * Threads' own handles are given to nobody. */
 
-enum { IS_OPEN = 2, COUNT_AT = 18, MOST_COUNT = 0x3FFE }; /* (No pseudo handle has such a count, nor has NULL one from 1 on.) */
+enum { COUNT_AT = 18, MOST_COUNT = 0x3FFE }; /* (No pseudo handle has such a count, nor has NULL one from 1 on.) */
 
 /* Gives the handle with this number to the program, under the lock. */
 static HANDLE give_handle(uint32_t number)
@@ -32,6 +32,33 @@ static uint16_t thread_of(uint32_t number)
     return number < NT_MAXIMUM_HANDLES ? waiting.threads[number] : 0;
 }
 
+/* The seat of that thread, or what it was. */
+static struct seat *seat_of(uint32_t number)
+{
+    struct past *past = number < NT_MAXIMUM_HANDLES ? waiting.pasts[number] : NULL;
+    return past != NULL ? &past->seat : &waiting.seats[thread_of(number)];
+}
+
+/* From now on, under the lock, the one number names the thread that the other names. */
+static void name_same_thread(uint32_t number, uint32_t other)
+{
+    waiting.threads[number] = thread_of(other);
+    waiting.pasts[number] = other < NT_MAXIMUM_HANDLES ? waiting.pasts[other] : NULL;
+    if (waiting.pasts[number] != NULL)
+        waiting.pasts[number]->handles++;
+}
+
+/* The number names no thread any longer whose place is another's. */
+static void forget_past(uint32_t number)
+{
+    struct past *past = waiting.pasts[number];
+    waiting.pasts[number] = NULL;
+    if (--past->handles > 0)
+        return;
+    free(past->seat.life.description);
+    free(past);
+}
+
 static enum kind kind_of(uint32_t number)
 {
     return number < NT_MAXIMUM_HANDLES ? (enum kind)waiting.kinds[number] : KIND_THREAD;
@@ -47,7 +74,9 @@ static uint32_t close_number(struct seat *caller, uint32_t number)
     waiting.given[number] &= ~(uint32_t)IS_OPEN;
     if (waiting.named[number] != NULL)
         forget_named(caller, number);
-    if (kind_of(number) == KIND_THREAD && waiting.seats[thread_of(number)].has_left) {
+    if (waiting.pasts[number] != NULL) {
+        forget_past(number);
+    } else if (kind_of(number) == KIND_THREAD && waiting.seats[thread_of(number)].has_left) {
         note(caller);
         renew_seats();
     }

@@ -50,6 +50,7 @@ enum {
     TRIES = 2,
     MOMENTS_OF_LOOKS = 1000, /* what LOOKS_AT_WORD take at the most, in units of 100 ns */
     NO_HANDLE = 0xFFFFFF,    /* a number that no handle has */
+    IS_OPEN = 2,             /* in the place of the program's own bits: the handle that was given last is open */
     MOMENTS_PER_SECOND = 10000000,
     NANOSECONDS_PER_MOMENT = 100
 };
@@ -117,6 +118,12 @@ struct seat {
     uint32_t woken[WOKEN_LATER]; /* once the lock is given back, and any further ones at once */
 };
 
+/* What is told of a thread that has ended, once its place is another's: its seat as it was, for the handles that still name the thread. */
+struct past {
+    struct seat seat;
+    uint32_t handles; /* how many these are */
+};
+
 /* Kinds of objects, for what the dispatcher's handles do not tell: the rights that generic ones stand for, and which waits timers may end. */
 enum kind { KIND_THREAD, KIND_EVENT, KIND_SEMAPHORE, KIND_MUTEX, KIND_TIMER, KIND_PROCESS, KIND_PORT };
 
@@ -164,6 +171,7 @@ static struct {
     uint32_t alive;          /* how many of their threads have not left */
     uint32_t ended;          /* how many have left, and some handle named them when that was looked at last */
     struct seat *spare;      /* seats that are free again */
+    uint32_t tried;          /* which seat was looked at last for a place to give again */
     struct runner *left;     /* threads of CreateThread that have left and are not joined */
     uint32_t process_handle; /* the number of an event that is never set, which stands for the process; NO_HANDLE before that is waited for */
     struct nt dispatcher;
@@ -172,6 +180,7 @@ static struct {
     uint32_t given[NT_MAXIMUM_HANDLES]; /* by number the program's handle, or that which was closed last (calls.c); */
     uint8_t kinds[NT_MAXIMUM_HANDLES]; /* of what each number names, or named last; */
     uint16_t threads[NT_MAXIMUM_HANDLES]; /* where that is a thread, which one; */
+    struct past *pasts[NT_MAXIMUM_HANDLES]; /* where its place is another's, what is told of it; else null; */
     struct named *named[NT_MAXIMUM_HANDLES]; /* where it has a name, which; else null; */
     struct port *ports[NT_MAXIMUM_HANDLES]; /* where it is a completion port, which; else null */
     const void *made_at[NT_MAXIMUM_HANDLES]; /* of an object, by its own number: where in the program it was created, or null; */

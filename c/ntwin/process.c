@@ -197,7 +197,7 @@ BOOL DuplicateHandle(HANDLE from, HANDLE handle, HANDLE to, LPHANDLE duplicate, 
     if (refused == 0) {
         made = give_handle(reply.number);
         waiting.kinds[reply.number] = (uint8_t)kind_of(number);
-        waiting.threads[reply.number] = thread_of(number);
+        name_same_thread(reply.number, number);
         if (number < NT_MAXIMUM_HANDLES && waiting.named[number] != NULL)
             note_named(waiting.named[number], reply.number);
         note_port(number, reply.number);

@@ -26,9 +26,64 @@ static void renew_seats(void)
     }
 }
 
+/* The thread that has left this seat is set aside, under the lock, and what is told of it goes to the handles that name it: so its place can be
+ * another's. False if that can't be, since a wait that pends names the thread. */
+static bool set_aside(struct seat *seat, struct past *past)
+{
+    if (nt_set_aside(&waiting.dispatcher, seat->number) != 0)
+        return false;
+    past->seat = *seat;
+    seat->life.description = NULL;
+    for (uint32_t number = 0; number < NT_MAXIMUM_HANDLES; number++)
+        if (waiting.threads[number] == seat->number && waiting.kinds[number] == KIND_THREAD && waiting.pasts[number] == NULL
+            && (waiting.given[number] & IS_OPEN) != 0) {
+            waiting.pasts[number] = past;
+            past->handles++;
+        }
+    return true;
+}
+
+/* Some handle is closed then, under the lock, so that the next thread that begins can have its number: a thread that runs makes an event and closes
+ * it. (Each thread that waits is refused.) */
+static void leave_closed_handle(void)
+{
+    struct nt_reply reply;
+    const uint32_t first = own.seat != NULL ? own.seat->number : 0;
+    for (uint32_t i = 0; i < waiting.seated; i++) {
+        const uint32_t who = (first + i) % waiting.seated;
+        if (nt_create_event(&waiting.dispatcher, who, 0, &reply) == 0) {
+            nt_close_handle(&waiting.dispatcher, who, reply.number, &reply);
+            return;
+        }
+    }
+}
+
+/* Each place is taken, under the lock: that of a thread which has left is made free, though handles name the thread. */
+static void make_place(void)
+{
+    renew_seats();
+    struct past *past = waiting.spare == NULL ? calloc(1, sizeof *past) : NULL;
+    if (past == NULL)
+        return;
+    for (uint32_t i = 0; i < waiting.places; i++) {
+        waiting.tried = (waiting.tried + 1) % waiting.places;
+        struct seat *seat = &waiting.seats[waiting.tried];
+        if (seat->has_left && set_aside(seat, past)) {
+            renew_seats();
+            if (waiting.spare == NULL)
+                leave_closed_handle();
+            renew_seats();
+            return;
+        }
+    }
+    free(past);
+}
+
 /* Takes a seat, under the lock; null where none is left. */
 static struct seat *take_seat(void)
 {
+    if (waiting.spare == NULL && waiting.seated == waiting.places)
+        make_place();
     struct seat *seat = waiting.spare;
     if (seat != NULL) {
         waiting.spare = seat->next;

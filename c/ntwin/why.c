@@ -78,6 +78,10 @@ static void write_object(struct report *to, uint32_t number, const struct nt_obj
     static const char *const kinds[] = { "object ", "event ", "semaphore ", "mutex ", "timer ", "thread " };
     const uint32_t handle = known.handles[number];
     const struct named *named = handle != NO_HANDLE ? waiting.named[handle] : NULL;
+    if (object->kind == NT_THREAD && number >= waiting.places) {
+        add_text(to, "a thread that has ended");
+        return;
+    }
     if (object->kind == NT_THREAD) {
         add_text(to, "thread ");
         write_thread(to, number);

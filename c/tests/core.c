@@ -451,6 +451,40 @@ static void places(void)
     free(lasting.room);
 }
 
+/* The object of a thread that has ended is set aside: its handle names it by another number, and its place is another thread's. */
+static void aside(void)
+{
+    struct nt lasting = { room(), false };
+    struct nt_begun begun = { 7, 8 };
+    struct nt_opened opened;
+    IS(nt_set_aside(&lasting, 1), NT_ERROR_INVALID_HANDLE);
+    IS(nt_open(&lasting, 2), 0);
+    IS(nt_exit(&lasting, 1, &reply), 0);
+    IS(nt_set_aside(&lasting, 1), NT_ERROR_INVALID_HANDLE);
+    nt_close(&lasting);
+    IS(nt_open_lasting(&lasting, 2), 0);
+    IS(nt_set_aside(&lasting, 1), NT_ERROR_INVALID_HANDLE);
+    IS(nt_exit(&lasting, 1, &reply), 0);
+    IS(nt_set_aside(&lasting, 1), NT_ERROR_HANDLE_LIMIT);
+    IS(made_in(&lasting), 2);
+    IS(nt_close_handle(&lasting, 0, 2, &reply), 0);
+    IS(nt_begin(&lasting, &begun), NT_ERROR_NO_MORE_ITEMS);
+    IS(nt_set_aside(&lasting, 1), 0);
+    IS(nt_opened(&lasting, 1, &opened), 0);
+    IS(opened.object, 2);
+    IS(opened.access, NT_SYNCHRONIZE | NT_SET_CONTEXT);
+    IS(nt_set_aside(&lasting, 1), NT_ERROR_INVALID_HANDLE);
+    IS(nt_begin(&lasting, &begun), 0);
+    IS(begun.thread, 1);
+    IS(begun.handle, 2);
+    IS(nt_wait_object(&lasting, 0, 1, 0, false, &reply), 0);
+    IS(reply.number, NT_WAIT_OBJECT_0);
+    IS(nt_wait_object(&lasting, 0, 2, 0, false, &reply), 0);
+    IS(reply.number, NT_WAIT_TIMEOUT);
+    nt_close(&lasting);
+    free(lasting.room);
+}
+
 /* A creation is refused once 65,536 handles are open, and no longer once one is closed. */
 static void limit(void)
 {
@@ -489,6 +523,7 @@ int main(void)
     last_handle();
     numbers();
     places();
+    aside();
     limit();
     nt_close(&nt);
     IS(nt.live, false);

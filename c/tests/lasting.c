@@ -296,9 +296,12 @@ static void most_threads(int rounds)
         IS(SetEvent(gate), TRUE);
         for (size_t i = 0; i < ARRAYSIZE(threads); i++) {
             must(WaitForSingleObject(threads[i], INFINITE) == WAIT_OBJECT_0);
-            /* (Its place is given again once its handle is closed, and no sooner.) */
-            if (i == 0)
-                ANSWERS(CreateThread(NULL, 0, answer, NULL, 0, NULL), NULL, ERROR_NO_SYSTEM_RESOURCES);
+            /* (Its place is given again, though its handle is open.) */
+            if (i == 0) {
+                HANDLE next = started(answer, 5);
+                must(WaitForSingleObject(next, INFINITE) == WAIT_OBJECT_0);
+                must(CloseHandle(next));
+            }
         }
         for (size_t i = 0; i < ARRAYSIZE(threads); i++)
             must(CloseHandle(threads[i]));

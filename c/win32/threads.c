@@ -13,7 +13,7 @@ static struct seat *begin_with_thread(HANDLE handle, struct seat **caller)
         end_look(seat, ERROR_INVALID_HANDLE);
         return NULL;
     }
-    return &waiting.seats[thread_of(number)];
+    return seat_of(number);
 }
 
 BOOL GetExitCodeThread(HANDLE thread, LPDWORD code)

@@ -24,7 +24,7 @@ use Rattle.nt_core.specs.Accepts.{IsTickLocal}
 use Rattle.nt_calls.specs.State.{opening, pends}
 use Rattle.nt_calls.specs.Steps.{Ticked, IsNextMoment, NothingDue}
 use Rattle.nt_calls.specs.Moves.{pended}
-use Rattle.nt_life.specs.Lasting.{Spares, MakesCall, FindsNoneFor, IsUnchanged, LooksAt, MayBegin}
+use Rattle.nt_life.specs.Lasting.{Spares, MakesCall, FindsNoneFor, IsUnchanged, LooksAt, MayBegin, MaySetAside}
 use Rattle.nt_life.specs.declared.begun.Begun.{Begun}
 use Rattle.nt_sleepers.specs.Sleepers.{LetsSleep, Sleeping, Woke}
 
@@ -236,3 +236,23 @@ pub record Begins (old : Sleeping) (number : ℕ) (before after : NtBegun) (new 
 abbrev pub BeginsIn : Option Sleeping → ℕ → NtBegun → NtBegun → Option Sleeping → Type 0
 BeginsIn None number before after new = Untold NtBegun 6 number before after × (new ≡ None)
 BeginsIn (Some old) number before after new = (s : Sleeping) × (new ≡ Some s) × Begins old number before after s
+
+-- ---- threads that have ended
+
+-- the number that C sees of an object number, or of a refusal
+abbrev pub aside_error : Result ℕ Refusal → ℕ
+aside_error (Ok object) = 0
+aside_error (Err refusal) = number_of refusal
+
+-- the object of thread t is set aside, or that is refused
+pub record PutsAside (old : Sleeping) (t number : ℕ) (new : Sleeping) : Type 0 where
+  pub result : Result ℕ Refusal
+  pub aside : MaySetAside (state old.core) old.spare t result new.core.grants (state new.core)
+  pub lawful : IsLawful new.core
+  pub sleeps : LetsSleep old new
+  pub told : number ≡ aside_error result
+
+-- the same of what the handle holds
+abbrev pub PutsAsideIn : Option Sleeping → ℕ → ℕ → Option Sleeping → Type 0
+PutsAsideIn None t number new = (number ≡ 6) × (new ≡ None)
+PutsAsideIn (Some old) t number new = (s : Sleeping) × (new ≡ Some s) × PutsAside old t number s

@@ -27,7 +27,7 @@ use Rattle.nt_calls.specs.Steps.{begun, IsAwaited}
 use Rattle.nt_core.specs.Lawful.{IsSettled, IsSteady}
 use Rattle.nt_core.proofs.Handling.{handles_along}
 use Rattle.nt_core.proofs.Taking.{unready_after}
-use Rattle.nt_core.proofs.Keeping.{TakesWell, objects_taken_well, taken_timers, own_kept}
+use Rattle.nt_core.proofs.Keeping.{TakesWell, objects_taken_well, taken_timers, own_kept, idle_kept}
 use Rattle.nt_core.proofs.Marking.{marks_along, marks_same, marks_begun}
 use Rattle.nt_core.proofs.Changing.{served_fewer, due_kept}
 use Rattle.nt_core.proofs.Accepting.{due_taken_by}
@@ -240,7 +240,7 @@ began_taken old objects owned t code w steady able idle tried =
         inboxes = sound.inboxes;
         objects = well.lawful sound.objects;
         own = λ u below. (subst (λ (n : ℕ). u < n) (sym well.length) (sound.own u below).0, own_kept _ _ (well.threads u) (well.gone u) (sound.own u below).1);
-        none_else = λ h beyond known. well.threads h ∙ sound.none_else h beyond (subst (λ (n : ℕ). h < n) well.length known);
+        none_else = λ h beyond known. idle_kept _ _ (well.threads h) (well.ended h) (sound.none_else h beyond (subst (λ (n : ℕ). h < n) well.length known));
         timers = taken_timers old.threads old.objects objects old.alarms old.apcs.places t sound.timers well;
         handles = handles_along old.handles well.length sound.handles;
         marks = marks_same old new refl refl refl (λ h. refl) well.length well.gone well.ended sound.marks;

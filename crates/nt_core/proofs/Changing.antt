@@ -20,7 +20,7 @@ use Rattle.nt_core.specs.Lawful.{IsSound, HandlesAgree, MarksAgreeBut, MayReplac
 use Rattle.nt_core.proofs.Taking.{fits_kept}
 use Rattle.nt_core.proofs.Handling.{handles_along, handles_created}
 use Rattle.nt_objects.specs.Handles.{full_access}
-use Rattle.nt_core.proofs.Keeping.{timers_kept, own_kept}
+use Rattle.nt_core.proofs.Keeping.{timers_kept, own_kept, idle_kept, no_thread_idle}
 use Rattle.nt_core.proofs.Marking.{marks_same, marks_created}
 use Rattle.nt_alarms.specs.Alarms.{alarm_at}
 use Rattle.std.proofs.lemmas.Bool.Decides.{nat_tests}
@@ -206,7 +206,7 @@ sound_replaced d h o owned sound may = record {
   inboxes = sound.inboxes;
   objects = property_set IsLawfulObject d.objects h o may.lawful sound.objects;
   own = λ t below. (subst (λ (n : ℕ). t < n) (sym (length-set d.objects h o)) (sound.own t below).0, own_kept _ _ (reading_set is_thread d.objects h o may.thread t) (reading_set is_gone d.objects h o may.gone t) (sound.own t below).1);
-  none_else = λ k beyond known. reading_set is_thread d.objects h o may.thread k ∙ sound.none_else k beyond (subst (λ (n : ℕ). k < n) (length-set d.objects h o) known);
+  none_else = λ k beyond known. idle_kept _ _ (reading_set is_thread d.objects h o may.thread k) (reading_set has_ended d.objects h o may.ended k) (sound.none_else k beyond (subst (λ (n : ℕ). k < n) (length-set d.objects h o) known));
   timers = timers_kept d.threads d.objects (set d.objects h o) d.alarms d.apcs.places sound.timers (length-set d.objects h o) (reading_set due_of d.objects h o may.due) (reading_set setter_of d.objects h o may.setter) (reading_set has_ended d.objects h o may.ended);
   handles = handles_along d.handles (length-set d.objects h o) sound.handles;
   marks = marks_same d (record d { objects = set d.objects h o; owned = owned }) refl refl refl (λ k. refl) (length-set d.objects h o) (reading_set is_gone d.objects h o may.gone) (reading_set has_ended d.objects h o may.ended) sound.marks;
@@ -282,8 +282,8 @@ sound_longer d o owned handles sound lawful no_thread due agree marked = record 
   room = sound.room;
 }
   where
-    unlike : (os : List Object) (h : ℕ) → h < length (os ++ o ∷ []) → (h < length os → is_thread (object_at os h) ≡ false) → is_thread (object_at (os ++ o ∷ []) h) ≡ false
-    unlike [] zero known none = no_thread
+    unlike : (os : List Object) (h : ℕ) → h < length (os ++ o ∷ []) → (h < length os → (is_thread (object_at os h) && not (has_ended (object_at os h))) ≡ false) → (is_thread (object_at (os ++ o ∷ []) h) && not (has_ended (object_at (os ++ o ∷ []) h))) ≡ false
+    unlike [] zero known none = no_thread_idle o no_thread
     unlike [] (suc h) known none = absurd (omega (arith, known))
     unlike (x ∷ os) zero known none = none (omega arith)
     unlike (x ∷ os) (suc h) known none = unlike os h (omega (arith, known)) (λ below. none (omega (arith, below)))

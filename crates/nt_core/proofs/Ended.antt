@@ -101,9 +101,9 @@ gone_sound d o owned apcs sound forgotten len places = record {
     own_at t before (inl here) = inr (ap is_gone (here_gone t here))
     own_at t before (inr other) = subst (λ (x : Object). (is_thread x ≡ true) ⊎ (is_gone x ≡ true)) (sym (object_at-set_other d.objects o t Gone other)) before
 
-    else_at : (k : ℕ) → is_thread (object_at d.objects k) ≡ false → (k ≡ o) ⊎ (k ≢ o) → is_thread (object_at (set d.objects o Gone) k) ≡ false
-    else_at k before (inl here) = ap is_thread (here_gone k here)
-    else_at k before (inr other) = ap is_thread (object_at-set_other d.objects o k Gone other) ∙ before
+    else_at : (k : ℕ) → (is_thread (object_at d.objects k) && not (has_ended (object_at d.objects k))) ≡ false → (k ≡ o) ⊎ (k ≢ o) → (is_thread (object_at (set d.objects o Gone) k) && not (has_ended (object_at (set d.objects o Gone) k))) ≡ false
+    else_at k before (inl here) = ap (λ (x : Object). is_thread x && not (has_ended x)) (here_gone k here)
+    else_at k before (inr other) = ap (λ (x : Object). is_thread x && not (has_ended x)) (object_at-set_other d.objects o k Gone other) ∙ before
 
     alarm : (h : ℕ) → (h ≡ o) ⊎ (h ≢ o) → alarm_at (set d.alarms o None) h ≡ due_of (object_at (set d.objects o Gone) h)
     alarm h (inl here) = quiet d.alarms h o here ∙ sym (ap due_of (here_gone h here))

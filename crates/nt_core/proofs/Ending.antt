@@ -1,5 +1,5 @@
 -- The parts of a thread's end put together.
-use Rattle.std.proofs.Common.{Option, ◌≡◌, ◌≢◌, ◌<◌, ◌≤◌, ◌*◌, ◌^◌, ℕ, true, false, cond, List, [], ◌∷◌, length, length-append, set, refl, sym, ap, ◌∙◌, subst, arith, Some, None, inl, inr, ◌⊎◌, map}
+use Rattle.std.proofs.Common.{Option, ◌≡◌, ◌≢◌, ◌<◌, ◌≤◌, ◌*◌, ◌^◌, ℕ, not, ◌&&◌, true, false, cond, List, [], ◌∷◌, length, length-append, set, refl, sym, ap, ◌∙◌, subst, arith, Some, None, inl, inr, ◌⊎◌, map}
 use Rattle.std.specs.Prelude.{◌↔◌}
 use Rattle.std.specs.List.{flat_map}
 use Rattle.std.specs.FinMap as fin
@@ -76,7 +76,7 @@ ended_sound d t apcs sound idle known running unset len places = record {
   inboxes = len ∙ sound.inboxes;
   objects = property_set IsLawfulObject d.objects t (Thread true) tt sound.objects;
   own = λ u below. (subst (λ (n : ℕ). u < n) (sym count) (sound.own u below).0, own_kept _ _ (threads u) (gone u) (sound.own u below).1);
-  none_else = λ k beyond there. threads k ∙ sound.none_else k beyond (subst (λ (n : ℕ). k < n) count there);
+  none_else = λ k beyond there. ap (λ (o : Object). is_thread o && not (has_ended o)) (object_at-set_other d.objects t k (Thread true) (λ same. absurd (let own = known in omega (arith, own, beyond, same)))) ∙ sound.none_else k beyond (subst (λ (n : ℕ). k < n) count there);
   timers = record {
     count = sound.timers.count ∙ sym count;
     alarm = λ h. sound.timers.alarm h ∙ sym (reading_set due_of d.objects t (Thread true) (sym (thread_undue (object_at d.objects t) own_thread)) h);

@@ -19,7 +19,7 @@ use Rattle.nt_core.specs.Accepts.{IsSetBy, AreStopped}
 use Rattle.nt_core.proofs.Handling.{handles_along}
 use Rattle.nt_core.proofs.Changing.{object_at-set_same, object_at-set_other, due_kept}
 use Rattle.nt_core.proofs.Accepting.{IsCalm}
-use Rattle.nt_core.proofs.Keeping.{timers_kept, own_kept}
+use Rattle.nt_core.proofs.Keeping.{timers_kept, own_kept, idle_kept}
 use Rattle.nt_core.proofs.Lives.{not_gone}
 use Rattle.nt_core.proofs.Marking.{marks_same}
 use Rattle.nt_core.proofs.Replacing.{known_mutex}
@@ -71,7 +71,7 @@ sound_mapped d f owned still may sound = record {
   inboxes = sound.inboxes;
   objects = λ h. subst IsLawfulObject (sym (here h)) (may (object_at d.objects h) (sound.objects h)).lawful;
   own = λ t below. (subst (λ (n : ℕ). t < n) (sym len) (sound.own t below).0, own_kept _ _ (reading is_thread (λ o r. r.thread) t) (reading is_gone (λ o r. r.gone) t) (sound.own t below).1);
-  none_else = λ k beyond known. reading is_thread (λ o r. r.thread) k ∙ sound.none_else k beyond (subst (λ (n : ℕ). k < n) len known);
+  none_else = λ k beyond known. idle_kept _ _ (reading is_thread (λ o r. r.thread) k) (reading has_ended (λ o r. r.ended) k) (sound.none_else k beyond (subst (λ (n : ℕ). k < n) len known));
   timers = timers_kept d.threads d.objects (map f d.objects) d.alarms d.apcs.places sound.timers len (reading due_of (λ o r. r.due)) (reading setter_of (λ o r. r.setter)) (reading has_ended (λ o r. r.ended));
   handles = handles_along d.handles len sound.handles;
   marks = marks_same d (record d { objects = map f d.objects; owned = owned }) refl refl refl (λ k. refl) len (reading is_gone (λ o r. r.gone)) (reading has_ended (λ o r. r.ended)) sound.marks;

@@ -224,6 +224,14 @@ pub own_kept : (old new : Object) → is_thread new ≡ is_thread old → is_gon
 own_kept old new thread gone (inl is) = inl (thread ∙ is)
 own_kept old new thread gone (inr is) = inr (gone ∙ is)
 
+-- an object beyond those is no thread that runs, if it was none
+pub idle_kept : (old new : Object) → is_thread new ≡ is_thread old → has_ended new ≡ has_ended old → (is_thread old && not (has_ended old)) ≡ false → (is_thread new && not (has_ended new)) ≡ false
+idle_kept old new thread ended is = ap (λ b. b && not (has_ended new)) thread ∙ (ap (λ b. is_thread old && not b) ended ∙ is)
+
+-- what is no thread is none that runs
+pub no_thread_idle : (o : Object) → is_thread o ≡ false → (is_thread o && not (has_ended o)) ≡ false
+no_thread_idle o is = ap (λ b. b && not (has_ended o)) is
+
 -- ---- timers
 
 -- objects that are other ones in the same state leave timers, their alarms and their places in agreement

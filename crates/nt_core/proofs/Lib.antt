@@ -43,4 +43,6 @@ mod Gone
 mod Ended
 mod Closing
 mod Renewing
+pub mod Renumbering
+pub mod SettingAside
 mod Lengthening

@@ -30,6 +30,7 @@ use Rattle.nt_core.specs.Renewals.{with_again, is_closed, is_vacant, is_left, cr
 use Rattle.nt_core.specs.Accepts.{IsFree}
 use Rattle.nt_core.proofs.Replacing.{mutex_undue, mutex_no_thread, mutex_lives}
 use Rattle.nt_core.proofs.Changing.{object_at-set_same, object_at-set_other, reading_set, property_set, fit_only_in, changed_at_one, due_kept, unset_undue}
+use Rattle.nt_core.proofs.Keeping.{no_thread_idle}
 use Rattle.nt_core.proofs.Lives.{not_gone, below_both, counted_opened}
 use Rattle.nt_core.proofs.Remaining.{both, turned}
 
@@ -204,13 +205,13 @@ sound_again d o h x handing owned sound living may = record {
       | inr differs ↦ subst (λ (y : Object). (is_thread y ≡ true) ⊎ (is_gone y ≡ true)) (sym (object_at-set_other d.objects o t x differs)) (sound.own t below).1
     ]
 
-    no_thread : (k : ℕ) → d.threads ≤ k → k < length (set d.objects o x) → is_thread (object_at (set d.objects o x) k) ≡ false
+    no_thread : (k : ℕ) → d.threads ≤ k → k < length (set d.objects o x) → (is_thread (object_at (set d.objects o x) k) && not (has_ended (object_at (set d.objects o x) k))) ≡ false
     no_thread k beyond known = elim (cases_eq k o) [
       | inl same ↦
           let more : d.threads ≤ o = subst (λ (i : ℕ). d.threads ≤ i) same beyond in
           let is : nat_lt o d.threads ≡ false = grind (arith, nat_tests, more) in
-          ap (λ (i : ℕ). is_thread (object_at (set d.objects o x) i)) same ∙ (ap is_thread (object_at-set_same d.objects o x may.there) ∙ (may.kind ∙ is))
-      | inr differs ↦ ap is_thread (object_at-set_other d.objects o k x differs) ∙ sound.none_else k beyond (subst (λ (n : ℕ). k < n) (length-set d.objects o x) known)
+          no_thread_idle (object_at (set d.objects o x) k) (ap (λ (i : ℕ). is_thread (object_at (set d.objects o x) i)) same ∙ (ap is_thread (object_at-set_same d.objects o x may.there) ∙ (may.kind ∙ is)))
+      | inr differs ↦ ap (λ (y : Object). is_thread y && not (has_ended y)) (object_at-set_other d.objects o k x differs) ∙ sound.none_else k beyond (subst (λ (n : ℕ). k < n) (length-set d.objects o x) known)
     ]
 
 pub steady_again : (d : Dispatcher) (o h : ℕ) (x : Object) (handing : List Bool) (owned : List (List ℕ)) → IsSteady d → LivesWhileKept (state d) → MayRenew d o h x handing → IsSteady (with_again d o h x handing owned)

@@ -21,7 +21,7 @@ use Rattle.nt_calls.specs.Change.{timer_cancelled}
 use Rattle.nt_core.specs.Lawful.{IsSound, IsSteady}
 use Rattle.nt_core.specs.Accepts.{IsFresh, Accepts}
 use Rattle.nt_core.proofs.Handling.{handles_along}
-use Rattle.nt_core.proofs.Keeping.{own_kept}
+use Rattle.nt_core.proofs.Keeping.{own_kept, idle_kept}
 use Rattle.nt_core.proofs.Marking.{marks_same}
 use Rattle.nt_core.proofs.Changing.{reading_set, limit_set, property_set, object_at-set_same, object_at-set_other, set_as_before, known_object, one_changed, same_changed, served_fewer, due_kept}
 use Rattle.nt_core.proofs.Accepting.{accepted}
@@ -166,7 +166,7 @@ retimed_sound d h o apcs sound was is len placed others = record {
   inboxes = len ∙ sound.inboxes;
   objects = property_set IsLawfulObject d.objects h o (timer_lawful o is) sound.objects;
   own = λ t below. (subst (λ (n : ℕ). t < n) (sym (length-set d.objects h o)) (sound.own t below).0, own_kept _ _ (threads t) (gone t) (sound.own t below).1);
-  none_else = λ k beyond known. threads k ∙ sound.none_else k beyond (subst (λ (n : ℕ). k < n) (length-set d.objects h o) known);
+  none_else = λ k beyond known. idle_kept _ _ (threads k) (ended k) (sound.none_else k beyond (subst (λ (n : ℕ). k < n) (length-set d.objects h o) known));
   timers = record {
     count = length-set d.alarms h (due_of o) ∙ (sound.timers.count ∙ sym (length-set d.objects h o));
     alarm = alarm_set d.alarms d.objects h o sound.timers.count sound.timers.alarm;

@@ -23,7 +23,7 @@ use Rattle.std.specs.Prelude.{slice_index}
 use Rattle.std.proofs.Common.{not, ◌&&◌, inl, inr}
 use Rattle.nt_status.proofs.Lists.{contains_none, contains_cases}
 use Rattle.nt_core.proofs.Handling.{handles_along}
-use Rattle.nt_core.proofs.Keeping.{TakesWell, objects_taken_well, taken_timers, own_kept}
+use Rattle.nt_core.proofs.Keeping.{TakesWell, objects_taken_well, taken_timers, own_kept, idle_kept}
 use Rattle.nt_core.proofs.Marking.{marks_along, marks_ended, named_member}
 use Rattle.nt_core.proofs.Walks.{get_removed}
 
@@ -176,7 +176,7 @@ visit_granted old t code w objects owned table grants leaving sound has tried wa
         inboxes = sound.inboxes;
         objects = well.lawful sound.objects;
         own = λ u below. (subst (λ (n : ℕ). u < n) (sym well.length) (sound.own u below).0, own_kept _ _ (well.threads u) (well.gone u) (sound.own u below).1);
-        none_else = λ h beyond known. well.threads h ∙ sound.none_else h beyond (subst (λ (n : ℕ). h < n) well.length known);
+        none_else = λ h beyond known. idle_kept _ _ (well.threads h) (well.ended h) (sound.none_else h beyond (subst (λ (n : ℕ). h < n) well.length known));
         timers = taken_timers old.threads old.objects objects old.alarms old.apcs.places t sound.timers well;
         handles = handles_along old.handles well.length sound.handles;
         marks = marks;

@@ -85,7 +85,8 @@ pub record IsSound (d : Dispatcher) : Type 0 where
   pub objects : (h : ℕ) → IsLawfulObject (object_at d.objects h)
   -- the first objects are the threads' own, as long as they live
   pub own : (t : ℕ) → t < d.threads → (t < length d.objects) × ((is_thread (object_at d.objects t) ≡ true) ⊎ (is_gone (object_at d.objects t) ≡ true))
-  pub none_else : (h : ℕ) → d.threads ≤ h → h < length d.objects → is_thread (object_at d.objects h) ≡ false
+  -- no other object is a thread that runs; one that has ended may be set aside there
+  pub none_else : (h : ℕ) → d.threads ≤ h → h < length d.objects → (is_thread (object_at d.objects h) && not (has_ended (object_at d.objects h))) ≡ false
   pub timers : TimersAgree d.threads d.objects d.alarms d.apcs.places
   pub handles : HandlesAgree (length d.objects) d.handles
   pub marks : MarksAgreeBut [] d

@@ -40,6 +40,7 @@ mod timers;
 mod copy;
 mod living;
 mod renewals;
+mod set_aside;
 mod ticks;
 
 pub use dispatcher::Core;

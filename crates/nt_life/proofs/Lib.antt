@@ -7,4 +7,5 @@ mod Taken
 mod Choosing
 mod Pacing
 mod Stacking
+mod Aside
 pub mod Once

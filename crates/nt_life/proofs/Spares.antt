@@ -81,7 +81,7 @@ closed_more hs opened n = elim (cases_eq n (length hs)) [
 -- ---- which objects no handle names
 
 -- by whether a handle names it
-unnamed_by : (s new : State) (o : ℕ) → new.threads ≡ s.threads → length new.objects ≡ length s.objects → is_opened new o ≡ is_opened s o → is_unnamed new o ≡ is_unnamed s o
+pub unnamed_by : (s new : State) (o : ℕ) → new.threads ≡ s.threads → length new.objects ≡ length s.objects → is_opened new o ≡ is_opened s o → is_unnamed new o ≡ is_unnamed s o
 unnamed_by s new o threads count named =
     ap (λ t. nat_le t o && (nat_lt o (length new.objects) && not (is_opened new o))) threads
     ∙ (ap (λ n. nat_le s.threads o && (nat_lt o n && not (is_opened new o))) count

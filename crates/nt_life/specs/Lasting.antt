@@ -7,6 +7,7 @@ use Rattle.std.specs.declared.result.Result.{Result}
 use Rattle.std.specs.declared.result.Result.TheVariants.{Ok, Err}
 use Rattle.nt_status.specs.declared.limits.TheConstants.{MAX_HANDLES}
 use Rattle.nt_status.specs.declared.refusal.Refusal.{Refusal}
+use Rattle.nt_status.specs.declared.refusal.Refusal.TheVariants.{InvalidHandle}
 use Rattle.nt_objects.specs.declared.object.Object.TheVariants.{Gone}
 use Rattle.nt_calls.specs.declared.call.Act.{Act}
 use Rattle.nt_calls.specs.declared.call.Call.{Call}
@@ -20,6 +21,7 @@ use Rattle.nt_core.specs.Dispatcher.{Dispatcher, state}
 use Rattle.nt_core.specs.Accepts.{IsLocal}
 use Rattle.nt_calls.specs.Naming.{call_named}
 use Rattle.nt_core.specs.Renewals.{is_closed, is_vacant, is_left, AddsVacant, CreatesAgain, DuplicatesAgain, BeginsAgain}
+use Rattle.nt_core.specs.SetAside.{is_movable, SetsAside}
 use Rattle.nt_life.specs.declared.begun.Begun.{Begun}
 
 -- ---- the numbers that are spare
@@ -188,6 +190,33 @@ abbrev pub MayBegin : State → Option Spares → Option Begun → List Grant �
 MayBegin old None begun grants new = (begun ≡ None) × (new ≡ old)
 MayBegin old (Some spare) begun grants new = BeginsSpare old spare begun grants new
 
+-- ---- the object of an ended thread is set aside
+
+-- the thread's object gets the number o; or it can't have it, and nothing changes
+abbrev pub MovesAside : State → ℕ → ℕ → Result ℕ Refusal → List Grant → State → Type 0
+MovesAside old t o (Ok number) grants new = (number ≡ o) × SetsAside old t o true grants new
+MovesAside old t o (Err cause) grants new = (cause ≡ InvalidHandle) × SetsAside old t o false grants new
+
+-- the same, once an object number was added for it; if none could be added, it is refused with that cause
+abbrev pub AsideBeside : Result ℕ Refusal → State → State → ℕ → Result ℕ Refusal → List Grant → State → Type 0
+AsideBeside (Ok o) old mid t result grants new = MovesAside mid t o result grants new
+AsideBeside (Err cause) old mid t result grants new = (result ≡ Err cause) × (new ≡ old)
+
+-- it gets the number of an object that is gone, or, if there is none, one that is added
+abbrev pub FindsNumber : State → ℕ → Result ℕ Refusal → List Grant → State → Type 0
+FindsNumber old t result grants new =
+    ((o : ℕ) × (is_vacant old o ≡ true) × MovesAside old t o result grants new)
+    ⊎ (((o : ℕ) → is_vacant old o ≡ false) × ((added : Result ℕ Refusal) × (mid : State) × AddsVacant old added [] mid × AsideBeside added old mid t result grants new))
+
+-- the same; if the thread's object can't be moved, it is refused with 6, and nothing changes
+abbrev pub SetsAsideSpare : State → ℕ → Result ℕ Refusal → List Grant → State → Type 0
+SetsAsideSpare old t result grants new = MatchBool (is_movable old t) (FindsNumber old t result grants new) ((result ≡ Err InvalidHandle) × (new ≡ old))
+
+-- the same; none is set aside if no number is given again
+abbrev pub MaySetAside : State → Option Spares → ℕ → Result ℕ Refusal → List Grant → State → Type 0
+MaySetAside old None t result grants new = (result ≡ Err InvalidHandle) × (new ≡ old)
+MaySetAside old (Some spare) t result grants new = SetsAsideSpare old t result grants new
+
 -- ---- what every call keeps
 
 -- no more waits end than pended, one begins at most and only in a wait, each pending wait pends on or is granted, and no time passes
@@ -230,3 +259,8 @@ MayStack call result old new = (old ≡ None) × (new ≡ None)
 abbrev pub MayPop : Option Spares → Option Spares → Type 0
 MayPop (Some old) (Some new) = Pops old.closed new.closed
 MayPop old new = (old ≡ None) × (new ≡ None)
+
+-- the numbers of closed handles are the same
+abbrev pub KeepsClosed : Option Spares → Option Spares → Type 0
+KeepsClosed (Some old) (Some new) = new.closed ≡ old.closed
+KeepsClosed old new = (old ≡ None) × (new ≡ None)

@@ -12,14 +12,15 @@ ghost use Rattle.nt_calls.specs.declared.call.Call.{Call};
 ghost use Rattle.nt_calls.specs.declared.call.WaitCall.{WaitCall};
 ghost use Rattle.nt_core.specs.Dispatcher.{state};
 ghost use Rattle.nt_core.specs.Lawful.{IsLawful};
-ghost use Rattle.nt_life.specs.Lasting.{MaySpare, MakesCall, FindsNone, FindsNoneFor, MayBegin, KeepsPace, LooksAt, IsUnchanged, MayPop, MayStack, no_spares};
+ghost use Rattle.nt_life.specs.Lasting.{MaySpare, MakesCall, FindsNone, FindsNoneFor, MayBegin, KeepsPace, LooksAt, IsUnchanged, KeepsClosed, MayPop, MaySetAside, MayStack, no_spares};
 
 use crate::beginning::begin_with;
 use crate::begun::Begun;
 use crate::giving::{gives, make_call};
+use crate::set_aside::set_aside_with;
 use crate::spare::{Spare, copy_of};
 use nt_core::{Call, Core, Reply};
-use nt_status::{Handle, Moment, Refusal};
+use nt_status::{Handle, Moment, ObjectNumber, Refusal};
 use std::alloc::Global;
 use std::marker::Model;
 
@@ -176,6 +177,21 @@ impl Lasting {
         ensures stacked { MayPop self.old.spare self.new.spare }
     {
         begin_with(&mut self.core, &mut self.spare)
+    }
+
+    /// Sets aside the object of a thread that has ended and that handles still name: it gets the number of an object that is gone, by which
+    /// they name it from then on, and `begin` can give the thread's place to another. Returns that number. It looks at each handle, and takes
+    /// no memory unless a number has to be added.
+    ///
+    /// Refused with 6 if the thread runs, nothing names its object, a pending wait names it, or each number is given once; with HandleLimit
+    /// if no object number is free and there are as many as handle numbers; and with 8 if memory is refused.
+    pub fn set_aside(&mut self, thread: u32) -> Result<ObjectNumber, Refusal>
+        ensures aside { MaySetAside (state self.old.core) self.old.spare thread result
+            self.new.core.grants (state self.new.core) }
+        ensures lawful { IsLawful self.new.core }
+        ensures closed { KeepsClosed self.old.spare self.new.spare }
+    {
+        set_aside_with(&mut self.core, &mut self.spare, thread)
     }
 
     /// An equal dispatcher in memory of its own, as a point to come back to. Each goes its own way from then on.

@@ -33,6 +33,7 @@ mod beginning;
 mod begun;
 mod giving;
 mod lasting;
+mod set_aside;
 mod spare;
 mod stack;
 

@@ -19,8 +19,10 @@ use Rattle.nt_calls.specs.Refusals.{first_of_causes}
 use Rattle.nt_calls.specs.State.{State, Pending, object_at}
 use Rattle.nt_calls.specs.Steps.{IsAwaited, Called}
 use Rattle.nt_core.specs.Renewals.{AddsVacant, CreatesAgain, DuplicatesAgain, Renews, begun_again, created_again, created_by, creation, creation_refusal, duplicate_refusal, is_closed, opened_again, thread_refusal}
+use Rattle.nt_core.specs.SetAside.{is_movable, set_aside}
 use Rattle.nt_core.proofs.Changing.{reading_created, reading_set}
-use Rattle.nt_life.specs.Lasting.{Spares, CreatesBeside, CreatesElse, IsAsItWas, LastsAct, LastsCreation, LastsDuplicate, MakesCall, MayBegin, is_ready, last_closed, last_unnamed}
+use Rattle.nt_core.proofs.SettingAside.{MayMove, may_move, read_aside}
+use Rattle.nt_life.specs.Lasting.{Spares, AsideBeside, FindsNumber, MaySetAside, MovesAside, CreatesBeside, CreatesElse, IsAsItWas, LastsAct, LastsCreation, LastsDuplicate, MakesCall, MayBegin, is_ready, last_closed, last_unnamed}
 use Rattle.nt_life.specs.declared.begun.Begun.{Begun}
 use Rattle.nt_sleepers.specs.Sleepers.{TimeIsKept, deadline_of}
 use Rattle.nt_sleepers.proofs.Staying.{StayedOrBegan, call_stayed, same_stayed}
@@ -78,6 +80,34 @@ kept_begun old new (Some spare) None gs alarms watchers is kept = subst (λ (s :
 kept_begun old new (Some spare) (Some begun) gs alarms watchers is kept =
     subst (λ (s : State). TimeIsKept s alarms watchers) (sym is.2.3)
     (keeps_time old (begun_again old begun.thread begun.handle) alarms watchers refl refl (λ u. begun_awaits old begun.thread begun.handle u (left_gone old begun.thread begun.handle is.2.0)) kept)
+
+-- ---- an object that is set aside
+
+aside_awaits : (s : State) (t o u : ℕ) → MayMove s t o → IsAwaited (set_aside s t o) u → IsAwaited s u
+aside_awaits s t o u may (inl due) = inl (due.0, sym (read_aside due_of s.objects t o may.ended may.vacant refl due.0) ∙ due.1)
+aside_awaits s t o u may (inr late) = inr late
+
+kept_moved : (old new : State) (t o : ℕ) (result : Result ℕ Refusal) (gs : List Grant) (alarms watchers : List (Option ℕ)) → MovesAside old t o result gs new → TimeIsKept old alarms watchers → TimeIsKept new alarms watchers
+kept_moved old new t o (Ok number) gs alarms watchers is kept =
+    subst (λ (s : State). TimeIsKept s alarms watchers) (sym is.1.2)
+    (keeps_time old (set_aside old t o) alarms watchers refl refl (λ u. aside_awaits old t o u (may_move old t o (sym is.1.0))) kept)
+kept_moved old new t o (Err cause) gs alarms watchers is kept = subst (λ (s : State). TimeIsKept s alarms watchers) (sym is.1.2) kept
+
+kept_beside : (added : Result ℕ Refusal) (old mid new : State) (t : ℕ) (result : Result ℕ Refusal) (gs : List Grant) (alarms watchers : List (Option ℕ)) → AddsVacant old added [] mid → AsideBeside added old mid t result gs new → TimeIsKept old alarms watchers → TimeIsKept new alarms watchers
+kept_beside (Ok o) old mid new t result gs alarms watchers adds is kept = kept_moved mid new t o result gs alarms watchers is (kept_as_it_was old mid alarms watchers (inr adds.3) kept)
+kept_beside (Err cause) old mid new t result gs alarms watchers adds is kept = subst (λ (s : State). TimeIsKept s alarms watchers) (sym is.1) kept
+
+kept_found : (old new : State) (t : ℕ) (result : Result ℕ Refusal) (gs : List Grant) (alarms watchers : List (Option ℕ)) → FindsNumber old t result gs new → TimeIsKept old alarms watchers → TimeIsKept new alarms watchers
+kept_found old new t result gs alarms watchers (inl spare) kept = kept_moved old new t spare.0 result gs alarms watchers spare.2 kept
+kept_found old new t result gs alarms watchers (inr more) kept = kept_beside more.1.0 old more.1.1 new t result gs alarms watchers more.1.2 more.1.3 kept
+
+pub kept_aside : (old new : State) (spare : Option Spares) (t : ℕ) (result : Result ℕ Refusal) (gs : List Grant) (alarms watchers : List (Option ℕ)) → MaySetAside old spare t result gs new → TimeIsKept old alarms watchers → TimeIsKept new alarms watchers
+kept_aside old new None t result gs alarms watchers is kept = subst (λ (s : State). TimeIsKept s alarms watchers) (sym is.1) kept
+kept_aside old new (Some spare) t result gs alarms watchers is kept = go (is_movable old t) is
+  where
+    go : (b : Bool) → MatchBool b (FindsNumber old t result gs new) ((result ≡ Err InvalidHandle) × (new ≡ old)) → TimeIsKept new alarms watchers
+    go true found = kept_found old new t result gs alarms watchers found kept
+    go false refused = subst (λ (s : State). TimeIsKept s alarms watchers) (sym refused.1) kept
 
 -- ---- a call that may be a renewal
 

@@ -10,7 +10,7 @@ ghost use Rattle.nt_calls.specs.Naming.{call_named};
 ghost use Rattle.nt_calls.specs.State.{opening};
 ghost use Rattle.nt_calls.specs.Steps.{Called, Ticked};
 ghost use Rattle.nt_core.specs.Accepts.{IsLocal, IsTickLocal};
-ghost use Rattle.nt_life.specs.Lasting.{MakesCall, FindsNoneFor, IsUnchanged, LooksAt, MayBegin, no_spares};
+ghost use Rattle.nt_life.specs.Lasting.{MakesCall, FindsNoneFor, IsUnchanged, LooksAt, MayBegin, MaySetAside, no_spares};
 ghost use Rattle.nt_core.specs.Dispatcher.{state};
 ghost use Rattle.nt_core.specs.Lawful.{IsLawful};
 ghost use Rattle.nt_sleepers.specs.Sleepers.{LetsSleep, Stops, Watches, Woke, told_of};
@@ -20,7 +20,7 @@ use crate::told::Told;
 use nt_alarms::Alarms;
 use nt_core::{Call, Core, Reply};
 use nt_life::{Begun, Lasting};
-use nt_status::{Handle, MAX_MANY_THREADS, MAX_THREADS, Moment, Refusal};
+use nt_status::{Handle, MAX_MANY_THREADS, MAX_THREADS, Moment, ObjectNumber, Refusal};
 use std::alloc::Global;
 use std::marker::Model;
 
@@ -217,6 +217,17 @@ impl Sleepers {
     {
         self.called = None;
         self.life.begin()
+    }
+
+    /// Sets aside the object of a thread that has ended and that handles still name, as `Lasting::set_aside` has it. Nobody is told anything.
+    pub fn set_aside(&mut self, thread: u32) -> Result<ObjectNumber, Refusal>
+        ensures aside { MaySetAside (state self.old.core) self.old.spare thread result
+            self.new.core.grants (state self.new.core) }
+        ensures lawful { IsLawful self.new.core }
+        ensures sleeps { LetsSleep self.old self.new }
+    {
+        self.called = None;
+        self.life.set_aside(thread)
     }
 
     /// A timer may end the pending wait of this thread: it watches from now on. Returns the moment to which it sleeps by itself, in units

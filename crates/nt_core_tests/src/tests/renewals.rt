@@ -2,12 +2,12 @@
 use crate::tests::play::play_all_in_both;
 use crate::tests::script::Answer::{Done, Handle, NoApc, Object, Pended, Previous, Status};
 use crate::tests::script::Ask::{
-    AlertableSleep, Any, Apc, ArmRoutine, Close, Duplicate, Event, Exit, Mutex, Next, Release,
+    AlertableSleep, All, Any, Apc, ArmRoutine, Close, Duplicate, Event, Exit, Mutex, Next, Release,
     Semaphore, Set, Timer, Unlock,
 };
 use crate::tests::script::Step::{
-    AddVacant, BeginAgain, Call, Closed, CreateAgain, DuplicateAgain, Living, NoGrowth, Tested,
-    Tick, Vacant,
+    AddVacant, BeginAgain, Call, Closed, CreateAgain, DuplicateAgain, Living, NoGrowth, SetAside,
+    Tested, Tick, Vacant,
 };
 use crate::tests::script::{
     ABANDONED, ACCESS_DENIED, HANDLE_LIMIT, INFINITE, INVALID_HANDLE, INVALID_PARAMETER, NOT_OWNER,
@@ -198,4 +198,77 @@ const THREADS: &[Scenario] = &[
 #[test]
 fn threads_begin_again(rt: HostRuntime) -> Result<(), Fail> {
     play_all_in_both(&rt, THREADS)
+}
+
+const ASIDE: &[Scenario] = &[
+    Scenario {
+        shows: "the object of an ended thread is set aside, and its place is another thread's",
+        threads: 2,
+        steps: &[
+            Call(0, Event(0), &[], Handle(2), &[]),
+            Call(1, Exit, &[], Done, &[]),
+            SetAside(1, 2, INVALID_HANDLE),
+            NoGrowth(0, Close, &[2], Done, &[]),
+            SetAside(0, 2, INVALID_HANDLE),
+            SetAside(2, 2, INVALID_HANDLE),
+            SetAside(1, 1, INVALID_HANDLE),
+            SetAside(1, 3, INVALID_HANDLE),
+            SetAside(1, 2, Done),
+            Tested(0),
+            Living(2),
+            Vacant(&[2], false),
+            SetAside(1, 2, INVALID_HANDLE),
+            BeginAgain(1, 2, Handle(2)),
+            Living(3),
+            Call(0, Any(0), &[1], Status(0), &[]),
+            Call(0, Any(0), &[2], Status(TIMEOUT), &[]),
+            Call(0, Apc(7, 9), &[2], Done, &[]),
+            Call(0, Any(INFINITE), &[2], Pended, &[]),
+            Call(1, Exit, &[], Done, &[(0, 0)]),
+            NoGrowth(0, Close, &[1], Done, &[]),
+            Living(2),
+            Vacant(&[2], true),
+            SetAside(1, 2, Done),
+            Call(0, Any(0), &[2], Status(0), &[]),
+        ],
+    },
+    Scenario {
+        shows: "an object is set aside once no wait names it, and then all its handles name it",
+        threads: 3,
+        steps: &[
+            Call(0, Event(0), &[], Handle(3), &[]),
+            Call(0, Event(0), &[], Handle(4), &[]),
+            NoGrowth(0, Close, &[4], Done, &[]),
+            DuplicateAgain(0, 1, MAY_WAIT, 4, Handle(4)),
+            Call(2, All(INFINITE), &[1, 3], Pended, &[]),
+            Call(1, Exit, &[], Done, &[]),
+            SetAside(1, 4, INVALID_HANDLE),
+            Call(0, Set, &[3], Done, &[(2, 0)]),
+            SetAside(1, 4, Done),
+            Call(2, All(INFINITE), &[4, 3], Pended, &[]),
+            NoGrowth(0, Close, &[1], Done, &[]),
+            Call(0, Set, &[3], Done, &[(2, 0)]),
+            Call(2, Any(0), &[4], Status(0), &[]),
+            NoGrowth(0, Close, &[4], Done, &[]),
+            Living(3),
+            Vacant(&[4], true),
+        ],
+    },
+    Scenario {
+        shows: "no object is set aside that nothing names",
+        threads: 2,
+        steps: &[
+            Call(0, Event(0), &[], Handle(2), &[]),
+            NoGrowth(0, Close, &[2], Done, &[]),
+            NoGrowth(0, Close, &[1], Done, &[]),
+            Call(1, Exit, &[], Done, &[]),
+            SetAside(1, 2, INVALID_HANDLE),
+            Living(1),
+        ],
+    },
+];
+
+#[test]
+fn ended_threads_are_set_aside(rt: HostRuntime) -> Result<(), Fail> {
+    play_all_in_both(&rt, ASIDE)
 }

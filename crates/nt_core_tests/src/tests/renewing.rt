@@ -39,6 +39,16 @@ fn add_vacant(rt: &impl Host, core: &mut Core) -> Answer {
     object_of(core.add_vacant())
 }
 
+/// Sets the thread's object aside, if the one number can be moved and the other given.
+fn set_aside(core: &mut Core, thread: u32, object: ObjectNumber) -> Answer {
+    let may = core.is_movable(thread) && core.is_vacant(object);
+    match (core.set_aside(thread, object), may) {
+        (true, true) => Answer::Done,
+        (false, false) => Answer::Error(Refusal::InvalidHandle.number()),
+        _ => Answer::NotAsked,
+    }
+}
+
 /// Takes a step that gives numbers again: what it answers, what it is to answer, and that no wait is to end. None for any other.
 pub fn renewed(
     rt: &impl Host,
@@ -60,6 +70,10 @@ pub fn renewed(
         }
         Step::BeginAgain(thread, handle, answer) => {
             let found = answer_of(core.begin_again(thread, Handle::new(handle)));
+            Some((found, answer, &[]))
+        }
+        Step::SetAside(thread, object, answer) => {
+            let found = set_aside(core, thread, ObjectNumber::new(object));
             Some((found, answer, &[]))
         }
         Step::AddVacant(answer) => Some((add_vacant(rt, core), answer, &[])),

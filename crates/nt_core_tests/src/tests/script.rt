@@ -131,6 +131,8 @@ pub enum Step {
     DuplicateAgain(u32, u32, u32, u32, Answer),
     /// This thread begins again, and its handle has the number of a closed one. The answer. It takes no memory.
     BeginAgain(u32, u32, Answer),
+    /// This thread's object, which has ended, gets this number, of one that is gone. The answer: 6 if it can't. It takes no memory.
+    SetAside(u32, u32, Answer),
     /// One object number more, of an object that is gone. The answer.
     AddVacant(Answer),
     /// Whether the numbers of these objects may be given again, each of them or none.
