@@ -2,13 +2,13 @@
  * given to the program, in 14. So a handle that was closed is refused, though its number was given again, until it was given 16,382 times more.
  * Threads' own handles are given to nobody. */
 
-enum { IS_OPEN = 2, COUNT_AT = 18, MOST_COUNT = 0x3FFE }; /* (No pseudo handle has such a count, nor has NULL one from 1 on.) */
+enum { COUNT_AT = 18, MOST_COUNT = 0x3FFE }; /* (No pseudo handle has such a count, nor has NULL one from 1 on.) */
 
 /* Gives the handle with this number to the program, under the lock. */
 static HANDLE give_handle(uint32_t number)
 {
     const uint32_t count = waiting.given[number] >> COUNT_AT, value = (count < MOST_COUNT ? count + 1 : 1) << COUNT_AT | number << 2;
-    waiting.given[number] = value | IS_OPEN;
+    waiting.given[number] = value;
     return (HANDLE)(uintptr_t)value;
 }
 
@@ -16,7 +16,7 @@ static HANDLE give_handle(uint32_t number)
 static inline uint32_t listed_number_of(HANDLE handle)
 {
     const uint32_t value = (uint32_t)(uintptr_t)handle, number = value >> 2 & (NT_MAXIMUM_HANDLES - 1);
-    return waiting.given[number] == (value & ~3u) + IS_OPEN ? number : NO_HANDLE;
+    return waiting.given[number] == (value & ~3u) ? number : NO_HANDLE;
 }
 
 /* The number of a handle, under the lock, which may be the caller's pseudo handle of itself. */
@@ -44,7 +44,7 @@ static uint32_t close_number(struct seat *caller, uint32_t number)
     look_for_timers();
     if (refused != 0)
         return refused;
-    waiting.given[number] &= ~(uint32_t)IS_OPEN;
+    waiting.given[number] |= IS_CLOSED;
     if (waiting.named[number] != NULL)
         forget_named(caller, number);
     if (kind_of(number) == KIND_THREAD && waiting.seats[thread_of(number)].has_left) {

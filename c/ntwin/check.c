@@ -39,6 +39,7 @@ static void check_waiting(void)
     if (!waiting.dispatcher.live)
         return;
     holds(waiting.lock != FREE, "the lock is taken");
+    holds(waiting.wakes == 0, "nobody is left to be woken");
     for (uint32_t i = 0; i < waiting.seated; i++) {
         struct nt_pending_wait wait;
         if (nt_waits_for(&waiting.dispatcher, i, &wait) == 0)

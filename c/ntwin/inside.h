@@ -50,6 +50,7 @@ enum {
     TRIES = 2,
     MOMENTS_OF_LOOKS = 1000, /* what LOOKS_AT_WORD take at the most, in units of 100 ns */
     NO_HANDLE = 0xFFFFFF,    /* a number that no handle has */
+    IS_CLOSED = 1,           /* of a handle that the program had: it names nothing */
     MOMENTS_PER_SECOND = 10000000,
     NANOSECONDS_PER_MOMENT = 100
 };
@@ -112,8 +113,7 @@ struct seat {
     uint32_t looks;          /* how often it looks at its word before it sleeps: 0 where that was in vain of late */
     const void *waits_at;    /* where in the program its last wait that pended was called */
     bool tells;              /* its call has tied a knot, of which it tells as it gives the lock back */
-    uint32_t wakes;          /* how many threads its call has told something while they slept: it wakes these, by their numbers, */
-    uint32_t woken[WOKEN_LATER]; /* once the lock is given back, and any further ones at once */
+    uint32_t woken[WOKEN_LATER]; /* the first of the threads that its call has told something while they slept, by their numbers */
 };
 
 /* Kinds of objects, for what the dispatcher's handles do not tell: the rights that generic ones stand for, and which waits timers may end. */
@@ -152,10 +152,12 @@ static struct {
  *   - each of their threads sleeps by itself no longer than to its own deadline, but one that was canceled as it waited;
  *   - the watchers are threads whose waits pend, and so many as `watchers` says;
  *   - where there are watchers, some thread sleeps no longer than to the next moment at which anything is due;
- *   - no timer is due before `timers_due`. */
+ *   - no timer is due before `timers_due`;
+ *   - nobody is left to be woken: `wakes` is 0. */
 static struct {
     _Atomic uint32_t lock;
     uint32_t pending;
+    uint32_t wakes;          /* how many threads who has the lock wakes once it has given that back: they stand in its seat */
     uint64_t timers_due;     /* NEVER where no timer is set */
     uint32_t watchers;       /* how many of them a timer may end */
     uint32_t begun;          /* how many waits have begun to pend */
@@ -168,7 +170,7 @@ static struct {
     struct nt dispatcher;
     uint32_t places;         /* how many threads the dispatcher has */
     struct seat seats[NT_MANY_THREADS];
-    uint32_t given[NT_MAXIMUM_HANDLES]; /* by number the program's handle, or that which was closed last (calls.c); */
+    uint32_t given[NT_MAXIMUM_HANDLES]; /* by number the program's handle, or that which was closed last, marked so (calls.c); */
     uint8_t kinds[NT_MAXIMUM_HANDLES]; /* of what each number names, or named last; */
     uint16_t threads[NT_MAXIMUM_HANDLES]; /* where that is a thread, which one; */
     struct named *named[NT_MAXIMUM_HANDLES]; /* where it has a name, which; else null; */

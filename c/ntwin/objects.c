@@ -38,19 +38,28 @@ HANDLE CreateEventW(LPSECURITY_ATTRIBUTES attributes, BOOL manual, BOOL set, LPC
 BOOL SetEvent(HANDLE event)
 {
     struct seat *seat = begin();
-    return seat != NULL && finish(seat, nt_set_event(&waiting.dispatcher, seat->number, number_of(seat, event), &seat->reply));
+    if (seat == NULL)
+        return FALSE;
+    const uint32_t number = number_of(seat, event);
+    return finish(seat, nt_set_event(&waiting.dispatcher, seat->number, number, &seat->reply));
 }
 
 BOOL ResetEvent(HANDLE event)
 {
     struct seat *seat = begin();
-    return seat != NULL && finish(seat, nt_reset_event(&waiting.dispatcher, seat->number, number_of(seat, event), &seat->reply));
+    if (seat == NULL)
+        return FALSE;
+    const uint32_t number = number_of(seat, event);
+    return finish(seat, nt_reset_event(&waiting.dispatcher, seat->number, number, &seat->reply));
 }
 
 BOOL PulseEvent(HANDLE event)
 {
     struct seat *seat = begin();
-    return seat != NULL && finish(seat, nt_pulse_event(&waiting.dispatcher, seat->number, number_of(seat, event), &seat->reply));
+    if (seat == NULL)
+        return FALSE;
+    const uint32_t number = number_of(seat, event);
+    return finish(seat, nt_pulse_event(&waiting.dispatcher, seat->number, number, &seat->reply));
 }
 
 /* ---- Semaphores. */
@@ -90,7 +99,8 @@ BOOL ReleaseSemaphore(HANDLE semaphore, LONG count, LPLONG previous)
     struct seat *seat = begin();
     if (seat == NULL)
         return FALSE;
-    if (!finish(seat, nt_release_semaphore(&waiting.dispatcher, seat->number, number_of(seat, semaphore), count, &seat->reply)))
+    const uint32_t number = number_of(seat, semaphore);
+    if (!finish(seat, nt_release_semaphore(&waiting.dispatcher, seat->number, number, count, &seat->reply)))
         return FALSE;
     if (previous != NULL)
         *previous = seat->reply.previous;
@@ -132,7 +142,10 @@ HANDLE CreateMutexW(LPSECURITY_ATTRIBUTES attributes, BOOL owned, LPCWSTR name)
 BOOL ReleaseMutex(HANDLE mutex)
 {
     struct seat *seat = begin();
-    return seat != NULL && finish(seat, nt_release_mutex(&waiting.dispatcher, seat->number, number_of(seat, mutex), &seat->reply));
+    if (seat == NULL)
+        return FALSE;
+    const uint32_t number = number_of(seat, mutex);
+    return finish(seat, nt_release_mutex(&waiting.dispatcher, seat->number, number, &seat->reply));
 }
 
 /* ---- Waitable timers. */

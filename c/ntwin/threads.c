@@ -78,8 +78,7 @@ static void leave(struct seat *seat)
         note(seat);
         look_for_timers();
         end_seat(seat);
-        if (seat->wakes > 0)
-            wake_all(seat);
+        wake_all(seat, wakes_left());
         renew_seats();
         give_lock();
         return;
@@ -154,6 +153,7 @@ static uint32_t open_dispatcher(void)
         process.start = monotonic();
         waiting.timers_due = NEVER;
         waiting.process_handle = NO_HANDLE;
+        waiting.given[0] = IS_CLOSED;
         if (waiting.dispatcher.room == NULL)
             waiting.dispatcher.room = aligned_alloc(16, (nt_room() + 15) / 16 * 16);
         if (!process.has_key)

@@ -26,8 +26,8 @@ static void tell(struct seat *caller, struct seat *seat, uint32_t how)
     comes_before(&seat->word);
     if (atomic_exchange_explicit(&seat->word, how, memory_order_release) != IS_ASLEEP)
         return;
-    if (caller->wakes < WOKEN_LATER)
-        caller->woken[caller->wakes++] = seat->number;
+    if (waiting.wakes < WOKEN_LATER)
+        caller->woken[waiting.wakes++] = seat->number;
     else
         wake_one(&seat->word);
 }
@@ -128,11 +128,17 @@ static inline void lock(struct seat *caller)
         catch_up(caller);
 }
 
-/* Wakes the threads that the caller's call told something while they slept. */
-__attribute__((noinline)) static void wake_all(struct seat *caller)
+/* How many threads the caller's call told something while they slept, under the lock. From now on the caller wakes them. */
+static uint32_t wakes_left(void)
 {
-    const uint32_t wakes = caller->wakes;
-    caller->wakes = 0;
+    const uint32_t wakes = waiting.wakes;
+    waiting.wakes = 0;
+    return wakes;
+}
+
+/* Wakes the first so many of those whom the caller's call told something. */
+__attribute__((noinline)) static void wake_all(const struct seat *caller, uint32_t wakes)
+{
     for (uint32_t i = 0; i < wakes; i++)
         wake_one(&waiting.seats[caller->woken[i]].word);
 }
@@ -141,8 +147,9 @@ __attribute__((noinline)) static void wake_all(struct seat *caller)
 __attribute__((noinline)) static void unlock_and_wake_all(struct seat *caller)
 {
     char *text = caller->tells ? text_of_knot() : NULL;
+    const uint32_t wakes = wakes_left();
     give_lock();
-    wake_all(caller);
+    wake_all(caller, wakes);
     if (caller->tells)
         tell_knot(caller, text);
 }
@@ -150,21 +157,26 @@ __attribute__((noinline)) static void unlock_and_wake_all(struct seat *caller)
 /* Gives the lock back, and wakes whom the call told something. */
 static inline void unlock_and_wake(struct seat *caller)
 {
-    if (caller->wakes > 0)
+    if (waiting.wakes > 0)
         unlock_and_wake_all(caller);
     else
         give_lock();
 }
 
+/* As `note_and_unlock`, where there may be somebody. */
+__attribute__((noinline)) static void note_and_unlock_all(struct seat *caller)
+{
+    note(caller);
+    unlock_and_wake(caller);
+}
+
 /* As `note`, and then as `unlock_and_wake`: where no wait pended before the call, one look tells that there is nobody to tell or to wake. */
 static inline void note_and_unlock(struct seat *caller)
 {
-    if ((waiting.pending | caller->wakes) == 0) {
+    if ((waiting.pending | waiting.wakes) == 0)
         give_lock();
-        return;
-    }
-    note(caller);
-    unlock_and_wake(caller);
+    else
+        note_and_unlock_all(caller);
 }
 
 /* A timer was set at this moment, under the lock, to be due at that one. */
