@@ -152,6 +152,7 @@ static void note_made(uint32_t number, const void *place)
     if (nt_opened(&waiting.dispatcher, number, &opened) != 0)
         return;
     waiting.made_at[opened.object] = place;
+    waiting.minders[opened.object] = 0;
     free(waiting.called[opened.object]);
     waiting.called[opened.object] = NULL;
 }

@@ -46,6 +46,11 @@
 #define WAITS_PER_TRY 4096 /* once in so many waits, those of all threads together, 2 of them try again whether looks help */
 #endif
 
+/* How many timers with a routine a thread minds by itself. A test may set less. */
+#ifndef MINDED_AT_MOST
+#define MINDED_AT_MOST 16
+#endif
+
 enum {
     TRIES = 2,
     MOMENTS_OF_LOOKS = 1000, /* what LOOKS_AT_WORD take at the most, in units of 100 ns */
@@ -98,10 +103,13 @@ struct seat {
     struct nt_reply reply;   /* what its last call was answered */
     struct nt_told told;     /* the last of those whom its last call told something */
     uint64_t moment;         /* to which it sleeps by itself where its wait pends: NEVER until it is told; 0 where it was called */
-    uint64_t timer_due;      /* when the first of the timers that it waits for was due, as it began: it sleeps no longer than to then; or NEVER */
-    bool watches;            /* its wait pends, and a timer may end it */
+    uint64_t timer_due;      /* when the first of the timers that it wakes for is due (dues.c): it sleeps no longer than to then; or NEVER */
+    bool watches;            /* its wait pends, and a timer may end it for which it may not wake by itself */
+    bool minds;              /* its wait pends, is alertable, and these timers with its routines may end it: */
+    uint32_t minded;         /* so many */
+    uint32_t timers[MINDED_AT_MOST];
     bool is_gone;            /* it was canceled as it waited, and never wakes */
-    bool has_routines;       /* it has set a timer with a routine */
+    bool has_more_routines;  /* it has set more timers with a routine than it minds */
     LPTHREAD_START_ROUTINE start; /* null, but where CreateThread made the thread */
     LPVOID parameter;
     _Atomic uint32_t suspended; /* how often the thread, which has not begun, is suspended */
@@ -152,6 +160,7 @@ static struct {
  *   - each of their threads sleeps by itself no longer than to its own deadline, but one that was canceled as it waited;
  *   - the watchers are threads whose waits pend, and so many as `watchers` says;
  *   - where there are watchers, some thread sleeps no longer than to the next moment at which anything is due;
+ *   - who minds timers sleeps no longer than to the first of them, and some thread no longer than to `kept_to`;
  *   - no timer is due before `timers_due`;
  *   - nobody is left to be woken: `wakes` is 0. */
 static struct {
@@ -159,7 +168,8 @@ static struct {
     uint32_t pending;
     uint32_t wakes;          /* how many threads who has the lock wakes once it has given that back: they stand in its seat */
     uint64_t timers_due;     /* NEVER where no timer is set */
-    uint32_t watchers;       /* how many of them a timer may end */
+    uint64_t kept_to;        /* to which moment a thread sleeps that minds timers, or NEVER: nothing is overdue before it looks at the time */
+    uint32_t watchers;       /* how many of them a timer may end, for which their threads may not wake by themselves */
     uint32_t begun;          /* how many waits have begun to pend */
     uint32_t seated;         /* how many seats were ever taken */
     uint32_t alive;          /* how many of their threads have not left */
@@ -175,6 +185,7 @@ static struct {
     uint16_t threads[NT_MAXIMUM_HANDLES]; /* where that is a thread, which one; */
     struct named *named[NT_MAXIMUM_HANDLES]; /* where it has a name, which; else null; */
     struct port *ports[NT_MAXIMUM_HANDLES]; /* where it is a completion port, which; else null */
+    uint16_t minders[NT_MAXIMUM_HANDLES]; /* of a timer, by its own number: the seat, from 1 on, whose thread set it last, with a routine; or 0 */
     const void *made_at[NT_MAXIMUM_HANDLES]; /* of an object, by its own number: where in the program it was created, or null; */
     char *called[NT_MAXIMUM_HANDLES];  /* and how ntwin_name calls it, or null */
 } waiting;

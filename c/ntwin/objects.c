@@ -186,7 +186,6 @@ static uint32_t set_timer(struct seat *seat, uint32_t timer, int64_t due, LONG p
     struct nt *nt = &waiting.dispatcher;
     if (routine == NULL)
         return nt_set_timer(nt, seat->number, timer, due, period, &seat->reply);
-    seat->has_routines = true;
     return nt_set_timer_apc(nt, seat->number, timer, due, period, (uint64_t)(uintptr_t)routine, (uint64_t)(uintptr_t)argument,
                             &seat->reply);
 }
@@ -202,9 +201,10 @@ BOOL SetWaitableTimer(HANDLE timer, const LARGE_INTEGER *due, LONG period, PTIME
         return FALSE;
     const uint64_t now = pass_time(seat);
     const int64_t moment = time < 0 ? time : moment_of(time);
-    const uint32_t refused = set_timer(seat, number_of(seat, timer), moment, period, routine, argument);
+    const uint32_t number = number_of(seat, timer), refused = set_timer(seat, number, moment, period, routine, argument);
     if (refused == 0) {
         note(seat);
+        note_routine(seat, number, routine != NULL);
         note_timer(now, moment < 0 ? now - (uint64_t)moment : (uint64_t)moment);
     }
     unlock_and_wake(seat);

@@ -151,7 +151,7 @@ static uint32_t open_dispatcher(void)
     if (!process.is_open) {
         process.id = getpid();
         process.start = monotonic();
-        waiting.timers_due = NEVER;
+        waiting.timers_due = waiting.kept_to = NEVER;
         waiting.process_handle = NO_HANDLE;
         waiting.given[0] = IS_CLOSED;
         if (waiting.dispatcher.room == NULL)

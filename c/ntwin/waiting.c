@@ -39,24 +39,36 @@ static void set_moment(struct seat *seat)
         seat->moment = NEVER;
     if (seat->timer_due < seat->moment)
         seat->moment = seat->timer_due;
+    if (seat->minds && seat->moment < waiting.kept_to)
+        waiting.kept_to = seat->moment;
 }
 
-/* The caller's wait pends from now on, under the lock. A timer may end it, where it watches; the first that it waits for is due then. */
-static void fall_asleep(struct seat *seat, bool watches, uint64_t timer_due)
+/* What timers have to do with a wait that pends (inside.h). */
+struct dues {
+    bool watches, minds;
+    uint64_t first;
+};
+
+/* The caller's wait pends from now on, under the lock. */
+static void fall_asleep(struct seat *seat, struct dues dues)
 {
     atomic_store_explicit(&seat->word, IS_AWAKE, memory_order_relaxed);
     waiting.pending++;
-    waiting.watchers += watches;
-    seat->watches = watches;
-    seat->timer_due = timer_due;
+    waiting.watchers += dues.watches;
+    seat->watches = dues.watches;
+    seat->minds = dues.minds;
+    seat->timer_due = dues.first;
     set_moment(seat);
 }
 
-/* The thread is no watcher any more, under the lock. */
+/* The thread is no watcher any more, under the lock, and minds no timer. */
 static void stop_watching(struct seat *seat)
 {
     waiting.watchers -= seat->watches;
     seat->watches = false;
+    if (seat->minds)
+        waiting.kept_to = NEVER;
+    seat->minds = false;
 }
 
 /* The thread's wait has ended, under the lock, with this status. */
@@ -120,11 +132,11 @@ __attribute__((noinline)) static void catch_up(struct seat *caller)
         pass_time(caller);
 }
 
-/* Takes the lock. Where nobody watches, what is overdue happens first. */
+/* Takes the lock. Where nobody watches, or sleeps short enough to the timers that it minds, what is overdue happens first. */
 static inline void lock(struct seat *caller)
 {
     take_lock();
-    if (waiting.timers_due != NEVER && waiting.watchers == 0)
+    if (waiting.timers_due != NEVER && waiting.watchers == 0 && waiting.kept_to > waiting.timers_due)
         catch_up(caller);
 }
 
@@ -237,10 +249,12 @@ static uint64_t look_at_time(struct seat *seat)
     if (atomic_load_explicit(&seat->word, memory_order_relaxed) != IS_GRANTED) {
         atomic_store_explicit(&seat->word, IS_AWAKE, memory_order_relaxed);
         if (pass_time(seat) >= seat->timer_due)
-            seat->timer_due = NEVER;
+            seat->timer_due = seat->minds ? first_minded(seat) : NEVER;
     }
     if (atomic_load_explicit(&seat->word, memory_order_relaxed) != IS_GRANTED) {
         atomic_store_explicit(&seat->word, IS_AWAKE, memory_order_relaxed);
+        if (seat->minds)
+            waiting.kept_to = NEVER;
         set_moment(seat);
         moment = seat->moment;
     }
@@ -252,9 +266,9 @@ static void rest_beside_wait(struct seat *caller);
 static void go_on_with_packet(void);
 
 /* Gives the lock back, sleeps until the caller's pending wait is granted, and answers its status. */
-__attribute__((noinline)) static DWORD sleep_until_granted(struct seat *seat, bool watches, uint64_t timer_due)
+__attribute__((noinline)) static DWORD sleep_until_granted(struct seat *seat, struct dues dues)
 {
-    fall_asleep(seat, watches, timer_due);
+    fall_asleep(seat, dues);
     uint64_t moment = seat->moment;
     const uint32_t looks = looks_before(seat);
     if (own.port != NULL)
