@@ -136,6 +136,7 @@ struct own {
     jmp_buf *end;      /* where ExitThread goes to, in a thread of CreateThread */
     struct port *port; /* the completion port whose packet it has; null before it got one, and once it asks for the next */
     bool rests;        /* it sleeps with that packet, and does not count among those that run */
+    bool has_turn;     /* it forks, and nobody tells meanwhile why threads wait */
     DWORD mark;        /* its id once it has entered a critical section, by which it enters the next; 0 where a sanitizer is told of each */
 };
 #ifndef own
@@ -194,7 +195,10 @@ static struct {
 static char *text_of_knot(void);
 static void tell_knot(struct seat *caller, char *text);
 
-/* This is a child that was forked: it goes on without a journal, and without a thread that takes SIGQUIT. */
+/* The process forks: nobody tells meanwhile why threads wait. A child that was forked goes on without a journal, and without a thread that takes
+ * SIGQUIT. */
+static void rest_from_telling(void);
+static void go_on_telling(void);
 static void stop_looking(void);
 
 #ifdef CHECKS_WAITING

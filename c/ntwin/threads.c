@@ -123,10 +123,11 @@ static void note_fork(void)
     own.seat = NULL;
 }
 
-__attribute__((constructor)) static void begin_process(void)
+/* (Before the program's own constructors, which may fork, and before the thread is there that takes SIGQUIT.) */
+__attribute__((constructor(101))) static void begin_process(void)
 {
     process.looks = sysconf(_SC_NPROCESSORS_ONLN) > 1;
-    pthread_atfork(NULL, NULL, note_fork);
+    pthread_atfork(rest_from_telling, go_on_telling, note_fork);
 }
 
 /* Opens the dispatcher for as many threads as there may be, under the lock, since a thread that tells why others wait may be there. A journal is
