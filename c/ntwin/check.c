@@ -66,3 +66,13 @@ static void check_waiting(void)
     holds(found.watchers == 0 || found.moment <= next, "some thread sleeps no longer than to what is due next");
     holds(next >= found.deadline || waiting.timers_due <= next, "no timer is due before that");
 }
+
+/* Whether no handle of the program names the thread of this seat. */
+static void check_unnamed(const struct seat *seat)
+{
+    struct nt_opened opened;
+    for (uint32_t number = 0; number < NT_MAXIMUM_HANDLES; number++)
+        holds(number == seat->handle || waiting.kinds[number] != KIND_THREAD || waiting.threads[number] != seat->number
+                  || nt_opened(&waiting.dispatcher, number, &opened) != 0,
+              "a seat that is given back has no name");
+}

@@ -203,9 +203,14 @@ static void stop_looking(void);
 
 #ifdef CHECKS_WAITING
 static void check_waiting(void);
+static void check_unnamed(const struct seat *seat);
 #else
 static inline void check_waiting(void)
 {
+}
+static inline void check_unnamed(const struct seat *seat)
+{
+    (void)seat;
 }
 #endif
 

@@ -44,9 +44,10 @@ static struct seat *take_seat(void)
     return seat;
 }
 
-/* Gives a seat back whose thread never ran, under the lock. */
+/* Gives a seat back whose thread never ran, under the lock. No handle of the program names it any longer. */
 static void give_seat(struct seat *seat)
 {
+    check_unnamed(seat);
     waiting.alive--;
     add_spare(seat, seat->handle);
 }

@@ -132,12 +132,19 @@ __attribute__((noinline)) static void catch_up(struct seat *caller)
         pass_time(caller);
 }
 
-/* Takes the lock. Where nobody watches, or sleeps short enough to the timers that it minds, what is overdue happens first. */
+/* The same, but where a thread that minds its timers sleeps short enough. */
+__attribute__((noinline)) static void catch_up_unless_kept(struct seat *caller)
+{
+    if (waiting.kept_to > waiting.timers_due)
+        catch_up(caller);
+}
+
+/* Takes the lock. Where nobody watches, what is overdue happens first. */
 static inline void lock(struct seat *caller)
 {
     take_lock();
-    if (waiting.timers_due != NEVER && waiting.watchers == 0 && waiting.kept_to > waiting.timers_due)
-        catch_up(caller);
+    if (waiting.timers_due != NEVER && waiting.watchers == 0)
+        catch_up_unless_kept(caller);
 }
 
 /* How many threads the caller's call told something while they slept, under the lock. From now on the caller wakes them. */
