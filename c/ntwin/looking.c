@@ -284,7 +284,8 @@ static void stop_looking(void)
 /* After all else: what was asked for by SIGQUIT is told to its end, and the journal's file ends where it does. */
 __attribute__((destructor(101))) static void end_looking(void)
 {
-    take_turn_at_last();
+    if (take_turn_at_last())
+        pthread_mutex_unlock(&telling_thread.turn);
     if (journal.text == NULL || !take_lock_at_last())
         return;
     if (journal.text != NULL)
