@@ -8,7 +8,7 @@ enum { COUNT_AT = 18, MOST_COUNT = 0x3FFE }; /* (No pseudo handle has such a cou
 static HANDLE give_handle(uint32_t number)
 {
     const uint32_t count = waiting.given[number] >> COUNT_AT, value = (count < MOST_COUNT ? count + 1 : 1) << COUNT_AT | number << 2;
-    waiting.given[number] = value | IS_OPEN;
+    waiting.given[number] = value;
     return (HANDLE)(uintptr_t)value;
 }
 
@@ -16,7 +16,13 @@ static HANDLE give_handle(uint32_t number)
 static inline uint32_t listed_number_of(HANDLE handle)
 {
     const uint32_t value = (uint32_t)(uintptr_t)handle, number = value >> 2 & (NT_MAXIMUM_HANDLES - 1);
-    return waiting.given[number] == (value & ~3u) + IS_OPEN ? number : NO_HANDLE;
+    return waiting.given[number] == (value & ~3u) ? number : NO_HANDLE;
+}
+
+/* Whether the program has an open handle with this number, under the lock. (A thread's own handle was given to nobody.) */
+static bool is_open(uint32_t number)
+{
+    return waiting.given[number] != 0 && (waiting.given[number] & IS_CLOSED) == 0;
 }
 
 /* The number of a handle, under the lock, which may be the caller's pseudo handle of itself. */
@@ -71,7 +77,7 @@ static uint32_t close_number(struct seat *caller, uint32_t number)
     look_for_timers();
     if (refused != 0)
         return refused;
-    waiting.given[number] &= ~(uint32_t)IS_OPEN;
+    waiting.given[number] |= IS_CLOSED;
     if (waiting.named[number] != NULL)
         forget_named(caller, number);
     if (waiting.pasts[number] != NULL) {
@@ -181,6 +187,7 @@ static void note_made(uint32_t number, const void *place)
     if (nt_opened(&waiting.dispatcher, number, &opened) != 0)
         return;
     waiting.made_at[opened.object] = place;
+    waiting.minders[opened.object] = 0;
     free(waiting.called[opened.object]);
     waiting.called[opened.object] = NULL;
 }

@@ -20,12 +20,24 @@ struct found {
     uint64_t deadline, moment; /* the earliest, or NEVER */
 };
 
+/* Whether the thread sleeps no longer than to the first of the timers that it minds. */
+static bool sleeps_to_what_it_minds(const struct seat *seat)
+{
+    struct nt_object timer;
+    for (uint32_t i = 0; i < seat->minded; i++)
+        if (waiting.minders[seat->timers[i]] == seat->number + 1 && nt_object(&waiting.dispatcher, seat->timers[i], &timer) == 0
+            && timer.armed && timer.due < seat->moment)
+            return false;
+    return true;
+}
+
 /* What holds of a thread whose wait pends. (One that was canceled as it waited never wakes.) */
 static void check_pending(const struct seat *seat, const struct nt_pending_wait *wait, struct found *found)
 {
     const uint64_t deadline = wait->timed ? wait->deadline : NEVER;
     holds(seat->word != IS_GRANTED, "a thread whose wait pends is not granted");
     holds(seat->moment <= deadline || seat->is_gone, "a thread sleeps no longer than to its deadline");
+    holds(!seat->minds || sleeps_to_what_it_minds(seat), "who minds timers sleeps no longer than to the first");
     found->pending++;
     found->watchers += seat->watches;
     found->deadline = earlier_of(found->deadline, deadline);
@@ -39,16 +51,28 @@ static void check_waiting(void)
     if (!waiting.dispatcher.live)
         return;
     holds(waiting.lock != FREE, "the lock is taken");
+    holds(waiting.wakes == 0, "nobody is left to be woken");
     for (uint32_t i = 0; i < waiting.seated; i++) {
         struct nt_pending_wait wait;
         if (nt_waits_for(&waiting.dispatcher, i, &wait) == 0)
             check_pending(&waiting.seats[i], &wait, &found);
         else
-            holds(!waiting.seats[i].watches, "a watcher's wait pends");
+            holds(!waiting.seats[i].watches && !waiting.seats[i].minds, "the wait of who watches or minds pends");
     }
     holds(found.pending == waiting.pending, "the count of waits");
     holds(found.watchers == waiting.watchers, "the count of watchers");
+    holds(waiting.kept_to == NEVER || found.moment <= waiting.kept_to, "some thread sleeps no longer than to what is kept");
     (void)nt_due(&waiting.dispatcher, NT_GREATEST_MOMENT, &next);
     holds(found.watchers == 0 || found.moment <= next, "some thread sleeps no longer than to what is due next");
     holds(next >= found.deadline || waiting.timers_due <= next, "no timer is due before that");
+}
+
+/* Whether no handle of the program names the thread of this seat. */
+static void check_unnamed(const struct seat *seat)
+{
+    struct nt_opened opened;
+    for (uint32_t number = 0; number < NT_MAXIMUM_HANDLES; number++)
+        holds(number == seat->handle || waiting.kinds[number] != KIND_THREAD || waiting.threads[number] != seat->number
+                  || nt_opened(&waiting.dispatcher, number, &opened) != 0,
+              "a seat that is given back has no name");
 }

@@ -46,11 +46,16 @@
 #define WAITS_PER_TRY 4096 /* once in so many waits, those of all threads together, 2 of them try again whether looks help */
 #endif
 
+/* How many timers with a routine a thread minds by itself. A test may set less. */
+#ifndef MINDED_AT_MOST
+#define MINDED_AT_MOST 16
+#endif
+
 enum {
     TRIES = 2,
     MOMENTS_OF_LOOKS = 1000, /* what LOOKS_AT_WORD take at the most, in units of 100 ns */
     NO_HANDLE = 0xFFFFFF,    /* a number that no handle has */
-    IS_OPEN = 2,             /* in the place of the program's own bits: the handle that was given last is open */
+    IS_CLOSED = 1,           /* of a handle that the program had: it names nothing */
     MOMENTS_PER_SECOND = 10000000,
     NANOSECONDS_PER_MOMENT = 100
 };
@@ -99,10 +104,13 @@ struct seat {
     struct nt_reply reply;   /* what its last call was answered */
     struct nt_told told;     /* the last of those whom its last call told something */
     uint64_t moment;         /* to which it sleeps by itself where its wait pends: NEVER until it is told; 0 where it was called */
-    uint64_t timer_due;      /* when the first of the timers that it waits for was due, as it began: it sleeps no longer than to then; or NEVER */
-    bool watches;            /* its wait pends, and a timer may end it */
+    uint64_t timer_due;      /* when the first of the timers that it wakes for is due (dues.c): it sleeps no longer than to then; or NEVER */
+    bool watches;            /* its wait pends, and a timer may end it for which it may not wake by itself */
+    bool minds;              /* its wait pends, is alertable, and these timers with its routines may end it: */
+    uint32_t minded;         /* so many */
+    uint32_t timers[MINDED_AT_MOST];
     bool is_gone;            /* it was canceled as it waited, and never wakes */
-    bool has_routines;       /* it has set a timer with a routine */
+    bool has_more_routines;  /* it has set more timers with a routine than it minds */
     LPTHREAD_START_ROUTINE start; /* null, but where CreateThread made the thread */
     LPVOID parameter;
     _Atomic uint32_t suspended; /* how often the thread, which has not begun, is suspended */
@@ -114,8 +122,7 @@ struct seat {
     uint32_t looks;          /* how often it looks at its word before it sleeps: 0 where that was in vain of late */
     const void *waits_at;    /* where in the program its last wait that pended was called */
     bool tells;              /* its call has tied a knot, of which it tells as it gives the lock back */
-    uint32_t wakes;          /* how many threads its call has told something while they slept: it wakes these, by their numbers, */
-    uint32_t woken[WOKEN_LATER]; /* once the lock is given back, and any further ones at once */
+    uint32_t woken[WOKEN_LATER]; /* the first of the threads that its call has told something while they slept, by their numbers */
 };
 
 /* What is told of a thread that has ended, once its place is another's: its seat as it was, for the handles that still name the thread. */
@@ -136,6 +143,7 @@ struct own {
     jmp_buf *end;      /* where ExitThread goes to, in a thread of CreateThread */
     struct port *port; /* the completion port whose packet it has; null before it got one, and once it asks for the next */
     bool rests;        /* it sleeps with that packet, and does not count among those that run */
+    bool has_turn;     /* it forks, and nobody tells meanwhile why threads wait */
     DWORD mark;        /* its id once it has entered a critical section, by which it enters the next; 0 where a sanitizer is told of each */
 };
 #ifndef own
@@ -160,12 +168,16 @@ static struct {
  *   - each of their threads sleeps by itself no longer than to its own deadline, but one that was canceled as it waited;
  *   - the watchers are threads whose waits pend, and so many as `watchers` says;
  *   - where there are watchers, some thread sleeps no longer than to the next moment at which anything is due;
- *   - no timer is due before `timers_due`. */
+ *   - who minds timers sleeps no longer than to the first of them, and some thread no longer than to `kept_to`;
+ *   - no timer is due before `timers_due`;
+ *   - nobody is left to be woken: `wakes` is 0. */
 static struct {
     _Atomic uint32_t lock;
     uint32_t pending;
+    uint32_t wakes;          /* how many threads who has the lock wakes once it has given that back: they stand in its seat */
     uint64_t timers_due;     /* NEVER where no timer is set */
-    uint32_t watchers;       /* how many of them a timer may end */
+    uint64_t kept_to;        /* to which moment a thread sleeps that minds timers, or NEVER: nothing is overdue before it looks at the time */
+    uint32_t watchers;       /* how many of them a timer may end, for which their threads may not wake by themselves */
     uint32_t begun;          /* how many waits have begun to pend */
     uint32_t seated;         /* how many seats were ever taken */
     uint32_t alive;          /* how many of their threads have not left */
@@ -177,12 +189,13 @@ static struct {
     struct nt dispatcher;
     uint32_t places;         /* how many threads the dispatcher has */
     struct seat seats[NT_MANY_THREADS];
-    uint32_t given[NT_MAXIMUM_HANDLES]; /* by number the program's handle, or that which was closed last (calls.c); */
+    uint32_t given[NT_MAXIMUM_HANDLES]; /* by number the program's handle, or that which was closed last, marked so (calls.c); */
     uint8_t kinds[NT_MAXIMUM_HANDLES]; /* of what each number names, or named last; */
     uint16_t threads[NT_MAXIMUM_HANDLES]; /* where that is a thread, which one; */
     struct past *pasts[NT_MAXIMUM_HANDLES]; /* where its place is another's, what is told of it; else null; */
     struct named *named[NT_MAXIMUM_HANDLES]; /* where it has a name, which; else null; */
     struct port *ports[NT_MAXIMUM_HANDLES]; /* where it is a completion port, which; else null */
+    uint16_t minders[NT_MAXIMUM_HANDLES]; /* of a timer, by its own number: the seat, from 1 on, whose thread set it last, with a routine; or 0 */
     const void *made_at[NT_MAXIMUM_HANDLES]; /* of an object, by its own number: where in the program it was created, or null; */
     char *called[NT_MAXIMUM_HANDLES];  /* and how ntwin_name calls it, or null */
 } waiting;
@@ -191,14 +204,22 @@ static struct {
 static char *text_of_knot(void);
 static void tell_knot(struct seat *caller, char *text);
 
-/* This is a child that was forked: it goes on without a journal, and without a thread that takes SIGQUIT. */
+/* The process forks: nobody tells meanwhile why threads wait. A child that was forked goes on without a journal, and without a thread that takes
+ * SIGQUIT. */
+static void rest_from_telling(void);
+static void go_on_telling(void);
 static void stop_looking(void);
 
 #ifdef CHECKS_WAITING
 static void check_waiting(void);
+static void check_unnamed(const struct seat *seat);
 #else
 static inline void check_waiting(void)
 {
+}
+static inline void check_unnamed(const struct seat *seat)
+{
+    (void)seat;
 }
 #endif
 

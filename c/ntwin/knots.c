@@ -60,7 +60,8 @@ static bool is_new_knot(const bool *knot)
     return is_new;
 }
 
-/* Has the caller tell of a knot that its call has tied, as it gives the lock back. (It wakes itself, and so comes to `unlock_and_wake_all`.) */
+/* Has the caller tell of a knot that its call has tied, as it gives the lock back. (It wakes itself where it wakes nobody, and so comes to
+ * `unlock_and_wake_all`.) */
 static void look_for_knot(void)
 {
     bool over[NT_MANY_THREADS], knot[NT_MANY_THREADS];
@@ -74,5 +75,6 @@ static void look_for_knot(void)
     if (!is_new_knot(knot) || caller->tells)
         return;
     caller->tells = true;
-    caller->woken[caller->wakes++] = caller->number;
+    if (waiting.wakes == 0)
+        caller->woken[waiting.wakes++] = caller->number;
 }

@@ -164,30 +164,84 @@ void ntwin_name(HANDLE handle, const char *name)
         call_thread(handle, name);
 }
 
-/* ---- Before main. */
+/* ---- The thread that takes SIGQUIT. It tells within its turn, which a fork waits for, and the end of the process: for a second at the most, since
+ * who forks or ends may have interrupted what it waits for. */
 
-static void *tell_at_signal(void *signals)
+static struct {
+    pthread_mutex_t turn;
+    sigset_t quit;
+    bool has_blocked;   /* SIGQUIT is blocked for it, and was not before */
+} telling_thread = { .turn = PTHREAD_MUTEX_INITIALIZER };
+
+static bool take_turn_at_last(void)
 {
-    int number;
-    while (sigwait(signals, &number) == 0)
-        say_text(text_of_why());
+    const struct timespec pause = { .tv_nsec = 1000000 };
+    for (int i = 0; i < 1000; i++) {
+        if (pthread_mutex_trylock(&telling_thread.turn) == 0)
+            return true;
+        nanosleep(&pause, NULL);
+    }
+    return false;
+}
+
+static void rest_from_telling(void)
+{
+    own.has_turn = take_turn_at_last();
+}
+
+static void go_on_telling(void)
+{
+    if (own.has_turn)
+        pthread_mutex_unlock(&telling_thread.turn);
+    own.has_turn = false;
+}
+
+/* Whether the first thread has left, and no thread is there but the caller. (The first one's number stays as long as the process.) */
+static bool is_last_thread(void)
+{
+    char text[512];
+    const int file = open("/proc/self/stat", O_RDONLY | O_CLOEXEC);
+    const ssize_t length = file >= 0 ? read(file, text, sizeof text - 1) : -1;
+    if (file >= 0)
+        close(file);
+    text[length > 0 ? length : 0] = 0;
+    const char *state = strrchr(text, ')');
+    struct stat tasks;
+    return state != NULL && strncmp(state, ") Z", 3) == 0 && stat("/proc/self/task", &tasks) == 0 && tasks.st_nlink == 4;
+}
+
+/* It ends the process where it is left alone, as the last other thread would have without it: it looks for that each second. */
+static void *tell_at_signal(void *unused)
+{
+    const struct timespec second = { .tv_sec = 1 };
+    (void)unused;
+    for (;;) {
+        if (sigtimedwait(&telling_thread.quit, NULL, &second) > 0) {
+            pthread_mutex_lock(&telling_thread.turn);
+            say_text(text_of_why());
+            pthread_mutex_unlock(&telling_thread.turn);
+        } else if (errno == EAGAIN && is_last_thread()) {
+            exit(0);
+        }
+    }
     return NULL;
 }
 
-static sigset_t quit;
+/* ---- Before main. */
 
 /* SIGQUIT is blocked in all threads from now on, and taken by one of its own, which takes no other. */
 static void begin_telling(void)
 {
     pthread_t thread;
     sigset_t all, before;
-    sigemptyset(&quit);
-    sigaddset(&quit, SIGQUIT);
+    sigemptyset(&telling_thread.quit);
+    sigaddset(&telling_thread.quit, SIGQUIT);
     sigfillset(&all);
     pthread_sigmask(SIG_SETMASK, &all, &before);
-    const int refused = pthread_create(&thread, NULL, tell_at_signal, &quit);
+    const int refused = pthread_create(&thread, NULL, tell_at_signal, NULL);
     if (refused == 0) {
         pthread_detach(thread);
+        telling_thread.has_blocked = sigismember(&before, SIGQUIT) == 0;
         sigaddset(&before, SIGQUIT);
     } else {
         say("ntwin: NTWIN_WHY: no thread could be made for SIGQUIT\n");
@@ -219,13 +273,19 @@ static void begin_looking(const char *why, const char *path)
 static void stop_looking(void)
 {
     journal.text = NULL;
-    if (sigismember(&quit, SIGQUIT) == 1)
-        pthread_sigmask(SIG_UNBLOCK, &quit, NULL);
+    own.has_turn = false;
+    pthread_mutex_init(&telling_thread.turn, NULL);
+    pthread_mutex_init(&telling, NULL);
+    if (telling_thread.has_blocked)
+        pthread_sigmask(SIG_UNBLOCK, &telling_thread.quit, NULL);
+    telling_thread.has_blocked = false;
 }
 
-/* After all else: the journal's file ends where it does. */
+/* After all else: what was asked for by SIGQUIT is told to its end, and the journal's file ends where it does. */
 __attribute__((destructor(101))) static void end_looking(void)
 {
+    if (take_turn_at_last())
+        pthread_mutex_unlock(&telling_thread.turn);
     if (journal.text == NULL || !take_lock_at_last())
         return;
     if (journal.text != NULL)

@@ -38,19 +38,28 @@ HANDLE CreateEventW(LPSECURITY_ATTRIBUTES attributes, BOOL manual, BOOL set, LPC
 BOOL SetEvent(HANDLE event)
 {
     struct seat *seat = begin();
-    return seat != NULL && finish(seat, nt_set_event(&waiting.dispatcher, seat->number, number_of(seat, event), &seat->reply));
+    if (seat == NULL)
+        return FALSE;
+    const uint32_t number = number_of(seat, event);
+    return finish(seat, nt_set_event(&waiting.dispatcher, seat->number, number, &seat->reply));
 }
 
 BOOL ResetEvent(HANDLE event)
 {
     struct seat *seat = begin();
-    return seat != NULL && finish(seat, nt_reset_event(&waiting.dispatcher, seat->number, number_of(seat, event), &seat->reply));
+    if (seat == NULL)
+        return FALSE;
+    const uint32_t number = number_of(seat, event);
+    return finish(seat, nt_reset_event(&waiting.dispatcher, seat->number, number, &seat->reply));
 }
 
 BOOL PulseEvent(HANDLE event)
 {
     struct seat *seat = begin();
-    return seat != NULL && finish(seat, nt_pulse_event(&waiting.dispatcher, seat->number, number_of(seat, event), &seat->reply));
+    if (seat == NULL)
+        return FALSE;
+    const uint32_t number = number_of(seat, event);
+    return finish(seat, nt_pulse_event(&waiting.dispatcher, seat->number, number, &seat->reply));
 }
 
 /* ---- Semaphores. */
@@ -90,7 +99,8 @@ BOOL ReleaseSemaphore(HANDLE semaphore, LONG count, LPLONG previous)
     struct seat *seat = begin();
     if (seat == NULL)
         return FALSE;
-    if (!finish(seat, nt_release_semaphore(&waiting.dispatcher, seat->number, number_of(seat, semaphore), count, &seat->reply)))
+    const uint32_t number = number_of(seat, semaphore);
+    if (!finish(seat, nt_release_semaphore(&waiting.dispatcher, seat->number, number, count, &seat->reply)))
         return FALSE;
     if (previous != NULL)
         *previous = seat->reply.previous;
@@ -132,7 +142,10 @@ HANDLE CreateMutexW(LPSECURITY_ATTRIBUTES attributes, BOOL owned, LPCWSTR name)
 BOOL ReleaseMutex(HANDLE mutex)
 {
     struct seat *seat = begin();
-    return seat != NULL && finish(seat, nt_release_mutex(&waiting.dispatcher, seat->number, number_of(seat, mutex), &seat->reply));
+    if (seat == NULL)
+        return FALSE;
+    const uint32_t number = number_of(seat, mutex);
+    return finish(seat, nt_release_mutex(&waiting.dispatcher, seat->number, number, &seat->reply));
 }
 
 /* ---- Waitable timers. */
@@ -173,7 +186,6 @@ static uint32_t set_timer(struct seat *seat, uint32_t timer, int64_t due, LONG p
     struct nt *nt = &waiting.dispatcher;
     if (routine == NULL)
         return nt_set_timer(nt, seat->number, timer, due, period, &seat->reply);
-    seat->has_routines = true;
     return nt_set_timer_apc(nt, seat->number, timer, due, period, (uint64_t)(uintptr_t)routine, (uint64_t)(uintptr_t)argument,
                             &seat->reply);
 }
@@ -189,9 +201,10 @@ BOOL SetWaitableTimer(HANDLE timer, const LARGE_INTEGER *due, LONG period, PTIME
         return FALSE;
     const uint64_t now = pass_time(seat);
     const int64_t moment = time < 0 ? time : moment_of(time);
-    const uint32_t refused = set_timer(seat, number_of(seat, timer), moment, period, routine, argument);
+    const uint32_t number = number_of(seat, timer), refused = set_timer(seat, number, moment, period, routine, argument);
     if (refused == 0) {
         note(seat);
+        note_routine(seat, number, routine != NULL);
         note_timer(now, moment < 0 ? now - (uint64_t)moment : (uint64_t)moment);
     }
     unlock_and_wake(seat);

@@ -57,12 +57,13 @@ static uint32_t seat_thread(struct seat *caller, struct seat **seat, struct nt_r
     if (*seat == NULL)
         return ERROR_NO_SYSTEM_RESOURCES;
     const uint32_t refused = nt_duplicate(&waiting.dispatcher, caller->number, (*seat)->handle, SYNCHRONIZE | THREAD_SET_CONTEXT, reply);
-    if (refused != 0)
+    if (refused != 0) {
         give_seat(*seat);
-    else
-        name_thread(reply->number, *seat);
+        return refused;
+    }
+    name_thread(reply->number, *seat);
     (*seat)->life.id = id_of(*seat);
-    return refused;
+    return 0;
 }
 
 HANDLE CreateThread(LPSECURITY_ATTRIBUTES attributes, SIZE_T stack, LPTHREAD_START_ROUTINE start, LPVOID parameter, DWORD flags,
@@ -100,8 +101,9 @@ HANDLE CreateThread(LPSECURITY_ATTRIBUTES attributes, SIZE_T stack, LPTHREAD_STA
         *id = id_of(seat);
     if (start_thread(seat, stack, (flags & STACK_SIZE_PARAM_IS_A_RESERVATION) != 0) != 0) {
         lock(caller);
+        const uint32_t unclosed = close_number(caller, reply.number);
         give_seat(seat);
-        finish(caller, close_number(caller, reply.number));
+        finish(caller, unclosed);
         free(runner);
         fail(NT_ERROR_NOT_ENOUGH_MEMORY);
         return NULL;

@@ -35,8 +35,7 @@ static bool set_aside(struct seat *seat, struct past *past)
     past->seat = *seat;
     seat->life.description = NULL;
     for (uint32_t number = 0; number < NT_MAXIMUM_HANDLES; number++)
-        if (waiting.threads[number] == seat->number && waiting.kinds[number] == KIND_THREAD && waiting.pasts[number] == NULL
-            && (waiting.given[number] & IS_OPEN) != 0) {
+        if (waiting.threads[number] == seat->number && waiting.kinds[number] == KIND_THREAD && waiting.pasts[number] == NULL && is_open(number)) {
             waiting.pasts[number] = past;
             past->handles++;
         }
@@ -99,9 +98,10 @@ static struct seat *take_seat(void)
     return seat;
 }
 
-/* Gives a seat back whose thread never ran, under the lock. */
+/* Gives a seat back whose thread never ran, under the lock. No handle of the program names it any longer. */
 static void give_seat(struct seat *seat)
 {
+    check_unnamed(seat);
     waiting.alive--;
     add_spare(seat, seat->handle);
 }
@@ -133,8 +133,7 @@ static void leave(struct seat *seat)
         note(seat);
         look_for_timers();
         end_seat(seat);
-        if (seat->wakes > 0)
-            wake_all(seat);
+        wake_all(seat, wakes_left());
         renew_seats();
         give_lock();
         return;
@@ -179,10 +178,11 @@ static void note_fork(void)
     own.seat = NULL;
 }
 
-__attribute__((constructor)) static void begin_process(void)
+/* (Before the program's own constructors, which may fork, and before the thread is there that takes SIGQUIT.) */
+__attribute__((constructor(101))) static void begin_process(void)
 {
     process.looks = sysconf(_SC_NPROCESSORS_ONLN) > 1;
-    pthread_atfork(NULL, NULL, note_fork);
+    pthread_atfork(rest_from_telling, go_on_telling, note_fork);
 }
 
 /* Opens the dispatcher for as many threads as there may be, under the lock, since a thread that tells why others wait may be there. A journal is
@@ -207,8 +207,9 @@ static uint32_t open_dispatcher(void)
     if (!process.is_open) {
         process.id = getpid();
         process.start = monotonic();
-        waiting.timers_due = NEVER;
+        waiting.timers_due = waiting.kept_to = NEVER;
         waiting.process_handle = NO_HANDLE;
+        waiting.given[0] = IS_CLOSED;
         if (waiting.dispatcher.room == NULL)
             waiting.dispatcher.room = aligned_alloc(16, (nt_room() + 15) / 16 * 16);
         if (!process.has_key)

@@ -26,8 +26,8 @@ static void tell(struct seat *caller, struct seat *seat, uint32_t how)
     comes_before(&seat->word);
     if (atomic_exchange_explicit(&seat->word, how, memory_order_release) != IS_ASLEEP)
         return;
-    if (caller->wakes < WOKEN_LATER)
-        caller->woken[caller->wakes++] = seat->number;
+    if (waiting.wakes < WOKEN_LATER)
+        caller->woken[waiting.wakes++] = seat->number;
     else
         wake_one(&seat->word);
 }
@@ -39,24 +39,36 @@ static void set_moment(struct seat *seat)
         seat->moment = NEVER;
     if (seat->timer_due < seat->moment)
         seat->moment = seat->timer_due;
+    if (seat->minds && seat->moment < waiting.kept_to)
+        waiting.kept_to = seat->moment;
 }
 
-/* The caller's wait pends from now on, under the lock. A timer may end it, where it watches; the first that it waits for is due then. */
-static void fall_asleep(struct seat *seat, bool watches, uint64_t timer_due)
+/* What timers have to do with a wait that pends (inside.h). */
+struct dues {
+    bool watches, minds;
+    uint64_t first;
+};
+
+/* The caller's wait pends from now on, under the lock. */
+static void fall_asleep(struct seat *seat, struct dues dues)
 {
     atomic_store_explicit(&seat->word, IS_AWAKE, memory_order_relaxed);
     waiting.pending++;
-    waiting.watchers += watches;
-    seat->watches = watches;
-    seat->timer_due = timer_due;
+    waiting.watchers += dues.watches;
+    seat->watches = dues.watches;
+    seat->minds = dues.minds;
+    seat->timer_due = dues.first;
     set_moment(seat);
 }
 
-/* The thread is no watcher any more, under the lock. */
+/* The thread is no watcher any more, under the lock, and minds no timer. */
 static void stop_watching(struct seat *seat)
 {
     waiting.watchers -= seat->watches;
     seat->watches = false;
+    if (seat->minds)
+        waiting.kept_to = NEVER;
+    seat->minds = false;
 }
 
 /* The thread's wait has ended, under the lock, with this status. */
@@ -120,19 +132,32 @@ __attribute__((noinline)) static void catch_up(struct seat *caller)
         pass_time(caller);
 }
 
+/* The same, but where a thread that minds its timers sleeps short enough. */
+__attribute__((noinline)) static void catch_up_unless_kept(struct seat *caller)
+{
+    if (waiting.kept_to > waiting.timers_due)
+        catch_up(caller);
+}
+
 /* Takes the lock. Where nobody watches, what is overdue happens first. */
 static inline void lock(struct seat *caller)
 {
     take_lock();
     if (waiting.timers_due != NEVER && waiting.watchers == 0)
-        catch_up(caller);
+        catch_up_unless_kept(caller);
 }
 
-/* Wakes the threads that the caller's call told something while they slept. */
-__attribute__((noinline)) static void wake_all(struct seat *caller)
+/* How many threads the caller's call told something while they slept, under the lock. From now on the caller wakes them. */
+static uint32_t wakes_left(void)
 {
-    const uint32_t wakes = caller->wakes;
-    caller->wakes = 0;
+    const uint32_t wakes = waiting.wakes;
+    waiting.wakes = 0;
+    return wakes;
+}
+
+/* Wakes the first so many of those whom the caller's call told something. */
+__attribute__((noinline)) static void wake_all(const struct seat *caller, uint32_t wakes)
+{
     for (uint32_t i = 0; i < wakes; i++)
         wake_one(&waiting.seats[caller->woken[i]].word);
 }
@@ -141,8 +166,9 @@ __attribute__((noinline)) static void wake_all(struct seat *caller)
 __attribute__((noinline)) static void unlock_and_wake_all(struct seat *caller)
 {
     char *text = caller->tells ? text_of_knot() : NULL;
+    const uint32_t wakes = wakes_left();
     give_lock();
-    wake_all(caller);
+    wake_all(caller, wakes);
     if (caller->tells)
         tell_knot(caller, text);
 }
@@ -150,21 +176,26 @@ __attribute__((noinline)) static void unlock_and_wake_all(struct seat *caller)
 /* Gives the lock back, and wakes whom the call told something. */
 static inline void unlock_and_wake(struct seat *caller)
 {
-    if (caller->wakes > 0)
+    if (waiting.wakes > 0)
         unlock_and_wake_all(caller);
     else
         give_lock();
 }
 
+/* As `note_and_unlock`, where there may be somebody. */
+__attribute__((noinline)) static void note_and_unlock_all(struct seat *caller)
+{
+    note(caller);
+    unlock_and_wake(caller);
+}
+
 /* As `note`, and then as `unlock_and_wake`: where no wait pended before the call, one look tells that there is nobody to tell or to wake. */
 static inline void note_and_unlock(struct seat *caller)
 {
-    if ((waiting.pending | caller->wakes) == 0) {
+    if ((waiting.pending | waiting.wakes) == 0)
         give_lock();
-        return;
-    }
-    note(caller);
-    unlock_and_wake(caller);
+    else
+        note_and_unlock_all(caller);
 }
 
 /* A timer was set at this moment, under the lock, to be due at that one. */
@@ -225,10 +256,12 @@ static uint64_t look_at_time(struct seat *seat)
     if (atomic_load_explicit(&seat->word, memory_order_relaxed) != IS_GRANTED) {
         atomic_store_explicit(&seat->word, IS_AWAKE, memory_order_relaxed);
         if (pass_time(seat) >= seat->timer_due)
-            seat->timer_due = NEVER;
+            seat->timer_due = seat->minds ? first_minded(seat) : NEVER;
     }
     if (atomic_load_explicit(&seat->word, memory_order_relaxed) != IS_GRANTED) {
         atomic_store_explicit(&seat->word, IS_AWAKE, memory_order_relaxed);
+        if (seat->minds)
+            waiting.kept_to = NEVER;
         set_moment(seat);
         moment = seat->moment;
     }
@@ -240,9 +273,9 @@ static void rest_beside_wait(struct seat *caller);
 static void go_on_with_packet(void);
 
 /* Gives the lock back, sleeps until the caller's pending wait is granted, and answers its status. */
-__attribute__((noinline)) static DWORD sleep_until_granted(struct seat *seat, bool watches, uint64_t timer_due)
+__attribute__((noinline)) static DWORD sleep_until_granted(struct seat *seat, struct dues dues)
 {
-    fall_asleep(seat, watches, timer_due);
+    fall_asleep(seat, dues);
     uint64_t moment = seat->moment;
     const uint32_t looks = looks_before(seat);
     if (own.port != NULL)

@@ -87,28 +87,20 @@ struct wait {
     BOOL alertable;
 };
 
-/* When the timer with this number is due, under the lock: NEVER where it is not set. */
-static uint64_t due_of_timer(uint32_t number)
+/* What timers have to do with the caller's wait, under the lock. (One that it names may be set anew while it sleeps, so it watches then.) */
+static struct dues dues_of(struct seat *seat, struct wait wait)
 {
+    struct dues dues = { wait.alertable && seat->has_more_routines, wait.alertable && seat->minded > 0, NEVER };
     struct nt_opened opened;
-    struct nt_object timer;
-    const bool is_set = nt_opened(&waiting.dispatcher, number, &opened) == 0
-        && nt_object(&waiting.dispatcher, opened.object, &timer) == 0 && timer.armed;
-    return is_set ? timer.due : NEVER;
-}
-
-/* Whether a timer may end the caller's wait, and when the first that it names is due. */
-static bool may_watch(const struct seat *seat, struct wait wait, uint64_t *due)
-{
-    bool names_timers = false;
-    *due = NEVER;
+    if (dues.minds)
+        dues.first = first_minded(seat);
     for (DWORD i = 0; i < wait.count; i++)
-        if (kind_of(wait.numbers[i]) == KIND_TIMER) {
-            const uint64_t one = due_of_timer(wait.numbers[i]);
-            names_timers = true;
-            *due = one < *due ? one : *due;
+        if (kind_of(wait.numbers[i]) == KIND_TIMER && nt_opened(&waiting.dispatcher, wait.numbers[i], &opened) == 0) {
+            const uint64_t due = due_of(opened.object);
+            dues.watches = true;
+            dues.first = due < dues.first ? due : dues.first;
         }
-    return names_timers || (wait.alertable && seat->has_routines);
+    return dues;
 }
 
 /* What a wait answers that was refused. */
@@ -122,10 +114,8 @@ __attribute__((noinline, cold)) static DWORD fail_wait(struct seat *seat, uint32
 /* What a wait answers that pends: its status, once it is granted. The caller's APCs run before. */
 static inline DWORD finish_pending(struct seat *seat, struct wait wait)
 {
-    uint64_t due;
     note(seat);
-    const bool watches = may_watch(seat, wait, &due);
-    const DWORD status = sleep_until_granted(seat, watches, due);
+    const DWORD status = sleep_until_granted(seat, dues_of(seat, wait));
     if (status == WAIT_IO_COMPLETION)
         run_apcs(seat);
     return status;

@@ -104,6 +104,12 @@ __attribute__((noinline, cold)) static void tell_of_giving(void)
     comes_before(&waiting.lock);
 }
 
+/* Wakes one thread that sleeps on the lock. */
+__attribute__((noinline, cold)) static void wake_who_wants_lock(void)
+{
+    wake_one(&waiting.lock);
+}
+
 static inline void take_lock(void)
 {
     if (is_alone() && atomic_load_explicit(&waiting.lock, memory_order_relaxed) == FREE) {
@@ -126,7 +132,7 @@ __attribute__((always_inline)) static inline void give_lock(void)
     if (has_sanitizer())
         tell_of_giving();
     if (atomic_exchange_explicit(&waiting.lock, FREE, memory_order_release) == WANTED)
-        wake_one(&waiting.lock);
+        wake_who_wants_lock();
 }
 
 /* Takes the lock, where it is free within a tenth of a second. */

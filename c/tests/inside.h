@@ -69,8 +69,9 @@ static bool call_the_late(struct seat *clock)
             tell(clock, &waiting.seats[i], IS_CALLED);
             any = true;
         }
+    const uint32_t wakes = wakes_left();
     give_lock();
-    wake_all(clock);
+    wake_all(clock, wakes);
     return any;
 }
 

@@ -367,6 +367,18 @@ static DWORD WINAPI wait_for_both(LPVOID both)
     return WaitForMultipleObjects(2, both, TRUE, INFINITE);
 }
 
+/* Whether one thread's wait pends. */
+static BOOL one_waits(void)
+{
+    char text[32] = "";
+    FILE *file = tmpfile();
+    must(file != NULL);
+    ntwin_why(file);
+    rewind(file);
+    must(fgets(text, sizeof text, file) != NULL && fclose(file) == 0);
+    return strncmp(text, "ntwin: 1 thread waits", 21) == 0;
+}
+
 /* What a pending wait names keeps its number, though no handle names it: no other object gets it, and the wait ends as it should. */
 static void waited_for(void)
 {
@@ -374,9 +386,8 @@ static void waited_for(void)
     DWORD code;
     must(DuplicateHandle(process, both[1], process, &again, 0, FALSE, DUPLICATE_SAME_ACCESS));
     HANDLE thread = started(wait_for_both, (uintptr_t)both);
-    while (WaitForSingleObject(thread, 10) != WAIT_TIMEOUT)
-        continue;
-    Sleep(20);
+    while (!one_waits())
+        Sleep(1);
     IS(SetEvent(both[0]), TRUE);
     IS(CloseHandle(both[0]), TRUE);
     IS(CloseHandle(both[1]), TRUE);

@@ -3,12 +3,14 @@
  *
  * What is kept under the lock holds whenever that is given back (ntwin/check.c); each wait answers the status with which the dispatcher ended
  * it, no sooner than its time; and whenever all threads sleep, each thread whose wait pends sleeps on its word, to its deadline at the
- * longest, and one of those whose waits a timer may end sleeps no longer than to the next timer. */
+ * longest, and to the first timer with a routine of its own, where its wait is alertable; and if one of them waits for a timer, some thread
+ * sleeps no longer than to the next moment. */
 #include "schedules/system.h"
 
 static uint32_t hear_wait(uint32_t who, uint32_t refused, const struct nt_reply *reply);
 static uint32_t hear_exit(uint32_t who, uint32_t refused);
 static uint32_t hear_told(uint32_t refused, const struct nt_told *told);
+static uint32_t hear_timer(uint32_t who, uint32_t timer, bool has_routine, uint32_t refused);
 
 #define nt_wait(nt, who, handles, count, all, ms, alertable, reply) \
     hear_wait(who, nt_wait(nt, who, handles, count, all, ms, alertable, reply), reply)
@@ -18,6 +20,9 @@ static uint32_t hear_told(uint32_t refused, const struct nt_told *told);
     hear_wait(who, nt_swap(nt, who, signal, object, ms, alertable, reply), reply)
 #define nt_exit(nt, who, reply) hear_exit(who, nt_exit(nt, who, reply))
 #define nt_told(nt, index, told) hear_told(nt_told(nt, index, told), told)
+#define nt_set_timer(nt, who, timer, due, period, reply) hear_timer(who, timer, false, nt_set_timer(nt, who, timer, due, period, reply))
+#define nt_set_timer_apc(nt, who, timer, due, period, routine, argument, reply) \
+    hear_timer(who, timer, true, nt_set_timer_apc(nt, who, timer, due, period, routine, argument, reply))
 #define nt_set_event(...) (point(), nt_set_event(__VA_ARGS__))
 #define nt_release_semaphore(...) (point(), nt_release_semaphore(__VA_ARGS__))
 #define nt_release_mutex(...) (point(), nt_release_mutex(__VA_ARGS__))
@@ -70,15 +75,6 @@ static uint32_t hear_told(uint32_t refused, const struct nt_told *told)
     return 0;
 }
 
-static uint32_t hear_exit(uint32_t who, uint32_t refused)
-{
-    if (refused != 0)
-        broken("thread %u can't end: %u", who, refused);
-    sums.ends++;
-    expected[who].depth = expected[who].apcs = 0;
-    return 0;
-}
-
 /* The caller's wait of so many ms, which began then, has answered this. */
 static void check_wait(DWORD status, DWORD ms, uint64_t began)
 {
@@ -103,7 +99,28 @@ enum { EVENTS = 4, SEMAPHORES = 2, MUTEXES = 2, TIMERS = 3, THREADS = 24, FOREIG
 static struct {
     HANDLE events[EVENTS], semaphores[SEMAPHORES], mutexes[MUTEXES], timers[TIMERS], threads[THREADS];
     uint32_t made; /* how many of the threads */
+    uint32_t minders[TIMERS]; /* whose routine a timer has, the thread's number from 1 on; or 0 */
 } program;
+
+static uint32_t hear_timer(uint32_t who, uint32_t timer, bool has_routine, uint32_t refused)
+{
+    point();
+    for (int i = 0; i < TIMERS && refused == 0; i++)
+        if (timer == listed_number_of(program.timers[i]))
+            program.minders[i] = has_routine ? who + 1 : 0;
+    return refused;
+}
+
+static uint32_t hear_exit(uint32_t who, uint32_t refused)
+{
+    if (refused != 0)
+        broken("thread %u can't end: %u", who, refused);
+    sums.ends++;
+    expected[who].depth = expected[who].apcs = 0;
+    for (int i = 0; i < TIMERS; i++)
+        program.minders[i] *= program.minders[i] != who + 1;
+    return 0;
+}
 
 static const struct strand *sleeper_on(const void *word)
 {
@@ -118,8 +135,9 @@ static uint64_t time_of(uint64_t moment)
     return (process.start + moment) * NANOSECONDS_PER_MOMENT;
 }
 
-/* (The timers were made before any duplicate, so their numbers as objects are those of their handles.) */
-static bool may_timers_end(uint32_t thread, const struct nt_pending_wait *wait)
+/* Whether the thread may need another to keep the time. (The timers were made before any duplicate, so their numbers as objects are those of
+ * their handles.) */
+static bool is_watcher(uint32_t thread, const struct nt_pending_wait *wait)
 {
     for (size_t i = 0; i < wait->count; i++) {
         uint32_t object;
@@ -128,10 +146,23 @@ static bool may_timers_end(uint32_t thread, const struct nt_pending_wait *wait)
             if (object == listed_number_of(program.timers[j]))
                 return true;
     }
-    return wait->alertable && waiting.seats[thread].has_routines;
+    return wait->alertable && waiting.seats[thread].has_more_routines;
 }
 
-/* Answers whether a timer may end the wait of this seat's thread. */
+/* When the first timer is due whose routine is this thread's. */
+static uint64_t first_routine_of(uint32_t thread)
+{
+    uint64_t first = NEVER;
+    for (int i = 0; i < TIMERS; i++) {
+        struct nt_object timer;
+        if (program.minders[i] == thread + 1 && nt_object(&waiting.dispatcher, listed_number_of(program.timers[i]), &timer) == 0 && timer.armed
+            && timer.due < first)
+            first = timer.due;
+    }
+    return first;
+}
+
+/* Answers whether this seat's thread may need another to keep the time. */
 static bool look_at(const struct seat *seat)
 {
     struct nt_pending_wait wait;
@@ -145,7 +176,10 @@ static bool look_at(const struct seat *seat)
         broken("thread %u sleeps, and its word says %u", seat->number, (unsigned)seat->word);
     if (wait.timed && sleeper->until > time_of(wait.deadline))
         broken("thread %u sleeps past its deadline", seat->number);
-    return may_timers_end(seat->number, &wait);
+    if (wait.alertable && !seat->has_more_routines && first_routine_of(seat->number) != NEVER
+        && sleeper->until > time_of(first_routine_of(seat->number)))
+        broken("thread %u sleeps past its own timer", seat->number);
+    return is_watcher(seat->number, &wait);
 }
 
 static void look_at_all(void)
@@ -174,6 +208,7 @@ static void begin_anew(void)
     memset(expected, 0, sizeof expected);
     process.is_open = false;
     program.made = 0;
+    memset(program.minders, 0, sizeof program.minders);
 }
 
 int main(int count, char **words)

@@ -1,7 +1,7 @@
-/* Within 10 s: 39 passed, 0 failed.
+/* Within 10 s: 42 passed, 0 failed.
  *
- * What handles can be: their two lowest bits are ignored, generic rights stand for an object's own, an empty name is no name, and the handles
- * that GetCurrentProcess and GetCurrentThread answer stand in some calls, and not in a list. */
+ * What handles can be: their two lowest bits are ignored, generic rights stand for an object's own, an empty name is no name, a null
+ * handle is none, and the handles that GetCurrentProcess and GetCurrentThread answer stand in some calls, and not in a list. */
 #include "case.h"
 
 static void low_bits(void)
@@ -72,6 +72,14 @@ static void empty_names(void)
     IS(CreateWaitableTimerW(NULL, FALSE, L"") != NULL, 1);
 }
 
+static void null_handles(void)
+{
+    SetLastError(0);
+    IS(WaitForSingleObject(NULL, 0), WAIT_FAILED);
+    IS(GetLastError(), ERROR_INVALID_HANDLE);
+    IS(CloseHandle(NULL), FALSE);
+}
+
 static void pseudo_handles(void)
 {
     HANDLE process = GetCurrentProcess(), thread = GetCurrentThread(), copy;
@@ -92,6 +100,7 @@ int main(void)
     low_bits();
     generic_rights();
     empty_names();
+    null_handles();
     pseudo_handles();
     return counted();
 }

@@ -9,6 +9,7 @@
 #define LOOKS_AT_LOCK 2
 #define LOOKS_AT_WORD 3
 #define WAITS_PER_TRY 5
+#define MINDED_AT_MOST 2
 /* What a thread finds of its own is one variable, which is changed at each switch. */
 #define own OWN
 #include "../../ntwin/inside.h"

@@ -68,7 +68,8 @@ static int yield_strand(void)
 
 #define syscall(number, word, operation, value, until, ...) use_futex(word, operation, value, until)
 #define clock_gettime(clock, at) read_clock(at)
-#define pthread_create(thread, attributes, start, argument) ((void)(attributes), create_strand(thread, start, argument))
+/* (The system has no thread more now and then.) */
+#define pthread_create(thread, attributes, start, argument) ((void)(attributes), one_in(20) ? EAGAIN : create_strand(thread, start, argument))
 #define pthread_tryjoin_np(thread, value) join_strand(thread, EBUSY)
 #define pthread_timedjoin_np(thread, value, until) ((void)(until), join_strand(thread, ETIMEDOUT))
 #define pthread_self() ((pthread_t)(run.runs - run.strands))

@@ -1,0 +1,150 @@
+/* Numbers of handles and threads that a dispatcher gives again, by nt.h, or does not: row by row. */
+#include "room.h"
+
+#include <stdlib.h>
+
+static struct nt_reply reply;
+
+/* The number of an event that the first thread makes; 0 if it is refused. */
+static uint32_t made_in(struct nt *it)
+{
+    return nt_create_event(it, 0, 0, &reply) == 0 ? reply.number : 0;
+}
+
+/* A dispatcher that lasts gives numbers again, the one that was freed last first; any other gives each once. */
+static void numbers(void)
+{
+    struct nt once = { room(), false }, lasting = { room(), false }, copy = { room(), false };
+    IS(nt_open_lasting(&lasting, 0), NT_ERROR_INVALID_PARAMETER);
+    IS(nt_open_lasting(&lasting, 4097), NT_ERROR_INVALID_PARAMETER);
+    IS(lasting.live, false);
+    IS(nt_open(&once, 257), NT_ERROR_INVALID_PARAMETER);
+    IS(nt_open_lasting(&lasting, 4096), 0);
+    IS(made_in(&lasting), 4096);
+    nt_close(&lasting);
+    IS(nt_open(&once, 2), 0);
+    IS(nt_open_lasting(&lasting, 2), 0);
+    IS(nt_open_lasting(&lasting, 2), NT_ERROR_INVALID_PARAMETER);
+    for (uint32_t number = 2; number < 5; number++) {
+        IS(made_in(&once), number);
+        IS(made_in(&lasting), number);
+    }
+    for (uint32_t number = 2; number < 4; number++) {
+        IS(nt_close_handle(&once, 0, number, &reply), 0);
+        IS(nt_close_handle(&lasting, 0, number, &reply), 0);
+    }
+    IS(nt_set_event(&lasting, 0, 3, &reply), NT_ERROR_INVALID_HANDLE);
+    IS(nt_copy(&lasting, &copy), 0);
+    IS(made_in(&once), 5);
+    IS(made_in(&lasting), 3);
+    IS(made_in(&copy), 3);
+    IS(nt_duplicate(&lasting, 0, 4, NT_SYNCHRONIZE, &reply), 0);
+    IS(reply.number, 2);
+    IS(made_in(&lasting), 5);
+    IS(made_in(&copy), 2);
+    nt_close(&once);
+    nt_close(&lasting);
+    nt_close(&copy);
+    free(once.room);
+    free(lasting.room);
+    free(copy.room);
+}
+
+/* A thread begins in the place of one that has ended and that no handle names any longer. */
+static void places(void)
+{
+    struct nt lasting = { room(), false };
+    struct nt_begun begun = { 7, 8 };
+    IS(nt_begin(&lasting, &begun), NT_ERROR_INVALID_HANDLE);
+    IS(nt_open(&lasting, 2), 0);
+    IS(nt_exit(&lasting, 1, &reply), 0);
+    IS(nt_close_handle(&lasting, 0, 1, &reply), 0);
+    IS(nt_begin(&lasting, &begun), NT_ERROR_NO_MORE_ITEMS);
+    nt_close(&lasting);
+    IS(nt_open_lasting(&lasting, 2), 0);
+    IS(nt_begin(&lasting, &begun), NT_ERROR_NO_MORE_ITEMS);
+    IS(nt_exit(&lasting, 1, &reply), 0);
+    IS(made_in(&lasting), 2);
+    IS(nt_close_handle(&lasting, 0, 2, &reply), 0);
+    IS(nt_begin(&lasting, &begun), NT_ERROR_NO_MORE_ITEMS);
+    IS(nt_close_handle(&lasting, 0, 1, &reply), 0);
+    IS(begun.thread, 7);
+    IS(begun.handle, 8);
+    IS(nt_create_event(&lasting, 1, 0, &reply), NT_ERROR_THREAD_ENDED);
+    IS(nt_begin(&lasting, &begun), 0);
+    IS(begun.thread, 1);
+    IS(begun.handle, 1);
+    IS(nt_begin(&lasting, &begun), NT_ERROR_NO_MORE_ITEMS);
+    IS(nt_create_event(&lasting, 1, 0, &reply), 0);
+    IS(reply.number, 2);
+    IS(nt_wait_object(&lasting, 0, 1, 0, false, &reply), 0);
+    IS(reply.number, NT_WAIT_TIMEOUT);
+    IS(nt_next_apc(&lasting, 1, &reply), 0);
+    IS(reply.kind, NT_NO_APC);
+    nt_close(&lasting);
+    free(lasting.room);
+}
+
+/* The object of a thread that has ended is set aside: its handle names it by another number, and its place is another thread's. */
+static void aside(void)
+{
+    struct nt lasting = { room(), false };
+    struct nt_begun begun = { 7, 8 };
+    struct nt_opened opened;
+    IS(nt_set_aside(&lasting, 1), NT_ERROR_INVALID_HANDLE);
+    IS(nt_open(&lasting, 2), 0);
+    IS(nt_exit(&lasting, 1, &reply), 0);
+    IS(nt_set_aside(&lasting, 1), NT_ERROR_INVALID_HANDLE);
+    nt_close(&lasting);
+    IS(nt_open_lasting(&lasting, 2), 0);
+    IS(nt_set_aside(&lasting, 1), NT_ERROR_INVALID_HANDLE);
+    IS(nt_exit(&lasting, 1, &reply), 0);
+    IS(nt_set_aside(&lasting, 1), NT_ERROR_HANDLE_LIMIT);
+    IS(made_in(&lasting), 2);
+    IS(nt_close_handle(&lasting, 0, 2, &reply), 0);
+    IS(nt_begin(&lasting, &begun), NT_ERROR_NO_MORE_ITEMS);
+    IS(nt_set_aside(&lasting, 1), 0);
+    IS(nt_opened(&lasting, 1, &opened), 0);
+    IS(opened.object, 2);
+    IS(opened.access, NT_SYNCHRONIZE | NT_SET_CONTEXT);
+    IS(nt_set_aside(&lasting, 1), NT_ERROR_INVALID_HANDLE);
+    IS(nt_begin(&lasting, &begun), 0);
+    IS(begun.thread, 1);
+    IS(begun.handle, 2);
+    IS(nt_wait_object(&lasting, 0, 1, 0, false, &reply), 0);
+    IS(reply.number, NT_WAIT_OBJECT_0);
+    IS(nt_wait_object(&lasting, 0, 2, 0, false, &reply), 0);
+    IS(reply.number, NT_WAIT_TIMEOUT);
+    nt_close(&lasting);
+    free(lasting.room);
+}
+
+/* A creation is refused once 65,536 handles are open, and no longer once one is closed. */
+static void limit(void)
+{
+    struct nt lasting = { room(), false };
+    uint32_t count = 1, last = 0, number;
+    IS(nt_open_lasting(&lasting, 1), 0);
+    while ((number = made_in(&lasting)) != 0) {
+        last = number;
+        count++;
+    }
+    IS(count, NT_MAXIMUM_HANDLES);
+    IS(last, NT_MAXIMUM_HANDLES - 1);
+    IS(nt_create_event(&lasting, 0, 0, &reply), NT_ERROR_HANDLE_LIMIT);
+    IS(nt_duplicate(&lasting, 0, 0, 0, &reply), NT_ERROR_HANDLE_LIMIT);
+    IS(nt_close_handle(&lasting, 0, 100, &reply), 0);
+    IS(made_in(&lasting), 100);
+    IS(made_in(&lasting), 0);
+    nt_close(&lasting);
+    free(lasting.room);
+}
+
+int main(void)
+{
+    numbers();
+    places();
+    aside();
+    limit();
+    return counted();
+}
