@@ -1,4 +1,4 @@
-/* Within 10 s: 7 passed, 0 failed.
+/* Within 20 s: 9 passed, 0 failed.
  *
  * pthread_cancel acts once a wait has ended, and then the thread's mutexes are abandoned. A thread that is canceled asynchronously, while
  * it waits, never ends for the library; other threads' timeouts and timers come in time all the same. */
@@ -48,6 +48,15 @@ static VOID CALLBACK comes(LPVOID unused, DWORD low, DWORD high)
     (void)unused, (void)low, (void)high;
 }
 
+/* The timer is due sooner, while the first thread waits for it. */
+static DWORD sets_sooner(LPVOID unused)
+{
+    const LARGE_INTEGER due = { .QuadPart = -3000000 };
+    (void)unused;
+    rest_ms(20);
+    return (DWORD)SetWaitableTimer(timer, &due, 0, NULL, NULL, FALSE);
+}
+
 int main(void)
 {
     never = CreateEvent(NULL, FALSE, FALSE, NULL);
@@ -57,12 +66,16 @@ int main(void)
     IS(WaitForSingleObject(mutex, 0), WAIT_ABANDONED_0);
     ReleaseMutex(mutex);
     HANDLE thread = cancel_one(&timer);
-    const LARGE_INTEGER due = { .QuadPart = -200000 };
-    IS(SetWaitableTimer(timer, &due, 0, comes, NULL, FALSE), TRUE);
+    const LARGE_INTEGER due = { .QuadPart = -200000 }, late = { .QuadPart = -80000000 };
     const double began = now_ms();
+    IS(SetWaitableTimer(timer, &late, 0, NULL, NULL, FALSE), TRUE);
+    HANDLE setter = CreateThread(NULL, 0, sets_sooner, NULL, 0, NULL);
+    IS(WaitForSingleObject(timer, 6000), WAIT_OBJECT_0);
+    WaitForSingleObject(setter, INFINITE);
+    IS(SetWaitableTimer(timer, &due, 0, comes, NULL, FALSE), TRUE);
     IS(SleepEx(5000, TRUE), WAIT_IO_COMPLETION);
     IS(WaitForSingleObject(timer, 5000), WAIT_OBJECT_0);
     IS(WaitForSingleObject(thread, 300), WAIT_TIMEOUT);
-    IS(now_ms() - began < 2000, 1);
+    IS(now_ms() - began < 4000, 1);
     return counted();
 }
