@@ -184,12 +184,12 @@ static unsigned __stdcall end_at_once(void *argument)
 
 static void __cdecl begun_by_return(void *event)
 {
-    SetEvent(event);
+    must(WaitForSingleObject(event, INFINITE) == WAIT_OBJECT_0);
 }
 
 static void __cdecl begun_to_end(void *event)
 {
-    SetEvent(event);
+    must(WaitForSingleObject(event, INFINITE) == WAIT_OBJECT_0);
     _endthread();
 }
 
@@ -198,7 +198,7 @@ static void threads_of_the_runtime(void)
     unsigned id = 0;
     unsigned long error = 0;
     LONG ran = 0;
-    HANDLE thread, event;
+    HANDLE thread, same, event, self = GetCurrentProcess();
     must((event = CreateEvent(NULL, FALSE, FALSE, NULL)) != NULL);
     must((thread = (HANDLE)_beginthreadex(NULL, 0, end_by_return, &ran, 0, &id)) != NULL);
     IS(WaitForSingleObject(thread, INFINITE), WAIT_OBJECT_0);
@@ -219,11 +219,12 @@ static void threads_of_the_runtime(void)
     void (*const starts[])(void *) = { begun_by_return, begun_to_end };
     for (int i = 0; i < 2; i++) {
         must((thread = (HANDLE)_beginthread(starts[i], 0, event)) != (HANDLE)(intptr_t)-1);
-        IS(WaitForSingleObject(event, INFINITE), WAIT_OBJECT_0);
-        /* Its handle is closed as it ends. */
-        for (int tries = 0; tries < 1000 && WaitForSingleObject(thread, 0) != WAIT_FAILED; tries++)
-            Sleep(1);
+        /* Its handle is closed as it ends: by another it is waited for. */
+        must(DuplicateHandle(self, thread, self, &same, 0, FALSE, DUPLICATE_SAME_ACCESS));
+        IS(SetEvent(event), TRUE);
+        IS(WaitForSingleObject(same, INFINITE), WAIT_OBJECT_0);
         ANSWERS(WaitForSingleObject(thread, 0), WAIT_FAILED, ERROR_INVALID_HANDLE);
+        IS(CloseHandle(same), TRUE);
     }
     errno = 0;
     IS(_doserrno, 0);
