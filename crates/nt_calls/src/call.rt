@@ -1,6 +1,7 @@
 //! The calls, and their answers.
 use nt_apc::Apc;
 use nt_status::{Handle, Handles, Status, ThreadId};
+use std::alloc::AllocError;
 
 /// A call that never pends.
 #[derive(Clone, Copy, PartialEq, Eq, Debug)]
@@ -53,7 +54,7 @@ pub enum Act {
 }
 
 /// A call that may pend. Timeouts are in milliseconds; `INFINITE` has no deadline.
-#[derive(Drop)]
+#[derive(Debug, Drop)]
 pub enum WaitCall {
     /// WaitForMultipleObjectsEx: for any of the objects, or for all.
     Objects {
@@ -76,13 +77,66 @@ pub enum WaitCall {
     },
 }
 
+/// The same call, with its handles in memory of its own.
+impl Clone for WaitCall {
+    ghost use Rattle.std.specs.Prelude.{◌≡◌};
+
+    ghost is_clone = { λ wait copied. copied ≡ wait };
+
+    fn clone(&self) -> Result<Self, AllocError> {
+        match self {
+            WaitCall::Objects {
+                all,
+                alertable,
+                ms,
+                handles,
+            } => Ok(WaitCall::Objects {
+                all: *all,
+                alertable: *alertable,
+                ms: *ms,
+                handles: handles.clone()?,
+            }),
+            WaitCall::Sleep { ms, alertable } => Ok(WaitCall::Sleep {
+                ms: *ms,
+                alertable: *alertable,
+            }),
+            WaitCall::Swap {
+                signal,
+                object,
+                ms,
+                alertable,
+            } => Ok(WaitCall::Swap {
+                signal: *signal,
+                object: *object,
+                ms: *ms,
+                alertable: *alertable,
+            }),
+        }
+    }
+}
+
 /// What a thread asks of the dispatcher.
-#[derive(Drop)]
+#[derive(Debug, Drop)]
 pub enum Call {
     Act(Act),
     Wait(WaitCall),
     /// The calling thread ends.
     Exit,
+}
+
+/// The same call, so that it can be kept or made again.
+impl Clone for Call {
+    ghost use Rattle.std.specs.Prelude.{◌≡◌};
+
+    ghost is_clone = { λ call copied. copied ≡ call };
+
+    fn clone(&self) -> Result<Self, AllocError> {
+        match self {
+            Call::Act(act) => Ok(Call::Act(*act)),
+            Call::Wait(wait) => Ok(Call::Wait(wait.clone()?)),
+            Call::Exit => Ok(Call::Exit),
+        }
+    }
 }
 
 /// What an accepted call answers.

@@ -1,5 +1,5 @@
--- The number of each refusal.
-use Rattle.std.specs.Prelude.{ℕ}
+-- The number of each refusal, and its name.
+use Rattle.std.specs.Prelude.{ℕ, List, codes}
 use Rattle.nt_status.specs.declared.refusal.Refusal.{Refusal}
 use Rattle.nt_status.specs.declared.refusal.Refusal.TheVariants.{AccessDenied, InvalidHandle, Memory, ThreadGone, InvalidParameter, NotOwner, TooManyPosts, ThreadWaiting, ThreadEnded, UnknownThread, RecursionLimit, MomentBack, JournalFull, HandleLimit}
 
@@ -18,3 +18,20 @@ number_of RecursionLimit = 0x20000004
 number_of MomentBack = 0x20000005
 number_of JournalFull = 0x20000006
 number_of HandleLimit = 0x20000007
+
+-- the name as text
+abbrev pub name_of : Refusal → List ℕ
+name_of AccessDenied = codes "ERROR_ACCESS_DENIED"
+name_of InvalidHandle = codes "ERROR_INVALID_HANDLE"
+name_of Memory = codes "ERROR_NOT_ENOUGH_MEMORY"
+name_of ThreadGone = codes "ERROR_GEN_FAILURE"
+name_of InvalidParameter = codes "ERROR_INVALID_PARAMETER"
+name_of NotOwner = codes "ERROR_NOT_OWNER"
+name_of TooManyPosts = codes "ERROR_TOO_MANY_POSTS"
+name_of ThreadWaiting = codes "NT_ERROR_THREAD_WAITING"
+name_of ThreadEnded = codes "NT_ERROR_THREAD_ENDED"
+name_of UnknownThread = codes "NT_ERROR_UNKNOWN_THREAD"
+name_of RecursionLimit = codes "NT_ERROR_RECURSION_LIMIT"
+name_of MomentBack = codes "NT_ERROR_MOMENT_BACK"
+name_of JournalFull = codes "NT_ERROR_JOURNAL_FULL"
+name_of HandleLimit = codes "NT_ERROR_HANDLE_LIMIT"

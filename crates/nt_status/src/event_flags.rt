@@ -23,6 +23,9 @@ impl Model for EventFlags {
 }
 
 impl EventFlags {
+    /// No flag: an auto-reset event that is not set.
+    pub const NONE: EventFlags = EventFlags(EventBits(0));
+
     /// CREATE_EVENT_MANUAL_RESET: a wait that the event satisfies leaves it set.
     pub const MANUAL_RESET: EventFlags = EventFlags(EventBits::MANUAL_RESET);
 

@@ -2,6 +2,7 @@ ghost use Rattle.std.specs.Prelude.{◌≡◌, ◌++◌, ◌∷◌, [], IfOk, On
 
 use smallvec::SmallVec;
 use std::alloc::{AllocError, Global};
+use std::fmt::{Debug, Error, Formatter, Write};
 use std::marker::Model;
 
 /// A handle, by its number.
@@ -118,5 +119,22 @@ impl Handles {
         ensures { result.now ≡ self.now }
     {
         self.items.as_slice()
+    }
+}
+
+/// The same handles, in memory of their own.
+impl Clone for Handles {
+    ghost use Rattle.std.specs.Prelude.{◌≡◌};
+
+    ghost is_clone = { λ handles copied. copied ≡ handles };
+
+    fn clone(&self) -> Result<Self, AllocError> {
+        Handles::from_slice(*self.items.allocator(), self.items.as_slice())
+    }
+}
+
+impl Debug for Handles {
+    fn fmt<W: Write>(&self, formatter: &mut Formatter<W>) -> Result<(), Error> {
+        self.items.fmt(formatter)
     }
 }

@@ -1,4 +1,4 @@
-ghost use Rattle.std.specs.Prelude.{◌≡◌, ◌≤◌, ◌↔◌, IsSome, IfSome};
+ghost use Rattle.std.specs.Prelude.{◌≡◌, ◌≤◌, ◌↔◌, ◌+◌, ◌*◌, IsSome, IfSome};
 
 use crate::limits::MAX_MOMENT;
 use std::marker::Model;
@@ -24,6 +24,9 @@ impl Moment {
     /// The dispatcher's moment 0.
     pub const ZERO: Moment = Moment(0);
 
+    /// The greatest moment.
+    pub const MAX: Moment = Moment(MAX_MOMENT);
+
     /// The moment of this number, in units of 100 ns. None above `MAX_MOMENT`.
     pub fn new(value: u64) -> Option<Self>
         ensures valid { IsSome result ↔ (value ≤ MAX_MOMENT) }
@@ -42,5 +45,12 @@ impl Moment {
         ensures limit { result ≤ MAX_MOMENT }
     {
         self.0
+    }
+    /// The moment that is this many milliseconds later. None above `MAX_MOMENT`.
+    pub fn after_ms(self, ms: u32) -> Option<Self>
+        ensures valid { IsSome result ↔ (self + 10000 * ms ≤ MAX_MOMENT) }
+        ensures value { IfSome result (λ m. m ≡ self + 10000 * ms) }
+    {
+        Moment::new(self.0 + 10_000 * u64::from(ms))
     }
 }

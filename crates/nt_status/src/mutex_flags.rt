@@ -23,6 +23,9 @@ impl Model for MutexFlags {
 }
 
 impl MutexFlags {
+    /// No flag: a mutex that nobody owns.
+    pub const NONE: MutexFlags = MutexFlags(MutexBits(0));
+
     /// CREATE_MUTEX_INITIAL_OWNER: the thread that creates the mutex owns it.
     pub const INITIAL_OWNER: MutexFlags = MutexFlags(MutexBits::INITIAL_OWNER);
 

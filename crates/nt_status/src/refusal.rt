@@ -1,8 +1,9 @@
-ghost use Rattle.std.specs.Prelude.{◌≡◌};
-ghost use Rattle.nt_status.specs.Refusal.{number_of};
+ghost use Rattle.std.specs.Prelude.{◌≡◌, Some};
+ghost use Rattle.nt_status.specs.Refusal.{name_of, number_of};
 ghost use Rattle.nt_status.specs.declared.refusal.Refusal.TheVariants.{Memory};
 
 use std::alloc::{AllocError, AllocFailed};
+use std::fmt::{Display, Error, Formatter, Write};
 
 /// Why a call was refused. A refused call changed nothing.
 #[derive(Clone, Copy, PartialEq, Eq, Debug)]
@@ -58,6 +59,37 @@ impl Refusal {
             Refusal::JournalFull => 0x2000_0006,
             Refusal::HandleLimit => 0x2000_0007,
         }
+    }
+    /// The error's name: that of Windows if it has one, else one that begins with `NT_ERROR_`, as in `c/nt.h`.
+    pub fn name(self) -> &'static str
+        ensures { result.now ≡ name_of self }
+    {
+        match self {
+            Refusal::AccessDenied => "ERROR_ACCESS_DENIED",
+            Refusal::InvalidHandle => "ERROR_INVALID_HANDLE",
+            Refusal::Memory => "ERROR_NOT_ENOUGH_MEMORY",
+            Refusal::ThreadGone => "ERROR_GEN_FAILURE",
+            Refusal::InvalidParameter => "ERROR_INVALID_PARAMETER",
+            Refusal::NotOwner => "ERROR_NOT_OWNER",
+            Refusal::TooManyPosts => "ERROR_TOO_MANY_POSTS",
+            Refusal::ThreadWaiting => "NT_ERROR_THREAD_WAITING",
+            Refusal::ThreadEnded => "NT_ERROR_THREAD_ENDED",
+            Refusal::UnknownThread => "NT_ERROR_UNKNOWN_THREAD",
+            Refusal::RecursionLimit => "NT_ERROR_RECURSION_LIMIT",
+            Refusal::MomentBack => "NT_ERROR_MOMENT_BACK",
+            Refusal::JournalFull => "NT_ERROR_JOURNAL_FULL",
+            Refusal::HandleLimit => "NT_ERROR_HANDLE_LIMIT",
+        }
+    }
+}
+
+/// The error's name, as `ERROR_NOT_OWNER`.
+impl Display for Refusal {
+    ghost output = { λ refusal. Some (name_of refusal) };
+
+    fn fmt<W: Write>(&self, formatter: &mut Formatter<W>) -> Result<(), Error> {
+        let name = self.name();
+        write!(formatter, "{name}")
     }
 }
 

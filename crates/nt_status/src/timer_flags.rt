@@ -23,6 +23,9 @@ impl Model for TimerFlags {
 }
 
 impl TimerFlags {
+    /// No flag: a timer that a wait resets.
+    pub const NONE: TimerFlags = TimerFlags(TimerBits(0));
+
     /// CREATE_WAITABLE_TIMER_MANUAL_RESET: a wait that the timer satisfies leaves it set.
     pub const MANUAL_RESET: TimerFlags = TimerFlags(TimerBits::MANUAL_RESET);
 
