@@ -23,6 +23,11 @@ KNOWN |= {"may-serve", "hides", "bugs", "sum", "native", "logic-built", "librari
 EMPTY = re.compile(r"^(?:warning: no call of `(?![^`]*::fn::).*|note: the search for empty contracts did not end.*)$", re.M)
 running = {}
 beside = threading.Lock()
+is_ending = threading.Event()
+
+
+class Ended(Exception):
+    """This run was told to end, so it begins no more commands."""
 
 
 @dataclasses.dataclass
@@ -53,6 +58,8 @@ def noted(child):
     """Notes a command while it runs, so that it ends where this run is told to end."""
     with beside:
         running[child.pid] = child
+        if is_ending.is_set():
+            child.terminate()
     try:
         yield
     finally:
@@ -62,6 +69,8 @@ def noted(child):
 
 def run(words, folder):
     """Runs a command to its end, with both its outputs in one."""
+    if is_ending.is_set():
+        raise Ended
     begun = time.monotonic()
     how = {"cwd": folder, "stdin": subprocess.DEVNULL, "stdout": subprocess.PIPE, "stderr": subprocess.STDOUT}
     child = subprocess.Popen(words, errors="replace", **how)
@@ -80,8 +89,9 @@ def rt(folder, verb, *words):
 
 
 def stop_all():
-    """Ends what still runs."""
+    """Ends what still runs, and has nothing begin after it."""
     with beside:
+        is_ending.set()
         for child in running.values():
             with contextlib.suppress(OSError):
                 child.terminate()
