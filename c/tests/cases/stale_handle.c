@@ -1,6 +1,6 @@
-/* Within 120 s: 9 passed, 0 failed.
+/* Within 120 s: 10 passed, 0 failed.
  *
- * A closed handle is refused, though its number is another's now, and a thread has the place of one that ended. */
+ * A closed handle is refused, though its number is another's now, and a thread has the place of one that ended, which leaves no handle open. */
 #include "case.h"
 
 static DWORD WINAPI answer(LPVOID code)
@@ -11,6 +11,18 @@ static DWORD WINAPI answer(LPVOID code)
 static DWORD WINAPI wait_for(LPVOID event)
 {
     return WaitForSingleObject(event, INFINITE);
+}
+
+/* How many events there can be at once, up to so many. */
+static int opened(int most)
+{
+    static HANDLE events[61000];
+    int count = 0;
+    while (count < most && (events[count] = CreateEventA(NULL, TRUE, FALSE, NULL)) != NULL)
+        count++;
+    for (int i = 0; i < count; i++)
+        CloseHandle(events[i]);
+    return count;
 }
 
 int main(void)
@@ -44,6 +56,7 @@ int main(void)
             CloseHandle(threads[i]);
     }
     IS(started, 8190);
+    IS(opened(61000), 61000);
     IS(CloseHandle(other), TRUE);
     return counted();
 }
