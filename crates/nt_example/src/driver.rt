@@ -33,6 +33,13 @@ impl Driver {
         Ok(())
     }
 
+    /// A guest ends. That may end waits for it, and for mutexes that it owned.
+    pub fn exit(&mut self, guest: u32) -> Result<(), Refusal> {
+        self.core.exit(guest)?;
+        self.wake_granted();
+        Ok(())
+    }
+
     /// Lets those guests go on whose waits the last call or tick ended. The next call or tick begins a new list.
     pub fn wake_granted(&mut self) {
         for place in 0..self.core.grants().len() {

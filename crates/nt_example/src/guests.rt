@@ -50,7 +50,7 @@ fn lead(driver: &mut Driver, shared: &Shared, left: u32) -> Result<(), Refusal> 
     driver.core.set_event(0, shared.stop)?;
     driver.wake_granted();
     driver.core.cancel_timer(0, shared.timer)?;
-    driver.core.exit(0)
+    driver.exit(0)
 }
 
 /// Another guest goes on: it has taken a piece of work, or is told to stop.
@@ -64,7 +64,7 @@ fn follow(
     let ms = driver.ms();
     writeln!(out, "{ms} ms: guest {guest}, {status}")?;
     if status.index() == Some(0) {
-        driver.core.exit(guest)?;
+        driver.exit(guest)?;
     } else {
         driver.wait(guest, &[shared.stopped, shared.work])?;
     }
