@@ -19,12 +19,6 @@ static inline uint32_t listed_number_of(HANDLE handle)
     return waiting.given[number] == (value & ~3u) ? number : NO_HANDLE;
 }
 
-/* Whether the program has an open handle with this number, under the lock. (A thread's own handle was given to nobody.) */
-static bool is_open(uint32_t number)
-{
-    return waiting.given[number] != 0 && (waiting.given[number] & IS_CLOSED) == 0;
-}
-
 /* The number of a handle, under the lock, which may be the caller's pseudo handle of itself. */
 static inline uint32_t number_of(const struct seat *caller, HANDLE handle)
 {

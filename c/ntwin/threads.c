@@ -26,6 +26,12 @@ static void renew_seats(void)
     }
 }
 
+/* Whether the program has an open handle with this number, under the lock. (A thread's own handle was given to nobody.) */
+static bool is_open(uint32_t number)
+{
+    return waiting.given[number] != 0 && (waiting.given[number] & IS_CLOSED) == 0;
+}
+
 /* The thread that has left this seat is set aside, under the lock, and what is told of it goes to the handles that name it: so its place can be
  * another's. False if that can't be, since a wait that pends names the thread. */
 static bool set_aside(struct seat *seat, struct past *past)
