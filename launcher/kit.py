@@ -13,7 +13,7 @@ import sys
 
 # The logic that the proofs are written for, and the kits of that logic that they were seen to pass with.
 LOGIC = "dac8208d650f15bf"
-SEEN = "rattle-kit-13f"
+SEEN = "rattle-kit-13b or rattle-kit-13f"
 IS_RIGHT, IS_OTHER, IS_LACKING = range(3)
 
 
