@@ -1,5 +1,5 @@
 -- An object that is set aside leaves a dispatcher lawful.
-use Rattle.std.proofs.Common.{◌≡◌, ◌≢◌, ℕ, zero, suc, ◌<◌, ◌≤◌, Bool, true, false, not, ◌&&◌, ◌||◌, List, [], ◌∷◌, length, map, set, refl, sym, ap, ◌∙◌, subst, arith, Option, Some, None, inl, inr, ◌⊎◌, Contains}
+use Rattle.std.proofs.Common.{◌≡◌, ◌≢◌, ℕ, ◌<◌, ◌≤◌, Bool, true, false, not, ◌&&◌, ◌||◌, List, [], ◌∷◌, length, map, set, refl, sym, ap, ◌∙◌, subst, arith, Some, inl, inr, ◌⊎◌, Contains}
 use Rattle.std.specs.Prelude.{nat_lt, nat_le}
 use Rattle.std.specs.FinMap as fin
 use Rattle.std.proofs.lemmas.Bool.{cases_eq, false≢true}
@@ -7,24 +7,22 @@ use Rattle.std.proofs.lemmas.Bool.Decides.{nat_tests}
 use Rattle.std.proofs.lemmas.List.{length-set}
 use Rattle.std.proofs.lemmas.List.Elements.{Contains-append_cases}
 use Rattle.nt_status.proofs.Lists.{contains_none, contains_first, contains_later}
-use Rattle.nt_objects.specs.declared.handles.Opened.{Opened}
 use Rattle.nt_objects.specs.declared.object.Object.{Object}
 use Rattle.nt_objects.specs.declared.object.Object.TheVariants.{Event, Semaphore, Mutex, Timer, Thread, Gone}
-use Rattle.nt_objects.specs.Handles.{opened_at, count_named}
 use Rattle.nt_objects.specs.Object.{is_gone, is_thread, has_ended, due_of, setter_of, IsLawfulObject, owned_by, has_room}
 use Rattle.nt_waits.specs.declared.wait.Wait.{Wait}
 use Rattle.nt_waits.specs.Waits.{Names, queue_of}
 use Rattle.nt_apc.specs.Queues.{has_apc, is_queued}
 use Rattle.nt_calls.specs.Serving.{is_due, sequence}
 use Rattle.nt_calls.specs.State.{State, object_at}
-use Rattle.nt_calls.specs.Living.{is_opened, is_awaited, runs, is_kept, lives, is_forgotten, LivesWhileKept}
+use Rattle.nt_calls.specs.Living.{is_opened, is_awaited, runs, is_kept, lives, LivesWhileKept}
 use Rattle.nt_core.specs.Dispatcher.{Dispatcher, state}
 use Rattle.nt_core.specs.Lawful.{IsSound, IsSteady}
 use Rattle.nt_core.specs.Renewals.{is_vacant}
 use Rattle.nt_core.specs.SetAside.{is_movable, can_set_aside, named_instead}
 use Rattle.nt_core.proofs.Changing.{ChangedOnlyAt, object_at-set_same, object_at-set_other, reading_set, property_set, fit_only_in, due_kept}
 use Rattle.nt_core.proofs.Keeping.{timers_kept}
-use Rattle.nt_core.proofs.Lives.{not_gone, below_both}
+use Rattle.nt_core.proofs.Lives.{below_both}
 use Rattle.nt_core.proofs.Remaining.{both, turned, and_not}
 use Rattle.nt_core.proofs.Renewing.{never_forgotten}
 use Rattle.nt_core.proofs.Renumbering.{named_before, count_other, count_from, count_to, handles_instead}

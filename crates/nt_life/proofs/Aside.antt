@@ -1,5 +1,5 @@
 -- What becomes of the spare numbers where an object is set aside.
-use Rattle.std.proofs.Common.{◌≡◌, ◌≢◌, ◌<◌, ◌≤◌, ℕ, ◌+◌, ◌==◌, Bool, true, false, not, ◌&&◌, length, map, refl, sym, ap, ◌∙◌, subst, arith, Option, Some, None, List, inl, inr}
+use Rattle.std.proofs.Common.{◌≡◌, ◌≢◌, ℕ, ◌+◌, ◌==◌, true, false, not, ◌&&◌, length, map, refl, sym, ap, ◌∙◌, subst, arith, Option, Some, None, List, inl, inr}
 use Rattle.std.specs.Prelude.{nat_lt, nat_le, is_none}
 use Rattle.std.proofs.lemmas.Bool.{cases_eq}
 use Rattle.std.proofs.lemmas.Bool.Decides.{nat_tests}
@@ -14,7 +14,7 @@ use Rattle.nt_calls.specs.State.{State, object_at}
 use Rattle.nt_core.specs.Dispatcher.{Dispatcher, state}
 use Rattle.nt_core.specs.Lawful.{IsLawful}
 use Rattle.nt_core.specs.Renewals.{is_closed}
-use Rattle.nt_core.specs.SetAside.{SetsAside, can_set_aside, named_instead, set_aside}
+use Rattle.nt_core.specs.SetAside.{SetsAside, named_instead, set_aside}
 use Rattle.nt_core.proofs.Renumbering.{opened_instead, count_other, count_to}
 use Rattle.nt_core.proofs.SettingAside.{MayMove, may_move, aside_opened}
 use Rattle.nt_life.specs.Lasting.{Spares, IsSpare, times, is_unnamed}

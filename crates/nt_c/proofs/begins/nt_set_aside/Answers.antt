@@ -1,4 +1,4 @@
-use Rattle.std.proofs.Common.{ℕ, None, Some, refl, subst, sym}
+use Rattle.std.proofs.Common.{Some, refl, subst, sym}
 use Rattle.std.specs.Prelude.{Option}
 use Rattle.nt_sleepers.specs.Sleepers.{Sleeping}
 use Rattle.nt_c.specs.Asks.{PutsAsideIn}

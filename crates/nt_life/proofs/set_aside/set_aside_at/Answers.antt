@@ -1,4 +1,4 @@
-use Rattle.std.proofs.Common.{◌≡◌, ℕ, true, ◌+◌, ◌==◌, Bool, sym, ap, ◌∙◌, subst}
+use Rattle.std.proofs.Common.{ℕ, true, ◌+◌, ◌==◌, Bool, ap, ◌∙◌, subst}
 use Rattle.std.specs.List.{swap_remove}
 use Rattle.nt_objects.proofs.Counting.{weight}
 use Rattle.nt_core.specs.Dispatcher.{state}

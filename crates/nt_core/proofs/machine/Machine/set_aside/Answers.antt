@@ -1,4 +1,4 @@
-use Rattle.std.proofs.Common.{◌≡◌, ℕ, true, false, refl, sym, ap, ◌∙◌, subst}
+use Rattle.std.proofs.Common.{◌≡◌, ℕ, true, false, sym, ap, ◌∙◌, subst}
 use Rattle.nt_calls.specs.State.{State}
 use Rattle.nt_calls.specs.Living.{LivesWhileKept}
 use Rattle.nt_core.specs.Dispatcher.{Dispatcher, state}
