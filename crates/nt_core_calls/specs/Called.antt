@@ -11,7 +11,7 @@ use Rattle.nt_core.specs.Dispatcher.{Dispatcher, state}
 use Rattle.nt_core.specs.Lawful.{IsLawful}
 use Rattle.nt_core.specs.Accepts.{IsLocal, IsTickLocal}
 
--- the thread's call was made, or refused, with this result: each clause of `Core::call`
+-- the thread's call was made, or refused, with this result: each clause of `Core::call`, but that only a wait pends, which the answers' types say
 pub record IsCalled (old : Dispatcher) (who : ℕ) (call : Call) (result : Result Reply Refusal) (new : Dispatcher) : Type 0 where
   pub called : Called (state old) who call result new.grants (state new)
   pub lawful : IsLawful new
