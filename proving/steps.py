@@ -174,7 +174,7 @@ def unproved(top):
 
 def proved(top, tree, work, tries_all):
     scripts = [os.path.relpath(it, tree) for it in sorted(glob.glob(f"{tree}/examples/*.nts") + glob.glob(f"{tree}/tests/scripts/*/*.nts"))]
-    found = [
+    return [
         ("proofs, tests and programs", functools.partial(proofs_of_all, tree, work), True),
         ("wrong turns", functools.partial(wrong_turns, top, tree, work, tries_all), False),
         ("the tests, each growth refused", command(tree, "tests/growths/tests"), False),
@@ -187,4 +187,3 @@ def proved(top, tree, work, tries_all):
         ("the launcher, and the worked scripts", command(tree, "tests/launcher"), False),
         ("the library for C programs", command(tree, "make", "--no-print-directory", "-C", "c", "check", "ALL=1" if tries_all else "STRICT=1"), False),
     ]
-    return found + ([("rt ci", command(tree, kit.find_rt(), "ci"), False)] if tries_all else [])
