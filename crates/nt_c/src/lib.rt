@@ -1,6 +1,16 @@
 //! The dispatcher for callers in C: a static library, whose header is `c/nt.h`.
 //!
-//! A handle is a pointer to room for a dispatcher, of `nt_room` bytes, and whether there is one. One thread at a time calls through it.
+//! A caller in C has numbers and pointers, and no type keeps its promises. So each export takes numbers, makes one call of the
+//! dispatcher, and answers numbers; its contract says which call that was, and what becomes of each number:
+//!
+//! ```text
+//!    nt_set_event(nt, 3, 7, out) ---> is there a dispatcher? ---> the machine's call ---> 0, or the error's number
+//!    thread 3, handle 7               if not: 6                   (nt_sleepers)           what it answers, written to `out`
+//! ```
+//!
+//! A handle is a pointer to room for a dispatcher, of `nt_room` bytes, and whether there is one. The room is the caller's memory: that it is
+//! there, is nobody else's, and is used by one call at a time is what the header asks for, and what every contract here takes as
+//! given. Three functions of a line each touch it (`cell`, `held_mut`); all else is safe code.
 #![tactic(auto)]
 
 mod apcs;
