@@ -55,7 +55,7 @@ own_alarm-Some alarms i a is = own_place (alarm_at alarms i) refl is
         rw (← place_is, ← moment_is) at
 
 -- what a place keeps is the alarm of some place
-kept_is : (alarms : List (Option ℕ)) (firsts : List (Option Alarm)) → IsTree alarms firsts →
+pub kept_is : (alarms : List (Option ℕ)) (firsts : List (Option Alarm)) → IsTree alarms firsts →
     (steps i : ℕ) (a : Alarm) → length alarms ≤ i + steps → first_kept firsts i ≡ Some a → alarm_at alarms a.place ≡ Some a.moment
 kept_is alarms firsts tree zero i a past is =
     let none : first_kept firsts i ≡ None = get_or_past firsts i None (omega (arith, tree.same_length)) in cc
@@ -82,7 +82,7 @@ root_own alarms firsts tree place =
           let none : alarm_at alarms place ≡ None = get_or_past alarms place None above in rw none tt
     ]
 
-own_of : (alarms : List (Option ℕ)) (place moment : ℕ) → alarm_at alarms place ≡ Some moment → own_alarm alarms place ≡ Some (record { moment = moment; place = place })
+pub own_of : (alarms : List (Option ℕ)) (place moment : ℕ) → alarm_at alarms place ≡ Some moment → own_alarm alarms place ≡ Some (record { moment = moment; place = place })
 own_of alarms place moment is = rw is
 
 -- the alarm at place 0's head comes before each
@@ -134,7 +134,7 @@ pub quiet_none_at : (alarms : List (Option ℕ)) (moment : ℕ) → IsQuiet alar
 quiet_none_at alarms moment quiet place at = let none : alarm_at alarms place ≡ None = quiet place in cc
 
 -- a place whose own alarm and whose neighbours below stay as they are
-IsFirst-same : (alarms alarms' : List (Option ℕ)) (firsts firsts' : List (Option Alarm)) (i : ℕ) →
+pub IsFirst-same : (alarms alarms' : List (Option ℕ)) (firsts firsts' : List (Option Alarm)) (i : ℕ) →
     alarm_at alarms' i ≡ alarm_at alarms i →
     first_kept firsts' i ≡ first_kept firsts i →
     first_kept firsts' (2 * i + 1) ≡ first_kept firsts (2 * i + 1) →
@@ -212,7 +212,7 @@ alarm_added [] (suc place) = refl
 alarm_added (o ∷ alarms) zero = refl
 alarm_added (o ∷ alarms) (suc place) = alarm_added alarms place
 
-kept_added : (firsts : List (Option Alarm)) (place : ℕ) → first_kept (firsts ++ None ∷ []) place ≡ first_kept firsts place
+pub kept_added : (firsts : List (Option Alarm)) (place : ℕ) → first_kept (firsts ++ None ∷ []) place ≡ first_kept firsts place
 kept_added [] zero = refl
 kept_added [] (suc place) = refl
 kept_added (o ∷ firsts) zero = refl

@@ -1,3 +1,4 @@
 pub mod Alarms
 pub mod Marks
+pub mod Node
 pub mod Tree

@@ -1,19 +1,49 @@
-ghost use Rattle.std.specs.Prelude.{◌≡◌, ◌<◌, ◌++◌, ◌∷◌, ◌==◌, [], length, replicate, slice_set, Some, None, OnOk, OnErr, IfOk, MatchOption};
+ghost use Rattle.std.specs.Prelude.{◌≡◌, ◌+◌, ◌<◌, ◌^◌, ◌++◌, ◌∷◌, ◌==◌, [], length, replicate, slice_set, Some, None, OnOk, OnErr, IfOk, MatchOption, vec_len, vec_capacity};
+ghost use Rattle.nt_alarms.specs.Tree.{alarms_of, IsTable};
 
 use crate::marks::Marks;
-use crate::tree::{Alarm, first_below, mend};
+use crate::node::{Node, TOO_MANY};
+use crate::tree::{clear_own, first_below, moment_of, set_own};
 use std::alloc::{AllocError, Global};
 use std::marker::Model;
+
+/// Makes room for a place more. Where memory is refused, or there are too many, no place is added.
+fn make_room(moments: &mut Vec<u64>, nodes: &mut Vec<Node>) -> Result<(), AllocError>
+    ensures moments { moments.new.items ≡ moments.old.items }
+    ensures nodes { nodes.new.items ≡ nodes.old.items }
+    ensures few { OnOk result (length moments.new.items + 1 < 2 ^ 31) }
+    ensures room { OnOk result (vec_len moments.new < vec_capacity moments.new) }
+    ensures node_room { OnOk result (vec_len nodes.new < vec_capacity nodes.new) }
+{
+    if moments.len() + 1 >= TOO_MANY {
+        return Err(AllocError);
+    }
+    moments.reserve(1)?;
+    nodes.reserve(1)
+}
+
+/// Adds a place, last, with no alarm.
+fn add_place(moments: &mut Vec<u64>, nodes: &mut Vec<Node>)
+    requires few { length moments.old.items + 1 < 2 ^ 31 }
+    requires room { vec_len moments.old < vec_capacity moments.old }
+    requires node_room { vec_len nodes.old < vec_capacity nodes.old }
+    requires table { IsTable moments.old.items nodes.old.items }
+    ensures table { IsTable moments.new.items nodes.new.items }
+    ensures added { alarms_of moments.new.items nodes.new.items ≡ alarms_of moments.old.items nodes.old.items ++ None ∷ [] }
+{
+    moments.push_reserved(0);
+    nodes.push_reserved(Node::EMPTY);
+}
 
 /// A moment for each place, or none: an alarm clock for every timer, or every thread.
 ///
 /// Places are numbered from 0 in the order in which they were added. Setting and clearing an alarm
 /// takes steps in the logarithm of the number of places, and no memory; reading the earliest one
-/// step.
+/// step. There can be 2^31 - 1 places; a further one is refused as if there were no memory.
 #[derive(Drop)]
 pub struct Alarms {
-    alarms: Vec<Option<u64>>,
-    firsts: Vec<Option<Alarm>>,
+    moments: Vec<u64>,
+    nodes: Vec<Node>,
 }
 
 impl Model for Alarms {
@@ -21,11 +51,11 @@ impl Model for Alarms {
 
     ghost Value = { List (Option ℕ) };
 
-    ghost use Rattle.nt_alarms.specs.Tree.{IsTree};
+    ghost use Rattle.nt_alarms.specs.Tree.{alarms_of, IsTable};
 
-    ghost view = { λ a. a.alarms.items };
+    ghost view = { λ a. alarms_of a.moments.items a.nodes.items };
 
-    ghost invariant = { λ a. IsTree a.alarms.items a.firsts.items };
+    ghost invariant = { λ a. IsTable a.moments.items a.nodes.items };
 }
 
 impl Alarms {
@@ -36,8 +66,8 @@ impl Alarms {
         ensures { result ≡ [] }
     {
         Alarms {
-            alarms: Vec::new(alloc),
-            firsts: Vec::new(alloc),
+            moments: Vec::new(alloc),
+            nodes: Vec::new(alloc),
         }
     }
 
@@ -67,13 +97,13 @@ impl Alarms {
     pub fn len(&self) -> usize
         ensures { result ≡ length self.now }
     {
-        self.alarms.len()
+        self.moments.len()
     }
 
     pub fn is_empty(&self) -> bool
         ensures { result ≡ (length self.now == 0) }
     {
-        self.alarms.is_empty()
+        self.moments.is_empty()
     }
 
     /// Adds a place, last, with no alarm.
@@ -81,9 +111,9 @@ impl Alarms {
         ensures ok { OnOk result (self.new ≡ self.old ++ None ∷ []) }
         ensures err { OnErr result (self.new ≡ self.old) }
     {
-        self.alarms.reserve(1)?;
-        self.firsts.push(None)?;
-        self.alarms.push_reserved(None);
+        // Room first, so that a refusal changes nothing.
+        make_room(&mut self.moments, &mut self.nodes)?;
+        add_place(&mut self.moments, &mut self.nodes);
         Ok(())
     }
 
@@ -94,11 +124,9 @@ impl Alarms {
         ensures err { OnErr result (self.new ≡ self.old) }
         ensures kept { OnErr result (others.new ≡ others.old) }
     {
-        self.alarms.reserve(1)?;
-        self.firsts.reserve(1)?;
+        make_room(&mut self.moments, &mut self.nodes)?;
         others.add()?;
-        self.alarms.push_reserved(None);
-        self.firsts.push_reserved(None);
+        add_place(&mut self.moments, &mut self.nodes);
         Ok(())
     }
 
@@ -111,11 +139,9 @@ impl Alarms {
         ensures err { OnErr result (self.new ≡ self.old) }
         ensures kept { OnErr result ((marks.new ≡ marks.old) × (more.new ≡ more.old)) }
     {
-        self.alarms.reserve(1)?;
-        self.firsts.reserve(1)?;
+        make_room(&mut self.moments, &mut self.nodes)?;
         marks.add_both(more)?;
-        self.alarms.push_reserved(None);
-        self.firsts.push_reserved(None);
+        add_place(&mut self.moments, &mut self.nodes);
         Ok(())
     }
 
@@ -124,8 +150,7 @@ impl Alarms {
         requires { place < length self.old }
         ensures { self.new ≡ slice_set self.old place (Some moment) }
     {
-        self.alarms[place] = Some(moment);
-        mend(&self.alarms, &mut self.firsts, place);
+        set_own(&mut self.moments, &mut self.nodes, place, moment);
     }
 
     /// Clears the alarm of this place, if it has one.
@@ -133,26 +158,21 @@ impl Alarms {
         requires { place < length self.old }
         ensures { self.new ≡ slice_set self.old place None }
     {
-        self.alarms[place] = None;
-        mend(&self.alarms, &mut self.firsts, place);
+        clear_own(&self.moments, &mut self.nodes, place);
     }
 
     /// The alarm of this place; none past the last place.
     pub fn get(&self, place: usize) -> Option<u64>
         ensures { result ≡ alarm_at self.now place }
     {
-        if place < self.alarms.len() {
-            self.alarms[place]
-        } else {
-            None
-        }
+        moment_of(&self.moments, &self.nodes, place)
     }
 
     /// The earliest alarm, where there is one.
     pub fn earliest(&self) -> Option<u64>
         ensures { MatchOption result (IsQuiet self.now) (λ moment. IsEarliest self.now moment) }
     {
-        match first_below(&self.firsts, 0) {
+        match first_below(&self.moments, &self.nodes, 0) {
             Some(first) => Some(first.moment),
             None => None,
         }
@@ -163,7 +183,7 @@ impl Alarms {
         requires { NoneBefore self.now moment }
         ensures { MatchOption result (NoneAt self.now moment) (λ place. IsLowestAt self.now moment place) }
     {
-        match first_below(&self.firsts, 0) {
+        match first_below(&self.moments, &self.nodes, 0) {
             Some(first) if first.moment == moment => Some(first.place),
             _ => None,
         }
@@ -173,10 +193,10 @@ impl Alarms {
     pub fn copy(&self) -> Result<Self, AllocError>
         ensures { IfOk result (λ copied. copied ≡ self.now) }
     {
-        let alloc = *self.alarms.allocator();
+        let alloc = *self.moments.allocator();
         Ok(Alarms {
-            alarms: Vec::from_slice(alloc, &self.alarms)?,
-            firsts: Vec::from_slice(alloc, &self.firsts)?,
+            moments: Vec::from_slice(alloc, &self.moments)?,
+            nodes: Vec::from_slice(alloc, &self.nodes)?,
         })
     }
     /// The same alarms, and the same marks of two kinds, in memory of their own.

@@ -17,6 +17,7 @@
 
 mod alarms;
 mod marks;
+mod node;
 mod tree;
 
 pub use alarms::Alarms;

@@ -1,13 +1,12 @@
-use Rattle.std.proofs.Common.{◌≡◌, ◌≢◌, ℕ, ◌<◌, length}
-use Rattle.nt_alarms.specs.Tree.{IsFirst, first_kept}
+use Rattle.std.proofs.Common.{◌≡◌}
+use Rattle.nt_alarms.specs.Tree.{alarms_of, IsTableBut}
 use Rattle.nt_alarms.proofs.tree.mend.Given as goal
 
-abbrev pub invariant-loop-first : goal.invariant-loop-first
-invariant-loop-first l = record {
-  same_length : length l.alarms ≡ length l.firsts;
-  in_range : l.at < length l.alarms;
-  others : (i : ℕ) → i ≢ l.at → i < length l.alarms → IsFirst l.alarms l.firsts i (first_kept l.firsts i);
+abbrev pub invariant-loop-node : goal.invariant-loop-node
+invariant-loop-node l = record {
+  same : alarms_of l.moments l.nodes ≡ alarms_of l.initial.moments l.initial.nodes;
+  table : IsTableBut l.moments l.nodes l.at;
 }
 
-abbrev pub decreases-loop-first : goal.decreases-loop-first
-decreases-loop-first l = l.at
+abbrev pub decreases-loop-node : goal.decreases-loop-node
+decreases-loop-node l = l.at
