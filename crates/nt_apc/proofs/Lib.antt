@@ -3,3 +3,4 @@ pub mod ListingLemmas
 pub mod QueueLemmas
 pub mod SoundLemmas
 pub mod ViewLemmas
+pub mod LikeLemmas

@@ -1,5 +1,5 @@
 //! One thread's queue, with a place kept free for each timer that was promised one.
-ghost use Rattle.std.specs.Prelude.{◌≡◌, ◌<◌, ◌++◌, ◌∷◌, ◌==◌, [], length, Some, None, OnOk, OnErr, IfOk, slice_get};
+ghost use Rattle.std.specs.Prelude.{◌≡◌, ◌↔◌, true, ◌<◌, ◌++◌, ◌∷◌, ◌==◌, [], length, Some, None, OnOk, OnErr, IfOk, slice_get};
 ghost use Rattle.nt_apc.specs.Queues.{oldest, without_oldest, without_from};
 ghost use Rattle.nt_apc.specs.Inbox.{timed_count, GivesUp};
 
@@ -31,6 +31,28 @@ impl Model for Inbox {
     } };
 
     ghost invariant = { λ i. plain_count i.queue.items + length i.timers.items ≤ deque_capacity i.queue };
+}
+
+/// Whether both are the same APC, of the same timer.
+fn is_same(queued: Queued, other: Queued) -> bool
+    ensures { (result ≡ true) ↔ (queued ≡ other) }
+{
+    queued == other
+}
+
+/// Whether the same APCs are queued, in the same order.
+fn are_like(queue: &VecDeque<Queued>, other: &VecDeque<Queued>) -> bool
+    ensures { (result ≡ true) ↔ (queue.now.items ≡ other.now.items) }
+{
+    if queue.len() != other.len() {
+        return false;
+    }
+    for i in 0..queue.len() {
+        if !is_same(queue[i], other[i]) {
+            return false;
+        }
+    }
+    true
 }
 
 impl Inbox {
@@ -139,6 +161,13 @@ impl Inbox {
         ensures { result.now ≡ self.now.timers }
     {
         self.timers.as_slice()
+    }
+
+    /// Whether the same APCs are queued, in the same order.
+    pub fn is_like(&self, other: &Inbox) -> bool
+        ensures { (result ≡ true) ↔ (self.now.queue ≡ other.now.queue) }
+    {
+        are_like(&self.queue, &other.queue)
     }
 
     /// The same in memory of its own.

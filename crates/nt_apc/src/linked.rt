@@ -1,5 +1,5 @@
 //! The inboxes of all threads and the places of all timers, which name each other.
-ghost use Rattle.std.specs.Prelude.{◌≡◌, ◌≢◌, ◌<◌, ℕ, Some, None, OnOk, OnErr, IfOk, length, false, vec_capacity};
+ghost use Rattle.std.specs.Prelude.{◌≡◌, ◌↔◌, true, ◌≢◌, ◌<◌, ℕ, Some, None, OnOk, OnErr, IfOk, length, false, vec_capacity};
 ghost use Rattle.nt_apc.specs.Queues.{pushed, taken, cleared, withdrawn, withdrawn_at, given_up, has_from, oldest, queue_of, place_of, is_at};
 ghost use Rattle.nt_apc.specs.Place.{inbox_at, place_at, index_at, thread_of, queues_in, threads_in, IsSound, KeepsSound};
 
@@ -243,4 +243,19 @@ pub fn copy(alloc: Global, inboxes: &[Inbox]) -> Result<Vec<Inbox>, AllocError>
         copied.push_reserved(inbox.copy()?);
     }
     Ok(copied)
+}
+
+/// Whether the same APCs are queued to each thread, in the same order.
+pub fn are_like(inboxes: &[Inbox], others: &[Inbox]) -> bool
+    ensures { (result ≡ true) ↔ (queues_in inboxes.now ≡ queues_in others.now) }
+{
+    if inboxes.len() != others.len() {
+        return false;
+    }
+    for i in 0..inboxes.len() {
+        if !inboxes[i].is_like(&others[i]) {
+            return false;
+        }
+    }
+    true
 }

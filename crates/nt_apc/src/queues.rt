@@ -1,4 +1,4 @@
-ghost use Rattle.std.specs.Prelude.{◌≡◌, ◌≢◌, ◌<◌, if◌then◌else◌, ◌↔◌, ℕ, not, false, length, replicate, [], Some, None, OnOk, OnErr, IfOk, AllPairs, Contains};
+ghost use Rattle.std.specs.Prelude.{◌≡◌, ◌≢◌, ◌<◌, if◌then◌else◌, ◌↔◌, ℕ, true, not, false, length, replicate, [], Some, None, OnOk, OnErr, IfOk, AllPairs, Contains};
 ghost use Rattle.nt_apc.specs.Queues.{Apcs, KeepsPlaces, queue_of, has_apc, has_from, is_queued, oldest, apc_of, pushed, taken, cleared, withdrawn, withdrawn_at, place_of, is_at, given_up};
 
 use crate::apc::Apc;
@@ -175,6 +175,13 @@ impl ApcQueues {
         ensures listed { (m : ℕ) → Contains result.now m ↔ (place_of self.now.places m ≡ Some t) }
     {
         self.inboxes[t.get() as usize].timers()
+    }
+
+    /// Whether the same APCs are queued to each thread, in the same order.
+    pub fn is_like(&self, other: &ApcQueues) -> bool
+        ensures { (result ≡ true) ↔ (self.now.queues ≡ other.now.queues) }
+    {
+        linked::are_like(&self.inboxes, &other.inboxes)
     }
 
     /// The same queues and promises in memory of their own.

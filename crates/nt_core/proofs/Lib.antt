@@ -46,3 +46,5 @@ mod Renewing
 pub mod Renumbering
 pub mod SettingAside
 mod Lengthening
+pub mod LikeLemmas
+pub mod OwnersKnown

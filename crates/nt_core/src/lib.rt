@@ -19,6 +19,7 @@
 
 // What a caller sees.
 mod dispatcher;
+mod like;
 mod readers;
 // The parts, and the way of a call through them.
 mod calls;

@@ -1,10 +1,12 @@
 //! What whoever drives threads asks of a dispatcher: what is there, and when something is due.
-ghost use Rattle.std.specs.Prelude.{◌≡◌, MatchOption, slice_get};
+ghost use Rattle.std.specs.Prelude.{◌≡◌, ◌<◌, ℕ, true, MatchOption, slice_get};
 ghost use Rattle.std.specs.Option.{option_copied};
 ghost use Rattle.std.specs.FinMap as map;
 ghost use Rattle.nt_core.specs.Dispatcher.{state};
 ghost use Rattle.nt_core.specs.Lawful.{IsLawful};
 ghost use Rattle.nt_calls.specs.Naming.{object_named};
+ghost use Rattle.nt_calls.specs.State.{object_at};
+ghost use Rattle.nt_objects.specs.Object.{owned_by};
 ghost use Rattle.nt_objects.specs.Handles.{opened_at, count_named};
 ghost use Rattle.nt_calls.specs.Steps.{IsNextMoment, NothingDue};
 
@@ -35,6 +37,13 @@ impl Core {
         ensures { IsLawful self.now }
     {
         let _ = &self.machine;
+    }
+
+    /// Tells that who owns a mutex is one of the threads, and does nothing.
+    pub fn owners_stand(&self)
+        ensures { (t m : ℕ) → owned_by (object_at (state self.now).objects m) t ≡ true → t < (state self.now).threads }
+    {
+        let _threads = self.machine.threads;
     }
 
     /// The objects by their own numbers, by which `waits_for` names them. What no handle and no wait keeps any more is gone.

@@ -1,5 +1,5 @@
 //! What each handle names.
-ghost use Rattle.std.specs.Prelude.{◌≡◌, ◌<◌, ◌≤◌, ◌+◌, ◌-◌, ◌++◌, ◌∷◌, ◌^◌, [], None, Some, length, slice_set, slice_index_or, vec_len, vec_capacity, IsSome, IfOk, OnOk};
+ghost use Rattle.std.specs.Prelude.{◌≡◌, ◌↔◌, true, ◌<◌, ◌≤◌, ◌+◌, ◌-◌, ◌++◌, ◌∷◌, ◌^◌, [], None, Some, length, slice_set, slice_index_or, vec_len, vec_capacity, IsSome, IfOk, OnOk};
 ghost use Rattle.std.specs.Option.{ForSome};
 ghost use Rattle.nt_objects.specs.Handles.{opened_at, count_named, own_handles, IsCounted};
 
@@ -90,6 +90,28 @@ fn close(handles: &mut [Option<Opened>], counts: &mut [u32], handle: Handle) -> 
     opened.object
 }
 
+/// Whether both name the same object with the same rights, or nothing.
+fn is_like(opened: Option<Opened>, other: Option<Opened>) -> bool
+    ensures { (result ≡ true) ↔ (opened ≡ other) }
+{
+    opened == other
+}
+
+/// Whether the same numbers name the same objects, with the same rights.
+fn are_like(handles: &[Option<Opened>], others: &[Option<Opened>]) -> bool
+    ensures { (result ≡ true) ↔ (handles.now ≡ others.now) }
+{
+    if handles.len() != others.len() {
+        return false;
+    }
+    for i in 0..handles.len() {
+        if !is_like(handles[i], others[i]) {
+            return false;
+        }
+    }
+    true
+}
+
 /// The handles, each with the object that it names and its rights, and how many handles name each object.
 ///
 /// A number that was handed out names the same object until it is closed, and nothing from then on, unless it is given again.
@@ -162,6 +184,13 @@ impl HandleTable {
             Some(count) => *count,
             None => 0,
         }
+    }
+
+    /// Whether the same numbers name the same objects, with the same rights.
+    pub fn is_like(&self, other: &HandleTable) -> bool
+        ensures { (result ≡ true) ↔ (self.now.opened ≡ other.now.opened) }
+    {
+        are_like(&self.handles, &other.handles)
     }
 
     /// Makes room for one handle more. Where memory is refused no handle changes.
