@@ -5,8 +5,8 @@
 //! What a `Core` was asked and answered since it was new is a run, and so are the calls of a script; the history of a front is a run,
 //! or the last part of one where parts were handed out before. So the laws hold of all of these.
 //!
-//! A **life** is a run in which numbers were given again as well (`Life`), by the operations of `nt_core` that no call of the machine makes.
-//! A run is a life without them, so what is said of lives holds of runs.
+//! A **life** is a run in which numbers were given again as well, and objects of ended threads got other numbers (`Life`), by the operations
+//! of `nt_core` that no call of the machine makes. A run is a life without them, so what is said of lives holds of runs.
 //!
 //! A **law** is a statement on all runs, or on all lives, that follows from the definitions and names no code and no machine. A reader has to believe none:
 //! the definitions are what is believed, and the laws show that they mean what one would expect. What a thread took is read off
@@ -29,7 +29,7 @@
 //! | `handles_stay` | a handle names one object with the same rights, and nothing once it was closed |
 //! | `rights_never_grow` | a right that no handle of an object has any more never comes back |
 //! | `objects_live_while_kept` | an object lives exactly while a handle, a pending wait or a running thread keeps it |
-//! | `handles_stay_until_given_again` | in a life a handle names one object, with the same rights, until it is closed or given again |
+//! | `handles_stay_until_given_again` | in a life a handle names one object, by the number that it has then, until it is closed or given again |
 //! | `rights_never_grow_until_given_again` | in a life a lost right comes back only with the object's number |
 //! | `lives_one_way` | results, grants and states of a life are a function of what was asked for, and of what found no memory |
 //!

@@ -1,8 +1,8 @@
 //! Laws of lives, in which numbers are given again.
 ghost use Rattle.nt_laws.specs.Lives.{HandlesStayUntilGivenAgain, RightsNeverGrowUntilGivenAgain, LivesOneWay};
 
-/// Over every part of a life in which its number is not given again, a handle names the same object with the same rights, and nothing
-/// from its closing on.
+/// Over every part of a life in which its number is not given again, a handle names the same object, by the number that the object has
+/// then, with the same rights, and nothing from its closing on.
 pub fn handles_stay_until_given_again()
     ensures { HandlesStayUntilGivenAgain }
 {}
