@@ -13,3 +13,6 @@ mod Standing
 mod Keepers
 mod Staging
 mod Choosing
+mod GivenAgain
+mod Lifelong
+mod Following

@@ -1,5 +1,5 @@
 -- Lives: runs in which numbers are given again.
-use Rattle.std.specs.Prelude.{◌≡◌, ℕ, ◌<◌, Bool, true, false, ◌&&◌, List, [], ◌∷◌, map, length, if◌then◌else◌, ◌==◌, Option, Some, None}
+use Rattle.std.specs.Prelude.{◌≡◌, ◌↔◌, ℕ, ◌<◌, Bool, true, false, ◌&&◌, ◌||◌, List, [], ◌∷◌, map, length, if◌then◌else◌, ◌==◌, Option, Some, None}
 use Rattle.std.specs.List.{list_any}
 use Rattle.std.specs.declared.result.Result.{Result}
 use Rattle.std.specs.declared.result.Result.TheVariants.{Ok, Err}
@@ -10,11 +10,12 @@ use Rattle.nt_objects.specs.Handles.{opened_at}
 use Rattle.nt_calls.specs.declared.call.Act.{Act}
 use Rattle.nt_calls.specs.declared.call.Reply.{Reply}
 use Rattle.nt_calls.specs.declared.call.Grant.{Grant}
+use Rattle.nt_calls.specs.Living.{lives}
 use Rattle.nt_calls.specs.State.{State, opening}
 use Rattle.nt_calls.specs.Runs.{Turn, IsTurn}
 use Rattle.nt_core.specs.Renewals.{CreatesAgain, DuplicatesAgain, BeginsAgain, AddsVacant}
 use Rattle.nt_core.specs.SetAside.{SetsAside}
-use Rattle.nt_laws.specs.Laws.{Question, question, turn_closes, HasRights}
+use Rattle.nt_laws.specs.Laws.{Question, question, turn_closes, HasRights, IsKept}
 
 -- a step of a life: a turn of the machine; or one that gives numbers again: to an object and its handle, to one handle more, or to a
 -- thread and its handle; or one object number more, of an object that is gone; or another number for the object of an ended thread
@@ -107,6 +108,26 @@ RightsNeverGrowUntilGivenAgain =
     → (o access : ℕ) → o < length mid.objects
     → list_any (gives_object o) part ≡ false
     → HasRights s.handles o access → HasRights mid.handles o access
+
+-- one of these stages gives the number that the object has then to another object
+abbrev pub is_given_on : ℕ → List Stage → Bool
+is_given_on o [] = false
+is_given_on o (stage ∷ stages) = gives_object o stage || is_given_on (number_then stage o) stages
+
+-- nor where it moves: over every part of a life in which the number that the object has then is not given to another, the rights that a
+-- handle of it has at the end, a handle of it had at the beginning, if the object was there
+abbrev pub RightsNeverGrowThoughMoved : Type 0
+RightsNeverGrowThoughMoved =
+    (n : ℕ) (before part : List Stage) (mid s : State)
+    → Life n before mid
+    → Stages mid part s
+    → (o access : ℕ) → o < length mid.objects
+    → is_given_on o part ≡ false
+    → HasRights s.handles (number_after part o) access → HasRights mid.handles o access
+
+-- over every life an object lives exactly while a handle names it, a pending wait names it, or it is a thread that runs
+abbrev pub ObjectsLiveWhileKeptInLives : Type 0
+ObjectsLiveWhileKeptInLives = (n : ℕ) (stages : List Stage) (s : State) → Life n stages s → (o : ℕ) → (lives s o ≡ true) ↔ IsKept s o
 
 -- the object number was refused since there was no memory
 abbrev pub wants_number : Result ℕ Refusal → Bool

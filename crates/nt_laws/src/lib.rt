@@ -31,6 +31,8 @@
 //! | `objects_live_while_kept` | an object lives exactly while a handle, a pending wait or a running thread keeps it |
 //! | `handles_stay_until_given_again` | in a life a handle names one object, by the number that it has then, until it is closed or given again |
 //! | `rights_never_grow_until_given_again` | in a life a lost right comes back only with the object's number |
+//! | `rights_never_grow_though_moved` | nor does it come back where the object gets another number |
+//! | `objects_live_while_kept_in_lives` | in a life too an object lives exactly while it is kept |
 //! | `lives_one_way` | results, grants and states of a life are a function of what was asked for, and of what found no memory |
 //!
 //! A statement is proved only where a contract names it. So each law is the contract of a function that takes nothing and does
@@ -46,5 +48,6 @@ pub use laws::{
     runs_one_way, semaphores_give_what_they_have, serves_one_way,
 };
 pub use lives::{
-    handles_stay_until_given_again, lives_one_way, rights_never_grow_until_given_again,
+    handles_stay_until_given_again, lives_one_way, objects_live_while_kept_in_lives,
+    rights_never_grow_though_moved, rights_never_grow_until_given_again,
 };

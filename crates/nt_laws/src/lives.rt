@@ -1,5 +1,5 @@
 //! Laws of lives, in which numbers are given again.
-ghost use Rattle.nt_laws.specs.Lives.{HandlesStayUntilGivenAgain, RightsNeverGrowUntilGivenAgain, LivesOneWay};
+ghost use Rattle.nt_laws.specs.Lives.{HandlesStayUntilGivenAgain, RightsNeverGrowUntilGivenAgain, RightsNeverGrowThoughMoved, ObjectsLiveWhileKeptInLives, LivesOneWay};
 
 /// Over every part of a life in which its number is not given again, a handle names the same object, by the number that the object has
 /// then, with the same rights, and nothing from its closing on.
@@ -11,6 +11,18 @@ pub fn handles_stay_until_given_again()
 /// the end, a handle of it had at the beginning, if the object was there.
 pub fn rights_never_grow_until_given_again()
     ensures { RightsNeverGrowUntilGivenAgain }
+{}
+
+/// Rights never grow where an object moves either: over every part of a life in which the number that it has then is not given to
+/// another object, the rights that a handle of it has at the end, a handle of it had at the beginning, if the object was there.
+pub fn rights_never_grow_though_moved()
+    ensures { RightsNeverGrowThoughMoved }
+{}
+
+/// Over every life an object lives exactly while something keeps it: a handle names it, a pending wait names it, or it is a thread
+/// that runs.
+pub fn objects_live_while_kept_in_lives()
+    ensures { ObjectsLiveWhileKeptInLives }
 {}
 
 /// Lives leave no choice: every result, every grant and the state are a function of what was asked for, in its order, and of which calls
