@@ -29,12 +29,12 @@ use Rattle.nt_laws.proofs.Acting.{swap_judged, is_plain, past_last, acted, chang
 use Rattle.nt_laws.proofs.Turns.{in_call, in_tick, turn_fair, opening_fair}
 
 -- a semaphore, or none yet
-abbrev counts : Object → Bool
+abbrev pub counts : Object → Bool
 counts (Semaphore count maximum) = true
 counts (Thread ended) = not ended
 counts _ = false
 
-semaphore_counts : (o : Object) → is_semaphore o ≡ true → counts o ≡ true
+pub semaphore_counts : (o : Object) → is_semaphore o ≡ true → counts o ≡ true
 semaphore_counts (Semaphore count maximum) is = refl
 semaphore_counts (Event manual set) is = is
 semaphore_counts (Mutex owner depth abandoned) is = is
@@ -42,7 +42,7 @@ semaphore_counts (Timer manual set armed) is = is
 semaphore_counts (Thread ended) is = let h : false ≡ true = is in (cc)
 semaphore_counts Gone is = let h : false ≡ true = is in (cc)
 
-plain : (o : Object) → counts o ≡ true → is_plain o ≡ true
+pub plain : (o : Object) → counts o ≡ true → is_plain o ≡ true
 plain (Timer manual set armed) is = is
 plain (Event manual set) is = refl
 plain (Semaphore count maximum) is = refl
@@ -51,15 +51,15 @@ plain (Thread ended) is = is
 plain Gone is = is
 
 -- the new object came of the old one: it was given so much
-record Gains (old new : Object) (gain : ℤ) (times : ℕ) : Type 0 where
-  counts : counts old ≡ true
-  count : count_of new +ℤ pos times ≡ gain +ℤ count_of old
-  lawful : IsLawfulObject old → IsLawfulObject new
+pub record Gains (old new : Object) (gain : ℤ) (times : ℕ) : Type 0 where
+  pub counts : counts old ≡ true
+  pub count : count_of new +ℤ pos times ≡ gain +ℤ count_of old
+  pub lawful : IsLawfulObject old → IsLawfulObject new
 
-same_gains : (o : Object) → counts o ≡ true → Gains o o (pos 0) 0
+pub same_gains : (o : Object) → counts o ≡ true → Gains o o (pos 0) 0
 same_gains o is = record { counts = is; count = omega (arith, ints); lawful = λ l. l }
 
-then_gains : (a b c : Object) (x y : ℤ) (k j : ℕ) → Gains a b x k → Gains b c y j → Gains a c (x +ℤ y) (k + j)
+pub then_gains : (a b c : Object) (x y : ℤ) (k j : ℕ) → Gains a b x k → Gains b c y j → Gains a c (x +ℤ y) (k + j)
 then_gains a b c x y k j p q = record {
   counts = p.counts;
   count = let e = p.count in let f = q.count in omega (arith, ints, e, f);
@@ -123,7 +123,7 @@ released_gains count (Timer manual set armed) is up fits = absurd (false≢true 
 released_gains count (Thread ended) is up fits = absurd (false≢true is)
 released_gains count Gone is up fits = absurd (false≢true is)
 
-mutex_counts_not : (flags t : ℕ) → counts (mutex_of flags t) ≡ true → ⊥
+pub mutex_counts_not : (flags t : ℕ) → counts (mutex_of flags t) ≡ true → ⊥
 mutex_counts_not flags t = go (has_flag flags mutex_initial_owner)
   where
     go : (b : Bool) → counts (cond b (Mutex (Some t) 1 false) (Mutex None 0 false)) ≡ true → ⊥
@@ -159,7 +159,7 @@ signal_gains (Thread ended) may fits is = absurd (false≢true may)
 signal_gains Gone may fits is = absurd (false≢true may)
 
 -- a semaphore where none was
-new_gains : (o : Object) (initial maximum : ℤ) → o ≡ Thread false → may_count initial maximum ≡ true → Gains o (Semaphore initial maximum) initial 0
+pub new_gains : (o : Object) (initial maximum : ℤ) → o ≡ Thread false → may_count initial maximum ≡ true → Gains o (Semaphore initial maximum) initial 0
 new_gains o initial maximum none may =
     subst (λ x. Gains x (Semaphore initial maximum) initial 0) (sym none) (record {
       counts = refl;
@@ -230,7 +230,7 @@ settled_gains _ h o is = same_gains o is
 
 -- ---- turns
 
-turn_gains : (h : ℕ) (old : State) (turn : Turn) (new : State) → AreFair old.waits → IsTurn old turn new → counts (object_at new.objects h) ≡ true → Gains (object_at old.objects h) (object_at new.objects h) (turn_gives h old turn) (length (takers h (turn_took old turn)))
+pub turn_gains : (h : ℕ) (old : State) (turn : Turn) (new : State) → AreFair old.waits → IsTurn old turn new → counts (object_at new.objects h) ≡ true → Gains (object_at old.objects h) (object_at new.objects h) (turn_gives h old turn) (length (takers h (turn_took old turn)))
 turn_gains h old (Calls who call (Ok reply) grants) new fair is ends =
     let none = undenied old who (is_denied old call) (call_named old.handles call) is.1.0 in
     let c = in_call h old who call reply grants new fair is (plain (object_at new.objects h) ends) in

@@ -15,4 +15,8 @@ mod Staging
 mod Choosing
 mod GivenAgain
 mod Lifelong
+mod Counting
+mod GivingSince
+mod OwingSince
+mod SettingSince
 mod Following

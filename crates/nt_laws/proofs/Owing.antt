@@ -29,18 +29,18 @@ use Rattle.nt_laws.proofs.Acting.{swap_judged, is_plain, past_last, acted, chang
 use Rattle.nt_laws.proofs.Turns.{in_call, in_tick, turn_fair, opening_fair}
 
 -- a mutex, or none yet
-abbrev owns : Object → Bool
+abbrev pub owns : Object → Bool
 owns (Mutex owner depth abandoned) = true
 owns (Thread ended) = not ended
 owns _ = false
 
 -- a free mutex has depth 0, an owned one more
-abbrev IsHeld : Object → Type 0
+abbrev pub IsHeld : Object → Type 0
 IsHeld (Mutex None depth abandoned) = depth ≡ 0
 IsHeld (Mutex (Some owner) depth abandoned) = 0 < depth
 IsHeld _ = Unit {0}
 
-mutex_owns : (o : Object) → is_mutex o ≡ true → owns o ≡ true
+pub mutex_owns : (o : Object) → is_mutex o ≡ true → owns o ≡ true
 mutex_owns (Mutex owner depth abandoned) is = refl
 mutex_owns (Event manual set) is = is
 mutex_owns (Semaphore count maximum) is = is
@@ -48,7 +48,7 @@ mutex_owns (Timer manual set armed) is = is
 mutex_owns (Thread ended) is = absurd (false≢true is)
 mutex_owns Gone is = absurd (false≢true is)
 
-plain : (o : Object) → owns o ≡ true → is_plain o ≡ true
+pub plain : (o : Object) → owns o ≡ true → is_plain o ≡ true
 plain (Timer manual set armed) is = is
 plain (Event manual set) is = refl
 plain (Semaphore count maximum) is = refl
@@ -57,15 +57,15 @@ plain (Thread ended) is = is
 plain Gone is = is
 
 -- the new object came of the old one, and what thread t owes went along
-record Owes (t : ℕ) (old new : Object) (owe : ℕ → ℕ) : Type 0 where
-  owns : owns old ≡ true
-  held : IsHeld old → IsHeld new
-  owed : IsHeld old → owe (held_by t old) ≡ held_by t new
+pub record Owes (t : ℕ) (old new : Object) (owe : ℕ → ℕ) : Type 0 where
+  pub owns : owns old ≡ true
+  pub held : IsHeld old → IsHeld new
+  pub owed : IsHeld old → owe (held_by t old) ≡ held_by t new
 
-same_owes : (t : ℕ) (o : Object) → owns o ≡ true → Owes t o o (λ k. k)
+pub same_owes : (t : ℕ) (o : Object) → owns o ≡ true → Owes t o o (λ k. k)
 same_owes t o is = record { owns = is; held = λ l. l; owed = λ l. refl }
 
-then_owes : (t : ℕ) (a b c : Object) (f g : ℕ → ℕ) → Owes t a b f → Owes t b c g → Owes t a c (λ k. g (f k))
+pub then_owes : (t : ℕ) (a b c : Object) (f g : ℕ → ℕ) → Owes t a b f → Owes t b c g → Owes t a c (λ k. g (f k))
 then_owes t a b c f g p q = record {
   owns = p.owns;
   held = λ l. q.held (p.held l);
@@ -214,7 +214,7 @@ signal_owes t (Thread ended) who may foreign is = absurd (false≢true may)
 signal_owes t Gone who may foreign is = absurd (false≢true may)
 
 -- a mutex where none was
-new_owes : (t : ℕ) (o : Object) (flags who : ℕ) → o ≡ Thread false → Owes t o (mutex_of flags who) (λ k. cond (has_flag flags mutex_initial_owner && who == t) (k + 1) k)
+pub new_owes : (t : ℕ) (o : Object) (flags who : ℕ) → o ≡ Thread false → Owes t o (mutex_of flags who) (λ k. cond (has_flag flags mutex_initial_owner && who == t) (k + 1) k)
 new_owes t o flags who none = subst (λ x. Owes t x (mutex_of flags who) (λ k. cond (has_flag flags mutex_initial_owner && who == t) (k + 1) k)) (sym none) (go (has_flag flags mutex_initial_owner))
   where
     one : (b : Bool) → cond b (0 + 1) 0 ≡ cond b 1 0
@@ -280,7 +280,7 @@ settled_owes t _ h o is = same_owes t o is
 count_append : (t : ℕ) (xs ys : List ℕ) → count_by (λ u. u == t) (xs ++ ys) ≡ count_by (λ u. u == t) xs + count_by (λ u. u == t) ys
 count_append t xs ys = sum_by-append (λ u. cond (u == t) 1 0) xs ys
 
-turn_owing : (t h : ℕ) (old : State) (turn : Turn) (new : State) → AreFair old.waits → IsTurn old turn new → owns (object_at new.objects h) ≡ true → Owes t (object_at old.objects h) (object_at new.objects h) (λ k. turn_owes h t old turn k + count_by (λ u. u == t) (takers h (turn_took old turn)))
+pub turn_owing : (t h : ℕ) (old : State) (turn : Turn) (new : State) → AreFair old.waits → IsTurn old turn new → owns (object_at new.objects h) ≡ true → Owes t (object_at old.objects h) (object_at new.objects h) (λ k. turn_owes h t old turn k + count_by (λ u. u == t) (takers h (turn_took old turn)))
 turn_owing t h old (Calls who call (Ok reply) grants) new fair is ends =
     let none = undenied old who (is_denied old call) (call_named old.handles call) is.1.0 in
     let c = in_call h old who call reply grants new fair is (plain (object_at new.objects h) ends) in

@@ -25,12 +25,12 @@ use Rattle.nt_laws.proofs.Acting.{swap_judged, is_plain, past_last, acted, chang
 use Rattle.nt_laws.proofs.Turns.{in_call, in_tick, turn_fair, turns_fair, opening_fair}
 
 -- an auto-reset event, or none yet
-abbrev resets : Object → Bool
+abbrev pub resets : Object → Bool
 resets (Event manual set) = not manual
 resets (Thread ended) = not ended
 resets _ = false
 
-auto_resets : (o : Object) → is_auto_reset o ≡ true → resets o ≡ true
+pub auto_resets : (o : Object) → is_auto_reset o ≡ true → resets o ≡ true
 auto_resets (Event manual set) is = is
 auto_resets (Mutex owner depth abandoned) is = is
 auto_resets (Semaphore count maximum) is = is
@@ -38,7 +38,7 @@ auto_resets (Timer manual set armed) is = is
 auto_resets (Thread ended) is = absurd (false≢true is)
 auto_resets Gone is = absurd (false≢true is)
 
-plain : (o : Object) → resets o ≡ true → is_plain o ≡ true
+pub plain : (o : Object) → resets o ≡ true → is_plain o ≡ true
 plain (Timer manual set armed) is = is
 plain (Event manual set) is = refl
 plain (Semaphore count maximum) is = refl
@@ -47,18 +47,18 @@ plain (Thread ended) is = is
 plain Gone is = is
 
 -- 1 where it holds
-abbrev one_if : Bool → ℕ
+abbrev pub one_if : Bool → ℕ
 one_if b = cond b 1 0
 
 -- the new object came of the old one: it was set and taken so often
-record Sets (old new : Object) (sets times : ℕ) : Type 0 where
-  resets : resets old ≡ true
-  few : times + set_now new ≤ sets + set_now old
+pub record Sets (old new : Object) (sets times : ℕ) : Type 0 where
+  pub resets : resets old ≡ true
+  pub few : times + set_now new ≤ sets + set_now old
 
-same_sets : (o : Object) (sets : ℕ) → resets o ≡ true → Sets o o sets 0
+pub same_sets : (o : Object) (sets : ℕ) → resets o ≡ true → Sets o o sets 0
 same_sets o sets is = record { resets = is; few = omega arith }
 
-then_sets : (a b c : Object) (x y k j : ℕ) → Sets a b x k → Sets b c y j → Sets a c (x + y) (k + j)
+pub then_sets : (a b c : Object) (x y k j : ℕ) → Sets a b x k → Sets b c y j → Sets a c (x + y) (k + j)
 then_sets a b c x y k j p q = record { resets = p.resets; few = let e = p.few in let f = q.few in omega (arith, e, f) }
 
 -- ---- takings
@@ -152,7 +152,7 @@ signal_sets (Timer manual set armed) may is = absurd (false≢true may)
 signal_sets (Thread ended) may is = absurd (false≢true may)
 signal_sets Gone may is = absurd (false≢true may)
 
-mutex_resets_not : (flags t : ℕ) → resets (mutex_of flags t) ≡ true → ⊥
+pub mutex_resets_not : (flags t : ℕ) → resets (mutex_of flags t) ≡ true → ⊥
 mutex_resets_not flags t = go (has_flag flags mutex_initial_owner)
   where
     go : (b : Bool) → resets (cond b (Mutex (Some t) 1 false) (Mutex None 0 false)) ≡ true → ⊥
@@ -160,7 +160,7 @@ mutex_resets_not flags t = go (has_flag flags mutex_initial_owner)
     go false is = false≢true is
 
 -- where an object stood that is an auto-reset event now, or none yet, it was that
-was_none : (b : Bool) (o : Object) (flags : ℕ) → (b ≡ true → o ≡ Thread false) → resets (cond b (event_of flags) o) ≡ true → Sets o (cond b (event_of flags) o) (one_if (b && has_flag flags event_initial_set)) 0
+pub was_none : (b : Bool) (o : Object) (flags : ℕ) → (b ≡ true → o ≡ Thread false) → resets (cond b (event_of flags) o) ≡ true → Sets o (cond b (event_of flags) o) (one_if (b && has_flag flags event_initial_set)) 0
 was_none true o flags none is = subst (λ x. Sets x (event_of flags) (one_if (has_flag flags event_initial_set)) 0) (sym (none refl)) (record { resets = refl; few = go (has_flag flags event_initial_set) })
   where
     go : (b : Bool) → 0 + cond b 1 0 ≤ cond b 1 0 + 0
@@ -201,7 +201,7 @@ settled_sets _ h o is = same_sets o 0 is
 
 -- ---- turns
 
-turn_setting : (h : ℕ) (old : State) (turn : Turn) (new : State) → AreFair old.waits → IsTurn old turn new → resets (object_at new.objects h) ≡ true → Sets (object_at old.objects h) (object_at new.objects h) (one_if (turn_sets h old turn)) (length (takers h (turn_took old turn)))
+pub turn_setting : (h : ℕ) (old : State) (turn : Turn) (new : State) → AreFair old.waits → IsTurn old turn new → resets (object_at new.objects h) ≡ true → Sets (object_at old.objects h) (object_at new.objects h) (one_if (turn_sets h old turn)) (length (takers h (turn_took old turn)))
 turn_setting h old (Calls who call (Ok reply) grants) new fair is ends =
     let none = undenied old who (is_denied old call) (call_named old.handles call) is.1.0 in
     let c = in_call h old who call reply grants new fair is (plain (object_at new.objects h) ends) in

@@ -33,6 +33,9 @@
 //! | `rights_never_grow_until_given_again` | in a life a lost right comes back only with the object's number |
 //! | `rights_never_grow_though_moved` | nor does it come back where the object gets another number |
 //! | `objects_live_while_kept_in_lives` | in a life too an object lives exactly while it is kept |
+//! | `semaphores_give_what_they_have_since_given` | in a life that holds since the semaphore's number was given last |
+//! | `one_owner_since_given` | in a life that holds since the mutex's number was given last |
+//! | `one_set_one_wait_since_given` | in a life that holds since the event's number was given last |
 //! | `lives_one_way` | results, grants and states of a life are a function of what was asked for, and of what found no memory |
 //!
 //! A statement is proved only where a contract names it. So each law is the contract of a function that takes nothing and does
@@ -49,5 +52,6 @@ pub use laws::{
 };
 pub use lives::{
     handles_stay_until_given_again, lives_one_way, objects_live_while_kept_in_lives,
-    rights_never_grow_though_moved, rights_never_grow_until_given_again,
+    one_owner_since_given, one_set_one_wait_since_given, rights_never_grow_though_moved,
+    rights_never_grow_until_given_again, semaphores_give_what_they_have_since_given,
 };

@@ -1,5 +1,6 @@
 //! Laws of lives, in which numbers are given again.
 ghost use Rattle.nt_laws.specs.Lives.{HandlesStayUntilGivenAgain, RightsNeverGrowUntilGivenAgain, RightsNeverGrowThoughMoved, ObjectsLiveWhileKeptInLives, LivesOneWay};
+ghost use Rattle.nt_laws.specs.Since.{SemaphoresGiveWhatTheyHaveSinceGiven, OneOwnerSinceGiven, OneSetOneWaitSinceGiven};
 
 /// Over every part of a life in which its number is not given again, a handle names the same object, by the number that the object has
 /// then, with the same rights, and nothing from its closing on.
@@ -23,6 +24,24 @@ pub fn rights_never_grow_though_moved()
 /// that runs.
 pub fn objects_live_while_kept_in_lives()
     ensures { ObjectsLiveWhileKeptInLives }
+{}
+
+/// A semaphore hands out what it was given and no more, since its number was given last: its count and the number of times that it was
+/// taken make up what it was given, and the count stays between zero and the maximum.
+pub fn semaphores_give_what_they_have_since_given()
+    ensures { SemaphoresGiveWhatTheyHaveSinceGiven }
+{}
+
+/// A mutex has one owner at most: after every life a thread holds it as deep as it owes releases of it since the mutex's number was given
+/// last, and no two threads owe one.
+pub fn one_owner_since_given()
+    ensures { OneOwnerSinceGiven }
+{}
+
+/// One set of an auto-reset event ends one wait: in any part of a life, from where the event's number was given last in it, it is taken
+/// no more often than it is set.
+pub fn one_set_one_wait_since_given()
+    ensures { OneSetOneWaitSinceGiven }
 {}
 
 /// Lives leave no choice: every result, every grant and the state are a function of what was asked for, in its order, and of which calls
