@@ -147,7 +147,7 @@ since_begun h may holds account (stage ∷ stages) old new life fair given ends 
         (unbroken h may holds account stages life.0 new life.2 (stage_fair old stage life.0 fair life.1) e ends)
 
 -- where it was not, the part is all
-since_all : (h : ℕ) (stages : List Stage) (old new : State) (life : Stages old stages new) → list_any (gives_object h) stages ≡ false → since_given h old stages new life ≡ record { start = old; stages = stages; life = life }
+pub since_all : (h : ℕ) (stages : List Stage) (old new : State) (life : Stages old stages new) → list_any (gives_object h) stages ≡ false → since_given h old stages new life ≡ record { start = old; stages = stages; life = life }
 since_all h [] old new life none = refl
 since_all h (stage ∷ stages) old new life none =
     ap (λ b. cond {A = Part new} b (since_given h life.0 stages new life.2) (record { start = old; stages = stage ∷ stages; life = life })) (neither (gives_object h stage) (list_any (gives_object h) stages) none).1

@@ -20,3 +20,4 @@ mod GivingSince
 mod OwingSince
 mod SettingSince
 mod Following
+mod RunsAsLives

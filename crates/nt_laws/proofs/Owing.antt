@@ -14,19 +14,19 @@ use Rattle.nt_calls.specs.declared.call.Call.{Call}
 use Rattle.nt_calls.specs.declared.call.Act.{Act}
 use Rattle.nt_calls.specs.declared.call.WaitCall.{WaitCall}
 use Rattle.nt_calls.specs.Naming.{call_named}
-use Rattle.nt_calls.specs.State.{State, opening, object_at}
+use Rattle.nt_calls.specs.State.{State, object_at}
 use Rattle.nt_calls.specs.Change.{change, signal}
 use Rattle.nt_calls.specs.Rights.{is_denied}
 use Rattle.nt_core.proofs.Judging.{undenied}
 use Rattle.nt_calls.specs.Refusals.{refusal, may_signal, is_no, is_foreign}
-use Rattle.nt_calls.specs.Runs.{Turn, Calls, Ticks, IsTurn, Turns, Run}
+use Rattle.nt_calls.specs.Runs.{Turn, Calls, Ticks, IsTurn}
 use Rattle.nt_laws.specs.Takes.{turn_took, takers}
-use Rattle.nt_laws.specs.Laws.{act_owes, call_owes, turn_owes, owed_after, held_by}
-use Rattle.nt_core.proofs.Accepting.{next_causes, own_causes, object_at-replicate}
+use Rattle.nt_laws.specs.Laws.{act_owes, call_owes, turn_owes, held_by}
+use Rattle.nt_core.proofs.Accepting.{next_causes, own_causes}
 use Rattle.nt_core.proofs.Exiting.{left}
 use Rattle.nt_laws.proofs.Takes.{TakenBy, AreFair}
 use Rattle.nt_laws.proofs.Acting.{swap_judged, is_plain, past_last, acted, changed_at, settled_at}
-use Rattle.nt_laws.proofs.Turns.{in_call, in_tick, turn_fair, opening_fair}
+use Rattle.nt_laws.proofs.Turns.{in_call, in_tick}
 
 -- a mutex, or none yet
 abbrev pub owns : Object → Bool
@@ -302,22 +302,7 @@ turn_owing t h old (Calls who call (Err r) grants) new fair is ends =
 turn_owing t h old (Ticks by m r grants) new fair is ends =
     all_taken t (object_at old.objects h) (object_at new.objects h) (takers h (turn_took old (Ticks by m r grants))) (in_tick h old by m r grants new fair is (plain (object_at new.objects h) ends)) ends
 
-turns_owe : (t h : ℕ) (old : State) (turns : List Turn) (new : State) (run : Turns old turns new) → AreFair old.waits → owns (object_at new.objects h) ≡ true → Owes t (object_at old.objects h) (object_at new.objects h) (λ k. owed_after h t k old turns new run)
-turns_owe t h old [] new run fair ends =
-    let same : object_at new.objects h ≡ object_at old.objects h = ap (λ (s : State). object_at s.objects h) run in
-    subst (λ o. Owes t (object_at old.objects h) o (λ k. k)) (sym same) (same_owes t (object_at old.objects h) (sym (ap owns same) ∙ ends))
-turns_owe t h old (turn ∷ turns) new run fair ends =
-    let later = turns_owe t h run.0 turns new run.2 (turn_fair old turn run.0 fair run.1) ends in
-    let here = turn_owing t h old turn run.0 fair run.1 later.owns in
-    then_owes t (object_at old.objects h) (object_at run.0.objects h) (object_at new.objects h) (λ k. turn_owes h t old turn k + count_by (λ u. u == t) (takers h (turn_took old turn))) (λ k. owed_after h t k run.0 turns new run.2) here later
-
 -- ---- one owner
-
-pub owed_held : (n : ℕ) (turns : List Turn) (s : State) (run : Run n turns s) (h t : ℕ) → is_mutex (object_at s.objects h) ≡ true → owed_after h t 0 (opening n) turns s run ≡ held_by t (object_at s.objects h)
-owed_held n turns s run h t is =
-    let owes = turns_owe t h (opening n) turns s run (opening_fair n) (mutex_owns (object_at s.objects h) is) in
-    let first : object_at (opening n).objects h ≡ Thread false = object_at-replicate n h in
-    ap (λ k. owed_after h t k (opening n) turns s run) (sym (ap (λ o. held_by t o) first)) ∙ owes.owed (subst IsHeld (sym first) tt)
 
 pub holder : (o : Object) (t u : ℕ) → 0 < held_by t o → 0 < held_by u o → t ≡ u
 holder o t u a b = same o (owns_of o t (owned_by o t) refl a) (owns_of o u (owned_by o u) refl b)

@@ -12,7 +12,7 @@ use Rattle.nt_calls.specs.declared.call.Reply.{Reply}
 use Rattle.nt_calls.specs.declared.call.Grant.{Grant}
 use Rattle.nt_calls.specs.Living.{lives}
 use Rattle.nt_calls.specs.State.{State, opening}
-use Rattle.nt_calls.specs.Runs.{Turn, IsTurn}
+use Rattle.nt_calls.specs.Runs.{Turn, IsTurn, Run}
 use Rattle.nt_core.specs.Renewals.{CreatesAgain, DuplicatesAgain, BeginsAgain, AddsVacant}
 use Rattle.nt_core.specs.SetAside.{SetsAside}
 use Rattle.nt_laws.specs.Laws.{Question, question, turn_closes, HasRights, IsKept}
@@ -43,6 +43,10 @@ Stages old (stage ∷ stages) new = (mid : State) × IsStage old stage mid × St
 -- a life of n threads, from the opening on
 abbrev pub Life : ℕ → List Stage → State → Type 0
 Life n stages s = Stages (opening n) stages s
+
+-- a run is a life of turns alone, and such a life is a run
+abbrev pub RunsAreLives : Type 0
+RunsAreLives = (n : ℕ) (turns : List Turn) (s : State) → Run n turns s ↔ Life n (map Takes turns) s
 
 -- it was accepted
 abbrev pub is_accepted : Result Reply Refusal → Bool

@@ -1,6 +1,11 @@
 //! Laws of lives, in which numbers are given again.
-ghost use Rattle.nt_laws.specs.Lives.{HandlesStayUntilGivenAgain, RightsNeverGrowUntilGivenAgain, RightsNeverGrowThoughMoved, ObjectsLiveWhileKeptInLives, LivesOneWay};
+ghost use Rattle.nt_laws.specs.Lives.{RunsAreLives, HandlesStayUntilGivenAgain, RightsNeverGrowUntilGivenAgain, RightsNeverGrowThoughMoved, ObjectsLiveWhileKeptInLives, LivesOneWay};
 ghost use Rattle.nt_laws.specs.Since.{SemaphoresGiveWhatTheyHaveSinceGiven, OneOwnerSinceGiven, OneSetOneWaitSinceGiven};
+
+/// A run is a life of turns alone, and such a life is a run.
+pub fn runs_are_lives()
+    ensures { RunsAreLives }
+{}
 
 /// Over every part of a life in which its number is not given again, a handle names the same object, by the number that the object has
 /// then, with the same rights, and nothing from its closing on.
