@@ -35,7 +35,7 @@ with_object_at os g h f still = elim (cases_eq g h) [
   | inr differs ↦ rw (same_no g h differs) (object_at-set_other os g h (f (object_at os g)) (λ e. differs (sym e)))
 ]
 
-created_at : (os : List Object) (o : Object) (h : ℕ) → object_at (os ++ o ∷ []) h ≡ cond (length os == h) o (object_at os h)
+pub created_at : (os : List Object) (o : Object) (h : ℕ) → object_at (os ++ o ∷ []) h ≡ cond (length os == h) o (object_at os h)
 created_at [] o zero = refl
 created_at [] o (suc h) = rw (same_no 0 (suc h) (omega arith)) refl
 created_at (x ∷ os) o zero = rw (same_no (suc (length os)) 0 (omega arith)) refl

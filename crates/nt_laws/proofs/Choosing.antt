@@ -1,5 +1,5 @@
 -- Lives leave no choice.
-use Rattle.std.proofs.Common.{◌≡◌, ℕ, List, [], ◌∷◌, map, refl, sym, ap, ◌∙◌, subst, Option, Some, None}
+use Rattle.std.proofs.Common.{Bool, ◌≡◌, ℕ, List, [], ◌∷◌, map, refl, sym, ap, ◌∙◌, subst, Option, Some, None}
 use Rattle.std.specs.declared.result.Result.{Result}
 use Rattle.std.specs.declared.result.Result.TheVariants.{Ok, Err}
 use Rattle.nt_status.specs.declared.refusal.Refusal.{Refusal}
@@ -10,9 +10,10 @@ use Rattle.nt_calls.specs.declared.call.Reply.{Reply}
 use Rattle.nt_calls.specs.declared.call.Grant.{Grant}
 use Rattle.nt_calls.specs.State.{State}
 use Rattle.nt_core.specs.Renewals.{Renews, CreatesAgain, DuplicatesAgain, BeginsAgain, AddsVacant, creation, created_by, created_again, opened_again, begun_again, creation_refusal, duplicate_refusal, thread_refusal}
+use Rattle.nt_core.specs.SetAside.{SetsAside, set_aside}
 use Rattle.nt_calls.specs.Naming.{object_named}
 use Rattle.nt_laws.specs.Laws.{question}
-use Rattle.nt_laws.specs.Lives.{Stage, Takes, Creates, Shares, Begins, Adds, IsStage, Stages, AsksTurn, AsksCreation, AsksShare, AsksBegin, AsksNumber, wants_number, wish}
+use Rattle.nt_laws.specs.Lives.{Stage, Takes, Creates, Shares, Begins, Adds, Renumbers, IsStage, Stages, AsksTurn, AsksCreation, AsksShare, AsksBegin, AsksNumber, AsksMove, wants_number, wish}
 use Rattle.nt_laws.proofs.OneWay.{turn_same}
 
 none_some : {P : Type 0} (r : Refusal) → None ≡ Some r → P
@@ -37,6 +38,12 @@ adds_same old a b (Err r) (Ok m) gs hs alike x y =
     let memory : r ≡ Memory = x.0 ∙ ap (λ c. if c then Memory else HandleLimit) y.0 in
     absurd (false≢true (sym alike ∙ ap (λ (z : Refusal). wants_number (Err z)) memory))
 adds_same old a b (Err r) (Err q) gs hs alike x y = (ap (λ (z : Refusal). Err z) (x.0 ∙ sym y.0), x.1 ∙ sym y.1, x.2 ∙ sym y.2)
+
+-- an object moves exactly where it can
+aside_same : (old a b : State) (t o : ℕ) (done done' : Bool) (gs hs : List Grant) → SetsAside old t o done gs a → SetsAside old t o done' hs b → (done ≡ done') × (gs ≡ hs) × (a ≡ b)
+aside_same old a b t o done done' gs hs x y =
+    let same : done ≡ done' = x.0 ∙ sym y.0 in
+    (same, x.1 ∙ sym y.1, x.2 ∙ (ap (λ d. if d then set_aside old t o else old) same ∙ sym y.2))
 
 stage_same : (old a b : State) (s t : Stage) → wish s ≡ wish t → IsStage old s a → IsStage old t b → (s ≡ t) × (a ≡ b)
 stage_same old a b (Takes t) (Takes u) alike x y =
@@ -94,6 +101,23 @@ stage_same old a b (Takes t) (Adds q hs) alike x y = let h : AsksTurn (question 
 stage_same old a b (Creates who act object handle r gs) (Adds q hs) alike x y = let h : AsksCreation who act object handle ≡ AsksNumber (wants_number q) = alike in (cc)
 stage_same old a b (Shares who source access handle r gs) (Adds q hs) alike x y = let h : AsksShare who source access handle ≡ AsksNumber (wants_number q) = alike in (cc)
 stage_same old a b (Begins thread handle r gs) (Adds q hs) alike x y = let h : AsksBegin thread handle ≡ AsksNumber (wants_number q) = alike in (cc)
+stage_same old a b (Renumbers t o done gs) (Renumbers t' o' done' hs) alike x y =
+    let h : AsksMove t o ≡ AsksMove t' o' = alike in
+    let w0 : t ≡ t' = (cc) in
+    let w1 : o ≡ o' = (cc) in
+    let x' : SetsAside old t' o' done gs a = subst (λ z. SetsAside old t' z done gs a) w1 (subst (λ z. SetsAside old z o done gs a) w0 x) in
+    let same = aside_same old a b t' o' done done' gs hs x' y in
+    (ap (λ z. Renumbers z o done gs) w0 ∙ (ap (λ z. Renumbers t' z done gs) w1 ∙ (ap (λ z. Renumbers t' o' z gs) same.0 ∙ ap (λ z. Renumbers t' o' done' z) same.1)), same.2)
+stage_same old a b (Renumbers thread number done gs) (Takes u) alike x y = let h : AsksMove thread number ≡ AsksTurn (question u) = alike in (cc)
+stage_same old a b (Renumbers thread number done gs) (Creates who' act' object' handle' q hs) alike x y = let h : AsksMove thread number ≡ AsksCreation who' act' object' handle' = alike in (cc)
+stage_same old a b (Renumbers thread number done gs) (Shares who' source' access' handle' q hs) alike x y = let h : AsksMove thread number ≡ AsksShare who' source' access' handle' = alike in (cc)
+stage_same old a b (Renumbers thread number done gs) (Begins thread' handle' q hs) alike x y = let h : AsksMove thread number ≡ AsksBegin thread' handle' = alike in (cc)
+stage_same old a b (Renumbers thread number done gs) (Adds q hs) alike x y = let h : AsksMove thread number ≡ AsksNumber (wants_number q) = alike in (cc)
+stage_same old a b (Takes t) (Renumbers thread' number' done' hs) alike x y = let h : AsksTurn (question t) ≡ AsksMove thread' number' = alike in (cc)
+stage_same old a b (Creates who act object handle r gs) (Renumbers thread' number' done' hs) alike x y = let h : AsksCreation who act object handle ≡ AsksMove thread' number' = alike in (cc)
+stage_same old a b (Shares who source access handle r gs) (Renumbers thread' number' done' hs) alike x y = let h : AsksShare who source access handle ≡ AsksMove thread' number' = alike in (cc)
+stage_same old a b (Begins thread handle r gs) (Renumbers thread' number' done' hs) alike x y = let h : AsksBegin thread handle ≡ AsksMove thread' number' = alike in (cc)
+stage_same old a b (Adds r gs) (Renumbers thread' number' done' hs) alike x y = let h : AsksNumber (wants_number r) ≡ AsksMove thread' number' = alike in (cc)
 
 pub stages_same : (stages others : List Stage) (old a b : State) → map wish stages ≡ map wish others → Stages old stages a → Stages old others b → (stages ≡ others) × (a ≡ b)
 stages_same [] [] old a b alike x y = (refl, x ∙ sym y)

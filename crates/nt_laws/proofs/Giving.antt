@@ -1,5 +1,5 @@
 -- What semaphores were given, and what was taken of them.
-use Rattle.std.proofs.Common.{◌≡◌, ℕ, ◌+◌, ◌-◌, Bool, true, false, cond, not, ◌==◌, List, [], ◌∷◌, ◌++◌, length, length-append, refl, sym, ap, ◌∙◌, subst, arith, Some, None}
+use Rattle.std.proofs.Common.{◌≡◌, ℕ, ◌+◌, ◌-◌, Bool, true, false, cond, not, ◌==◌, List, [], ◌∷◌, length, length-append, refl, sym, ap, ◌∙◌, subst, arith, Some, None}
 use Rattle.std.specs.Prelude.{ℤ, pos, ◌+ℤ◌, ◌≤ℤ◌, int_le, nat_le}
 use Rattle.std.specs.declared.result.Result.TheVariants.{Ok, Err}
 use Rattle.std.proofs.lemmas.Int.{ints}
@@ -14,27 +14,27 @@ use Rattle.nt_calls.specs.declared.call.Call.{Call}
 use Rattle.nt_calls.specs.declared.call.Act.{Act}
 use Rattle.nt_calls.specs.declared.call.WaitCall.{WaitCall}
 use Rattle.nt_calls.specs.Naming.{call_named}
-use Rattle.nt_calls.specs.State.{State, opening, object_at}
+use Rattle.nt_calls.specs.State.{State, object_at}
 use Rattle.nt_calls.specs.Change.{change, signal}
 use Rattle.nt_calls.specs.Rights.{is_denied}
 use Rattle.nt_core.proofs.Judging.{undenied}
 use Rattle.nt_calls.specs.Refusals.{refusal, may_signal, is_full, is_no}
-use Rattle.nt_calls.specs.Runs.{Turn, Calls, Ticks, IsTurn, Turns, Run}
-use Rattle.nt_laws.specs.Takes.{turn_took, takes, takers}
-use Rattle.nt_laws.specs.Laws.{act_gives, call_gives, turn_gives, given}
-use Rattle.nt_core.proofs.Accepting.{next_causes, own_causes, object_at-replicate}
+use Rattle.nt_calls.specs.Runs.{Turn, Calls, Ticks, IsTurn}
+use Rattle.nt_laws.specs.Takes.{turn_took, takers}
+use Rattle.nt_laws.specs.Laws.{act_gives, call_gives, turn_gives}
+use Rattle.nt_core.proofs.Accepting.{next_causes, own_causes}
 use Rattle.nt_core.proofs.Exiting.{left}
-use Rattle.nt_laws.proofs.Takes.{TakenBy, takers-append, AreFair}
+use Rattle.nt_laws.proofs.Takes.{TakenBy, AreFair}
 use Rattle.nt_laws.proofs.Acting.{swap_judged, is_plain, past_last, acted, changed_at, settled_at}
-use Rattle.nt_laws.proofs.Turns.{in_call, in_tick, turn_fair, opening_fair}
+use Rattle.nt_laws.proofs.Turns.{in_call, in_tick}
 
 -- a semaphore, or none yet
-abbrev counts : Object → Bool
+abbrev pub counts : Object → Bool
 counts (Semaphore count maximum) = true
 counts (Thread ended) = not ended
 counts _ = false
 
-semaphore_counts : (o : Object) → is_semaphore o ≡ true → counts o ≡ true
+pub semaphore_counts : (o : Object) → is_semaphore o ≡ true → counts o ≡ true
 semaphore_counts (Semaphore count maximum) is = refl
 semaphore_counts (Event manual set) is = is
 semaphore_counts (Mutex owner depth abandoned) is = is
@@ -42,7 +42,7 @@ semaphore_counts (Timer manual set armed) is = is
 semaphore_counts (Thread ended) is = let h : false ≡ true = is in (cc)
 semaphore_counts Gone is = let h : false ≡ true = is in (cc)
 
-plain : (o : Object) → counts o ≡ true → is_plain o ≡ true
+pub plain : (o : Object) → counts o ≡ true → is_plain o ≡ true
 plain (Timer manual set armed) is = is
 plain (Event manual set) is = refl
 plain (Semaphore count maximum) is = refl
@@ -51,15 +51,15 @@ plain (Thread ended) is = is
 plain Gone is = is
 
 -- the new object came of the old one: it was given so much
-record Gains (old new : Object) (gain : ℤ) (times : ℕ) : Type 0 where
-  counts : counts old ≡ true
-  count : count_of new +ℤ pos times ≡ gain +ℤ count_of old
-  lawful : IsLawfulObject old → IsLawfulObject new
+pub record Gains (old new : Object) (gain : ℤ) (times : ℕ) : Type 0 where
+  pub counts : counts old ≡ true
+  pub count : count_of new +ℤ pos times ≡ gain +ℤ count_of old
+  pub lawful : IsLawfulObject old → IsLawfulObject new
 
-same_gains : (o : Object) → counts o ≡ true → Gains o o (pos 0) 0
+pub same_gains : (o : Object) → counts o ≡ true → Gains o o (pos 0) 0
 same_gains o is = record { counts = is; count = omega (arith, ints); lawful = λ l. l }
 
-then_gains : (a b c : Object) (x y : ℤ) (k j : ℕ) → Gains a b x k → Gains b c y j → Gains a c (x +ℤ y) (k + j)
+pub then_gains : (a b c : Object) (x y : ℤ) (k j : ℕ) → Gains a b x k → Gains b c y j → Gains a c (x +ℤ y) (k + j)
 then_gains a b c x y k j p q = record {
   counts = p.counts;
   count = let e = p.count in let f = q.count in omega (arith, ints, e, f);
@@ -123,7 +123,7 @@ released_gains count (Timer manual set armed) is up fits = absurd (false≢true 
 released_gains count (Thread ended) is up fits = absurd (false≢true is)
 released_gains count Gone is up fits = absurd (false≢true is)
 
-mutex_counts_not : (flags t : ℕ) → counts (mutex_of flags t) ≡ true → ⊥
+pub mutex_counts_not : (flags t : ℕ) → counts (mutex_of flags t) ≡ true → ⊥
 mutex_counts_not flags t = go (has_flag flags mutex_initial_owner)
   where
     go : (b : Bool) → counts (cond b (Mutex (Some t) 1 false) (Mutex None 0 false)) ≡ true → ⊥
@@ -159,7 +159,7 @@ signal_gains (Thread ended) may fits is = absurd (false≢true may)
 signal_gains Gone may fits is = absurd (false≢true may)
 
 -- a semaphore where none was
-new_gains : (o : Object) (initial maximum : ℤ) → o ≡ Thread false → may_count initial maximum ≡ true → Gains o (Semaphore initial maximum) initial 0
+pub new_gains : (o : Object) (initial maximum : ℤ) → o ≡ Thread false → may_count initial maximum ≡ true → Gains o (Semaphore initial maximum) initial 0
 new_gains o initial maximum none may =
     subst (λ x. Gains x (Semaphore initial maximum) initial 0) (sym none) (record {
       counts = refl;
@@ -230,7 +230,7 @@ settled_gains _ h o is = same_gains o is
 
 -- ---- turns
 
-turn_gains : (h : ℕ) (old : State) (turn : Turn) (new : State) → AreFair old.waits → IsTurn old turn new → counts (object_at new.objects h) ≡ true → Gains (object_at old.objects h) (object_at new.objects h) (turn_gives h old turn) (length (takers h (turn_took old turn)))
+pub turn_gains : (h : ℕ) (old : State) (turn : Turn) (new : State) → AreFair old.waits → IsTurn old turn new → counts (object_at new.objects h) ≡ true → Gains (object_at old.objects h) (object_at new.objects h) (turn_gives h old turn) (length (takers h (turn_took old turn)))
 turn_gains h old (Calls who call (Ok reply) grants) new fair is ends =
     let none = undenied old who (is_denied old call) (call_named old.handles call) is.1.0 in
     let c = in_call h old who call reply grants new fair is (plain (object_at new.objects h) ends) in
@@ -251,22 +251,3 @@ turn_gains h old (Calls who call (Err r) grants) new fair is ends =
     subst (λ o. Gains (object_at old.objects h) o (pos 0) 0) (sym same) (same_gains (object_at old.objects h) (sym (ap counts same) ∙ ends))
 turn_gains h old (Ticks by m r grants) new fair is ends =
     all_taken (object_at old.objects h) (object_at new.objects h) (takers h (turn_took old (Ticks by m r grants))) (in_tick h old by m r grants new fair is (plain (object_at new.objects h) ends)) ends
-
-turns_gain : (h : ℕ) (old : State) (turns : List Turn) (new : State) (run : Turns old turns new) → AreFair old.waits → counts (object_at new.objects h) ≡ true → Gains (object_at old.objects h) (object_at new.objects h) (given h old turns new run) (length (takers h (takes old turns new run)))
-turns_gain h old [] new run fair ends =
-    let same : object_at new.objects h ≡ object_at old.objects h = ap (λ (s : State). object_at s.objects h) run in
-    subst (λ o. Gains (object_at old.objects h) o (pos 0) 0) (sym same) (same_gains (object_at old.objects h) (sym (ap counts same) ∙ ends))
-turns_gain h old (turn ∷ turns) new run fair ends =
-    let later = turns_gain h run.0 turns new run.2 (turn_fair old turn run.0 fair run.1) ends in
-    let here = turn_gains h old turn run.0 fair run.1 later.counts in
-    let both = then_gains (object_at old.objects h) (object_at run.0.objects h) (object_at new.objects h) (turn_gives h old turn) (given h run.0 turns new run.2) (length (takers h (turn_took old turn))) (length (takers h (takes run.0 turns new run.2))) here later in
-    let times : length (takers h (turn_took old turn ++ takes run.0 turns new run.2)) ≡ length (takers h (turn_took old turn)) + length (takers h (takes run.0 turns new run.2)) =
-    ap (λ ts. length ts) (takers-append h (turn_took old turn) (takes run.0 turns new run.2)) ∙ length-append (takers h (turn_took old turn)) (takers h (takes run.0 turns new run.2)) in
-    subst (λ k. Gains (object_at old.objects h) (object_at new.objects h) (turn_gives h old turn +ℤ given h run.0 turns new run.2) k) (sym times) both
-
-pub semaphore_account : (n : ℕ) (turns : List Turn) (s : State) (run : Run n turns s) (h : ℕ) → is_semaphore (object_at s.objects h) ≡ true → (count_of (object_at s.objects h) +ℤ pos (length (takers h (takes (opening n) turns s run))) ≡ given h (opening n) turns s run) × IsLawfulObject (object_at s.objects h)
-semaphore_account n turns s run h is =
-    let gains = turns_gain h (opening n) turns s run (opening_fair n) (semaphore_counts (object_at s.objects h) is) in
-    let first : object_at (opening n).objects h ≡ Thread false = object_at-replicate n h in
-    let zero_first : count_of (object_at (opening n).objects h) ≡ pos 0 = ap count_of first in
-    (let e = gains.count in omega (arith, ints, e, zero_first), gains.lawful (subst IsLawfulObject (sym first) tt))

@@ -142,7 +142,7 @@ is_kept_by s o sound (inl handle) =
 is_kept_by s o sound (inr (inl wait)) = second_of (is_opened s o) (is_awaited s o) (runs s o) (queue_there (s.queues o) wait.0 (sound.listed wait.0 o wait.1 wait.2 wait.3))
 is_kept_by s o sound (inr (inr running)) = third_of (is_opened s o) (is_awaited s o) (runs s o) running
 
-kept_lives : (s : State) → Stands s → (o : ℕ) → is_kept s o ≡ true → lives s o ≡ true
+pub kept_lives : (s : State) → Stands s → (o : ℕ) → is_kept s o ≡ true → lives s o ≡ true
 kept_lives s sound o kept = by (kept_by s o sound kept)
   where
     by : IsKept s o → lives s o ≡ true
@@ -200,7 +200,7 @@ ends_stand old new sound ends = (stands, living)
 
 -- ---- a run
 
-turn_stands : (old : State) (turn : Turn) (new : State) → Stands old → LivesWhileKept old → IsTurn old turn new → Stands new × LivesWhileKept new
+pub turn_stands : (old : State) (turn : Turn) (new : State) → Stands old → LivesWhileKept old → IsTurn old turn new → Stands new × LivesWhileKept new
 turn_stands old (Calls who call (Ok reply) grants) new sound living is = ends_stand is.0 new (made_stands old who call reply grants is.0 sound is.1) is.2
 turn_stands old (Calls who call (Err r) grants) new sound living is = subst (λ (s : State). Stands s × LivesWhileKept s) (sym is.2) (sound, living)
 turn_stands old (Ticks by m (Ok reply) grants) new sound living is = ends_stand is.2.1 new (moments_last Stands stands_last is.2.0 old m grants is.2.1 is.2.2 sound) is.2.3
@@ -219,7 +219,7 @@ own_named (suc n) access h opened is = elim (opened_more (own_handles n access) 
   | inr last ↦ subst (λ (x : Opened). x.object < suc n) last (omega arith)
 ]
 
-opening_stands : (n : ℕ) → Stands (opening n)
+pub opening_stands : (n : ℕ) → Stands (opening n)
 opening_stands n =
     let count : length (opening n).objects ≡ n = length-replicate n (Thread false) in
     record {

@@ -13,3 +13,11 @@ mod Standing
 mod Keepers
 mod Staging
 mod Choosing
+mod GivenAgain
+mod Lifelong
+mod Counting
+mod GivingSince
+mod OwingSince
+mod SettingSince
+mod Following
+mod RunsAsLives

@@ -92,6 +92,14 @@ opened_more [] last opened (suc h) is = inl is
 opened_more (x ∷ handles) last opened zero is = inl is
 opened_more (x ∷ handles) last opened (suc h) is = opened_more handles last opened h is
 
+-- a handle of the new table is one of the old, or the one whose number was given again
+pub opened_given : (handles : List (Option Opened)) (g : ℕ) (new opened : Opened) (k : ℕ) → opened_at (slice_set handles g (Some new)) k ≡ Some opened → (opened_at handles k ≡ Some opened) ⊎ (new ≡ opened)
+opened_given [] g new opened k is = inl is
+opened_given (x ∷ handles) zero new opened zero is = inr (some_same new opened is)
+opened_given (x ∷ handles) zero new opened (suc k) is = inl is
+opened_given (x ∷ handles) (suc g) new opened zero is = inl is
+opened_given (x ∷ handles) (suc g) new opened (suc k) is = opened_given handles g new opened k is
+
 -- ---- one handle fewer
 
 opened_closed : (handles : List (Option Opened)) (g h : ℕ) → opened_at (slice_set handles g None) h ≡ cond (g == h) None (opened_at handles h)

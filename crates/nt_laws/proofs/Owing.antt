@@ -14,33 +14,33 @@ use Rattle.nt_calls.specs.declared.call.Call.{Call}
 use Rattle.nt_calls.specs.declared.call.Act.{Act}
 use Rattle.nt_calls.specs.declared.call.WaitCall.{WaitCall}
 use Rattle.nt_calls.specs.Naming.{call_named}
-use Rattle.nt_calls.specs.State.{State, opening, object_at}
+use Rattle.nt_calls.specs.State.{State, object_at}
 use Rattle.nt_calls.specs.Change.{change, signal}
 use Rattle.nt_calls.specs.Rights.{is_denied}
 use Rattle.nt_core.proofs.Judging.{undenied}
 use Rattle.nt_calls.specs.Refusals.{refusal, may_signal, is_no, is_foreign}
-use Rattle.nt_calls.specs.Runs.{Turn, Calls, Ticks, IsTurn, Turns, Run}
+use Rattle.nt_calls.specs.Runs.{Turn, Calls, Ticks, IsTurn}
 use Rattle.nt_laws.specs.Takes.{turn_took, takers}
-use Rattle.nt_laws.specs.Laws.{act_owes, call_owes, turn_owes, owed_after, held_by}
-use Rattle.nt_core.proofs.Accepting.{next_causes, own_causes, object_at-replicate}
+use Rattle.nt_laws.specs.Laws.{act_owes, call_owes, turn_owes, held_by}
+use Rattle.nt_core.proofs.Accepting.{next_causes, own_causes}
 use Rattle.nt_core.proofs.Exiting.{left}
 use Rattle.nt_laws.proofs.Takes.{TakenBy, AreFair}
 use Rattle.nt_laws.proofs.Acting.{swap_judged, is_plain, past_last, acted, changed_at, settled_at}
-use Rattle.nt_laws.proofs.Turns.{in_call, in_tick, turn_fair, opening_fair}
+use Rattle.nt_laws.proofs.Turns.{in_call, in_tick}
 
 -- a mutex, or none yet
-abbrev owns : Object → Bool
+abbrev pub owns : Object → Bool
 owns (Mutex owner depth abandoned) = true
 owns (Thread ended) = not ended
 owns _ = false
 
 -- a free mutex has depth 0, an owned one more
-abbrev IsHeld : Object → Type 0
+abbrev pub IsHeld : Object → Type 0
 IsHeld (Mutex None depth abandoned) = depth ≡ 0
 IsHeld (Mutex (Some owner) depth abandoned) = 0 < depth
 IsHeld _ = Unit {0}
 
-mutex_owns : (o : Object) → is_mutex o ≡ true → owns o ≡ true
+pub mutex_owns : (o : Object) → is_mutex o ≡ true → owns o ≡ true
 mutex_owns (Mutex owner depth abandoned) is = refl
 mutex_owns (Event manual set) is = is
 mutex_owns (Semaphore count maximum) is = is
@@ -48,7 +48,7 @@ mutex_owns (Timer manual set armed) is = is
 mutex_owns (Thread ended) is = absurd (false≢true is)
 mutex_owns Gone is = absurd (false≢true is)
 
-plain : (o : Object) → owns o ≡ true → is_plain o ≡ true
+pub plain : (o : Object) → owns o ≡ true → is_plain o ≡ true
 plain (Timer manual set armed) is = is
 plain (Event manual set) is = refl
 plain (Semaphore count maximum) is = refl
@@ -57,15 +57,15 @@ plain (Thread ended) is = is
 plain Gone is = is
 
 -- the new object came of the old one, and what thread t owes went along
-record Owes (t : ℕ) (old new : Object) (owe : ℕ → ℕ) : Type 0 where
-  owns : owns old ≡ true
-  held : IsHeld old → IsHeld new
-  owed : IsHeld old → owe (held_by t old) ≡ held_by t new
+pub record Owes (t : ℕ) (old new : Object) (owe : ℕ → ℕ) : Type 0 where
+  pub owns : owns old ≡ true
+  pub held : IsHeld old → IsHeld new
+  pub owed : IsHeld old → owe (held_by t old) ≡ held_by t new
 
-same_owes : (t : ℕ) (o : Object) → owns o ≡ true → Owes t o o (λ k. k)
+pub same_owes : (t : ℕ) (o : Object) → owns o ≡ true → Owes t o o (λ k. k)
 same_owes t o is = record { owns = is; held = λ l. l; owed = λ l. refl }
 
-then_owes : (t : ℕ) (a b c : Object) (f g : ℕ → ℕ) → Owes t a b f → Owes t b c g → Owes t a c (λ k. g (f k))
+pub then_owes : (t : ℕ) (a b c : Object) (f g : ℕ → ℕ) → Owes t a b f → Owes t b c g → Owes t a c (λ k. g (f k))
 then_owes t a b c f g p q = record {
   owns = p.owns;
   held = λ l. q.held (p.held l);
@@ -214,7 +214,7 @@ signal_owes t (Thread ended) who may foreign is = absurd (false≢true may)
 signal_owes t Gone who may foreign is = absurd (false≢true may)
 
 -- a mutex where none was
-new_owes : (t : ℕ) (o : Object) (flags who : ℕ) → o ≡ Thread false → Owes t o (mutex_of flags who) (λ k. cond (has_flag flags mutex_initial_owner && who == t) (k + 1) k)
+pub new_owes : (t : ℕ) (o : Object) (flags who : ℕ) → o ≡ Thread false → Owes t o (mutex_of flags who) (λ k. cond (has_flag flags mutex_initial_owner && who == t) (k + 1) k)
 new_owes t o flags who none = subst (λ x. Owes t x (mutex_of flags who) (λ k. cond (has_flag flags mutex_initial_owner && who == t) (k + 1) k)) (sym none) (go (has_flag flags mutex_initial_owner))
   where
     one : (b : Bool) → cond b (0 + 1) 0 ≡ cond b 1 0
@@ -280,7 +280,7 @@ settled_owes t _ h o is = same_owes t o is
 count_append : (t : ℕ) (xs ys : List ℕ) → count_by (λ u. u == t) (xs ++ ys) ≡ count_by (λ u. u == t) xs + count_by (λ u. u == t) ys
 count_append t xs ys = sum_by-append (λ u. cond (u == t) 1 0) xs ys
 
-turn_owing : (t h : ℕ) (old : State) (turn : Turn) (new : State) → AreFair old.waits → IsTurn old turn new → owns (object_at new.objects h) ≡ true → Owes t (object_at old.objects h) (object_at new.objects h) (λ k. turn_owes h t old turn k + count_by (λ u. u == t) (takers h (turn_took old turn)))
+pub turn_owing : (t h : ℕ) (old : State) (turn : Turn) (new : State) → AreFair old.waits → IsTurn old turn new → owns (object_at new.objects h) ≡ true → Owes t (object_at old.objects h) (object_at new.objects h) (λ k. turn_owes h t old turn k + count_by (λ u. u == t) (takers h (turn_took old turn)))
 turn_owing t h old (Calls who call (Ok reply) grants) new fair is ends =
     let none = undenied old who (is_denied old call) (call_named old.handles call) is.1.0 in
     let c = in_call h old who call reply grants new fair is (plain (object_at new.objects h) ends) in
@@ -302,22 +302,7 @@ turn_owing t h old (Calls who call (Err r) grants) new fair is ends =
 turn_owing t h old (Ticks by m r grants) new fair is ends =
     all_taken t (object_at old.objects h) (object_at new.objects h) (takers h (turn_took old (Ticks by m r grants))) (in_tick h old by m r grants new fair is (plain (object_at new.objects h) ends)) ends
 
-turns_owe : (t h : ℕ) (old : State) (turns : List Turn) (new : State) (run : Turns old turns new) → AreFair old.waits → owns (object_at new.objects h) ≡ true → Owes t (object_at old.objects h) (object_at new.objects h) (λ k. owed_after h t k old turns new run)
-turns_owe t h old [] new run fair ends =
-    let same : object_at new.objects h ≡ object_at old.objects h = ap (λ (s : State). object_at s.objects h) run in
-    subst (λ o. Owes t (object_at old.objects h) o (λ k. k)) (sym same) (same_owes t (object_at old.objects h) (sym (ap owns same) ∙ ends))
-turns_owe t h old (turn ∷ turns) new run fair ends =
-    let later = turns_owe t h run.0 turns new run.2 (turn_fair old turn run.0 fair run.1) ends in
-    let here = turn_owing t h old turn run.0 fair run.1 later.owns in
-    then_owes t (object_at old.objects h) (object_at run.0.objects h) (object_at new.objects h) (λ k. turn_owes h t old turn k + count_by (λ u. u == t) (takers h (turn_took old turn))) (λ k. owed_after h t k run.0 turns new run.2) here later
-
 -- ---- one owner
-
-pub owed_held : (n : ℕ) (turns : List Turn) (s : State) (run : Run n turns s) (h t : ℕ) → is_mutex (object_at s.objects h) ≡ true → owed_after h t 0 (opening n) turns s run ≡ held_by t (object_at s.objects h)
-owed_held n turns s run h t is =
-    let owes = turns_owe t h (opening n) turns s run (opening_fair n) (mutex_owns (object_at s.objects h) is) in
-    let first : object_at (opening n).objects h ≡ Thread false = object_at-replicate n h in
-    ap (λ k. owed_after h t k (opening n) turns s run) (sym (ap (λ o. held_by t o) first)) ∙ owes.owed (subst IsHeld (sym first) tt)
 
 pub holder : (o : Object) (t u : ℕ) → 0 < held_by t o → 0 < held_by u o → t ≡ u
 holder o t u a b = same o (owns_of o t (owned_by o t) refl a) (owns_of o u (owned_by o u) refl b)

@@ -1,5 +1,5 @@
 -- How often auto-reset events were set, and how often they were taken.
-use Rattle.std.proofs.Common.{◌≡◌, ℕ, ◌+◌, ◌-◌, ◌≤◌, Bool, true, false, cond, not, ◌&&◌, ◌==◌, List, [], ◌∷◌, ◌++◌, length, length-append, refl, sym, ap, ◌∙◌, subst, arith, Some, None}
+use Rattle.std.proofs.Common.{◌≡◌, ℕ, ◌+◌, ◌-◌, ◌≤◌, Bool, true, false, cond, not, ◌&&◌, ◌==◌, List, [], ◌∷◌, length, length-append, refl, sym, ap, ◌∙◌, subst, arith, Some, None}
 use Rattle.std.specs.Prelude.{ℤ, nat_le}
 use Rattle.std.specs.declared.result.Result.TheVariants.{Ok, Err}
 use Rattle.std.proofs.lemmas.Bool.{false≢true, eqb-true}
@@ -11,26 +11,26 @@ use Rattle.nt_calls.specs.declared.call.Call.{Call}
 use Rattle.nt_calls.specs.declared.call.Act.{Act}
 use Rattle.nt_calls.specs.declared.call.WaitCall.{WaitCall}
 use Rattle.nt_calls.specs.Naming.{call_named}
-use Rattle.nt_calls.specs.State.{State, opening, object_at}
+use Rattle.nt_calls.specs.State.{State, object_at}
 use Rattle.nt_calls.specs.Change.{change, signal}
 use Rattle.nt_calls.specs.Rights.{is_denied}
 use Rattle.nt_core.proofs.Judging.{undenied}
 use Rattle.nt_calls.specs.Refusals.{refusal, may_signal}
-use Rattle.nt_calls.specs.Runs.{Turn, Calls, Ticks, IsTurn, Turns, Run}
-use Rattle.nt_laws.specs.Takes.{turn_took, takes, takers}
-use Rattle.nt_laws.specs.Laws.{times_set, act_sets, call_sets, turn_sets, is_auto_reset, set_now}
+use Rattle.nt_calls.specs.Runs.{Turn, Calls, Ticks, IsTurn}
+use Rattle.nt_laws.specs.Takes.{turn_took, takers}
+use Rattle.nt_laws.specs.Laws.{act_sets, call_sets, turn_sets, is_auto_reset, set_now}
 use Rattle.nt_core.proofs.Exiting.{left}
-use Rattle.nt_laws.proofs.Takes.{TakenBy, takers-append, AreFair}
+use Rattle.nt_laws.proofs.Takes.{TakenBy, AreFair}
 use Rattle.nt_laws.proofs.Acting.{swap_judged, is_plain, past_last, acted, changed_at, settled_at}
-use Rattle.nt_laws.proofs.Turns.{in_call, in_tick, turn_fair, turns_fair, opening_fair}
+use Rattle.nt_laws.proofs.Turns.{in_call, in_tick}
 
 -- an auto-reset event, or none yet
-abbrev resets : Object → Bool
+abbrev pub resets : Object → Bool
 resets (Event manual set) = not manual
 resets (Thread ended) = not ended
 resets _ = false
 
-auto_resets : (o : Object) → is_auto_reset o ≡ true → resets o ≡ true
+pub auto_resets : (o : Object) → is_auto_reset o ≡ true → resets o ≡ true
 auto_resets (Event manual set) is = is
 auto_resets (Mutex owner depth abandoned) is = is
 auto_resets (Semaphore count maximum) is = is
@@ -38,7 +38,7 @@ auto_resets (Timer manual set armed) is = is
 auto_resets (Thread ended) is = absurd (false≢true is)
 auto_resets Gone is = absurd (false≢true is)
 
-plain : (o : Object) → resets o ≡ true → is_plain o ≡ true
+pub plain : (o : Object) → resets o ≡ true → is_plain o ≡ true
 plain (Timer manual set armed) is = is
 plain (Event manual set) is = refl
 plain (Semaphore count maximum) is = refl
@@ -47,18 +47,18 @@ plain (Thread ended) is = is
 plain Gone is = is
 
 -- 1 where it holds
-abbrev one_if : Bool → ℕ
+abbrev pub one_if : Bool → ℕ
 one_if b = cond b 1 0
 
 -- the new object came of the old one: it was set and taken so often
-record Sets (old new : Object) (sets times : ℕ) : Type 0 where
-  resets : resets old ≡ true
-  few : times + set_now new ≤ sets + set_now old
+pub record Sets (old new : Object) (sets times : ℕ) : Type 0 where
+  pub resets : resets old ≡ true
+  pub few : times + set_now new ≤ sets + set_now old
 
-same_sets : (o : Object) (sets : ℕ) → resets o ≡ true → Sets o o sets 0
+pub same_sets : (o : Object) (sets : ℕ) → resets o ≡ true → Sets o o sets 0
 same_sets o sets is = record { resets = is; few = omega arith }
 
-then_sets : (a b c : Object) (x y k j : ℕ) → Sets a b x k → Sets b c y j → Sets a c (x + y) (k + j)
+pub then_sets : (a b c : Object) (x y k j : ℕ) → Sets a b x k → Sets b c y j → Sets a c (x + y) (k + j)
 then_sets a b c x y k j p q = record { resets = p.resets; few = let e = p.few in let f = q.few in omega (arith, e, f) }
 
 -- ---- takings
@@ -152,7 +152,7 @@ signal_sets (Timer manual set armed) may is = absurd (false≢true may)
 signal_sets (Thread ended) may is = absurd (false≢true may)
 signal_sets Gone may is = absurd (false≢true may)
 
-mutex_resets_not : (flags t : ℕ) → resets (mutex_of flags t) ≡ true → ⊥
+pub mutex_resets_not : (flags t : ℕ) → resets (mutex_of flags t) ≡ true → ⊥
 mutex_resets_not flags t = go (has_flag flags mutex_initial_owner)
   where
     go : (b : Bool) → resets (cond b (Mutex (Some t) 1 false) (Mutex None 0 false)) ≡ true → ⊥
@@ -160,7 +160,7 @@ mutex_resets_not flags t = go (has_flag flags mutex_initial_owner)
     go false is = false≢true is
 
 -- where an object stood that is an auto-reset event now, or none yet, it was that
-was_none : (b : Bool) (o : Object) (flags : ℕ) → (b ≡ true → o ≡ Thread false) → resets (cond b (event_of flags) o) ≡ true → Sets o (cond b (event_of flags) o) (one_if (b && has_flag flags event_initial_set)) 0
+pub was_none : (b : Bool) (o : Object) (flags : ℕ) → (b ≡ true → o ≡ Thread false) → resets (cond b (event_of flags) o) ≡ true → Sets o (cond b (event_of flags) o) (one_if (b && has_flag flags event_initial_set)) 0
 was_none true o flags none is = subst (λ x. Sets x (event_of flags) (one_if (has_flag flags event_initial_set)) 0) (sym (none refl)) (record { resets = refl; few = go (has_flag flags event_initial_set) })
   where
     go : (b : Bool) → 0 + cond b 1 0 ≤ cond b 1 0 + 0
@@ -201,7 +201,7 @@ settled_sets _ h o is = same_sets o 0 is
 
 -- ---- turns
 
-turn_setting : (h : ℕ) (old : State) (turn : Turn) (new : State) → AreFair old.waits → IsTurn old turn new → resets (object_at new.objects h) ≡ true → Sets (object_at old.objects h) (object_at new.objects h) (one_if (turn_sets h old turn)) (length (takers h (turn_took old turn)))
+pub turn_setting : (h : ℕ) (old : State) (turn : Turn) (new : State) → AreFair old.waits → IsTurn old turn new → resets (object_at new.objects h) ≡ true → Sets (object_at old.objects h) (object_at new.objects h) (one_if (turn_sets h old turn)) (length (takers h (turn_took old turn)))
 turn_setting h old (Calls who call (Ok reply) grants) new fair is ends =
     let none = undenied old who (is_denied old call) (call_named old.handles call) is.1.0 in
     let c = in_call h old who call reply grants new fair is (plain (object_at new.objects h) ends) in
@@ -218,20 +218,3 @@ turn_setting h old (Calls who call (Err r) grants) new fair is ends =
     subst (λ o. Sets (object_at old.objects h) o 0 0) (sym same) (same_sets (object_at old.objects h) 0 (sym (ap resets same) ∙ ends))
 turn_setting h old (Ticks by m r grants) new fair is ends =
     all_taken (object_at old.objects h) (object_at new.objects h) (takers h (turn_took old (Ticks by m r grants))) (in_tick h old by m r grants new fair is (plain (object_at new.objects h) ends)) ends
-
-turns_set : (h : ℕ) (old : State) (turns : List Turn) (new : State) (run : Turns old turns new) → AreFair old.waits → resets (object_at new.objects h) ≡ true → Sets (object_at old.objects h) (object_at new.objects h) (times_set h old turns new run) (length (takers h (takes old turns new run)))
-turns_set h old [] new run fair ends =
-    let same : object_at new.objects h ≡ object_at old.objects h = ap (λ (s : State). object_at s.objects h) run in
-    subst (λ o. Sets (object_at old.objects h) o 0 0) (sym same) (same_sets (object_at old.objects h) 0 (sym (ap resets same) ∙ ends))
-turns_set h old (turn ∷ turns) new run fair ends =
-    let later = turns_set h run.0 turns new run.2 (turn_fair old turn run.0 fair run.1) ends in
-    let here = turn_setting h old turn run.0 fair run.1 later.resets in
-    let both = then_sets (object_at old.objects h) (object_at run.0.objects h) (object_at new.objects h) (one_if (turn_sets h old turn)) (times_set h run.0 turns new run.2) (length (takers h (turn_took old turn))) (length (takers h (takes run.0 turns new run.2))) here later in
-    let times : length (takers h (turn_took old turn ++ takes run.0 turns new run.2)) ≡ length (takers h (turn_took old turn)) + length (takers h (takes run.0 turns new run.2)) =
-    ap (λ ts. length ts) (takers-append h (turn_took old turn) (takes run.0 turns new run.2)) ∙ length-append (takers h (turn_took old turn)) (takers h (takes run.0 turns new run.2)) in
-    let more : times_set h old (turn ∷ turns) new run ≡ one_if (turn_sets h old turn) + times_set h run.0 turns new run.2 = refl in
-    record { resets = both.resets; few = let e = both.few in omega (arith, e, times, more) }
-
-pub event_account : (n : ℕ) (before turns : List Turn) (mid s : State) → Run n before mid → (part : Turns mid turns s) (h : ℕ) → is_auto_reset (object_at s.objects h) ≡ true → length (takers h (takes mid turns s part)) + set_now (object_at s.objects h) ≤ times_set h mid turns s part + set_now (object_at mid.objects h)
-event_account n before turns mid s run part h is =
-    (turns_set h mid turns s part (turns_fair before (opening n) mid (opening_fair n) run) (auto_resets (object_at s.objects h) is)).few

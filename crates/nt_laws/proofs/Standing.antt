@@ -48,15 +48,15 @@ same_living : (old new : List Object) → SameLife old new → (o : ℕ) → is_
 same_living old new life o =
     ap (λ n. nat_lt o n && not (is_gone (object_at new o))) life.count ∙ ap (λ b. nat_lt o (length old) && not b) (life.gone o)
 
-living_below : (objects : List Object) (o : ℕ) → is_living objects o ≡ true → o < length objects
+pub living_below : (objects : List Object) (o : ℕ) → is_living objects o ≡ true → o < length objects
 living_below objects o is = let test = (both (nat_lt o (length objects)) (not (is_gone (object_at objects o))) is).0 in grind (arith, nat_tests, test)
 
-object_before : (objects more : List Object) (o : ℕ) → o < length objects → object_at (objects ++ more) o ≡ object_at objects o
+pub object_before : (objects more : List Object) (o : ℕ) → o < length objects → object_at (objects ++ more) o ≡ object_at objects o
 object_before [] more o below = absurd (omega (arith, below))
 object_before (x ∷ objects) more zero below = refl
 object_before (x ∷ objects) more (suc o) below = object_before objects more o (omega (arith, below))
 
-object_last : (objects : List Object) (last : Object) → object_at (objects ++ last ∷ []) (length objects) ≡ last
+pub object_last : (objects : List Object) (last : Object) → object_at (objects ++ last ∷ []) (length objects) ≡ last
 object_last [] last = refl
 object_last (x ∷ objects) last = object_last objects last
 
@@ -65,7 +65,7 @@ lives_there objects o there below is lives =
     let less : nat_lt o (length objects) ≡ true = grind (arith, nat_tests, below) in
     ap (λ b. b && not (is_gone (object_at objects o))) less ∙ ap (λ b. not b) (ap is_gone is ∙ lives)
 
-living_longer : (objects : List Object) (last : Object) (o : ℕ) → is_living objects o ≡ true → is_living (objects ++ last ∷ []) o ≡ true
+pub living_longer : (objects : List Object) (last : Object) (o : ℕ) → is_living objects o ≡ true → is_living (objects ++ last ∷ []) o ≡ true
 living_longer objects last o is =
     let below = living_below objects o is in
     let count : length (objects ++ last ∷ []) ≡ length objects + 1 = length-append objects (last ∷ []) in

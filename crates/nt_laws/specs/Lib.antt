@@ -1,3 +1,4 @@
 pub mod Takes
 pub mod Laws
 pub mod Lives
+pub mod Since

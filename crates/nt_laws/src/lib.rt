@@ -5,8 +5,8 @@
 //! What a `Core` was asked and answered since it was new is a run, and so are the calls of a script; the history of a front is a run,
 //! or the last part of one where parts were handed out before. So the laws hold of all of these.
 //!
-//! A **life** is a run in which numbers were given again as well (`Life`), by the operations of `nt_core` that no call of the machine makes.
-//! A run is a life without them, so what is said of lives holds of runs.
+//! A **life** is a run in which numbers were given again as well, and objects of ended threads got other numbers (`Life`), by the operations
+//! of `nt_core` that no call of the machine makes. A run is a life without them (`runs_are_lives`), so what is said of lives holds of runs.
 //!
 //! A **law** is a statement on all runs, or on all lives, that follows from the definitions and names no code and no machine. A reader has to believe none:
 //! the definitions are what is believed, and the laws show that they mean what one would expect. What a thread took is read off
@@ -29,8 +29,14 @@
 //! | `handles_stay` | a handle names one object with the same rights, and nothing once it was closed |
 //! | `rights_never_grow` | a right that no handle of an object has any more never comes back |
 //! | `objects_live_while_kept` | an object lives exactly while a handle, a pending wait or a running thread keeps it |
-//! | `handles_stay_until_given_again` | in a life a handle names one object, with the same rights, until it is closed or given again |
+//! | `runs_are_lives` | a run is a life in which no number is given again and no object moves, and such a life is a run |
+//! | `handles_stay_until_given_again` | in a life a handle names one object, by the number that it has then, until it is closed or given again |
 //! | `rights_never_grow_until_given_again` | in a life a lost right comes back only with the object's number |
+//! | `rights_never_grow_though_moved` | nor does it come back where the object gets another number |
+//! | `objects_live_while_kept_in_lives` | in a life too an object lives exactly while it is kept |
+//! | `semaphores_give_what_they_have_since_given` | in a life that holds since the semaphore's number was given last |
+//! | `one_owner_since_given` | in a life that holds since the mutex's number was given last |
+//! | `one_set_one_wait_since_given` | in a life that holds since the event's number was given last |
 //! | `lives_one_way` | results, grants and states of a life are a function of what was asked for, and of what found no memory |
 //!
 //! A statement is proved only where a contract names it. So each law is the contract of a function that takes nothing and does
@@ -46,5 +52,8 @@ pub use laws::{
     runs_one_way, semaphores_give_what_they_have, serves_one_way,
 };
 pub use lives::{
-    handles_stay_until_given_again, lives_one_way, rights_never_grow_until_given_again,
+    handles_stay_until_given_again, lives_one_way, objects_live_while_kept_in_lives,
+    one_owner_since_given, one_set_one_wait_since_given, rights_never_grow_though_moved,
+    rights_never_grow_until_given_again, runs_are_lives,
+    semaphores_give_what_they_have_since_given,
 };

@@ -1,7 +1,8 @@
 use Rattle.std.proofs.Common.{subst}
 use Rattle.std.specs.Prelude.{◌<◌}
 use Rattle.nt_calls.specs.State.{object_at}
-use Rattle.nt_laws.proofs.Owing.{owed_held, holder}
+use Rattle.nt_laws.proofs.Owing.{holder}
+use Rattle.nt_laws.proofs.RunsAsLives.{owed_held}
 use Rattle.nt_laws.proofs.laws.one_owner.Goals as goal
 
 pub returns : goal.returns

@@ -1,4 +1,4 @@
-use Rattle.nt_laws.proofs.Setting.{event_account}
+use Rattle.nt_laws.proofs.RunsAsLives.{event_account}
 use Rattle.nt_laws.proofs.laws.one_set_one_wait.Goals as goal
 
 pub returns : goal.returns

@@ -1,4 +1,4 @@
-use Rattle.nt_laws.proofs.Giving.{semaphore_account}
+use Rattle.nt_laws.proofs.RunsAsLives.{semaphore_account}
 use Rattle.nt_laws.proofs.laws.semaphores_give_what_they_have.Goals as goal
 
 pub returns : goal.returns
