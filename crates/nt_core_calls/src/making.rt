@@ -1,26 +1,28 @@
 //! A call of each kind made, and its own part of the reply taken out.
-ghost use Rattle.std.specs.Prelude.{◌≡◌};
+ghost use Rattle.std.specs.Prelude.{◌≡◌, IsTrue};
 ghost use Rattle.nt_calls.specs.declared.call.Act.{Act};
 ghost use Rattle.nt_calls.specs.declared.call.Call.{Call};
 ghost use Rattle.nt_calls.specs.declared.call.WaitCall.{WaitCall};
 ghost use Rattle.nt_answers.specs.Answers.{done_reply, handle_reply, previous_reply, apc_reply, began_reply};
+ghost use Rattle.nt_answers.specs.Kinds.{Kind, act_kind, is_answer};
 ghost use Rattle.nt_core_calls.specs.Called.{IsCalled, IsTicked};
-ghost use Rattle.nt_core_calls.specs.Kinds.{Kind, kind_of};
 
 use nt_answers::{Apc, Began, apc_told, began_told, done_told, handle_told, previous_told};
 use nt_core::{Act, Call, Core, Reply, WaitCall};
 use nt_status::{Handle, Moment, Refusal};
 
-/// Makes a call. All that `Core::call` says of it stands in one clause here.
+/// Makes a call. All that `Core::call` says of it stands in one clause here, and what it can be answered in another.
+#[tactic(auto, using(nt_answers::proofs::Telling::call_told))]
 fn make(core: &mut Core, who: u32, call: &Call) -> Result<Reply, Refusal>
-    ensures { IsCalled core.old who call.now result core.new }
+    ensures called { IsCalled core.old who call.now result core.new }
+    ensures answer { IsTrue (is_answer call.now result) }
 {
     core.call(who, call)
 }
 
 /// Makes a call that has nothing to tell.
 pub(crate) fn make_done(core: &mut Core, who: u32, act: Act) -> Result<(), Refusal>
-    requires { kind_of act ≡ Kind.Done }
+    requires { act_kind act ≡ Kind.Done }
     ensures { IsCalled core.old who (Call.Act act) (done_reply result) core.new }
 {
     done_told(make(core, who, &Call::Act(act)))
@@ -28,7 +30,7 @@ pub(crate) fn make_done(core: &mut Core, who: u32, act: Act) -> Result<(), Refus
 
 /// Makes a call that answers a handle.
 pub(crate) fn make_handle(core: &mut Core, who: u32, act: Act) -> Result<Handle, Refusal>
-    requires { kind_of act ≡ Kind.Handle }
+    requires { act_kind act ≡ Kind.Handle }
     ensures { IsCalled core.old who (Call.Act act) (handle_reply result) core.new }
 {
     handle_told(make(core, who, &Call::Act(act)))

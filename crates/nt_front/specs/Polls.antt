@@ -1,10 +1,11 @@
 -- What a poll, a wait that begins, a wait to its end and the end of a thread answer.
-use Rattle.std.specs.Prelude.{◌≡◌, ◌≢◌, ◌⊎◌, ℕ, true, false, Result, Ok}
+use Rattle.std.specs.Prelude.{◌≡◌, ◌≢◌, ◌⊎◌, ℕ, true, false, Result, Ok, IsTrue}
 use Rattle.nt_calls.specs.declared.call.Call.{Call}
 use Rattle.nt_calls.specs.declared.call.Reply.{Reply}
 use Rattle.nt_calls.specs.declared.call.WaitCall.{WaitCall}
 use Rattle.nt_status.specs.declared.refusal.Refusal.{Refusal}
 use Rattle.nt_calls.specs.Moves.{pended}
+use Rattle.nt_answers.specs.Kinds.{is_answer}
 use Rattle.nt_mail.specs.declared.knowledge.Knowledge.{Knowledge}
 use Rattle.nt_front.specs.declared.polls.Polled.{Polled}
 use Rattle.nt_front.specs.declared.calls.Begun.{Begun}
@@ -44,9 +45,9 @@ abbrev pub IsPolled : {X : Type 0} → Knowledge → Polled X → Type 0
 IsPolled old (Polled.Ready new receipt) = IsReady old receipt.entry receipt.result new
 IsPolled old (Polled.Still new) = IsStill old new
 
--- the call was written under a number above all that the thread had
+-- the call was written under a number above all that the thread had, with a result that it can have
 abbrev pub IsMade : Knowledge → Call → ℕ → Result Reply Refusal → Knowledge → Type 0
-IsMade old call number result new = (new ≡ with_call old number call result) × IsEarlier number old
+IsMade old call number result new = (new ≡ with_call old number call result) × IsEarlier number old × IsTrue (is_answer call result)
 
 abbrev pub IsBegun : {X : Type 0} → Prepared → Knowledge → WaitCall → Begun X → Type 0
 IsBegun front old wait (Begun.Done new receipt) = IsMade old (Call.Wait wait) receipt.entry receipt.result new × (pended receipt.result ≡ false)

@@ -1,11 +1,13 @@
 //! What lies behind the lock.
-ghost use Rattle.std.specs.Prelude.{◌≡◌, ◌+◌, ◌-◌, ◌^◌, ◌<◌, ◌≤◌, ◌↔◌, [], length, min, vec_capacity, true, false, IfOk, IfErr, OnErr, Err, is_err, ◌&&◌};
+ghost use Rattle.std.specs.Prelude.{◌≡◌, ◌+◌, ◌-◌, ◌^◌, ◌<◌, ◌≤◌, ◌↔◌, [], length, min, vec_capacity, true, false, IfOk, IfErr, OnErr, Err, is_err, IsTrue, ◌&&◌};
 ghost use Rattle.std.specs.FinMap as map;
 ghost use Rattle.nt_status.specs.declared.refusal.Refusal.TheVariants.{JournalFull, Memory};
 ghost use Rattle.nt_calls.specs.State.{opening, pends};
 ghost use Rattle.nt_core.specs.Dispatcher.{state};
 ghost use Rattle.nt_core.specs.Lawful.{IsLawful};
 ghost use Rattle.nt_calls.specs.Moves.{pended, is_wait};
+ghost use Rattle.nt_answers.specs.Answers.{is_done};
+ghost use Rattle.nt_answers.specs.Kinds.{is_answer};
 ghost use Rattle.nt_mail.specs.Entries.{accepted};
 ghost use Rattle.nt_mail.specs.Knowledge.{IsEarlier};
 ghost use Rattle.nt_front.specs.Books.{Stands, WritesCall, WritesTick, IsFull, WasFull, HandsOut, WasHandedOut, ledger, next_number};
@@ -75,6 +77,7 @@ impl<N: Named> Book<N> {
         ensures entry { IfOk result (λ r. r.0.entry ≡ next_number self.old) }
         ensures made { IfOk result (λ r. caller.new ≡ with_call caller.old r.0.entry call r.0.result) }
         ensures earlier { IfOk result (λ r. IsEarlier r.0.entry caller.old) }
+        ensures answer { IfOk result (λ r. IsTrue (is_answer call r.0.result)) }
         ensures waits { IfOk result (λ r. pended r.0.result ≡ true → is_wait call ≡ true) }
         ensures wakes { IfOk result (λ r. Wakes r.1 self.new.core.grants) }
         ensures full { (result ≡ Err JournalFull) ↔ IsFull self.old }
@@ -125,6 +128,7 @@ impl<N: Named> Book<N> {
         ensures entry { IfOk result (λ r. r.0.entry ≡ next_number self.old) }
         ensures made { IfOk result (λ r. caller.new ≡ with_tick caller.old r.0.entry moment r.0.result) }
         ensures earlier { IfOk result (λ r. IsEarlier r.0.entry caller.old) }
+        ensures answer { IfOk result (λ r. IsTrue (is_done r.0.result)) }
         ensures waits { IfOk result (λ r. pended r.0.result ≡ false) }
         ensures wakes { IfOk result (λ r. Wakes r.1 self.new.core.grants) }
         ensures full { (result ≡ Err JournalFull) ↔ IsFull self.old }

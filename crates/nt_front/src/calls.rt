@@ -1,9 +1,10 @@
 //! What a thread with a pass may do under the lock.
-ghost use Rattle.std.specs.Prelude.{◌≡◌, ◌++◌, List, true, IfOk, IfErr, OnErr};
+ghost use Rattle.std.specs.Prelude.{◌≡◌, ◌++◌, List, true, IfOk, IfErr, OnErr, IsTrue};
 ghost use Rattle.nt_status.specs.declared.refusal.Refusal.TheVariants.{JournalFull, Memory};
 ghost use Rattle.nt_calls.specs.declared.call.Call.{Call};
 ghost use Rattle.nt_core.specs.Dispatcher.{state};
 ghost use Rattle.nt_calls.specs.Moves.{pended, is_wait};
+ghost use Rattle.nt_answers.specs.Answers.{is_done};
 ghost use Rattle.nt_mail.specs.Knowledge.{IsEarlier};
 ghost use Rattle.nt_front.specs.Books.{WasFull, WasHandedOut};
 ghost use Rattle.nt_front.specs.Held.{IsAllOf};
@@ -64,6 +65,7 @@ impl<N: Named> Front<N> {
     ) -> Result<Receipt, Refusal>
         ensures made { IfOk result (λ r. pass.new ≡ with_tick pass.old r.entry moment r.result) }
         ensures earlier { IfOk result (λ r. IsEarlier r.entry pass.old) }
+        ensures answer { IfOk result (λ r. IsTrue (is_done r.result)) }
         ensures err { IfErr result (λ r. (r ≡ JournalFull) × (pass.new ≡ pass.old)) }
         ensures full { OnErr result (WasFull N.front pass.old) }
     {

@@ -14,6 +14,7 @@ use Rattle.nt_front.specs.Runs.{Agree, AreArmed, entries_of, granted}
 use Rattle.nt_front.specs.Holds.{floor_of, with_call, AreNumbered}
 use Rattle.nt_front.proofs.Journals.{below, stands_after, call_sends, agree_after_call, accepted-step, waits_before, journal_is, written_count, last_is, room_left}
 use Rattle.nt_front.proofs.Floors.{fewer_calls, floor_calls, calls_made, numbered_made, made_call}
+use Rattle.nt_answers.proofs.Telling.{call_told}
 use Rattle.nt_front.proofs.book.Book.call.Goals as goal
 
 pub overflow_add-caller : goal.overflow_add-caller
@@ -115,3 +116,7 @@ invariant_of-caller g c =
       calls = (let a = calls_made known (c.self.inside.first + c.len-place.result) (Asked.Call c.args.call) result in let b = ap (λ (k : Knowledge). length k.made) becomes in omega (arith, a, b, count));
       numbered = subst (λ (k : Knowledge). AreNumbered k.made) (sym becomes) (numbered_made known (c.self.inside.first + c.len-place.result) (Asked.Call c.args.call) result c.caller.invariant.numbered (omega arith) c.tell.ensures.earlier);
     }
+
+pub returns-clause-answer : goal.returns-clause-answer
+returns-clause-answer g c =
+    call_told (state c.self.inside.core) (state c.write_call-result.new.core) c.thread-who.result c.args.call c.write_call-result.result c.write_call-result.new.core.grants c.write_call-result.ensures.carried_out.called

@@ -15,6 +15,7 @@ use Rattle.nt_front.specs.Holds.{floor_of, moment_if, with_tick, AreNumbered}
 use Rattle.nt_front.proofs.Journals.{below, stands_after, tick_sends, agree_after_tick, accepted-step, journal_is, written_count, last_is, room_left}
 use Rattle.nt_front.proofs.Floors.{fewer_calls, floor_ticks, calls_made, numbered_made, made_tick}
 use Rattle.std.specs.Prelude.{max}
+use Rattle.nt_answers.proofs.Telling.{tick_told}
 use Rattle.nt_front.proofs.book.Book.tick.Goals as goal
 
 pub overflow_add-caller : goal.overflow_add-caller
@@ -109,3 +110,7 @@ invariant_of-caller g c =
       calls = (let a = calls_made known number (Asked.Tick moment) result in let b = ap (λ (k : Knowledge). length k.made) becomes in omega (arith, a, b, count));
       numbered = subst (λ (k : Knowledge). AreNumbered k.made) (sym becomes) (numbered_made known number (Asked.Tick moment) result c.caller.invariant.numbered (omega arith) c.tell.ensures.earlier);
     }
+
+pub returns-clause-answer : goal.returns-clause-answer
+returns-clause-answer g c =
+    tick_told (state c.self.inside.core) (state c.tick-result.new.self) c.args.moment c.tick-result.result c.tick-result.new.self.grants c.tick-result.ensures.ticked
