@@ -1,157 +1,174 @@
+#define _GNU_SOURCE
 #include "dispatcher.h"
+#include <linux/futex.h>
 #include <pthread.h>
 #include <stdatomic.h>
 #include <stdlib.h>
 #include <string.h>
+#include <sys/syscall.h>
+#include <unistd.h>
 
 enum kind { EVENT, SEMAPHORE, MUTEX, TIMER, THREAD };
-enum { MOST_OBJECTS = 65536, NOBODY = -1 };
+enum { MOST_OBJECTS = 65536, NOBODY = -1, WOKEN_LATER = 64 };
 #define NOWHERE UINT32_MAX
 
-struct block { struct block *next, *previous; uint32_t thread, object; };
+/* How often a thread looks at its word before it sleeps: half as often where that was in vain, and again in 2 of so many waits. */
+enum { LOOKS = 1000, TRIES = 2, WAITS_A_TRY = 4096 };
 
+/* What a thread's word says: the status of its wait that ended, or that it pends and its thread looks (PENDED) or sleeps. */
+enum { SLEEPS = -5 };
+
+struct block {
+    struct block *next, *previous;
+    uint32_t thread, object;
+};
+
+/* Any kind is signaled for a thread where `signal` is above 0 or the thread owns it: a semaphore's count; 1 of a free mutex, a set event. */
 struct object {
-    enum kind kind;
-    bool manual, set, mark;
-    int32_t count, maximum, owner;
+    int32_t signal, owner;
+    struct block *first, *last;
+    uint32_t stamp;         /* of the last wait that named it */
+    uint8_t kind;
+    bool manual, mark;
+    int32_t maximum;
     uint32_t depth;
     uint32_t next_owned, previous_owned;    /* in its owner's list */
-    uint32_t place;                         /* among the armed timers */
+    uint32_t place;         /* among the armed timers */
     uint64_t due, period;
-    struct block *first, *last;
 };
 
 struct thread {
-    pthread_cond_t granted;
+    _Atomic int word;
     bool pends, all, ended;
-    uint32_t count, first_owned;
-    _Atomic int status;
-    uint32_t handles[MOST_HANDLES];
+    uint32_t count, first_owned, looks;
     struct block blocks[MOST_HANDLES];
 };
 
 struct dispatcher {
     pthread_mutex_t lock;
     bool locked;
-    uint32_t threads, objects, room, armed, grants;
+    uint32_t threads, objects, room, armed, stamp, begun;
+    uint32_t wakes, woken[WOKEN_LATER];     /* the threads that sleep and whose waits the present call ended */
     struct object *object;
     struct thread *thread;
     uint32_t *timers;                       /* a heap by due moment, of the armed timers' numbers */
     uint32_t *freed;                        /* the mutexes that an exit frees */
-    uint32_t *granted;                      /* the threads whose waits the present call ended */
     uint64_t now;
     uint32_t pending;
-    struct entry *journal;
-    size_t entries, places;
+    struct row *journal;
+    size_t rows, places;
 };
+
+/* What is tested on each call, and mostly is not so. */
+#define rarely(it) __builtin_expect(!!(it), 0)
+#define INLINE static inline __attribute__((always_inline))
+#define APART static __attribute__((noinline))
 
 /* ---- the lock, and the threads to be woken */
 
-static void enter(struct dispatcher *d) {
+static void sleep_on(_Atomic int *word, int seen) { syscall(SYS_futex, word, FUTEX_WAIT_PRIVATE, seen, NULL, NULL, 0); }
+static void wake(_Atomic int *word) { syscall(SYS_futex, word, FUTEX_WAKE_PRIVATE, 1, NULL, NULL, 0); }
+
+INLINE void enter(struct dispatcher *d) {
     if (d->locked) pthread_mutex_lock(&d->lock);
-    d->grants = 0;
 }
 
-/* Gives the lock back, and then wakes the threads whose waits ended. */
-static void leave(struct dispatcher *d) {
-    if (!d->locked) return;
-    uint32_t grants = d->grants, few[MOST_HANDLES], *woken = few;
-    if (grants > MOST_HANDLES) {
-        for (uint32_t i = 0; i < grants; i++) pthread_cond_signal(&d->thread[d->granted[i]].granted);
-        grants = 0;
-    } else {
-        memcpy(few, d->granted, grants * sizeof *few);
-    }
+APART void leave_and_wake(struct dispatcher *d) {
+    uint32_t wakes = d->wakes, woken[WOKEN_LATER];
+    memcpy(woken, d->woken, wakes * sizeof *woken);
+    d->wakes = 0;
     pthread_mutex_unlock(&d->lock);
-    for (uint32_t i = 0; i < grants; i++) pthread_cond_signal(&d->thread[woken[i]].granted);
+    for (uint32_t i = 0; i < wakes; i++) wake(&d->thread[woken[i]].word);
+}
+
+/* Gives the lock back, and then wakes those who sleep and whose waits ended. */
+INLINE void leave(struct dispatcher *d) {
+    if (!d->locked) return;
+    if (rarely(d->wakes)) leave_and_wake(d);
+    else pthread_mutex_unlock(&d->lock);
 }
 
 /* ---- the journal */
 
-static bool is_full(const struct dispatcher *d) {
-    return d->places && d->entries + 1 + d->pending > d->places;
+/* Whether it has no room for so many rows and one for the end of each wait that pends. */
+INLINE bool is_full(const struct dispatcher *d, uint32_t rows) { return rarely(d->places && d->rows + rows + d->pending > d->places); }
+
+INLINE struct row *write_row(struct dispatcher *d, enum call call, uint32_t who, uint32_t object, int32_t count, int32_t answer, uint64_t moment) {
+    if (!d->places) return NULL;
+    struct row *row = &d->journal[d->rows++];
+    *row = (struct row){(uint8_t)call, false, false, (uint16_t)who, object, count, answer, moment};
+    return row;
 }
 
-static struct entry *write_entry(struct dispatcher *d, enum call call, uint32_t who, uint32_t object, int32_t count, int32_t answer) {
-    if (!d->places) return NULL;
-    struct entry *e = &d->journal[d->entries++];
-    e->call = (uint8_t)call;
-    e->who = (uint16_t)who;
-    e->object = object;
-    e->count = count;
-    e->answer = answer;
-    return e;
-}
+static uint32_t rows_of(uint32_t handles) { return (handles + HANDLES_A_ROW - 1) / HANDLES_A_ROW; }
 
 /* ---- what an object of each kind answers */
 
-static bool signaled(const struct object *o, uint32_t t) {
-    switch (o->kind) {
-    case SEMAPHORE: return o->count > 0;
-    case MUTEX: return o->owner == NOBODY || o->owner == (int32_t)t;
-    default: return o->set;
-    }
-}
+INLINE bool signaled(const struct object *o, uint32_t t) { return o->signal > 0 || o->owner == (int32_t)t; }
 
-static void own(struct dispatcher *d, uint32_t h, uint32_t t) {
-    struct object *o = &d->object[h];
+static void own(struct dispatcher *d, struct object *o, uint32_t t) {
+    uint32_t h = (uint32_t)(o - d->object);
     struct thread *owner = &d->thread[t];
     o->owner = (int32_t)t;
+    o->signal = 0;
     o->previous_owned = NOWHERE;
     o->next_owned = owner->first_owned;
     if (owner->first_owned != NOWHERE) d->object[owner->first_owned].previous_owned = h;
     owner->first_owned = h;
 }
 
-static void disown(struct dispatcher *d, uint32_t h) {
-    struct object *o = &d->object[h];
+static void disown(struct dispatcher *d, struct object *o) {
     if (o->previous_owned != NOWHERE) d->object[o->previous_owned].next_owned = o->next_owned;
     else d->thread[o->owner].first_owned = o->next_owned;
     if (o->next_owned != NOWHERE) d->object[o->next_owned].previous_owned = o->previous_owned;
     o->owner = NOBODY;
+    o->signal = 1;
     o->depth = 0;
 }
 
-static void take(struct dispatcher *d, uint32_t h, uint32_t t) {
-    struct object *o = &d->object[h];
+INLINE void take(struct dispatcher *d, struct object *o, uint32_t t) {
     switch (o->kind) {
-    case EVENT: case TIMER: if (!o->manual) o->set = false; break;
-    case SEMAPHORE: o->count--; break;
-    case MUTEX: if (o->owner == NOBODY) own(d, h, t); o->depth++; o->mark = false; break;
+    case EVENT: case TIMER: if (!o->manual) o->signal = 0; break;
+    case SEMAPHORE: o->signal--; break;
+    case MUTEX: if (o->owner == NOBODY) own(d, o, t); o->depth++; o->mark = false; break;
     case THREAD: break;
     }
 }
 
-/* The status of a wait that its objects satisfy, which it then takes; or PENDED. */
-static int try_wait(struct dispatcher *d, uint32_t t, const uint32_t *handles, uint32_t count, bool all) {
-    if (!all) {
-        for (uint32_t i = 0; i < count; i++) {
-            const struct object *o = &d->object[handles[i]];
-            if (!signaled(o, t)) continue;
-            int status = (int)i + (o->mark ? 0x80 : 0);
-            take(d, handles[i], t);
-            return status;
+/* Takes this object for a wait of which it is the one with this index; the status of the wait. */
+INLINE int take_at(struct dispatcher *d, struct object *o, uint32_t t, uint32_t index) {
+    int status = (int)index + (o->mark ? 0x80 : 0);
+    take(d, o, t);
+    return status;
+}
+
+/* The status of a pending wait that its objects satisfy, which it then takes; or PENDED. */
+static int try_blocks(struct dispatcher *d, uint32_t t, const struct thread *w) {
+    if (!w->all) {
+        for (uint32_t i = 0; i < w->count; i++) {
+            struct object *o = &d->object[w->blocks[i].object];
+            if (signaled(o, t)) return take_at(d, o, t, i);
         }
         return PENDED;
     }
     bool mark = false;
-    for (uint32_t i = 0; i < count; i++) {
-        if (!signaled(&d->object[handles[i]], t)) return PENDED;
-        mark |= d->object[handles[i]].mark;
+    for (uint32_t i = 0; i < w->count; i++) {
+        const struct object *o = &d->object[w->blocks[i].object];
+        if (!signaled(o, t)) return PENDED;
+        mark |= o->mark;
     }
-    for (uint32_t i = 0; i < count; i++) take(d, handles[i], t);
+    for (uint32_t i = 0; i < w->count; i++) take(d, &d->object[w->blocks[i].object], t);
     return mark ? 0x80 : 0;
 }
 
 /* ---- pending waits */
 
-static void link_blocks(struct dispatcher *d, uint32_t t, const uint32_t *handles, uint32_t count, bool all) {
+INLINE void link_blocks(struct dispatcher *d, uint32_t t, const uint32_t *handles, uint32_t count, bool all) {
     struct thread *w = &d->thread[t];
     w->count = count;
     w->all = all;
     w->pends = true;
-    atomic_store_explicit(&w->status, PENDED, memory_order_relaxed);
-    memcpy(w->handles, handles, count * sizeof *handles);
+    atomic_store_explicit(&w->word, PENDED, memory_order_relaxed);
     for (uint32_t i = 0; i < count; i++) {
         struct block *b = &w->blocks[i];
         struct object *o = &d->object[handles[i]];
@@ -162,32 +179,36 @@ static void link_blocks(struct dispatcher *d, uint32_t t, const uint32_t *handle
     d->pending++;
 }
 
-static void end_wait(struct dispatcher *d, uint32_t t, int status) {
-    struct thread *w = &d->thread[t];
-    for (uint32_t i = 0; i < w->count; i++) {
-        struct block *b = &w->blocks[i];
-        struct object *o = &d->object[b->object];
-        if (b->previous) b->previous->next = b->next; else o->first = b->next;
-        if (b->next) b->next->previous = b->previous; else o->last = b->previous;
-    }
-    w->pends = false;
-    d->pending--;
-    d->granted[d->grants++] = t;
-    write_entry(d, GRANT, t, 0, 0, status);
-    atomic_store_explicit(&w->status, status, memory_order_release);
+INLINE void unlink_block(struct dispatcher *d, struct block *b) {
+    struct object *o = &d->object[b->object];
+    if (b->previous) b->previous->next = b->next; else o->first = b->next;
+    if (b->next) b->next->previous = b->previous; else o->last = b->previous;
 }
 
-/* Grants the waits on this object that fit, from the oldest on, as long as it is signaled for anybody. */
-static void serve(struct dispatcher *d, uint32_t h) {
-    for (struct block *b = d->object[h].first, *next; b; b = next) {
+static void end_wait(struct dispatcher *d, uint32_t t, int status) {
+    struct thread *w = &d->thread[t];
+    for (uint32_t i = 0; i < w->count; i++) unlink_block(d, &w->blocks[i]);
+    w->pends = false;
+    d->pending--;
+    write_row(d, GRANT, t, 0, 0, status, 0);
+    if (atomic_exchange_explicit(&w->word, status, memory_order_acq_rel) != SLEEPS) return;
+    if (d->wakes < WOKEN_LATER) d->woken[d->wakes++] = t;
+    else wake(&w->word);
+}
+
+/* Grants the waits on this object that fit, from the oldest on, as long as it is signaled for somebody. */
+APART void serve(struct dispatcher *d, struct object *o) {
+    for (struct block *b = o->first, *next; b && signaled(o, b->thread); b = next) {
         next = b->next;
         uint32_t t = b->thread;
-        struct thread *w = &d->thread[t];
-        int status = try_wait(d, t, w->handles, w->count, w->all);
+        const struct thread *w = &d->thread[t];
+        int status = w->count == 1 ? take_at(d, o, t, 0) : try_blocks(d, t, w);
         if (status != PENDED) end_wait(d, t, status);
-        const struct object *o = &d->object[h];
-        if (o->kind == MUTEX ? o->owner != NOBODY : !signaled(o, 0)) break;
     }
+}
+
+INLINE void served(struct dispatcher *d, struct object *o) {
+    if (o->first) serve(d, o);
 }
 
 /* ---- armed timers */
@@ -217,189 +238,242 @@ static void arm(struct dispatcher *d, uint32_t h) {
     sift(d, d->armed - 1);
 }
 
-/* ---- calls */
+/* ---- calls: the row of a call comes before those of the waits that it ends */
 
-static bool is_caller(const struct dispatcher *d, uint32_t who) { return who < d->threads && !d->thread[who].pends && !d->thread[who].ended; }
-static bool is(const struct dispatcher *d, uint32_t h, enum kind kind) { return h < d->objects && d->object[h].kind == kind; }
+INLINE bool is_caller(const struct dispatcher *d, uint32_t who) { return who < d->threads && !d->thread[who].pends && !d->thread[who].ended; }
+INLINE bool is(const struct dispatcher *d, uint32_t h, enum kind kind) { return h < d->objects && d->object[h].kind == kind; }
+
+/* Gives the lock back after a call that the journal has no room for. */
+APART int full(struct dispatcher *d) { leave(d); return FULL; }
+
+static bool has_room(struct dispatcher *d) {
+    if (d->objects < d->room) return true;
+    struct object *object = realloc(d->object, 2 * d->room * sizeof *object);
+    if (object) d->object = object;
+    uint32_t *timers = realloc(d->timers, 2 * d->room * sizeof *timers);
+    if (timers) d->timers = timers;
+    uint32_t *freed = realloc(d->freed, 2 * d->room * sizeof *freed);
+    if (freed) d->freed = freed;
+    if (object && timers && freed) d->room *= 2;
+    return object && timers && freed;
+}
 
 static int create(struct dispatcher *d, uint32_t who, struct object made) {
     enter(d);
-    int answer = FULL;
-    if (!is_full(d)) {
-        answer = REFUSED;
-        if (is_caller(d, who) && d->objects < MOST_OBJECTS) {
-            if (d->objects == d->room) {
-                struct object *object = realloc(d->object, 2 * d->room * sizeof *object);
-                if (object) d->object = object;
-                uint32_t *timers = realloc(d->timers, 2 * d->room * sizeof *timers);
-                if (timers) d->timers = timers;
-                uint32_t *freed = realloc(d->freed, 2 * d->room * sizeof *freed);
-                if (freed) d->freed = freed;
-                if (object && timers && freed) d->room *= 2;
-            }
-            answer = MEMORY;
-            if (d->objects < d->room) {
-                made.owner = NOBODY;
-                made.place = NOWHERE;
-                d->object[d->objects] = made;
-                answer = (int)d->objects++;
-            }
+    if (is_full(d, 1)) return full(d);
+    int answer = REFUSED;
+    if (is_caller(d, who) && d->objects < MOST_OBJECTS) {
+        answer = MEMORY;
+        if (has_room(d)) {
+            made.owner = NOBODY;
+            made.place = NOWHERE;
+            d->object[d->objects] = made;
+            answer = (int)d->objects++;
         }
-        write_entry(d, CREATE, who, made.kind, made.maximum, answer);
     }
+    write_row(d, CREATE, who, made.kind, made.maximum, answer, 0);
     leave(d);
     return answer;
 }
 
 int create_event(struct dispatcher *d, uint32_t who, bool manual) { return create(d, who, (struct object){.kind = EVENT, .manual = manual}); }
-int create_mutex(struct dispatcher *d, uint32_t who) { return create(d, who, (struct object){.kind = MUTEX}); }
+int create_mutex(struct dispatcher *d, uint32_t who) { return create(d, who, (struct object){.kind = MUTEX, .signal = 1}); }
 int create_timer(struct dispatcher *d, uint32_t who, bool manual) { return create(d, who, (struct object){.kind = TIMER, .manual = manual}); }
 int create_semaphore(struct dispatcher *d, uint32_t who, int32_t count, int32_t maximum) {
     if (maximum <= 0 || count < 0 || count > maximum) return REFUSED;
-    return create(d, who, (struct object){.kind = SEMAPHORE, .count = count, .maximum = maximum});
+    return create(d, who, (struct object){.kind = SEMAPHORE, .signal = count, .maximum = maximum});
 }
 
-/* The entry of a call comes before those of the grants that it makes, so it is written first and then given its answer. */
-static int signal_object(struct dispatcher *d, enum call call, uint32_t who, uint32_t h, int32_t count) {
+int set_event(struct dispatcher *d, uint32_t who, uint32_t event) {
     enter(d);
-    if (is_full(d)) { leave(d); return FULL; }
-    struct entry *e = write_entry(d, call, who, h, count, REFUSED);
-    enum kind kind = call == RELEASE ? SEMAPHORE : call == UNLOCK ? MUTEX : EVENT;
-    int answer = REFUSED;
-    if (is_caller(d, who) && is(d, h, kind)) {
-        struct object *o = &d->object[h];
-        bool changed = false;
-        switch (call) {
-        case SET: answer = DONE; changed = !o->set; o->set = true; break;
-        case RESET: answer = DONE; o->set = false; break;
-        case RELEASE:
-            if (count <= 0 || (int64_t)o->count + count > o->maximum) break;
-            answer = o->count; changed = true; o->count += count; break;
-        default:
-            if (o->owner != (int32_t)who) break;
-            answer = DONE;
-            if (--o->depth == 0) { disown(d, h); changed = true; }
-            break;
-        }
-        if (e) e->answer = answer;
-        if (changed && o->first) serve(d, h);
-    }
+    if (is_full(d, 1)) return full(d);
+    bool may = is_caller(d, who) && is(d, event, EVENT);
+    write_row(d, SET, who, event, 0, may ? DONE : REFUSED, 0);
+    if (may && !d->object[event].signal) { d->object[event].signal = 1; served(d, &d->object[event]); }
+    leave(d);
+    return may ? DONE : REFUSED;
+}
+
+int reset_event(struct dispatcher *d, uint32_t who, uint32_t event) {
+    enter(d);
+    if (is_full(d, 1)) return full(d);
+    bool may = is_caller(d, who) && is(d, event, EVENT);
+    write_row(d, RESET, who, event, 0, may ? DONE : REFUSED, 0);
+    if (may) d->object[event].signal = 0;
+    leave(d);
+    return may ? DONE : REFUSED;
+}
+
+int release_semaphore(struct dispatcher *d, uint32_t who, uint32_t semaphore, int32_t count) {
+    enter(d);
+    if (is_full(d, 1)) return full(d);
+    struct object *o = &d->object[semaphore];
+    bool may = is_caller(d, who) && is(d, semaphore, SEMAPHORE) && count > 0 && count <= o->maximum - o->signal;
+    int answer = may ? o->signal : REFUSED;
+    write_row(d, RELEASE, who, semaphore, count, answer, 0);
+    if (may) { o->signal += count; served(d, o); }
     leave(d);
     return answer;
 }
 
-int set_event(struct dispatcher *d, uint32_t who, uint32_t event) { return signal_object(d, SET, who, event, 0); }
-int reset_event(struct dispatcher *d, uint32_t who, uint32_t event) { return signal_object(d, RESET, who, event, 0); }
-int release_semaphore(struct dispatcher *d, uint32_t who, uint32_t semaphore, int32_t count) { return signal_object(d, RELEASE, who, semaphore, count); }
-int release_mutex(struct dispatcher *d, uint32_t who, uint32_t mutex) { return signal_object(d, UNLOCK, who, mutex, 0); }
+int release_mutex(struct dispatcher *d, uint32_t who, uint32_t mutex) {
+    enter(d);
+    if (is_full(d, 1)) return full(d);
+    struct object *o = &d->object[mutex];
+    bool may = is_caller(d, who) && is(d, mutex, MUTEX) && o->owner == (int32_t)who;
+    write_row(d, UNLOCK, who, mutex, 0, may ? DONE : REFUSED, 0);
+    if (may && --o->depth == 0) { disown(d, o); served(d, o); }
+    leave(d);
+    return may ? DONE : REFUSED;
+}
 
 int arm_timer(struct dispatcher *d, uint32_t who, uint32_t timer, uint64_t due, uint64_t period) {
     enter(d);
-    if (is_full(d)) { leave(d); return FULL; }
-    int answer = REFUSED;
-    if (is_caller(d, who) && is(d, timer, TIMER) && due > d->now) {
+    if (is_full(d, 1)) return full(d);
+    bool may = is_caller(d, who) && is(d, timer, TIMER) && due > d->now;
+    if (may) {
         struct object *o = &d->object[timer];
         if (o->place != NOWHERE) disarm(d, timer);
-        o->set = false;
+        o->signal = 0;
         o->due = due;
         o->period = period;
         arm(d, timer);
-        answer = DONE;
     }
-    struct entry *e = write_entry(d, ARM, who, timer, 0, answer);
-    if (e) e->moment = due;
+    write_row(d, ARM, who, timer, 0, may ? DONE : REFUSED, due);
     leave(d);
-    return answer;
+    return may ? DONE : REFUSED;
 }
 
 int tick(struct dispatcher *d, uint32_t who, uint64_t moment) {
     enter(d);
-    if (is_full(d)) { leave(d); return FULL; }
-    int answer = moment < d->now ? REFUSED : DONE;
-    struct entry *e = write_entry(d, TICK, who, 0, 0, answer);
-    if (e) e->moment = moment;
-    if (answer == DONE) {
-        d->now = moment;
-        while (d->armed && d->object[d->timers[0]].due <= moment) {
-            uint32_t h = d->timers[0];
-            struct object *o = &d->object[h];
-            bool changed = !o->set;
-            o->set = true;
-            if (o->period) { o->due += (moment - o->due) / o->period * o->period + o->period; sift(d, 0); }
-            else disarm(d, h);
-            if (changed && o->first) serve(d, h);
-        }
+    if (is_full(d, 1)) return full(d);
+    bool may = moment >= d->now;
+    write_row(d, TICK, who, 0, 0, may ? DONE : REFUSED, moment);
+    if (may) d->now = moment;
+    while (may && d->armed && d->object[d->timers[0]].due <= moment) {
+        uint32_t h = d->timers[0];
+        struct object *o = &d->object[h];
+        bool was_set = o->signal;
+        o->signal = 1;
+        if (o->period) { o->due += (moment - o->due) / o->period * o->period + o->period; sift(d, 0); }
+        else disarm(d, h);
+        if (!was_set) served(d, o);
     }
     leave(d);
-    return answer;
+    return may ? DONE : REFUSED;
 }
 
 int exit_thread(struct dispatcher *d, uint32_t who) {
     enter(d);
-    if (is_full(d)) { leave(d); return FULL; }
-    int answer = is_caller(d, who) ? DONE : REFUSED;
-    write_entry(d, EXIT, who, 0, 0, answer);
-    if (answer == DONE) {
+    if (is_full(d, 1)) return full(d);
+    bool may = is_caller(d, who);
+    write_row(d, EXIT, who, 0, 0, may ? DONE : REFUSED, 0);
+    if (may) {
         uint32_t count = 0;
         d->thread[who].ended = true;
-        d->object[who].set = true;
+        d->object[who].signal = 1;
         for (uint32_t h = d->thread[who].first_owned, next; h != NOWHERE; h = next) {
             next = d->object[h].next_owned;
-            disown(d, h);
+            disown(d, &d->object[h]);
             d->object[h].mark = true;
             d->freed[count++] = h;
         }
-        serve(d, who);
-        for (uint32_t i = 0; i < count; i++) serve(d, d->freed[i]);
+        served(d, &d->object[who]);
+        for (uint32_t i = 0; i < count; i++) served(d, &d->object[d->freed[i]]);
     }
+    leave(d);
+    return may ? DONE : REFUSED;
+}
+
+/* ---- waits */
+
+/* Looks at the thread's word for a while, and then sleeps on it, until its wait has ended. */
+APART int sleep_until_granted(struct thread *w, bool tries) {
+    uint32_t looks = tries ? LOOKS : w->looks;
+    int status = PENDED;
+    for (uint32_t i = 0; i < looks; i++) {
+        if ((status = atomic_load_explicit(&w->word, memory_order_acquire)) != PENDED) { w->looks = LOOKS; return status; }
+        __builtin_ia32_pause();
+    }
+    if (looks) w->looks /= 2;
+    if (!atomic_compare_exchange_strong_explicit(&w->word, &status, SLEEPS, memory_order_acq_rel, memory_order_acquire)) return status;
+    while ((status = atomic_load_explicit(&w->word, memory_order_acquire)) == SLEEPS) sleep_on(&w->word, SLEEPS);
+    return status;
+}
+
+/* The wait pends from now on, and where the caller sleeps it does so until that has ended. */
+APART int pend(struct dispatcher *d, uint32_t who, const uint32_t *handles, uint32_t count, bool all, bool sleeps) {
+    if (count == 1) link_blocks(d, who, handles, 1, false);
+    else link_blocks(d, who, handles, count, all);
+    bool tries = d->begun++ % WAITS_A_TRY < TRIES;
+    leave(d);
+    return sleeps && d->locked ? sleep_until_granted(&d->thread[who], tries) : PENDED;
+}
+
+static int wait_for_one(struct dispatcher *d, uint32_t who, const uint32_t *handle, uint32_t ms, bool sleeps) {
+    enter(d);
+    if (is_full(d, 1)) return full(d);
+    struct object *o = &d->object[*handle];
+    int answer = REFUSED;
+    if (is_caller(d, who) && *handle < d->objects) answer = signaled(o, who) ? take_at(d, o, who, 0) : ms == 0 ? TIMEOUT : PENDED;
+    write_row(d, WAIT, who, *handle, (int32_t)ms, answer, 0);
+    if (answer == PENDED) return pend(d, who, handle, 1, false, sleeps);
     leave(d);
     return answer;
 }
 
-/* Whether the wait names up to 64 objects that are there, none twice. */
-static bool is_lawful(const struct dispatcher *d, const uint32_t *handles, uint32_t count) {
-    if (count == 0 || count > MOST_HANDLES) return false;
-    for (uint32_t i = 0; i < count; i++) {
-        if (handles[i] >= d->objects) return false;
-        for (uint32_t j = i + 1; j < count; j++) if (handles[i] == handles[j]) return false;
+/* Whether the wait names objects that are there, none twice. On the way it finds the first that is signaled, and how many are. */
+static bool look_at(struct dispatcher *d, uint32_t who, const uint32_t *handles, uint32_t count, uint32_t *first, uint32_t *ready, bool *mark) {
+    uint32_t stamp = ++d->stamp;
+    for (uint32_t i = count; i-- > 0;) {
+        struct object *o = &d->object[handles[i]];
+        if (handles[i] >= d->objects || o->stamp == stamp) return false;
+        o->stamp = stamp;
+        if (signaled(o, who)) { *first = i; ++*ready; *mark |= o->mark; }
     }
     return true;
 }
 
-/* The handles as the caller named them, in the entry or, where they are many, beside it. */
-static void keep_handles(struct entry *e, const uint32_t *handles, uint32_t count, uint32_t *more) {
-    e->more = more;
-    memcpy(more ? more : e->handles, handles, count * sizeof *handles);
-}
-
-int wait_objects(struct dispatcher *d, uint32_t who, const uint32_t *handles, uint32_t count, bool all, uint32_t ms, bool sleeps) {
-    uint32_t *more = NULL;
-    if (d->places && count > INLINE_HANDLES && count <= MOST_HANDLES && !(more = malloc(count * sizeof *more))) return MEMORY;
+static int wait_for_several(struct dispatcher *d, uint32_t who, const uint32_t *handles, uint32_t count, bool all, uint32_t ms, bool sleeps) {
+    uint32_t rows = rows_of(count), first = 0, ready = 0;
+    bool mark = false;
     enter(d);
-    if (is_full(d)) { leave(d); free(more); return FULL; }
+    if (is_full(d, 1 + rows)) return full(d);
     int answer = REFUSED;
-    if (is_caller(d, who) && is_lawful(d, handles, count)) {
-        answer = try_wait(d, who, handles, count, all);
-        if (answer == PENDED && ms == 0) answer = TIMEOUT;
-        if (answer == PENDED) link_blocks(d, who, handles, count, all);
+    if (is_caller(d, who) && look_at(d, who, handles, count, &first, &ready, &mark)) {
+        answer = ms == 0 ? TIMEOUT : PENDED;
+        if (!all && ready) {
+            answer = take_at(d, &d->object[handles[first]], who, first);
+        } else if (all && ready == count) {
+            for (uint32_t i = 0; i < count; i++) take(d, &d->object[handles[i]], who);
+            answer = mark ? 0x80 : 0;
+        }
     }
-    struct entry *e = write_entry(d, WAIT, who, count, (int32_t)ms, answer);
-    if (e) { e->all = all; keep_handles(e, handles, count <= MOST_HANDLES ? count : 0, more); }
-    if (answer == PENDED && sleeps && d->locked) {
-        while (d->thread[who].pends) pthread_cond_wait(&d->thread[who].granted, &d->lock);
-        answer = d->thread[who].status;
-        pthread_mutex_unlock(&d->lock);
-        return answer;
+    struct row *row = write_row(d, WAIT, who, count, (int32_t)ms, answer, 0);
+    if (row) {
+        row->all = all;
+        row->several = true;
+        memcpy(row + 1, handles, count * sizeof *handles);
+        d->rows += rows;
     }
+    if (answer == PENDED) return pend(d, who, handles, count, all, sleeps);
     leave(d);
     return answer;
 }
 
-int poll_wait(struct dispatcher *d, uint32_t who) { return atomic_load_explicit(&d->thread[who].status, memory_order_acquire); }
+int wait_objects(struct dispatcher *d, uint32_t who, const uint32_t *handles, uint32_t count, bool all, uint32_t ms, bool sleeps) {
+    if (count == 1) return wait_for_one(d, who, handles, ms, sleeps);
+    return count == 0 || count > MOST_HANDLES ? REFUSED : wait_for_several(d, who, handles, count, all, ms, sleeps);
+}
+
+int poll_wait(struct dispatcher *d, uint32_t who) {
+    int status = atomic_load_explicit(&d->thread[who].word, memory_order_acquire);
+    return status == SLEEPS ? PENDED : status;
+}
 
 /* ---- opening and closing */
 
-struct dispatcher *open_dispatcher(uint32_t threads, size_t room, bool locked) {
+struct dispatcher *open_dispatcher(uint32_t threads, size_t rows, bool locked) {
     struct dispatcher *d = calloc(1, sizeof *d);
     if (!d) return NULL;
     pthread_mutex_init(&d->lock, NULL);
@@ -410,22 +484,28 @@ struct dispatcher *open_dispatcher(uint32_t threads, size_t room, bool locked) {
     d->timers = calloc(d->room, sizeof *d->timers);
     d->freed = calloc(d->room, sizeof *d->freed);
     d->thread = calloc(threads, sizeof *d->thread);
-    d->granted = calloc(threads, sizeof *d->granted);
-    d->places = room;
-    d->journal = room ? malloc(room * sizeof *d->journal) : NULL;
-    if (!d->object || !d->timers || !d->freed || !d->thread || !d->granted || (room && !d->journal)) { close_dispatcher(d); return NULL; }
+    d->places = rows;
+    d->journal = rows ? malloc(rows * sizeof *d->journal) : NULL;
+    if (!d->object || !d->timers || !d->freed || !d->thread || (rows && !d->journal)) { close_dispatcher(d); return NULL; }
     for (uint32_t t = 0; t < threads; t++) {
         d->object[t] = (struct object){.kind = THREAD, .owner = NOBODY, .place = NOWHERE};
-        pthread_cond_init(&d->thread[t].granted, NULL);
         d->thread[t].first_owned = NOWHERE;
+        d->thread[t].looks = LOOKS;
     }
     return d;
 }
 
 void close_dispatcher(struct dispatcher *d) {
-    for (size_t i = 0; i < d->entries; i++) if (d->journal[i].call == WAIT) free(d->journal[i].more);
-    free(d->object); free(d->timers); free(d->freed); free(d->thread); free(d->granted); free(d->journal);
+    free(d->object); free(d->timers); free(d->freed); free(d->thread); free(d->journal);
     free(d);
 }
 
-const struct entry *journal_of(const struct dispatcher *d, size_t *entries) { *entries = d->entries; return d->journal; }
+uint64_t count_releases(const struct dispatcher *d) {
+    uint64_t count = 0;
+    for (size_t at = 0; at < d->rows; at++) {
+        const struct row *row = &d->journal[at];
+        count += row->call == RELEASE && row->answer >= 0;
+        if (row->several) at += rows_of(row->object);
+    }
+    return count;
+}

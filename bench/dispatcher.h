@@ -1,37 +1,42 @@
-/* A dispatcher written by hand in plain C, as a peer for the front: real threads, one lock, one condition variable for each
-   thread, first-come hand-over, and a journal. It has events, semaphores, mutexes, timers and thread objects, waits for any or
-   for all of up to 64 of them without a timeout or with 0, and ticks. It has no APCs, no deadlines, no swap and no pulse, and
-   proves nothing. Objects are named by number: those of the threads come first. */
+/* A dispatcher written by hand in plain C, as a peer for the front and for the library for C programs: real threads, one lock, hand-over
+   in order, a word for each thread on which it sleeps, and a journal. It has what a call needs to be judged: callers, kinds, counts,
+   owners, no object named twice.
+
+   It has events, semaphores, mutexes, timers and thread objects, waits for any or for all of up to 64 of them without a timeout or with
+   0, ticks, and exits that abandon mutexes. It lacks handles with rights, closing, APCs, deadlines, swap and pulse, and proves nothing.
+   Objects are named by number: those of the threads come first. */
 #ifndef DISPATCHER_H
 #define DISPATCHER_H
 #include <stdbool.h>
 #include <stddef.h>
 #include <stdint.h>
 
-enum { MOST_HANDLES = 64, INLINE_HANDLES = 8 };
+enum { MOST_HANDLES = 64 };
 enum { DONE = 0, TIMEOUT = 0x102, PENDED = -1, REFUSED = -2, FULL = -3, MEMORY = -4 };
 #define INFINITE UINT32_MAX
 
 enum call { CREATE, SET, RESET, RELEASE, UNLOCK, ARM, WAIT, EXIT, TICK, GRANT };
 
-/* One entry of the journal: what was called, or which wait was granted, and the answer. */
-struct entry {
+/* One row of the journal: what was called, or which wait was granted, and the answer. A wait for several objects has their numbers in
+   the rows after it, so many a row. `object` is what the call names; of a creation the kind, and of a wait for several, their count. */
+struct row {
     uint8_t call;
-    bool all;
+    bool all, several;
     uint16_t who;
     uint32_t object;
     int32_t count, answer;
     uint64_t moment;
-    uint32_t handles[INLINE_HANDLES];
-    uint32_t *more;
 };
+enum { HANDLES_A_ROW = sizeof(struct row) / sizeof(uint32_t), MOST_ROWS = 1 + (MOST_HANDLES + HANDLES_A_ROW - 1) / HANDLES_A_ROW };
 
 struct dispatcher;
 
-/* A dispatcher of so many threads; without a journal where room is 0, without a lock where it is for one caller. */
-struct dispatcher *open_dispatcher(uint32_t threads, size_t room, bool locked);
+/* A dispatcher of so many threads; without a journal where it has room for 0 rows, without a lock where it is for one caller. */
+struct dispatcher *open_dispatcher(uint32_t threads, size_t rows, bool locked);
 void close_dispatcher(struct dispatcher *d);
-const struct entry *journal_of(const struct dispatcher *d, size_t *entries);
+
+/* How many releases of semaphores the journal has that were accepted. */
+uint64_t count_releases(const struct dispatcher *d);
 
 int create_event(struct dispatcher *d, uint32_t who, bool manual);
 int create_semaphore(struct dispatcher *d, uint32_t who, int32_t count, int32_t maximum);

@@ -29,10 +29,10 @@ static uint64_t now(void) {
 /* What a shape was given, and what it made. */
 struct run { uint32_t size; uint64_t rounds, calls, grants, nanos; };
 
-/* A dispatcher of so many threads, or of a crowd: then with objects that no call touches. The journal has room for all. */
-static struct dispatcher *stage(uint32_t threads, bool crowd, size_t entries, bool journal, bool locked) {
+/* A dispatcher of so many threads, or of a crowd: then with objects that no call touches. The journal has room for so many rows, and more. */
+static struct dispatcher *stage(uint32_t threads, bool crowd, size_t rows, bool journal, bool locked) {
     uint32_t all = crowd ? CROWD_THREADS : threads;
-    struct dispatcher *d = some(open_dispatcher(all, journal ? entries + CROWD_OBJECTS + 1000 : 0, locked));
+    struct dispatcher *d = some(open_dispatcher(all, journal ? rows + CROWD_OBJECTS + 1000 : 0, locked));
     for (uint32_t i = 0; crowd && i < CROWD_OBJECTS; i++) wants(create_event(d, 0, false) >= 0);
     return d;
 }
@@ -121,7 +121,7 @@ static void semaphore(struct run *r) {
 
 /* A wait for any of 64 objects, none of which is signaled. */
 static void any_of_64(struct run *r) {
-    struct dispatcher *d = stage(1, r->size > 1, r->rounds, true, true);
+    struct dispatcher *d = stage(1, r->size > 1, MOST_ROWS * r->rounds, true, true);
     uint32_t handles[MOST_HANDLES];
     for (uint32_t i = 0; i < MOST_HANDLES; i++) handles[i] = (uint32_t)create_event(d, 0, false);
     uint64_t began = now();
@@ -133,7 +133,7 @@ static void any_of_64(struct run *r) {
 
 /* 64 threads wait for all of a common event and one of their own. One waits, its own is set, and then the common one. */
 static void one_of_64(struct run *r) {
-    struct dispatcher *d = stage(65, r->size > 1, 4 * r->rounds + 64, true, true);
+    struct dispatcher *d = stage(65, r->size > 1, 5 * r->rounds + 2 * 64, true, true);
     uint32_t common = (uint32_t)create_event(d, 0, false), own[65];
     for (uint32_t t = 1; t <= 64; t++) own[t] = (uint32_t)create_event(d, 0, false);
     for (uint32_t t = 1; t <= 64; t++) wants(wait_objects(d, t, (uint32_t[]){common, own[t]}, 2, true, INFINITE, false) == PENDED);
@@ -215,7 +215,7 @@ static void *work(void *it) {
 static void workers(struct run *r) {
     uint32_t n = r->size;
     uint64_t began = now();
-    struct dispatcher *d = some(open_dispatcher(n + 1, 7 + n * (4 * r->rounds + 3), true));
+    struct dispatcher *d = some(open_dispatcher(n + 1, 7 + MOST_ROWS + n * (4 * r->rounds + 3), true));
     uint32_t m = (uint32_t)create_mutex(d, 0), s = (uint32_t)create_semaphore(d, 0, 0, (int32_t)(n * r->rounds));
     uint32_t start = (uint32_t)create_event(d, 0, true), threads[MOST_HANDLES];
     struct worker worker[MOST_HANDLES];
@@ -229,9 +229,7 @@ static void workers(struct run *r) {
     wants(wait_objects(d, 0, threads, n, true, INFINITE, true) == 0);
     wants(exit_thread(d, 0) == DONE);
     for (uint32_t i = 0; i < n; i++) pthread_join(child[i], NULL);
-    size_t entries;
-    const struct entry *journal = journal_of(d, &entries);
-    for (size_t i = 0; i < entries; i++) r->grants += journal[i].call == RELEASE && journal[i].answer >= 0;
+    r->grants = count_releases(d);
     r->nanos = now() - began;
     wants(r->grants == n * r->rounds);
     r->calls = 3 * n * r->rounds;
