@@ -1,6 +1,6 @@
--- Over every run an object lives exactly while something keeps it.
+-- In a turn an object lives exactly while something keeps it.
 use Rattle.std.proofs.Common.{◌≡◌, ◌<◌, ℕ, zero, suc, Bool, true, false, not, ◌&&◌, ◌||◌, ◌==◌, List, [], ◌∷◌, length, refl, sym, ap, ◌∙◌, subst, arith, Option, Some, None, inl, inr, Contains}
-use Rattle.std.specs.Prelude.{◌↔◌, pos, nat_lt, map, replicate, slice_index}
+use Rattle.std.specs.Prelude.{pos, nat_lt, map, replicate, slice_index}
 use Rattle.std.specs.List.{list_any}
 use Rattle.std.specs.FinMap.{get}
 use Rattle.std.specs.declared.result.Result.TheVariants.{Ok, Err}
@@ -30,7 +30,7 @@ use Rattle.nt_laws.specs.Laws.{IsKept}
 use Rattle.nt_calls.specs.Refusals.{Cause, refusal, has_twice, is_unknown, is_no, is_foreign, is_at_limit, may_signal}
 use Rattle.nt_calls.specs.Change.{change}
 use Rattle.nt_calls.specs.Steps.{Made, wait_of}
-use Rattle.nt_calls.specs.Runs.{Turn, Calls, Ticks, IsTurn, Turns, Run}
+use Rattle.nt_calls.specs.Runs.{Turn, Calls, Ticks, IsTurn}
 use Rattle.nt_core.proofs.Accepting.{next_causes, free_caller, nothing_pends, object_at-replicate}
 use Rattle.nt_core.proofs.Judging.{undenied}
 use Rattle.nt_laws.proofs.Lasting.{step_lasts, moments_last}
@@ -198,19 +198,13 @@ ends_stand old new sound ends = (stands, living)
               living o ∙ second_of (is_opened new o) (is_awaited new o) (runs new o) (queue_there (new.queues o) t (listed t o w is named));
         }
 
--- ---- a run
+-- ---- a turn
 
 pub turn_stands : (old : State) (turn : Turn) (new : State) → Stands old → LivesWhileKept old → IsTurn old turn new → Stands new × LivesWhileKept new
 turn_stands old (Calls who call (Ok reply) grants) new sound living is = ends_stand is.0 new (made_stands old who call reply grants is.0 sound is.1) is.2
 turn_stands old (Calls who call (Err r) grants) new sound living is = subst (λ (s : State). Stands s × LivesWhileKept s) (sym is.2) (sound, living)
 turn_stands old (Ticks by m (Ok reply) grants) new sound living is = ends_stand is.2.1 new (moments_last Stands stands_last is.2.0 old m grants is.2.1 is.2.2 sound) is.2.3
 turn_stands old (Ticks by m (Err r) grants) new sound living is = subst (λ (s : State). Stands s × LivesWhileKept s) (sym is.3) (sound, living)
-
-turns_stand : (turns : List Turn) (old new : State) → Stands old → LivesWhileKept old → Turns old turns new → Stands new × LivesWhileKept new
-turns_stand [] old new sound living run = subst (λ (s : State). Stands s × LivesWhileKept s) (sym run) (sound, living)
-turns_stand (turn ∷ turns) old new sound living run =
-    let here = turn_stands old turn run.0 sound living run.1 in
-    turns_stand turns run.0 new here.0 here.1 run.2
 
 own_named : (n access h : ℕ) (opened : Opened) → opened_at (own_handles n access) h ≡ Some opened → opened.object < n
 own_named zero access h opened is = let no : None ≡ Some opened = is in (cc)
@@ -252,8 +246,3 @@ opening_living n o = go (lives (opening n) o) (is_kept (opening n) o) refl refl
     go true false p q = p ∙ sym (running p)
     go false true p q = kept_lives (opening n) (opening_stands n) o q ∙ sym q
     go false false p q = p ∙ sym q
-
-pub run_living : (n : ℕ) (turns : List Turn) (s : State) → Run n turns s → (o : ℕ) → (lives s o ≡ true) ↔ IsKept s o
-run_living n turns s run o =
-    let last = turns_stand turns (opening n) s (opening_stands n) (opening_living n) run in
-    (λ is. kept_by s o last.0 (sym (last.1 o) ∙ is), λ kept. last.1 o ∙ is_kept_by s o last.0 kept)

@@ -1,7 +1,6 @@
 -- What becomes of the handles in a turn: one more at most, one fewer at most, and all others stay.
-use Rattle.std.proofs.Common.{◌≡◌, ◌≤◌, ◌<◌, ℕ, zero, suc, ◌+◌, Bool, true, false, cond, ◌||◌, ◌==◌, List, [], ◌∷◌, ◌++◌, length, length-append, refl, sym, ap, ◌∙◌, subst, arith, Option, Some, None, inl, inr, ◌⊎◌}
+use Rattle.std.proofs.Common.{◌≡◌, ◌≤◌, ◌<◌, ℕ, zero, suc, ◌+◌, Bool, true, false, cond, ◌==◌, List, [], ◌∷◌, ◌++◌, length, length-append, refl, sym, ap, ◌∙◌, subst, arith, Option, Some, None, inl, inr, ◌⊎◌}
 use Rattle.std.specs.Prelude.{slice_set}
-use Rattle.std.specs.List.{list_any}
 use Rattle.std.specs.declared.result.Result.{Result}
 use Rattle.std.specs.declared.result.Result.TheVariants.{Ok, Err}
 use Rattle.std.specs.Int.RustNames.{bit_and}
@@ -24,7 +23,7 @@ use Rattle.nt_calls.specs.Steps.{Step, Called, Ticked}
 use Rattle.nt_calls.specs.Living.{Ends}
 use Rattle.nt_core.proofs.Remaining.{same_handles, same_count}
 use Rattle.nt_core.proofs.Listing.{same_yes, same_no}
-use Rattle.nt_calls.specs.Runs.{Turn, Calls, Ticks, IsTurn, Turns}
+use Rattle.nt_calls.specs.Runs.{Turn, Calls, Ticks, IsTurn}
 use Rattle.nt_laws.specs.Laws.{call_closes, turn_closes, HasRights}
 use Rattle.nt_laws.proofs.CallKinds.{IsCreated, IsDuplicated, IsSame, Kind, change_kind}
 use Rattle.nt_laws.proofs.Lasting.{Lasts, step_lasts, moments_last}
@@ -187,24 +186,6 @@ turn_stays old (Calls who call (Ok reply) grants) new enough is h below =
 turn_stays old (Calls who call (Err r) grants) new enough is h below = ap (λ (s : State). opened_at s.handles h) is.2
 turn_stays old (Ticks by m r grants) new enough is h below = ap (λ handles. opened_at handles h) (tick_numbers old m r grants new is).0
 
-pub closed_once : (a b : Bool) (o : Option Opened) → cond b None (cond a None o) ≡ cond (a || b) None o
-closed_once true true o = refl
-closed_once true false o = refl
-closed_once false b o = refl
-
-pub turns_stay : (turns : List Turn) (old new : State) → AreEnough old → Turns old turns new → (h : ℕ) → h < length old.handles → opened_at new.handles h ≡ cond (list_any (turn_closes h) turns) None (opened_at old.handles h)
-turns_stay [] old new enough run h below = ap (λ (s : State). opened_at s.handles h) run
-turns_stay (turn ∷ turns) old new enough run h below =
-    let more = turn_longer old turn run.0 enough run.1 in
-    let longer = more.0 in
-    turns_stay turns run.0 new more.2 run.2 h (omega (arith, below, longer))
-    ∙ (ap (λ o. cond (list_any (turn_closes h) turns) None o) (turn_stays old turn run.0 enough run.1 h below)
-    ∙ closed_once (turn_closes h turn) (list_any (turn_closes h) turns) (opened_at old.handles h))
-
-pub turns_enough : (turns : List Turn) (old new : State) → AreEnough old → Turns old turns new → AreEnough new
-turns_enough [] old new enough run = subst AreEnough (sym run) enough
-turns_enough (turn ∷ turns) old new enough run = turns_enough turns run.0 new (turn_longer old turn run.0 enough run.1).2 run.2
-
 -- the threads' own objects have their handles
 pub opening_enough : (n : ℕ) → AreEnough (opening n)
 opening_enough n =
@@ -250,10 +231,3 @@ turn_rights old (Calls who call (Ok reply) grants) new enough is o access below 
     (subst (λ handles. HasRights handles o access) (called_numbers old who call reply grants new is).0 has)
 turn_rights old (Calls who call (Err r) grants) new enough is o access below has = subst (λ (s : State). HasRights s.handles o access) is.2 has
 turn_rights old (Ticks by m r grants) new enough is o access below has = subst (λ handles. HasRights handles o access) (tick_numbers old m r grants new is).0 has
-
-pub turns_rights : (turns : List Turn) (old new : State) → AreEnough old → Turns old turns new → (o access : ℕ) → o < length old.objects → HasRights new.handles o access → HasRights old.handles o access
-turns_rights [] old new enough run o access below has = subst (λ (s : State). HasRights s.handles o access) run has
-turns_rights (turn ∷ turns) old new enough run o access below has =
-    let more = turn_longer old turn run.0 enough run.1 in
-    let longer = more.1 in
-    turn_rights old turn run.0 enough run.1 o access below (turns_rights turns run.0 new more.2 run.2 o access (omega (arith, below, longer)) has)

@@ -1,4 +1,4 @@
--- Steps, ticks and runs leave no choice.
+-- Steps and ticks leave no choice.
 use Rattle.std.proofs.Common.{Bool, ◌≡◌, ℕ, true, false, List, [], ◌∷◌, ◌++◌, refl, sym, ap, ◌∙◌, subst, arith, Option, Some, None, inl, inr, Contains}
 use Rattle.std.specs.Prelude.{map, IsTrue}
 use Rattle.std.specs.declared.result.Result.{Result}
@@ -20,7 +20,7 @@ use Rattle.nt_calls.specs.Rights.{is_denied}
 use Rattle.nt_calls.specs.Refusals.{refusal, grows, IsRefusal}
 use Rattle.nt_calls.specs.Living.{all_gone, Ends}
 use Rattle.nt_calls.specs.Steps.{Step, Called, after_serving, answered, MomentPasses, MomentsPass, IsNextMoment, NothingDue, Ticked}
-use Rattle.nt_calls.specs.Runs.{Turn, Calls, Ticks, IsTurn, Turns}
+use Rattle.nt_calls.specs.Runs.{Turn, Calls, Ticks, IsTurn}
 use Rattle.nt_laws.specs.Laws.{AsksCall, AsksTick, wants_memory, question}
 use Rattle.nt_laws.proofs.Unique.{serve_unique}
 
@@ -156,7 +156,7 @@ ticked_same old a b m (Ok r) (Err q) gs hs x y = let p = x.0 in let q = y.0 in a
 ticked_same old a b m (Err r) (Ok q) gs hs x y = let p = x.0 in let q = y.0 in absurd (omega (arith, p, q))
 ticked_same old a b m (Err r) (Err q) gs hs x y = (ap Err (x.1 ∙ sym y.1), x.2 ∙ sym y.2, x.3 ∙ sym y.3)
 
--- ---- a run
+-- ---- a turn
 
 pub turn_same : (old a b : State) (t u : Turn) → question t ≡ question u → IsTurn old t a → IsTurn old u b → (t ≡ u) × (a ≡ b)
 turn_same old a b (Calls who call r gs) (Calls who' call' r' hs) alike x y =
@@ -177,15 +177,3 @@ turn_same old a b (Ticks by m r gs) (Ticks by' m' r' hs) alike x y =
     let c : m ≡ m' = (cc) in
     let same = ticked_same old a b m' r r' gs hs (subst (λ z. Ticked old z r gs a) c x) y in
     (ap (λ z. Ticks z m r gs) w ∙ (ap (λ z. Ticks by' z r gs) c ∙ (ap (λ z. Ticks by' m' z gs) same.0 ∙ ap (λ z. Ticks by' m' r' z) same.1)), same.2)
-
-pub turns_same : (turns others : List Turn) (old a b : State) → map question turns ≡ map question others → Turns old turns a → Turns old others b → (turns ≡ others) × (a ≡ b)
-turns_same [] [] old a b alike x y = (refl, x ∙ sym y)
-turns_same [] (u ∷ us) old a b alike x y = let h : [] ≡ question u ∷ map question us = alike in (cc)
-turns_same (t ∷ ts) [] old a b alike x y = let h : question t ∷ map question ts ≡ [] = alike in (cc)
-turns_same (t ∷ ts) (u ∷ us) old a b alike x y =
-    let h : question t ∷ map question ts ≡ question u ∷ map question us = alike in
-    let first : question t ≡ question u = (cc) in
-    let more : map question ts ≡ map question us = (cc) in
-    let one = turn_same old x.0 y.0 t u first x.1 y.1 in
-    let rest = turns_same ts us y.0 a b more (subst (λ (s : State). Turns s ts a) one.1 x.2) y.2 in
-    (ap (λ z. z ∷ ts) one.0 ∙ ap (λ zs. u ∷ zs) rest.0, rest.1)

@@ -52,14 +52,18 @@ stages_give h old (stage ∷ stages) new life = stage_gives h old stage +ℤ sta
 abbrev pub given_in : ℕ → (last : State) → Part last → ℤ
 given_in h last part = stages_give h part.start part.stages last part.life
 
--- a semaphore hands out what it was given and no more: over every life its count and the number of times that it was taken make up what
--- it was given, both since its number was given last, and its count stays between zero and its maximum
+-- the semaphore's count and the number of times that it was taken in this part make up what it was given in it, and its count is between
+-- zero and its maximum
+abbrev pub GivesWhatItHas : ℕ → (last : State) → Part last → Type 0
+GivesWhatItHas h last part =
+    (count_of (object_at last.objects h) +ℤ pos (length (takers_in h last part)) ≡ given_in h last part) × IsLawfulObject (object_at last.objects h)
+
+-- a semaphore hands out what it was given and no more, over every life since its number was given last
 abbrev pub SemaphoresGiveWhatTheyHaveSinceGiven : Type 0
 SemaphoresGiveWhatTheyHaveSinceGiven =
     (n : ℕ) (stages : List Stage) (s : State) (life : Life n stages s) (h : ℕ)
     → is_semaphore (object_at s.objects h) ≡ true
-    → (count_of (object_at s.objects h) +ℤ pos (length (takers_in h s (since_given h (opening n) stages s life))) ≡ given_in h s (since_given h (opening n) stages s life))
-    × IsLawfulObject (object_at s.objects h)
+    → GivesWhatItHas h s (since_given h (opening n) stages s life)
 
 -- ---- mutexes
 
@@ -77,14 +81,17 @@ stages_owe h t owed old (stage ∷ stages) new life = stages_owe h t (stage_owes
 abbrev pub owed_in : ℕ → ℕ → (last : State) → Part last → ℕ
 owed_in h t last part = stages_owe h t 0 part.start part.stages last part.life
 
--- a mutex has one owner at most: after every life a thread holds it as deep as it owes releases of it since its number was given last, and
--- no two threads owe one
+-- thread t holds the mutex as deep as it owes releases of it in this part, and if it owes one, no other thread does
+abbrev pub HasOneOwner : ℕ → ℕ → (last : State) → Part last → Type 0
+HasOneOwner h t last part =
+    (owed_in h t last part ≡ held_by t (object_at last.objects h)) × ((u : ℕ) → 0 < owed_in h t last part → 0 < owed_in h u last part → t ≡ u)
+
+-- a mutex has one owner at most, over every life since its number was given last
 abbrev pub OneOwnerSinceGiven : Type 0
 OneOwnerSinceGiven =
     (n : ℕ) (stages : List Stage) (s : State) (life : Life n stages s) (h t : ℕ)
     → is_mutex (object_at s.objects h) ≡ true
-    → (owed_in h t s (since_given h (opening n) stages s life) ≡ held_by t (object_at s.objects h))
-    × ((u : ℕ) → 0 < owed_in h t s (since_given h (opening n) stages s life) → 0 < owed_in h u s (since_given h (opening n) stages s life) → t ≡ u)
+    → HasOneOwner h t s (since_given h (opening n) stages s life)
 
 -- ---- events
 
@@ -102,13 +109,17 @@ stages_set h old (stage ∷ stages) new life = (if stage_sets h old stage then 1
 abbrev pub times_set_in : ℕ → (last : State) → Part last → ℕ
 times_set_in h last part = stages_set h part.start part.stages last part.life
 
--- one set of an auto-reset event ends one wait: in any part of a life, from where the event's number was given last in it, the event is taken no
--- more often than it is set, where a set that stands at the beginning counts, and one that stands at the end has ended no wait
+-- the event is taken in this part no more often than it is set, where a set that stands at the beginning counts, and one that stands at the
+-- end has ended no wait
+abbrev pub IsSetForEach : ℕ → (last : State) → Part last → Type 0
+IsSetForEach h last part =
+    length (takers_in h last part) + set_now (object_at last.objects h) ≤ times_set_in h last part + set_now (object_at part.start.objects h)
+
+-- one set of an auto-reset event ends one wait, over any part of a life, from where the event's number was given last in it
 abbrev pub OneSetOneWaitSinceGiven : Type 0
 OneSetOneWaitSinceGiven =
     (n : ℕ) (before part : List Stage) (mid s : State)
     → Life n before mid
     → (stages : Stages mid part s) (h : ℕ)
     → is_auto_reset (object_at s.objects h) ≡ true
-    → length (takers_in h s (since_given h mid part s stages)) + set_now (object_at s.objects h)
-    ≤ times_set_in h s (since_given h mid part s stages) + set_now (object_at (since_given h mid part s stages).start.objects h)
+    → IsSetForEach h s (since_given h mid part s stages)

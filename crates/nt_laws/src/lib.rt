@@ -32,11 +32,11 @@
 //! | `runs_are_lives` | a run is a life in which no number is given again and no object moves, and such a life is a run |
 //! | `handles_stay_until_given_again` | in a life a handle names one object, by the number that it has then, until it is closed or given again |
 //! | `rights_never_grow_until_given_again` | in a life a lost right comes back only with the object's number |
-//! | `rights_never_grow_though_moved` | nor does it come back where the object gets another number |
-//! | `objects_live_while_kept_in_lives` | in a life too an object lives exactly while it is kept |
-//! | `semaphores_give_what_they_have_since_given` | in a life that holds since the semaphore's number was given last |
-//! | `one_owner_since_given` | in a life that holds since the mutex's number was given last |
-//! | `one_set_one_wait_since_given` | in a life that holds since the event's number was given last |
+//! | `rights_never_grow_though_moved` | in a life a lost right does not come back by another number that the object gets either |
+//! | `objects_live_while_kept_in_lives` | in a life too an object lives exactly while a handle, a pending wait or a running thread keeps it |
+//! | `semaphores_give_what_they_have_since_given` | in a life a semaphore's count and its takings make up what it was given, since its number was given last |
+//! | `one_owner_since_given` | in a life a thread holds a mutex as deep as it owes releases of it, since its number was given last, and no two owe any |
+//! | `one_set_one_wait_since_given` | in a life an auto-reset event is taken no more often than it is set, since its number was given last |
 //! | `lives_one_way` | results, grants and states of a life are a function of what was asked for, and of what found no memory |
 //!
 //! A statement is proved only where a contract names it. So each law is the contract of a function that takes nothing and does

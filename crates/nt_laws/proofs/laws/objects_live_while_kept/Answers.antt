@@ -1,4 +1,4 @@
-use Rattle.nt_laws.proofs.Keepers.{run_living}
+use Rattle.nt_laws.proofs.RunsAsLives.{run_living}
 use Rattle.nt_laws.proofs.laws.objects_live_while_kept.Goals as goal
 
 pub returns : goal.returns
