@@ -1,4 +1,4 @@
--- What a place keeps beside the moment, in one number.
+-- What a place keeps beside the moment, in one number. No public clause cites this.
 use Rattle.std.specs.Prelude.{ℕ, zero, suc, ◌/◌, ◌%◌, Bool, ◌==◌, Option, None, Some}
 use Rattle.nt_alarms.specs.declared.node.Node.{Node}
 
