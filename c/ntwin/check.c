@@ -67,6 +67,13 @@ static void check_waiting(void)
     holds(next >= found.deadline || waiting.timers_due <= next, "no timer is due before that");
 }
 
+/* Whether the last call has told nobody anything. */
+static void check_told_nobody(void)
+{
+    struct nt_told told;
+    holds((nt_told)(&waiting.dispatcher, 0, &told) != 0, "a wait that ended at once has ended no other, and called nobody");
+}
+
 /* Whether no handle of the program names the thread of this seat. */
 static void check_unnamed(const struct seat *seat)
 {

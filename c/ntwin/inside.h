@@ -212,9 +212,13 @@ static void stop_looking(void);
 
 #ifdef CHECKS_WAITING
 static void check_waiting(void);
+static void check_told_nobody(void);
 static void check_unnamed(const struct seat *seat);
 #else
 static inline void check_waiting(void)
+{
+}
+static inline void check_told_nobody(void)
 {
 }
 static inline void check_unnamed(const struct seat *seat)

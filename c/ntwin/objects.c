@@ -196,9 +196,10 @@ BOOL SetWaitableTimer(HANDLE timer, const LARGE_INTEGER *due, LONG period, PTIME
     if (due == NULL)
         return fail(ERROR_INVALID_PARAMETER);
     const int64_t time = due->QuadPart;
-    struct seat *seat = begin();
+    struct seat *seat = join();
     if (seat == NULL)
         return FALSE;
+    take_lock();
     const uint64_t now = pass_time(seat);
     const int64_t moment = time < 0 ? time : moment_of(time);
     const uint32_t number = number_of(seat, timer), refused = set_timer(seat, number, moment, period, routine, argument);

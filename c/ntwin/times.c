@@ -34,12 +34,25 @@ void SetLastError(DWORD error)
 /* From 1601 to 1970, in units of 100 ns. */
 static const int64_t unix_epoch = INT64_C(116444736000000000);
 
+static uint64_t in_moments(const struct timespec *time)
+{
+    return (uint64_t)time->tv_sec * MOMENTS_PER_SECOND + (uint64_t)time->tv_nsec / NANOSECONDS_PER_MOMENT;
+}
+
 /* The monotonic clock, in units of 100 ns. */
 static uint64_t monotonic(void)
 {
     struct timespec now;
     clock_gettime(CLOCK_MONOTONIC, &now);
-    return (uint64_t)now.tv_sec * MOMENTS_PER_SECOND + (uint64_t)now.tv_nsec / NANOSECONDS_PER_MOMENT;
+    return in_moments(&now);
+}
+
+/* How it stood some ms ago at the most, which takes less time to learn. */
+static uint64_t coarsely(void)
+{
+    struct timespec now;
+    clock_gettime(CLOCK_MONOTONIC_COARSE, &now);
+    return in_moments(&now);
 }
 
 /* UTC, in units of 100 ns since 1601. */

@@ -125,10 +125,16 @@ static uint64_t pass_time(struct seat *caller)
     return now;
 }
 
+/* Whether this moment is still to come for more than a second. (The coarse clock takes a third of the time; it is late, by some ms.) */
+static bool is_far(uint64_t moment)
+{
+    return process.start + moment > coarsely() + MOMENTS_PER_SECOND;
+}
+
 /* Lets time pass, under the lock, where a timer may be overdue. */
 __attribute__((noinline)) static void catch_up(struct seat *caller)
 {
-    if (waiting.timers_due <= present())
+    if (!is_far(waiting.timers_due) && waiting.timers_due <= present())
         pass_time(caller);
 }
 

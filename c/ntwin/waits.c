@@ -127,14 +127,21 @@ __attribute__((noinline)) static DWORD finish_pending_for_one(struct seat *seat,
     return finish_pending(seat, (struct wait){ &number, 1, alertable });
 }
 
-/* What a wait answers that ended at once. */
-static inline DWORD finish_ended(struct seat *seat, BOOL alertable)
+/* What a wait answers that ended at once, where whom the call told something was noted. */
+static inline DWORD finish_noted(struct seat *seat, BOOL alertable)
 {
     const DWORD status = seat->reply.number;
-    note_and_unlock(seat);
+    unlock_and_wake(seat);
     if (alertable && status == WAIT_IO_COMPLETION)
         run_apcs(seat);
     return status;
+}
+
+/* The same where the call told nobody: a wait that ends at once takes objects, and ends no other. */
+static inline DWORD finish_ended(struct seat *seat, BOOL alertable)
+{
+    check_told_nobody();
+    return finish_noted(seat, alertable);
 }
 
 /* What a wait answers: at once, or once it is granted. (In line in the call that the program makes, as all that waits is, so that it knows where that
@@ -214,9 +221,12 @@ DWORD SignalObjectAndWait(HANDLE signal, HANDLE object, DWORD ms, BOOL alertable
         return WAIT_FAILED;
     const uint32_t number = waited_number_of(seat, object);
     begin_timed(seat, ms);
-    return finish_wait(seat, nt_swap(&waiting.dispatcher, seat->number, number_of(seat, signal), number, ms, alertable != FALSE,
-                                     &seat->reply),
-                       (struct wait){ &number, 1, alertable });
+    const uint32_t refused = nt_swap(&waiting.dispatcher, seat->number, number_of(seat, signal), number, ms, alertable != FALSE, &seat->reply);
+    if (refused == 0 && seat->reply.kind != NT_PENDED) {
+        note(seat);
+        return finish_noted(seat, alertable);
+    }
+    return finish_wait(seat, refused, (struct wait){ &number, 1, alertable });
 }
 
 __attribute__((always_inline)) static inline DWORD sleep_for_ms(DWORD ms, BOOL alertable)
