@@ -5,7 +5,6 @@
 //! it for a reader's script, and [`why_file`] for a file's.
 #![tactic(auto)]
 
-mod commands;
 mod errors;
 mod input;
 mod names;
@@ -17,9 +16,7 @@ mod verdicts;
 mod waits;
 mod watch;
 mod why;
-mod words;
 
-pub use commands::{carry_out, lacks_memory};
+pub use errors::{lacks_memory, say};
 pub use reports::{Report, report_on};
 pub use why::{why_file, why_over};
-pub use words::why_asked;

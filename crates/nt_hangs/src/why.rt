@@ -2,7 +2,7 @@
 ghost use Rattle.std.specs.Prelude.{◌≡◌};
 ghost use Rattle.nt_hangs.specs.Ending.{FileTold, Hands, Shows, TellsFault, TellsInput, WhyEnds};
 
-use crate::errors::{OUT_OF_MEMORY, message_of, say, status_of};
+use crate::errors::{lacks_memory, message_of, say, status_of};
 use crate::reading::{InputFault, read_whole};
 use crate::reports::{Report, report_on};
 use nt_devices::{Counted, Sink, Source, WriteFailed, write_whole};
@@ -44,7 +44,7 @@ fn tell<E: Sink>(alloc: Global, fault: RunFault, errors: &mut E) -> u8
 {
     match message_of(alloc, fault) {
         Ok(line) => say(errors, line.as_slice(), status_of(fault)),
-        Err(_) => say(errors, OUT_OF_MEMORY, 1),
+        Err(_) => lacks_memory(errors),
     }
 }
 
@@ -88,7 +88,7 @@ pub fn why_over<R: Source, W: Sink, E: Sink>(
     match read_whole(alloc, reader) {
         Ok(input) => why_input(alloc, file, input.as_slice(), last, writer, errors),
         Err(InputFault::Failed) => say(errors, b"ntlook: read failed\n", 1),
-        Err(InputFault::Memory) => say(errors, OUT_OF_MEMORY, 1),
+        Err(InputFault::Memory) => lacks_memory(errors),
     }
 }
 
