@@ -18,5 +18,11 @@ mod watch;
 mod why;
 
 pub use errors::{lacks_memory, say};
-pub use reports::{Report, report_on};
-pub use why::{why_file, why_over};
+pub use input::{before_zero, first_line};
+pub use names::{called_by, put_object_name, put_thread_title};
+pub use reading::{InputFault, read_whole};
+pub use reports::{Report, last_moment, put_head, report_on};
+pub use text::{put_number, put_signed};
+pub use verdicts::{code_of, put_verdict};
+pub use watch::Watch;
+pub use why::{show, tell, why_file, why_over};

@@ -26,7 +26,7 @@ fn hand<W: Sink>(writer: &mut W, text: &[u8]) -> Result<(), WriteFailed>
 }
 
 /// Writes the report, and answers its exit status; 1 if it could not be handed on, which is said.
-fn show<W: Sink, E: Sink>(report: &Report, writer: &mut W, errors: &mut E) -> u8
+pub fn show<W: Sink, E: Sink>(report: &Report, writer: &mut W, errors: &mut E) -> u8
     ensures { Shows report.now.text.items report.now.code (W.contents writer.old) (W.contents writer.new)
         (W.failed writer.old) (W.failed writer.new) (W.handed_on writer.new)
         (E.contents errors.old) (E.contents errors.new) (E.failed errors.old) (E.failed errors.new) result }
@@ -38,7 +38,7 @@ fn show<W: Sink, E: Sink>(report: &Report, writer: &mut W, errors: &mut E) -> u8
 }
 
 /// Says why the script was not run to the line, and answers the exit status.
-fn tell<E: Sink>(alloc: Global, fault: RunFault, errors: &mut E) -> u8
+pub fn tell<E: Sink>(alloc: Global, fault: RunFault, errors: &mut E) -> u8
     ensures { TellsFault fault (E.contents errors.old) (E.contents errors.new) (E.failed errors.old)
         (E.failed errors.new) result }
 {

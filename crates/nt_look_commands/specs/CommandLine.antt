@@ -1,7 +1,8 @@
 -- What the words of a command line ask for.
-use Rattle.std.specs.Prelude.{ℕ, ◌==◌, ◌&&◌, ◌||◌, nat_lt, Bool, true, false, not, List, [], ◌∷◌, length, Option, None, Some, option_map, option_and_then, is_some, Result, Ok, Err, if◌then◌else◌, codes}
+use Rattle.std.specs.Prelude.{ℕ, ◌==◌, ◌&&◌, ◌||◌, nat_lt, Bool, true, false, not, List, [], ◌∷◌, length, Option, None, Some, option_map, option_and_then, is_some, take, drop, position, Result, Ok, Err, if◌then◌else◌, codes}
 use Rattle.std.specs.Str.{bytes_eq}
-use Rattle.nt_lines.specs.Words.{number_of}
+use Rattle.std.specs.Option.{option_copied}
+use Rattle.nt_lines.specs.Words.{caller_of, number_of}
 use Rattle.nt_look_commands.specs.declared.command.Command.{Command}
 use Rattle.nt_look_commands.specs.declared.command.Command.TheVariants as command
 use Rattle.nt_look_commands.specs.declared.look.Look.{Look}
@@ -52,12 +53,14 @@ are_lawful command (word ∷ value ∷ others) =
 -- what a command is to do
 pub data Asked : Type 0 where
   AskedWhy : (file : List ℕ) → (at : Option ℕ) → Asked
+  AskedTimeline : (file : List ℕ) → (lines : Option (ℕ × ℕ)) → (object : Option (List ℕ)) → (thread : Option ℕ) → (svg : Option (List ℕ)) → Asked
 
 abbrev pub asked : Look → Asked
 asked (look.Why file at) = AskedWhy file.now at
+asked (look.Timeline file part svg) = AskedTimeline file.now part.lines (option_copied part.object) part.thread (option_copied svg)
 
 -- the number of a line, from 1 on
-abbrev pub line_of : List ℕ → Option ℕ
+unfoldable pub line_of : List ℕ → Option ℕ
 line_of word = option_and_then (λ n. if nat_lt 0 n then Some n else None) (number_of 20 word)
 
 -- an option that is left out, or its value where that is lawful
@@ -68,9 +71,31 @@ told reading (Some word) = option_map (λ x. Some x) (reading word)
 abbrev pub why_in : List ℕ → List (List ℕ) → Option Asked
 why_in file words = option_map (AskedWhy file) (told line_of (value_in (codes "--at") words))
 
+-- the number of a line after `..`
+unfoldable pub after_dots : List ℕ → Option ℕ
+after_dots [] = None
+after_dots (first ∷ []) = None
+after_dots (first ∷ second ∷ last) = if (first == 46) && (second == 46) then line_of last else None
+
+abbrev pub both : {X Y : Type 0} → Option X → Option Y → Option (X × Y)
+both first second = option_and_then (λ x. option_map (λ y. (x, y)) second) first
+
+abbrev pub is_dot : ℕ → Bool
+is_dot byte = byte == 46
+
+-- the lines of A..B
+abbrev pub lines_of : List ℕ → Option (ℕ × ℕ)
+lines_of word = option_and_then (λ place. both (line_of (take place word)) (after_dots (drop place word))) (position is_dot word)
+
+abbrev pub timeline_in : List ℕ → List (List ℕ) → Option Asked
+timeline_in file words =
+    option_map (λ narrowed. AskedTimeline file narrowed.0 (value_in (codes "--object") words) narrowed.1 (value_in (codes "--svg") words))
+    (both (told lines_of (value_in (codes "--lines") words)) (told caller_of (value_in (codes "--thread") words)))
+
 -- what the command is to do with the file
 abbrev pub on_file : Command → List ℕ → List (List ℕ) → Option Asked
 on_file command.Why file words = why_in file words
+on_file command.Timeline file words = timeline_in file words
 
 -- what these words after the command ask for, if they are lawful
 abbrev pub after : Command → List (List ℕ) → Option Asked

@@ -1,12 +1,15 @@
 //! The commands, with the options and the usage line of each.
 ghost use Rattle.std.specs.Prelude.{◌≡◌};
 ghost use Rattle.nt_look_commands.specs.Commands.{command_of, knows, usage_of};
+ghost use Rattle.nt_look_commands.specs.declared.command.Command.TheVariants.{Timeline};
 
 /// A command of the program.
 #[derive(Clone, Copy, Debug, PartialEq, Eq)]
 pub enum Command {
     /// Why threads wait.
     Why,
+    /// What happened, line by line.
+    Timeline,
 }
 
 /// The command with this name.
@@ -15,9 +18,18 @@ pub(crate) fn command_of(word: &str) -> Option<Command>
 {
     if word == "why" {
         Some(Command::Why)
+    } else if word == "timeline" {
+        Some(Command::Timeline)
     } else {
         None
     }
+}
+
+/// Whether it is an option of `ntlook timeline`.
+fn is_of_timeline(option: &str) -> bool
+    ensures { result ≡ knows Timeline option.now }
+{
+    option == "--lines" || option == "--object" || option == "--thread" || option == "--svg"
 }
 
 impl Command {
@@ -27,6 +39,7 @@ impl Command {
     {
         match self {
             Command::Why => option == "--at",
+            Command::Timeline => is_of_timeline(option),
         }
     }
 
@@ -36,6 +49,9 @@ impl Command {
     {
         match self {
             Command::Why => b"ntlook: usage: ntlook why FILE [--at LINE]\n",
+            Command::Timeline => {
+                b"ntlook: usage: ntlook timeline FILE [--lines A..B] [--object NAME] [--thread tN] [--svg OUT]\n"
+            }
         }
     }
 }

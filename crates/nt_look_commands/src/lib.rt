@@ -11,5 +11,5 @@ mod words;
 
 pub use command::Command;
 pub use commands::carry_out;
-pub use nt_hangs::lacks_memory;
 pub use look::{Look, look_of};
+pub use nt_hangs::lacks_memory;
