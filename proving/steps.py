@@ -1,4 +1,5 @@
 """The steps of the gate. Each is its name, a call that gives what it counted, and whether the steps after it need what it makes."""
+import filecmp
 import functools
 import glob
 import os
@@ -115,7 +116,9 @@ def unproved_build(top, progress):
 
 
 # What is run on each example, and the ending of the file beside it that has what is written; then the exit statuses.
-ON_EXAMPLES = ((["./ntrun", "script"], ".transcript", (0,)), (["./ntlook", "why"], ".why", (0, 3, 4)))
+ON_EXAMPLES = ((["./ntrun", "script"], ".transcript", (0,)), (["./ntlook", "why"], ".why", (0, 3, 4)), (["./ntlook", "timeline"], ".timeline", (0,)))
+# Pictures of the docs, each with the example that it shows.
+PICTURES = (("examples/two_locks.nts", "docs/two_locks.svg"),)
 
 
 def example(top, script, words, ending, statuses):
@@ -130,12 +133,22 @@ def example(top, script, words, ending, statuses):
     return told
 
 
+def drawn(top, script, picture):
+    """Whether this picture is what `ntlook timeline` draws of the script, and what is told where it isn't."""
+    with tempfile.TemporaryDirectory() as folder:
+        words = ["./ntlook", "timeline", script, "--svg", f"{folder}/drawn.svg"]
+        ran = subprocess.run(words, cwd=top, check=False, stdin=subprocess.DEVNULL, capture_output=True, errors="backslashreplace")
+        same = not ran.returncode and filecmp.cmp(f"{folder}/drawn.svg", f"{top}/{picture}", shallow=False)
+    return same, [] if same else [f"{picture}: not what ./ntlook timeline {script} --svg {picture} draws", *ran.stderr.splitlines()]
+
+
 def examples(top, progress):
-    """What the launchers write of each example is the file beside it. Not each has a file of why its threads wait."""
+    """What the launchers write of each example is the file beside it. Not each has a file of why its threads wait, or a timeline. A picture of the docs
+    is what `ntlook timeline` draws."""
     passed, failed = 0, []
     for script in sorted(glob.glob(f"{top}/examples/*.nts")):
         for words, ending, statuses in ON_EXAMPLES:
-            if ending == ".why" and not os.path.exists(script.removesuffix(".nts") + ending):
+            if ending != ".transcript" and not os.path.exists(script.removesuffix(".nts") + ending):
                 continue
             told = example(top, script, words, ending, statuses)
             for it in told:
@@ -144,6 +157,11 @@ def examples(top, progress):
                 failed.append(os.path.relpath(script, top))
             else:
                 passed += 1
+    for script, picture in PICTURES:
+        same, told = drawn(top, script, picture)
+        for it in told:
+            progress.tell(it)
+        passed, failed = passed + same, failed + [picture] * (not same)
     return Step(passed, failed)
 
 

@@ -1,6 +1,7 @@
 """What the tests of `./ntlook` try: scripts, words and streams, each with what it gives."""
 
 USAGE = "ntlook: usage: ntlook why FILE [--at LINE]"
+TIMELINE_USAGE = "ntlook: usage: ntlook timeline FILE [--lines A..B] [--object NAME] [--thread tN] [--svg OUT]"
 # Two threads that hold each other from line 7 on.
 KNOT = b"""threads 2
 t0 mutex m1
@@ -53,7 +54,61 @@ TOLD = """17: the waits can end; something is due at 50000
 """
 # A journal's objects have the numbers of their handles, and its file has room left.
 JOURNAL = b"threads 256\n; h256 is accounts\nt0 mutex h256\nt0 any inf plain 256\nt1 any inf plain 256\n" + bytes(9000)
-ROOM = "the waits can end\n  t1 since line 5  any inf plain h256   h256: mutex, owned by t0 (1 release owed), who runs\n"
+ROOM = "the waits can end\n  t1 since line 5  any inf plain h256   h256 accounts: mutex, owned by t0 (1 release owed), who runs\n"
+# A journal with names of threads too, one of which is told twice.
+NAMED = b"""threads 256
+t0 mutex h256
+; h256 is accounts
+; t1 is audit
+; t0 is main
+t0 any inf plain 256
+t1 any inf plain 256
+; t1 is transfer
+"""
+OWNED = "since line 7  any inf plain h256   h256 accounts: mutex, owned by t0 main (1 release owed), who runs\n"
+# The timeline of the knot, as a whole; of a part of its lines; of one of its mutexes. Columns are as wide as their widest cell, 31.
+KNOT_LINES = """knot.nts:7: t0 and t1 hold each other: nothing can end their waits
+
+  line  t0                               t1
+     2  mutex m1
+     3  mutex m2
+     4  any inf plain m1: WAIT_OBJECT_0
+     5                                   any inf plain m2: WAIT_OBJECT_0
+     6  any inf plain m2: pending
+     7  |                                any inf plain m1: pending
+   end  waits since 6                    waits since 7
+"""
+KNOT_PART = """knot.nts:7: t0 and t1 hold each other: nothing can end their waits
+
+  line  t1
+     5  any inf plain m2: WAIT_OBJECT_0
+   end  waits since 7
+"""
+KNOT_OBJECT = """knot.nts:7: t0 and t1 hold each other: nothing can end their waits
+
+  line  t0                               t1
+     2  mutex m1
+     4  any inf plain m1: WAIT_OBJECT_0
+     7  |                                any inf plain m1: pending
+   end  waits since 6                    waits since 7
+"""
+REFUSED_LINES = """refused.nts:5: nobody waits
+
+  line  t0
+     2  event e
+     3  unlock e: ERROR_INVALID_HANDLE
+     4  sleep 5 alertable: pending
+     5--WAIT_OBJECT_0 since 4-----------  tick 50000
+   end
+"""
+NAMED_LINES = """named:8: the waits can end
+
+  line  t0 main                           t1 transfer
+     2  mutex h256
+     6  any inf plain 256: WAIT_OBJECT_0
+     7                                    any inf plain 256: pending
+   end                                    waits since 7
+"""
 
 FILES = {
     "knot.nts": KNOT,
@@ -69,6 +124,8 @@ FILES = {
     "outside.nts": KNOT.replace(b"threads 2", b"threads 3") + b"t2 event e\nt2 any inf plain e\n",
     "three.nts": b"threads 3\nt0 any inf plain t1\nt1 any inf plain t2\nt2 any inf plain t0\n",
     "again.nts": b"threads 2\nt0 event e\nt1 any inf plain e\nt0 set e\nt1 any inf plain e\n",
+    "named": NAMED,
+    "refused.nts": b"threads 1\nt0 event e\nt0 unlock e\nt0 sleep 5 alertable\ntick 50000\n",
     "renamed.nts": b"threads 2\nt0 event e\nt0 dup again e 1048578\nt1 any inf plain again\nt0 close e\n",
 }
 
@@ -85,6 +142,8 @@ LOOKS = [
     ("a script on standard input", ["why", "-"], KNOT, 3, f"/dev/stdin:{TIED}", []),
     ("each kind of object and of wait", ["why", "kinds.nts"], b"", 4, f"kinds.nts:{TOLD}", []),
     ("a journal with room left", ["why", "journal"], b"", 4, f"journal:5: {ROOM}", []),
+    ("names of threads", ["why", "named"], b"", 4, f"named:8: the waits can end\n  t1 transfer {OWNED}", []),
+    ("a name that is told later", ["why", "named", "--at", "7"], b"", 4, f"named:7: the waits can end\n  t1 audit {OWNED}", []),
     ("a word that a zero byte cuts", ["why", "zero.nts"], b"", 2, "", ["ntlook: line 2: unknown word", "zero.nts:2:14: unknown word"]),
     ("stuck, and no knot", ["why", "stuck.nts"], b"", 3, "stuck.nts:3: stuck: whoever runs waits, and nothing can end that\n  t0 since line 3  any inf plain e   e: event, not set\n", []),
     (
@@ -118,5 +177,23 @@ LOOKS = [
     ("line 0", ["why", "knot.nts", "--at", "0"], b"", 2, "", [USAGE]),
     ("a line that is no number", ["why", "knot.nts", "--at", "x"], b"", 2, "", [USAGE]),
     ("an option for a file", ["why", "-dash.nts"], b"", 2, "", [USAGE]),
+    ("a timeline", ["timeline", "knot.nts"], b"", 0, KNOT_LINES, []),
+    ("of some lines and a thread", ["timeline", "--thread", "t1", "knot.nts", "--lines", "5..6"], b"", 0, KNOT_PART, []),
+    ("of an object", ["timeline", "--object", "m1", "knot.nts"], b"", 0, KNOT_OBJECT, []),
+    ("of a refused call and a tick", ["timeline", "refused.nts"], b"", 0, REFUSED_LINES, []),
+    ("of a journal", ["timeline", "named"], b"", 0, NAMED_LINES, []),
+    ("of standard input", ["timeline", "-"], KNOT, 0, f"/dev/stdin{KNOT_LINES[8:]}", []),
+    ("of a script with a fault", ["timeline", "fault.nts"], b"", 2, "", ["ntlook: line 8: unknown word", "fault.nts:8:4: unknown word", "  t0 sett m1", "     ^^^^"]),
+    ("of no file", ["timeline", "none.nts"], b"", 1, "", ["ntlook: cannot open", "none.nts: No such file or directory"]),
+    ("of an empty file", ["timeline", "empty.nts"], b"", 2, "", ["ntlook: line 1: threads expected", "empty.nts:1:1: threads expected"]),
+    ("a picture", ["timeline", "knot.nts", "--svg", "drawn.svg"], b"", 0, "", []),
+    ("a picture of a fault", ["timeline", "fault.nts", "--svg", "none.svg"], b"", 2, "", ["ntlook: line 8: unknown word"]),
+    ("a picture in no folder", ["timeline", "knot.nts", "--svg", "none/drawn.svg"], b"", 1, "", ["ntlook: cannot create"]),
+    ("a picture on a full device", ["timeline", "knot.nts", "--svg", "/dev/full"], b"", 1, "", ["ntlook: write failed"]),
+    ("timeline alone", ["timeline"], b"", 2, "", [TIMELINE_USAGE]),
+    ("a timeline after a line", ["timeline", "knot.nts", "--at", "5"], b"", 2, "", [TIMELINE_USAGE]),
+    ("one line for lines", ["timeline", "knot.nts", "--lines", "5"], b"", 2, "", [TIMELINE_USAGE]),
+    ("a number for a thread", ["timeline", "knot.nts", "--thread", "5"], b"", 2, "", [TIMELINE_USAGE]),
+    ("an option twice", ["timeline", "--object", "m1", "--object", "m2", "knot.nts"], b"", 2, "", [TIMELINE_USAGE]),
     ("another command", ["whz", "knot.nts"], b"", 2, "", [USAGE]),
 ]

@@ -29,13 +29,13 @@ pub put_both : {X E : Type 0} (result : Result X E) (old mid new first second gi
 put_both result old mid new first second given p same q = subst (λ (l : List ℕ). OnOk result (new ≡ old ++ (first ++ l))) same (put_two result old mid new first given p q)
 
 -- one thread more that waits
-pub waiters_more : (now : Progress) (objects since : List ℕ) (t line : ℕ) (old mid new : List ℕ) → line ≡ slice_index_or since t 0 → mid ≡ old ++ waiters_text now objects since t
-    → new ≡ mid ++ waiter_text now objects line t (get now.state.waits t) → new ≡ old ++ waiters_text now objects since (t + 1)
-waiters_more now objects since t line old mid new p q r =
+pub waiters_more : (now : Progress) (objects told since : List ℕ) (t line : ℕ) (old mid new : List ℕ) → line ≡ slice_index_or since t 0 → mid ≡ old ++ waiters_text now objects told since t
+    → new ≡ mid ++ waiter_text now objects told line t (get now.state.waits t) → new ≡ old ++ waiters_text now objects told since (t + 1)
+waiters_more now objects told since t line old mid new p q r =
     let next : t + 1 ≡ suc t = omega arith in
-    let here = waiter_text now objects (slice_index_or since t 0) t (get now.state.waits t) in
-    subst (λ (n : ℕ). new ≡ old ++ waiters_text now objects since n) (sym next)
-    (r ∙ ap (λ (n : ℕ). mid ++ waiter_text now objects n t (get now.state.waits t)) p ∙ ap (λ (l : List ℕ). l ++ here) q ∙ append_assoc old (waiters_text now objects since t) here)
+    let here = waiter_text now objects told (slice_index_or since t 0) t (get now.state.waits t) in
+    subst (λ (n : ℕ). new ≡ old ++ waiters_text now objects told since n) (sym next)
+    (r ∙ ap (λ (n : ℕ). mid ++ waiter_text now objects told n t (get now.state.waits t)) p ∙ ap (λ (l : List ℕ). l ++ here) q ∙ append_assoc old (waiters_text now objects told since t) here)
 
 -- a report was not handed on
 pub unshown : (given text : List ℕ) (code : ℕ) (held held' : Option (List ℕ)) (written written' : ℕ) (handed : Bool) (shown shown' : Option (List ℕ)) (failed failed' status : ℕ) → given ≡ text
@@ -48,11 +48,11 @@ pub told_fault : (fault : RunFault) (line : List ℕ) (shown shown' : Option (Li
     → TellsFault fault shown shown' failed failed' status
 told_fault fault line shown shown' failed failed' status same says is = inl (subst (Says shown shown' failed failed') same says, is)
 
-pub is_report : (file : List ℕ) (count : ℕ) (session : Session) (core : Dispatcher) (since objects : List ℕ) (stuck : Bool) (knot : List Bool) (next : Option ℕ) (moment : ℕ) (empty text : List ℕ) (code : ℕ)
+pub is_report : (file : List ℕ) (count : ℕ) (session : Session) (core : Dispatcher) (since objects told : List ℕ) (stuck : Bool) (knot : List Bool) (next : Option ℕ) (moment : ℕ) (empty text : List ℕ) (code : ℕ)
     → core ≡ session.core → moment ≡ MAX_MOMENT → ((stuck ≡ true) ↔ IsStuck (λ t. true) (state core)) → IsGreatestKnot (λ t. true) (state core) knot
-    → MatchOption next (NothingDue (state core) moment) (IsNextMoment (state core) moment) → empty ≡ [] → text ≡ empty ++ report_text file count (progress session) since objects stuck knot next
-    → code ≡ code_of (state core) stuck knot → IsReport file count (progress session) since objects text code
-is_report file count session core since objects stuck knot next moment empty text code same last is_stuck is_knot is_next none says is = record {
+    → MatchOption next (NothingDue (state core) moment) (IsNextMoment (state core) moment) → empty ≡ [] → text ≡ empty ++ report_text file count (progress session) since objects told stuck knot next
+    → code ≡ code_of (state core) stuck knot → IsReport file count (progress session) since objects told text code
+is_report file count session core since objects told stuck knot next moment empty text code same last is_stuck is_knot is_next none says is = record {
   stuck = stuck;
   knot = knot;
   next = next;
@@ -60,13 +60,18 @@ is_report file count session core since objects stuck knot next moment empty tex
   is_knot = subst (λ (d : Dispatcher). IsGreatestKnot (λ t. true) (state d) knot) same is_knot;
   is_next = subst (λ (m : ℕ). MatchOption next (NothingDue (state session.core) m) (IsNextMoment (state session.core) m)) last
       (subst (λ (d : Dispatcher). MatchOption next (NothingDue (state d) moment) (IsNextMoment (state d) moment)) same is_next);
-  says = says ∙ ap (λ (l : List ℕ). l ++ report_text file count (progress session) since objects stuck knot next) none;
+  says = says ∙ ap (λ (l : List ℕ). l ++ report_text file count (progress session) since objects told stuck knot next) none;
   is = is ∙ ap (λ (d : Dispatcher). code_of (state d) stuck knot) same;
 }
 
 -- what a session's report says is said of what is seen
-pub reports_of : (file : List ℕ) (count : ℕ) (now : Progress) (since objects : List ℕ) (seen : Seen) (result : Result Report AllocError) → seen.now ≡ Some now → since ≡ seen.since → objects ≡ seen.objects
-    → IfOk result (λ report. IsReport file count now since objects report.text.items report.code) → IfOk result (ReportsOf file count seen)
-reports_of file count now since objects seen (Ok report) is p q h =
-    (now, is, subst (λ (l : List ℕ). IsReport file count now seen.since l report.text.items report.code) q (subst (λ (l : List ℕ). IsReport file count now l objects report.text.items report.code) p h))
-reports_of file count now since objects seen (Err e) is p q h = tt
+pub reports_of : (file : List ℕ) (count : ℕ) (now : Progress) (since objects told : List ℕ) (seen : Seen) (result : Result Report AllocError) → seen.now ≡ Some now → since ≡ seen.since → objects ≡ seen.objects → told ≡ seen.told
+    → IfOk result (λ report. IsReport file count now since objects told report.text.items report.code) → IfOk result (ReportsOf file count seen)
+reports_of file count now since objects told seen (Ok report) is p q r h = (
+  now,
+  is,
+  subst (λ (l : List ℕ). IsReport file count now seen.since seen.objects l report.text.items report.code) r
+      (subst (λ (l : List ℕ). IsReport file count now seen.since l told report.text.items report.code) q
+      (subst (λ (l : List ℕ). IsReport file count now l objects told report.text.items report.code) p h)),
+)
+reports_of file count now since objects told seen (Err e) is p q r h = tt

@@ -78,14 +78,3 @@ pub record FileTold (file : List ℕ) (last : Option ℕ) (held held' : Option (
   pub either :
       (Says shown shown' failed failed' (codes "ntlook: cannot open\n") × (status ≡ 1) × Keeps held held' × (written' ≡ written))
       ⊎ ((left : Option (List ℕ)) × (read read' : ℕ) × WhyEnds file last left read read' held held' written written' handed shown shown' failed failed' status)
-
--- It is said that memory ran out; or the file was told of, to some writer.
-abbrev pub PrintTold : List ℕ → Option ℕ → (shown shown' : Option (List ℕ)) → (failed failed' status : ℕ) → Type 0
-PrintTold file last shown shown' failed failed' status =
-    SaysMemory shown shown' failed failed' status
-    ⊎ ((held held' : Option (List ℕ)) × (written written' : ℕ) × (handed : Bool) × FileTold file last held held' written written' handed shown shown' failed failed' status)
-
--- The file that was asked about was told of; or the usage was told.
-abbrev pub CommandEnds : Option (List ℕ × Option ℕ) → (shown shown' : Option (List ℕ)) → (failed failed' status : ℕ) → Type 0
-CommandEnds None shown shown' failed failed' status = Says shown shown' failed failed' (codes "ntlook: usage: ntlook why FILE [--at LINE]\n") × (status ≡ 2)
-CommandEnds (Some asked) shown shown' failed failed' status = PrintTold asked.0 asked.1 shown shown' failed failed' status

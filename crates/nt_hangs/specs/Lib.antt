@@ -6,4 +6,3 @@ pub mod Waits
 pub mod Verdicts
 pub mod Reports
 pub mod Ending
-pub mod CommandLine

@@ -1,6 +1,8 @@
 -- What threads and objects are called.
-use Rattle.std.specs.Prelude.{ℕ, ◌==◌, ◌++◌, nat_lt, List, position, option_and_then, Option, None, Some, if◌then◌else◌, codes}
+use Rattle.std.specs.Prelude.{ℕ, ◌==◌, ◌++◌, nat_lt, nat_eq, Bool, List, [], ◌∷◌, length, drop, position, option_and_then, Option, None, Some, if◌then◌else◌, codes}
+use Rattle.std.specs.List.{starts_with}
 use Rattle.std.specs.Fmt.{decimal}
+use Rattle.nt_lines.specs.Lines.{lines_of}
 use Rattle.nt_script.specs.Progress.{Progress}
 use Rattle.nt_script.specs.Scope.{name_in}
 
@@ -20,3 +22,37 @@ or_number o (Some name) = name
 abbrev pub object_name : Progress → List ℕ → ℕ → List ℕ
 object_name now objects o =
     if nat_lt o now.state.threads then thread_name o else or_number o (option_and_then (name_in now.scope.names) (place_of objects o))
+
+-- ---- names that comments tell, as `; h256 is accounts`
+
+-- what stands after the front, where the text begins so
+abbrev pub after : List ℕ → List ℕ → Option (List ℕ)
+after front text = if starts_with nat_eq text front then Some (drop (length front) text) else None
+
+-- what this line calls the word
+abbrev pub name_told : List ℕ → List ℕ → Option (List ℕ)
+name_told word line = option_and_then (after (codes " is ")) (option_and_then (after word) (after (codes "; ") line))
+
+-- the later of two names
+abbrev pub later : Option (List ℕ) → Option (List ℕ) → Option (List ℕ)
+later old None = old
+later old (Some name) = Some name
+
+-- what the last of these lines that tells a name for the word calls it; else this
+abbrev pub called_by : List ℕ → Option (List ℕ) → List (List ℕ) → Option (List ℕ)
+called_by word found [] = found
+called_by word found (line ∷ lines) = called_by word (later found (name_told word line)) lines
+
+abbrev pub or_nothing : Option (List ℕ) → List ℕ
+or_nothing None = []
+or_nothing (Some name) = codes " " ++ name
+
+-- a word, and its name after it, where the lines of a text tell one
+abbrev pub titled : List ℕ → List ℕ → List ℕ
+titled told word = word ++ or_nothing (called_by word None (lines_of told))
+
+abbrev pub thread_title : List ℕ → ℕ → List ℕ
+thread_title told t = titled told (thread_name t)
+
+abbrev pub object_title : Progress → (objects told : List ℕ) → ℕ → List ℕ
+object_title now objects told o = titled told (object_name now objects o)

@@ -4,7 +4,7 @@ use Rattle.std.specs.FinMap.{len}
 use Rattle.std.specs.Fmt.{decimal}
 use Rattle.nt_calls.specs.State.{State}
 use Rattle.nt_look.specs.Hangs.{marked}
-use Rattle.nt_hangs.specs.Names.{thread_name}
+use Rattle.nt_hangs.specs.Names.{thread_title}
 
 -- how many threads have a mark
 abbrev pub marks_in : List Bool → ℕ
@@ -15,16 +15,16 @@ abbrev pub separator : ℕ → ℕ → List ℕ
 separator told count = if told == 0 then [] else if count - told == 1 then codes " and " else codes ", "
 
 -- the names of the marked threads below this number, rising
-abbrev pub members_text : List Bool → ℕ → List ℕ
-members_text marks zero = []
-members_text marks (suc t) =
-    members_text marks t ++ (if marked marks t then separator (marks_in (take t marks)) (marks_in marks) ++ thread_name t else [])
+abbrev pub members_text : List ℕ → List Bool → ℕ → List ℕ
+members_text told marks zero = []
+members_text told marks (suc t) =
+    members_text told marks t ++ (if marked marks t then separator (marks_in (take t marks)) (marks_in marks) ++ thread_title told t else [])
 
 -- the threads that hold each other, of n
-abbrev pub knot_text : List Bool → ℕ → List ℕ
-knot_text marks n =
-    if marks_in marks == 1 then codes "nothing can end the wait of " ++ members_text marks n
-    else members_text marks n ++ codes " hold each other: nothing can end their waits"
+abbrev pub knot_text : List ℕ → List Bool → ℕ → List ℕ
+knot_text told marks n =
+    if marks_in marks == 1 then codes "nothing can end the wait of " ++ members_text told marks n
+    else members_text told marks n ++ codes " hold each other: nothing can end their waits"
 
 -- that the waits outside the knot never end either
 abbrev pub others_text : Bool → List ℕ
@@ -34,10 +34,10 @@ abbrev pub next_text : Option ℕ → List ℕ
 next_text None = []
 next_text (Some moment) = codes "; something is due at " ++ decimal moment
 
-abbrev pub verdict_text : State → Bool → List Bool → Option ℕ → List ℕ
-verdict_text s stuck knot next =
+abbrev pub verdict_text : State → List ℕ → Bool → List Bool → Option ℕ → List ℕ
+verdict_text s told stuck knot next =
     if len s.waits == 0 then codes "nobody waits"
-    else if nat_lt 0 (marks_in knot) then knot_text knot s.threads ++ others_text (stuck && nat_lt (marks_in knot) (len s.waits))
+    else if nat_lt 0 (marks_in knot) then knot_text told knot s.threads ++ others_text (stuck && nat_lt (marks_in knot) (len s.waits))
     else if stuck then codes "stuck: whoever runs waits, and nothing can end that"
     else codes "the waits can end" ++ next_text next
 

@@ -11,7 +11,7 @@ use Rattle.nt_calls.specs.State.{State, object_at, pends}
 use Rattle.nt_calls.specs.Serving.{is_sleep}
 use Rattle.nt_calls.specs.Living.{is_opened, runs}
 use Rattle.nt_script.specs.Progress.{Progress}
-use Rattle.nt_hangs.specs.Names.{object_name, thread_name}
+use Rattle.nt_hangs.specs.Names.{object_name, object_title, thread_title}
 
 -- ---- an object's state
 
@@ -34,28 +34,28 @@ abbrev pub who_text : State → ℕ → List ℕ
 who_text s t = codes ", who " ++ doing s t
 
 -- whose the mutex is, how many releases it owes, and what that thread does
-abbrev pub owned_text : State → ℕ → ℕ → List ℕ
-owned_text s owner depth = (codes "mutex, owned by " ++ thread_name owner) ++ ((codes " (" ++ (owed_text depth ++ codes ")")) ++ who_text s owner)
+abbrev pub owned_text : State → List ℕ → ℕ → ℕ → List ℕ
+owned_text s told owner depth = (codes "mutex, owned by " ++ thread_title told owner) ++ ((codes " (" ++ (owed_text depth ++ codes ")")) ++ who_text s owner)
 
-abbrev pub mutex_text : State → Option ℕ → ℕ → Bool → List ℕ
-mutex_text s None depth abandoned = if abandoned then codes "mutex, abandoned" else codes "mutex, free"
-mutex_text s (Some owner) depth abandoned = owned_text s owner depth
+abbrev pub mutex_text : State → List ℕ → Option ℕ → ℕ → Bool → List ℕ
+mutex_text s told None depth abandoned = if abandoned then codes "mutex, abandoned" else codes "mutex, free"
+mutex_text s told (Some owner) depth abandoned = owned_text s told owner depth
 
 -- the state of the object with number o
-abbrev pub state_text : State → ℕ → Object → List ℕ
-state_text s o (Event manual set) = codes "event, " ++ set_text set
-state_text s o (Semaphore count maximum) = (codes "semaphore, count " ++ signed_decimal count) ++ (codes " of " ++ signed_decimal maximum)
-state_text s o (Mutex owner depth abandoned) = mutex_text s owner depth abandoned
-state_text s o (Timer manual set armed) = codes "timer, " ++ (set_text set ++ due_text armed)
-state_text s o (Thread ended) = codes "thread" ++ who_text s o
-state_text s o Gone = codes "gone"
+abbrev pub state_text : State → List ℕ → ℕ → Object → List ℕ
+state_text s told o (Event manual set) = codes "event, " ++ set_text set
+state_text s told o (Semaphore count maximum) = (codes "semaphore, count " ++ signed_decimal count) ++ (codes " of " ++ signed_decimal maximum)
+state_text s told o (Mutex owner depth abandoned) = mutex_text s told owner depth abandoned
+state_text s told o (Timer manual set armed) = codes "timer, " ++ (set_text set ++ due_text armed)
+state_text s told o (Thread ended) = codes "thread" ++ who_text s o
+state_text s told o Gone = codes "gone"
 
 -- that no handle names the object any more
 abbrev pub unopened_text : State → ℕ → List ℕ
 unopened_text s o = if is_opened s o then [] else codes ", which no handle names"
 
-abbrev pub object_text : Progress → List ℕ → ℕ → List ℕ
-object_text now objects o = (object_name now objects o ++ codes ": ") ++ (state_text now.state o (object_at now.state.objects o) ++ unopened_text now.state o)
+abbrev pub object_text : Progress → (objects told : List ℕ) → ℕ → List ℕ
+object_text now objects told o = (object_title now objects told o ++ codes ": ") ++ (state_text now.state told o (object_at now.state.objects o) ++ unopened_text now.state o)
 
 -- ---- a wait
 
@@ -83,18 +83,18 @@ abbrev pub gap_text : Wait → List ℕ
 gap_text w = if nat_le (length w.objects) 1 then codes "   " else codes "\n    "
 
 -- the objects of the wait, with their states
-abbrev pub objects_text : Progress → List ℕ → Wait → List ℕ
-objects_text now objects w = flat_map (λ o. gap_text w ++ object_text now objects o) w.objects
+abbrev pub objects_text : Progress → (objects told : List ℕ) → Wait → List ℕ
+objects_text now objects told w = flat_map (λ o. gap_text w ++ object_text now objects told o) w.objects
 
-abbrev pub since_text : ℕ → ℕ → List ℕ
-since_text t since = (codes "  " ++ thread_name t) ++ (codes " since line " ++ (decimal since ++ codes "  "))
+abbrev pub since_text : List ℕ → ℕ → ℕ → List ℕ
+since_text told t since = (codes "  " ++ thread_title told t) ++ (codes " since line " ++ (decimal since ++ codes "  "))
 
 -- what thread t waits for, since this line
-abbrev pub waiter_text : Progress → List ℕ → ℕ → ℕ → Option Wait → List ℕ
-waiter_text now objects since t None = []
-waiter_text now objects since t (Some w) = since_text t since ++ ((wait_text now objects w ++ objects_text now objects w) ++ codes "\n")
+abbrev pub waiter_text : Progress → (objects told : List ℕ) → ℕ → ℕ → Option Wait → List ℕ
+waiter_text now objects told since t None = []
+waiter_text now objects told since t (Some w) = since_text told t since ++ ((wait_text now objects w ++ objects_text now objects told w) ++ codes "\n")
 
 -- the threads below this number that wait, rising
-abbrev pub waiters_text : Progress → List ℕ → List ℕ → ℕ → List ℕ
-waiters_text now objects since zero = []
-waiters_text now objects since (suc t) = waiters_text now objects since t ++ waiter_text now objects (slice_index_or since t 0) t (get now.state.waits t)
+abbrev pub waiters_text : Progress → (objects told since : List ℕ) → ℕ → List ℕ
+waiters_text now objects told since zero = []
+waiters_text now objects told since (suc t) = waiters_text now objects told since t ++ waiter_text now objects told (slice_index_or since t 0) t (get now.state.waits t)

@@ -1,5 +1,6 @@
--- What is known of a script while it runs: who waits since which line, and what its objects are called.
-use Rattle.std.specs.Prelude.{◌≡◌, ℕ, ◌+◌, ◌==◌, ◌<◌, ◌++◌, List, [], ◌∷◌, length, take, replicate, position, unwrap_or, option_map, slice_index_or, Bool, false, Option, Some, None, if◌then◌else◌}
+-- What is known of a script while it runs: who waits since which line, and what its objects and threads are called.
+use Rattle.std.specs.Prelude.{◌≡◌, ℕ, ◌+◌, ◌==◌, ◌<◌, ◌++◌, List, [], ◌∷◌, length, take, replicate, position, unwrap_or, option_map, slice_index_or, Bool, false, nat_eq, codes, Option, Some, None, if◌then◌else◌}
+use Rattle.std.specs.List.{starts_with}
 use Rattle.nt_objects.specs.Handles.{opened_at}
 use Rattle.nt_calls.specs.State.{pends}
 use Rattle.nt_calls.specs.Runs.{Turn}
@@ -9,19 +10,20 @@ use Rattle.nt_script.specs.Running.{FaultNext}
 use Rattle.nt_script.specs.declared.fault.ScriptFault.{ScriptFault}
 use Rattle.nt_hangs.specs.declared.watch.Watch.{Watch}
 
--- how far the script has come; by thread, the line on which its pending wait began, or 0; and by the places of names, the numbers of the
--- objects that they were given to
+-- how far the script has come; by thread, the line on which its pending wait began, or 0; by the places of names, the numbers of the
+-- objects that they were given to; and the lines that are a comment, which may tell names
 pub record Seen : Type 0 where
   pub now : Option Progress
   pub since : List ℕ
   pub objects : List ℕ
+  pub told : List ℕ
 
 abbrev pub seen_of : Watch → Seen
-seen_of watch = record { now = progress_of watch.session; since = watch.since.items; objects = watch.objects.items }
+seen_of watch = record { now = progress_of watch.session; since = watch.since.items; objects = watch.objects.items; told = watch.told.items }
 
 -- nothing is seen yet
 abbrev pub unseen : Seen
-unseen = record { now = None; since = replicate 256 0; objects = [] }
+unseen = record { now = None; since = replicate 256 0; objects = []; told = [] }
 
 -- ---- one line
 
@@ -50,6 +52,10 @@ abbrev pub object_named : Option Progress → Option ℕ → List ℕ
 object_named now None = []
 object_named now (Some handle) = object_of now handle ∷ []
 
+-- a line that is a comment, with an LF
+abbrev pub telling : List ℕ → List ℕ
+telling bytes = if starts_with nat_eq bytes (codes "; ") then bytes ++ (10 ∷ []) else []
+
 -- This line was carried out, and was seen.
 pub record Sees (number : ℕ) (bytes : List ℕ) (old new : Seen) : Type 0 where
   pub turns : List Turn
@@ -57,6 +63,7 @@ pub record Sees (number : ℕ) (bytes : List ℕ) (old new : Seen) : Type 0 wher
   pub advances : Advances number bytes old.now turns text new.now
   pub since : (t : ℕ) → t < 256 → since_of new t ≡ since_then number (is_waiting new.now t) (since_of old t)
   pub objects : new.objects ≡ old.objects ++ object_named new.now (handle_in (names_of new.now) (length (names_of old.now)))
+  pub told : new.told ≡ old.told ++ telling bytes
 
 -- ---- all lines
 

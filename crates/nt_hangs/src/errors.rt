@@ -1,22 +1,28 @@
 //! What is said on standard error.
 ghost use Rattle.std.specs.Prelude.{◌≡◌, ◌++◌, IfOk, OnOk, Err};
-ghost use Rattle.nt_hangs.specs.Ending.{message_of, status_of, Says};
+ghost use Rattle.nt_hangs.specs.Ending.{message_of, status_of, Says, SaysMemory};
 
 use crate::text::put_number;
 use nt_devices::{Sink, write_whole};
 use nt_script::RunFault;
 use std::alloc::{AllocError, Global};
 
-pub(crate) const OUT_OF_MEMORY: &[u8] = b"ntlook: out of memory\n";
-
 /// Says a line, and answers the exit status that goes with it. A failure to say it is ignored.
-pub(crate) fn say<E: Sink>(errors: &mut E, line: &[u8], status: u8) -> u8
+pub fn say<E: Sink>(errors: &mut E, line: &[u8], status: u8) -> u8
     ensures status { result ≡ status }
     ensures said { Says (E.contents errors.old) (E.contents errors.new) (E.failed errors.old) (E.failed errors.new)
         line.now }
 {
     let _ = write_whole(errors, line);
     status
+}
+
+/// Says that memory was refused, and answers the exit status.
+pub fn lacks_memory<E: Sink>(errors: &mut E) -> u8
+    ensures { SaysMemory (E.contents errors.old) (E.contents errors.new) (E.failed errors.old) (E.failed errors.new)
+        result }
+{
+    say(errors, b"ntlook: out of memory\n", 1)
 }
 
 /// The line that tells why a run ended.

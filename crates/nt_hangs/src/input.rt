@@ -22,14 +22,14 @@ fn zero_start(bytes: &[u8]) -> usize
 }
 
 /// The bytes before the first zero byte: a journal's file may have room for more lines than it has.
-pub(crate) fn before_zero(bytes: &[u8]) -> &[u8]
+pub fn before_zero(bytes: &[u8]) -> &[u8]
     ensures { result.now ≡ before_zero bytes.now }
 {
     &bytes[..zero_start(bytes)]
 }
 
 /// The first line, without the LF that ends it, and what stands after it.
-pub(crate) fn first_line(bytes: &[u8]) -> (&[u8], &[u8])
+pub fn first_line(bytes: &[u8]) -> (&[u8], &[u8])
     requires { bytes.now ≢ [] }
     ensures lines { lines_of bytes.now ≡ result.0.now ∷ lines_of result.1.now }
     ensures shorter { length result.1.now < length bytes.now }

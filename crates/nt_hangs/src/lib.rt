@@ -5,7 +5,6 @@
 //! it for a reader's script, and [`why_file`] for a file's.
 #![tactic(auto)]
 
-mod commands;
 mod errors;
 mod input;
 mod names;
@@ -17,9 +16,13 @@ mod verdicts;
 mod waits;
 mod watch;
 mod why;
-mod words;
 
-pub use commands::{carry_out, lacks_memory};
-pub use reports::{Report, report_on};
-pub use why::{why_file, why_over};
-pub use words::why_asked;
+pub use errors::{lacks_memory, say};
+pub use input::{before_zero, first_line};
+pub use names::{called_by, put_object_name, put_thread_title};
+pub use reading::{InputFault, read_whole};
+pub use reports::{Report, last_moment, put_head, report_on};
+pub use text::{put_number, put_signed};
+pub use verdicts::{code_of, put_verdict};
+pub use watch::Watch;
+pub use why::{show, tell, why_file, why_over};

@@ -5,11 +5,11 @@ ghost use Rattle.nt_core.specs.Dispatcher.{state};
 ghost use Rattle.nt_calls.specs.State.{object_at};
 ghost use Rattle.nt_calls.specs.Living.{runs};
 ghost use Rattle.nt_script.specs.Progress.{progress};
-ghost use Rattle.nt_hangs.specs.Names.{object_name, thread_name};
+ghost use Rattle.nt_hangs.specs.Names.{object_title, thread_title};
 ghost use Rattle.nt_hangs.specs.Waits.{doing, due_text, mutex_text, object_text, owed_text, owned_text};
 ghost use Rattle.nt_hangs.specs.Waits.{set_text, state_text, unopened_text, who_text};
 
-use crate::names::{put_object_name, put_thread};
+use crate::names::{put_object_title, put_thread_title};
 use crate::text::{put_number, put_signed};
 use nt_core::Core;
 use nt_objects::{Armed, Object};
@@ -80,11 +80,11 @@ fn put_who(out: &mut Vec<u8>, core: &Core, thread: u32) -> Result<(), AllocError
 }
 
 /// Puts whose the mutex is.
-fn put_owner(out: &mut Vec<u8>, owner: u32) -> Result<(), AllocError>
-    ensures { OnOk result (out.new.items ≡ out.old.items ++ (codes "mutex, owned by " ++ thread_name owner)) }
+fn put_owner(out: &mut Vec<u8>, told: &[u8], owner: u32) -> Result<(), AllocError>
+    ensures { OnOk result (out.new.items ≡ out.old.items ++ (codes "mutex, owned by " ++ thread_title told.now owner)) }
 {
     out.extend_from_slice(b"mutex, owned by ")?;
-    put_thread(out, owner)
+    put_thread_title(out, told, owner)
 }
 
 /// Puts the releases that are owed, in brackets.
@@ -97,10 +97,16 @@ fn put_owing(out: &mut Vec<u8>, depth: u32) -> Result<(), AllocError>
 }
 
 /// Puts the state of a mutex that this thread owns.
-fn put_owned(out: &mut Vec<u8>, core: &Core, owner: u32, depth: u32) -> Result<(), AllocError>
-    ensures { OnOk result (out.new.items ≡ out.old.items ++ owned_text (state core.now) owner depth) }
+fn put_owned(
+    out: &mut Vec<u8>,
+    core: &Core,
+    told: &[u8],
+    owner: u32,
+    depth: u32,
+) -> Result<(), AllocError>
+    ensures { OnOk result (out.new.items ≡ out.old.items ++ owned_text (state core.now) told.now owner depth) }
 {
-    put_owner(out, owner)?;
+    put_owner(out, told, owner)?;
     put_owing(out, depth)?;
     put_who(out, core, owner)
 }
@@ -109,14 +115,15 @@ fn put_owned(out: &mut Vec<u8>, core: &Core, owner: u32, depth: u32) -> Result<(
 fn put_mutex(
     out: &mut Vec<u8>,
     core: &Core,
+    told: &[u8],
     owner: Option<ThreadId>,
     depth: u32,
     abandoned: bool,
 ) -> Result<(), AllocError>
-    ensures { OnOk result (out.new.items ≡ out.old.items ++ mutex_text (state core.now) owner depth abandoned) }
+    ensures { OnOk result (out.new.items ≡ out.old.items ++ mutex_text (state core.now) told.now owner depth abandoned) }
 {
     match owner {
-        Some(owner) => put_owned(out, core, u32::from(owner.get()), depth),
+        Some(owner) => put_owned(out, core, told, u32::from(owner.get()), depth),
         None if abandoned => out.extend_from_slice(b"mutex, abandoned"),
         None => out.extend_from_slice(b"mutex, free"),
     }
@@ -165,8 +172,14 @@ fn put_doing(out: &mut Vec<u8>, core: &Core, thread: u32) -> Result<(), AllocErr
 }
 
 /// Puts the state of the object with this number.
-fn put_state(out: &mut Vec<u8>, core: &Core, number: u32, object: &Object) -> Result<(), AllocError>
-    ensures { OnOk result (out.new.items ≡ out.old.items ++ state_text (state core.now) number object.now) }
+fn put_state(
+    out: &mut Vec<u8>,
+    core: &Core,
+    told: &[u8],
+    number: u32,
+    object: &Object,
+) -> Result<(), AllocError>
+    ensures { OnOk result (out.new.items ≡ out.old.items ++ state_text (state core.now) told.now number object.now) }
 {
     match object {
         Object::Event { manual: _, set } => put_event(out, *set),
@@ -175,7 +188,7 @@ fn put_state(out: &mut Vec<u8>, core: &Core, number: u32, object: &Object) -> Re
             owner,
             depth,
             abandoned,
-        } => put_mutex(out, core, *owner, *depth, *abandoned),
+        } => put_mutex(out, core, told, *owner, *depth, *abandoned),
         Object::Timer {
             manual: _,
             set,
@@ -208,26 +221,38 @@ fn unopened_text(core: &Core, object: ObjectNumber) -> &'static [u8]
 }
 
 /// Puts the state of the object with this number, and that no handle names it, if that is so.
-fn put_whole_state(out: &mut Vec<u8>, core: &Core, object: ObjectNumber) -> Result<(), AllocError>
+fn put_whole_state(
+    out: &mut Vec<u8>,
+    core: &Core,
+    told: &[u8],
+    object: ObjectNumber,
+) -> Result<(), AllocError>
     ensures { OnOk result (out.new.items ≡ out.old.items
-        ++ (state_text (state core.now) object (object_at (state core.now).objects object)
+        ++ (state_text (state core.now) told.now object (object_at (state core.now).objects object)
         ++ unopened_text (state core.now) object)) }
 {
-    put_state(out, core, object.get(), &object_at(core, object.get()))?;
+    put_state(
+        out,
+        core,
+        told,
+        object.get(),
+        &object_at(core, object.get()),
+    )?;
     out.extend_from_slice(unopened_text(core, object))
 }
 
-/// Puts an object's name and a colon.
+/// Puts an object's title and a colon.
 fn put_label(
     out: &mut Vec<u8>,
     session: &Session,
     objects: &[u32],
+    told: &[u8],
     object: u32,
 ) -> Result<(), AllocError>
     ensures { OnOk result (out.new.items ≡ out.old.items
-        ++ (object_name (progress session.now) objects.now object ++ codes ": ")) }
+        ++ (object_title (progress session.now) objects.now told.now object ++ codes ": ")) }
 {
-    put_object_name(out, session, objects, object)?;
+    put_object_title(out, session, objects, told, object)?;
     out.extend_from_slice(b": ")
 }
 
@@ -236,10 +261,11 @@ pub(crate) fn put_object(
     out: &mut Vec<u8>,
     session: &Session,
     objects: &[u32],
+    told: &[u8],
     object: ObjectNumber,
 ) -> Result<(), AllocError>
-    ensures { OnOk result (out.new.items ≡ out.old.items ++ object_text (progress session.now) objects.now object) }
+    ensures { OnOk result (out.new.items ≡ out.old.items ++ object_text (progress session.now) objects.now told.now object) }
 {
-    put_label(out, session, objects, object.get())?;
-    put_whole_state(out, session.core(), object)
+    put_label(out, session, objects, told, object.get())?;
+    put_whole_state(out, session.core(), told, object)
 }

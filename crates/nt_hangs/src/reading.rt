@@ -66,7 +66,7 @@ fn read_pieces<R: Source>(
 }
 
 /// All bytes that the reader has left.
-pub(crate) fn read_whole<R: Source>(alloc: Global, reader: &mut R) -> Result<Vec<u8>, InputFault>
+pub fn read_whole<R: Source>(alloc: Global, reader: &mut R) -> Result<Vec<u8>, InputFault>
     ensures ok { IfOk result (λ bytes. Has (R.remaining reader.old) bytes.items) }
     ensures counts { CountsInput (R.failed reader.old) (R.failed reader.new) result }
 {

@@ -4,7 +4,7 @@ ghost use Rattle.nt_lines.specs.Lines.{lines_of};
 ghost use Rattle.nt_core.specs.Dispatcher.{state};
 ghost use Rattle.nt_script.specs.Progress.{progress};
 ghost use Rattle.nt_status.specs.declared.limits.TheConstants.{MAX_MOMENT};
-ghost use Rattle.nt_hangs.specs.Reports.{place_text, report_text, IsReport, Reports, ReportsOf};
+ghost use Rattle.nt_hangs.specs.Reports.{head_text, place_text, report_text, IsReport, Reports, ReportsOf};
 ghost use Rattle.nt_hangs.specs.Verdicts.{verdict_text};
 ghost use Rattle.nt_hangs.specs.Watching.{before_zero, seen_of, unseen, up_to};
 
@@ -44,12 +44,33 @@ fn put_place(out: &mut Vec<u8>, file: &[u8], count: u64) -> Result<(), AllocErro
 }
 
 /// Puts the verdict, and ends its line.
-fn put_verdict_line(out: &mut Vec<u8>, core: &Core, verdict: &Verdict) -> Result<(), AllocError>
+fn put_verdict_line(
+    out: &mut Vec<u8>,
+    core: &Core,
+    told: &[u8],
+    verdict: &Verdict,
+) -> Result<(), AllocError>
     ensures { OnOk result (out.new.items ≡ out.old.items
-        ++ (verdict_text (state core.now) verdict.now.stuck verdict.now.knot.items verdict.now.next ++ codes "\n")) }
+        ++ (verdict_text (state core.now) told.now verdict.now.stuck verdict.now.knot.items verdict.now.next ++ codes "\n")) }
 {
-    put_verdict(out, core, verdict)?;
+    put_verdict(out, core, told, verdict)?;
     out.extend_from_slice(b"\n")
+}
+
+/// Puts the file's name, the number of its last line, and the verdict.
+pub fn put_head(
+    out: &mut Vec<u8>,
+    file: &[u8],
+    count: u64,
+    core: &Core,
+    told: &[u8],
+    verdict: &Verdict,
+) -> Result<(), AllocError>
+    ensures { OnOk result (out.new.items ≡ out.old.items ++ head_text file.now count (state core.now) told.now
+        verdict.now.stuck verdict.now.knot.items verdict.now.next) }
+{
+    put_place(out, file, count)?;
+    put_verdict_line(out, core, told, verdict)
 }
 
 /// Puts the report.
@@ -60,14 +81,14 @@ fn put_report(
     session: &Session,
     since: &[u64],
     objects: &[u32],
+    told: &[u8],
     verdict: &Verdict,
 ) -> Result<(), AllocError>
     ensures { OnOk result (out.new.items ≡ out.old.items ++ report_text file.now count (progress session.now) since.now
-        objects.now verdict.now.stuck verdict.now.knot.items verdict.now.next) }
+        objects.now told.now verdict.now.stuck verdict.now.knot.items verdict.now.next) }
 {
-    put_place(out, file, count)?;
-    put_verdict_line(out, session.core(), verdict)?;
-    put_waiters(out, session, objects, since)
+    put_head(out, file, count, session.core(), told, verdict)?;
+    put_waiters(out, session, objects, told, since)
 }
 
 /// What is told of a script, and the exit status that goes with it.
@@ -79,7 +100,7 @@ pub struct Report {
 }
 
 /// The greatest moment.
-fn last_moment() -> Moment
+pub fn last_moment() -> Moment
     ensures { result ≡ MAX_MOMENT }
 {
     match Moment::new(MAX_MOMENT) {
@@ -96,14 +117,17 @@ fn report_of(
     session: &Session,
     since: &[u64],
     objects: &[u32],
+    told: &[u8],
 ) -> Result<Report, AllocError>
-    ensures { IfOk result (λ report. IsReport file.now count (progress session.now) since.now objects.now
+    ensures { IfOk result (λ report. IsReport file.now count (progress session.now) since.now objects.now told.now
         report.text.items report.code) }
 {
     let core = session.core();
     let verdict = why(alloc, core, last_moment())?;
     let mut text = Vec::new(alloc);
-    put_report(&mut text, file, count, session, since, objects, &verdict)?;
+    put_report(
+        &mut text, file, count, session, since, objects, told, &verdict,
+    )?;
     Ok(Report {
         text,
         code: code_of(core, &verdict),
@@ -116,7 +140,15 @@ impl Watch {
         ensures { IfOk result (ReportsOf file.now count (seen_of self.now)) }
     {
         match &self.session {
-            Some(session) => report_of(alloc, file, count, session, &self.since, &self.objects),
+            Some(session) => report_of(
+                alloc,
+                file,
+                count,
+                session,
+                &self.since,
+                &self.objects,
+                &self.told,
+            ),
             None => Err(AllocError),
         }
     }

@@ -6,7 +6,7 @@ use itoa::Buffer;
 use std::alloc::AllocError;
 
 /// Puts a number in decimal.
-pub(crate) fn put_number(out: &mut Vec<u8>, number: u64) -> Result<(), AllocError>
+pub fn put_number(out: &mut Vec<u8>, number: u64) -> Result<(), AllocError>
     ensures { OnOk result (out.new.items ≡ out.old.items ++ decimal number) }
 {
     let mut buffer = Buffer::new();
@@ -14,7 +14,7 @@ pub(crate) fn put_number(out: &mut Vec<u8>, number: u64) -> Result<(), AllocErro
 }
 
 /// Puts a count, which may be negative, in decimal.
-pub(crate) fn put_signed(out: &mut Vec<u8>, count: i32) -> Result<(), AllocError>
+pub fn put_signed(out: &mut Vec<u8>, count: i32) -> Result<(), AllocError>
     ensures { OnOk result (out.new.items ≡ out.old.items ++ signed_decimal count) }
 {
     let mut buffer = Buffer::new();

@@ -5,7 +5,7 @@ ghost use Rattle.nt_look.specs.Hangs.{marked};
 ghost use Rattle.nt_hangs.specs.Verdicts.{code_of, knot_text, marks_in, members_text, next_text};
 ghost use Rattle.nt_hangs.specs.Verdicts.{others_text, separator, verdict_text};
 
-use crate::names::put_thread;
+use crate::names::put_thread_title;
 use crate::text::put_number;
 use nt_core::Core;
 use nt_look::Verdict;
@@ -50,46 +50,61 @@ fn separator(told: usize, count: usize) -> &'static [u8]
 }
 
 /// Puts the names of the marked threads.
-fn put_members(out: &mut Vec<u8>, marks: &[bool], threads: u32) -> Result<(), AllocError>
-    ensures { OnOk result (out.new.items ≡ out.old.items ++ members_text marks.now threads) }
+fn put_members(
+    out: &mut Vec<u8>,
+    told: &[u8],
+    marks: &[bool],
+    threads: u32,
+) -> Result<(), AllocError>
+    ensures { OnOk result (out.new.items ≡ out.old.items ++ members_text told.now marks.now threads) }
 {
     let count = marks_in(marks);
     for thread in 0..threads {
         if is_marked(marks, thread) {
-            let told = marks_below(marks, thread);
-            out.extend_from_slice(separator(told, count))?;
-            put_thread(out, thread)?;
+            let before = marks_below(marks, thread);
+            out.extend_from_slice(separator(before, count))?;
+            put_thread_title(out, told, thread)?;
         }
     }
     Ok(())
 }
 
 /// Puts that the one marked thread is held.
-fn put_single(out: &mut Vec<u8>, marks: &[bool], threads: u32) -> Result<(), AllocError>
+fn put_single(
+    out: &mut Vec<u8>,
+    told: &[u8],
+    marks: &[bool],
+    threads: u32,
+) -> Result<(), AllocError>
     ensures { OnOk result (out.new.items
-        ≡ out.old.items ++ (codes "nothing can end the wait of " ++ members_text marks.now threads)) }
+        ≡ out.old.items ++ (codes "nothing can end the wait of " ++ members_text told.now marks.now threads)) }
 {
     out.extend_from_slice(b"nothing can end the wait of ")?;
-    put_members(out, marks, threads)
+    put_members(out, told, marks, threads)
 }
 
 /// Puts that the marked threads hold each other.
-fn put_several(out: &mut Vec<u8>, marks: &[bool], threads: u32) -> Result<(), AllocError>
+fn put_several(
+    out: &mut Vec<u8>,
+    told: &[u8],
+    marks: &[bool],
+    threads: u32,
+) -> Result<(), AllocError>
     ensures { OnOk result (out.new.items
-        ≡ out.old.items ++ (members_text marks.now threads ++ codes " hold each other: nothing can end their waits")) }
+        ≡ out.old.items ++ (members_text told.now marks.now threads ++ codes " hold each other: nothing can end their waits")) }
 {
-    put_members(out, marks, threads)?;
+    put_members(out, told, marks, threads)?;
     out.extend_from_slice(b" hold each other: nothing can end their waits")
 }
 
 /// Puts which threads are held.
-fn put_knot(out: &mut Vec<u8>, marks: &[bool], threads: u32) -> Result<(), AllocError>
-    ensures { OnOk result (out.new.items ≡ out.old.items ++ knot_text marks.now threads) }
+fn put_knot(out: &mut Vec<u8>, told: &[u8], marks: &[bool], threads: u32) -> Result<(), AllocError>
+    ensures { OnOk result (out.new.items ≡ out.old.items ++ knot_text told.now marks.now threads) }
 {
     if marks_in(marks) == 1 {
-        put_single(out, marks, threads)
+        put_single(out, told, marks, threads)
     } else {
-        put_several(out, marks, threads)
+        put_several(out, told, marks, threads)
     }
 }
 
@@ -120,10 +135,16 @@ fn put_open(out: &mut Vec<u8>, next: Option<Moment>) -> Result<(), AllocError>
 }
 
 /// Puts which threads are held, and that the other waits never end either, if that is so.
-fn put_held(out: &mut Vec<u8>, marks: &[bool], threads: u32, all: bool) -> Result<(), AllocError>
-    ensures { OnOk result (out.new.items ≡ out.old.items ++ (knot_text marks.now threads ++ others_text all)) }
+fn put_held(
+    out: &mut Vec<u8>,
+    told: &[u8],
+    marks: &[bool],
+    threads: u32,
+    all: bool,
+) -> Result<(), AllocError>
+    ensures { OnOk result (out.new.items ≡ out.old.items ++ (knot_text told.now marks.now threads ++ others_text all)) }
 {
-    put_knot(out, marks, threads)?;
+    put_knot(out, told, marks, threads)?;
     out.extend_from_slice(others_text(all))
 }
 
@@ -134,13 +155,14 @@ fn stuck_text() -> &'static [u8]
 }
 
 /// Puts whether anything can end the waits.
-pub(crate) fn put_verdict(
+pub fn put_verdict(
     out: &mut Vec<u8>,
     core: &Core,
+    told: &[u8],
     verdict: &Verdict,
 ) -> Result<(), AllocError>
     ensures { OnOk result (out.new.items ≡ out.old.items
-        ++ verdict_text (state core.now) verdict.now.stuck verdict.now.knot.items verdict.now.next) }
+        ++ verdict_text (state core.now) told.now verdict.now.stuck verdict.now.knot.items verdict.now.next) }
 {
     let knot = verdict.knot.as_slice();
     let held = marks_in(knot);
@@ -148,7 +170,7 @@ pub(crate) fn put_verdict(
         out.extend_from_slice(b"nobody waits")
     } else if held > 0 {
         let all = verdict.stuck && held < core.pending();
-        put_held(out, knot, core.threads(), all)
+        put_held(out, told, knot, core.threads(), all)
     } else if verdict.stuck {
         out.extend_from_slice(stuck_text())
     } else {
@@ -164,7 +186,7 @@ fn others_text(stuck: bool) -> &'static [u8]
 }
 
 /// The exit status.
-pub(crate) fn code_of(core: &Core, verdict: &Verdict) -> u8
+pub fn code_of(core: &Core, verdict: &Verdict) -> u8
     ensures { result ≡ code_of (state core.now) verdict.now.stuck verdict.now.knot.items }
 {
     if core.pending() == 0 {

@@ -3,11 +3,11 @@ ghost use Rattle.std.specs.Prelude.{◌≡◌, ◌++◌, OnOk, codes, decimal, s
 ghost use Rattle.std.specs.List.{flat_map};
 ghost use Rattle.std.specs.FinMap.{get};
 ghost use Rattle.nt_script.specs.Progress.{progress};
-ghost use Rattle.nt_hangs.specs.Names.{thread_name};
+ghost use Rattle.nt_hangs.specs.Names.{thread_title};
 ghost use Rattle.nt_hangs.specs.Waits.{gap_text, kind_text, mode_text, names_text, object_text, objects_text};
 ghost use Rattle.nt_hangs.specs.Waits.{since_text, time_text, wait_text, waiter_text, waiters_text};
 
-use crate::names::{put_object_name, put_thread};
+use crate::names::{put_object_name, put_thread_title};
 use crate::objects::put_object;
 use crate::text::put_number;
 use nt_script::Session;
@@ -114,15 +114,16 @@ fn put_each(
     out: &mut Vec<u8>,
     session: &Session,
     objects: &[u32],
+    told: &[u8],
     gap: &[u8],
     numbers: &[ObjectNumber],
 ) -> Result<(), AllocError>
     ensures { OnOk result (out.new.items ≡ out.old.items
-        ++ flat_map (λ o. gap.now ++ object_text (progress session.now) objects.now o) numbers.now) }
+        ++ flat_map (λ o. gap.now ++ object_text (progress session.now) objects.now told.now o) numbers.now) }
 {
     for number in numbers {
         out.extend_from_slice(gap)?;
-        put_object(out, session, objects, *number)?;
+        put_object(out, session, objects, told, *number)?;
     }
     Ok(())
 }
@@ -132,25 +133,27 @@ fn put_objects(
     out: &mut Vec<u8>,
     session: &Session,
     objects: &[u32],
+    told: &[u8],
     wait: &Wait,
 ) -> Result<(), AllocError>
-    ensures { OnOk result (out.new.items ≡ out.old.items ++ objects_text (progress session.now) objects.now wait.now) }
+    ensures { OnOk result (out.new.items ≡ out.old.items ++ objects_text (progress session.now) objects.now told.now wait.now) }
 {
     put_each(
         out,
         session,
         objects,
+        told,
         gap_text(wait),
         wait.objects.as_slice(),
     )
 }
 
 /// Puts a thread's name, at the beginning of its line.
-fn put_waiting(out: &mut Vec<u8>, thread: u32) -> Result<(), AllocError>
-    ensures { OnOk result (out.new.items ≡ out.old.items ++ (codes "  " ++ thread_name thread)) }
+fn put_waiting(out: &mut Vec<u8>, told: &[u8], thread: u32) -> Result<(), AllocError>
+    ensures { OnOk result (out.new.items ≡ out.old.items ++ (codes "  " ++ thread_title told.now thread)) }
 {
     out.extend_from_slice(b"  ")?;
-    put_thread(out, thread)
+    put_thread_title(out, told, thread)
 }
 
 /// Puts since which line it waits.
@@ -163,10 +166,10 @@ fn put_line(out: &mut Vec<u8>, line: u64) -> Result<(), AllocError>
 }
 
 /// Puts a thread, and since which line it waits.
-fn put_since(out: &mut Vec<u8>, thread: u32, since: u64) -> Result<(), AllocError>
-    ensures { OnOk result (out.new.items ≡ out.old.items ++ since_text thread since) }
+fn put_since(out: &mut Vec<u8>, told: &[u8], thread: u32, since: u64) -> Result<(), AllocError>
+    ensures { OnOk result (out.new.items ≡ out.old.items ++ since_text told.now thread since) }
 {
-    put_waiting(out, thread)?;
+    put_waiting(out, told, thread)?;
     put_line(out, since)
 }
 
@@ -175,14 +178,15 @@ fn put_whole_wait(
     out: &mut Vec<u8>,
     session: &Session,
     objects: &[u32],
+    told: &[u8],
     wait: &Wait,
 ) -> Result<(), AllocError>
     ensures { OnOk result (out.new.items ≡ out.old.items
         ++ (wait_text (progress session.now) objects.now wait.now
-        ++ objects_text (progress session.now) objects.now wait.now)) }
+        ++ objects_text (progress session.now) objects.now told.now wait.now)) }
 {
     put_wait(out, session, objects, wait)?;
-    put_objects(out, session, objects, wait)
+    put_objects(out, session, objects, told, wait)
 }
 
 /// Puts what the thread waits for, since this line; nothing where it does not wait.
@@ -190,16 +194,17 @@ fn put_waiter(
     out: &mut Vec<u8>,
     session: &Session,
     objects: &[u32],
+    told: &[u8],
     since: u64,
     thread: u32,
 ) -> Result<(), AllocError>
-    ensures { OnOk result (out.new.items ≡ out.old.items ++ waiter_text (progress session.now) objects.now since thread
+    ensures { OnOk result (out.new.items ≡ out.old.items ++ waiter_text (progress session.now) objects.now told.now since thread
         (get (progress session.now).state.waits thread)) }
 {
     match session.core().waits_for(thread) {
         Some(wait) => {
-            put_since(out, thread, since)?;
-            put_whole_wait(out, session, objects, wait)?;
+            put_since(out, told, thread, since)?;
+            put_whole_wait(out, session, objects, told, wait)?;
             out.extend_from_slice(b"\n")
         }
         None => Ok(()),
@@ -221,13 +226,14 @@ pub(crate) fn put_waiters(
     out: &mut Vec<u8>,
     session: &Session,
     objects: &[u32],
+    told: &[u8],
     since: &[u64],
 ) -> Result<(), AllocError>
-    ensures { OnOk result (out.new.items ≡ out.old.items ++ waiters_text (progress session.now) objects.now since.now
+    ensures { OnOk result (out.new.items ≡ out.old.items ++ waiters_text (progress session.now) objects.now told.now since.now
         (progress session.now).state.threads) }
 {
     for thread in 0..session.core().threads() {
-        put_waiter(out, session, objects, since_at(since, thread), thread)?;
+        put_waiter(out, session, objects, told, since_at(since, thread), thread)?;
     }
     Ok(())
 }

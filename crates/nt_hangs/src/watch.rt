@@ -2,11 +2,12 @@
 ghost use Rattle.std.specs.Prelude.{◌≡◌, ◌+◌, ◌<◌, ◌≤◌, ◌++◌, ℕ, codes, nat_eq, length, slice_index_or, vec_len};
 ghost use Rattle.std.specs.Prelude.{IfOk, IfErr, OnOk};
 ghost use Rattle.std.specs.List.{ends_with};
+ghost use Rattle.std.specs.Option.{option_copied};
 ghost use Rattle.nt_script.specs.Scope.{handle_in};
 ghost use Rattle.nt_script.specs.Progress.{AreCounted, LineAnswers, progress, progress_of};
 ghost use Rattle.nt_lines.specs.Lines.{lines_of};
 ghost use Rattle.nt_hangs.specs.Steps.{is_last, HasFault, IsFaultOf, Watches};
-ghost use Rattle.nt_hangs.specs.Watching.{is_waiting, names_of, object_named, object_of, seen_of, since_of, since_then, unseen, up_to, Sees};
+ghost use Rattle.nt_hangs.specs.Watching.{is_waiting, names_of, object_named, object_of, seen_of, since_of, since_then, telling, unseen, up_to, Sees};
 
 use crate::input::first_line;
 use nt_script::{LineFault, RunFault, ScriptFault, Session, carry_out};
@@ -27,6 +28,8 @@ pub struct Watch {
     pub(crate) since: Vec<u64>,
     /// By the places of names, the numbers of the objects that they were given to.
     pub(crate) objects: Vec<u32>,
+    /// The lines that are a comment, each with an LF: they may tell names, as `; h256 is accounts`.
+    pub(crate) told: Vec<u8>,
     /// What the last line said.
     out: Vec<u8>,
 }
@@ -113,6 +116,17 @@ fn note_object(
     Ok(())
 }
 
+/// Notes the line, if it is a comment.
+fn note_comment(told: &mut Vec<u8>, line: &[u8]) -> Result<(), AllocError>
+    ensures { OnOk result (told.new.items ≡ told.old.items ++ telling line.now) }
+{
+    if line.starts_with(b"; ") {
+        told.extend_from_slice(line)?;
+        told.push(b'\n')?;
+    }
+    Ok(())
+}
+
 /// Whether the line with this number was the last to be carried out.
 fn is_last(last: Option<u64>, count: u64) -> bool
     ensures { result ≡ is_last last count }
@@ -132,13 +146,14 @@ fn wants_memory(said: &[u8]) -> bool
 
 impl Watch {
     /// Nothing is seen yet.
-    pub(crate) fn new(alloc: Global) -> Result<Watch, AllocError>
+    pub fn new(alloc: Global) -> Result<Watch, AllocError>
         ensures { IfOk result (λ watch. seen_of watch ≡ unseen) }
     {
         Ok(Watch {
             session: None,
             since: Vec::from_elem(alloc, 0, MOST_THREADS)?,
             objects: Vec::new(alloc),
+            told: Vec::new(alloc),
             out: Vec::new(alloc),
         })
     }
@@ -160,11 +175,12 @@ impl Watch {
         }
         note_waits(&mut self.since, &self.session, number);
         note_object(&mut self.objects, &self.session, place)?;
+        note_comment(&mut self.told, line)?;
         Ok(())
     }
 
     /// The same of a line that may be too long.
-    fn see_line(&mut self, alloc: Global, number: u64, line: &[u8]) -> Result<(), RunFault>
+    pub fn see_line(&mut self, alloc: Global, number: u64, line: &[u8]) -> Result<(), RunFault>
         requires counted { AreCounted number (progress_of self.old.session) }
         requires places { vec_len self.old.since ≡ 256 }
         ensures sees { OnOk result (Sees number line.now (seen_of self.old) (seen_of self.new)) }
@@ -187,6 +203,32 @@ impl Watch {
                 fault,
             }),
         }
+    }
+
+    /// The script's session, once its `threads` line was carried out.
+    pub fn session(&self) -> Option<&Session>
+        ensures { option_copied result ≡ self.now.session }
+    {
+        self.session.as_ref()
+    }
+
+    /// The lines so far that are a comment, each with an LF: they may tell names.
+    pub fn told(&self) -> &[u8]
+        ensures { result.now ≡ (seen_of self.now).told }
+    {
+        &self.told
+    }
+
+    /// By the places of names, the numbers of the objects that they were given to.
+    pub fn objects(&self) -> &[u32]
+        ensures { result.now ≡ (seen_of self.now).objects }
+    {
+        &self.objects
+    }
+
+    /// What the last line said.
+    pub fn said(&self) -> &[u8] {
+        &self.out
     }
 
     /// Carries out the lines up to this one, and answers how many there were.

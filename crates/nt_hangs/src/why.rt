@@ -2,7 +2,7 @@
 ghost use Rattle.std.specs.Prelude.{◌≡◌};
 ghost use Rattle.nt_hangs.specs.Ending.{FileTold, Hands, Shows, TellsFault, TellsInput, WhyEnds};
 
-use crate::errors::{OUT_OF_MEMORY, message_of, say, status_of};
+use crate::errors::{lacks_memory, message_of, say, status_of};
 use crate::reading::{InputFault, read_whole};
 use crate::reports::{Report, report_on};
 use nt_devices::{Counted, Sink, Source, WriteFailed, write_whole};
@@ -26,7 +26,7 @@ fn hand<W: Sink>(writer: &mut W, text: &[u8]) -> Result<(), WriteFailed>
 }
 
 /// Writes the report, and answers its exit status; 1 if it could not be handed on, which is said.
-fn show<W: Sink, E: Sink>(report: &Report, writer: &mut W, errors: &mut E) -> u8
+pub fn show<W: Sink, E: Sink>(report: &Report, writer: &mut W, errors: &mut E) -> u8
     ensures { Shows report.now.text.items report.now.code (W.contents writer.old) (W.contents writer.new)
         (W.failed writer.old) (W.failed writer.new) (W.handed_on writer.new)
         (E.contents errors.old) (E.contents errors.new) (E.failed errors.old) (E.failed errors.new) result }
@@ -38,13 +38,13 @@ fn show<W: Sink, E: Sink>(report: &Report, writer: &mut W, errors: &mut E) -> u8
 }
 
 /// Says why the script was not run to the line, and answers the exit status.
-fn tell<E: Sink>(alloc: Global, fault: RunFault, errors: &mut E) -> u8
+pub fn tell<E: Sink>(alloc: Global, fault: RunFault, errors: &mut E) -> u8
     ensures { TellsFault fault (E.contents errors.old) (E.contents errors.new) (E.failed errors.old)
         (E.failed errors.new) result }
 {
     match message_of(alloc, fault) {
         Ok(line) => say(errors, line.as_slice(), status_of(fault)),
-        Err(_) => say(errors, OUT_OF_MEMORY, 1),
+        Err(_) => lacks_memory(errors),
     }
 }
 
@@ -88,7 +88,7 @@ pub fn why_over<R: Source, W: Sink, E: Sink>(
     match read_whole(alloc, reader) {
         Ok(input) => why_input(alloc, file, input.as_slice(), last, writer, errors),
         Err(InputFault::Failed) => say(errors, b"ntlook: read failed\n", 1),
-        Err(InputFault::Memory) => say(errors, OUT_OF_MEMORY, 1),
+        Err(InputFault::Memory) => lacks_memory(errors),
     }
 }
 

@@ -2,7 +2,7 @@
 #![tactic(auto)]
 
 use nt_devices::{Counted, Sink};
-use nt_hangs::{carry_out, lacks_memory};
+use nt_look_commands::{carry_out, lacks_memory};
 use std::alloc::AllocError;
 use std::env::{self, Env};
 use std::io::Print;

@@ -3,4 +3,4 @@ use Rattle.nt_hangs.specs.Verdicts.{members_text}
 use Rattle.nt_hangs.proofs.verdicts.put_members.Given as goal
 
 abbrev pub invariant-loop-thread : goal.invariant-loop-thread
-invariant-loop-thread l = l.out.items ≡ l.fn.out.items ++ members_text l.marks l.thread
+invariant-loop-thread l = l.out.items ≡ l.fn.out.items ++ members_text l.told l.marks l.thread

@@ -5,5 +5,5 @@ use Rattle.nt_hangs.proofs.verdicts.put_single.Goals as goal
 
 pub returns : goal.returns
 returns c =
-    put_two c.put_members.result c.args.out.now.items c.extend_from_slice.new.self.items c.put_members.new.out.items (codes "nothing can end the wait of ") (members_text c.args.marks.now c.args.threads)
+    put_two c.put_members.result c.args.out.now.items c.extend_from_slice.new.self.items c.put_members.new.out.items (codes "nothing can end the wait of ") (members_text c.args.told.now c.args.marks.now c.args.threads)
     c.in_ok-extend_from_slice.ensures.items c.put_members.ensures

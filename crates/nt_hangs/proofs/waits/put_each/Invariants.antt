@@ -5,4 +5,4 @@ use Rattle.nt_hangs.specs.Waits.{object_text}
 use Rattle.nt_hangs.proofs.waits.put_each.Given as goal
 
 abbrev pub invariant-loop-number : goal.invariant-loop-number
-invariant-loop-number l = l.out.items ≡ l.fn.out.items ++ flat_map (λ o. l.gap ++ object_text (progress l.session) l.objects o) (take l.number-index l.numbers)
+invariant-loop-number l = l.out.items ≡ l.fn.out.items ++ flat_map (λ o. l.gap ++ object_text (progress l.session) l.objects l.told o) (take l.number-index l.numbers)

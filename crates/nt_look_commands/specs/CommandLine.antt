@@ -1,0 +1,117 @@
+-- What the words of a command line ask for.
+use Rattle.std.specs.Prelude.{ℕ, ◌==◌, ◌&&◌, ◌||◌, nat_lt, Bool, true, false, not, List, [], ◌∷◌, length, Option, None, Some, option_map, option_and_then, is_some, take, drop, position, Result, Ok, Err, if◌then◌else◌, codes}
+use Rattle.std.specs.Str.{bytes_eq}
+use Rattle.std.specs.Option.{option_copied}
+use Rattle.nt_lines.specs.Words.{caller_of, number_of}
+use Rattle.nt_look_commands.specs.declared.command.Command.{Command}
+use Rattle.nt_look_commands.specs.declared.command.Command.TheVariants as command
+use Rattle.nt_look_commands.specs.declared.look.Look.{Look}
+use Rattle.nt_look_commands.specs.declared.look.Look.TheVariants as look
+use Rattle.nt_look_commands.specs.Commands.{command_of, knows}
+
+-- ---- the words after a command
+
+-- a word that does not begin with `-`, or is `-` alone
+abbrev pub is_operand : List ℕ → Bool
+is_operand [] = true
+is_operand (first ∷ []) = true
+is_operand (first ∷ second ∷ others) = not (first == 45)
+
+-- whether a word is `--`, after which nothing is an option
+abbrev pub ends_options : List ℕ → Bool
+ends_options word = bytes_eq word (codes "--")
+
+-- the value of an option is the word after it
+abbrev pub value_in : List ℕ → List (List ℕ) → Option (List ℕ)
+value_in option [] = None
+value_in option (word ∷ []) = None
+value_in option (word ∷ value ∷ others) =
+    if is_operand word then value_in option (value ∷ others)
+    else (if bytes_eq word option then Some value else value_in option others)
+
+-- the file is an operand, or what follows `--` at the end
+abbrev pub file_in : List (List ℕ) → Option (List ℕ)
+file_in [] = None
+file_in (word ∷ []) = if is_operand word then Some word else None
+file_in (word ∷ value ∷ others) =
+    if is_operand word then Some word else (if ends_options word && (length others == 0) then Some value else file_in others)
+
+-- an option of the command that the words after it do not tell again
+unfoldable pub is_told_once : Command → List ℕ → List (List ℕ) → Bool
+is_told_once command option others = knows command option && not (is_some (value_in option others))
+
+-- options of the command with their values, none of them twice, and at most one file
+abbrev pub are_lawful : Command → List (List ℕ) → Bool
+are_lawful command [] = true
+are_lawful command (word ∷ []) = is_operand word
+are_lawful command (word ∷ value ∷ others) =
+    if is_operand word then not (is_some (file_in (value ∷ others))) && are_lawful command (value ∷ others)
+    else (ends_options word && (length others == 0)) || (is_told_once command word others && are_lawful command others)
+
+-- ---- what is asked for
+
+-- what a command is to do
+pub data Asked : Type 0 where
+  AskedWhy : (file : List ℕ) → (at : Option ℕ) → Asked
+  AskedTimeline : (file : List ℕ) → (lines : Option (ℕ × ℕ)) → (object : Option (List ℕ)) → (thread : Option ℕ) → (svg : Option (List ℕ)) → Asked
+
+abbrev pub asked : Look → Asked
+asked (look.Why file at) = AskedWhy file.now at
+asked (look.Timeline file part svg) = AskedTimeline file.now part.lines (option_copied part.object) part.thread (option_copied svg)
+
+-- the number of a line, from 1 on
+unfoldable pub line_of : List ℕ → Option ℕ
+line_of word = option_and_then (λ n. if nat_lt 0 n then Some n else None) (number_of 20 word)
+
+-- an option that is left out, or its value where that is lawful
+abbrev pub told : {X : Type 0} → (List ℕ → Option X) → Option (List ℕ) → Option (Option X)
+told reading None = Some None
+told reading (Some word) = option_map (λ x. Some x) (reading word)
+
+abbrev pub why_in : List ℕ → List (List ℕ) → Option Asked
+why_in file words = option_map (AskedWhy file) (told line_of (value_in (codes "--at") words))
+
+-- the number of a line after `..`
+unfoldable pub after_dots : List ℕ → Option ℕ
+after_dots [] = None
+after_dots (first ∷ []) = None
+after_dots (first ∷ second ∷ last) = if (first == 46) && (second == 46) then line_of last else None
+
+abbrev pub both : {X Y : Type 0} → Option X → Option Y → Option (X × Y)
+both first second = option_and_then (λ x. option_map (λ y. (x, y)) second) first
+
+abbrev pub is_dot : ℕ → Bool
+is_dot byte = byte == 46
+
+-- the lines of A..B
+abbrev pub lines_of : List ℕ → Option (ℕ × ℕ)
+lines_of word = option_and_then (λ place. both (line_of (take place word)) (after_dots (drop place word))) (position is_dot word)
+
+abbrev pub timeline_in : List ℕ → List (List ℕ) → Option Asked
+timeline_in file words =
+    option_map (λ narrowed. AskedTimeline file narrowed.0 (value_in (codes "--object") words) narrowed.1 (value_in (codes "--svg") words))
+    (both (told lines_of (value_in (codes "--lines") words)) (told caller_of (value_in (codes "--thread") words)))
+
+-- what the command is to do with the file
+abbrev pub on_file : Command → List ℕ → List (List ℕ) → Option Asked
+on_file command.Why file words = why_in file words
+on_file command.Timeline file words = timeline_in file words
+
+-- what these words after the command ask for, if they are lawful
+abbrev pub after : Command → List (List ℕ) → Option Asked
+after command words = if are_lawful command words then option_and_then (λ file. on_file command file words) (file_in words) else None
+
+-- the same, or the command whose usage is to be told
+abbrev pub or_usage : Command → Option Asked → Result Asked (Option Command)
+or_usage command None = Err (Some command)
+or_usage command (Some asked) = Ok asked
+
+abbrev pub by_command : Option Command → List (List ℕ) → Result Asked (Option Command)
+by_command None words = Err None
+by_command (Some command) words = or_usage command (after command words)
+
+-- what a command line asks for, the program's own name first; or whose usage is to be told, that of all commands where none is named
+abbrev pub look_of : List (List ℕ) → Result Asked (Option Command)
+look_of [] = Err None
+look_of (own ∷ []) = Err None
+look_of (own ∷ name ∷ words) = by_command (command_of name) words

@@ -1,0 +1,4 @@
+pub mod Commands
+pub mod CommandLine
+pub mod Looks
+pub mod Ending

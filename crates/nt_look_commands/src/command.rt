@@ -1,0 +1,57 @@
+//! The commands, with the options and the usage line of each.
+ghost use Rattle.std.specs.Prelude.{◌≡◌};
+ghost use Rattle.nt_look_commands.specs.Commands.{command_of, knows, usage_of};
+ghost use Rattle.nt_look_commands.specs.declared.command.Command.TheVariants.{Timeline};
+
+/// A command of the program.
+#[derive(Clone, Copy, Debug, PartialEq, Eq)]
+pub enum Command {
+    /// Why threads wait.
+    Why,
+    /// What happened, line by line.
+    Timeline,
+}
+
+/// The command with this name.
+pub(crate) fn command_of(word: &str) -> Option<Command>
+    ensures { result ≡ command_of word.now }
+{
+    if word == "why" {
+        Some(Command::Why)
+    } else if word == "timeline" {
+        Some(Command::Timeline)
+    } else {
+        None
+    }
+}
+
+/// Whether it is an option of `ntlook timeline`.
+fn is_of_timeline(option: &str) -> bool
+    ensures { result ≡ knows Timeline option.now }
+{
+    option == "--lines" || option == "--object" || option == "--thread" || option == "--svg"
+}
+
+impl Command {
+    /// Whether the command has this option.
+    pub(crate) fn knows(self, option: &str) -> bool
+        ensures { result ≡ knows self option.now }
+    {
+        match self {
+            Command::Why => option == "--at",
+            Command::Timeline => is_of_timeline(option),
+        }
+    }
+
+    /// The line that tells how the command is called.
+    pub fn usage(self) -> &'static [u8]
+        ensures { result.now ≡ usage_of self }
+    {
+        match self {
+            Command::Why => b"ntlook: usage: ntlook why FILE [--at LINE]\n",
+            Command::Timeline => {
+                b"ntlook: usage: ntlook timeline FILE [--lines A..B] [--object NAME] [--thread tN] [--svg OUT]\n"
+            }
+        }
+    }
+}

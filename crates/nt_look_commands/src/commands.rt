@@ -1,0 +1,102 @@
+//! What is done with the words of a command line.
+ghost use Rattle.std.specs.Prelude.{◌≡◌, map, string_bytes};
+ghost use Rattle.nt_look_commands.specs.CommandLine.{asked, look_of};
+ghost use Rattle.nt_look_commands.specs.Ending.{CommandEnds, MakesTimeline, PrintTimeline, PrintTold, usage_for};
+ghost use Rattle.std.specs.Option.{option_copied};
+
+use crate::command::Command;
+use crate::look::{Look, look_of};
+use nt_devices::{Counted, Sink};
+use nt_hangs::{lacks_memory, say, why_file};
+use nt_timeline::{Part, picture_file, timeline_file};
+use std::io::{self, BufWriter, Print};
+use std::rt::Files;
+
+/// The usage of all commands.
+const USAGE: &[u8] =
+    b"ntlook: usage: ntlook why FILE [--at LINE]\nntlook: usage: ntlook timeline FILE [--lines A..B] [--object NAME] [--thread tN] [--svg OUT]\n";
+
+/// Reports to standard output why the threads of this file's script wait, and answers the exit status.
+fn print_why<R: Files + AllocGlobal + Print, E: Sink>(
+    rt: &R,
+    path: &str,
+    last: Option<u64>,
+    errors: &mut E,
+) -> u8
+    ensures { PrintTold path.now last (E.contents errors.old) (E.contents errors.new) (E.failed errors.old)
+        (E.failed errors.new) result }
+{
+    match BufWriter::new(rt.alloc(), io::writer(rt)) {
+        Ok(writer) => why_file(rt, path, last, &mut Counted::new(writer), errors),
+        Err(_) => lacks_memory(errors),
+    }
+}
+
+/// Writes the timeline of this file's script to standard output, and answers the exit status.
+fn print_timeline<R: Files + AllocGlobal + Print, E: Sink>(
+    rt: &R,
+    path: &str,
+    part: &Part<'_>,
+    errors: &mut E,
+) -> u8
+    ensures { PrintTimeline (E.contents errors.old) (E.contents errors.new) (E.failed errors.old)
+        (E.failed errors.new) result }
+{
+    match BufWriter::new(rt.alloc(), io::writer(rt)) {
+        Ok(writer) => timeline_file(rt, path, part, &mut Counted::new(writer), errors),
+        Err(_) => lacks_memory(errors),
+    }
+}
+
+/// The usage of this command, or of all.
+fn usage_for(command: Option<Command>) -> &'static [u8]
+    ensures { result.now ≡ usage_for command }
+{
+    match command {
+        Some(command) => command.usage(),
+        None => USAGE,
+    }
+}
+
+/// Writes the timeline of this file's script: to standard output, or as a picture into the file `svg`. Answers the exit status.
+fn make_timeline<R: Files + AllocGlobal + Print, E: Sink>(
+    rt: &R,
+    path: &str,
+    part: &Part<'_>,
+    svg: Option<&str>,
+    errors: &mut E,
+) -> u8
+    ensures { MakesTimeline (option_copied svg.entry) (E.contents errors.old) (E.contents errors.new)
+        (E.failed errors.old) (E.failed errors.new) result }
+{
+    match svg {
+        Some(out) => picture_file(rt, path, part, out, errors),
+        None => print_timeline(rt, path, part, errors),
+    }
+}
+
+/// Does what is asked for, and answers the exit status.
+fn take_look<R: Files + AllocGlobal + Print, E: Sink>(rt: &R, look: Look<'_>, errors: &mut E) -> u8
+    ensures { CommandEnds (Ok (asked look.entry)) (E.contents errors.old) (E.contents errors.new)
+        (E.failed errors.old) (E.failed errors.new) result }
+{
+    match look {
+        Look::Why { file, at } => print_why(rt, file, at, errors),
+        Look::Timeline { file, part, svg } => make_timeline(rt, file, &part, svg, errors),
+    }
+}
+
+/// Does what the words ask for, the program's own name first, and answers the exit status. What is not done is said on `errors`.
+pub fn carry_out<R: Files + AllocGlobal + Print, E: Sink>(
+    rt: &R,
+    words: &[String],
+    errors: &mut E,
+) -> u8
+    ensures { CommandEnds (look_of (map string_bytes words.now)) (E.contents errors.old) (E.contents errors.new)
+        (E.failed errors.old) (E.failed errors.new) result }
+{
+    match look_of(words) {
+        Ok(look) => take_look(rt, look, errors),
+        Err(command) => say(errors, usage_for(command), 2),
+    }
+}

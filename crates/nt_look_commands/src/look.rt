@@ -1,0 +1,177 @@
+//! What a command line asks for.
+ghost use Rattle.std.specs.Prelude.{◌≡◌, ◌<◌, None, Some, IfSome, length, position, MatchOption, MatchResult, codes, map, string_bytes};
+ghost use Rattle.nt_look_commands.specs.CommandLine.{after, after_dots, asked, both, is_dot, line_of, lines_of, look_of, timeline_in, told, value_in, why_in};
+ghost use Rattle.nt_lines.specs.Words.{caller_of};
+ghost use Rattle.nt_look_commands.specs.Looks.{Finds};
+
+use crate::command::{Command, command_of};
+use crate::words::{are_lawful, file_in, value_in};
+use nt_lines::{caller_of, number_of};
+use nt_timeline::Part;
+
+/// What the program is to do.
+#[derive(Clone, Copy, Debug)]
+pub enum Look<'a> {
+    /// Report why the threads of the script in this file wait after a line, or at its end.
+    Why {
+        file: &'a str,
+        at: Option<u64>,
+    },
+    /// Write a part of the timeline of the script in this file: as text, or as a picture into another file.
+    Timeline {
+        file: &'a str,
+        part: Part<'a>,
+        svg: Option<&'a str>,
+    },
+}
+
+/// The number of a line, from 1 on.
+#[tactic(auto, unfolding(crate::specs::CommandLine::line_of))]
+fn line_of(word: &[u8]) -> Option<u64>
+    ensures { result ≡ line_of word.now }
+{
+    match number_of(word, 20) {
+        Some(line) if line > 0 => Some(line),
+        _ => None,
+    }
+}
+
+/// The line that an option tells; `Some(None)` where the option is left out.
+fn line_in(option: &str, words: &[String]) -> Option<Option<u64>>
+    ensures { result ≡ told line_of (value_in option.now (map string_bytes words.now)) }
+{
+    match value_in(option, words) {
+        Some(word) => match line_of(word.as_bytes()) {
+            Some(line) => Some(Some(line)),
+            None => None,
+        },
+        None => Some(None),
+    }
+}
+
+/// `ntlook why`
+fn why_in<'a>(file: &'a str, words: &[String]) -> Option<Look<'a>>
+    ensures { Finds (why_in file.now (map string_bytes words.now)) result }
+{
+    match line_in("--at", words) {
+        Some(at) => Some(Look::Why { file, at }),
+        None => None,
+    }
+}
+
+/// The number of a line after `..`.
+#[tactic(auto, unfolding(crate::specs::CommandLine::after_dots))]
+fn after_dots(text: &[u8]) -> Option<u64>
+    ensures { result ≡ after_dots text.now }
+{
+    match text {
+        [b'.', b'.', last @ ..] => line_of(last),
+        _ => None,
+    }
+}
+
+/// Two values, where both are there.
+fn both(first: Option<u64>, second: Option<u64>) -> Option<(u64, u64)>
+    ensures { result ≡ both first second }
+{
+    match (first, second) {
+        (Some(first), Some(second)) => Some((first, second)),
+        _ => None,
+    }
+}
+
+/// Where the first dot is.
+fn first_dot(word: &[u8]) -> Option<usize>
+    ensures place { result ≡ position is_dot word.now }
+    ensures within { IfSome result (λ place. place < length word.now) }
+{
+    word.iter().position(|byte| *byte == b'.')
+}
+
+/// The lines of `A..B`.
+fn lines_of(word: &[u8]) -> Option<(u64, u64)>
+    ensures { result ≡ lines_of word.now }
+{
+    match first_dot(word) {
+        Some(place) => both(line_of(&word[..place]), after_dots(&word[place..])),
+        None => None,
+    }
+}
+
+/// The lines that `--lines` tells; `Some(None)` where it is left out.
+fn lines_in(words: &[String]) -> Option<Option<(u64, u64)>>
+    ensures { result ≡ told lines_of (value_in (codes "--lines") (map string_bytes words.now)) }
+{
+    match value_in("--lines", words) {
+        Some(word) => match lines_of(word.as_bytes()) {
+            Some(lines) => Some(Some(lines)),
+            None => None,
+        },
+        None => Some(None),
+    }
+}
+
+/// The thread that `--thread` tells; `Some(None)` where it is left out.
+fn thread_in(words: &[String]) -> Option<Option<u32>>
+    ensures { result ≡ told caller_of (value_in (codes "--thread") (map string_bytes words.now)) }
+{
+    match value_in("--thread", words) {
+        Some(word) => match caller_of(word.as_bytes()) {
+            Some(thread) => Some(Some(thread)),
+            None => None,
+        },
+        None => Some(None),
+    }
+}
+
+/// `ntlook timeline`
+fn timeline_in<'a>(file: &'a str, words: &'a [String]) -> Option<Look<'a>>
+    ensures { Finds (timeline_in file.now (map string_bytes words.now)) result }
+{
+    match (lines_in(words), thread_in(words)) {
+        (Some(lines), Some(thread)) => {
+            let object = value_in("--object", words);
+            let svg = value_in("--svg", words);
+            let part = Part {
+                lines,
+                object,
+                thread,
+            };
+            Some(Look::Timeline { file, part, svg })
+        }
+        _ => None,
+    }
+}
+
+/// What the words after the command ask for, if they are lawful.
+fn after(command: Command, words: &[String]) -> Option<Look<'_>>
+    ensures { Finds (after command (map string_bytes words.now)) result }
+{
+    if !are_lawful(command, words) {
+        return None;
+    }
+    match file_in(words) {
+        Some(file) => match command {
+            Command::Why => why_in(file, words),
+            Command::Timeline => timeline_in(file, words),
+        },
+        None => None,
+    }
+}
+
+/// What the words ask for, the program's own name first. `Err` has the command whose usage is to be told, or none for the usage of all.
+pub fn look_of(words: &[String]) -> Result<Look<'_>, Option<Command>>
+    ensures { MatchResult result (λ look. look_of (map string_bytes words.now) ≡ Ok (asked look))
+        (λ usage. look_of (map string_bytes words.now) ≡ Err usage) }
+{
+    match words {
+        [_, name, words @ ..] => match command_of(name.as_str()) {
+            Some(command) => match after(command, words) {
+                Some(look) => Ok(look),
+                None => Err(Some(command)),
+            },
+            None => Err(None),
+        },
+        _ => Err(None),
+    }
+}

@@ -1,0 +1,45 @@
+//! What stands in a thread's column beside a step.
+
+use crate::answers::name_of;
+use crate::steps::{Ended, Kind, Step};
+use nt_hangs::put_number;
+use std::alloc::{AllocError, Global};
+
+/// Puts a call, and what it answered.
+fn put_call(out: &mut Vec<u8>, step: &Step) -> Result<(), AllocError> {
+    out.extend_from_slice(&step.call)?;
+    if step.kind == Kind::Pends {
+        return out.extend_from_slice(b": pending");
+    }
+    if !step.answer.is_empty() {
+        out.extend_from_slice(b": ")?;
+    }
+    out.extend_from_slice(&step.answer)
+}
+
+/// Puts how a wait ended, and since which line it pended.
+fn put_end(alloc: Global, out: &mut Vec<u8>, end: &Ended) -> Result<(), AllocError> {
+    let name = name_of(alloc, end.status)?;
+    out.extend_from_slice(&name)?;
+    out.extend_from_slice(b" since ")?;
+    put_number(out, end.since)
+}
+
+/// Puts the call of this thread, the end of its wait, or `|` while it waits; nothing where it does none of that.
+pub(crate) fn put_cell(
+    alloc: Global,
+    out: &mut Vec<u8>,
+    step: &Step,
+    ended: &[Ended],
+    thread: u32,
+    waits: bool,
+) -> Result<(), AllocError> {
+    if step.who == Some(thread) {
+        return put_call(out, step);
+    }
+    match ended.iter().find(|end| end.thread == thread) {
+        Some(end) => put_end(alloc, out, end),
+        None if waits => out.extend_from_slice(b"|"),
+        None => Ok(()),
+    }
+}

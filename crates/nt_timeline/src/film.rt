@@ -1,0 +1,127 @@
+//! A script that is run, and what is kept of it.
+ghost use Rattle.std.specs.Prelude.{◌≡◌, ◌+◌, ◌≤◌, IfOk, OnOk, length};
+ghost use Rattle.nt_script.specs.Progress.{AreCounted};
+ghost use Rattle.nt_hangs.specs.Watching.{seen_of, unseen};
+ghost use Rattle.nt_timeline.specs.Films.{IsCut};
+
+use crate::kept::Kept;
+use crate::labels::Words;
+use nt_hangs::{Watch, first_line};
+use nt_script::{RunFault, ScriptFault};
+use std::alloc::{AllocError, Global};
+
+/// A script that is run, and what is kept of it.
+#[derive(Drop)]
+pub(crate) struct Film {
+    pub watch: Watch,
+    pub kept: Kept,
+}
+
+impl Film {
+    /// Nothing is run yet.
+    pub(crate) fn new(alloc: Global, is_drawn: bool) -> Result<Film, AllocError>
+        ensures { IfOk result (λ film. seen_of film.watch ≡ unseen) }
+    {
+        Ok(Film {
+            watch: Watch::new(alloc)?,
+            kept: Kept::new(alloc, is_drawn)?,
+        })
+    }
+
+    /// Keeps what the line with this number did.
+    fn keep(
+        &mut self,
+        alloc: Global,
+        number: u64,
+        line: &[u8],
+        object: Option<&str>,
+    ) -> Result<(), AllocError>
+        ensures { self.new.watch ≡ self.old.watch }
+    {
+        match self.watch.session() {
+            Some(session) => {
+                let words = Words {
+                    session,
+                    objects: self.watch.objects(),
+                    told: self.watch.told(),
+                };
+                let said = self.watch.said();
+                self.kept.keep(alloc, number, line, words, said, object)
+            }
+            None => Ok(()),
+        }
+    }
+
+    /// Carries out the line with this number, and keeps what it did.
+    fn take(
+        &mut self,
+        alloc: Global,
+        number: u64,
+        line: &[u8],
+        object: Option<&str>,
+    ) -> Result<(), RunFault>
+        requires counted { AreCounted number (seen_of self.old.watch).now }
+        requires places { length (seen_of self.old.watch).since ≡ 256 }
+        ensures cut { IsCut result }
+        ensures counted { OnOk result (AreCounted (number + 1) (seen_of self.new.watch).now) }
+        ensures places { OnOk result (length (seen_of self.new.watch).since ≡ 256) }
+    {
+        match self.watch.see_line(alloc, number, line) {
+            Ok(()) => match self.keep(alloc, number, line, object) {
+                Ok(()) => Ok(()),
+                Err(_) => Err(RunFault::Memory { line: number }),
+            },
+            Err(fault) => Err(fault),
+        }
+    }
+
+    /// Carries out all lines, and answers how many there were.
+    fn take_lines(
+        &mut self,
+        alloc: Global,
+        input: &[u8],
+        object: Option<&str>,
+    ) -> Result<u64, RunFault>
+        requires { seen_of self.old.watch ≡ unseen }
+        ensures cut { IsCut result }
+        ensures few { IfOk result (λ count. count ≤ length input.now) }
+    {
+        let mut rest = input;
+        let mut count: u64 = 0;
+        while !rest.is_empty() {
+            let (line, after) = first_line(rest);
+            match self.take(alloc, count + 1, line, object) {
+                Ok(()) => {}
+                Err(fault) => return Err(fault),
+            }
+            rest = after;
+            count += 1;
+        }
+        Ok(count)
+    }
+
+    /// The same, and that there is a `threads` line among them.
+    pub(crate) fn run(
+        &mut self,
+        alloc: Global,
+        input: &[u8],
+        object: Option<&str>,
+    ) -> Result<u64, RunFault>
+        requires { seen_of self.old.watch ≡ unseen }
+        ensures { IsCut result }
+    {
+        match self.take_lines(alloc, input, object) {
+            Ok(count) => match self.watch.session() {
+                Some(_) => Ok(count),
+                None => {
+                    let fault = ScriptFault::ThreadsExpected;
+                    Err(RunFault::Script {
+                        line: count + 1,
+                        fault,
+                    })
+                }
+            },
+            Err(fault) => Err(fault),
+        }
+    }
+}

@@ -1,0 +1,207 @@
+//! The timeline as a picture: lanes, time to the right, and below them the objects.
+
+use crate::escape::{put_escaped, put_text};
+use crate::film::Film;
+use crate::labels::Words;
+use crate::layout::{Layout, at};
+use crate::marks::{put_bar, put_before, put_behind, put_lane, put_raw};
+use crate::objects::{ROW, left_of, put_row, rows_of};
+use crate::part::Part;
+use crate::style::STYLE;
+use nt_hangs::{code_of, last_moment, put_verdict};
+use nt_look::why;
+use nt_script::Session;
+use std::alloc::{AllocError, Global};
+
+/// Puts the head: the size, the style, the file's name and the verdict.
+fn put_head(
+    alloc: Global,
+    out: &mut Vec<u8>,
+    file: &[u8],
+    (width, height): (u32, u32),
+    words: Words<'_>,
+) -> Result<(), AllocError> {
+    put_raw(
+        out,
+        format!(in alloc;
+            "<svg xmlns=\"http://www.w3.org/2000/svg\" viewBox=\"0 0 {width} {height}\" width=\"{width}\" height=\"{height}\" role=\"img\" aria-label=\""
+        )?.as_str(),
+    )?;
+    put_escaped(out, file)?;
+    out.extend_from_slice(b"\">\n")?;
+    put_raw(out, STYLE)?;
+    put_raw(
+        out,
+        "<rect class=\"paper\" width=\"100%\" height=\"100%\" rx=\"8\"/>\n",
+    )?;
+    put_text(alloc, out, "title", 16, 26, file)?;
+    let core = words.session.core();
+    let verdict = why(alloc, core, last_moment())?;
+    let mut text = Vec::new(alloc);
+    put_verdict(&mut text, core, words.told, &verdict)?;
+    let class = if code_of(core, &verdict) == 3 {
+        "verdict"
+    } else {
+        "calm"
+    };
+    put_text(alloc, out, class, 16, 46, &text)
+}
+
+/// Puts the lanes of the threads.
+fn put_lanes(
+    alloc: Global,
+    out: &mut Vec<u8>,
+    layout: &Layout,
+    told: &[u8],
+) -> Result<(), AllocError> {
+    for (place, thread) in layout.lanes.iter().enumerate() {
+        put_lane(alloc, out, layout, told, place, *thread)?;
+    }
+    Ok(())
+}
+
+/// Puts the waits that still pend.
+fn put_pending(
+    alloc: Global,
+    out: &mut Vec<u8>,
+    film: &Film,
+    layout: &Layout,
+    words: Words<'_>,
+) -> Result<(), AllocError> {
+    for thread in &layout.lanes {
+        if words.session.core().is_waiting(*thread) {
+            let began = film.kept.began_at(*thread);
+            if let (Some(step), Some(y)) = (film.kept.steps.get(began), layout.y(*thread)) {
+                put_bar(
+                    alloc,
+                    out,
+                    "pending",
+                    step,
+                    b"still waits",
+                    (at(&layout.x, began), layout.right, y),
+                )?;
+            }
+        }
+    }
+    Ok(())
+}
+
+/// Puts what stands behind the calls of the shown steps.
+fn put_all_behind(
+    alloc: Global,
+    out: &mut Vec<u8>,
+    film: &Film,
+    layout: &Layout,
+    bottom: u32,
+) -> Result<(), AllocError> {
+    for (place, step) in film.kept.steps.iter().enumerate() {
+        if layout.is_shown.get(place) == Some(&true) {
+            put_behind(alloc, out, &film.kept, layout, place, step, bottom)?;
+        }
+    }
+    Ok(())
+}
+
+/// Puts the calls of the shown steps.
+fn put_calls(
+    alloc: Global,
+    out: &mut Vec<u8>,
+    film: &Film,
+    layout: &Layout,
+) -> Result<(), AllocError> {
+    for (place, step) in film.kept.steps.iter().enumerate() {
+        if layout.is_shown.get(place) == Some(&true) {
+            put_before(alloc, out, layout, place, step)?;
+        }
+    }
+    Ok(())
+}
+
+/// Puts the rows of the objects, from this far down on.
+fn put_objects(
+    alloc: Global,
+    out: &mut Vec<u8>,
+    film: &Film,
+    layout: &Layout,
+    words: Words<'_>,
+    rows: &[usize],
+    top: u32,
+) -> Result<(), AllocError> {
+    if !rows.is_empty() {
+        put_text(alloc, out, "head", 20, top.saturating_sub(10), b"objects")?;
+    }
+    let mut y = top;
+    for place in rows {
+        put_row(alloc, out, &film.kept, layout, words, *place, y)?;
+        y = y.saturating_add(ROW);
+    }
+    Ok(())
+}
+
+/// What the colours mean.
+const LEGEND: [(&str, &str, u32); 5] = [
+    ("granted", "granted", 20),
+    ("abandoned", "granted, abandoned mutex", 120),
+    ("alerted", "ended for an APC", 310),
+    ("timed", "timed out", 450),
+    ("pending", "still waits", 550),
+];
+
+/// Puts what the colours mean.
+fn put_legend(alloc: Global, out: &mut Vec<u8>, base: u32) -> Result<(), AllocError> {
+    let top = base.saturating_sub(9);
+    for (class, text, x) in LEGEND {
+        put_raw(
+            out,
+            format!(in alloc;
+                "<g class=\"{class}\"><rect class=\"wait\" x=\"{x}\" y=\"{top}\" width=\"26\" height=\"10\" rx=\"5\"/></g>"
+            )?.as_str(),
+        )?;
+        put_text(
+            alloc,
+            out,
+            "legend",
+            x.saturating_add(32),
+            base,
+            text.as_bytes(),
+        )?;
+    }
+    Ok(())
+}
+
+/// The picture of a part of a session.
+pub(crate) fn picture_of(
+    alloc: Global,
+    file: &[u8],
+    film: &Film,
+    session: &Session,
+    part: &Part<'_>,
+) -> Result<Vec<u8>, AllocError> {
+    let words = Words {
+        session,
+        objects: film.watch.objects(),
+        told: film.watch.told(),
+    };
+    let layout = Layout::of(
+        alloc,
+        &film.kept,
+        part,
+        session.core(),
+        left_of(&film.kept, words),
+    )?;
+    let rows = rows_of(alloc, &film.kept, &layout, words, part)?;
+    let top = layout.end_of_lanes().saturating_add(34);
+    let bottom = top.saturating_add((rows.len().min(65536) as u32).saturating_mul(ROW));
+    let height = bottom.saturating_add(64);
+    let width = layout.right.saturating_add(24).max(680);
+    let mut out = Vec::new(alloc);
+    put_head(alloc, &mut out, file, (width, height), words)?;
+    put_lanes(alloc, &mut out, &layout, words.told)?;
+    put_all_behind(alloc, &mut out, film, &layout, bottom)?;
+    put_pending(alloc, &mut out, film, &layout, words)?;
+    put_calls(alloc, &mut out, film, &layout)?;
+    put_objects(alloc, &mut out, film, &layout, words, &rows, top)?;
+    put_legend(alloc, &mut out, height.saturating_sub(22))?;
+    out.extend_from_slice(b"</svg>\n")?;
+    Ok(out)
+}

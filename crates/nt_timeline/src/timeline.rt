@@ -1,0 +1,232 @@
+//! The timeline of a script, between a reader and two writers.
+ghost use Rattle.std.specs.Prelude.{◌≡◌, IfOk};
+ghost use Rattle.nt_hangs.specs.Watching.{seen_of, unseen};
+ghost use Rattle.nt_timeline.specs.Ending.{Creates, CreatesOrTells, IsOutcome, PictureEnds, TellsTimeline, TimelineEnds, TimelineTold};
+
+use crate::film::Film;
+use crate::part::Part;
+use crate::picture::picture_of;
+use crate::rows::put_rows;
+use nt_devices::{Counted, Sink, Source};
+use nt_hangs::{
+    InputFault, Report, before_zero, lacks_memory, last_moment, put_head, read_whole, say, show,
+    tell,
+};
+use nt_look::why;
+use nt_script::{RunFault, Session};
+use std::alloc::{AllocError, Global};
+use std::fs;
+use std::rt::Files;
+
+/// How a timeline is written.
+#[derive(Clone, Copy, Debug, PartialEq, Eq)]
+pub enum Form {
+    Text,
+    /// As an SVG.
+    Picture,
+}
+
+/// The timeline of what is kept of a session, after so many lines.
+fn text_of(
+    alloc: Global,
+    file: &[u8],
+    count: u64,
+    film: &Film,
+    session: &Session,
+    part: &Part<'_>,
+) -> Result<Report, AllocError>
+    ensures { IfOk result (λ report. report.code ≡ 0) }
+{
+    let core = session.core();
+    let told = film.watch.told();
+    let verdict = why(alloc, core, last_moment())?;
+    let mut text = Vec::new(alloc);
+    put_head(&mut text, file, count, core, told, &verdict)?;
+    text.push(b'\n')?;
+    put_rows(alloc, &mut text, &film.kept, part, told)?;
+    Ok(Report { text, code: 0 })
+}
+
+impl Film {
+    /// The timeline of what was run, after so many lines.
+    fn report(
+        &self,
+        alloc: Global,
+        file: &[u8],
+        count: u64,
+        form: Form,
+        part: &Part<'_>,
+    ) -> Result<Report, AllocError>
+        ensures { IfOk result (λ report. report.code ≡ 0) }
+    {
+        match (self.watch.session(), form) {
+            (Some(session), Form::Text) => text_of(alloc, file, count, self, session, part),
+            (Some(session), Form::Picture) => Ok(Report {
+                text: picture_of(alloc, file, self, session, part)?,
+                code: 0,
+            }),
+            (None, _) => Err(AllocError),
+        }
+    }
+
+    /// Runs the script, and answers its timeline.
+    fn play(
+        &mut self,
+        alloc: Global,
+        file: &[u8],
+        input: &[u8],
+        form: Form,
+        part: &Part<'_>,
+    ) -> Result<Report, RunFault>
+        requires { seen_of self.old.watch ≡ unseen }
+        ensures { IsOutcome result }
+    {
+        let count = match self.run(alloc, input, part.object) {
+            Ok(count) => count,
+            Err(fault) => return Err(fault),
+        };
+        match self.report(alloc, file, count, form, part) {
+            Ok(report) => Ok(report),
+            Err(_) => Err(RunFault::Memory { line: count }),
+        }
+    }
+}
+
+/// Runs a script, and answers the timeline of a part of it. The script ends at its first zero byte. `file` is what the timeline calls it.
+///
+/// A line with a fault, or no `threads` line, is told as `ntrun script` tells it; so is want of memory.
+pub fn timeline_on(
+    alloc: Global,
+    file: &[u8],
+    input: &[u8],
+    form: Form,
+    part: &Part<'_>,
+) -> Result<Report, RunFault>
+    ensures { IsOutcome result }
+{
+    match Film::new(alloc, form == Form::Picture) {
+        Ok(mut film) => {
+            let answer = film.play(alloc, file, before_zero(input), form, part);
+            drop(film);
+            answer
+        }
+        Err(_) => Err(RunFault::Memory { line: 1 }),
+    }
+}
+
+/// Writes the timeline of these bytes.
+fn timeline_input<W: Sink, E: Sink>(
+    alloc: Global,
+    file: &[u8],
+    input: &[u8],
+    part: &Part<'_>,
+    writer: &mut W,
+    errors: &mut E,
+) -> u8
+    ensures { TellsTimeline (W.contents writer.old) (W.contents writer.new) (W.failed writer.old) (W.failed writer.new)
+        (W.handed_on writer.new) (E.contents errors.old) (E.contents errors.new) (E.failed errors.old)
+        (E.failed errors.new) result }
+{
+    match timeline_on(alloc, file, input, Form::Text, part) {
+        Ok(report) => show(&report, writer, errors),
+        Err(fault) => tell(alloc, fault, errors),
+    }
+}
+
+/// Runs the script that the reader gives, and writes the timeline of a part of it. `file` is what the timeline calls the script.
+///
+/// Answers the exit status: 0 if it was written; 2 if a line has a fault; 1 if reading, writing or memory failed. Of 1 and 2 a line on
+/// `errors` tells why; a failure to write that is ignored.
+pub fn timeline_over<R: Source, W: Sink, E: Sink>(
+    alloc: Global,
+    file: &[u8],
+    part: &Part<'_>,
+    reader: &mut R,
+    writer: &mut W,
+    errors: &mut E,
+) -> u8
+    ensures { TimelineEnds (R.remaining reader.old) (R.failed reader.old) (R.failed reader.new)
+        (W.contents writer.old) (W.contents writer.new) (W.failed writer.old) (W.failed writer.new)
+        (W.handed_on writer.new) (E.contents errors.old) (E.contents errors.new) (E.failed errors.old)
+        (E.failed errors.new) result }
+{
+    match read_whole(alloc, reader) {
+        Ok(input) => timeline_input(alloc, file, input.as_slice(), part, writer, errors),
+        Err(InputFault::Failed) => say(errors, b"ntlook: read failed\n", 1),
+        Err(InputFault::Memory) => lacks_memory(errors),
+    }
+}
+
+/// The same of the script in this file; 1 where it can't be opened, which is said on `errors`.
+pub fn timeline_file<F: Files + AllocGlobal, W: Sink, E: Sink>(
+    files: &F,
+    path: &str,
+    part: &Part<'_>,
+    writer: &mut W,
+    errors: &mut E,
+) -> u8
+    ensures { TimelineTold (W.contents writer.old) (W.contents writer.new) (W.failed writer.old) (W.failed writer.new)
+        (W.handed_on writer.new) (E.contents errors.old) (E.contents errors.new) (E.failed errors.old)
+        (E.failed errors.new) result }
+{
+    match fs::open(files, path) {
+        Ok(file) => timeline_over(
+            files.alloc(),
+            path.as_bytes(),
+            part,
+            &mut Counted::new(file),
+            writer,
+            errors,
+        ),
+        Err(_) => say(errors, b"ntlook: cannot open\n", 1),
+    }
+}
+
+/// Creates the file, and writes the picture into it; 1 where either fails, which is said on `errors`.
+fn write_picture<F: Files, E: Sink>(files: &F, out: &str, picture: &Report, errors: &mut E) -> u8
+    requires { picture.now.code ≡ 0 }
+    ensures { Creates (E.contents errors.old) (E.contents errors.new) (E.failed errors.old) (E.failed errors.new) result }
+{
+    match fs::create(files, out) {
+        Ok(file) => show(picture, &mut Counted::new(file), errors),
+        Err(_) => say(errors, b"ntlook: cannot create\n", 1),
+    }
+}
+
+/// Draws the script in these bytes into the file `out`.
+fn draw_input<F: Files + AllocGlobal, E: Sink>(
+    files: &F,
+    file: &[u8],
+    input: &[u8],
+    part: &Part<'_>,
+    out: &str,
+    errors: &mut E,
+) -> u8
+    ensures { CreatesOrTells (E.contents errors.old) (E.contents errors.new) (E.failed errors.old) (E.failed errors.new) result }
+{
+    match timeline_on(files.alloc(), file, input, Form::Picture, part) {
+        Ok(picture) => write_picture(files, out, &picture, errors),
+        Err(fault) => tell(files.alloc(), fault, errors),
+    }
+}
+
+/// Runs the script in the file at `path`, and draws the timeline of a part of it into the file `out`, which is created once all is read and run.
+/// Answers the exit status as [`timeline_over`] does; 1 too where a file can't be opened or created, which is said on `errors`.
+pub fn picture_file<F: Files + AllocGlobal, E: Sink>(
+    files: &F,
+    path: &str,
+    part: &Part<'_>,
+    out: &str,
+    errors: &mut E,
+) -> u8
+    ensures { PictureEnds (E.contents errors.old) (E.contents errors.new) (E.failed errors.old) (E.failed errors.new) result }
+{
+    match fs::open(files, path) {
+        Ok(file) => match read_whole(files.alloc(), &mut Counted::new(file)) {
+            Ok(input) => draw_input(files, path.as_bytes(), input.as_slice(), part, out, errors),
+            Err(InputFault::Failed) => say(errors, b"ntlook: read failed\n", 1),
+            Err(InputFault::Memory) => lacks_memory(errors),
+        },
+        Err(_refused) => say(errors, b"ntlook: cannot open\n", 1),
+    }
+}
