@@ -1,5 +1,5 @@
 mod Unique
-mod OneWay
+pub mod OneWay
 mod Takes
 mod Acting
 mod Turns

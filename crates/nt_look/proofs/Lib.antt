@@ -7,4 +7,4 @@ mod Tied
 mod Knots
 mod Deciding
 mod Loosening
-mod Searching
+pub mod Searching

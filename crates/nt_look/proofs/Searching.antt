@@ -133,7 +133,7 @@ steps_set (n ∷ ns) (suc i) below =
     let it : n + steps (slice_set ns i (slice_index_or ns i 0 + 1)) ≡ (n + steps ns) + 1 = omega (arith, rest) in
     it
 
-lane_there : (plan : Plan) (lane : ℕ) (place : ℕ) (ask : Ask) → slice_get (asks plan lane) place ≡ Some ask → lane < length plan
+pub lane_there : (plan : Plan) (lane : ℕ) (place : ℕ) (ask : Ask) → slice_get (asks plan lane) place ≡ Some ask → lane < length plan
 lane_there [] lane place ask is = let no : None ≡ Some ask = is in (cc)
 lane_there (l ∷ plan) zero place ask is = omega arith
 lane_there (l ∷ plan) (suc lane) place ask is = let below = lane_there plan lane place ask is in omega (arith, below)

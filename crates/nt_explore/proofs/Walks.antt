@@ -1,0 +1,192 @@
+-- How the table grows.
+use Rattle.std.proofs.Common.{◌≡◌, ◌≢◌, ◌<◌, ◌≤◌, ℕ, zero, suc, ◌+◌, Bool, true, false, List, [], ◌∷◌, ◌++◌, length, refl, sym, ap, ◌∙◌, subst, arith, Option, Some, None, get_or, eqb, ltb, nat_eq, if◌then◌else◌, inl, inr, ◌⊎◌}
+use Rattle.std.specs.Prelude.{Result, Ok, Err, IfOk, OnOk}
+use Rattle.std.proofs.lemmas.Bool.Decides.{nat_tests}
+use Rattle.std.proofs.lemmas.List.{length-set, length_push, get_or_push, get_or_append_left}
+use Rattle.nt_look.specs.Orders.{Plan, Point, Goes, steps, place}
+use Rattle.nt_look.proofs.Searching.{steps_counted}
+use Rattle.nt_explore.specs.declared.met.Entry.{Entry}
+use Rattle.nt_explore.specs.Walk.{no_entry, parent_of, lane_of, AreBehind, IsWalk, Grows, HasPoint, IsFound, Meets, TriesLane, Tries, Went, LeadsTo}
+use Rattle.nt_explore.proofs.Unique.{goes_same}
+
+-- ---- one point more
+
+put : (ℕ → Point) → ℕ → Point → ℕ → Point
+put point n p i = if eqb i n then p else point i
+
+put_here : (point : ℕ → Point) (n : ℕ) (p : Point) → put point n p n ≡ p
+unfolding put
+put_here point n p = let test : eqb n n ≡ true = grind (arith, nat_tests) in rw test refl
+
+put_else : (point : ℕ → Point) (n : ℕ) (p : Point) (i : ℕ) → i ≢ n → put point n p i ≡ point i
+unfolding put
+put_else point n p i other = let test : eqb i n ≡ false = grind (arith, nat_tests, other) in rw test refl
+
+put_below : (point : ℕ → Point) (n : ℕ) (p : Point) (i : ℕ) → i < n → put point n p i ≡ point i
+put_below point n p i below = put_else point n p i (λ e. absurd (omega (arith, below, e)))
+
+pub below_or : (i n : ℕ) → i < n + 1 → (i < n) ⊎ (i ≡ n)
+below_or i n below = go (ltb i n) refl
+  where
+    go : (b : Bool) → ltb i n ≡ b → (i < n) ⊎ (i ≡ n)
+    go true e = inl (grind (arith, nat_tests, e))
+    go false e = inr (let past : n ≤ i = grind (arith, nat_tests, e) in omega (arith, past, below))
+
+pub behind_more : (entries : List Entry) (e : Entry) → e.parent < length entries → AreBehind entries → AreBehind (entries ++ e ∷ [])
+behind_more entries e before behind i some below = go (below_or i (length entries) (let count = length_push entries e in omega (arith, below, count)))
+  where
+    go : (i < length entries) ⊎ (i ≡ length entries) → parent_of (entries ++ e ∷ []) i < i
+    go (inl inside) = let same = ap (λ (x : Entry). x.parent) (get_or_append_left entries (e ∷ []) no_entry i inside) in let old = behind i some inside in omega (arith, same, old)
+    go (inr last) = let same = ap (λ (x : Entry). x.parent) (get_or_push entries e no_entry i (sym last)) in omega (arith, same, last, before)
+
+pub goes_wide : (plan : Plan) (old : Point) (lane : ℕ) (new : Point) → Goes plan old lane new → length old.at ≡ length plan → length new.at ≡ length plan
+goes_wide plan old lane new goes wide = ap (λ (ns : List ℕ). length ns) goes.at ∙ (length-set old.at lane (place old lane + 1) ∙ wide)
+
+goes_at : (plan : Plan) (a b : Point) (l m : ℕ) (p q : Point) → a ≡ b → l ≡ m → p ≡ q → Goes plan a l p → Goes plan b m q
+goes_at plan a b l m p q e f g goes = subst (λ (z : Point). Goes plan b m z) g (subst (λ (k : ℕ). Goes plan b k p) f (subst (λ (z : Point). Goes plan z l p) e goes))
+
+walk_more : (plan : Plan) (start : Point) (entries : List Entry) (e : Entry) (p : Point) (point : ℕ → Point) → IsWalk plan start entries point → e.parent < length entries → Goes plan (point e.parent) e.lane p → IsWalk plan start (entries ++ e ∷ []) (put point (length entries) p)
+walk_more plan start entries e p point walk before goes = record {
+  some = let count = length_push entries e in omega (arith, count);
+  first = put_below point (length entries) p 0 walk.some ∙ walk.first;
+  behind = behind_more entries e before walk.behind;
+  wide = λ i below. wide i (below_or i (length entries) (let count = length_push entries e in omega (arith, below, count)));
+  came = λ i some below. came i some (below_or i (length entries) (let count = length_push entries e in omega (arith, below, count)));
+}
+  where
+    wide : (i : ℕ) → (i < length entries) ⊎ (i ≡ length entries) → length (put point (length entries) p i).at ≡ length plan
+    wide i (inl inside) = ap (λ (z : Point). length z.at) (put_below point (length entries) p i inside) ∙ walk.wide i inside
+    wide i (inr last) = ap (λ (n : ℕ). length (put point (length entries) p n).at) last ∙ (ap (λ (z : Point). length z.at) (put_here point (length entries) p) ∙ goes_wide plan (point e.parent) e.lane p goes (walk.wide e.parent before))
+
+    came : (i : ℕ) → 0 < i → (i < length entries) ⊎ (i ≡ length entries) → Goes plan (put point (length entries) p (parent_of (entries ++ e ∷ []) i)) (lane_of (entries ++ e ∷ []) i) (put point (length entries) p i)
+    came i some (inl inside) =
+        let same = get_or_append_left entries (e ∷ []) no_entry i inside in
+        let parent : parent_of (entries ++ e ∷ []) i ≡ parent_of entries i = ap (λ (x : Entry). x.parent) same in
+        let lane : lane_of (entries ++ e ∷ []) i ≡ lane_of entries i = ap (λ (x : Entry). x.lane) same in
+        let older = walk.behind i some inside in
+        goes_at plan _ _ _ _ _ _
+        (sym (ap (put point (length entries) p) parent ∙ put_below point (length entries) p (parent_of entries i) (omega (arith, older, inside))))
+        (sym lane)
+        (sym (put_below point (length entries) p i inside))
+        (walk.came i some inside)
+    came i some (inr last) =
+        let same = get_or_push entries e no_entry i (sym last) in
+        let parent : parent_of (entries ++ e ∷ []) i ≡ e.parent = ap (λ (x : Entry). x.parent) same in
+        let lane : lane_of (entries ++ e ∷ []) i ≡ e.lane = ap (λ (x : Entry). x.lane) same in
+        goes_at plan _ _ _ _ _ _
+        (sym (ap (put point (length entries) p) parent ∙ put_below point (length entries) p e.parent before))
+        (sym lane)
+        (sym (ap (put point (length entries) p) last ∙ put_here point (length entries) p))
+        goes
+
+pub meets_new : (plan : Plan) (start : Point) (entries : List Entry) (e : Entry) (p : Point) (j : ℕ) (point : ℕ → Point) → e.parent < length entries → j ≡ length entries → IsWalk plan start entries point → Goes plan (point e.parent) e.lane p → Meets plan start entries (entries ++ e ∷ []) p j point
+meets_new plan start entries e p j point before last walk goes =
+    let count = length_push entries e in
+    record {
+      points = put point (length entries) p;
+      grows = record { walk = walk_more plan start entries e p point walk before goes; longer = omega (arith, count); same = λ i below. put_below point (length entries) p i below };
+      there = omega (arith, count, last);
+      is = ap (put point (length entries) p) last ∙ put_here point (length entries) p;
+      deep = λ i past below. let here : i ≡ length entries = omega (arith, past, below, count) in ap (put point (length entries) p) here ∙ put_here point (length entries) p;
+    }
+
+-- ---- a point that is there
+
+pub meets_old : (plan : Plan) (start : Point) (entries : List Entry) (p : Point) (j : ℕ) (point : ℕ → Point) → IsFound plan start entries p (Some j) → IsWalk plan start entries point → Meets plan start entries entries p j point
+meets_old plan start entries p j point found walk = record {
+  points = point;
+  grows = record { walk = walk; longer = omega arith; same = λ i below. refl };
+  there = found.0;
+  is = found.1 point walk;
+  deep = λ i past below. absurd (omega (arith, past, below));
+}
+
+-- ---- lanes
+
+pub deeper : (plan : Plan) (p q : Point) (lane : ℕ) → length p.at ≡ length plan → Goes plan p lane q → steps q.at ≡ steps p.at + 1
+deeper plan p q lane wide goes = steps_counted plan (lane ∷ []) p q wide (q, goes, refl)
+
+pub lane_went : (plan : Plan) (start : Point) (old new : List Entry) (p next : Point) (lane j : ℕ) (point : ℕ → Point) → length p.at ≡ length plan → Goes plan p lane next → Meets plan start old new next j point → TriesLane plan start old new p lane point
+lane_went plan start old new p next lane j point wide goes meets = record {
+  points = meets.points;
+  grows = meets.grows;
+  deep = λ i past below. ap (λ (z : Point). steps z.at) (meets.deep i past below) ∙ deeper plan p next lane wide goes;
+  tried = λ q other. (j, meets.there, meets.is ∙ goes_same plan p lane next q goes other);
+}
+
+pub lane_stays : (plan : Plan) (start : Point) (entries : List Entry) (p : Point) (lane : ℕ) (point : ℕ → Point) → ((q : Point) → Goes plan p lane q → ⊥) → IsWalk plan start entries point → TriesLane plan start entries entries p lane point
+lane_stays plan start entries p lane point never walk = record {
+  points = point;
+  grows = record { walk = walk; longer = omega arith; same = λ i below. refl };
+  deep = λ i past below. absurd (omega (arith, past, below));
+  tried = λ q goes. absurd (never q goes);
+}
+
+pub tries_none : (plan : Plan) (start : Point) (entries : List Entry) (p : Point) (point : ℕ → Point) → IsWalk plan start entries point → Tries plan start entries entries p 0 point
+tries_none plan start entries p point walk = record {
+  points = point;
+  grows = record { walk = walk; longer = omega arith; same = λ i below. refl };
+  deep = λ i past below. absurd (omega (arith, past, below));
+  tried = λ lane q below. absurd (omega (arith, below));
+}
+
+pub tries_more : (plan : Plan) (start : Point) (old mid new : List Entry) (p : Point) (lanes index : ℕ) (point : ℕ → Point) → index < length old → point index ≡ p → (tries : Tries plan start old mid p lanes point) → ((points : ℕ → Point) → IsWalk plan start mid points → points index ≡ p → TriesLane plan start mid new p lanes points) → Tries plan start old new p (lanes + 1) point
+tries_more plan start old mid new p lanes index point within is tries lane = record {
+  points = more.points;
+  grows = record { walk = more.grows.walk; longer = omega (arith, first, second); same = λ i below. more.grows.same i (omega (arith, below, first)) ∙ tries.grows.same i below };
+  deep = λ i past below. deep i past below (ltb i (length mid)) refl;
+  tried = λ l q below goes. tried l q goes (below_or l lanes below);
+}
+  where
+    more : TriesLane plan start mid new p lanes tries.points
+    more = lane tries.points tries.grows.walk (tries.grows.same index within ∙ is)
+
+    first : length old ≤ length mid
+    first = tries.grows.longer
+
+    second : length mid ≤ length new
+    second = more.grows.longer
+
+    deep : (i : ℕ) → length old ≤ i → i < length new → (b : Bool) → ltb i (length mid) ≡ b → steps (more.points i).at ≡ steps p.at + 1
+    deep i past below true e = let inside : i < length mid = grind (arith, nat_tests, e) in ap (λ (z : Point). steps z.at) (more.grows.same i inside) ∙ tries.deep i past inside
+    deep i past below false e = more.deep i (grind (arith, nat_tests, e)) below
+
+    tried : (l : ℕ) (q : Point) → Goes plan p l q → (l < lanes) ⊎ (l ≡ lanes) → HasPoint new more.points q
+    tried l q goes (inl before) =
+        let has = tries.tried l q before goes in
+        let inside = has.1 in
+        (has.0, omega (arith, inside, second), more.grows.same has.0 has.1 ∙ has.2)
+    tried l q goes (inr last) = more.tried q (subst (λ (k : ℕ). Goes plan p k q) last goes)
+
+-- ---- the start alone
+
+abbrev pub one_entry : List Entry
+one_entry = no_entry ∷ []
+
+-- ---- what was met
+
+pub meets_added : {E : Type 0} (plan : Plan) (start : Point) (old new : List Entry) (e : Entry) (p : Point) (r : Result ℕ E) → e.parent < length old → IfOk r (λ j. j ≡ length old) → OnOk r (new ≡ old ++ e ∷ []) → IfOk r (λ j. (point : ℕ → Point) → IsWalk plan start old point → Goes plan (point e.parent) e.lane p → Meets plan start old new p j point)
+meets_added plan start old new e p (Ok j) before last added = λ point walk goes. subst (λ (es : List Entry). Meets plan start old es p j point) (sym added) (meets_new plan start old e p j point before last walk goes)
+meets_added plan start old new e p (Err x) before last added = tt
+
+pub meets_there : (plan : Plan) (start : Point) (entries read : List Entry) (p : Point) (found : Option ℕ) (j : ℕ) → read ≡ entries → found ≡ Some j → IsFound plan start read p found → (point : ℕ → Point) → IsWalk plan start entries point → Meets plan start entries entries p j point
+meets_there plan start entries read p found j same is known point walk = meets_old plan start entries p j point (subst (λ (es : List Entry). IsFound plan start es p (Some j)) same (subst (λ (o : Option ℕ). IsFound plan start read p o) is known)) walk
+
+-- ---- one lane, as it went
+
+pub never_went : (plan : Plan) (p at next : Point) (lane : ℕ) (went : Bool) → went ≡ false → at ≡ p → Went plan at lane went next → (q : Point) → Goes plan p lane q → ⊥
+never_went plan p at next lane went still is so q goes =
+    let never : Went plan at lane false next = subst (λ (b : Bool). Went plan at lane b next) still so in
+    never.1 q (subst (λ (z : Point). Goes plan z lane q) (sym is) goes)
+
+pub lane_never : (plan : Plan) (start : Point) (entries : List Entry) (p : Point) (lane : ℕ) (next : Option Point) → next ≡ None → LeadsTo plan p lane next → (point : ℕ → Point) → IsWalk plan start entries point → TriesLane plan start entries entries p lane point
+lane_never plan start entries p lane next none leads point walk =
+    let never : LeadsTo plan p lane None = subst (λ (o : Option Point). LeadsTo plan p lane o) none leads in
+    lane_stays plan start entries p lane point never walk
+
+pub lane_leads : (plan : Plan) (p next : Point) (lane : ℕ) (found : Option Point) → found ≡ Some next → LeadsTo plan p lane found → Goes plan p lane next
+lane_leads plan p next lane found is leads = subst (λ (o : Option Point). LeadsTo plan p lane o) is leads
+
+pub lane_met : (plan : Plan) (start : Point) (old new : List Entry) (p next : Point) (lane index j : ℕ) → length p.at ≡ length plan → ((point : ℕ → Point) → IsWalk plan start old point → Goes plan (point index) lane next → Meets plan start old new next j point) → (point : ℕ → Point) → IsWalk plan start old point → point index ≡ p → Goes plan p lane next → TriesLane plan start old new p lane point
+lane_met plan start old new p next lane index j wide meets point walk here goes =
+    lane_went plan start old new p next lane j point wide goes (meets point walk (subst (λ (z : Point). Goes plan z lane next) (sym here) goes))

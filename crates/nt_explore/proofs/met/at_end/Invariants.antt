@@ -1,0 +1,16 @@
+use Rattle.std.proofs.Common.{◌≡◌, ◌≤◌, length}
+use Rattle.std.specs.Prelude.{drop}
+use Rattle.nt_core.specs.Dispatcher.{state}
+use Rattle.nt_look.specs.Orders.{Point}
+use Rattle.nt_explore.specs.Search.{beginning}
+use Rattle.nt_explore.specs.Walk.{point_at, Arrives}
+use Rattle.nt_explore.proofs.met.at_end.Given as goal
+
+abbrev pub decreases-loop-left : goal.decreases-loop-left
+decreases-loop-left l = l.left
+
+abbrev pub invariant-loop-left : goal.invariant-loop-left
+invariant-loop-left l =
+    (l.left ≤ length l.way)
+    × (length l.place.places.items ≡ length l.plan)
+    × ((q : Point) → Arrives l.plan (beginning l.plan (state l.start)) l.way q → Arrives l.plan (beginning l.plan (state l.start)) (drop l.left l.way) (point_at l.place.places.items l.place.core))

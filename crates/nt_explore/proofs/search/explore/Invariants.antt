@@ -1,0 +1,16 @@
+use Rattle.std.proofs.Common.{◌≡◌, ◌≤◌, ◌<◌, ◌-◌, ◌+◌, ℕ, length}
+use Rattle.nt_core.specs.Dispatcher.{state}
+use Rattle.nt_explore.specs.Search.{beginning}
+use Rattle.nt_explore.specs.Walk.{AreBehind}
+use Rattle.nt_explore.specs.Levels.{IsSearch}
+use Rattle.nt_explore.proofs.search.explore.Given as goal
+
+abbrev pub decreases-loop-looked : goal.decreases-loop-looked
+decreases-loop-looked g l = l.most + 1 - l.looked
+
+abbrev pub invariant-loop-looked : goal.invariant-loop-looked
+invariant-loop-looked g l =
+    (l.looked ≤ length l.met.entries.items)
+    × (0 < length l.met.entries.items)
+    × AreBehind l.met.entries.items
+    × IsSearch l.plan (beginning l.plan (state l.start)) l.met.entries.items l.looked l.counts.first

@@ -1,0 +1,16 @@
+use Rattle.std.proofs.Common.{List, subst, sym}
+use Rattle.nt_core.specs.Dispatcher.{state}
+use Rattle.nt_explore.specs.declared.met.Entry.{Entry}
+use Rattle.nt_explore.specs.Search.{beginning}
+use Rattle.nt_explore.specs.Walk.{point_at, IsWalk}
+use Rattle.nt_explore.proofs.Levels.{search_more}
+use Rattle.nt_explore.proofs.search.look_at.Goals as goal
+
+pub returns-clause-point : goal.returns-clause-point
+returns-clause-point c =
+    let start = beginning c.args.plan.now (state c.args.start.now) in
+    search_more c.args.plan.now start c.args.met.now.entries.items c.try_lanes.new.met.entries.items c.args.index c.in_ok-hung.hung c.args.counts.now.first c.first_then-counts.result (point_at c.in_ok-place.place.places.items c.in_ok-place.place.core) c.requires.there
+    (λ point walk. c.in_ok-place.ensures.point point (subst (λ (es : List Entry). IsWalk c.args.plan.now start es point) (sym c.deref.ensures.value) walk))
+    c.in_ok-hung.ensures
+    c.in_ok-steps.ensures.point
+    c.first_then-counts.ensures

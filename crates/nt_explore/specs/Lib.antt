@@ -1,0 +1,4 @@
+pub mod Search
+pub mod Lanes
+pub mod Walk
+pub mod Levels

@@ -1,0 +1,24 @@
+-- What a search of all orders tells.
+use Rattle.std.specs.Prelude.{◌≡◌, ℕ, List, length, replicate}
+use Rattle.nt_calls.specs.State.{State}
+use Rattle.nt_look.specs.Orders as orders
+use Rattle.nt_look.specs.Orders.{Calls, Passes, Plan, Point, NoneHangs, NoneHangsWithin, IsShortestHang}
+use Rattle.nt_explore.specs.declared.plan.Ask.{Ask}
+use Rattle.nt_explore.specs.declared.plan.Ask.TheVariants.{Call, Tick}
+use Rattle.nt_explore.specs.declared.explored.Verdict.{Verdict}
+use Rattle.nt_explore.specs.declared.explored.Verdict.TheVariants as verdict
+
+-- what is asked, in the words of orders
+abbrev pub asked : Ask → orders.Ask
+asked (Call call) = Calls call
+asked (Tick moment) = Passes moment
+
+-- nothing of the plan was made yet
+abbrev pub beginning : Plan → State → Point
+beginning plan s = record { at = replicate (length plan) 0; state = s }
+
+-- what a verdict says of all orders from here
+abbrev pub Tells : Plan → Point → Verdict → Type 0
+Tells plan start (verdict.Hangs lanes loss) = IsShortestHang plan start lanes.items
+Tells plan start verdict.None = NoneHangs plan start
+Tells plan start (verdict.Met level) = NoneHangsWithin plan start level

@@ -1,0 +1,91 @@
+-- How the states that a search met lie in its table. No public clause cites this module.
+use Rattle.std.specs.Prelude.{true, false, Option, None, Some, ◌≡◌, ◌<◌, ◌≤◌, ◌+◌, ℕ, Bool, List, [], ◌∷◌, length, slice_index_or}
+use Rattle.nt_core.specs.Dispatcher.{Dispatcher, state}
+use Rattle.nt_look.specs.Orders.{Plan, Point, Goes, Hangs, steps}
+use Rattle.nt_explore.specs.declared.met.Entry.{Entry}
+use Rattle.nt_explore.specs.declared.place.Place.{Place}
+
+-- how far the lanes are, in this dispatcher
+abbrev pub point_at : List ℕ → Dispatcher → Point
+point_at places core = record { at = places; state = state core }
+
+abbrev pub point_of : Place → Point
+point_of place = point_at place.places.items place.core
+
+-- these lanes went, the last first
+abbrev pub Arrives : Plan → Point → List ℕ → Point → Type 0
+Arrives plan start [] p = p ≡ start
+Arrives plan start (lane ∷ lanes) p = (mid : Point) × Arrives plan start lanes mid × Goes plan mid lane p
+
+-- what is read past the last entry
+abbrev pub no_entry : Entry
+no_entry = record { hash = 0; lane = 0; parent = 0 }
+
+abbrev pub parent_of : List Entry → ℕ → ℕ
+parent_of entries i = (slice_index_or entries i no_entry).parent
+
+abbrev pub lane_of : List Entry → ℕ → ℕ
+lane_of entries i = (slice_index_or entries i no_entry).lane
+
+-- each state but the first came from one before it
+abbrev pub AreBehind : List Entry → Type 0
+AreBehind entries = (i : ℕ) → 0 < i → i < length entries → parent_of entries i < i
+
+-- these are the points that were met: the first is the start, and each other one came from its parent by its lane
+pub record IsWalk (plan : Plan) (start : Point) (entries : List Entry) (point : ℕ → Point) : Type 0 where
+  pub some : 0 < length entries
+  pub first : point 0 ≡ start
+  pub behind : AreBehind entries
+  pub wide : (i : ℕ) → i < length entries → length (point i).at ≡ length plan
+  pub came : (i : ℕ) → 0 < i → i < length entries → Goes plan (point (parent_of entries i)) (lane_of entries i) (point i)
+
+-- the same points, and perhaps more
+pub record Grows (plan : Plan) (start : Point) (old new : List Entry) (point points : ℕ → Point) : Type 0 where
+  pub walk : IsWalk plan start new points
+  pub longer : length old ≤ length new
+  pub same : (i : ℕ) → i < length old → points i ≡ point i
+
+-- one of the points is this one
+abbrev pub HasPoint : List Entry → (ℕ → Point) → Point → Type 0
+HasPoint entries point p = (j : ℕ) × (j < length entries) × (point j ≡ p)
+
+-- whether the lane went, and where it led
+abbrev pub Went : Plan → Point → ℕ → Bool → Point → Type 0
+Went plan old lane true new = Goes plan old lane new
+Went plan old lane false new = (new ≡ old) × ((q : Point) → Goes plan old lane q → ⊥)
+
+-- one state is as long as there are lanes
+abbrev pub IsWide : Plan → Point → Type 0
+IsWide plan p = length p.at ≡ length plan
+
+-- what was found is this point
+abbrev pub IsFound : Plan → Point → List Entry → Point → Option ℕ → Type 0
+IsFound plan start entries p None = Unit {0}
+IsFound plan start entries p (Some j) = (j < length entries) × ((point : ℕ → Point) → IsWalk plan start entries point → point j ≡ p)
+
+-- the lane leads to this point, which is one of them now
+pub record Meets (plan : Plan) (start : Point) (old new : List Entry) (p : Point) (j : ℕ) (point : ℕ → Point) : Type 0 where
+  pub points : ℕ → Point
+  pub grows : Grows plan start old new point points
+  pub there : j < length new
+  pub is : points j ≡ p
+  pub deep : (i : ℕ) → length old ≤ i → i < length new → points i ≡ p
+
+-- each of the first lanes leads from this point to one of them
+pub record Tries (plan : Plan) (start : Point) (old new : List Entry) (p : Point) (lanes : ℕ) (point : ℕ → Point) : Type 0 where
+  pub points : ℕ → Point
+  pub grows : Grows plan start old new point points
+  pub deep : (i : ℕ) → length old ≤ i → i < length new → steps (points i).at ≡ steps p.at + 1
+  pub tried : (lane : ℕ) (q : Point) → lane < lanes → Goes plan p lane q → HasPoint new points q
+
+-- one more lane leads from this point to one of them
+pub record TriesLane (plan : Plan) (start : Point) (old new : List Entry) (p : Point) (lane : ℕ) (point : ℕ → Point) : Type 0 where
+  pub points : ℕ → Point
+  pub grows : Grows plan start old new point points
+  pub deep : (i : ℕ) → length old ≤ i → i < length new → steps (points i).at ≡ steps p.at + 1
+  pub tried : (q : Point) → Goes plan p lane q → HasPoint new points q
+
+-- where the lane leads, if it goes
+abbrev pub LeadsTo : Plan → Point → ℕ → Option Point → Type 0
+LeadsTo plan p lane None = (q : Point) → Goes plan p lane q → ⊥
+LeadsTo plan p lane (Some next) = Goes plan p lane next

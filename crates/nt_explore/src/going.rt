@@ -1,0 +1,86 @@
+//! One lane goes.
+ghost use Rattle.std.specs.Prelude.{◌≡◌, ◌≢◌, ◌<◌, length, Err, MatchBool, IfOk, OnOk};
+ghost use Rattle.nt_status.specs.declared.refusal.Refusal.TheVariants.{Memory};
+ghost use Rattle.nt_core.specs.Dispatcher.{state};
+ghost use Rattle.nt_look.specs.Orders.{Calls, Passes, IsMade, Point, Goes};
+ghost use Rattle.nt_explore.specs.Search.{asked};
+ghost use Rattle.nt_explore.specs.Walk.{point_at, Went};
+
+use crate::place::Place;
+use crate::plan::{Ask, Plan};
+use nt_calls::{Call, Reply};
+use nt_core::Core;
+use nt_status::{Moment, Refusal};
+use std::alloc::AllocError;
+
+/// Makes the thread's call. Memory that is refused is no order of the plan.
+fn call(core: &mut Core, thread: u32, call: &Call) -> Result<(), AllocError>
+    ensures { OnOk result (IsMade (state core.old) thread (Calls call.now) (state core.new)) }
+{
+    let result = core.call(thread, call);
+    if is_without_memory(&result) {
+        return Err(AllocError);
+    }
+    Ok(())
+}
+
+/// Whether memory was refused.
+fn is_without_memory(answer: &Result<Reply, Refusal>) -> bool
+    ensures { MatchBool result (answer.now ≡ Err Memory) (answer.now ≢ Err Memory) }
+{
+    matches!(answer, Err(Refusal::Memory))
+}
+
+/// Lets the moments pass.
+fn tick(core: &mut Core, thread: u32, moment: Moment)
+    ensures { IsMade (state core.old) thread (Passes moment) (state core.new) }
+{
+    let _answer = core.tick(moment);
+}
+
+/// Makes what is asked of the thread.
+fn make(core: &mut Core, thread: u32, ask: &Ask) -> Result<(), AllocError>
+    ensures { OnOk result (IsMade (state core.old) thread (asked ask.now) (state core.new)) }
+{
+    match ask {
+        Ask::Call(asked) => call(core, thread, asked),
+        Ask::Tick(moment) => {
+            tick(core, thread, *moment);
+            Ok(())
+        }
+    }
+}
+
+/// Lets the lane go, and tells whether it went: not where its thread waits, or nothing is left for it.
+pub fn go(plan: &Plan, place: &mut Place, lane: u32) -> Result<bool, AllocError>
+    requires wide { length place.old.places.items ≡ length plan.now }
+    requires there { lane < length plan.now }
+    ensures point { IfOk result (λ went. Went plan.now (point_at place.old.places.items place.old.core) lane went
+        (point_at place.new.places.items place.new.core)) }
+    ensures wide { OnOk result (length place.new.places.items ≡ length plan.now) }
+{
+    if place.core.is_waiting(lane) {
+        return Ok(false);
+    }
+    let at = place.places[lane as usize];
+    let Some(ask) = plan.ask(lane, at) else {
+        return Ok(false);
+    };
+    make(&mut place.core, lane, ask)?;
+    place.places[lane as usize] = at + 1;
+    Ok(true)
+}
+
+/// Lets the lane go, which can.
+pub fn go_on(plan: &Plan, place: &mut Place, lane: u32) -> Result<(), AllocError>
+    requires wide { length place.old.places.items ≡ length plan.now }
+    ensures point { OnOk result ((q : Point) → Goes plan.now (point_at place.old.places.items place.old.core) lane q
+        → Goes plan.now (point_at place.old.places.items place.old.core) lane (point_at place.new.places.items place.new.core)) }
+    ensures wide { OnOk result (length place.new.places.items ≡ length plan.now) }
+{
+    if lane as usize >= plan.lanes() {
+        return Ok(());
+    }
+    go(plan, place, lane)?;
+    Ok(())
+}

@@ -1,0 +1,102 @@
+//! Whether a wait pends that nothing can end.
+ghost use Rattle.std.specs.Prelude.{◌≡◌, ◌↔◌, ◌<◌, ℕ, true, not, MatchBool, length, slice_index_or, nat_lt, IfOk};
+ghost use Rattle.nt_calls.specs.State.{pends};
+ghost use Rattle.nt_core.specs.Dispatcher.{state};
+ghost use Rattle.nt_look.specs.Hangs.{marked};
+ghost use Rattle.nt_look.specs.Orders.{Hangs, asks, goes_on};
+ghost use Rattle.nt_explore.specs.Walk.{point_at};
+
+use crate::place::Place;
+use crate::plan::Plan;
+use nt_core::Core;
+use nt_look::{greatest_knot, is_stuck};
+use std::alloc::{AllocError, Global};
+
+/// Whether something is left in the lane.
+fn has_more(plan: &Plan, places: &[usize], lane: u32) -> bool
+    requires { length places.now ≡ length plan.now }
+    ensures { result ≡ nat_lt (slice_index_or places.now lane 0) (length (asks plan.now lane)) }
+{
+    match places.get(lane as usize) {
+        Some(place) => plan.ask(lane, *place).is_some(),
+        None => false,
+    }
+}
+
+/// Whether the thread makes a call still, or waits.
+fn goes_on(plan: &Plan, place: &Place, thread: u32) -> bool
+    requires { length place.now.places.items ≡ length plan.now }
+    ensures { result ≡ goes_on plan.now (point_at place.now.places.items place.now.core) thread }
+{
+    has_more(plan, &place.places, thread) || place.core.is_waiting(thread)
+}
+
+/// By thread, whether it makes no call any more.
+fn over_at(alloc: Global, plan: &Plan, place: &Place) -> Result<Vec<bool>, AllocError>
+    requires { length place.now.places.items ≡ length plan.now }
+    ensures point { IfOk result (λ over. (t : ℕ) → t < (state place.now.core).threads
+        → marked over.items t ≡ not (goes_on plan.now (point_at place.now.places.items place.now.core) t)) }
+    ensures count { IfOk result (λ over. length over.items ≡ (state place.now.core).threads) }
+{
+    let mut over = Vec::new(alloc);
+    for thread in 0..place.core.threads() {
+        over.push(!goes_on(plan, place, thread))?;
+    }
+    Ok(over)
+}
+
+/// Whether one of these threads waits.
+fn has_waiting(core: &Core, among: &[bool]) -> bool
+    ensures { MatchBool result
+        ((t : ℕ) × (marked among.now t ≡ true) × (pends (state core.now) t ≡ true))
+        ((t : ℕ) → t < (state core.now).threads → marked among.now t ≡ true → pends (state core.now) t ≡ true → ⊥) }
+{
+    for thread in 0..core.threads() {
+        if is_among(among, thread) && core.is_waiting(thread) {
+            return true;
+        }
+    }
+    false
+}
+
+/// Whether a thread waits.
+fn one_waits(core: &Core) -> bool
+    ensures { MatchBool result
+        ((t : ℕ) × (pends (state core.now) t ≡ true))
+        ((t : ℕ) → t < (state core.now).threads → pends (state core.now) t ≡ true → ⊥) }
+{
+    for thread in 0..core.threads() {
+        if core.is_waiting(thread) {
+            return true;
+        }
+    }
+    false
+}
+
+/// Whether the thread has a mark.
+fn is_among(among: &[bool], thread: u32) -> bool
+    ensures { result ≡ marked among.now thread }
+{
+    match among.get(thread as usize) {
+        Some(mark) => *mark,
+        None => false,
+    }
+}
+
+/// Whether a wait pends here that nothing can end.
+pub fn hangs(alloc: Global, plan: &Plan, place: &Place) -> Result<bool, AllocError>
+    requires { length place.now.places.items ≡ length plan.now }
+    ensures { IfOk result (λ hangs. (hangs ≡ true) ↔ Hangs plan.now (point_at place.now.places.items place.now.core)) }
+{
+    place.core.stands();
+    place.core.owners_stand();
+    if !one_waits(&place.core) {
+        return Ok(false);
+    }
+    let over = over_at(alloc, plan, place)?;
+    if is_stuck(&place.core, &over) {
+        return Ok(true);
+    }
+    let knot = greatest_knot(alloc, &place.core, &over)?;
+    Ok(has_waiting(&place.core, &knot))
+}

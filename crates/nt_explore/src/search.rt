@@ -1,0 +1,285 @@
+//! The search, level by level.
+ghost use Rattle.std.specs.Prelude.{◌≡◌, ◌<◌, ◌≤◌, ◌+◌, ◌^◌, ℕ, length, None, Some, IfOk, OnOk};
+ghost use Rattle.nt_core.specs.Dispatcher.{state};
+ghost use Rattle.nt_calls.specs.State.{State};
+ghost use Rattle.nt_look.specs.Orders as orders;
+ghost use Rattle.nt_look.specs.Orders.{Point, Goes};
+ghost use Rattle.std.specs.Option.{ForSome, option_map};
+ghost use Rattle.nt_explore.specs.Search.{beginning, Tells};
+ghost use Rattle.nt_explore.specs.Walk.{point_at, point_of, AreBehind, IsWalk, LeadsTo, Tries, TriesLane};
+ghost use Rattle.nt_explore.specs.Levels.{IsSearch, first_then};
+
+use crate::explored::{Explored, Loss, Verdict};
+use crate::going::go;
+use crate::hanging::hangs;
+use crate::loss::{Edges, first_loss};
+use crate::met::{Entry, Met, again, way_to};
+use crate::place::{Place, copy_of};
+use crate::plan::Plan;
+use nt_core::Core;
+use std::alloc::{AllocError, Global};
+
+/// Who is told how far the search is.
+pub trait Watcher {
+    /// So many states were looked at, of so many that were met.
+    fn tell(&mut self, looked: usize, states: usize);
+}
+
+/// What was counted, and the first state that hangs.
+#[derive(Drop)]
+struct Counts {
+    steps: usize,
+    hangs: usize,
+    first: Option<usize>,
+}
+
+/// The place to which the lane leads; none where it does not go.
+fn next_of(
+    alloc: Global,
+    plan: &Plan,
+    place: &Place,
+    lane: u32,
+) -> Result<Option<Place>, AllocError>
+    requires wide { length place.now.places.items ≡ length plan.now }
+    requires known { lane < length plan.now }
+    ensures { IfOk result (λ next. LeadsTo plan.now (point_at place.now.places.items place.now.core) lane (option_map point_of next)) }
+{
+    let mut next = copy_of(alloc, place)?;
+    if go(plan, &mut next, lane)? {
+        Ok(Some(next))
+    } else {
+        Ok(None)
+    }
+}
+
+/// Meets the place to which the lane leads from the state with this number.
+fn meet_next(
+    alloc: Global,
+    start: &Core,
+    plan: &Plan,
+    met: &mut Met,
+    edges: &mut Edges,
+    next: &Place,
+    index: usize,
+    lane: u32,
+) -> Result<bool, AllocError>
+    requires behind { AreBehind met.old.entries.items }
+    requires there { index < length met.old.entries.items }
+    ensures point { OnOk result ((p : Point) → length p.at ≡ length plan.now → (point : ℕ → Point)
+        → IsWalk plan.now (beginning plan.now (state start.now)) met.old.entries.items point
+        → point index ≡ p → Goes plan.now p lane (point_of next.now)
+        → TriesLane plan.now (beginning plan.now (state start.now)) met.old.entries.items met.new.entries.items p lane point) }
+    ensures behind { OnOk result (AreBehind met.new.entries.items) }
+    ensures longer { OnOk result (length met.old.entries.items ≤ length met.new.entries.items) }
+{
+    let to = met.meet(alloc, start, plan, next, index, lane)?;
+    edges.lead(to)?;
+    Ok(true)
+}
+
+/// Tries one lane from the place, which is the state with this number. Tells whether it went.
+fn try_lane(
+    alloc: Global,
+    start: &Core,
+    plan: &Plan,
+    met: &mut Met,
+    edges: &mut Edges,
+    place: &Place,
+    index: usize,
+    lane: u32,
+) -> Result<bool, AllocError>
+    requires behind { AreBehind met.old.entries.items }
+    requires there { index < length met.old.entries.items }
+    requires wide { length place.now.places.items ≡ length plan.now }
+    requires known { lane < length plan.now }
+    ensures point { OnOk result ((point : ℕ → Point) → IsWalk plan.now (beginning plan.now (state start.now)) met.old.entries.items point
+        → point index ≡ point_at place.now.places.items place.now.core
+        → TriesLane plan.now (beginning plan.now (state start.now)) met.old.entries.items met.new.entries.items
+        (point_at place.now.places.items place.now.core) lane point) }
+    ensures behind { OnOk result (AreBehind met.new.entries.items) }
+    ensures longer { OnOk result (length met.old.entries.items ≤ length met.new.entries.items) }
+{
+    let next = next_of(alloc, plan, place, lane)?;
+    match next {
+        None => Ok(false),
+        Some(next) => meet_next(alloc, start, plan, met, edges, &next, index, lane),
+    }
+}
+
+/// Tries each lane from the place, which is the state with this number. Tells how many went.
+fn try_lanes(
+    alloc: Global,
+    start: &Core,
+    plan: &Plan,
+    met: &mut Met,
+    edges: &mut Edges,
+    place: &Place,
+    index: usize,
+) -> Result<usize, AllocError>
+    requires behind { AreBehind met.old.entries.items }
+    requires there { index < length met.old.entries.items }
+    requires wide { length place.now.places.items ≡ length plan.now }
+    ensures point { OnOk result ((point : ℕ → Point) → IsWalk plan.now (beginning plan.now (state start.now)) met.old.entries.items point
+        → point index ≡ point_at place.now.places.items place.now.core
+        → Tries plan.now (beginning plan.now (state start.now)) met.old.entries.items met.new.entries.items
+        (point_at place.now.places.items place.now.core) (length plan.now) point) }
+    ensures behind { OnOk result (AreBehind met.new.entries.items) }
+    ensures longer { OnOk result (length met.old.entries.items ≤ length met.new.entries.items) }
+{
+    let mut steps: usize = 0;
+    for lane in 0..plan.lanes() {
+        if try_lane(alloc, start, plan, met, edges, place, index, lane as u32)? {
+            steps = steps.saturating_add(1);
+        }
+    }
+    Ok(steps)
+}
+
+/// The first state that hangs, where the next one hangs or does not.
+fn first_then(hung: bool, index: usize, first: Option<usize>) -> Option<usize>
+    ensures { result ≡ first_then hung index first }
+{
+    if first.is_none() && hung {
+        Some(index)
+    } else {
+        first
+    }
+}
+
+/// Looks at the next state.
+fn look_at(
+    alloc: Global,
+    start: &Core,
+    plan: &Plan,
+    met: &mut Met,
+    edges: &mut Edges,
+    counts: &mut Counts,
+    index: usize,
+) -> Result<(), AllocError>
+    requires behind { AreBehind met.old.entries.items }
+    requires there { index < length met.old.entries.items }
+    ensures point { OnOk result (IsSearch plan.now (beginning plan.now (state start.now)) met.old.entries.items index counts.old.first
+        → IsSearch plan.now (beginning plan.now (state start.now)) met.new.entries.items (index + 1) counts.new.first) }
+    ensures behind { OnOk result (AreBehind met.new.entries.items) }
+    ensures longer { OnOk result (length met.old.entries.items ≤ length met.new.entries.items) }
+{
+    let place = again(alloc, start, plan, &met.entries, index)?;
+    let hung = hangs(alloc, plan, &place)?;
+    let steps = try_lanes(alloc, start, plan, met, edges, &place, index)?;
+    edges.end(&place)?;
+    counts.first = first_then(hung, index, counts.first);
+    counts.hangs = counts.hangs.saturating_add(usize::from(hung));
+    counts.steps = counts.steps.saturating_add(steps);
+    Ok(())
+}
+
+/// Since when a wait was lost, where all states were looked at.
+fn loss_at(
+    alloc: Global,
+    entries: &[Entry],
+    edges: &Edges,
+    looked: usize,
+) -> Result<Option<Loss>, AllocError>
+    requires behind { AreBehind entries.now }
+{
+    if looked < entries.len() {
+        return Ok(None);
+    }
+    first_loss(alloc, entries, edges)
+}
+
+/// The verdict where this is the first state that hangs.
+fn judge_hang(
+    alloc: Global,
+    entries: &[Entry],
+    edges: &Edges,
+    looked: usize,
+    first: usize,
+) -> Result<Verdict, AllocError>
+    requires behind { AreBehind entries.now }
+    requires first { first < length entries.now }
+    ensures { IfOk result (λ verdict. (plan : orders.Plan) (s : State) → IsSearch plan (beginning plan s) entries.now looked (Some first)
+        → Tells plan (beginning plan s) verdict) }
+{
+    let mut lanes = way_to(alloc, entries, first)?;
+    lanes.reverse();
+    let loss = loss_at(alloc, entries, edges, looked)?;
+    Ok(Verdict::Hangs { lanes, loss })
+}
+
+/// The verdict where none of those that were looked at hangs.
+fn judge_rest(alloc: Global, entries: &[Entry], looked: usize) -> Result<Verdict, AllocError>
+    requires behind { AreBehind entries.now }
+    requires some { 0 < looked }
+    requires within { looked ≤ length entries.now }
+    ensures { IfOk result (λ verdict. (plan : orders.Plan) (s : State) → IsSearch plan (beginning plan s) entries.now looked None
+        → Tells plan (beginning plan s) verdict) }
+{
+    if looked == entries.len() {
+        return Ok(Verdict::None);
+    }
+    let way = way_to(alloc, entries, looked)?;
+    let level = way.len().saturating_sub(1);
+    Ok(Verdict::Met { level })
+}
+
+/// What the search has come to, where so many states were looked at.
+fn judge(
+    alloc: Global,
+    entries: &[Entry],
+    edges: &Edges,
+    looked: usize,
+    first: Option<usize>,
+) -> Result<Verdict, AllocError>
+    requires behind { AreBehind entries.now }
+    requires some { 0 < looked }
+    requires within { looked ≤ length entries.now }
+    requires first { ForSome first (λ h. h < looked) }
+    ensures { IfOk result (λ verdict. (plan : orders.Plan) (s : State) → IsSearch plan (beginning plan s) entries.now looked first
+        → Tells plan (beginning plan s) verdict) }
+{
+    match first {
+        Some(first) => judge_hang(alloc, entries, edges, looked, first),
+        None => judge_rest(alloc, entries, looked),
+    }
+}
+
+/// Tries all orders, until more states than `most` are met. The start is looked at in any case.
+pub fn explore<W: Watcher>(
+    alloc: Global,
+    start: &Core,
+    plan: &Plan,
+    most: usize,
+    watcher: &mut W,
+) -> Result<Explored, AllocError>
+    ensures { IfOk result (λ explored. Tells plan.now (beginning plan.now (state start.now)) explored.verdict) }
+{
+    let mut met = Met::new(alloc)?;
+    let mut counts = Counts {
+        steps: 0,
+        hangs: 0,
+        first: None,
+    };
+    let mut edges = Edges::new(alloc, start.threads());
+    let mut looked = 0;
+    while looked < met.entries.len() && (looked == 0 || met.entries.len() <= most) {
+        look_at(
+            alloc,
+            start,
+            plan,
+            &mut met,
+            &mut edges,
+            &mut counts,
+            looked,
+        )?;
+        looked += 1;
+        watcher.tell(looked, met.entries.len());
+    }
+    let verdict = judge(alloc, &met.entries, &edges, looked, counts.first)?;
+    Ok(Explored {
+        states: met.entries.len(),
+        steps: counts.steps,
+        hangs: counts.hangs,
+        verdict,
+    })
+}
