@@ -7,7 +7,7 @@
 //! The search goes level by level: first all states after one step, then all after two, and so on. So the first state that hangs is one
 //! that a shortest order comes to ([`Verdict::Hangs`]).
 //!
-//! **No state is kept.** Of each that was met the table has 12 bytes: a hash, the state that it came from, and the lane that went. Where a
+//! **No state is kept.** Of each that was met the table has 16 bytes: a hash, the state that it came from, and the lane that went. Where a
 //! hash is known already, that state is made again, from the start and the lanes that led there, and the two are compared
 //! (`Core::is_like`). So nothing rests on the hash.
 #![tactic(auto)]
