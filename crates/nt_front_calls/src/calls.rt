@@ -16,14 +16,14 @@ use std::sync::Wait;
 ///
 /// Every call may be refused, as [`Refused`] says. A pass learns of what is written alone, and is as before if nothing is.
 #[derive(Drop)]
-pub struct Calls<'f, N: Named, R> {
+pub struct Calls<'f, 'r, N: Named, R> {
     pub(crate) front: &'f Front<N>,
-    pub(crate) rt: &'f R,
+    pub(crate) rt: &'r R,
 }
 
-impl<'f, N: Named, R: Wait> Calls<'f, N, R> {
+impl<'f, 'r, N: Named, R: Wait> Calls<'f, 'r, N, R> {
     /// The calls of this front. Who has to wait waits by this runtime.
-    pub fn of(front: &'f Front<N>, rt: &'f R) -> Calls<'f, N, R> {
+    pub fn of(front: &'f Front<N>, rt: &'r R) -> Calls<'f, 'r, N, R> {
         Calls { front, rt }
     }
 

@@ -14,7 +14,7 @@ use nt_front::{Exited, Held, Named, Pass};
 use nt_status::{Handle, Moment};
 use std::sync::Wait;
 
-impl<'f, N: Named, R: Wait> Calls<'f, N, R> {
+impl<'f, 'r, N: Named, R: Wait> Calls<'f, 'r, N, R> {
     /// Makes a call that has nothing to tell.
     pub(crate) fn make_done(&self, pass: &mut Pass<N>, act: Act) -> Result<Told<()>, Refused>
         requires { act_kind act ≡ Kind.Done }

@@ -16,7 +16,7 @@ use nt_status::{Handle, Handles, Refusal, Status};
 use std::alloc::{Alloc, Global};
 use std::sync::Wait;
 
-impl<'f, N: Named, R: Wait> Calls<'f, N, R> {
+impl<'f, 'r, N: Named, R: Wait> Calls<'f, 'r, N, R> {
     /// Begins a wait.
     pub(crate) fn begin(&self, pass: Pass<N>, wait: WaitCall) -> Began<N>
         ensures { HasBegun N.front pass wait result }
@@ -79,7 +79,7 @@ impl<'f, N: Named, R: Wait> Calls<'f, N, R> {
     }
 }
 
-impl<'f, N: Named, R: Wait + Alloc<A = Global>> Calls<'f, N, R> {
+impl<'f, 'r, N: Named, R: Wait + Alloc<A = Global>> Calls<'f, 'r, N, R> {
     /// Begins a wait for the objects of these handles.
     pub(crate) fn begin_for(
         &self,

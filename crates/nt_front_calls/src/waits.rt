@@ -12,7 +12,7 @@ use nt_status::{Handle, Status};
 use std::alloc::{Alloc, Global};
 use std::sync::Wait;
 
-impl<'f, N: Named, R: Wait + Alloc<A = Global>> Calls<'f, N, R> {
+impl<'f, 'r, N: Named, R: Wait + Alloc<A = Global>> Calls<'f, 'r, N, R> {
     /// WaitForSingleObjectEx: waits until it has ended.
     pub fn wait_one(
         &self,
@@ -92,7 +92,7 @@ impl<'f, N: Named, R: Wait + Alloc<A = Global>> Calls<'f, N, R> {
     }
 }
 
-impl<'f, N: Named, R: Wait> Calls<'f, N, R> {
+impl<'f, 'r, N: Named, R: Wait> Calls<'f, 'r, N, R> {
     /// SleepEx: waits until it has ended.
     pub fn sleep(
         &self,
