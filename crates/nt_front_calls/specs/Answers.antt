@@ -1,9 +1,8 @@
 -- What each call of a front answers, by what its thread knows then.
-use Rattle.std.specs.Prelude.{◌≡◌, ℕ, Bool, true, false, ⊤, Option, Some, None, Result, Ok, Err}
+use Rattle.std.specs.Prelude.{◌≡◌, ◌≢◌, ℕ, Bool, true, false, ⊤, Option, Some, None, Result, Ok, Err}
 use Rattle.nt_calls.specs.declared.call.Call.{Call}
 use Rattle.nt_calls.specs.declared.call.WaitCall.{WaitCall}
 use Rattle.nt_calls.specs.declared.call.Reply.{Reply}
-use Rattle.nt_calls.specs.Moves.{is_wait}
 use Rattle.nt_mail.specs.declared.knowledge.Knowledge.{Knowledge}
 use Rattle.nt_mail.specs.Knowledge.{IsEarlier}
 use Rattle.nt_front.specs.declared.hold.Held.{Held}
@@ -20,12 +19,17 @@ use Rattle.nt_front_calls.specs.declared.told.Polled.{Polled}
 
 -- ---- a call
 
+-- the call is a wait for a list of objects
+abbrev pub names_objects : Call → Bool
+names_objects (Call.Wait (WaitCall.Objects all alertable ms handles)) = true
+names_objects _ = false
+
 -- the call was refused: by the dispatcher, and so written; or the journal was full; or a wait's list of handles found no memory. Nothing was
 -- done or written in the last two cases
 abbrev pub IsRefused : Prepared → Knowledge → Call → Refused → Knowledge → Type 0
 IsRefused front old call (Refused.Call entry refusal) new = IsMade old call entry (Err refusal) new
 IsRefused front old call Refused.JournalFull new = (new ≡ old) × WasFull front old
-IsRefused front old call Refused.NoMemory new = (new ≡ old) × (is_wait call ≡ true)
+IsRefused front old call Refused.NoMemory new = (new ≡ old) × (names_objects call ≡ true)
 
 -- the call was made and written, with the reply for which the answer stands; or it was refused
 abbrev pub IsTold : {A : Type 0} → (A → Reply) → Prepared → Knowledge → Call → Result (Told A) Refused → Knowledge → Type 0
@@ -42,6 +46,11 @@ abbrev pub HasBegun : {X : Type 0} → Prepared → Knowledge → WaitCall → B
 HasBegun front old wait (Began.Ended new told) = IsMade old (Call.Wait wait) told.entry (Ok (Reply.Status told.answer)) new
 HasBegun front old wait (Began.Pended new entry) = IsMade old (Call.Wait wait) entry (Ok Reply.Pended) new
 HasBegun front old wait (Began.Refused new refused) = IsRefused front old (Call.Wait wait) refused new
+
+-- not for want of memory
+abbrev pub FindsMemory : {X : Type 0} → Began X → Type 0
+FindsMemory (Began.Refused new refused) = refused ≢ Refused.NoMemory
+FindsMemory other = Unit {0}
 
 -- the thread, asleep, was given a grant with this status
 abbrev pub IsWoken : Knowledge → Told ℕ → Knowledge → Type 0

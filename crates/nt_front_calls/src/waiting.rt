@@ -1,11 +1,12 @@
 //! Waits that begin, and waits to their end.
-ghost use Rattle.std.specs.Prelude.{◌≡◌, ℕ, Ok, false, IsTrue};
+ghost use Rattle.std.specs.Prelude.{◌≡◌, ◌≢◌, ℕ, Ok, false, IsTrue, IfErr};
 ghost use Rattle.nt_calls.specs.declared.call.WaitCall.{WaitCall};
 ghost use Rattle.nt_calls.specs.declared.call.Reply.{Reply};
 ghost use Rattle.nt_calls.specs.Moves.{pended};
 ghost use Rattle.nt_answers.specs.Answers.{as_reply, is_began};
+ghost use Rattle.nt_front_calls.specs.declared.told.Refused.{Refused};
 ghost use Rattle.nt_front_calls.specs.Told.{TellsEnd};
-ghost use Rattle.nt_front_calls.specs.Answers.{HasBegun, IsWoken, IsWaitedFor, IsLookedFor};
+ghost use Rattle.nt_front_calls.specs.Answers.{FindsMemory, HasBegun, IsWoken, IsWaitedFor, IsLookedFor};
 
 use crate::calls::Calls;
 use crate::told::{Began, Polled, Refused, Told, WaitEnd, told_at};
@@ -19,7 +20,8 @@ use std::sync::Wait;
 impl<'f, 'r, N: Named, R: Wait> Calls<'f, 'r, N, R> {
     /// Begins a wait.
     pub(crate) fn begin(&self, pass: Pass<N>, wait: WaitCall) -> Began<N>
-        ensures { HasBegun N.front pass wait result }
+        ensures begun { HasBegun N.front pass wait result }
+        ensures memory { FindsMemory result }
     {
         match self.front.begin(self.rt, pass, wait) {
             Begun::Done(pass, receipt) => match end_in(receipt) {
@@ -33,7 +35,8 @@ impl<'f, 'r, N: Named, R: Wait> Calls<'f, 'r, N, R> {
 
     /// Waits until the wait has ended.
     pub(crate) fn wait(&self, pass: Pass<N>, wait: WaitCall) -> (Pass<N>, Result<WaitEnd, Refused>)
-        ensures { IsWaitedFor N.front pass wait result.1 result.0 }
+        ensures ended { IsWaitedFor N.front pass wait result.1 result.0 }
+        ensures memory { IfErr result.1 (λ refused. refused ≢ Refused.NoMemory) }
     {
         match self.front.wait(self.rt, pass, wait) {
             Waited::Done(pass, receipt) => match end_in(receipt) {
