@@ -200,7 +200,7 @@ def proved(top, tree, work, tries_all):
         ("what closed objects leave", command(tree, "tests/memory"), False),
         ("the threads of a plan", command(tree, "tests/threads"), False),
         ("the scripts, each growth refused", command(tree, "tests/growths/scripts", *scripts), False),
-        ("the program of docs/EMBEDDING.md, each growth refused", command(tree, "tests/growths/example"), False),
+        ("the programs of docs/EMBEDDING.md, each growth refused", command(tree, "tests/growths/example"), False),
         ("the examples", functools.partial(examples, tree), False),
         ("the launcher, and the worked scripts", command(tree, "tests/launcher"), False),
         ("the library for C programs", command(tree, "make", "--no-print-directory", "-C", "c", "check", "ALL=1" if tries_all else "STRICT=1"), False),

@@ -33,7 +33,7 @@ const NUMBERS: u64 = 1 << 54;
 ///
 /// Its type keeps that the dispatcher is lawful, and that the journal is a run which leads from its base to this very state.
 #[derive(Drop)]
-pub struct Book<N: Named> {
+pub(crate) struct Book<N: Named> {
     core: Core,
     base: Core,
     first: u64,
@@ -66,7 +66,7 @@ impl<N: Named> Book<N> {
     /// Refused with JournalFull where the room left is too small for an entry and one more for each pending wait; nothing changes
     /// then. Every other answer of the dispatcher is written, a refusal too.
     #[inline(always)]
-    pub fn call(
+    pub(crate) fn call(
         &mut self,
         mail: &Mail,
         caller: &mut Hold<N>,
@@ -117,7 +117,7 @@ impl<N: Named> Book<N> {
     /// Makes a tick by the thread of this hold, and writes it with the waits that it ended. Answers whom they wake, too.
     ///
     /// Refused with JournalFull as a call is.
-    pub fn tick(
+    pub(crate) fn tick(
         &mut self,
         mail: &Mail,
         caller: &mut Hold<N>,
@@ -171,7 +171,7 @@ impl<N: Named> Book<N> {
     /// Hands out the entries since the base, with the base. From then on a copy of the dispatcher is the base, and no entry stands.
     ///
     /// Refused with 8 where memory is refused; nothing changes then. It writes no entry, and looks at the mail once.
-    pub fn rotate(&mut self, mail: &Mail, caller: &mut Hold<N>) -> Result<Part, Refusal>
+    pub(crate) fn rotate(&mut self, mail: &Mail, caller: &mut Hold<N>) -> Result<Part, Refusal>
         requires mail { mail.now ≡ N.front.table }
         ensures part { IfOk result (λ part. HandsOut self.old part self.new) }
         ensures told { IfOk result (λ part. WasHandedOut N.front caller.old part) }
@@ -255,7 +255,7 @@ impl<N: Named> Book<N> {
     }
 
     /// The dispatcher is lawful and the journal a run to its state, now as ever; there is nothing to do for it.
-    pub fn stands(&self)
+    pub(crate) fn stands(&self)
         ensures { Stands self.now }
     {
         let _ = &self.core;

@@ -51,11 +51,10 @@ mod wake;
 mod write;
 
 pub use blank::{Blank, open, prepare};
-pub use book::Book;
 pub use calls::{Begun, Exited};
 pub use carried::{Carried, LetGo};
 pub use front::Front;
-pub use hold::{Ended, Held, Hold, Pass, Sleeper};
+pub use hold::{Ended, Held, Pass, Sleeper};
 pub use named::Named;
 pub use nt_mail::Entry;
 pub use polls::Polled;

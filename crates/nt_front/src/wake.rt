@@ -48,7 +48,7 @@ impl Marks {
 }
 
 /// The threads that a call or tick granted, all of which are to be woken. It must be spent: `Bells::ring` wakes them.
-pub struct ToWake {
+pub(crate) struct ToWake {
     marks: Option<Marks>,
 }
 

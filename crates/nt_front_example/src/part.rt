@@ -1,0 +1,34 @@
+//! A part of the journal, made again.
+use crate::fault::Fault;
+use crate::host::Host;
+use nt_front::{Front, History, Named, Part, Pass};
+use nt_replay::replay;
+
+/// Takes the entries since the last part, and makes their calls and ticks again: each answer is the same.
+pub fn replay_part<N: Named>(
+    front: &Front<N>,
+    rt: &impl Host,
+    pass: &mut Pass<N>,
+) -> Result<(), Fault> {
+    let part = front.rotate(rt, pass)?;
+    let Part {
+        first: _,
+        base,
+        entries,
+    } = part;
+    let after = replay(base, entries.as_slice())?;
+    drop(after);
+    Ok(())
+}
+
+/// The same with the rest of the journal.
+pub fn replay_rest(history: History) -> Result<(), Fault> {
+    let History {
+        first: _,
+        base,
+        entries,
+    } = history;
+    let after = replay(base, entries.as_slice())?;
+    drop(after);
+    Ok(())
+}
