@@ -8,8 +8,8 @@ use std::io;
 pub enum Fault {
     /// A call was refused that should not be; for memory, in most cases.
     Refused(Refusal),
-    /// The journal does not make the same run again.
-    Unreplayed(Unreplayed),
+    /// The journal does not make the same run again, from the entry at this place on.
+    Differs(usize),
     /// A line could not be written, or the clock not be read.
     Host,
 }
@@ -26,9 +26,13 @@ impl From<Refused> for Fault {
     }
 }
 
+/// A journal in which a call was refused for memory, or one that finds none, can't be made again as it was.
 impl From<Unreplayed> for Fault {
     fn from(cause: Unreplayed) -> Fault {
-        Fault::Unreplayed(cause)
+        match cause {
+            Unreplayed::Differs(place) => Fault::Differs(place),
+            Unreplayed::Memory(_) => Fault::Refused(Refusal::Memory),
+        }
     }
 }
 
