@@ -1,16 +1,20 @@
 -- The moments that a thread knows at the end.
-use Rattle.std.proofs.Common.{◌≡◌, ◌≤◌, ◌<◌, ⊎_elim, inl, inr, ℕ, suc, List, [], ◌∷◌, ◌++◌, Bool, true, false, cond, ◌==◌, Ok, Err, refl, sym, subst, arith}
+use Rattle.std.proofs.Common.{◌≡◌, ◌≤◌, ◌<◌, ⊎_elim, inl, inr, ℕ, suc, List, [], ◌∷◌, ◌++◌, Bool, true, false, cond, ◌==◌, Result, Ok, Err, refl, sym, subst, arith}
 use Rattle.std.specs.Prelude.{max, nat_le}
 use Rattle.std.proofs.lemmas.Bool.Decides.{leb_tells}
 use Rattle.nt_mail.specs.declared.entry.Entry.{Entry}
-use Rattle.nt_mail.specs.declared.entry.Entry.TheVariants.{Called, Ticked, Granted}
+use Rattle.nt_mail.specs.declared.entry.Entry.TheVariants.{Called, Ticked, Granted, Renewed}
+use Rattle.nt_life.specs.declared.renewal.Renewal.{Renewal}
+use Rattle.nt_life.specs.declared.renewal.Renewal.TheVariants.{Create, CreateAdded, Unadded, Duplicate, Begin}
 use Rattle.nt_mail.specs.declared.knowledge.Asked.{Asked}
 use Rattle.nt_mail.specs.declared.knowledge.Made.{Made}
 use Rattle.nt_mail.specs.declared.knowledge.Knowledge.{Knowledge}
-use Rattle.nt_mail.specs.Entries.{Each, item, call_at, calls_from, calls_of, accepted_at, accepted}
+use Rattle.nt_mail.specs.Entries.{Each, item, asked_of, handle_reply, call_at, calls_from, calls_of, accepted_at, accepted}
 use Rattle.nt_mail.specs.Knowledge.{latest}
 use Rattle.nt_mail.specs.Rule.{IsOneOf, WasPublished}
-use Rattle.nt_front.specs.Holds.{ticked_to, floor_of}
+use Rattle.nt_front.specs.Holds.{moment_if, ticked_to, floor_of}
+use Rattle.nt_calls.specs.declared.call.Reply.{Reply}
+use Rattle.nt_status.specs.declared.refusal.Refusal.{Refusal}
 
 later_of : (ms : List ℕ) (a b : ℕ) → WasPublished ms a → WasPublished ms b → WasPublished ms (max a b)
 later_of ms a b of_a of_b = ⊎_elim
@@ -47,6 +51,14 @@ ticked_to-append : (xs ys : List Made) → ticked_to (xs ++ ys) ≡ max (ticked_
 ticked_to-append [] ys = omega arith
 ticked_to-append (x ∷ xs) ys = omega (arith, ticked_to-append xs ys)
 
+-- a renewal ticks to no moment
+no_moment : (renewal : Renewal) (result : Result Reply Refusal) → moment_if (asked_of renewal) result ≡ 0
+no_moment (Create act object handle) result = refl
+no_moment (CreateAdded act object handle) result = refl
+no_moment (Unadded act) result = refl
+no_moment (Duplicate source access handle) result = refl
+no_moment (Begin handle) result = refl
+
 one_entry : (t n : ℕ) (e : Entry) → WasPublished (accepted_at e) (ticked_to (call_at t n e))
 one_entry t n (Called who call result) = by (who == t)
   where
@@ -64,6 +76,11 @@ one_entry t n (Ticked who moment (Err cause)) = by (who == t)
     by true = inl refl
     by false = inl refl
 one_entry t n (Granted who status) = inl refl
+one_entry t n (Renewed who renewal result) = by (who == t)
+  where
+    by : (own : Bool) → WasPublished [] (ticked_to (cond own (item n (asked_of renewal) (handle_reply result) ∷ []) []))
+    by true = let none = no_moment renewal (handle_reply result) in inl (omega (arith, none))
+    by false = inl refl
 
 ticks_of : (t n : ℕ) (es : List Entry) → WasPublished (accepted es) (ticked_to (calls_from t n es))
 ticks_of t n [] = inl refl

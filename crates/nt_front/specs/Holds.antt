@@ -47,6 +47,7 @@ abbrev pub moment_if : Asked → Result Reply Refusal → ℕ
 moment_if (Asked.Call call) result = 0
 moment_if (Asked.Tick moment) (Ok reply) = moment
 moment_if (Asked.Tick moment) (Err cause) = 0
+moment_if Asked.Begin result = 0
 
 -- the greatest moment of the ticks that were accepted
 abbrev pub ticked_to : List Made → ℕ

@@ -9,3 +9,4 @@ mod Pacing
 mod Stacking
 mod Aside
 pub mod Once
+pub mod Telling

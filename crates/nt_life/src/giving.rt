@@ -1,5 +1,5 @@
 //! Creations, duplicates and closes, and what they do to the spare numbers.
-ghost use Rattle.std.specs.Prelude.{◌≡◌, ◌<◌, ◌≤◌, ◌↔◌, ◌⊎◌, ℕ, true, length, slice_index_or, Err, Some, IfSome, false, ◌++◌, ◌∷◌, [], OnOk, OnErr};
+ghost use Rattle.std.specs.Prelude.{◌≡◌, ◌<◌, ◌≤◌, ◌↔◌, ◌⊎◌, ℕ, true, length, slice_index_or, Err, Some, None, IfSome, false, ◌++◌, ◌∷◌, [], OnOk, OnErr};
 ghost use Rattle.nt_status.specs.declared.limits.TheConstants.{MAX_HANDLES};
 ghost use Rattle.nt_status.specs.declared.refusal.Refusal.TheVariants.{HandleLimit};
 ghost use Rattle.nt_calls.specs.declared.call.Call.{Call};
@@ -11,7 +11,10 @@ ghost use Rattle.nt_core.specs.Renewals.{CreatesAgain};
 ghost use Rattle.nt_calls.specs.Naming.{call_named};
 ghost use Rattle.nt_core.specs.Accepts.{IsLocal};
 ghost use Rattle.nt_life.specs.Lasting.{IsSpare, MaySpare, MakesCall, FindsNoneFor, LastsCall, MayStack, LooksAt, IsUnchanged, gives, is_numbered, NoHandle, NoObject, CreatesSpare, CreatesMore, CreatesElse, LastsCreation, LastsDuplicate, LastsAct, FindsNone, KeepsPace, Pops, IsStacked, is_creation, is_unnamed, last_closed};
+ghost use Rattle.nt_life.specs.declared.renewal.Renewal.TheVariants.{Create};
+ghost use Rattle.nt_life.specs.Renewals.{Tells};
 
+use crate::renewal::Renewal;
 use crate::spare::Spare;
 use nt_core::{Act, Call, Core, Reply};
 use nt_status::{Handle, ObjectNumber, Refusal};
@@ -31,12 +34,14 @@ fn create_at(
     act: &Act,
     handle: Handle,
     place: usize,
+    told: &mut Option<Renewal>,
 ) -> Result<Reply, Refusal>
     requires lawful { IsLawful core.old }
     requires spare { IsSpare (state core.old) spare.old }
     requires closed { 0 < length spare.old.closed }
     requires handle { handle ≡ last_closed spare.old }
     requires place { place < length spare.old.unnamed }
+    ensures told { told.new ≡ Some (Create act.now (slice_index_or spare.old.unnamed place 0) handle) }
     ensures created { CreatesAgain (state core.old) who act.now (slice_index_or spare.old.unnamed place 0) handle
         result core.new.grants (state core.new) }
     ensures lawful { IsLawful core.new }
@@ -44,6 +49,11 @@ fn create_at(
     ensures stacked { Pops spare.old.closed spare.new.closed }
 {
     let object = spare.object(place);
+    *told = Some(Renewal::Create {
+        act: *act,
+        object,
+        handle,
+    });
     let reply = core.create_again(who, act, object, handle)?;
     spare.take_handle();
     spare.take_object(place);
@@ -57,12 +67,14 @@ fn create_more(
     who: u32,
     act: &Act,
     handle: Handle,
+    told: &mut Option<Renewal>,
 ) -> Result<Reply, Refusal>
     requires lawful { IsLawful core.old }
     requires spare { IsSpare (state core.old) spare.old }
     requires closed { 0 < length spare.old.closed }
     requires handle { handle ≡ last_closed spare.old }
     requires full { MAX_HANDLES ≤ length core.old.handles }
+    ensures told { Tells (state core.old) who (Call.Act act.now) told.new result core.new.grants (state core.new) }
     ensures created { CreatesSpare (state core.old) spare.old who act.now result core.new.grants (state core.new)
         ⊎ CreatesMore (state core.old) spare.old who act.now result core.new.grants (state core.new) }
     ensures limit { result ≡ Err HandleLimit → NoHandle (state core.old) ⊎ NoObject (state core.old) }
@@ -71,14 +83,23 @@ fn create_more(
     ensures stacked { Pops spare.old.closed spare.new.closed }
 {
     if let Some(place) = spare.any_vacant(core) {
-        return create_at(core, spare, who, act, handle, place);
+        return create_at(core, spare, who, act, handle, place, told);
     }
     let object = match core.add_vacant() {
         Ok(object) => object,
-        Err(refusal) => return Err(refusal),
+        Err(refusal) => {
+            *told = Some(Renewal::Unadded(*act));
+            return Err(refusal);
+        }
     };
     let place = spare.add_object(object);
-    create_at(core, spare, who, act, handle, place)
+    let answer = create_at(core, spare, who, act, handle, place, told);
+    *told = Some(Renewal::CreateAdded {
+        act: *act,
+        object,
+        handle,
+    });
+    answer
 }
 
 /// A creation with the next new numbers, while there are any.
@@ -88,11 +109,14 @@ fn create_new(
     who: u32,
     act: &Act,
     call: &Call,
+    told: &mut Option<Renewal>,
 ) -> Result<Reply, Refusal>
     requires lawful { IsLawful core.old }
     requires spare { IsSpare (state core.old) spare.old }
     requires act { call.now ≡ Call.Act act.now }
     requires creates { is_creation act.now ≡ true }
+    requires untold { told.old ≡ None }
+    ensures told { Tells (state core.old) who (Call.Act act.now) told.new result core.new.grants (state core.new) }
     ensures created { CreatesElse (state core.old) spare.old who act.now result core.new.grants (state core.new) }
     ensures limit { result ≡ Err HandleLimit → NoHandle (state core.old) ⊎ NoObject (state core.old) }
     ensures pace { KeepsPace (state core.old) who (Call.Act act.now) result core.new.grants (state core.new) }
@@ -105,7 +129,7 @@ fn create_new(
         return answer;
     }
     match spare.handle() {
-        Some(handle) => create_more(core, spare, who, act, handle),
+        Some(handle) => create_more(core, spare, who, act, handle, told),
         None => answer,
     }
 }
@@ -117,11 +141,14 @@ fn create(
     who: u32,
     act: &Act,
     call: &Call,
+    told: &mut Option<Renewal>,
 ) -> Result<Reply, Refusal>
     requires lawful { IsLawful core.old }
     requires spare { IsSpare (state core.old) spare.old }
     requires act { call.now ≡ Call.Act act.now }
     requires creates { is_creation act.now ≡ true }
+    requires untold { told.old ≡ None }
+    ensures told { Tells (state core.old) who (Call.Act act.now) told.new result core.new.grants (state core.new) }
     ensures created { LastsCreation (state core.old) spare.old who act.now result core.new.grants (state core.new) }
     ensures limit { result ≡ Err HandleLimit → NoHandle (state core.old) ⊎ NoObject (state core.old) }
     ensures pace { KeepsPace (state core.old) who (Call.Act act.now) result core.new.grants (state core.new) }
@@ -130,12 +157,12 @@ fn create(
     ensures stacked { Pops spare.old.closed spare.new.closed }
 {
     let Some(handle) = spare.handle() else {
-        return create_new(core, spare, who, act, call);
+        return create_new(core, spare, who, act, call, told);
     };
     let Some(place) = spare.vacant(core) else {
-        return create_new(core, spare, who, act, call);
+        return create_new(core, spare, who, act, call, told);
     };
-    create_at(core, spare, who, act, handle, place)
+    create_at(core, spare, who, act, handle, place, told)
 }
 
 /// DuplicateHandle: with the number of a closed handle, if there is one.
@@ -146,10 +173,14 @@ fn duplicate(
     call: &Call,
     source: Handle,
     access: u32,
+    told: &mut Option<Renewal>,
 ) -> Result<Reply, Refusal>
     requires lawful { IsLawful core.old }
     requires spare { IsSpare (state core.old) spare.old }
     requires act { call.now ≡ Call.Act (Act.Duplicate source access) }
+    requires untold { told.old ≡ None }
+    ensures told { Tells (state core.old) who (Call.Act (Act.Duplicate source access)) told.new
+        result core.new.grants (state core.new) }
     ensures duplicated { LastsDuplicate (state core.old) spare.old who source access
         result core.new.grants (state core.new) }
     ensures limit { result ≡ Err HandleLimit → NoHandle (state core.old) }
@@ -162,6 +193,11 @@ fn duplicate(
     let Some(handle) = spare.handle() else {
         return core.call(who, call);
     };
+    *told = Some(Renewal::Duplicate {
+        source,
+        access,
+        handle,
+    });
     let reply = core.duplicate_again(who, source, access, handle)?;
     spare.take_handle();
     Ok(reply)
@@ -226,10 +262,13 @@ pub(crate) fn make_act(
     who: u32,
     act: &Act,
     call: &Call,
+    told: &mut Option<Renewal>,
 ) -> Result<Reply, Refusal>
     requires lawful { IsLawful core.old }
     requires spare { IsSpare (state core.old) spare.old }
     requires act { call.now ≡ Call.Act act.now }
+    requires untold { told.old ≡ None }
+    ensures told { Tells (state core.old) who (Call.Act act.now) told.new result core.new.grants (state core.new) }
     ensures lasts { LastsAct (state core.old) spare.old who act.now result core.new.grants (state core.new) }
     ensures limit { result ≡ Err HandleLimit → FindsNone (state core.old) (Call.Act act.now) }
     ensures pace { KeepsPace (state core.old) who (Call.Act act.now) result core.new.grants (state core.new) }
@@ -240,10 +279,12 @@ pub(crate) fn make_act(
 {
     match *act {
         Act::Close(handle) => close(core, spare, who, call, handle),
-        Act::Duplicate { handle, access } => duplicate(core, spare, who, call, handle, access),
+        Act::Duplicate { handle, access } => {
+            duplicate(core, spare, who, call, handle, access, told)
+        }
         _ => {
             if is_creation(act) {
-                return create(core, spare, who, act, call);
+                return create(core, spare, who, act, call, told);
             }
             core.call(who, call)
         }
@@ -262,9 +303,17 @@ fn is_numbered(call: &Call) -> bool
 }
 
 /// A call of a dispatcher that gives numbers again.
-fn call_giving(core: &mut Core, spare: &mut Spare, who: u32, call: &Call) -> Result<Reply, Refusal>
+fn call_giving(
+    core: &mut Core,
+    spare: &mut Spare,
+    who: u32,
+    call: &Call,
+    told: &mut Option<Renewal>,
+) -> Result<Reply, Refusal>
     requires lawful { IsLawful core.old }
     requires spare { IsSpare (state core.old) spare.old }
+    requires untold { told.old ≡ None }
+    ensures told { Tells (state core.old) who call.now told.new result core.new.grants (state core.new) }
     ensures lasts { LastsCall (state core.old) spare.old who call.now result core.new.grants (state core.new) }
     ensures limit { result ≡ Err HandleLimit → FindsNone (state core.old) call.now }
     ensures taken { FindsNone (state core.old) call.now → OnOk result ⊥ }
@@ -275,7 +324,7 @@ fn call_giving(core: &mut Core, spare: &mut Spare, who: u32, call: &Call) -> Res
     ensures spare { IsSpare (state core.new) spare.new }
 {
     match call {
-        Call::Act(act) => make_act(core, spare, who, act, call),
+        Call::Act(act) => make_act(core, spare, who, act, call, told),
         _ => core.call(who, call),
     }
 }
@@ -294,9 +343,12 @@ pub(crate) fn make_call(
     spare: &mut Option<Spare>,
     who: u32,
     call: &Call,
+    told: &mut Option<Renewal>,
 ) -> Result<Reply, Refusal>
     requires lawful { IsLawful core.old }
     requires spare { MaySpare (state core.old) spare.old }
+    requires untold { told.old ≡ None }
+    ensures told { Tells (state core.old) who call.now told.new result core.new.grants (state core.new) }
     ensures makes { MakesCall (state core.old) spare.old who call.now result core.new.grants (state core.new) }
     ensures limit { result ≡ Err HandleLimit → FindsNoneFor (state core.old) spare.old call.now }
     ensures taken { IfSome spare.old (λ spare. FindsNone (state core.old) call.now → OnOk result ⊥) }
@@ -308,7 +360,7 @@ pub(crate) fn make_call(
     ensures spare { MaySpare (state core.new) spare.new }
 {
     match spare {
-        Some(spare) => call_giving(core, spare, who, call),
+        Some(spare) => call_giving(core, spare, who, call, told),
         None => core.call(who, call),
     }
 }

@@ -13,10 +13,12 @@ ghost use Rattle.nt_calls.specs.declared.call.WaitCall.{WaitCall};
 ghost use Rattle.nt_core.specs.Dispatcher.{state};
 ghost use Rattle.nt_core.specs.Lawful.{IsLawful};
 ghost use Rattle.nt_life.specs.Lasting.{MaySpare, MakesCall, FindsNone, FindsNoneFor, MayBegin, KeepsPace, LooksAt, IsUnchanged, KeepsClosed, MayPop, MaySetAside, MayStack, no_spares};
+ghost use Rattle.nt_life.specs.Renewals.{Tells};
 
 use crate::beginning::begin_with;
 use crate::begun::Begun;
 use crate::giving::{gives, make_call};
+use crate::renewal::Renewal;
 use crate::set_aside::set_aside_with;
 use crate::spare::{Spare, copy_of};
 use nt_core::{Call, Core, Reply};
@@ -117,11 +119,37 @@ impl Lasting {
         ensures looks { LooksAt self.old.core self.old.spare who call.now result self.new.core }
         ensures lawful { IsLawful self.new.core }
     {
+        let mut told = None;
+        self.call_told(who, call, &mut told)
+    }
+
+    /// The same, and tells which numbers were given again: what has to be written down of the call, so that it can be made again. None if
+    /// the call was the machine's own.
+    #[inline(always)]
+    pub fn call_told(
+        &mut self,
+        who: u32,
+        call: &Call,
+        told: &mut Option<Renewal>,
+    ) -> Result<Reply, Refusal>
+        ensures told { Tells (state self.old.core) who call.now told.new
+            result self.new.core.grants (state self.new.core) }
+        ensures makes { MakesCall (state self.old.core) self.old.spare who call.now
+            result self.new.core.grants (state self.new.core) }
+        ensures limit { result ≡ Err HandleLimit → FindsNoneFor (state self.old.core) self.old.spare call.now }
+        ensures taken { IfSome self.old.spare (λ spare. FindsNone (state self.old.core) call.now → OnOk result ⊥) }
+        ensures stacked { MayStack call.now result self.old.spare self.new.spare }
+        ensures pace { KeepsPace (state self.old.core) who call.now result self.new.core.grants (state self.new.core) }
+        ensures unchanged { IsUnchanged (state self.old.core) result self.new.core.grants (state self.new.core) }
+        ensures looks { LooksAt self.old.core self.old.spare who call.now result self.new.core }
+        ensures lawful { IsLawful self.new.core }
+    {
+        *told = None;
         // (Here, so that each other call is as short as a `Core`'s.)
         if !gives(&self.spare, call) {
             return self.core.call(who, call);
         }
-        make_call(&mut self.core, &mut self.spare, who, call)
+        make_call(&mut self.core, &mut self.spare, who, call, told)
     }
 
     /// The call `WaitCall::Objects` of this thread, as `Core::wait_objects` makes it.

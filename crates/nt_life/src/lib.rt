@@ -33,9 +33,11 @@ mod beginning;
 mod begun;
 mod giving;
 mod lasting;
+mod renewal;
 mod set_aside;
 mod spare;
 mod stack;
 
 pub use begun::Begun;
 pub use lasting::Lasting;
+pub use renewal::Renewal;

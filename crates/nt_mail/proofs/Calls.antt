@@ -5,12 +5,12 @@ use Rattle.std.proofs.lemmas.List.{append-nil}
 use native.Mathlib.Decide.{ℕ_discrete}
 use Rattle.nt_calls.specs.Moves.{one_if}
 use Rattle.nt_mail.specs.declared.entry.Entry.{Entry}
-use Rattle.nt_mail.specs.declared.entry.Entry.TheVariants.{Called, Ticked, Granted}
+use Rattle.nt_mail.specs.declared.entry.Entry.TheVariants.{Called, Ticked, Granted, Renewed}
 use Rattle.nt_mail.specs.declared.knowledge.Made.{Made}
 use Rattle.nt_mail.specs.declared.knowledge.Got.{Got}
 use Rattle.nt_mail.specs.declared.knowledge.Asked.{Asked}
 use Rattle.nt_calls.specs.Moves.{pended}
-use Rattle.nt_mail.specs.Entries.{item, last_number, given, call_at, calls_from, calls_of, grant_at, grants_from, grants_of, armed_by, armed_from, is_armed, last_from, last_of, pended_in, last_pended_from, last_pended, thread_of, AreBelow, AreMadeBelow, IsOwn, arms}
+use Rattle.nt_mail.specs.Entries.{item, asked_of, handle_reply, last_number, given, call_at, calls_from, calls_of, grant_at, grants_from, grants_of, armed_by, armed_from, is_armed, last_from, last_of, pended_in, last_pended_from, last_pended, thread_of, AreBelow, AreMadeBelow, IsOwn, arms}
 use Rattle.nt_mail.specs.Rule.{IsCounted}
 
 -- the entries before the rest, and the rest
@@ -55,16 +55,19 @@ no_call_at : (t n : ℕ) (e : Entry) → eqb (thread_of e) t ≡ false → call_
 no_call_at t n (Called who call result) b = ap (λ x. cond x (item n (Asked.Call call) result ∷ []) []) b
 no_call_at t n (Ticked by moment result) b = ap (λ x. cond x (item n (Asked.Tick moment) result ∷ []) []) b
 no_call_at t n (Granted who status) b = refl
+no_call_at t n (Renewed who renewal result) b = ap (λ x. cond x (item n (asked_of renewal) (handle_reply result) ∷ []) []) b
 
 no_grant_at : (t n : ℕ) (e : Entry) → eqb (thread_of e) t ≡ false → grant_at t n e ≡ []
 no_grant_at t n (Called who call result) b = refl
 no_grant_at t n (Ticked by moment result) b = refl
 no_grant_at t n (Granted who status) b = ap (λ x. cond x (given n status ∷ []) []) b
+no_grant_at t n (Renewed who renewal result) b = refl
 
 armed_as_before : (t : ℕ) (before : Bool) (e : Entry) → eqb (thread_of e) t ≡ false → armed_by t before e ≡ before
 armed_as_before t before (Called who call result) b = ap (λ x. cond x (pended result || before) before) b
 armed_as_before t before (Ticked by moment result) b = ap (λ x. cond x (pended result || before) before) b
 armed_as_before t before (Granted who status) b = ap (λ x. cond x false before) b
+armed_as_before t before (Renewed who renewal result) b = ap (λ x. cond x (pended (handle_reply result) || before) before) b
 
 pub same_push : (t : ℕ) (log : List Entry) (e : Entry) → thread_of e ≢ t → SameOf t log (log ++ e ∷ [])
 same_push t log e ne =
@@ -88,16 +91,19 @@ pub own_thread : (t : ℕ) (e : Entry) → IsOwn t e → thread_of e ≡ t
 own_thread t (Called who call result) own = own
 own_thread t (Ticked by moment result) own = own
 own_thread t (Granted who status) own = absurd own
+own_thread t (Renewed who renewal result) own = own
 
 call_no_grant : (t n : ℕ) (e : Entry) → IsOwn t e → grant_at t n e ≡ []
 call_no_grant t n (Called who call result) own = refl
 call_no_grant t n (Ticked by moment result) own = refl
 call_no_grant t n (Granted who status) own = absurd own
+call_no_grant t n (Renewed who renewal result) own = refl
 
 call_arms : (t : ℕ) (before : Bool) (e : Entry) → IsOwn t e → armed_by t before e ≡ (arms e || before)
 call_arms t before (Called who call result) own = ap (λ x. cond x (pended result || before) before) (eq-eqb who t own)
 call_arms t before (Ticked by moment result) own = ap (λ x. cond x (pended result || before) before) (eq-eqb by t own)
 call_arms t before (Granted who status) own = absurd own
+call_arms t before (Renewed who renewal result) own = ap (λ x. cond x (pended (handle_reply result) || before) before) (eq-eqb who t own)
 
 pub after_call : (t : ℕ) (log : List Entry) (e : Entry) → IsOwn t e → AfterCall t log e (log ++ e ∷ [])
 after_call t log e own =
@@ -145,6 +151,7 @@ pended_in-call : (t n : ℕ) (ms : List Made) (e : Entry) → IsOwn t e → pend
 pended_in-call t n [] (Called who call result) own = let b = ap (λ x. pended_in (cond x (item n (Asked.Call call) result ∷ []) [])) (eq-eqb who t own) in omega arith
 pended_in-call t n [] (Ticked by moment result) own = let b = ap (λ x. pended_in (cond x (item n (Asked.Tick moment) result ∷ []) [])) (eq-eqb by t own) in omega arith
 pended_in-call t n [] (Granted who status) own = absurd own
+pended_in-call t n [] (Renewed who renewal result) own = let b = ap (λ x. pended_in (cond x (item n (asked_of renewal) (handle_reply result) ∷ []) [])) (eq-eqb who t own) in omega arith
 pended_in-call t n (m ∷ ms) e own = omega (arith, pended_in-call t n ms e own)
 
 last_pended-call : (t n last : ℕ) (ms : List Made) (e : Entry) → arms e ≡ false → last_pended_from last (ms ++ call_at t n e) ≡ last_pended_from last ms
@@ -159,6 +166,11 @@ last_pended-call t n last [] (Ticked by moment result) unarmed = one (eqb by t)
     one true = ap (λ x. cond x n last) unarmed
     one false = refl
 last_pended-call t n last [] (Granted who status) unarmed = refl
+last_pended-call t n last [] (Renewed who renewal result) unarmed = one (eqb who t)
+  where
+    one : (b : Bool) → last_pended_from last (cond b (item n (asked_of renewal) (handle_reply result) ∷ []) []) ≡ last
+    one true = ap (λ x. cond x n last) unarmed
+    one false = refl
 last_pended-call t n last (m ∷ ms) e unarmed = last_pended-call t n (cond (pended m.result) m.number last) ms e unarmed
 
 made_below-call : (t n : ℕ) (ms : List Made) (e : Entry) → AreMadeBelow n ms → AreMadeBelow (suc n) (ms ++ call_at t n e)
@@ -173,6 +185,11 @@ made_below-call t n [] (Ticked by moment result) h = one (eqb by t)
     one true = (omega arith, tt)
     one false = tt
 made_below-call t n [] (Granted who status) h = tt
+made_below-call t n [] (Renewed who renewal result) h = one (eqb who t)
+  where
+    one : (b : Bool) → AreMadeBelow (suc n) (cond b (item n (asked_of renewal) (handle_reply result) ∷ []) [])
+    one true = (omega arith, tt)
+    one false = tt
 made_below-call t n (m ∷ ms) e h = (let a = h.0 in omega arith, made_below-call t n ms e h.1)
 
 pub made_below-more : (n m : ℕ) (ms : List Made) → n ≤ m → AreMadeBelow n ms → AreMadeBelow m ms

@@ -8,3 +8,4 @@ pub mod Seating
 pub mod Reading
 pub mod Closing
 pub mod Looking
+pub mod Lives

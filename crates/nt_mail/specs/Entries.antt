@@ -4,7 +4,10 @@ use Rattle.nt_calls.specs.declared.call.Reply.{Reply}
 use Rattle.nt_status.specs.declared.refusal.Refusal.{Refusal}
 use Rattle.nt_calls.specs.Moves.{one_if, pended}
 use Rattle.nt_mail.specs.declared.entry.Entry.{Entry}
-use Rattle.nt_mail.specs.declared.entry.Entry.TheVariants.{Called, Ticked, Granted}
+use Rattle.nt_mail.specs.declared.entry.Entry.TheVariants.{Called, Ticked, Granted, Renewed}
+use Rattle.nt_life.specs.declared.renewal.Renewal.{Renewal}
+use Rattle.nt_calls.specs.declared.call.Act.{Act}
+use Rattle.nt_calls.specs.declared.call.Call.{Call}
 use Rattle.nt_mail.specs.declared.knowledge.Asked.{Asked}
 use Rattle.nt_mail.specs.declared.knowledge.Made.{Made}
 use Rattle.nt_mail.specs.declared.knowledge.Got.{Got}
@@ -13,6 +16,19 @@ use Rattle.nt_mail.specs.declared.knowledge.Got.{Got}
 abbrev pub Each : {X : Type 0} → (X → Type 0) → List X → Type 0
 Each P [] = Unit {0}
 Each P (x ∷ xs) = P x × Each P xs
+
+-- what the thread of a renewal asked: its creation or its duplicate, or to begin again
+abbrev pub asked_of : Renewal → Asked
+asked_of (Renewal.Create act object handle) = Asked.Call (Call.Act act)
+asked_of (Renewal.CreateAdded act object handle) = Asked.Call (Call.Act act)
+asked_of (Renewal.Unadded act) = Asked.Call (Call.Act act)
+asked_of (Renewal.Duplicate source access handle) = Asked.Call (Call.Act (Act.Duplicate source access))
+asked_of (Renewal.Begin handle) = Asked.Begin
+
+-- the answer to a renewal, by the handle that it tells
+abbrev pub handle_reply : Result ℕ Refusal → Result Reply Refusal
+handle_reply (Ok handle) = Ok (Reply.Handle handle)
+handle_reply (Err cause) = Err cause
 
 -- the call or tick that stands as entry n
 abbrev pub item : ℕ → Asked → Result Reply Refusal → Made
@@ -27,24 +43,28 @@ abbrev pub thread_of : Entry → ℕ
 thread_of (Called who call result) = who
 thread_of (Ticked by moment result) = by
 thread_of (Granted who status) = who
+thread_of (Renewed who renewal result) = who
 
--- the entry is a call or tick of thread t
+-- the entry is a call, a tick or a renewal of thread t
 abbrev pub IsOwn : ℕ → Entry → Type 0
 IsOwn t (Called who call result) = who ≡ t
 IsOwn t (Ticked by moment result) = by ≡ t
 IsOwn t (Granted who status) = ⊥
+IsOwn t (Renewed who renewal result) = who ≡ t
 
 -- the entry is a call whose wait pends
 abbrev pub arms : Entry → Bool
 arms (Called who call result) = pended result
 arms (Ticked by moment result) = pended result
 arms (Granted who status) = false
+arms (Renewed who renewal result) = pended (handle_reply result)
 
--- entry n as a call or tick of thread t, where it is one
+-- entry n as what thread t asked, where it is no grant to it
 abbrev pub call_at : ℕ → ℕ → Entry → List Made
 call_at t n (Called who call result) = if who == t then item n (Asked.Call call) result ∷ [] else []
 call_at t n (Ticked by moment result) = if by == t then item n (Asked.Tick moment) result ∷ [] else []
 call_at t n (Granted who status) = []
+call_at t n (Renewed who renewal result) = if who == t then item n (asked_of renewal) (handle_reply result) ∷ [] else []
 
 -- the calls and ticks of thread t among entries that are numbered from n on
 abbrev pub calls_from : ℕ → ℕ → List Entry → List Made
@@ -60,6 +80,7 @@ abbrev pub grant_at : ℕ → ℕ → Entry → List Got
 grant_at t n (Called who call result) = []
 grant_at t n (Ticked by moment result) = []
 grant_at t n (Granted who status) = if who == t then given n status ∷ [] else []
+grant_at t n (Renewed who renewal result) = []
 
 -- the grants to thread t among entries that are numbered from n on
 abbrev pub grants_from : ℕ → ℕ → List Entry → List Got
@@ -75,6 +96,7 @@ abbrev pub armed_by : ℕ → Bool → Entry → Bool
 armed_by t before (Called who call result) = if who == t then pended result || before else before
 armed_by t before (Ticked by moment result) = if by == t then pended result || before else before
 armed_by t before (Granted who status) = if who == t then false else before
+armed_by t before (Renewed who renewal result) = if who == t then pended (handle_reply result) || before else before
 
 -- the same after several entries
 abbrev pub armed_from : ℕ → Bool → List Entry → Bool
@@ -104,6 +126,7 @@ abbrev pub accepted_at : Entry → List ℕ
 accepted_at (Called who call result) = []
 accepted_at (Ticked by moment result) = accepted_if moment result
 accepted_at (Granted who status) = []
+accepted_at (Renewed who renewal result) = []
 
 -- the moments of the ticks that were accepted, in order
 abbrev pub accepted : List Entry → List ℕ

@@ -1,6 +1,7 @@
 //! The entries of the journal.
 use nt_core::{Call, Reply};
-use nt_status::{Moment, Refusal, Status, ThreadId};
+use nt_life::Renewal;
+use nt_status::{Handle, Moment, Refusal, Status, ThreadId};
 
 /// One entry of the journal. Entries are numbered from 1.
 #[derive(Drop)]
@@ -21,6 +22,12 @@ pub enum Entry {
     Granted {
         who: ThreadId,
         status: Status,
+    },
+    /// Numbers were given again to this thread, with the handle that was answered. Only a dispatcher that lasts writes such an entry.
+    Renewed {
+        who: ThreadId,
+        renewal: Renewal,
+        result: Result<Handle, Refusal>,
     },
 }
 

@@ -4,13 +4,14 @@ use nt_core::{Call, Reply};
 use nt_status::{Moment, Refusal, Status, ThreadId};
 use std::collections::LinkedList;
 
-/// What a thread asked: a call or a tick.
+/// What a thread asked: a call or a tick, or, once it had ended, to begin again.
 pub enum Asked {
     Call(Call),
     Tick(Moment),
+    Begin,
 }
 
-/// A call or tick that was written, with the number of its entry.
+/// A call or tick, or a beginning, that was written, with the number of its entry.
 pub struct Made {
     pub number: u64,
     pub asked: Asked,

@@ -1,22 +1,26 @@
 //! Entries made again, one after another.
-ghost use Rattle.std.specs.Prelude.{◌≡◌, ◌≢◌, ◌<◌, ◌↔◌, Some, length, true, IfOk, IfErr, OnOk};
-ghost use Rattle.std.specs.List.{slice_get};
+ghost use Rattle.std.specs.Prelude.{◌≡◌, ◌≢◌, ◌<◌, ◌↔◌, Some, length, true, false, IfOk, IfErr, OnOk};
+ghost use Rattle.std.specs.List.{slice_get, list_any};
 ghost use Rattle.nt_core.specs.Dispatcher.{state};
 ghost use Rattle.nt_laws.specs.Laws.{wants_memory};
-ghost use Rattle.nt_mail.specs.Journals.{IsRunFrom};
-ghost use Rattle.nt_replay.specs.Replays.{GoesOn, StopsFor, IsUnreplayed, IsMismatch};
+ghost use Rattle.nt_mail.specs.Journals.{IsLifeFrom, IsRunFrom, is_renewal};
+ghost use Rattle.nt_replay.specs.Replays.{GoesOn, StopsFor, IsUnreplayed, IsMismatch, IsDone, IsUndone};
 
+use crate::renewing::renew_again;
 use crate::unreplayed::Unreplayed;
 use nt_core::{Core, Grant, Reply};
-use nt_laws::runs_one_way;
+use nt_laws::lives_one_way;
 use nt_mail::Entry;
 use nt_status::Refusal;
 
-/// Makes the calls and ticks of the entries on the base, compares every result and grant, and answers the machine after them.
+/// Does again on the base what the entries tell, compares every result, number and grant, and answers the machine after them.
 ///
-/// It answers it exactly where the entries are a run from the base, unless memory is refused.
+/// It answers it exactly where the entries are a life from the base, unless memory is refused. A life in which no number was given again
+/// is a run.
 pub fn replay(base: Core, entries: &[Entry]) -> Result<Core, Unreplayed>
-    ensures run { IfOk result (λ core. IsRunFrom (state base) entries.now (state core)) }
+    ensures life { IfOk result (λ core. IsLifeFrom (state base) entries.now (state core)) }
+    ensures run { IfOk result (λ core. list_any is_renewal entries.now ≡ false
+        → IsRunFrom (state base) entries.now (state core)) }
     ensures unreplayed { IfErr result (IsUnreplayed (state base) entries.now) }
 {
     let mut core = base;
@@ -30,13 +34,13 @@ pub fn replay(base: Core, entries: &[Entry]) -> Result<Core, Unreplayed>
     }
 }
 
-/// Makes all entries again on this machine.
-#[tactic(auto, using(crate::proofs::Comparing::none_replayed, crate::proofs::Comparing::run_replayed, crate::proofs::Comparing::grants_lacking_at))]
+/// Does again on this machine what all entries tell.
+#[tactic(auto, using(crate::proofs::Comparing::none_replayed, crate::proofs::Comparing::life_replayed, crate::proofs::Comparing::grants_lacking_at))]
 fn replay_all(core: &mut Core, entries: &[Entry]) -> Result<(), Unreplayed>
-    ensures run { OnOk result (IsRunFrom (state core.old) entries.now (state core.new)) }
+    ensures life { OnOk result (IsLifeFrom (state core.old) entries.now (state core.new)) }
     ensures unreplayed { IfErr result (IsUnreplayed (state core.old) entries.now) }
 {
-    runs_one_way();
+    lives_one_way();
     let mut compared = core.grants().len();
     for place in 0..entries.len() {
         compared = match replay_entry(core, compared, entries, place) {
@@ -50,8 +54,8 @@ fn replay_all(core: &mut Core, entries: &[Entry]) -> Result<(), Unreplayed>
     Ok(())
 }
 
-/// Makes the call or tick of one entry again, or compares its grant. So many grants of the last call were compared before; it
-/// answers how many are now.
+/// Does again what one entry tells, or compares its grant. So many grants of the last call were compared before; it answers how many are
+/// now.
 fn replay_entry(
     core: &mut Core,
     compared: usize,
@@ -62,7 +66,7 @@ fn replay_entry(
     ensures ok { IfOk result (λ now. GoesOn entries.now place compared core.old now core.new) }
     ensures err { IfErr result (StopsFor entries.now place compared core.old) }
 {
-    runs_one_way();
+    lives_one_way();
     if let Entry::Granted { who, status } = &entries[place] {
         let grant = Grant {
             thread: *who,
@@ -77,11 +81,25 @@ fn replay_entry(
     if compared < core.grants().len() {
         return Err(Unreplayed::Differs(place));
     }
-    match &entries[place] {
+    do_again(core, &entries[place], place)
+}
+
+/// Does again what the entry tells, unless it is a grant. No grant of it was compared yet.
+fn do_again(core: &mut Core, entry: &Entry, place: usize) -> Result<usize, Unreplayed>
+    ensures ok { IfOk result (λ now. (now ≡ 0) × IsDone entry.now core.old core.new) }
+    ensures err { IfErr result (IsUndone (state core.old) entry.now place) }
+{
+    lives_one_way();
+    match entry {
         Entry::Called { who, call, result } => {
             compare_call(core.call(u32::from(who.get()), call), *result, place)
         }
         Entry::Ticked { moment, result, .. } => compare(core.tick(*moment), *result, place),
+        Entry::Renewed {
+            who,
+            renewal,
+            result,
+        } => renew_again(core, *who, renewal, *result, place),
         Entry::Granted { .. } => Err(Unreplayed::Differs(place)),
     }
 }
@@ -112,7 +130,7 @@ fn compare_call(
 }
 
 /// Compares two answers. No grant that came with them was compared yet.
-fn compare(
+pub(crate) fn compare(
     made: Result<Reply, Refusal>,
     told: Result<Reply, Refusal>,
     place: usize,

@@ -14,6 +14,7 @@ abbrev pub accepted_call : Asked → Result Reply Refusal → List Call
 accepted_call (Asked.Call call) (Ok reply) = call ∷ []
 accepted_call (Asked.Call call) (Err cause) = []
 accepted_call (Asked.Tick moment) result = []
+accepted_call Asked.Begin result = []
 
 -- the calls that were not refused, in order
 abbrev pub accepted_calls : List Made → List Call

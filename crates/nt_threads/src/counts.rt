@@ -182,6 +182,6 @@ fn acquires(mutex: Handle, waiting: &mut Vec<bool>, entry: &Entry) -> bool
             note(waiting, *who, false);
             acquires
         }
-        Entry::Ticked { .. } => false,
+        Entry::Ticked { .. } | Entry::Renewed { .. } => false,
     }
 }

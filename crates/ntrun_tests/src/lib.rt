@@ -9,6 +9,8 @@ mod devices;
 #[cfg(test)]
 mod front;
 #[cfg(test)]
+mod lives;
+#[cfg(test)]
 mod long_lines;
 #[cfg(test)]
 mod mail;

@@ -1,9 +1,10 @@
 //! Entries made again on the dispatcher that they began at, and such as are not those that it writes.
 use crate::refused::{is_refusing, tell_refused};
 use nt_core::{Act, Call, Core, Reply, WaitCall};
+use nt_life::Renewal;
 use nt_mail::Entry;
 use nt_replay::{Unreplayed, replay};
-use nt_status::{Handle, Moment, Refusal, Status, ThreadId};
+use nt_status::{Handle, Moment, ObjectNumber, Refusal, Status, ThreadId};
 use std::alloc::{AllocError, Global};
 
 /// An entry as data.
@@ -19,9 +20,28 @@ enum Told {
     TimesOut,
     /// The first thread creates an event, with this handle.
     Creates(Result<u32, Refusal>),
+    /// The first thread duplicates the event's handle 2, with this handle.
+    Shares(u32),
+    /// The first thread closes this handle.
+    Closes(u32),
+    /// The second thread ends.
+    Ends,
+    /// The first thread creates an event, at these numbers of an object and a handle.
+    CreatesAt(u32, u32, Result<u32, Refusal>),
+    /// The same, once the object's number was added.
+    CreatesAdded(u32, u32),
+    /// No object number could be added for a creation of the first thread.
+    AddsNone(Refusal),
+    /// The first thread duplicates the event's handle 2, at this number.
+    SharesAt(u32, Result<u32, Refusal>),
+    /// The second thread begins again, with a handle of this number.
+    Begins(u32),
 }
 
-use Told::{Creates, Passes, Sleeps, TimesOut, Wakes};
+use Told::{
+    AddsNone, Begins, Closes, Creates, CreatesAdded, CreatesAt, Ends, Passes, Shares, SharesAt,
+    Sleeps, TimesOut, Wakes,
+};
 
 const DONE: Told = Passes(Ok(()));
 
@@ -77,7 +97,205 @@ const ROWS: &[(&str, &[Told], Option<Unreplayed>)] = &[
         &[Sleeps, DONE, Wakes, Creates(Err(Refusal::Memory))],
         Some(Unreplayed::Memory(3)),
     ),
+    (
+        "both numbers of an event that was closed, twice",
+        &[
+            CREATED,
+            Closes(2),
+            CreatesAt(2, 2, Ok(2)),
+            Closes(2),
+            CreatesAt(2, 2, Ok(2)),
+            Creates(Ok(3)),
+        ],
+        None,
+    ),
+    (
+        "numbers given again that are told as new ones",
+        &[CREATED, Closes(2), CREATED],
+        Some(Unreplayed::Differs(2)),
+    ),
+    (
+        "new numbers that are told as given again",
+        &[CreatesAt(2, 2, Ok(2))],
+        Some(Unreplayed::Differs(0)),
+    ),
+    (
+        "the number of an open handle",
+        &[CREATED, Creates(Ok(3)), Closes(2), CreatesAt(2, 3, Ok(3))],
+        Some(Unreplayed::Differs(3)),
+    ),
+    (
+        "the same, which was refused",
+        &[
+            CREATED,
+            Creates(Ok(3)),
+            Closes(2),
+            CreatesAt(2, 3, Err(Refusal::InvalidHandle)),
+            CreatesAt(2, 2, Ok(2)),
+        ],
+        None,
+    ),
+    (
+        "the number of an object that lives",
+        &[CREATED, Creates(Ok(3)), Closes(2), CreatesAt(3, 2, Ok(2))],
+        Some(Unreplayed::Differs(3)),
+    ),
+    (
+        "the number of a thread's object",
+        &[Closes(1), Ends, CreatesAt(1, 1, Ok(1))],
+        Some(Unreplayed::Differs(2)),
+    ),
+    (
+        "another handle than was given",
+        &[CREATED, Closes(2), CreatesAt(2, 2, Ok(3))],
+        Some(Unreplayed::Differs(2)),
+    ),
+    (
+        "a handle's number for a duplicate",
+        &[
+            CREATED,
+            Creates(Ok(3)),
+            Closes(3),
+            SharesAt(3, Ok(3)),
+            Closes(2),
+            Closes(3),
+            CreatesAt(2, 3, Ok(3)),
+        ],
+        None,
+    ),
+    (
+        "an open handle's number for a duplicate",
+        &[CREATED, SharesAt(2, Ok(2))],
+        Some(Unreplayed::Differs(1)),
+    ),
+    (
+        "a duplicate at a number, told as refused",
+        &[
+            CREATED,
+            Creates(Ok(3)),
+            Closes(3),
+            SharesAt(3, Err(Refusal::AccessDenied)),
+        ],
+        Some(Unreplayed::Differs(3)),
+    ),
+    (
+        "an object number that is added",
+        &[
+            CREATED,
+            Shares(3),
+            Closes(3),
+            CreatesAdded(3, 3),
+            Creates(Ok(4)),
+        ],
+        None,
+    ),
+    (
+        "another object number than is added",
+        &[CREATED, Shares(3), Closes(3), CreatesAdded(2, 3)],
+        Some(Unreplayed::Differs(3)),
+    ),
+    (
+        "an object number that can't be added",
+        &[CREATED, Closes(2), CreatesAdded(3, 2)],
+        Some(Unreplayed::Differs(2)),
+    ),
+    (
+        "no object number is added where there are as many as handles",
+        &[AddsNone(Refusal::HandleLimit), CREATED],
+        None,
+    ),
+    (
+        "no object number is added where one can be",
+        &[CREATED, Shares(3), AddsNone(Refusal::HandleLimit)],
+        Some(Unreplayed::Differs(2)),
+    ),
+    (
+        "no memory for an object number",
+        &[CREATED, Shares(3), AddsNone(Refusal::Memory)],
+        Some(Unreplayed::Memory(2)),
+    ),
+    (
+        "a thread in its own place",
+        &[Closes(1), Ends, Begins(1), Sleeps, DONE, Wakes],
+        None,
+    ),
+    (
+        "a thread that still runs",
+        &[Closes(1), Begins(1)],
+        Some(Unreplayed::Differs(1)),
+    ),
+    (
+        "a thread that a handle still names",
+        &[CREATED, Closes(2), Ends, Begins(2)],
+        Some(Unreplayed::Differs(3)),
+    ),
+    (
+        "a thread with an open handle's number",
+        &[Closes(1), Ends, Begins(0)],
+        Some(Unreplayed::Differs(2)),
+    ),
 ];
+
+/// The first thread's act.
+fn act_of(act: Act, answer: Result<Reply, Refusal>) -> Entry {
+    Entry::Called {
+        who: ThreadId::new(0),
+        call: Call::Act(act),
+        result: answer,
+    }
+}
+
+/// Numbers given again to this thread.
+fn renewed(thread: u16, renewal: Renewal, answer: Result<u32, Refusal>) -> Entry {
+    Entry::Renewed {
+        who: ThreadId::new(thread),
+        renewal,
+        result: answer.map(|handle| Handle::new(handle)),
+    }
+}
+
+/// The entry of numbers that are given again.
+fn renewal_of(told: Told) -> Entry {
+    let act = Act::CreateEvent(0);
+    match told {
+        CreatesAt(object, handle, result) => {
+            let (object, handle) = (ObjectNumber::new(object), Handle::new(handle));
+            renewed(
+                0,
+                Renewal::Create {
+                    act,
+                    object,
+                    handle,
+                },
+                result,
+            )
+        }
+        CreatesAdded(number, new) => {
+            let (object, handle) = (ObjectNumber::new(number), Handle::new(new));
+            renewed(
+                0,
+                Renewal::CreateAdded {
+                    act,
+                    object,
+                    handle,
+                },
+                Ok(new),
+            )
+        }
+        SharesAt(handle, result) => renewed(
+            0,
+            Renewal::Duplicate {
+                source: Handle::new(2),
+                access: 0,
+                handle: Handle::new(handle),
+            },
+            result,
+        ),
+        Begins(handle) => renewed(1, Renewal::Begin(Handle::new(handle)), Ok(handle)),
+        AddsNone(cause) => renewed(0, Renewal::Unadded(act), Err(cause)),
+        _ => renewed(0, Renewal::Unadded(act), Ok(0)),
+    }
+}
 
 /// The entry that is told, by threads 0 and 1.
 fn entry_of(told: Told) -> Entry {
@@ -104,11 +322,24 @@ fn entry_of(told: Told) -> Entry {
             who: second,
             status: Status::TIMEOUT,
         },
-        Creates(result) => Entry::Called {
-            who: first,
-            call: Call::Act(Act::CreateEvent(0)),
-            result: result.map(|handle| Reply::Handle(Handle::new(handle))),
+        Creates(result) => act_of(
+            Act::CreateEvent(0),
+            result.map(|handle| Reply::Handle(Handle::new(handle))),
+        ),
+        Shares(handle) => act_of(
+            Act::Duplicate {
+                handle: Handle::new(2),
+                access: 0,
+            },
+            Ok(Reply::Handle(Handle::new(handle))),
+        ),
+        Closes(handle) => act_of(Act::Close(Handle::new(handle)), Ok(Reply::Done)),
+        Ends => Entry::Called {
+            who: second,
+            call: Call::Exit,
+            result: Ok(Reply::Done),
         },
+        _ => renewal_of(told),
     }
 }
 

@@ -44,6 +44,7 @@ fn entry_text(alloc: Global, line: u32, entry: &Entry) -> Result<String, AllocEr
             format!(in alloc; "{line}: t{} status 0x{:08x}\n", who.get(), status.code())
         }
         Entry::Ticked { .. } => format!(in alloc; "{line}: a tick\n"),
+        Entry::Renewed { .. } => format!(in alloc; "{line}: numbers given again\n"),
     }
 }
 

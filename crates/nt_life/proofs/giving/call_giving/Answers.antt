@@ -7,6 +7,7 @@ use Rattle.nt_life.proofs.Limits.{refused_full}
 use Rattle.nt_life.proofs.Choosing.{no_act_lasts, no_act_full}
 use Rattle.nt_life.proofs.Taken.{call_taken}
 use Rattle.nt_life.proofs.Stacking.{stacked_by}
+use Rattle.nt_life.proofs.Telling.{tells_own}
 use Rattle.nt_life.proofs.giving.call_giving.Goals as goal
 
 pub returns-in-Act-clause-taken : goal.returns-in-Act-clause-taken
@@ -22,6 +23,7 @@ returns-in_default c =
     let lasts = no_act_lasts old c.args.spare.now c.args.who call c.call.result c.call.new.self.grants new c.in_default.not-Act c.call.ensures.called in
     record {
       lasts = lasts;
+      told = tells_own old c.args.who call call c.args.told.now c.call.result c.call.new.self.grants new c.requires.untold refl c.call.ensures.called;
       stacked = stacked_by call c.call.result c.args.spare.now.closed c.args.spare.now.closed (no_act_closes call c.in_default.not-Act) (inl refl);
       pace = record { most = c.call.ensures.most; few = c.call.ensures.few; moves = c.call.ensures.moves; waits = c.call.ensures.waits; moment = c.call.ensures.moment };
       limit = λ limit. absurd (no_act_full old call c.in_default.not-Act (refused_full old c.args.who call c.call.result c.call.new.self.grants new c.call.ensures.called limit));

@@ -6,6 +6,7 @@ use Rattle.nt_life.proofs.Limits.{again_limit}
 use Rattle.nt_life.proofs.Choosing.{creates_else, creates_at, unready_object}
 use Rattle.nt_life.proofs.Pacing.{created_pace}
 use Rattle.nt_life.specs.Lasting.{Pops}
+use Rattle.nt_life.proofs.Telling.{tells_created}
 use Rattle.nt_life.proofs.giving.create.Goals as goal
 
 pub returns-in_default-vacant-clause-created : goal.returns-in_default-vacant-clause-created
@@ -35,3 +36,7 @@ returns-in_default-vacant-clause-stacked c = subst (λ (spare : Spares). Pops sp
 
 pub returns-clause-stacked : goal.returns-clause-stacked
 returns-clause-stacked c = subst (λ (spare : Spares). Pops spare.closed c.create_at.new.spare.closed) c.vacant.ensures.same c.create_at.ensures.stacked
+
+pub returns-clause-told : goal.returns-clause-told
+returns-clause-told c =
+    tells_created (state c.args.core.now) c.args.who c.args.act.now (get_or c.vacant.new.self.unnamed c.in-Some-vacant.place 0) c.in-Some.handle c.create_at.new.told c.create_at.result c.create_at.new.core.grants (state c.create_at.new.core) c.create_at.ensures.told c.create_at.ensures.created

@@ -9,6 +9,7 @@ use Rattle.nt_core.specs.Renewals.{AddsVacant, CreatesAgain}
 use Rattle.nt_life.proofs.Limits.{again_limit}
 use Rattle.nt_life.proofs.Choosing.{added_spare, added_room, added_at, none_added}
 use Rattle.nt_life.specs.Lasting.{Pops}
+use Rattle.nt_life.proofs.Telling.{tells_created, tells_added}
 use Rattle.nt_life.proofs.giving.create_more.Goals as goal
 
 pub returns-in-Some-clause-limit : goal.returns-in-Some-clause-limit
@@ -32,8 +33,8 @@ pub add_object-place-requires : goal.add_object-place-requires
 add_object-place-requires c =
     added_room c.args.core.now c.args.spare.now c.in-Ok.object c.add_vacant.new.self.grants (state c.add_vacant.new.self) c.requires.lawful c.requires.spare c.in-Ok.ensures.added
 
-pub create_at-requires-2-clause-spare : goal.create_at-requires-2-clause-spare
-create_at-requires-2-clause-spare c =
+pub create_at-answer-requires-clause-spare : goal.create_at-answer-requires-clause-spare
+create_at-answer-requires-clause-spare c =
     added_spare c.args.core.now c.args.spare.now c.add_object-place.new.self c.in-Ok.object c.add_vacant.new.self.grants (state c.add_vacant.new.self) c.requires.lawful c.requires.spare c.in-Ok.ensures.added
     c.add_object-place.ensures.closed c.add_object-place.ensures.unnamed
 
@@ -49,17 +50,27 @@ returns-clause-created c =
         Ok c.in-Ok.object,
         mid,
         (adds.0, adds.1, refl, adds.3),
-        subst (λ (h : ℕ). CreatesAgain mid c.args.who c.args.act.now c.in-Ok.object h c.create_at-2.result c.create_at-2.new.core.grants (state c.create_at-2.new.core)) c.requires.handle
-            (subst (λ (o : ℕ). CreatesAgain mid c.args.who c.args.act.now o c.args.handle c.create_at-2.result c.create_at-2.new.core.grants (state c.create_at-2.new.core)) at c.create_at-2.ensures.created),
+        subst (λ (h : ℕ). CreatesAgain mid c.args.who c.args.act.now c.in-Ok.object h c.create_at-answer.result c.create_at-answer.new.core.grants (state c.create_at-answer.new.core)) c.requires.handle
+            (subst (λ (o : ℕ). CreatesAgain mid c.args.who c.args.act.now o c.args.handle c.create_at-answer.result c.create_at-answer.new.core.grants (state c.create_at-answer.new.core)) at c.create_at-answer.ensures.created),
       ),
     )
 
 pub returns-clause-limit : goal.returns-clause-limit
 returns-clause-limit c limit =
-    absurd (again_limit (state c.add_vacant.new.self) c.args.who c.args.act.now (get_or c.add_object-place.new.self.unnamed c.add_object-place.result 0) c.args.handle c.create_at-2.result c.create_at-2.new.core.grants (state c.create_at-2.new.core) c.create_at-2.ensures.created limit)
+    absurd (again_limit (state c.add_vacant.new.self) c.args.who c.args.act.now (get_or c.add_object-place.new.self.unnamed c.add_object-place.result 0) c.args.handle c.create_at-answer.result c.create_at-answer.new.core.grants (state c.create_at-answer.new.core) c.create_at-answer.ensures.created limit)
 
 pub returns-in-Err-clause-stacked : goal.returns-in-Err-clause-stacked
 returns-in-Err-clause-stacked c = inl refl
 
 pub returns-clause-stacked : goal.returns-clause-stacked
-returns-clause-stacked c = subst (λ ns. Pops ns c.create_at-2.new.spare.closed) c.add_object-place.ensures.closed c.create_at-2.ensures.stacked
+returns-clause-stacked c = subst (λ ns. Pops ns c.create_at-answer.new.spare.closed) c.add_object-place.ensures.closed c.create_at-answer.ensures.stacked
+
+pub returns-in-Some-clause-told : goal.returns-in-Some-clause-told
+returns-in-Some-clause-told c =
+    tells_created (state c.args.core.now) c.args.who c.args.act.now (get_or c.args.spare.now.unnamed c.in-Some.place 0) c.args.handle c.create_at.new.told c.create_at.result c.create_at.new.core.grants (state c.create_at.new.core) c.create_at.ensures.told c.create_at.ensures.created
+
+pub returns-clause-told : goal.returns-clause-told
+returns-clause-told c =
+    let at = added_at c.args.spare.now c.add_object-place.new.self c.in-Ok.object c.add_object-place.result c.add_object-place.ensures.place c.add_object-place.ensures.unnamed in
+    tells_added (state c.args.core.now) (state c.add_vacant.new.self) c.args.who c.args.act.now c.in-Ok.object c.args.handle c.create_at-answer.result c.add_vacant.new.self.grants c.create_at-answer.new.core.grants (state c.create_at-answer.new.core) c.in-Ok.ensures.added
+    (subst (λ (o : ℕ). CreatesAgain (state c.add_vacant.new.self) c.args.who c.args.act.now o c.args.handle c.create_at-answer.result c.create_at-answer.new.core.grants (state c.create_at-answer.new.core)) at c.create_at-answer.ensures.created)

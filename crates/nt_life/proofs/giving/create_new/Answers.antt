@@ -8,6 +8,8 @@ use Rattle.nt_life.proofs.Calls.{call_spare, creation_closes, none_closed}
 use Rattle.nt_life.proofs.Limits.{refused_full, refused_same}
 use Rattle.nt_life.specs.Lasting.{KeepsPace}
 use Rattle.nt_life.proofs.Pacing.{more_pace}
+use Rattle.nt_life.specs.Renewals.{Tells}
+use Rattle.nt_life.proofs.Telling.{tells_own}
 use Rattle.nt_life.proofs.giving.create_new.Goals as goal
 
 pub returns-then-not-is_limit-clause-spare : goal.returns-then-not-is_limit-clause-spare
@@ -44,3 +46,16 @@ returns-then-not-is_limit-clause-stacked c = inl refl
 
 pub returns-in-None-clause-stacked : goal.returns-in-None-clause-stacked
 returns-in-None-clause-stacked c = inl refl
+
+pub returns-then-not-is_limit-clause-told : goal.returns-then-not-is_limit-clause-told
+returns-then-not-is_limit-clause-told c =
+    tells_own (state c.args.core.now) c.args.who (Call.Act c.args.act.now) c.args.call.now c.args.told.now c.call-answer.result c.call-answer.new.self.grants (state c.call-answer.new.self) c.requires.untold c.requires.act c.call-answer.ensures.called
+
+pub returns-in-None-clause-told : goal.returns-in-None-clause-told
+returns-in-None-clause-told c =
+    tells_own (state c.args.core.now) c.args.who (Call.Act c.args.act.now) c.args.call.now c.args.told.now c.call-answer.result c.call-answer.new.self.grants (state c.call-answer.new.self) c.requires.untold c.requires.act c.call-answer.ensures.called
+
+pub returns-in-Some-clause-told : goal.returns-in-Some-clause-told
+returns-in-Some-clause-told c =
+    let same = refused_same (state c.args.core.now) c.args.who c.args.call.now c.call-answer.result c.call-answer.new.self.grants (state c.call-answer.new.self) c.call-answer.ensures.called (c.is_limit.ensures.0 c.if-not-is_limit.false) in
+    subst (λ (s : State). Tells s c.args.who (Call.Act c.args.act.now) c.create_more.new.told c.create_more.result c.create_more.new.core.grants (state c.create_more.new.core)) same c.create_more.ensures.told

@@ -1,16 +1,22 @@
-use Rattle.std.proofs.Common.{ℕ, ◌++◌, ◌∷◌, [], sym, ap, ◌∙◌, subst, inl, inr, refl}
+use Rattle.std.proofs.Common.{rules, ℕ, ◌++◌, ◌∷◌, [], sym, ap, ◌∙◌, subst, inl, inr, refl}
 use Rattle.nt_calls.specs.declared.call.Call.{Call}
+use Rattle.std.specs.declared.result.Result.{Result}
 use Rattle.std.specs.declared.result.Result.TheVariants.{Ok}
+use Rattle.nt_status.specs.declared.refusal.Refusal.{Refusal}
+use Rattle.nt_calls.specs.declared.call.Reply.{Reply}
 use Rattle.nt_calls.specs.Steps.{Called}
 use Rattle.nt_core.specs.Dispatcher.{state}
 use Rattle.nt_laws.specs.Laws.{call_closes}
 use Rattle.nt_life.proofs.Times.{times_last}
 use Rattle.nt_life.proofs.Calls.{call_spare, none_closed}
-use Rattle.nt_life.proofs.Limits.{refused_full}
+use Rattle.nt_life.proofs.Limits.{refused_full, duplicated_limit}
 use Rattle.nt_life.proofs.Choosing.{duplicates_own}
 use Rattle.nt_life.proofs.Renewed.{duplicated_spare}
 use Rattle.nt_life.proofs.Pacing.{duplicated_pace}
 use Rattle.nt_life.specs.Lasting.{last_closed}
+use Rattle.nt_calls.specs.declared.call.Act.{Act}
+use Rattle.nt_core.specs.Renewals.{DuplicatesAgain}
+use Rattle.nt_life.proofs.Telling.{tells_own, tells_shared}
 use Rattle.nt_life.proofs.giving.duplicate.Goals as goal
 
 pub returns-in_default-clause-duplicated : goal.returns-in_default-clause-duplicated
@@ -49,3 +55,18 @@ returns-in_err-reply-clause-stacked c = inl refl
 
 pub returns-clause-stacked : goal.returns-clause-stacked
 returns-clause-stacked c = inr (last_closed c.args.spare.now, c.take_handle.ensures.closed)
+
+pub returns-in_default-clause-told : goal.returns-in_default-clause-told
+returns-in_default-clause-told c =
+    tells_own (state c.args.core.now) c.args.who (Call.Act (Act.Duplicate c.args.source c.args.access)) c.args.call.now c.args.told.now c.call.result c.call.new.self.grants (state c.call.new.self) c.requires.untold c.requires.act c.call.ensures.called
+
+pub returns-in_err-reply-clause-told : goal.returns-in_err-reply-clause-told
+returns-in_err-reply-clause-told c =
+    let shared : DuplicatesAgain (state c.args.core.now) c.args.who c.args.source c.args.access c.in-Some.handle c.from_residual.result c.duplicate_again.new.self.grants (state c.duplicate_again.new.self) = search rules in
+    tells_shared (state c.args.core.now) c.args.who c.args.source c.args.access c.in-Some.handle c.from_residual.result c.duplicate_again.new.self.grants (state c.duplicate_again.new.self) shared
+
+pub returns-in_err-reply-clause-limit : goal.returns-in_err-reply-clause-limit
+returns-in_err-reply-clause-limit c limit =
+    let shared : DuplicatesAgain (state c.args.core.now) c.args.who c.args.source c.args.access c.in-Some.handle c.from_residual.result c.duplicate_again.new.self.grants (state c.duplicate_again.new.self) = search rules in
+    absurd (duplicated_limit (state c.args.core.now) c.args.who c.args.source c.args.access c.in-Some.handle c.duplicate_again.new.self.grants (state c.duplicate_again.new.self)
+    (subst (λ (r : Result Reply Refusal). DuplicatesAgain (state c.args.core.now) c.args.who c.args.source c.args.access c.in-Some.handle r c.duplicate_again.new.self.grants (state c.duplicate_again.new.self)) limit shared))

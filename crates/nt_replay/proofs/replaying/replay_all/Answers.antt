@@ -12,5 +12,5 @@ loop-place-preserved c = c.in-Ok.ensures.ok (state c.args.core.now) c.loop-place
 
 pub returns-then-compared-grants-clause-unreplayed : goal.returns-then-compared-grants-clause-unreplayed
 returns-then-compared-grants-clause-unreplayed c =
-    grants_lacking_at (state c.args.core.now) c.args.entries.now c.loop-place.place c.loop-place.compared c.loop-place.core c.runs_one_way.ensures c.loop-place.invariant c.loop-place-test.false
+    grants_lacking_at (state c.args.core.now) c.args.entries.now c.loop-place.place c.loop-place.compared c.loop-place.core c.lives_one_way.ensures c.loop-place.invariant c.loop-place-test.false
     (subst (λ (l : List Grant). c.loop-place.compared < length l) c.grants.ensures c.if-compared-grants.true)

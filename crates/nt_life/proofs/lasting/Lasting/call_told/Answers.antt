@@ -4,7 +4,7 @@ use Rattle.nt_status.specs.declared.refusal.Refusal.TheVariants.{HandleLimit}
 use Rattle.nt_core.specs.Dispatcher.{state}
 use Rattle.nt_life.specs.Lasting.{WithSpare, FindsNone, FindsNoneFor}
 use Rattle.nt_life.proofs.Once.{own_call}
-use Rattle.nt_life.proofs.lasting.Lasting.call.Goals as goal
+use Rattle.nt_life.proofs.lasting.Lasting.call_told.Goals as goal
 
 pub invariant_of-self : goal.invariant_of-self
 invariant_of-self c =
