@@ -9,8 +9,6 @@ mod devices;
 #[cfg(test)]
 mod front;
 #[cfg(test)]
-mod lives;
-#[cfg(test)]
 mod long_lines;
 #[cfg(test)]
 mod mail;
