@@ -15,6 +15,7 @@ mod lasting;
 pub mod memory;
 mod mutexes;
 mod openings;
+mod orders;
 mod plain;
 mod play;
 mod renewals;

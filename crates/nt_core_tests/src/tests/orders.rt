@@ -1,0 +1,211 @@
+//! Every order of the calls that threads make: locks that are crossed, and forks that philosophers take. The counts, orders
+//! and losses are those of a search in Python over a machine of its own.
+use crate::tests::memory::{Host, NOT_ENOUGH_MEMORY, tell_refused};
+use nt_apc::Apc;
+use nt_core::{Act, Call, Core, WaitCall};
+use nt_explore::{Ask, Explored, Loss, Plan, Verdict, Watcher, explore};
+use nt_status::{Handle, Handles, INFINITE, Refusal};
+use std::alloc::Global;
+
+/// What a thread does with the lock of this handle. The first lock's handle has the number of threads.
+#[derive(Clone, Copy)]
+enum Does {
+    Takes(u32),
+    Gives(u32),
+}
+
+use Does::{Gives, Takes};
+
+/// A search, and what it comes to.
+struct Row {
+    name: &'static str,
+    locks: u32,
+    lanes: &'static [&'static [Does]],
+    most: usize,
+    states: usize,
+    steps: usize,
+    hangs: usize,
+    told: Told,
+}
+
+/// The verdict: an order that hangs, with the order after which a thread's wait is lost.
+enum Told {
+    Hangs(&'static [u32], Option<(&'static [u32], u32)>),
+    None,
+    Met(usize),
+}
+
+const CROSSED: &[&[Does]] = &[
+    &[Takes(2), Takes(3), Gives(3), Gives(2)],
+    &[Takes(3), Takes(2), Gives(2), Gives(3)],
+];
+
+const FORKS: &[&[Does]] = &[
+    &[Takes(3), Takes(4), Gives(4), Gives(3)],
+    &[Takes(4), Takes(5), Gives(5), Gives(4)],
+    &[Takes(5), Takes(3), Gives(3), Gives(5)],
+];
+
+const ORDERED: &[&[Does]] = &[
+    &[Takes(3), Takes(4), Gives(4), Gives(3)],
+    &[Takes(4), Takes(5), Gives(5), Gives(4)],
+    &[Takes(3), Takes(5), Gives(5), Gives(3)],
+];
+
+const ROWS: &[Row] = &[
+    Row {
+        name: "two locks crossed",
+        locks: 2,
+        lanes: CROSSED,
+        most: 1000,
+        states: 26,
+        steps: 34,
+        hangs: 1,
+        told: Told::Hangs(&[0, 1, 0, 1], Some((&[0, 1, 0], 0))),
+    },
+    Row {
+        name: "three philosophers",
+        locks: 3,
+        lanes: FORKS,
+        most: 1000,
+        states: 139,
+        steps: 276,
+        hangs: 1,
+        told: Told::Hangs(&[0, 1, 0, 2, 1, 2], Some((&[0, 1, 0, 2], 0))),
+    },
+    Row {
+        name: "three philosophers who take the lower fork first",
+        locks: 3,
+        lanes: ORDERED,
+        most: 1000,
+        states: 116,
+        steps: 224,
+        hangs: 0,
+        told: Told::None,
+    },
+    Row {
+        name: "only the start is looked at",
+        locks: 2,
+        lanes: CROSSED,
+        most: 1,
+        states: 3,
+        steps: 2,
+        hangs: 0,
+        told: Told::Met(0),
+    },
+];
+
+/// Nobody.
+#[derive(Drop)]
+struct Nobody;
+
+impl Watcher for Nobody {
+    fn tell(&mut self, _looked: usize, _states: usize) {}
+}
+
+fn call_of(alloc: Global, does: Does) -> Result<Call, Refusal> {
+    match does {
+        Takes(lock) => {
+            let mut handles = Handles::new(alloc);
+            handles.push(Handle::new(lock))?;
+            Ok(Call::Wait(WaitCall::Objects {
+                handles,
+                all: false,
+                ms: INFINITE,
+                alertable: false,
+            }))
+        }
+        Gives(lock) => Ok(Call::Act(Act::ReleaseMutex(Handle::new(lock)))),
+    }
+}
+
+/// Adds to a lane what its thread does.
+fn add(alloc: Global, plan: &mut Plan, lane: u32, asks: &[Does]) -> Result<(), Refusal> {
+    for does in asks {
+        let call = call_of(alloc, *does)?;
+        plan.add(lane, Ask::Call(call))
+            .map_err(|_| Refusal::Memory)?;
+    }
+    Ok(())
+}
+
+/// What the threads of a row do.
+fn plan_of(alloc: Global, lanes: &[&[Does]]) -> Result<Plan, Refusal> {
+    let threads = lanes.len().min(3) as u32;
+    let mut plan = Plan::new(alloc, threads).map_err(|_| Refusal::Memory)?;
+    let mut lane = 0;
+    for asks in lanes.iter().take(3) {
+        add(alloc, &mut plan, lane, asks)?;
+        lane += 1;
+    }
+    Ok(plan)
+}
+
+/// Makes the locks.
+fn make_locks(core: &mut Core, locks: u32) -> Result<(), Refusal> {
+    let _inside: Option<Apc> = None;
+    for _ in 0..locks {
+        core.call(0, &Call::Act(Act::CreateMutex(0)))?;
+    }
+    Ok(())
+}
+
+fn is_loss(loss: &Option<Loss>, told: &Option<(&[u32], u32)>) -> bool {
+    match (loss, told) {
+        (Some(loss), Some(told)) => loss.lanes.as_slice() == told.0 && loss.thread == told.1,
+        (None, None) => true,
+        _ => false,
+    }
+}
+
+fn is_verdict(verdict: &Verdict, told: &Told) -> bool {
+    match (verdict, told) {
+        (Verdict::Hangs { lanes, loss }, Told::Hangs(order, lost)) => {
+            lanes.as_slice() == *order && is_loss(loss, lost)
+        }
+        (Verdict::None, Told::None) => true,
+        (Verdict::Met { level }, Told::Met(most)) => level == most,
+        _ => false,
+    }
+}
+
+/// Whether the search came to just what the row says.
+fn is_told(explored: &Explored, row: &Row) -> bool {
+    explored.states == row.states
+        && explored.steps == row.steps
+        && explored.hangs == row.hangs
+        && is_verdict(&explored.verdict, &row.told)
+}
+
+/// Whether a search from this dispatcher does.
+fn explores(alloc: Global, core: &mut Core, row: &Row) -> Result<bool, Refusal> {
+    make_locks(core, row.locks)?;
+    let plan = plan_of(alloc, row.lanes)?;
+    let explored = explore(alloc, core, &plan, row.most, &mut Nobody);
+    let Ok(explored) = explored else {
+        return Err(Refusal::Memory);
+    };
+    Ok(is_told(&explored, row))
+}
+
+fn is_row(alloc: Global, row: &Row) -> Result<bool, Refusal> {
+    let mut core = Core::new(alloc, row.lanes.len().min(3) as u32)?;
+    explores(alloc, &mut core, row)
+}
+
+/// The same, with a second try where memory is refused.
+fn is_row_at_last(rt: &impl Host, row: &Row) -> Result<bool, Refusal> {
+    is_row(rt.alloc(), row).or_else(|refusal| {
+        assert_eq!(rt; refusal.number(), NOT_ENOUGH_MEMORY);
+        tell_refused(rt, "every order");
+        is_row(rt.alloc(), row)
+    })
+}
+
+#[test]
+fn each_search_tells_just_this(rt: HostRuntime) {
+    for row in ROWS {
+        let told = is_row_at_last(&rt, row);
+        assert!(rt; matches!(told, Ok(true)), "{}", row.name);
+    }
+}
