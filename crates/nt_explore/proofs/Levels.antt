@@ -1,17 +1,23 @@
 -- What a search has come to, level by level.
-use Rattle.std.proofs.Common.{◌≡◌, ◌<◌, ◌≤◌, ℕ, zero, suc, ◌+◌, ◌-◌, Bool, true, false, List, [], ◌∷◌, ◌++◌, length, refl, sym, ap, ◌∙◌, subst, arith, Option, Some, None, get_or, eqb, ltb, inl, inr, ◌⊎◌}
+use Rattle.std.proofs.Common.{mul_comm, ◌≡◌, ◌<◌, ◌≤◌, ℕ, zero, suc, ◌+◌, ◌*◌, ◌-◌, Contains, Bool, true, false, List, [], ◌∷◌, ◌++◌, length, refl, sym, ap, ◌∙◌, subst, arith, Option, Some, None, get_or, eqb, ltb, inl, inr, ◌⊎◌}
 use Rattle.std.specs.Prelude.{replicate, reverse, slice_get, ◌↔◌}
 use Rattle.std.proofs.lemmas.Bool.{false≢true}
 use Rattle.std.proofs.lemmas.Bool.Decides.{nat_tests}
 use Rattle.std.proofs.lemmas.List.{length-replicate, length-reverse}
 use Rattle.nt_calls.specs.State.{State}
-use Rattle.nt_look.specs.Orders.{Plan, Point, Goes, Order, Hangs, NoneHangs, NoneHangsWithin, IsShortestHang, steps, place, asks}
+use Rattle.std.proofs.lemmas.Nat.{mul-add-lt, rows}
+use Rattle.nt_calls.specs.State.{pends}
+use Rattle.nt_look.specs.Hangs.{marked}
+use Rattle.nt_look.specs.Orders.{Plan, Point, Goes, Order, Hangs, IsLost, NoneHangs, NoneHangsWithin, IsShortestHang, IsShortestLoss, steps, place, asks}
 use Rattle.nt_look.proofs.Searching.{steps_counted, lane_there}
 use Rattle.nt_explore.specs.declared.met.Entry.{Entry}
 use Rattle.nt_explore.specs.Search.{beginning}
 use Rattle.nt_explore.specs.Walk.{parent_of, lane_of, AreBehind, IsWalk, Grows, HasPoint, Tries, Arrives}
-use Rattle.nt_explore.specs.Levels.{IsFirst, AreLooked, IsSearch, first_then}
-use Rattle.nt_explore.proofs.Walks.{below_or, deeper, goes_wide, one_entry}
+use Rattle.nt_explore.specs.declared.loss.Edge.{Edge}
+use Rattle.nt_explore.specs.declared.loss.Edges.{Edges}
+use Rattle.nt_explore.specs.Levels.{IsFirst, AreLooked, AreEdges, IsEdge, IsRow, IsColumn, IsFirstMark, IsFirstLost, IsFirstLoss, IsSearch, first_then, passed}
+use Rattle.nt_explore.proofs.Losing.{below_or, AreOnward, lost_forth, lost_back, passed_tells, length_passed}
+use Rattle.nt_explore.proofs.Walks.{deeper, goes_wide, one_entry}
 use Rattle.nt_explore.proofs.Ways.{order_of}
 
 -- ---- the start
@@ -58,8 +64,8 @@ first_more plan point points looked hung (Some h) same told is = (
   λ i below hangs. let before = is.0 in is.2 i below (subst (Hangs plan) (same i (omega (arith, below, before))) hangs),
 )
 
-pub look_more : (plan : Plan) (start : Point) (old new : List Entry) (looked : ℕ) (hung : Bool) (first : Option ℕ) (point : ℕ → Point) → AreLooked plan start old looked first point → looked < length old → (hung ≡ true ↔ Hangs plan (point looked)) → (tries : Tries plan start old new (point looked) (length plan) point) → AreLooked plan start new (looked + 1) (first_then hung looked first) tries.points
-look_more plan start old new looked hung first point so within told tries = record {
+pub look_more : (plan : Plan) (start : Point) (old new : List Entry) (looked : ℕ) (hung : Bool) (first : Option ℕ) (point : ℕ → Point) → AreLooked plan start old looked first point → looked < length old → (hung ≡ true ↔ Hangs plan (point looked)) → (pairs more : List Edge) → (tries : Tries plan start old new pairs more (point looked) looked (length plan) point) → AreLooked plan start new (looked + 1) (first_then hung looked first) tries.points
+look_more plan start old new looked hung first point so within told pairs more tries = record {
   walk = tries.grows.walk;
   within = omega (arith, within, longer);
   rising = rising;
@@ -179,27 +185,122 @@ depth_of plan s way p came = counted plan s (reverse way) p (order_of plan (begi
 
 -- ---- the search goes on
 
-pub search_more : (plan : Plan) (start : Point) (old new : List Entry) (looked : ℕ) (hung : Bool) (first then : Option ℕ) (p : Point) → looked < length old → ((point : ℕ → Point) → IsWalk plan start old point → p ≡ point looked) → (hung ≡ true ↔ Hangs plan p) → ((point : ℕ → Point) → IsWalk plan start old point → point looked ≡ p → Tries plan start old new p (length plan) point) → then ≡ first_then hung looked first → IsSearch plan start old looked first → IsSearch plan start new (looked + 1) then
-search_more plan start old new looked hung first then p below is told tries becomes search =
+edges_more : (plan : Plan) (start : Point) (old new : List Entry) (threads looked : ℕ) (pairs more : List Edge) (waits row : List Bool) (point : ℕ → Point)
+    → IsWalk plan start old point
+    → looked < length old
+    → AreEdges plan threads pairs waits looked (length old) point
+    → (tries : Tries plan start old new pairs more (point looked) looked (length plan) point)
+    → IsRow waits row threads (point looked).state
+    → ((t : ℕ) → pends (point looked).state t ≡ true → t < start.state.threads)
+    → AreEdges plan threads more row (looked + 1) (length new) tries.points
+edges_more plan start old new threads looked pairs more waits row point walk within so tries noted known = record {
+  goes = λ e has. goes e (tries.leads.goes e has);
+  rises = tries.leads.rises so.rises (λ e has. let it = (so.goes e has).0 in omega (arith, it));
+  all = λ i lane q below goes. all i lane q goes (below_or i looked below);
+  first = ap (λ (p : Point). p.state.threads) (same 0 walk.some) ∙ so.first;
+  count = let one = noted.count in let two = so.count in grind (arith, one, two, rows);
+  told = λ i t below inside. told i t inside (below_or i looked below);
+  known = λ i t below waits. there i t waits (below_or i looked below);
+}
+  where
+    points : ℕ → Point
+    points = tries.points
+
+    longer : length old ≤ length new
+    longer = tries.grows.longer
+
+    same : (i : ℕ) → i < length old → tries.points i ≡ point i
+    same = tries.grows.same
+
+    goes : (e : Edge) → Contains pairs e ⊎ ((e.from ≡ looked) × (e.to < length new) × (lane : ℕ) × Goes plan (point looked) lane (tries.points e.to)) → IsEdge plan tries.points (looked + 1) (length new) e
+    goes e (inl has) =
+        let it = so.goes e has in
+        let from = it.0 in let to = it.1 in (
+          omega (arith, from),
+          omega (arith, to, longer),
+          it.2,
+          subst (λ (p : Point). Goes plan p it.2 (tries.points e.to)) (sym (same e.from (omega (arith, from, within)))) (subst (λ (p : Point). Goes plan (point e.from) it.2 p) (sym (same e.to it.1)) it.3),
+        )
+    goes e (inr it) =
+        let from = it.0 in (
+          omega (arith, from),
+          it.1,
+          it.2,
+          subst (λ (p : Point). Goes plan p it.2 (tries.points e.to)) (sym (ap tries.points it.0 ∙ same looked within)) it.3,
+        )
+
+    all : (i lane : ℕ) (q : Point) → Goes plan (tries.points i) lane q → (i < looked) ⊎ (i ≡ looked) → (e : Edge) × Contains more e × (e.from ≡ i) × (tries.points e.to ≡ q)
+    all i lane q goes (inl before) =
+        let it = so.all i lane q before (subst (λ (p : Point). Goes plan p lane q) (same i (omega (arith, before, within))) goes) in
+        let to = (so.goes it.0 it.1).1 in
+        (it.0, tries.leads.kept it.0 it.1, it.2, same it.0.to to ∙ it.3)
+    all i lane q goes (inr last) =
+        let here : Goes plan (point looked) lane q = subst (λ (p : Point). Goes plan p lane q) (ap tries.points last ∙ same looked within) goes in
+        let it = tries.leads.all lane q (lane_there plan lane (place (point looked) lane) here.ask here.next) here in
+        (it.0, it.1, it.2 ∙ sym last, it.4)
+
+    told : (i t : ℕ) → t < threads → (i < looked) ⊎ (i ≡ looked) → marked row (i * threads + t) ≡ pends (tries.points i).state t
+    told i t inside (inl before) =
+        let count = so.count in
+        let low = mul-add-lt i threads t looked before inside in
+        noted.before (i * threads + t) (omega (arith, low, count)) ∙ (so.told i t before inside ∙ ap (λ (p : Point). pends p.state t) (sym (same i (omega (arith, before, within)))))
+    told i t inside (inr last) =
+        let count = so.count in
+        let at : i * threads + t ≡ length waits + t = ap (λ (k : ℕ). k * threads + t) last ∙ ap (λ (k : ℕ). k + t) (mul_comm looked threads ∙ sym count) in
+        ap (marked row) at ∙ (noted.row t inside ∙ ap (λ (p : Point). pends p.state t) (sym (ap tries.points last ∙ same looked within)))
+
+    there : (i t : ℕ) → pends (tries.points i).state t ≡ true → (i < looked) ⊎ (i ≡ looked) → t < threads
+    there i t waits (inl before) = so.known i t before (subst (λ (p : Point). pends p.state t ≡ true) (same i (omega (arith, before, within))) waits)
+    there i t waits (inr last) =
+        let below = known t (subst (λ (p : Point). pends p.state t ≡ true) (ap tries.points last ∙ same looked within) waits) in
+        let start' = ap (λ (p : Point). p.state.threads) walk.first in
+        let first = so.first in
+        omega (arith, below, start', first)
+
+pub search_more : (plan : Plan) (start : Point) (old new : List Entry) (edges more : Edges) (looked : ℕ) (hung : Bool) (first last : Option ℕ) (p : Point) → looked < length old
+    → more.threads ≡ edges.threads
+    → ((point : ℕ → Point) → IsWalk plan start old point → p ≡ point looked)
+    → (hung ≡ true ↔ Hangs plan p)
+    → ((point : ℕ → Point) → IsWalk plan start old point → point looked ≡ p → Tries plan start old new edges.pairs.items more.pairs.items p looked (length plan) point)
+    → IsRow edges.waits.items more.waits.items edges.threads p.state
+    → ((t : ℕ) → pends p.state t ≡ true → t < start.state.threads)
+    → last ≡ first_then hung looked first → IsSearch plan start old edges looked first → IsSearch plan start new more (looked + 1) last
+search_more plan start old new edges more looked hung first last p below threads is told tries noted known becomes search =
     let point : ℕ → Point = search.0 in
     let so = search.1 in
     let here = is point so.walk in
-    let tried = subst (λ (z : Point). Tries plan start old new z (length plan) point) here (tries point so.walk (sym here)) in
-    (tried.points, subst (λ (f : Option ℕ). AreLooked plan start new (looked + 1) f tried.points) (sym becomes) (look_more plan start old new looked hung first point so below (subst (λ (z : Point). hung ≡ true ↔ Hangs plan z) here told) tried))
+    let tried = subst (λ (z : Point). Tries plan start old new edges.pairs.items more.pairs.items z looked (length plan) point) here (tries point so.walk (sym here)) in (
+      tried.points,
+      subst (λ (f : Option ℕ). AreLooked plan start new (looked + 1) f tried.points) (sym becomes) (look_more plan start old new looked hung first point so below (subst (λ (z : Point). hung ≡ true ↔ Hangs plan z) here told) edges.pairs.items more.pairs.items tried),
+      subst (λ (n : ℕ). AreEdges plan n more.pairs.items more.waits.items (looked + 1) (length new) tried.points) (sym threads)
+          (edges_more plan start old new edges.threads looked edges.pairs.items more.pairs.items edges.waits.items more.waits.items point so.walk below search.2 tried (subst (λ (z : Point). IsRow edges.waits.items more.waits.items edges.threads z.state) here noted) (subst (λ (z : Point). (t : ℕ) → pends z.state t ≡ true → t < start.state.threads) here known)),
+    )
 
-pub search_begins : (plan : Plan) (s : State) → IsSearch plan (beginning plan s) one_entry 0 None
-search_begins plan s = ((λ i. beginning plan s), begins plan s)
+pub search_begins : (plan : Plan) (s : State) (edges : Edges) → edges.threads ≡ s.threads → edges.pairs.items ≡ [] → edges.waits.items ≡ [] → IsSearch plan (beginning plan s) one_entry edges 0 None
+search_begins plan s edges threads pairs waits = (
+  (λ i. beginning plan s),
+  begins plan s,
+  subst (λ (es : List Edge). AreEdges plan edges.threads es edges.waits.items 0 1 (λ i. beginning plan s)) (sym pairs) (subst (λ (ws : List Bool). AreEdges plan edges.threads [] ws 0 1 (λ i. beginning plan s)) (sym waits) (record {
+    goes = λ e (k, below, is). absurd (omega (arith, below));
+    rises = tt;
+    all = λ i lane q below. absurd (omega (arith, below));
+    first = sym threads;
+    count = grind (arith, rows);
+    told = λ i t below. absurd (omega (arith, below));
+    known = λ i t below. absurd (omega (arith, below));
+  })),
+)
 
 -- ---- what it has come to
 
-pub hangs_there : (plan : Plan) (s : State) (entries : List Entry) (looked h : ℕ) (way lanes : List ℕ) → lanes ≡ reverse way → ((point : ℕ → Point) → IsWalk plan (beginning plan s) entries point → Arrives plan (beginning plan s) way (point h)) → IsSearch plan (beginning plan s) entries looked (Some h) → IsShortestHang plan (beginning plan s) lanes
-hangs_there plan s entries looked h way lanes is came search = subst (IsShortestHang plan (beginning plan s)) (sym is) (shortest plan s entries looked h way search.0 search.1 (came search.0 search.1.walk))
+pub hangs_there : (plan : Plan) (s : State) (entries : List Entry) (edges : Edges) (looked h : ℕ) (way lanes : List ℕ) → lanes ≡ reverse way → ((point : ℕ → Point) → IsWalk plan (beginning plan s) entries point → Arrives plan (beginning plan s) way (point h)) → IsSearch plan (beginning plan s) entries edges looked (Some h) → IsShortestHang plan (beginning plan s) lanes
+hangs_there plan s entries edges looked h way lanes is came search = subst (IsShortestHang plan (beginning plan s)) (sym is) (shortest plan s entries looked h way search.0 search.1 (came search.0 search.1.walk))
 
-pub none_there : (plan : Plan) (s : State) (entries : List Entry) (looked : ℕ) → length entries ≤ looked → IsSearch plan (beginning plan s) entries looked None → NoneHangs plan (beginning plan s)
-none_there plan s entries looked all search = none_hangs plan s entries looked search.0 search.1 all
+pub none_there : (plan : Plan) (s : State) (entries : List Entry) (edges : Edges) (looked : ℕ) → length entries ≤ looked → IsSearch plan (beginning plan s) entries edges looked None → NoneHangs plan (beginning plan s)
+none_there plan s entries edges looked all search = none_hangs plan s entries looked search.0 search.1 all
 
-pub bound_there : (plan : Plan) (s : State) (entries : List Entry) (looked level : ℕ) (way : List ℕ) → 0 < looked → looked < length entries → level ≡ length way - 1 → ((point : ℕ → Point) → IsWalk plan (beginning plan s) entries point → Arrives plan (beginning plan s) way (point looked)) → IsSearch plan (beginning plan s) entries looked None → NoneHangsWithin plan (beginning plan s) level
-bound_there plan s entries looked level way some more is came search =
+pub bound_there : (plan : Plan) (s : State) (entries : List Entry) (edges : Edges) (looked level : ℕ) (way : List ℕ) → 0 < looked → looked < length entries → level ≡ length way - 1 → ((point : ℕ → Point) → IsWalk plan (beginning plan s) entries point → Arrives plan (beginning plan s) way (point looked)) → IsSearch plan (beginning plan s) entries edges looked None → NoneHangsWithin plan (beginning plan s) level
+bound_there plan s entries edges looked level way some more is came search =
     let point : ℕ → Point = search.0 in
     let walk = search.1.walk in
     let deep = depth_of plan s way (point looked) (came point walk) in
@@ -210,3 +311,58 @@ bound_there plan s entries looked level way some more is came search =
 
 pub behind_one : AreBehind one_entry
 behind_one i some below = absurd (omega (arith, some, below))
+
+-- ---- since when a wait was lost
+
+onward : (plan : Plan) (start : Point) (entries : List Entry) (threads looked : ℕ) (pairs : List Edge) (waits : List Bool) (first : Option ℕ) (point : ℕ → Point) → AreLooked plan start entries looked first point → AreEdges plan threads pairs waits looked (length entries) point → AreOnward plan point (length entries) pairs
+onward plan start entries threads looked pairs waits first point so edges e has =
+    let it = edges.goes e has in
+    let from = it.0 in
+    let within = so.within in
+    let one = deeper plan (point e.from) (point e.to) it.2 (so.walk.wide e.from (omega (arith, from, within))) it.3 in
+    (before_of entries point e.from e.to so.rising (omega (arith, from, within)) (omega (arith, one)), it.1, it.2, it.3)
+
+-- what the marks of a thread tell
+lost_told : (plan : Plan) (start : Point) (entries : List Entry) (threads t : ℕ) (pairs : List Edge) (waits column : List Bool) (first : Option ℕ) (point : ℕ → Point) → t < threads → AreLooked plan start entries (length entries) first point → AreEdges plan threads pairs waits (length entries) (length entries) point → IsColumn waits column threads (length entries) t
+    → (i : ℕ) → i < length entries → (marked (passed pairs column) i ≡ true) ↔ IsLost plan (point i) t
+lost_told plan start entries threads t pairs waits column first point inside so edges row i below =
+    let on = onward plan start entries threads (length entries) pairs waits first point so edges in
+    let it = passed_tells plan point (length entries) t 0 pairs column row.count (λ j there. row.told j there ∙ edges.told j t there inside) edges.rises on (λ j lane q low there goes. edges.all j lane q there goes) (λ e has. omega arith) i below in (
+      λ m. lost_forth plan point (length entries) t 0 pairs i (λ j lane q low there goes. edges.all j lane q there goes) (omega arith) below (it.0 m),
+      λ lost. it.1 (lost_back plan point (length entries) t pairs i on lost),
+    )
+
+pub first_told : (plan : Plan) (start : Point) (entries : List Entry) (threads states t : ℕ) (pairs : List Edge) (waits column : List Bool) (first found : Option ℕ) (point : ℕ → Point) → t < threads → (length waits ≡ threads * states → IsColumn waits column threads states t) → IsFirstMark (passed pairs column) found
+    → length entries ≡ states → AreLooked plan start entries states first point → AreEdges plan threads pairs waits states states point → IsFirstLost plan point states t found
+first_told plan start entries threads states t pairs waits column first found point inside row mark count so edges = go found mark
+  where
+    told : (i : ℕ) → i < states → (marked (passed pairs column) i ≡ true) ↔ IsLost plan (point i) t
+    told = subst (λ (n : ℕ). AreLooked plan start entries n first point → AreEdges plan threads pairs waits n n point → IsColumn waits column threads n t → (i : ℕ) → i < n → (marked (passed pairs column) i ≡ true) ↔ IsLost plan (point i) t) count
+        (lost_told plan start entries threads t pairs waits column first point inside) so edges (row edges.count)
+
+    go : (found : Option ℕ) → IsFirstMark (passed pairs column) found → IsFirstLost plan point states t found
+    go None none = λ j below lost. false≢true (sym (none j) ∙ (told j below).1 lost)
+    go (Some h) it =
+        let there : h < states = let top = it.0 in let same = length_passed pairs column in let count = (row edges.count).count in omega (arith, top, same, count) in (
+          there,
+          (told h there).0 it.1,
+          λ j below lost. false≢true (sym (it.2 j below) ∙ (told j (omega (arith, below, there))).1 lost),
+        )
+
+pub loss_there : (plan : Plan) (s : State) (entries : List Entry) (edges : Edges) (h t : ℕ) (way lanes : List ℕ) (first : Option ℕ) (point : ℕ → Point) → lanes ≡ reverse way → Arrives plan (beginning plan s) way (point h)
+    → AreLooked plan (beginning plan s) entries (length entries) first point → AreEdges plan edges.threads edges.pairs.items edges.waits.items (length entries) (length entries) point
+    → IsFirstLoss plan point (length entries) edges.threads (Some (h, t)) → IsShortestLoss plan (beginning plan s) lanes t
+loss_there plan s entries edges h t way lanes first point is came so told lost =
+    let order = order_of plan (beginning plan s) way (point h) came in
+    let deep = counted plan s (reverse way) (point h) order in
+    let top = lost.0 in
+    subst (λ (ls : List ℕ). IsShortestLoss plan (beginning plan s) ls t) (sym is) (record {
+      point = point h;
+      order = order;
+      lost = lost.1;
+      least = λ others p u short order' gone.
+          let has = come_before plan s entries (length entries) h first point so (omega (arith, top)) top others p (omega (arith, short, deep)) order' in
+          let before = has.1 in
+          let gone' : IsLost plan (point has.0) u = subst (λ (z : Point). IsLost plan z u) (sym has.2) gone in
+          lost.2 has.0 u has.1 (told.known has.0 u (omega (arith, before, top)) (gone' [] (point has.0) refl)) gone';
+    })

@@ -1,6 +1,7 @@
 pub mod Unique
 pub mod Ways
 pub mod Walks
+pub mod Losing
 pub mod Levels
 pub mod Hung
 pub mod Adding

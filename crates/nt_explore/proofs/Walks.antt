@@ -6,7 +6,9 @@ use Rattle.std.proofs.lemmas.List.{length-set, length_push, get_or_push, get_or_
 use Rattle.nt_look.specs.Orders.{Plan, Point, Goes, steps, place}
 use Rattle.nt_look.proofs.Searching.{steps_counted}
 use Rattle.nt_explore.specs.declared.met.Entry.{Entry}
-use Rattle.nt_explore.specs.Walk.{no_entry, parent_of, lane_of, AreBehind, IsWalk, Grows, HasPoint, IsFound, Meets, TriesLane, Tries, Went, LeadsTo}
+use Rattle.nt_explore.specs.Walk.{no_entry, parent_of, lane_of, AreBehind, IsWalk, Grows, HasPoint, IsFound, Meets, TriesLane, Tries, Leads, edge, Went, LeadsTo}
+use Rattle.nt_explore.specs.declared.loss.Edge.{Edge}
+use Rattle.nt_explore.proofs.Losing.{below_or, leads_on, leads_none, leads_then}
 use Rattle.nt_explore.proofs.Unique.{goes_same}
 
 -- ---- one point more
@@ -24,13 +26,6 @@ put_else point n p i other = let test : eqb i n ≡ false = grind (arith, nat_te
 
 put_below : (point : ℕ → Point) (n : ℕ) (p : Point) (i : ℕ) → i < n → put point n p i ≡ point i
 put_below point n p i below = put_else point n p i (λ e. absurd (omega (arith, below, e)))
-
-pub below_or : (i n : ℕ) → i < n + 1 → (i < n) ⊎ (i ≡ n)
-below_or i n below = go (ltb i n) refl
-  where
-    go : (b : Bool) → ltb i n ≡ b → (i < n) ⊎ (i ≡ n)
-    go true e = inl (grind (arith, nat_tests, e))
-    go false e = inr (let past : n ≤ i = grind (arith, nat_tests, e) in omega (arith, past, below))
 
 pub behind_more : (entries : List Entry) (e : Entry) → e.parent < length entries → AreBehind entries → AreBehind (entries ++ e ∷ [])
 behind_more entries e before behind i some below = go (below_or i (length entries) (let count = length_push entries e in omega (arith, below, count)))
@@ -106,43 +101,47 @@ meets_old plan start entries p j point found walk = record {
 pub deeper : (plan : Plan) (p q : Point) (lane : ℕ) → length p.at ≡ length plan → Goes plan p lane q → steps q.at ≡ steps p.at + 1
 deeper plan p q lane wide goes = steps_counted plan (lane ∷ []) p q wide (q, goes, refl)
 
-pub lane_went : (plan : Plan) (start : Point) (old new : List Entry) (p next : Point) (lane j : ℕ) (point : ℕ → Point) → length p.at ≡ length plan → Goes plan p lane next → Meets plan start old new next j point → TriesLane plan start old new p lane point
-lane_went plan start old new p next lane j point wide goes meets = record {
+pub lane_went : (plan : Plan) (start : Point) (old new : List Entry) (pairs : List Edge) (p next : Point) (index lane j : ℕ) (point : ℕ → Point) → length p.at ≡ length plan → Goes plan p lane next → Meets plan start old new next j point → TriesLane plan start old new pairs (pairs ++ edge index j ∷ []) p index lane point
+lane_went plan start old new pairs p next index lane j point wide goes meets = record {
   points = meets.points;
   grows = meets.grows;
   deep = λ i past below. ap (λ (z : Point). steps z.at) (meets.deep i past below) ∙ deeper plan p next lane wide goes;
   tried = λ q other. (j, meets.there, meets.is ∙ goes_same plan p lane next q goes other);
+  leads = leads_on plan p next index lane j (length new) meets.points pairs meets.there meets.is goes;
 }
 
-pub lane_stays : (plan : Plan) (start : Point) (entries : List Entry) (p : Point) (lane : ℕ) (point : ℕ → Point) → ((q : Point) → Goes plan p lane q → ⊥) → IsWalk plan start entries point → TriesLane plan start entries entries p lane point
-lane_stays plan start entries p lane point never walk = record {
+pub lane_stays : (plan : Plan) (start : Point) (entries : List Entry) (pairs : List Edge) (p : Point) (index lane : ℕ) (point : ℕ → Point) → ((q : Point) → Goes plan p lane q → ⊥) → IsWalk plan start entries point → TriesLane plan start entries entries pairs pairs p index lane point
+lane_stays plan start entries pairs p index lane point never walk = record {
   points = point;
   grows = record { walk = walk; longer = omega arith; same = λ i below. refl };
   deep = λ i past below. absurd (omega (arith, past, below));
   tried = λ q goes. absurd (never q goes);
+  leads = leads_none plan p index (length entries) point pairs (λ l. l ≡ lane) (λ l q is goes. never q (subst (λ (k : ℕ). Goes plan p k q) is goes));
 }
 
-pub tries_none : (plan : Plan) (start : Point) (entries : List Entry) (p : Point) (point : ℕ → Point) → IsWalk plan start entries point → Tries plan start entries entries p 0 point
-tries_none plan start entries p point walk = record {
+pub tries_none : (plan : Plan) (start : Point) (entries : List Entry) (pairs : List Edge) (p : Point) (index : ℕ) (point : ℕ → Point) → IsWalk plan start entries point → Tries plan start entries entries pairs pairs p index 0 point
+tries_none plan start entries pairs p index point walk = record {
   points = point;
   grows = record { walk = walk; longer = omega arith; same = λ i below. refl };
   deep = λ i past below. absurd (omega (arith, past, below));
   tried = λ lane q below. absurd (omega (arith, below));
+  leads = leads_none plan p index (length entries) point pairs (λ l. l < 0) (λ l q below goes. absurd (omega (arith, below)));
 }
 
-pub tries_more : (plan : Plan) (start : Point) (old mid new : List Entry) (p : Point) (lanes index : ℕ) (point : ℕ → Point) → index < length old → point index ≡ p → (tries : Tries plan start old mid p lanes point) → ((points : ℕ → Point) → IsWalk plan start mid points → points index ≡ p → TriesLane plan start mid new p lanes points) → Tries plan start old new p (lanes + 1) point
-tries_more plan start old mid new p lanes index point within is tries lane = record {
+pub tries_more : (plan : Plan) (start : Point) (old mid new : List Entry) (first halfway last : List Edge) (p : Point) (lanes index : ℕ) (point : ℕ → Point) → index < length old → point index ≡ p → (tries : Tries plan start old mid first halfway p index lanes point) → ((points : ℕ → Point) → IsWalk plan start mid points → points index ≡ p → TriesLane plan start mid new halfway last p index lanes points) → Tries plan start old new first last p index (lanes + 1) point
+tries_more plan start old mid new first halfway last p lanes index point within is tries lane = record {
   points = more.points;
-  grows = record { walk = more.grows.walk; longer = omega (arith, first, second); same = λ i below. more.grows.same i (omega (arith, below, first)) ∙ tries.grows.same i below };
+  grows = record { walk = more.grows.walk; longer = omega (arith, longer, second); same = λ i below. more.grows.same i (omega (arith, below, longer)) ∙ tries.grows.same i below };
   deep = λ i past below. deep i past below (ltb i (length mid)) refl;
   tried = λ l q below goes. tried l q goes (below_or l lanes below);
+  leads = leads_then plan p index (length mid) (length new) lanes tries.points more.points first halfway last second more.grows.same tries.leads more.leads;
 }
   where
-    more : TriesLane plan start mid new p lanes tries.points
+    more : TriesLane plan start mid new halfway last p index lanes tries.points
     more = lane tries.points tries.grows.walk (tries.grows.same index within ∙ is)
 
-    first : length old ≤ length mid
-    first = tries.grows.longer
+    longer : length old ≤ length mid
+    longer = tries.grows.longer
 
     second : length mid ≤ length new
     second = more.grows.longer
@@ -179,14 +178,14 @@ never_went plan p at next lane went still is so q goes =
     let never : Went plan at lane false next = subst (λ (b : Bool). Went plan at lane b next) still so in
     never.1 q (subst (λ (z : Point). Goes plan z lane q) (sym is) goes)
 
-pub lane_never : (plan : Plan) (start : Point) (entries : List Entry) (p : Point) (lane : ℕ) (next : Option Point) → next ≡ None → LeadsTo plan p lane next → (point : ℕ → Point) → IsWalk plan start entries point → TriesLane plan start entries entries p lane point
-lane_never plan start entries p lane next none leads point walk =
+pub lane_never : (plan : Plan) (start : Point) (entries : List Entry) (pairs : List Edge) (p : Point) (index lane : ℕ) (next : Option Point) → next ≡ None → LeadsTo plan p lane next → (point : ℕ → Point) → IsWalk plan start entries point → TriesLane plan start entries entries pairs pairs p index lane point
+lane_never plan start entries pairs p index lane next none leads point walk =
     let never : LeadsTo plan p lane None = subst (λ (o : Option Point). LeadsTo plan p lane o) none leads in
-    lane_stays plan start entries p lane point never walk
+    lane_stays plan start entries pairs p index lane point never walk
 
 pub lane_leads : (plan : Plan) (p next : Point) (lane : ℕ) (found : Option Point) → found ≡ Some next → LeadsTo plan p lane found → Goes plan p lane next
 lane_leads plan p next lane found is leads = subst (λ (o : Option Point). LeadsTo plan p lane o) is leads
 
-pub lane_met : (plan : Plan) (start : Point) (old new : List Entry) (p next : Point) (lane index j : ℕ) → length p.at ≡ length plan → ((point : ℕ → Point) → IsWalk plan start old point → Goes plan (point index) lane next → Meets plan start old new next j point) → (point : ℕ → Point) → IsWalk plan start old point → point index ≡ p → Goes plan p lane next → TriesLane plan start old new p lane point
-lane_met plan start old new p next lane index j wide meets point walk here goes =
-    lane_went plan start old new p next lane j point wide goes (meets point walk (subst (λ (z : Point). Goes plan z lane next) (sym here) goes))
+pub lane_met : (plan : Plan) (start : Point) (old new : List Entry) (pairs more : List Edge) (p next : Point) (lane index j : ℕ) → length p.at ≡ length plan → more ≡ pairs ++ edge index j ∷ [] → ((point : ℕ → Point) → IsWalk plan start old point → Goes plan (point index) lane next → Meets plan start old new next j point) → (point : ℕ → Point) → IsWalk plan start old point → point index ≡ p → Goes plan p lane next → TriesLane plan start old new pairs more p index lane point
+lane_met plan start old new pairs more p next lane index j wide added meets point walk here goes =
+    subst (λ (es : List Edge). TriesLane plan start old new pairs es p index lane point) (sym added) (lane_went plan start old new pairs p next index lane j point wide goes (meets point walk (subst (λ (z : Point). Goes plan z lane next) (sym here) goes)))

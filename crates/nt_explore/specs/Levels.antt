@@ -1,8 +1,12 @@
 -- How far a search is. No public clause cites this module.
-use Rattle.std.specs.Prelude.{◌≡◌, ◌<◌, ◌≤◌, ◌+◌, ℕ, Bool, true, false, List, length, Option, None, Some}
-use Rattle.nt_look.specs.Orders.{Plan, Point, Goes, Hangs, steps}
+use Rattle.std.specs.Prelude.{Contains, [], ◌∷◌, ◌*◌, if◌then◌else◌, slice_set, nat_lt, ◌≡◌, ◌<◌, ◌≤◌, ◌+◌, ℕ, Bool, true, false, List, length, Option, None, Some}
+use Rattle.nt_calls.specs.State.{State, pends}
+use Rattle.nt_look.specs.Hangs.{marked}
+use Rattle.nt_look.specs.Orders.{Plan, Point, Goes, Hangs, IsLost, steps}
+use Rattle.nt_explore.specs.declared.loss.Edge.{Edge}
+use Rattle.nt_explore.specs.declared.loss.Edges.{Edges}
 use Rattle.nt_explore.specs.declared.met.Entry.{Entry}
-use Rattle.nt_explore.specs.Walk.{IsWalk, HasPoint}
+use Rattle.nt_explore.specs.Walk.{IsWalk, HasPoint, Rises}
 
 -- the first that hangs, of those that were looked at
 abbrev pub IsFirst : Plan → (ℕ → Point) → ℕ → Option ℕ → Type 0
@@ -18,9 +22,66 @@ pub record AreLooked (plan : Plan) (start : Point) (entries : List Entry) (looke
   pub closed : (i lane : ℕ) (q : Point) → i < looked → Goes plan (point i) lane q → HasPoint entries point q
   pub told : IsFirst plan point looked first
 
+-- a lane leads from the one, which was looked at, to the other
+abbrev pub IsEdge : Plan → (ℕ → Point) → ℕ → ℕ → Edge → Type 0
+IsEdge plan point looked states e = (e.from < looked) × (e.to < states) × (lane : ℕ) × Goes plan (point e.from) lane (point e.to)
+
+-- of each point that was looked at, where its lanes lead, and who waits there
+pub record AreEdges (plan : Plan) (threads : ℕ) (pairs : List Edge) (waits : List Bool) (looked states : ℕ) (point : ℕ → Point) : Type 0 where
+  pub goes : (e : Edge) → Contains pairs e → IsEdge plan point looked states e
+  pub rises : Rises pairs
+  pub all : (i lane : ℕ) (q : Point) → i < looked → Goes plan (point i) lane q → (e : Edge) × Contains pairs e × (e.from ≡ i) × (point e.to ≡ q)
+  pub first : (point 0).state.threads ≡ threads
+  pub count : length waits ≡ threads * looked
+  pub told : (i t : ℕ) → i < looked → t < threads → marked waits (i * threads + t) ≡ pends (point i).state t
+  pub known : (i t : ℕ) → i < looked → pends (point i).state t ≡ true → t < threads
+
 -- so far the search is
-abbrev pub IsSearch : Plan → Point → List Entry → ℕ → Option ℕ → Type 0
-IsSearch plan start entries looked first = (point : ℕ → Point) × AreLooked plan start entries looked first point
+abbrev pub IsSearch : Plan → Point → List Entry → Edges → ℕ → Option ℕ → Type 0
+IsSearch plan start entries edges looked first =
+    (point : ℕ → Point) × AreLooked plan start entries looked first point × AreEdges plan edges.threads edges.pairs.items edges.waits.items looked (length entries) point
+
+-- the thread's wait is lost at this point, and at none before it
+abbrev pub IsFirstLost : Plan → (ℕ → Point) → ℕ → ℕ → Option ℕ → Type 0
+IsFirstLost plan point states t None = (j : ℕ) → j < states → IsLost plan (point j) t → ⊥
+IsFirstLost plan point states t (Some h) = (h < states) × IsLost plan (point h) t × ((j : ℕ) → j < h → IsLost plan (point j) t → ⊥)
+
+-- the wait of a thread, of so many, is lost at this point, and none at one before it
+abbrev pub IsFirstLoss : Plan → (ℕ → Point) → ℕ → ℕ → Option (ℕ × ℕ) → Type 0
+IsFirstLoss plan point states threads None = (j t : ℕ) → j < states → t < threads → IsLost plan (point j) t → ⊥
+IsFirstLoss plan point states threads (Some (h, u)) =
+    (h < states) × IsLost plan (point h) u × ((j t : ℕ) → j < h → t < threads → IsLost plan (point j) t → ⊥)
+
+-- the marks without that of a state that leads to one with none
+abbrev pub kept : Edge → List Bool → List Bool
+kept e lost = if marked lost e.to then lost else slice_set lost e.from false
+
+-- the same of each edge, the last first
+abbrev pub passed : List Edge → List Bool → List Bool
+passed [] lost = lost
+passed (e ∷ es) lost = kept e (passed es lost)
+
+-- a row more, of who waits
+pub record IsRow (old new : List Bool) (threads : ℕ) (s : State) : Type 0 where
+  pub count : length new ≡ length old + threads
+  pub before : (i : ℕ) → i < length old → marked new i ≡ marked old i
+  pub row : (t : ℕ) → t < threads → marked new (length old + t) ≡ pends s t
+
+-- one thread's of the rows
+pub record IsColumn (rows column : List Bool) (threads states t : ℕ) : Type 0 where
+  pub count : length column ≡ states
+  pub told : (i : ℕ) → i < states → marked column i ≡ marked rows (i * threads + t)
+
+-- the first mark
+abbrev pub IsFirstMark : List Bool → Option ℕ → Type 0
+IsFirstMark marks None = (i : ℕ) → marked marks i ≡ false
+IsFirstMark marks (Some h) = (h < length marks) × (marked marks h ≡ true) × ((i : ℕ) → i < h → marked marks i ≡ false)
+
+-- the earlier of the two
+abbrev pub earlier : Option (ℕ × ℕ) → Option ℕ → ℕ → Option (ℕ × ℕ)
+earlier best None t = best
+earlier None (Some h) t = Some (h, t)
+earlier (Some (first, u)) (Some h) t = if nat_lt h first then Some (h, t) else Some (first, u)
 
 -- the first that hangs, where the next one hangs or does not
 abbrev pub first_then : Bool → ℕ → Option ℕ → Option ℕ

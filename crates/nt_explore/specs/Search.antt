@@ -1,10 +1,11 @@
 -- What a search of all orders tells.
-use Rattle.std.specs.Prelude.{◌≡◌, ℕ, List, length, replicate}
+use Rattle.std.specs.Prelude.{◌≡◌, ℕ, List, length, replicate, Option, Some, None}
 use Rattle.nt_calls.specs.State.{State}
 use Rattle.nt_look.specs.Orders as orders
-use Rattle.nt_look.specs.Orders.{Calls, Passes, Plan, Point, NoneHangs, NoneHangsWithin, IsShortestHang}
+use Rattle.nt_look.specs.Orders.{Calls, Passes, Plan, Point, NoneHangs, NoneHangsWithin, IsShortestHang, IsShortestLoss}
 use Rattle.nt_explore.specs.declared.plan.Ask.{Ask}
 use Rattle.nt_explore.specs.declared.plan.Ask.TheVariants.{Call, Tick}
+use Rattle.nt_explore.specs.declared.explored.Loss.{Loss}
 use Rattle.nt_explore.specs.declared.explored.Verdict.{Verdict}
 use Rattle.nt_explore.specs.declared.explored.Verdict.TheVariants as verdict
 
@@ -17,8 +18,13 @@ asked (Tick moment) = Passes moment
 abbrev pub beginning : Plan → State → Point
 beginning plan s = record { at = replicate (length plan) 0; state = s }
 
+-- since when a wait was lost, where that is told
+abbrev pub TellsLoss : Plan → Point → Option Loss → Type 0
+TellsLoss plan start (Some loss) = IsShortestLoss plan start loss.lanes.items loss.thread
+TellsLoss plan start None = Unit {0}
+
 -- what a verdict says of all orders from here
 abbrev pub Tells : Plan → Point → Verdict → Type 0
-Tells plan start (verdict.Hangs lanes loss) = IsShortestHang plan start lanes.items
+Tells plan start (verdict.Hangs lanes loss) = IsShortestHang plan start lanes.items × TellsLoss plan start loss
 Tells plan start verdict.None = NoneHangs plan start
 Tells plan start (verdict.Met level) = NoneHangsWithin plan start level

@@ -1,7 +1,8 @@
 -- How the states that a search met lie in its table. No public clause cites this module.
-use Rattle.std.specs.Prelude.{true, false, Option, None, Some, ◌≡◌, ◌<◌, ◌≤◌, ◌+◌, ℕ, Bool, List, [], ◌∷◌, length, slice_index_or}
+use Rattle.std.specs.Prelude.{Contains, ◌⊎◌, true, false, Option, None, Some, ◌≡◌, ◌<◌, ◌≤◌, ◌+◌, ℕ, Bool, List, [], ◌∷◌, length, slice_index_or}
 use Rattle.nt_core.specs.Dispatcher.{Dispatcher, state}
 use Rattle.nt_look.specs.Orders.{Plan, Point, Goes, Hangs, steps}
+use Rattle.nt_explore.specs.declared.loss.Edge.{Edge}
 use Rattle.nt_explore.specs.declared.met.Entry.{Entry}
 use Rattle.nt_explore.specs.declared.place.Place.{Place}
 
@@ -63,6 +64,22 @@ abbrev pub IsFound : Plan → Point → List Entry → Point → Option ℕ → 
 IsFound plan start entries p None = Unit {0}
 IsFound plan start entries p (Some j) = (j < length entries) × ((point : ℕ → Point) → IsWalk plan start entries point → point j ≡ p)
 
+-- from a state to one to which a lane leads
+abbrev pub edge : ℕ → ℕ → Edge
+edge from to = record { from = from; to = to }
+
+-- the edges stand in the order of the states that they lead from
+abbrev pub Rises : List Edge → Type 0
+Rises [] = Unit {0}
+Rises (e ∷ es) = ((f : Edge) → Contains es f → e.from ≤ f.from) × Rises es
+
+-- to the edges came those from this point, to where the tried lanes lead
+pub record Leads (plan : Plan) (p : Point) (index states : ℕ) (points : ℕ → Point) (tried : ℕ → Type 0) (old new : List Edge) : Type 0 where
+  pub kept : (e : Edge) → Contains old e → Contains new e
+  pub goes : (e : Edge) → Contains new e → Contains old e ⊎ ((e.from ≡ index) × (e.to < states) × (lane : ℕ) × Goes plan p lane (points e.to))
+  pub rises : Rises old → ((e : Edge) → Contains old e → e.from ≤ index) → Rises new
+  pub all : (lane : ℕ) (q : Point) → tried lane → Goes plan p lane q → (e : Edge) × Contains new e × (e.from ≡ index) × (e.to < states) × (points e.to ≡ q)
+
 -- the lane leads to this point, which is one of them now
 pub record Meets (plan : Plan) (start : Point) (old new : List Entry) (p : Point) (j : ℕ) (point : ℕ → Point) : Type 0 where
   pub points : ℕ → Point
@@ -72,18 +89,20 @@ pub record Meets (plan : Plan) (start : Point) (old new : List Entry) (p : Point
   pub deep : (i : ℕ) → length old ≤ i → i < length new → points i ≡ p
 
 -- each of the first lanes leads from this point to one of them
-pub record Tries (plan : Plan) (start : Point) (old new : List Entry) (p : Point) (lanes : ℕ) (point : ℕ → Point) : Type 0 where
+pub record Tries (plan : Plan) (start : Point) (old new : List Entry) (pairs more : List Edge) (p : Point) (index lanes : ℕ) (point : ℕ → Point) : Type 0 where
   pub points : ℕ → Point
   pub grows : Grows plan start old new point points
   pub deep : (i : ℕ) → length old ≤ i → i < length new → steps (points i).at ≡ steps p.at + 1
   pub tried : (lane : ℕ) (q : Point) → lane < lanes → Goes plan p lane q → HasPoint new points q
+  pub leads : Leads plan p index (length new) points (λ lane. lane < lanes) pairs more
 
 -- one more lane leads from this point to one of them
-pub record TriesLane (plan : Plan) (start : Point) (old new : List Entry) (p : Point) (lane : ℕ) (point : ℕ → Point) : Type 0 where
+pub record TriesLane (plan : Plan) (start : Point) (old new : List Entry) (pairs more : List Edge) (p : Point) (index lane : ℕ) (point : ℕ → Point) : Type 0 where
   pub points : ℕ → Point
   pub grows : Grows plan start old new point points
   pub deep : (i : ℕ) → length old ≤ i → i < length new → steps (points i).at ≡ steps p.at + 1
   pub tried : (q : Point) → Goes plan p lane q → HasPoint new points q
+  pub leads : Leads plan p index (length new) points (λ l. l ≡ lane) pairs more
 
 -- where the lane leads, if it goes
 abbrev pub LeadsTo : Plan → Point → ℕ → Option Point → Type 0

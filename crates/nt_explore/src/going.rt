@@ -15,7 +15,8 @@ use std::alloc::AllocError;
 
 /// Makes the thread's call. Memory that is refused is no order of the plan.
 fn call(core: &mut Core, thread: u32, call: &Call) -> Result<(), AllocError>
-    ensures { OnOk result (IsMade (state core.old) thread (Calls call.now) (state core.new)) }
+    ensures made { OnOk result (IsMade (state core.old) thread (Calls call.now) (state core.new)) }
+    ensures threads { (state core.new).threads ≡ (state core.old).threads }
 {
     let result = core.call(thread, call);
     if is_without_memory(&result) {
@@ -33,14 +34,16 @@ fn is_without_memory(answer: &Result<Reply, Refusal>) -> bool
 
 /// Lets the moments pass.
 fn tick(core: &mut Core, thread: u32, moment: Moment)
-    ensures { IsMade (state core.old) thread (Passes moment) (state core.new) }
+    ensures made { IsMade (state core.old) thread (Passes moment) (state core.new) }
+    ensures threads { (state core.new).threads ≡ (state core.old).threads }
 {
     let _answer = core.tick(moment);
 }
 
 /// Makes what is asked of the thread.
 fn make(core: &mut Core, thread: u32, ask: &Ask) -> Result<(), AllocError>
-    ensures { OnOk result (IsMade (state core.old) thread (asked ask.now) (state core.new)) }
+    ensures made { OnOk result (IsMade (state core.old) thread (asked ask.now) (state core.new)) }
+    ensures threads { (state core.new).threads ≡ (state core.old).threads }
 {
     match ask {
         Ask::Call(asked) => call(core, thread, asked),
@@ -58,6 +61,7 @@ pub fn go(plan: &Plan, place: &mut Place, lane: u32) -> Result<bool, AllocError>
     ensures point { IfOk result (λ went. Went plan.now (point_at place.old.places.items place.old.core) lane went
         (point_at place.new.places.items place.new.core)) }
     ensures wide { OnOk result (length place.new.places.items ≡ length plan.now) }
+    ensures threads { (state place.new.core).threads ≡ (state place.old.core).threads }
 {
     if place.core.is_waiting(lane) {
         return Ok(false);
@@ -77,6 +81,7 @@ pub fn go_on(plan: &Plan, place: &mut Place, lane: u32) -> Result<(), AllocError
     ensures point { OnOk result ((q : Point) → Goes plan.now (point_at place.old.places.items place.old.core) lane q
         → Goes plan.now (point_at place.old.places.items place.old.core) lane (point_at place.new.places.items place.new.core)) }
     ensures wide { OnOk result (length place.new.places.items ≡ length plan.now) }
+    ensures threads { (state place.new.core).threads ≡ (state place.old.core).threads }
 {
     if lane as usize >= plan.lanes() {
         return Ok(());

@@ -1,26 +1,81 @@
 //! Since when a wait was lost: it pends, and in every order of what is left it pends on.
-ghost use Rattle.nt_explore.specs.Walk.{AreBehind};
+ghost use Rattle.std.specs.Prelude.{◌≡◌, ◌<◌, ◌≤◌, ◌*◌, List, ◌++◌, ◌∷◌, [], ℕ, true, false, Option, length, slice_set, IfOk, OnOk};
+ghost use Rattle.nt_calls.specs.State.{State, pends};
+ghost use Rattle.nt_core.specs.Dispatcher.{state};
+ghost use Rattle.nt_look.specs.Hangs.{marked};
+ghost use Rattle.nt_look.specs.Orders.{Plan, Point};
+ghost use Rattle.nt_explore.specs.declared.met.Entry.{Entry};
+ghost use Rattle.nt_explore.specs.Search.{beginning, TellsLoss};
+ghost use Rattle.nt_explore.specs.Walk.{edge, AreBehind};
+ghost use Rattle.nt_explore.specs.Levels as levels;
+ghost use Rattle.nt_explore.specs.Levels.{AreLooked, AreEdges, IsSearch, IsRow, IsColumn, IsFirstMark, IsFirstLost, IsFirstLoss};
 
 use crate::explored::Loss;
 use crate::met::{Entry, way_to};
 use crate::place::Place;
 use std::alloc::{AllocError, Global};
 
+/// A lane leads from a state to another.
+#[derive(Clone, Copy)]
+pub struct Edge {
+    pub from: u32,
+    pub to: u32,
+}
+
 /// Where each state that was looked at leads, and who waits there.
 #[derive(Drop)]
 pub struct Edges {
     /// How many threads there are.
-    threads: u32,
-    /// The numbers of the states to which lanes lead, those of the first state first.
-    to: Vec<usize>,
-    /// By state, where its own end.
-    ends: Vec<usize>,
-    /// By state and thread, whether the thread waits there.
-    waits: Vec<bool>,
+    pub threads: u32,
+    /// In the order of the states that they lead from.
+    pub pairs: Vec<Edge>,
+    /// For each state, one after another, by thread whether it waits there.
+    pub waits: Vec<bool>,
+}
+
+/// None yet, of so many threads.
+pub fn no_edges(alloc: Global, threads: u32) -> Edges
+    ensures threads { result.threads ≡ threads }
+    ensures pairs { result.pairs.items ≡ [] }
+    ensures waits { result.waits.items ≡ [] }
+{
+    Edges {
+        threads,
+        pairs: Vec::new(alloc),
+        waits: Vec::new(alloc),
+    }
+}
+
+/// One edge more. More than 2^32 states are refused as memory is.
+pub fn lead(pairs: &mut Vec<Edge>, from: usize, to: usize) -> Result<(), AllocError>
+    ensures { OnOk result (pairs.new.items ≡ pairs.old.items ++ edge from to ∷ []) }
+{
+    if from > 0xFFFF_FFFF || to > 0xFFFF_FFFF {
+        return Err(AllocError);
+    }
+    pairs.push(Edge {
+        from: from as u32,
+        to: to as u32,
+    })?;
+    Ok(())
+}
+
+/// Notes who of the threads waits in a state, the next one.
+pub fn note_waits(waits: &mut Vec<bool>, threads: u32, place: &Place) -> Result<(), AllocError>
+    ensures row { OnOk result (IsRow waits.old.items waits.new.items threads (state place.now.core)) }
+    ensures known { (t : ℕ) → pends (state place.now.core) t ≡ true → t < (state place.now.core).threads }
+{
+    place.core.stands();
+    for thread in 0..threads {
+        waits.push(place.core.is_waiting(thread))?;
+    }
+    Ok(())
 }
 
 /// The mark at this place.
-fn is_marked(marks: &[bool], at: usize) -> bool {
+fn is_marked(marks: &[bool], at: usize) -> bool
+    ensures { result ≡ marked marks.now at }
+{
     match marks.get(at) {
         Some(mark) => *mark,
         None => false,
@@ -28,94 +83,126 @@ fn is_marked(marks: &[bool], at: usize) -> bool {
 }
 
 /// Takes the mark at this place away.
-fn unmark(marks: &mut [bool], at: usize) {
+fn unmark(marks: &mut [bool], at: usize)
+    ensures { marks.new ≡ slice_set marks.old at false }
+{
     if at < marks.len() {
         marks[at] = false;
     }
 }
 
-impl Edges {
-    /// None yet, of so many threads.
-    pub fn new(alloc: Global, threads: u32) -> Edges {
-        Edges {
-            threads,
-            to: Vec::new(alloc),
-            ends: Vec::new(alloc),
-            waits: Vec::new(alloc),
-        }
-    }
-
-    /// The state that is looked at leads to this one too.
-    pub fn lead(&mut self, to: usize) -> Result<(), AllocError> {
-        self.to.push(to)?;
-        Ok(())
-    }
-
-    /// No lane more leads from the state that is looked at, which is this one.
-    pub fn end(&mut self, place: &Place) -> Result<(), AllocError> {
-        self.ends.push(self.to.len())?;
-        for thread in 0..place.core.threads() {
-            self.waits.push(place.core.is_waiting(thread))?;
-        }
-        Ok(())
-    }
-
-    /// The place of a thread's mark in this state.
-    fn at(&self, state: usize, thread: usize) -> usize {
-        state
-            .saturating_mul(self.threads as usize)
-            .saturating_add(thread)
-    }
-
-    /// Where the first of the state's edges is.
-    fn begin(&self, state: usize) -> usize {
-        if state == 0 || state > self.ends.len() {
-            0
-        } else {
-            self.ends[state - 1]
-        }
-    }
-
-    /// In this state only those waits are lost that are lost in the other, to which a lane leads.
-    fn keep_both(&self, lost: &mut [bool], state: usize, to: usize) {
-        for thread in 0..self.threads as usize {
-            if !is_marked(lost, self.at(to, thread)) {
-                unmark(lost, self.at(state, thread));
-            }
-        }
-    }
-
-    /// The waits that are lost in this state, where those of the later ones are known.
-    fn find_lost(&self, lost: &mut [bool], state: usize) {
-        if state >= self.ends.len() {
-            return;
-        }
-        for edge in self.begin(state)..self.ends[state] {
-            if edge < self.to.len() {
-                self.keep_both(lost, state, self.to[edge]);
-            }
-        }
-    }
-
-    /// By state and thread, whether the thread's wait is lost there.
-    fn all_lost(&self) -> Result<Vec<bool>, AllocError> {
-        let mut lost = self.waits.clone()?;
-        let states = self.ends.len();
-        for back in 0..states {
-            self.find_lost(&mut lost, states - 1 - back);
-        }
-        Ok(lost)
+/// A state that leads to one with no mark has none.
+fn keep(lost: &mut [bool], edge: Edge)
+    ensures { lost.new ≡ levels.kept edge lost.old }
+{
+    if !is_marked(lost, edge.to as usize) {
+        unmark(lost, edge.from as usize);
     }
 }
 
-/// The first state and thread with a mark.
-fn first_lost(lost: &[bool], threads: u32) -> Option<(usize, u32)> {
-    if threads == 0 {
-        return None;
+/// The same of each edge, the last first.
+fn pass_back(lost: &mut [bool], pairs: &[Edge])
+    ensures { lost.new ≡ levels.passed pairs.now lost.old }
+{
+    let mut left = pairs.len();
+    while left > 0 {
+        left -= 1;
+        keep(lost, pairs[left]);
     }
-    let at = lost.iter().position(|mark| *mark)?;
-    let count = threads as usize;
-    Some((at / count, (at % count) as u32))
+}
+
+/// The first mark that the edges leave, where each is of a wait and they are passed back.
+fn first_left(lost: &mut [bool], pairs: &[Edge]) -> Option<usize>
+    ensures { IsFirstMark (levels.passed pairs.now lost.old) result }
+{
+    pass_back(lost, pairs);
+    first_mark(lost)
+}
+
+/// By state, whether the thread waits there.
+fn waits_of(
+    alloc: Global,
+    waits: &[bool],
+    threads: u32,
+    states: usize,
+    thread: u32,
+) -> Result<Vec<bool>, AllocError>
+    requires known { thread < threads }
+    ensures { IfOk result (λ column. length waits.now ≡ threads * states → IsColumn waits.now column.items threads states thread) }
+{
+    let mut column = Vec::new(alloc);
+    for state in 0..states {
+        let at = state
+            .saturating_mul(threads as usize)
+            .saturating_add(thread as usize);
+        column.push(is_marked(waits, at))?;
+    }
+    Ok(column)
+}
+
+/// The first mark.
+fn first_mark(marks: &[bool]) -> Option<usize>
+    ensures { IsFirstMark marks.now result }
+{
+    for at in 0..marks.len() {
+        if marks[at] {
+            return Some(at);
+        }
+    }
+    None
+}
+
+/// The first state in which the thread's wait is lost.
+fn first_of(
+    alloc: Global,
+    edges: &Edges,
+    states: usize,
+    thread: u32,
+) -> Result<Option<usize>, AllocError>
+    requires known { thread < edges.now.threads }
+    ensures { IfOk result (λ found. (plan : Plan) (start : Point) (entries : List Entry) (first : Option ℕ) (point : ℕ → Point)
+        → length entries ≡ states → AreLooked plan start entries states first point
+        → AreEdges plan edges.now.threads edges.now.pairs.items edges.now.waits.items states states point
+        → IsFirstLost plan point states thread found) }
+{
+    let mut lost = waits_of(alloc, &edges.waits, edges.threads, states, thread)?;
+    Ok(first_left(&mut lost, &edges.pairs))
+}
+
+/// The earlier of the two: a state, and the thread whose wait is lost there.
+fn earlier(best: Option<(usize, u32)>, found: Option<usize>, thread: u32) -> Option<(usize, u32)>
+    ensures { result ≡ levels.earlier best found thread }
+{
+    let Some(state) = found else {
+        return best;
+    };
+    let Some((first, other)) = best else {
+        return Some((state, thread));
+    };
+    if state < first {
+        Some((state, thread))
+    } else {
+        Some((first, other))
+    }
+}
+
+/// The first state in which a wait is lost, and whose.
+fn first_lost(
+    alloc: Global,
+    edges: &Edges,
+    states: usize,
+) -> Result<Option<(usize, u32)>, AllocError>
+    ensures { IfOk result (λ found. (plan : Plan) (start : Point) (entries : List Entry) (first : Option ℕ) (point : ℕ → Point)
+        → length entries ≡ states → AreLooked plan start entries states first point
+        → AreEdges plan edges.now.threads edges.now.pairs.items edges.now.waits.items states states point
+        → IsFirstLoss plan point states edges.now.threads found) }
+{
+    let mut best = None;
+    for thread in 0..edges.threads {
+        let found = first_of(alloc, edges, states, thread)?;
+        best = earlier(best, found, thread);
+    }
+    Ok(best)
 }
 
 /// Since when a wait was lost, where all states were looked at; none where no wait is ever lost.
@@ -124,10 +211,12 @@ pub fn first_loss(
     entries: &[Entry],
     edges: &Edges,
 ) -> Result<Option<Loss>, AllocError>
-    requires { AreBehind entries.now }
+    requires behind { AreBehind entries.now }
+    ensures { IfOk result (λ loss. (plan : Plan) (s : State) (first : Option ℕ)
+        → IsSearch plan (beginning plan s) entries.now edges.now (length entries.now) first → TellsLoss plan (beginning plan s) loss) }
 {
-    let lost = edges.all_lost()?;
-    let Some((state, thread)) = first_lost(&lost, edges.threads) else {
+    let found = first_lost(alloc, edges, entries.len())?;
+    let Some((state, thread)) = found else {
         return Ok(None);
     };
     if state >= entries.len() {

@@ -52,6 +52,7 @@ fn at_end(alloc: Global, start: &Core, plan: &Plan, way: &[u32]) -> Result<Place
     ensures point { IfOk result (λ place. (q : Point) → Arrives plan.now (beginning plan.now (state start.now)) way.now q
         → point_at place.places.items place.core ≡ q) }
     ensures wide { IfOk result (λ place. length place.places.items ≡ length plan.now) }
+    ensures threads { IfOk result (λ place. (state place.core).threads ≡ (state start.now).threads) }
 {
     let mut place = at_start(alloc, start, plan)?;
     let mut left = way.len();
@@ -75,6 +76,7 @@ pub fn again(
     ensures point { IfOk result (λ place. (point : ℕ → Point) → IsWalk plan.now (beginning plan.now (state start.now)) entries.now point
         → point_at place.places.items place.core ≡ point index) }
     ensures wide { IfOk result (λ place. length place.places.items ≡ length plan.now) }
+    ensures threads { IfOk result (λ place. (state place.core).threads ≡ (state start.now).threads) }
 {
     let way = way_to(alloc, entries, index)?;
     at_end(alloc, start, plan, &way)

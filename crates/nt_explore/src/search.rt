@@ -1,18 +1,19 @@
 //! The search, level by level.
-ghost use Rattle.std.specs.Prelude.{◌≡◌, ◌<◌, ◌≤◌, ◌+◌, ◌^◌, ℕ, length, None, Some, IfOk, OnOk};
+ghost use Rattle.std.specs.Prelude.{◌≡◌, ◌<◌, ◌≤◌, ◌+◌, ◌^◌, ℕ, length, Option, None, Some, IfOk, OnOk};
 ghost use Rattle.nt_core.specs.Dispatcher.{state};
 ghost use Rattle.nt_calls.specs.State.{State};
 ghost use Rattle.nt_look.specs.Orders as orders;
 ghost use Rattle.nt_look.specs.Orders.{Point, Goes};
 ghost use Rattle.std.specs.Option.{ForSome, option_map};
-ghost use Rattle.nt_explore.specs.Search.{beginning, Tells};
+ghost use Rattle.nt_explore.specs.declared.loss.Edges.{Edges};
+ghost use Rattle.nt_explore.specs.Search.{beginning, Tells, TellsLoss};
 ghost use Rattle.nt_explore.specs.Walk.{point_at, point_of, AreBehind, IsWalk, LeadsTo, Tries, TriesLane};
 ghost use Rattle.nt_explore.specs.Levels.{IsSearch, first_then};
 
 use crate::explored::{Explored, Loss, Verdict};
 use crate::going::go;
 use crate::hanging::hangs;
-use crate::loss::{Edges, first_loss};
+use crate::loss::{Edge, Edges, first_loss, lead, no_edges, note_waits};
 use crate::met::{Entry, Met, again, way_to};
 use crate::place::{Place, copy_of};
 use crate::plan::Plan;
@@ -58,7 +59,7 @@ fn meet_next(
     start: &Core,
     plan: &Plan,
     met: &mut Met,
-    edges: &mut Edges,
+    pairs: &mut Vec<Edge>,
     next: &Place,
     index: usize,
     lane: u32,
@@ -68,12 +69,13 @@ fn meet_next(
     ensures point { OnOk result ((p : Point) → length p.at ≡ length plan.now → (point : ℕ → Point)
         → IsWalk plan.now (beginning plan.now (state start.now)) met.old.entries.items point
         → point index ≡ p → Goes plan.now p lane (point_of next.now)
-        → TriesLane plan.now (beginning plan.now (state start.now)) met.old.entries.items met.new.entries.items p lane point) }
+        → TriesLane plan.now (beginning plan.now (state start.now)) met.old.entries.items met.new.entries.items
+        pairs.old.items pairs.new.items p index lane point) }
     ensures behind { OnOk result (AreBehind met.new.entries.items) }
     ensures longer { OnOk result (length met.old.entries.items ≤ length met.new.entries.items) }
 {
     let to = met.meet(alloc, start, plan, next, index, lane)?;
-    edges.lead(to)?;
+    lead(pairs, index, to)?;
     Ok(true)
 }
 
@@ -83,7 +85,7 @@ fn try_lane(
     start: &Core,
     plan: &Plan,
     met: &mut Met,
-    edges: &mut Edges,
+    pairs: &mut Vec<Edge>,
     place: &Place,
     index: usize,
     lane: u32,
@@ -95,14 +97,14 @@ fn try_lane(
     ensures point { OnOk result ((point : ℕ → Point) → IsWalk plan.now (beginning plan.now (state start.now)) met.old.entries.items point
         → point index ≡ point_at place.now.places.items place.now.core
         → TriesLane plan.now (beginning plan.now (state start.now)) met.old.entries.items met.new.entries.items
-        (point_at place.now.places.items place.now.core) lane point) }
+        pairs.old.items pairs.new.items (point_at place.now.places.items place.now.core) index lane point) }
     ensures behind { OnOk result (AreBehind met.new.entries.items) }
     ensures longer { OnOk result (length met.old.entries.items ≤ length met.new.entries.items) }
 {
     let next = next_of(alloc, plan, place, lane)?;
     match next {
         None => Ok(false),
-        Some(next) => meet_next(alloc, start, plan, met, edges, &next, index, lane),
+        Some(next) => meet_next(alloc, start, plan, met, pairs, &next, index, lane),
     }
 }
 
@@ -112,7 +114,7 @@ fn try_lanes(
     start: &Core,
     plan: &Plan,
     met: &mut Met,
-    edges: &mut Edges,
+    pairs: &mut Vec<Edge>,
     place: &Place,
     index: usize,
 ) -> Result<usize, AllocError>
@@ -122,13 +124,13 @@ fn try_lanes(
     ensures point { OnOk result ((point : ℕ → Point) → IsWalk plan.now (beginning plan.now (state start.now)) met.old.entries.items point
         → point index ≡ point_at place.now.places.items place.now.core
         → Tries plan.now (beginning plan.now (state start.now)) met.old.entries.items met.new.entries.items
-        (point_at place.now.places.items place.now.core) (length plan.now) point) }
+        pairs.old.items pairs.new.items (point_at place.now.places.items place.now.core) index (length plan.now) point) }
     ensures behind { OnOk result (AreBehind met.new.entries.items) }
     ensures longer { OnOk result (length met.old.entries.items ≤ length met.new.entries.items) }
 {
     let mut steps: usize = 0;
     for lane in 0..plan.lanes() {
-        if try_lane(alloc, start, plan, met, edges, place, index, lane as u32)? {
+        if try_lane(alloc, start, plan, met, pairs, place, index, lane as u32)? {
             steps = steps.saturating_add(1);
         }
     }
@@ -158,15 +160,15 @@ fn look_at(
 ) -> Result<(), AllocError>
     requires behind { AreBehind met.old.entries.items }
     requires there { index < length met.old.entries.items }
-    ensures point { OnOk result (IsSearch plan.now (beginning plan.now (state start.now)) met.old.entries.items index counts.old.first
-        → IsSearch plan.now (beginning plan.now (state start.now)) met.new.entries.items (index + 1) counts.new.first) }
+    ensures point { OnOk result (IsSearch plan.now (beginning plan.now (state start.now)) met.old.entries.items edges.old index counts.old.first
+        → IsSearch plan.now (beginning plan.now (state start.now)) met.new.entries.items edges.new (index + 1) counts.new.first) }
     ensures behind { OnOk result (AreBehind met.new.entries.items) }
     ensures longer { OnOk result (length met.old.entries.items ≤ length met.new.entries.items) }
 {
     let place = again(alloc, start, plan, &met.entries, index)?;
     let hung = hangs(alloc, plan, &place)?;
-    let steps = try_lanes(alloc, start, plan, met, edges, &place, index)?;
-    edges.end(&place)?;
+    let steps = try_lanes(alloc, start, plan, met, &mut edges.pairs, &place, index)?;
+    note_waits(&mut edges.waits, edges.threads, &place)?;
     counts.first = first_then(hung, index, counts.first);
     counts.hangs = counts.hangs.saturating_add(usize::from(hung));
     counts.steps = counts.steps.saturating_add(steps);
@@ -181,6 +183,8 @@ fn loss_at(
     looked: usize,
 ) -> Result<Option<Loss>, AllocError>
     requires behind { AreBehind entries.now }
+    ensures { IfOk result (λ loss. (plan : orders.Plan) (s : State) (first : Option ℕ)
+        → IsSearch plan (beginning plan s) entries.now edges.now looked first → TellsLoss plan (beginning plan s) loss) }
 {
     if looked < entries.len() {
         return Ok(None);
@@ -198,7 +202,7 @@ fn judge_hang(
 ) -> Result<Verdict, AllocError>
     requires behind { AreBehind entries.now }
     requires first { first < length entries.now }
-    ensures { IfOk result (λ verdict. (plan : orders.Plan) (s : State) → IsSearch plan (beginning plan s) entries.now looked (Some first)
+    ensures { IfOk result (λ verdict. (plan : orders.Plan) (s : State) → IsSearch plan (beginning plan s) entries.now edges.now looked (Some first)
         → Tells plan (beginning plan s) verdict) }
 {
     let mut lanes = way_to(alloc, entries, first)?;
@@ -212,7 +216,8 @@ fn judge_rest(alloc: Global, entries: &[Entry], looked: usize) -> Result<Verdict
     requires behind { AreBehind entries.now }
     requires some { 0 < looked }
     requires within { looked ≤ length entries.now }
-    ensures { IfOk result (λ verdict. (plan : orders.Plan) (s : State) → IsSearch plan (beginning plan s) entries.now looked None
+    ensures { IfOk result (λ verdict. (plan : orders.Plan) (s : State) (edges : Edges)
+        → IsSearch plan (beginning plan s) entries.now edges looked None
         → Tells plan (beginning plan s) verdict) }
 {
     if looked == entries.len() {
@@ -235,7 +240,7 @@ fn judge(
     requires some { 0 < looked }
     requires within { looked ≤ length entries.now }
     requires first { ForSome first (λ h. h < looked) }
-    ensures { IfOk result (λ verdict. (plan : orders.Plan) (s : State) → IsSearch plan (beginning plan s) entries.now looked first
+    ensures { IfOk result (λ verdict. (plan : orders.Plan) (s : State) → IsSearch plan (beginning plan s) entries.now edges.now looked first
         → Tells plan (beginning plan s) verdict) }
 {
     match first {
@@ -260,7 +265,7 @@ pub fn explore<W: Watcher>(
         hangs: 0,
         first: None,
     };
-    let mut edges = Edges::new(alloc, start.threads());
+    let mut edges = no_edges(alloc, start.threads());
     let mut looked = 0;
     while looked < met.entries.len() && (looked == 0 || met.entries.len() <= most) {
         look_at(

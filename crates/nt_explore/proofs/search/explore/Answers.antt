@@ -1,4 +1,4 @@
-use Rattle.std.proofs.Common.{◌≡◌, ◌<◌, ℕ, arith, List, length, subst, sym, ap, None}
+use Rattle.std.proofs.Common.{◌≡◌, ◌∙◌, ◌<◌, ℕ, arith, List, length, subst, sym, ap, None}
 use Rattle.nt_core.specs.Dispatcher.{state}
 use Rattle.nt_explore.specs.declared.met.Entry.{Entry}
 use Rattle.nt_explore.specs.Search.{beginning}
@@ -13,7 +13,7 @@ loop-looked-init g c =
       omega arith,
       let count = ap (λ (es : List Entry). length es) first in omega (arith, count),
       subst AreBehind (sym first) behind_one,
-      subst (λ (es : List Entry). IsSearch c.args.plan.now (beginning c.args.plan.now (state c.args.start.now)) es 0 None) (sym first) (search_begins c.args.plan.now (state c.args.start.now)),
+      subst (λ (es : List Entry). IsSearch c.args.plan.now (beginning c.args.plan.now (state c.args.start.now)) es c.no_edges-edges.result 0 None) (sym first) (search_begins c.args.plan.now (state c.args.start.now) c.no_edges-edges.result (c.no_edges-edges.ensures.threads ∙ c.threads.ensures) c.no_edges-edges.ensures.pairs c.no_edges-edges.ensures.waits),
     )
 
 pub loop-looked-preserved : goal.loop-looked-preserved
@@ -29,4 +29,4 @@ loop-looked-preserved g c =
 pub returns : goal.returns
 returns g c =
     let start = beginning c.args.plan.now (state c.args.start.now) in
-    c.in_ok-verdict.ensures c.args.plan.now (state c.args.start.now) (subst (λ (es : List Entry). IsSearch c.args.plan.now start es c.loop-looked.looked c.loop-looked.counts.first) (sym c.deref.ensures.value) c.loop-looked.invariant.3)
+    c.in_ok-verdict.ensures c.args.plan.now (state c.args.start.now) (subst (λ (es : List Entry). IsSearch c.args.plan.now start es c.loop-looked.edges c.loop-looked.looked c.loop-looked.counts.first) (sym c.deref.ensures.value) c.loop-looked.invariant.3)

@@ -13,4 +13,4 @@ invariant-loop-looked g l =
     (l.looked ≤ length l.met.entries.items)
     × (0 < length l.met.entries.items)
     × AreBehind l.met.entries.items
-    × IsSearch l.plan (beginning l.plan (state l.start)) l.met.entries.items l.looked l.counts.first
+    × IsSearch l.plan (beginning l.plan (state l.start)) l.met.entries.items l.edges l.looked l.counts.first

@@ -8,7 +8,7 @@ use Rattle.nt_explore.proofs.Ways.{on_ok}
 use Rattle.nt_explore.proofs.search.try_lane.Goals as goal
 
 pub returns-in-None-clause-point : goal.returns-in-None-clause-point
-returns-in-None-clause-point c = λ point walk here. lane_never c.args.plan.now (beginning c.args.plan.now (state c.args.start.now)) c.args.met.now.entries.items (point_at c.args.place.now.places.items c.args.place.now.core) c.args.lane (option_map point_of c.in_ok-next.next) (ap (option_map point_of) c.in-None.is) c.in_ok-next.ensures point walk
+returns-in-None-clause-point c = λ point walk here. lane_never c.args.plan.now (beginning c.args.plan.now (state c.args.start.now)) c.args.met.now.entries.items c.args.pairs.now.items (point_at c.args.place.now.places.items c.args.place.now.core) c.args.index c.args.lane (option_map point_of c.in_ok-next.next) (ap (option_map point_of) c.in-None.is) c.in_ok-next.ensures point walk
 
 pub returns-in-Some-clause-point : goal.returns-in-Some-clause-point
 returns-in-Some-clause-point c =

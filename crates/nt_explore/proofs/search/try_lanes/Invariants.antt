@@ -9,4 +9,4 @@ abbrev pub invariant-loop-lane : goal.invariant-loop-lane
 invariant-loop-lane l =
     AreBehind l.met.entries.items
     × (length l.initial.met.entries.items ≤ length l.met.entries.items)
-    × ((point : ℕ → Point) → IsWalk l.plan (beginning l.plan (state l.start)) l.initial.met.entries.items point → point l.index ≡ point_at l.place.places.items l.place.core → Tries l.plan (beginning l.plan (state l.start)) l.initial.met.entries.items l.met.entries.items (point_at l.place.places.items l.place.core) l.lane point)
+    × ((point : ℕ → Point) → IsWalk l.plan (beginning l.plan (state l.start)) l.initial.met.entries.items point → point l.index ≡ point_at l.place.places.items l.place.core → Tries l.plan (beginning l.plan (state l.start)) l.initial.met.entries.items l.met.entries.items l.initial.pairs.items l.pairs.items (point_at l.place.places.items l.place.core) l.index l.lane point)
