@@ -1,5 +1,5 @@
 -- What threads and objects are called.
-use Rattle.std.specs.Prelude.{ℕ, ◌==◌, ◌++◌, nat_lt, nat_eq, Bool, List, [], ◌∷◌, length, drop, position, option_and_then, Option, None, Some, if◌then◌else◌, codes}
+use Rattle.std.specs.Prelude.{ℕ, ◌==◌, ◌++◌, nat_lt, nat_eq, List, [], ◌∷◌, length, drop, position, option_and_then, Option, None, Some, if◌then◌else◌, codes}
 use Rattle.std.specs.List.{starts_with}
 use Rattle.std.specs.Fmt.{decimal}
 use Rattle.nt_lines.specs.Lines.{lines_of}

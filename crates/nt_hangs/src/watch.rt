@@ -227,7 +227,9 @@ impl Watch {
     }
 
     /// What the last line said.
-    pub fn said(&self) -> &[u8] {
+    pub fn said(&self) -> &[u8]
+        ensures { result.now ≡ self.now.out.items }
+    {
         &self.out
     }
 
