@@ -2,30 +2,36 @@
 use Rattle.std.specs.Prelude.{◌≡◌, ◌⊎◌, ℕ, Bool, List, Option, Result, Ok, Err, codes}
 use Rattle.std.specs.Io.KnownBytes.{Keeps}
 use Rattle.nt_devices.specs.Device.{one_more}
+use Rattle.nt_lines.specs.Lines.{lines_of}
 use Rattle.nt_script.specs.Running.{Has}
 use Rattle.nt_script.specs.declared.fault.RunFault.{RunFault}
 use Rattle.nt_script.specs.declared.fault.RunFault.TheVariants.{Script, Read, Write, Memory}
 use Rattle.nt_hangs.specs.declared.reports.Report.{Report}
+use Rattle.nt_hangs.specs.Watching.{before_zero, unseen, Seen, SeesAll, StopsAt}
 use Rattle.nt_hangs.specs.Ending.{Says, SaysMemory, Shows, Tells, TellsFault}
 
--- What a run comes to: a timeline, whose exit status is 0; or a line has a fault, or memory was refused.
-abbrev pub IsOutcome : Result Report RunFault → Type 0
-IsOutcome (Ok report) = report.code ≡ 0
-IsOutcome (Err (Script number fault)) = Unit {0}
-IsOutcome (Err (Memory number)) = Unit {0}
-IsOutcome (Err (Read number)) = ⊥
-IsOutcome (Err (Write number)) = ⊥
+-- These lines were carried out, one after another.
+abbrev pub AreCarriedOut : List (List ℕ) → Type 0
+AreCarriedOut lines = (seen : Seen) × SeesAll 1 unseen lines seen
 
--- A timeline was handed on; or nothing was written, and it is said why there is none.
-pub record TellsTimeline (held held' : Option (List ℕ)) (written written' : ℕ) (handed : Bool) (shown shown' : Option (List ℕ)) (failed failed' status : ℕ) : Type 0 where
+-- What a run of these lines comes to: all were carried out, and there is a timeline, with exit status 0; or one has a fault, the first; or memory was refused.
+abbrev pub IsOutcome : List (List ℕ) → Result Report RunFault → Type 0
+IsOutcome lines (Ok report) = AreCarriedOut lines × (report.code ≡ 0)
+IsOutcome lines (Err (Script number fault)) = StopsAt number fault lines
+IsOutcome lines (Err (Memory number)) = Unit {0}
+IsOutcome lines (Err (Read number)) = ⊥
+IsOutcome lines (Err (Write number)) = ⊥
+
+-- The timeline of the script in these bytes was handed on; or nothing was written, and it is said why there is none.
+pub record TellsTimeline (input : List ℕ) (held held' : Option (List ℕ)) (written written' : ℕ) (handed : Bool) (shown shown' : Option (List ℕ)) (failed failed' status : ℕ) : Type 0 where
   pub outcome : Result Report RunFault
-  pub is : IsOutcome outcome
+  pub is : IsOutcome (lines_of (before_zero input)) outcome
   pub tells : Tells outcome held held' written written' handed shown shown' failed failed' status
 
 -- All was read, and told of; or nothing was written, and it is said that the read failed or memory ran out.
 pub record TimelineEnds (left : Option (List ℕ)) (read read' : ℕ) (held held' : Option (List ℕ)) (written written' : ℕ) (handed : Bool) (shown shown' : Option (List ℕ)) (failed failed' status : ℕ) : Type 0 where
   pub either :
-      ((input : List ℕ) × Has left input × (read' ≡ read) × TellsTimeline held held' written written' handed shown shown' failed failed' status)
+      ((input : List ℕ) × Has left input × (read' ≡ read) × TellsTimeline input held held' written written' handed shown shown' failed failed' status)
       ⊎ (Keeps held held' × (written' ≡ written)
       × (((read' ≡ one_more read) × Says shown shown' failed failed' (codes "ntlook: read failed\n") × (status ≡ 1))
       ⊎ ((read' ≡ read) × SaysMemory shown shown' failed failed' status)))
@@ -49,15 +55,21 @@ Draws shown shown' failed failed' status =
 abbrev pub Creates : (shown shown' : Option (List ℕ)) → (failed failed' status : ℕ) → Type 0
 Creates shown shown' failed failed' status = Draws shown shown' failed failed' status ⊎ Fails (codes "ntlook: cannot create\n") shown shown' failed failed' status
 
--- The same; or it is said why there is no picture.
-abbrev pub CreatesOrTells : (shown shown' : Option (List ℕ)) → (failed failed' status : ℕ) → Type 0
-CreatesOrTells shown shown' failed failed' status =
-    Creates shown shown' failed failed' status ⊎ ((fault : RunFault) × TellsFault fault shown shown' failed failed' status)
+-- A picture was drawn, or it is said that its file can't be created; or it is said why there is no picture.
+abbrev pub CreatesOrTells : Result Report RunFault → (shown shown' : Option (List ℕ)) → (failed failed' status : ℕ) → Type 0
+CreatesOrTells (Ok picture) shown shown' failed failed' status = Creates shown shown' failed failed' status
+CreatesOrTells (Err fault) shown shown' failed failed' status = TellsFault fault shown shown' failed failed' status
 
--- The same; or it is said that the file can't be opened, the read failed, or memory ran out.
+-- The same of the script in these bytes.
+pub record DrawsInput (input : List ℕ) (shown shown' : Option (List ℕ)) (failed failed' status : ℕ) : Type 0 where
+  pub outcome : Result Report RunFault
+  pub is : IsOutcome (lines_of (before_zero input)) outcome
+  pub tells : CreatesOrTells outcome shown shown' failed failed' status
+
+-- The same of some bytes; or it is said that the file can't be opened, the read failed, or memory ran out.
 pub record PictureEnds (shown shown' : Option (List ℕ)) (failed failed' status : ℕ) : Type 0 where
   pub either :
-      CreatesOrTells shown shown' failed failed' status
+      ((input : List ℕ) × DrawsInput input shown shown' failed failed' status)
       ⊎ (Fails (codes "ntlook: cannot open\n") shown shown' failed failed' status
       ⊎ (Fails (codes "ntlook: read failed\n") shown shown' failed failed' status
       ⊎ SaysMemory shown shown' failed failed' status))

@@ -1,7 +1,8 @@
 //! The timeline of a script, between a reader and two writers.
 ghost use Rattle.std.specs.Prelude.{◌≡◌, IfOk};
-ghost use Rattle.nt_hangs.specs.Watching.{seen_of, unseen};
-ghost use Rattle.nt_timeline.specs.Ending.{Creates, CreatesOrTells, IsOutcome, PictureEnds, TellsTimeline, TimelineEnds, TimelineTold};
+ghost use Rattle.nt_lines.specs.Lines.{lines_of};
+ghost use Rattle.nt_hangs.specs.Watching.{before_zero, seen_of, unseen};
+ghost use Rattle.nt_timeline.specs.Ending.{Creates, DrawsInput, IsOutcome, PictureEnds, TellsTimeline, TimelineEnds, TimelineTold};
 
 use crate::film::Film;
 use crate::part::Part;
@@ -79,7 +80,7 @@ impl Film {
         part: &Part<'_>,
     ) -> Result<Report, RunFault>
         requires { seen_of self.old.watch ≡ unseen }
-        ensures { IsOutcome result }
+        ensures { IsOutcome (lines_of input.now) result }
     {
         let count = match self.run(alloc, input, part.object) {
             Ok(count) => count,
@@ -102,7 +103,7 @@ pub fn timeline_on(
     form: Form,
     part: &Part<'_>,
 ) -> Result<Report, RunFault>
-    ensures { IsOutcome result }
+    ensures { IsOutcome (lines_of (before_zero input.now)) result }
 {
     match Film::new(alloc, form == Form::Picture) {
         Ok(mut film) => {
@@ -123,7 +124,7 @@ fn timeline_input<W: Sink, E: Sink>(
     writer: &mut W,
     errors: &mut E,
 ) -> u8
-    ensures { TellsTimeline (W.contents writer.old) (W.contents writer.new) (W.failed writer.old) (W.failed writer.new)
+    ensures { TellsTimeline input.now (W.contents writer.old) (W.contents writer.new) (W.failed writer.old) (W.failed writer.new)
         (W.handed_on writer.new) (E.contents errors.old) (E.contents errors.new) (E.failed errors.old)
         (E.failed errors.new) result }
 {
@@ -202,7 +203,7 @@ fn draw_input<F: Files + AllocGlobal, E: Sink>(
     out: &str,
     errors: &mut E,
 ) -> u8
-    ensures { CreatesOrTells (E.contents errors.old) (E.contents errors.new) (E.failed errors.old) (E.failed errors.new) result }
+    ensures { DrawsInput input.now (E.contents errors.old) (E.contents errors.new) (E.failed errors.old) (E.failed errors.new) result }
 {
     match timeline_on(files.alloc(), file, input, Form::Picture, part) {
         Ok(picture) => write_picture(files, out, &picture, errors),
