@@ -1,5 +1,5 @@
 -- Whether a wait pends that nothing can end.
-use Rattle.std.proofs.Common.{◌≡◌, ◌<◌, ◌≤◌, ℕ, suc, Bool, true, false, not, ◌&&◌, ◌||◌, List, [], ◌∷◌, length, refl, sym, ap, ◌∙◌, subst, arith, Option, Some, None, get_or, ltb, inl, inr, ◌⊎◌, eqb}
+use Rattle.std.proofs.Common.{◌≡◌, ◌<◌, ◌≤◌, ℕ, suc, Bool, true, false, not, ◌&&◌, ◌||◌, List, [], ◌∷◌, length, refl, sym, ap, ◌∙◌, subst, arith, Option, Some, None, get_or, ltb, inl, inr, eqb}
 use Rattle.std.specs.Prelude.{nat_lt, is_some, if◌then◌else◌, MatchBool}
 use Rattle.std.specs.FinMap.{get}
 use Rattle.std.specs.List.{list_any, list_all}
@@ -8,7 +8,7 @@ use Rattle.std.proofs.lemmas.List.{get_or_past}
 use Rattle.std.proofs.lemmas.Bool.Decides.{nat_tests}
 use Rattle.nt_objects.specs.declared.object.Object.{Object}
 use Rattle.nt_objects.specs.declared.object.Object.TheVariants.{Event, Semaphore, Mutex, Timer, Thread, Gone}
-use Rattle.nt_objects.specs.Object.{owned_by, has_ended, is_thread, is_gone}
+use Rattle.nt_objects.specs.Object.{owned_by, has_ended, is_thread}
 use Rattle.nt_waits.specs.declared.wait.Wait.{Wait}
 use Rattle.nt_waits.specs.Waits.{Names}
 use Rattle.nt_calls.specs.State.{State, object_at, pends}

@@ -1,6 +1,6 @@
 -- What a search has come to, level by level.
-use Rattle.std.proofs.Common.{mul_comm, ◌≡◌, ◌<◌, ◌≤◌, ℕ, zero, suc, ◌+◌, ◌*◌, ◌-◌, Contains, Bool, true, false, List, [], ◌∷◌, ◌++◌, length, refl, sym, ap, ◌∙◌, subst, arith, Option, Some, None, get_or, eqb, ltb, inl, inr, ◌⊎◌}
-use Rattle.std.specs.Prelude.{replicate, reverse, slice_get, ◌↔◌}
+use Rattle.std.proofs.Common.{mul_comm, ◌≡◌, ◌<◌, ◌≤◌, ℕ, zero, suc, ◌+◌, ◌*◌, ◌-◌, Contains, Bool, true, false, List, [], ◌∷◌, length, refl, sym, ap, ◌∙◌, subst, arith, Option, Some, None, ltb, inl, inr, ◌⊎◌}
+use Rattle.std.specs.Prelude.{replicate, reverse, ◌↔◌}
 use Rattle.std.proofs.lemmas.Bool.{false≢true}
 use Rattle.std.proofs.lemmas.Bool.Decides.{nat_tests}
 use Rattle.std.proofs.lemmas.List.{length-replicate, length-reverse}
@@ -8,14 +8,14 @@ use Rattle.nt_calls.specs.State.{State}
 use Rattle.std.proofs.lemmas.Nat.{mul-add-lt, rows}
 use Rattle.nt_calls.specs.State.{pends}
 use Rattle.nt_look.specs.Hangs.{marked}
-use Rattle.nt_look.specs.Orders.{Plan, Point, Goes, Order, Hangs, IsLost, NoneHangs, NoneHangsWithin, IsShortestHang, IsShortestLoss, steps, place, asks}
+use Rattle.nt_look.specs.Orders.{Plan, Point, Goes, Order, Hangs, IsLost, NoneHangs, NoneHangsWithin, IsShortestHang, IsShortestLoss, steps, place}
 use Rattle.nt_look.proofs.Searching.{steps_counted, lane_there}
 use Rattle.nt_explore.specs.declared.met.Entry.{Entry}
 use Rattle.nt_explore.specs.Search.{beginning}
-use Rattle.nt_explore.specs.Walk.{parent_of, lane_of, AreBehind, IsWalk, Grows, HasPoint, Tries, Arrives}
+use Rattle.nt_explore.specs.Walk.{parent_of, lane_of, AreBehind, IsWalk, HasPoint, Tries, Arrives}
 use Rattle.nt_explore.specs.declared.loss.Edge.{Edge}
 use Rattle.nt_explore.specs.declared.loss.Edges.{Edges}
-use Rattle.nt_explore.specs.Levels.{IsFirst, AreLooked, AreEdges, IsEdge, IsRow, IsColumn, IsFirstMark, IsFirstLost, IsFirstLoss, IsSearch, first_then, passed}
+use Rattle.nt_explore.specs.Levels.{IsFirst, AreLooked, AreEdges, IsEdge, IsRow, IsColumn, IsFirstMark, IsFirstLost, IsFirstLoss, IsLostThere, IsSearch, first_then, passed}
 use Rattle.nt_explore.proofs.Losing.{below_or, AreOnward, lost_forth, lost_back, passed_tells, length_passed}
 use Rattle.nt_explore.proofs.Walks.{deeper, goes_wide, one_entry}
 use Rattle.nt_explore.proofs.Ways.{order_of}
@@ -257,15 +257,21 @@ edges_more plan start old new threads looked pairs more waits row point walk wit
         let first = so.first in
         omega (arith, below, start', first)
 
+lost_more : (plan : Plan) (point points : ℕ → Point) (looked : ℕ) (hung : Bool) (first : Option ℕ) → ((i : ℕ) → i < looked + 1 → points i ≡ point i) → (hung ≡ true → (t : ℕ) × IsLost plan (point looked) t) → IsFirst plan point looked first → IsLostThere plan point first → IsLostThere plan points (first_then hung looked first)
+lost_more plan point points looked true None same gone told lost = let it = gone refl in (it.0, subst (λ (p : Point). IsLost plan p it.0) (sym (same looked (omega arith))) it.1)
+lost_more plan point points looked false None same gone told lost = tt
+lost_more plan point points looked hung (Some h) same gone told lost = let before = told.0 in (lost.0, subst (λ (p : Point). IsLost plan p lost.0) (sym (same h (omega (arith, before)))) lost.1)
+
 pub search_more : (plan : Plan) (start : Point) (old new : List Entry) (edges more : Edges) (looked : ℕ) (hung : Bool) (first last : Option ℕ) (p : Point) → looked < length old
     → more.threads ≡ edges.threads
     → ((point : ℕ → Point) → IsWalk plan start old point → p ≡ point looked)
     → (hung ≡ true ↔ Hangs plan p)
+    → (hung ≡ true → (t : ℕ) × IsLost plan p t)
     → ((point : ℕ → Point) → IsWalk plan start old point → point looked ≡ p → Tries plan start old new edges.pairs.items more.pairs.items p looked (length plan) point)
     → IsRow edges.waits.items more.waits.items edges.threads p.state
     → ((t : ℕ) → pends p.state t ≡ true → t < start.state.threads)
     → last ≡ first_then hung looked first → IsSearch plan start old edges looked first → IsSearch plan start new more (looked + 1) last
-search_more plan start old new edges more looked hung first last p below threads is told tries noted known becomes search =
+search_more plan start old new edges more looked hung first last p below threads is told gone tries noted known becomes search =
     let point : ℕ → Point = search.0 in
     let so = search.1 in
     let here = is point so.walk in
@@ -274,6 +280,7 @@ search_more plan start old new edges more looked hung first last p below threads
       subst (λ (f : Option ℕ). AreLooked plan start new (looked + 1) f tried.points) (sym becomes) (look_more plan start old new looked hung first point so below (subst (λ (z : Point). hung ≡ true ↔ Hangs plan z) here told) edges.pairs.items more.pairs.items tried),
       subst (λ (n : ℕ). AreEdges plan n more.pairs.items more.waits.items (looked + 1) (length new) tried.points) (sym threads)
           (edges_more plan start old new edges.threads looked edges.pairs.items more.pairs.items edges.waits.items more.waits.items point so.walk below search.2 tried (subst (λ (z : Point). IsRow edges.waits.items more.waits.items edges.threads z.state) here noted) (subst (λ (z : Point). (t : ℕ) → pends z.state t ≡ true → t < start.state.threads) here known)),
+      subst (IsLostThere plan tried.points) (sym becomes) (lost_more plan point tried.points looked hung first (λ i less. tried.grows.same i (omega (arith, less, below))) (subst (λ (z : Point). hung ≡ true → (t : ℕ) × IsLost plan z t) here gone) so.told search.3),
     )
 
 pub search_begins : (plan : Plan) (s : State) (edges : Edges) → edges.threads ≡ s.threads → edges.pairs.items ≡ [] → edges.waits.items ≡ [] → IsSearch plan (beginning plan s) one_entry edges 0 None
@@ -289,6 +296,7 @@ search_begins plan s edges threads pairs waits = (
     told = λ i t below. absurd (omega (arith, below));
     known = λ i t below. absurd (omega (arith, below));
   })),
+  tt,
 )
 
 -- ---- what it has come to
@@ -366,3 +374,10 @@ loss_there plan s entries edges h t way lanes first point is came so told lost =
           let gone' : IsLost plan (point has.0) u = subst (λ (z : Point). IsLost plan z u) (sym has.2) gone in
           lost.2 has.0 u has.1 (told.known has.0 u (omega (arith, before, top)) (gone' [] (point has.0) refl)) gone';
     })
+
+-- a hang loses a wait, so that there is a first loss
+pub never_none : (plan : Plan) (start : Point) (entries : List Entry) (edges : Edges) (h : ℕ) (search : IsSearch plan start entries edges (length entries) (Some h)) → IsFirstLoss plan search.0 (length entries) edges.threads None → ⊥
+never_none plan start entries edges h search none =
+    let there = search.1.told.0 in
+    let lost = search.3 in
+    none h lost.0 there (search.2.known h lost.0 there (lost.1 [] (search.0 h) refl)) lost.1

@@ -1,5 +1,5 @@
 -- Since when a wait was lost.
-use Rattle.std.proofs.Common.{◌≡◌, ◌≢◌, ◌<◌, ◌≤◌, ℕ, zero, suc, ◌+◌, ◌*◌, Bool, true, false, List, [], ◌∷◌, ◌++◌, length, refl, sym, ap, ◌∙◌, subst, arith, Option, Some, None, get_or, eqb, ltb, inl, inr, ◌⊎◌, Contains}
+use Rattle.std.proofs.Common.{◌≡◌, ◌≢◌, ◌<◌, ◌≤◌, ℕ, ◌+◌, ◌*◌, Bool, true, false, List, [], ◌∷◌, ◌++◌, length, refl, sym, ap, ◌∙◌, subst, arith, Option, Some, None, eqb, ltb, inl, inr, ◌⊎◌, Contains}
 use Rattle.std.specs.Prelude.{nat_lt, slice_set, if◌then◌else◌, ◌↔◌}
 use Rattle.std.proofs.lemmas.Bool.{false≢true}
 use Rattle.std.proofs.lemmas.Bool.Decides.{nat_tests}
@@ -8,12 +8,12 @@ use Rattle.std.proofs.lemmas.List.Elements.{Contains-push, Contains-push_cases, 
 use Rattle.nt_status.proofs.Lists.{contains_first, contains_later, contains_cases}
 use Rattle.nt_calls.specs.State.{State, pends}
 use Rattle.nt_look.specs.Hangs.{marked}
-use Rattle.nt_look.specs.Orders.{Plan, Point, Goes, Order, IsLost}
+use Rattle.nt_look.specs.Orders.{Plan, Point, Goes, IsLost}
 use Rattle.nt_look.proofs.Searching.{loss_forth, loss_back}
 use Rattle.nt_explore.specs.declared.loss.Edge.{Edge}
 use Rattle.nt_explore.proofs.Unique.{goes_same}
 use Rattle.nt_explore.specs.Walk.{edge, Rises, Leads}
-use Rattle.nt_explore.specs.Levels.{kept, passed, IsRow, IsColumn, IsFirstLost, IsFirstLoss, IsFirstMark, earlier}
+use Rattle.nt_explore.specs.Levels.{kept, passed, IsRow, IsColumn, IsFirstLost, IsFirstLoss, earlier}
 
 pub below_or : (i n : ℕ) → i < n + 1 → (i < n) ⊎ (i ≡ n)
 below_or i n below = go (ltb i n) refl

@@ -1,15 +1,14 @@
 -- One order leads to one point.
-use Rattle.std.proofs.Common.{◌≡◌, ◌≢◌, ◌<◌, ℕ, zero, suc, ◌+◌, Bool, true, false, List, [], ◌∷◌, ◌++◌, length, refl, sym, ap, ◌∙◌, subst, arith, Option, Some, None, get_or}
-use Rattle.std.specs.Prelude.{slice_set, slice_get, Result, Ok, Err, drop, reverse}
+use Rattle.std.proofs.Common.{◌≡◌, ◌≢◌, ℕ, Bool, false, List, [], ◌∷◌, refl, sym, ap, ◌∙◌, subst, Some}
+use Rattle.std.specs.Prelude.{Result, Ok, Err}
 use Rattle.nt_status.specs.declared.refusal.Refusal.{Refusal}
 use Rattle.nt_status.specs.declared.refusal.Refusal.TheVariants.{AccessDenied, InvalidHandle, Memory, ThreadGone, InvalidParameter, NotOwner, TooManyPosts, ThreadWaiting, ThreadEnded, UnknownThread, RecursionLimit, MomentBack, JournalFull, HandleLimit}
 use Rattle.nt_calls.specs.declared.call.Reply.{Reply}
-use Rattle.nt_calls.specs.declared.call.Call.{Call}
 use Rattle.nt_calls.specs.State.{State}
 use Rattle.nt_calls.specs.Runs as runs
 use Rattle.nt_laws.specs.Laws.{wants_memory, AsksCall, question}
 use Rattle.nt_laws.proofs.OneWay.{turn_same}
-use Rattle.nt_look.specs.Orders.{Ask, Calls, Passes, Plan, Point, place, asks, IsMade, Goes, Order}
+use Rattle.nt_look.specs.Orders.{Ask, Calls, Passes, Plan, Point, IsMade, Goes}
 use Rattle.nt_explore.specs.Walk.{Arrives}
 
 calm : (r : Result Reply Refusal) → (r ≢ Err Memory) → wants_memory r ≡ false

@@ -1,12 +1,12 @@
 -- How the table grows.
-use Rattle.std.proofs.Common.{◌≡◌, ◌≢◌, ◌<◌, ◌≤◌, ℕ, zero, suc, ◌+◌, Bool, true, false, List, [], ◌∷◌, ◌++◌, length, refl, sym, ap, ◌∙◌, subst, arith, Option, Some, None, get_or, eqb, ltb, nat_eq, if◌then◌else◌, inl, inr, ◌⊎◌}
+use Rattle.std.proofs.Common.{◌≡◌, ◌≢◌, ◌<◌, ◌≤◌, ℕ, ◌+◌, Bool, true, false, List, [], ◌∷◌, ◌++◌, length, refl, sym, ap, ◌∙◌, subst, arith, Option, Some, None, eqb, ltb, if◌then◌else◌, inl, inr, ◌⊎◌}
 use Rattle.std.specs.Prelude.{Result, Ok, Err, IfOk, OnOk}
 use Rattle.std.proofs.lemmas.Bool.Decides.{nat_tests}
 use Rattle.std.proofs.lemmas.List.{length-set, length_push, get_or_push, get_or_append_left}
 use Rattle.nt_look.specs.Orders.{Plan, Point, Goes, steps, place}
 use Rattle.nt_look.proofs.Searching.{steps_counted}
 use Rattle.nt_explore.specs.declared.met.Entry.{Entry}
-use Rattle.nt_explore.specs.Walk.{no_entry, parent_of, lane_of, AreBehind, IsWalk, Grows, HasPoint, IsFound, Meets, TriesLane, Tries, Leads, edge, Went, LeadsTo}
+use Rattle.nt_explore.specs.Walk.{no_entry, parent_of, lane_of, AreBehind, IsWalk, HasPoint, IsFound, Meets, TriesLane, Tries, edge, Went, LeadsTo}
 use Rattle.nt_explore.specs.declared.loss.Edge.{Edge}
 use Rattle.nt_explore.proofs.Losing.{below_or, leads_on, leads_none, leads_then}
 use Rattle.nt_explore.proofs.Unique.{goes_same}

@@ -36,10 +36,18 @@ pub record AreEdges (plan : Plan) (threads : ℕ) (pairs : List Edge) (waits : L
   pub told : (i t : ℕ) → i < looked → t < threads → marked waits (i * threads + t) ≡ pends (point i).state t
   pub known : (i t : ℕ) → i < looked → pends (point i).state t ≡ true → t < threads
 
+-- at this point a wait is lost, if there is one
+abbrev pub IsLostThere : Plan → (ℕ → Point) → Option ℕ → Type 0
+IsLostThere plan point None = Unit {0}
+IsLostThere plan point (Some h) = (t : ℕ) × IsLost plan (point h) t
+
 -- so far the search is
 abbrev pub IsSearch : Plan → Point → List Entry → Edges → ℕ → Option ℕ → Type 0
 IsSearch plan start entries edges looked first =
-    (point : ℕ → Point) × AreLooked plan start entries looked first point × AreEdges plan edges.threads edges.pairs.items edges.waits.items looked (length entries) point
+    (point : ℕ → Point)
+    × AreLooked plan start entries looked first point
+    × AreEdges plan edges.threads edges.pairs.items edges.waits.items looked (length entries) point
+    × IsLostThere plan point first
 
 -- the thread's wait is lost at this point, and at none before it
 abbrev pub IsFirstLost : Plan → (ℕ → Point) → ℕ → ℕ → Option ℕ → Type 0

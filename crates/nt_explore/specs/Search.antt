@@ -1,5 +1,5 @@
 -- What a search of all orders tells.
-use Rattle.std.specs.Prelude.{◌≡◌, ℕ, List, length, replicate, Option, Some, None}
+use Rattle.std.specs.Prelude.{length, replicate, Option, Some, None, IsSome}
 use Rattle.nt_calls.specs.State.{State}
 use Rattle.nt_look.specs.Orders as orders
 use Rattle.nt_look.specs.Orders.{Calls, Passes, Plan, Point, NoneHangs, NoneHangsWithin, IsShortestHang, IsShortestLoss}
@@ -22,6 +22,12 @@ beginning plan s = record { at = replicate (length plan) 0; state = s }
 abbrev pub TellsLoss : Plan → Point → Option Loss → Type 0
 TellsLoss plan start (Some loss) = IsShortestLoss plan start loss.lanes.items loss.thread
 TellsLoss plan start None = Unit {0}
+
+-- where an order hangs, a loss is told
+abbrev pub HasLoss : Verdict → Type 0
+HasLoss (verdict.Hangs lanes loss) = IsSome loss
+HasLoss verdict.None = Unit {0}
+HasLoss (verdict.Met level) = Unit {0}
 
 -- what a verdict says of all orders from here
 abbrev pub Tells : Plan → Point → Verdict → Type 0

@@ -1,5 +1,5 @@
 //! Since when a wait was lost: it pends, and in every order of what is left it pends on.
-ghost use Rattle.std.specs.Prelude.{◌≡◌, ◌<◌, ◌≤◌, ◌*◌, List, ◌++◌, ◌∷◌, [], ℕ, true, false, Option, length, slice_set, IfOk, OnOk};
+ghost use Rattle.std.specs.Prelude.{◌≡◌, ◌<◌, ◌≤◌, ◌*◌, List, ◌++◌, ◌∷◌, [], ℕ, true, false, Option, Some, IsSome, length, slice_set, IfOk, OnOk};
 ghost use Rattle.nt_calls.specs.State.{State, pends};
 ghost use Rattle.nt_core.specs.Dispatcher.{state};
 ghost use Rattle.nt_look.specs.Hangs.{marked};
@@ -212,8 +212,10 @@ pub fn first_loss(
     edges: &Edges,
 ) -> Result<Option<Loss>, AllocError>
     requires behind { AreBehind entries.now }
-    ensures { IfOk result (λ loss. (plan : Plan) (s : State) (first : Option ℕ)
+    ensures told { IfOk result (λ loss. (plan : Plan) (s : State) (first : Option ℕ)
         → IsSearch plan (beginning plan s) entries.now edges.now (length entries.now) first → TellsLoss plan (beginning plan s) loss) }
+    ensures whole { IfOk result (λ loss. (plan : Plan) (s : State) (h : ℕ)
+        → IsSearch plan (beginning plan s) entries.now edges.now (length entries.now) (Some h) → IsSome loss) }
 {
     let found = first_lost(alloc, edges, entries.len())?;
     let Some((state, thread)) = found else {

@@ -1,12 +1,12 @@
 //! The search, level by level.
-ghost use Rattle.std.specs.Prelude.{◌≡◌, ◌<◌, ◌≤◌, ◌+◌, ◌^◌, ℕ, length, Option, None, Some, IfOk, OnOk};
+ghost use Rattle.std.specs.Prelude.{◌≡◌, ◌<◌, ◌≤◌, ◌+◌, ◌^◌, ℕ, length, Option, None, Some, IsSome, IfOk, OnOk};
 ghost use Rattle.nt_core.specs.Dispatcher.{state};
 ghost use Rattle.nt_calls.specs.State.{State};
 ghost use Rattle.nt_look.specs.Orders as orders;
 ghost use Rattle.nt_look.specs.Orders.{Point, Goes};
 ghost use Rattle.std.specs.Option.{ForSome, option_map};
 ghost use Rattle.nt_explore.specs.declared.loss.Edges.{Edges};
-ghost use Rattle.nt_explore.specs.Search.{beginning, Tells, TellsLoss};
+ghost use Rattle.nt_explore.specs.Search.{beginning, Tells, TellsLoss, HasLoss};
 ghost use Rattle.nt_explore.specs.Walk.{point_at, point_of, AreBehind, IsWalk, LeadsTo, Tries, TriesLane};
 ghost use Rattle.nt_explore.specs.Levels.{IsSearch, first_then};
 
@@ -166,6 +166,7 @@ fn look_at(
     ensures longer { OnOk result (length met.old.entries.items ≤ length met.new.entries.items) }
 {
     let place = again(alloc, start, plan, &met.entries, index)?;
+    place.core.stands();
     let hung = hangs(alloc, plan, &place)?;
     let steps = try_lanes(alloc, start, plan, met, &mut edges.pairs, &place, index)?;
     note_waits(&mut edges.waits, edges.threads, &place)?;
@@ -183,8 +184,10 @@ fn loss_at(
     looked: usize,
 ) -> Result<Option<Loss>, AllocError>
     requires behind { AreBehind entries.now }
-    ensures { IfOk result (λ loss. (plan : orders.Plan) (s : State) (first : Option ℕ)
+    ensures told { IfOk result (λ loss. (plan : orders.Plan) (s : State) (first : Option ℕ)
         → IsSearch plan (beginning plan s) entries.now edges.now looked first → TellsLoss plan (beginning plan s) loss) }
+    ensures whole { IfOk result (λ loss. (plan : orders.Plan) (s : State) (h : ℕ)
+        → IsSearch plan (beginning plan s) entries.now edges.now looked (Some h) → length entries.now ≤ looked → IsSome loss) }
 {
     if looked < entries.len() {
         return Ok(None);
@@ -202,8 +205,10 @@ fn judge_hang(
 ) -> Result<Verdict, AllocError>
     requires behind { AreBehind entries.now }
     requires first { first < length entries.now }
-    ensures { IfOk result (λ verdict. (plan : orders.Plan) (s : State) → IsSearch plan (beginning plan s) entries.now edges.now looked (Some first)
+    ensures told { IfOk result (λ verdict. (plan : orders.Plan) (s : State) → IsSearch plan (beginning plan s) entries.now edges.now looked (Some first)
         → Tells plan (beginning plan s) verdict) }
+    ensures whole { IfOk result (λ verdict. (plan : orders.Plan) (s : State) → IsSearch plan (beginning plan s) entries.now edges.now looked (Some first)
+        → length entries.now ≤ looked → HasLoss verdict) }
 {
     let mut lanes = way_to(alloc, entries, first)?;
     lanes.reverse();
@@ -216,9 +221,10 @@ fn judge_rest(alloc: Global, entries: &[Entry], looked: usize) -> Result<Verdict
     requires behind { AreBehind entries.now }
     requires some { 0 < looked }
     requires within { looked ≤ length entries.now }
-    ensures { IfOk result (λ verdict. (plan : orders.Plan) (s : State) (edges : Edges)
+    ensures told { IfOk result (λ verdict. (plan : orders.Plan) (s : State) (edges : Edges)
         → IsSearch plan (beginning plan s) entries.now edges looked None
         → Tells plan (beginning plan s) verdict) }
+    ensures whole { IfOk result HasLoss }
 {
     if looked == entries.len() {
         return Ok(Verdict::None);
@@ -240,8 +246,10 @@ fn judge(
     requires some { 0 < looked }
     requires within { looked ≤ length entries.now }
     requires first { ForSome first (λ h. h < looked) }
-    ensures { IfOk result (λ verdict. (plan : orders.Plan) (s : State) → IsSearch plan (beginning plan s) entries.now edges.now looked first
+    ensures told { IfOk result (λ verdict. (plan : orders.Plan) (s : State) → IsSearch plan (beginning plan s) entries.now edges.now looked first
         → Tells plan (beginning plan s) verdict) }
+    ensures whole { IfOk result (λ verdict. (plan : orders.Plan) (s : State) → IsSearch plan (beginning plan s) entries.now edges.now looked first
+        → length entries.now ≤ looked → HasLoss verdict) }
 {
     match first {
         Some(first) => judge_hang(alloc, entries, edges, looked, first),
@@ -257,7 +265,8 @@ pub fn explore<W: Watcher>(
     most: usize,
     watcher: &mut W,
 ) -> Result<Explored, AllocError>
-    ensures { IfOk result (λ explored. Tells plan.now (beginning plan.now (state start.now)) explored.verdict) }
+    ensures told { IfOk result (λ explored. Tells plan.now (beginning plan.now (state start.now)) explored.verdict) }
+    ensures whole { IfOk result (λ explored. explored.states ≤ most → HasLoss explored.verdict) }
 {
     let mut met = Met::new(alloc)?;
     let mut counts = Counts {

@@ -1,4 +1,4 @@
-use Rattle.std.proofs.Common.{◌≡◌, ◌<◌, ℕ, ◌+◌, arith, subst, sym, length}
+use Rattle.std.proofs.Common.{◌+◌, subst, sym}
 use Rattle.nt_explore.specs.Levels.{IsFirstLoss}
 use Rattle.nt_explore.proofs.Losing.{earlier_told}
 use Rattle.nt_explore.proofs.loss.first_lost.Goals as goal

@@ -1,4 +1,4 @@
-use Rattle.std.proofs.Common.{◌≡◌, ◌<◌, ℕ, List, Option, length}
+use Rattle.std.proofs.Common.{◌≡◌, ℕ, List, Option, length}
 use Rattle.nt_look.specs.Orders.{Plan, Point}
 use Rattle.nt_explore.specs.declared.met.Entry.{Entry}
 use Rattle.nt_explore.specs.Levels.{AreLooked, AreEdges, IsFirstLoss}

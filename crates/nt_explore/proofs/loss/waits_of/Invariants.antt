@@ -1,5 +1,4 @@
-use Rattle.std.proofs.Common.{◌≡◌, ◌<◌, ◌*◌, ◌+◌, ℕ, length}
-use Rattle.nt_look.specs.Hangs.{marked}
+use Rattle.std.proofs.Common.{◌≡◌, ◌*◌, length}
 use Rattle.nt_explore.specs.Levels.{IsColumn}
 use Rattle.nt_explore.proofs.loss.waits_of.Given as goal
 

@@ -1,8 +1,7 @@
-use Rattle.std.proofs.Common.{◌≡◌, ℕ, List, subst, sym}
+use Rattle.std.proofs.Common.{ℕ, List, subst, sym}
 use Rattle.nt_core.specs.Dispatcher.{state}
-use Rattle.nt_look.specs.Orders.{Point}
 use Rattle.nt_explore.specs.Search.{beginning}
-use Rattle.nt_explore.specs.Walk.{point_at, IsWalk, Arrives}
+use Rattle.nt_explore.specs.Walk.{Arrives}
 use Rattle.nt_explore.proofs.Ways.{if_ok}
 use Rattle.nt_explore.proofs.met.again.Goals as goal
 

@@ -1,4 +1,4 @@
-use Rattle.std.proofs.Common.{◌≡◌, ◌∙◌, ◌≤◌, arith, subst, length, ◌-◌, ℕ}
+use Rattle.std.proofs.Common.{◌≡◌, ◌∙◌, arith, subst, ℕ}
 use Rattle.std.specs.Prelude.{drop}
 use Rattle.nt_core.specs.Dispatcher.{state}
 use Rattle.nt_look.specs.Orders.{Point}

@@ -1,4 +1,4 @@
-use Rattle.std.proofs.Common.{◌≡◌, ◌≤◌, ◌<◌, ◌-◌, ◌+◌, ℕ, length}
+use Rattle.std.proofs.Common.{◌≤◌, ◌<◌, ◌-◌, ◌+◌, length}
 use Rattle.nt_core.specs.Dispatcher.{state}
 use Rattle.nt_explore.specs.Search.{beginning}
 use Rattle.nt_explore.specs.Walk.{AreBehind}

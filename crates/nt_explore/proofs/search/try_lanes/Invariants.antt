@@ -1,4 +1,4 @@
-use Rattle.std.proofs.Common.{◌≡◌, ◌≤◌, ◌<◌, ℕ, length}
+use Rattle.std.proofs.Common.{◌≡◌, ◌≤◌, ℕ, length}
 use Rattle.nt_core.specs.Dispatcher.{state}
 use Rattle.nt_look.specs.Orders.{Point}
 use Rattle.nt_explore.specs.Search.{beginning}

@@ -1,4 +1,4 @@
-use Rattle.std.proofs.Common.{◌≡◌, ◌<◌, ◌∙◌, [], ◌∷◌, ◌++◌, set, ap, arith, length}
+use Rattle.std.proofs.Common.{◌<◌, ◌∙◌, [], ◌∷◌, ◌++◌, set, ap, arith, length}
 use Rattle.nt_look.specs.Orders as orders
 use Rattle.nt_look.specs.Orders.{asks}
 use Rattle.nt_explore.specs.Search.{asked}
