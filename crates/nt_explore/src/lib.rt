@@ -10,6 +10,10 @@
 //! **No state is kept.** Of each that was met the table has 16 bytes: a hash, the state that it came from, and the lane that went. Where a
 //! hash is known already, that state is made again, from the start and the lanes that led there, and the two are compared
 //! (`Core::is_like`). So nothing rests on the hash.
+//!
+//! Where all states were met and one hangs, it also tells from when on a wait was lost ([`Loss`]), which is often earlier. For that each
+//! step is kept as the numbers of two states, 8 bytes. A wait is lost where it pends and is lost wherever a lane leads from there. So
+//! for each thread one pass over the steps, the last first, leaves the states in which its wait is lost.
 #![tactic(auto)]
 
 mod explored;

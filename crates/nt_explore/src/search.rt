@@ -205,9 +205,11 @@ fn judge_hang(
 ) -> Result<Verdict, AllocError>
     requires behind { AreBehind entries.now }
     requires first { first < length entries.now }
-    ensures told { IfOk result (λ verdict. (plan : orders.Plan) (s : State) → IsSearch plan (beginning plan s) entries.now edges.now looked (Some first)
+    ensures told { IfOk result (λ verdict. (plan : orders.Plan) (s : State)
+        → IsSearch plan (beginning plan s) entries.now edges.now looked (Some first)
         → Tells plan (beginning plan s) verdict) }
-    ensures whole { IfOk result (λ verdict. (plan : orders.Plan) (s : State) → IsSearch plan (beginning plan s) entries.now edges.now looked (Some first)
+    ensures whole { IfOk result (λ verdict. (plan : orders.Plan) (s : State)
+        → IsSearch plan (beginning plan s) entries.now edges.now looked (Some first)
         → length entries.now ≤ looked → HasLoss verdict) }
 {
     let mut lanes = way_to(alloc, entries, first)?;
@@ -246,9 +248,11 @@ fn judge(
     requires some { 0 < looked }
     requires within { looked ≤ length entries.now }
     requires first { ForSome first (λ h. h < looked) }
-    ensures told { IfOk result (λ verdict. (plan : orders.Plan) (s : State) → IsSearch plan (beginning plan s) entries.now edges.now looked first
+    ensures told { IfOk result (λ verdict. (plan : orders.Plan) (s : State)
+        → IsSearch plan (beginning plan s) entries.now edges.now looked first
         → Tells plan (beginning plan s) verdict) }
-    ensures whole { IfOk result (λ verdict. (plan : orders.Plan) (s : State) → IsSearch plan (beginning plan s) entries.now edges.now looked first
+    ensures whole { IfOk result (λ verdict. (plan : orders.Plan) (s : State)
+        → IsSearch plan (beginning plan s) entries.now edges.now looked first
         → length entries.now ≤ looked → HasLoss verdict) }
 {
     match first {
