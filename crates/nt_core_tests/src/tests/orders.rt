@@ -133,10 +133,10 @@ fn add(alloc: Global, plan: &mut Plan, lane: u32, asks: &[Does]) -> Result<(), R
 fn plan_of(alloc: Global, lanes: &[&[Does]]) -> Result<Plan, Refusal> {
     let threads = lanes.len().min(3) as u32;
     let mut plan = Plan::new(alloc, threads).map_err(|_| Refusal::Memory)?;
-    let mut lane = 0;
-    for asks in lanes.iter().take(3) {
-        add(alloc, &mut plan, lane, asks)?;
-        lane += 1;
+    for lane in 0..threads {
+        if let Some(asks) = lanes.get(lane as usize) {
+            add(alloc, &mut plan, lane, asks)?;
+        }
     }
     Ok(plan)
 }
