@@ -1,4 +1,5 @@
 """Whether a program can be run on a file, and running it."""
+import contextlib
 import errno
 import os
 import signal
@@ -6,7 +7,7 @@ import stat
 import subprocess
 
 import building
-from terminal import say
+from terminal import Progress, say
 
 
 def is_operand(word):
@@ -26,6 +27,30 @@ def why_not_open(path, cannot_open, not_read):
     except OSError as error:
         return cannot_open, error.strerror
     return None
+
+
+def write_all(part):
+    """Writes to standard output, and answers whether all was written."""
+    with contextlib.suppress(OSError):
+        while part:
+            part = part[os.write(1, part) :]
+    return not part
+
+
+def run_and_show(built, words, what):
+    """The same of a program that may take long, beside a terminal: that it does `what`, and for how long it has, is shown there. What it writes
+    is handed on once it has ended."""
+    child = subprocess.Popen([building.path_of(built), *words], stdout=subprocess.PIPE, stderr=subprocess.PIPE, close_fds=False)
+    signal.signal(signal.SIGINT, signal.SIG_IGN)
+    signal.signal(signal.SIGTERM, lambda *_: child.terminate())
+    with Progress(what):
+        wrote, said = child.communicate()
+    say(*said.splitlines())
+    status = child.returncode
+    if not write_all(wrote):
+        say(f"{built.name}: write failed")
+        status = 1
+    return (128 - status if status < 0 else status), said
 
 
 def run(built, words, notes_taken=None):

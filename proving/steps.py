@@ -116,7 +116,12 @@ def unproved_build(top, progress):
 
 
 # What is run on each example, and the ending of the file beside it that has what is written; then the exit statuses.
-ON_EXAMPLES = ((["./ntrun", "script"], ".transcript", (0,)), (["./ntlook", "why"], ".why", (0, 3, 4)), (["./ntlook", "timeline"], ".timeline", (0,)))
+ON_EXAMPLES = (
+    (["./ntrun", "script"], ".transcript", (0,)),
+    (["./ntlook", "why"], ".why", (0, 3, 4)),
+    (["./ntlook", "timeline"], ".timeline", (0,)),
+    (["./ntlook", "explore"], ".explore", (0, 3)),
+)
 # Pictures of the docs, each with the example that it shows.
 PICTURES = (("examples/two_locks.nts", "docs/two_locks.svg"),)
 
@@ -143,7 +148,7 @@ def drawn(top, script, picture):
 
 
 def examples(top, progress):
-    """What the launchers write of each example is the file beside it. Not each has a file of why its threads wait, or a timeline. A picture of the docs
+    """What the launchers write of each example is the file beside it. Not each has a file of why its threads wait, a timeline, or orders. A picture of the docs
     is what `ntlook timeline` draws."""
     passed, failed = 0, []
     for script in sorted(glob.glob(f"{top}/examples/*.nts")):

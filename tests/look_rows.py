@@ -2,6 +2,7 @@
 
 USAGE = "ntlook: usage: ntlook why FILE [--at LINE]"
 TIMELINE_USAGE = "ntlook: usage: ntlook timeline FILE [--lines A..B] [--object NAME] [--thread tN] [--svg OUT]"
+EXPLORE_USAGE = "ntlook: usage: ntlook explore FILE [--most STATES]   (1 to 4000000000; 1000000 if left out)"
 # Two threads that hold each other from line 7 on.
 KNOT = b"""threads 2
 t0 mutex m1
@@ -110,6 +111,105 @@ NAMED_LINES = """named:8: the waits can end
    end                                    waits since 7
 """
 
+# What `explore` is tried on, and what it writes, by bench/explore.
+CROSSED = b"""threads 2
+t0 mutex m1
+t0 mutex m2
+t0 any inf plain m1
+t0 any inf plain m2
+t0 unlock m2
+t0 unlock m1
+t1 any inf plain m2
+t1 any inf plain m1
+t1 unlock m1
+t1 unlock m2
+"""
+CROSSES = """ 26 states, 34 steps, 1 hangs; the shortest order, 4 lines:
+  line 4  t0 any inf plain m1    WAIT_OBJECT_0+0
+  line 8  t1 any inf plain m2    WAIT_OBJECT_0+0
+  line 5  t0 any inf plain m2    pending
+  line 9  t1 any inf plain m1    pending
+  t0 and t1 hold each other: nothing can end their waits
+  t0 since line 5  any inf plain m2   m2: mutex, owned by t1 (1 release owed), who waits
+  t1 since line 9  any inf plain m1   m1: mutex, owned by t0 (1 release owed), who waits
+  lost after 3 lines: the wait of t0 ends in no order from here on
+    line 4  t0 any inf plain m1    WAIT_OBJECT_0+0
+    line 8  t1 any inf plain m2    WAIT_OBJECT_0+0
+    line 5  t0 any inf plain m2    pending
+"""
+# Each kind of answer, and each kind of name of a status or an error.
+ANSWERS = b"""threads 1
+t0 event e
+t0 semaphore s 1 3
+t0 mutex m
+t0 timer x
+t0 set	e    ; a tab, and spaces at the end   
+t0 any 0 plain e
+t0 any 0 plain e s
+t0 release s 2
+t0 release s 9
+t0 unlock m
+t0 apc t0 7 9
+t0 next
+t0 sleep 0 alertable
+t0 next
+t0 arm x 0 0 1 2
+t0 any 5 alertable e
+t0 next
+t0 any 0 plain e
+t0 any 0 plain m
+t0 close 99
+t0 any inf plain e
+"""
+ANSWERED = """answers.nts: 18 states, 17 steps, 1 hangs; the shortest order, 17 lines:
+  line  6  t0 set e                ok
+  line  7  t0 any 0 plain e        WAIT_OBJECT_0+0
+  line  8  t0 any 0 plain e s      WAIT_OBJECT_0+1
+  line  9  t0 release s 2          previous 0
+  line 10  t0 release s 9          ERROR_TOO_MANY_POSTS
+  line 11  t0 unlock m             ERROR_NOT_OWNER
+  line 12  t0 apc t0 7 9           ok
+  line 13  t0 next                 apc none
+  line 14  t0 sleep 0 alertable    WAIT_IO_COMPLETION
+  line 15  t0 next                 apc 7 9
+  line 16  t0 arm x 0 0 1 2        ok
+  line 17  t0 any 5 alertable e    WAIT_IO_COMPLETION
+  line 18  t0 next                 apc 1 2 at 0
+  line 19  t0 any 0 plain e        WAIT_TIMEOUT
+  line 20  t0 any 0 plain m        WAIT_OBJECT_0+0
+  line 21  t0 close 99             ERROR_INVALID_HANDLE
+  line 22  t0 any inf plain e      pending
+  stuck: whoever has a line left waits, and nothing can end that
+  t0 since line 22  any inf plain e   e: event, not set
+"""
+ENDED = """ends.nts: 5 states, 5 steps, 1 hangs; the shortest order, 3 lines:
+  line 4  t0 any inf plain e    pending
+  line 6  t1 set e              ok; t0's wait ends: WAIT_OBJECT_0+0
+  line 5  t0 any inf plain f    pending
+  stuck: whoever has a line left waits, and nothing can end that
+  t0 since line 5  any inf plain f   f: event, not set
+"""
+TICKED = """ticks.nts: 12 states, 16 steps, 2 hang; the shortest order, 3 lines:
+  line 3  t0 any 5 plain e      pending
+  line 6  tick 50000            ok; t0's wait ends: WAIT_TIMEOUT
+  line 5  t0 sleep inf plain    pending
+  nothing can end the wait of t0
+  t0 since line 5  sleep inf plain
+  lost after 1 line: the wait of t1 ends in no order from here on
+    line 4  t1 any inf plain t0    pending
+"""
+KNOTTED = """knotted.nts: 10 states, 13 steps, 3 hang; the shortest order, 2 lines:
+  line 5  t0 any inf plain t1     pending
+  line 6  t1 all inf plain e m    pending
+  t0 and t1 hold each other: nothing can end their waits
+  t0 since line 5  any inf plain t1   t1: thread, who waits
+  t1 since line 6  all inf plain e m
+    e: event, not set
+    m: mutex, owned by t0 (1 release owed), who waits
+  lost after 1 line: the wait of t0 ends in no order from here on
+    line 5  t0 any inf plain t1    pending
+"""
+
 FILES = {
     "knot.nts": KNOT,
     "-dash.nts": KNOT,
@@ -126,6 +226,19 @@ FILES = {
     "again.nts": b"threads 2\nt0 event e\nt1 any inf plain e\nt0 set e\nt1 any inf plain e\n",
     "named": NAMED,
     "refused.nts": b"threads 1\nt0 event e\nt0 unlock e\nt0 sleep 5 alertable\ntick 50000\n",
+    "crossed.nts": CROSSED,
+    "crossed_crlf.nts": CROSSED.replace(b"\n", b"\r\n"),
+    "answers.nts": ANSWERS,
+    "ends.nts": b"threads 2\nt0 event e\nt0 event f\nt0 any inf plain e\nt0 any inf plain f\nt1 set e\n",
+    "ticks.nts": b"threads 2\nt0 event e\nt0 any 5 plain e\nt1 any inf plain t0\nt0 sleep inf plain\ntick 50000\n",
+    "knotted.nts": b"threads 3\nt0 mutex m owned\nt0 event e\nt0 dup f e 1048576\nt0 any inf plain t1\nt1 all inf plain e m\nt2 any inf plain f\nt0 sleep 1 plain\n",
+    "sets.nts": b"threads 1\nt0 event e\n\nt0 set e\n; nothing\nt0 reset e\nt0 set e\n",
+    "head.nts": b"threads 2\nt0 event e\nt1 mutex m owned\n",
+    "late.nts": b"threads 1\nt0 event e\nt0 set e\nt0 event f\n",
+    "late_dup.nts": b"threads 1\nt0 event e\ntick 5\nt0 dup f e 0\n",
+    "no_thread.nts": b"threads 2\nt0 event e\nt0 set e\nt2 set e\n",
+    "lane_fault.nts": b"threads 2\nt0 event e\nt0 set e\nt1 sett e\n",
+    "unnamed.nts": b"threads 1\nt0 semaphore s 3 2\nt0 release s 1\n",
     "renamed.nts": b"threads 2\nt0 event e\nt0 dup again e 1048578\nt1 any inf plain again\nt0 close e\n",
 }
 
@@ -196,4 +309,32 @@ LOOKS = [
     ("a number for a thread", ["timeline", "knot.nts", "--thread", "5"], b"", 2, "", [TIMELINE_USAGE]),
     ("an option twice", ["timeline", "--object", "m1", "--object", "m2", "knot.nts"], b"", 2, "", [TIMELINE_USAGE]),
     ("another command", ["whz", "knot.nts"], b"", 2, "", [USAGE]),
+]
+
+# The same of `explore`.
+EXPLORES = [
+    ("two locks crossed", ["explore", "crossed.nts"], b"", 3, f"crossed.nts:{CROSSES}", []),
+    ("the same with CR LF", ["explore", "crossed_crlf.nts"], b"", 3, f"crossed_crlf.nts:{CROSSES}", []),
+    ("the same on standard input", ["explore", "-"], CROSSED, 3, f"/dev/stdin:{CROSSES}", []),
+    ("as many states as there are", ["explore", "crossed.nts", "--most", "26"], b"", 3, f"crossed.nts:{CROSSES}", []),
+    ("the option first", ["explore", "--most", "4000000000", "crossed.nts"], b"", 3, f"crossed.nts:{CROSSES}", []),
+    ("each kind of answer", ["explore", "answers.nts"], b"", 3, ANSWERED, []),
+    ("a wait that another thread ends", ["explore", "ends.nts"], b"", 3, ENDED, []),
+    ("a wait that a tick ends", ["explore", "ticks.nts"], b"", 3, TICKED, []),
+    ("a knot beside a thread that runs", ["explore", "knotted.nts"], b"", 3, KNOTTED, []),
+    ("none hangs", ["explore", "sets.nts"], b"", 0, "sets.nts: 4 states, 3 steps, none hangs\n", []),
+    ("a head alone", ["explore", "head.nts"], b"", 0, "head.nts: 1 state, 0 steps, none hangs\n", []),
+    ("a bound that is met", ["explore", "sets.nts", "--most", "2"], b"", 4, "sets.nts: 3 states, 2 steps, the bound was met: no order of fewer than 2 lines hangs\n", []),
+    ("a creation after a call", ["explore", "late.nts"], b"", 2, "", ["ntlook: line 4: creation after a call", "late.nts:4:1: creation after a call", "  t0 event f"]),
+    ("a duplicate after a tick", ["explore", "late_dup.nts"], b"", 2, "", ["ntlook: line 4: creation after a call", "late_dup.nts:4:1: creation after a call", "  t0 dup f e 0"]),
+    ("a thread that there is not", ["explore", "no_thread.nts"], b"", 2, "", ["ntlook: line 4: no such thread", "no_thread.nts:4:1: no such thread", "  t2 set e"]),
+    ("a fault in a lane", ["explore", "lane_fault.nts"], b"", 2, "", ["ntlook: line 4: unknown word", "lane_fault.nts:4:4: unknown word", "  t1 sett e", "     ^^^^"]),
+    ("a name that was not given", ["explore", "unnamed.nts"], b"", 2, "", ["ntlook: line 3: unknown name", "unnamed.nts:3:1: unknown name"]),
+    ("an empty file", ["explore", "empty.nts"], b"", 2, "", ["ntlook: line 1: threads expected", "empty.nts:1:1: threads expected"]),
+    ("no file", ["explore", "none.nts"], b"", 1, "", ["ntlook: cannot open", "none.nts: No such file or directory"]),
+    ("a folder", ["explore", "."], b"", 1, "", ["ntlook: read failed", ".: Is a directory"]),
+    ("no states", ["explore", "crossed.nts", "--most", "0"], b"", 2, "", [EXPLORE_USAGE]),
+    ("too many states", ["explore", "crossed.nts", "--most", "4000000001"], b"", 2, "", [EXPLORE_USAGE]),
+    ("an option of why", ["explore", "crossed.nts", "--at", "5"], b"", 2, "", [EXPLORE_USAGE]),
+    ("explore alone", ["explore"], b"", 2, "", [EXPLORE_USAGE]),
 ]

@@ -23,6 +23,7 @@ pub use names::{called_by, put_object_name, put_thread_title};
 pub use reading::{InputFault, read_whole};
 pub use reports::{Report, last_moment, put_head, report_on};
 pub use text::{put_number, put_signed};
-pub use verdicts::{code_of, put_verdict};
+pub use verdicts::{code_of, marks_in, put_held, put_verdict};
+pub use waits::put_waiters;
 pub use watch::Watch;
 pub use why::{show, tell, why_file, why_over};

@@ -13,7 +13,7 @@ use nt_status::Moment;
 use std::alloc::AllocError;
 
 /// How many threads have a mark.
-fn marks_in(marks: &[bool]) -> usize
+pub fn marks_in(marks: &[bool]) -> usize
     ensures { result ≡ marks_in marks.now }
 {
     marks.iter().filter(|mark| **mark).count()
@@ -135,7 +135,7 @@ fn put_open(out: &mut Vec<u8>, next: Option<Moment>) -> Result<(), AllocError>
 }
 
 /// Puts which threads are held, and that the other waits never end either, if that is so.
-fn put_held(
+pub fn put_held(
     out: &mut Vec<u8>,
     told: &[u8],
     marks: &[bool],

@@ -222,7 +222,7 @@ fn since_at(since: &[u64], thread: u32) -> u64
 }
 
 /// Puts each thread that waits, and what it waits for.
-pub(crate) fn put_waiters(
+pub fn put_waiters(
     out: &mut Vec<u8>,
     session: &Session,
     objects: &[u32],

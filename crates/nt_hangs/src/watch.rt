@@ -1,6 +1,6 @@
 //! A script that is run, and what is seen of it.
 ghost use Rattle.std.specs.Prelude.{◌≡◌, ◌+◌, ◌<◌, ◌≤◌, ◌++◌, ℕ, codes, nat_eq, length, slice_index_or, vec_len};
-ghost use Rattle.std.specs.Prelude.{IfOk, IfErr, OnOk};
+ghost use Rattle.std.specs.Prelude.{IfOk, IfErr, OnOk, MatchOption, None, Some};
 ghost use Rattle.std.specs.List.{ends_with};
 ghost use Rattle.std.specs.Option.{option_copied};
 ghost use Rattle.nt_script.specs.Scope.{handle_in};
@@ -156,6 +156,14 @@ impl Watch {
             told: Vec::new(alloc),
             out: Vec::new(alloc),
         })
+    }
+
+    /// The session, and by the places of names the numbers of the objects that they were given to.
+    pub fn into_parts(self) -> (Option<Session>, Vec<u32>)
+        ensures session { progress_of result.0 ≡ (seen_of self).now }
+        ensures objects { result.1.items ≡ (seen_of self).objects }
+    {
+        (self.session, self.objects)
     }
 
     /// Carries out the line with this number, and notes what is seen.

@@ -1,5 +1,5 @@
 -- What the words of a command line ask for.
-use Rattle.std.specs.Prelude.{ℕ, ◌==◌, ◌&&◌, ◌||◌, nat_lt, Bool, true, not, List, [], ◌∷◌, length, Option, None, Some, option_map, option_and_then, is_some, take, drop, position, Result, Ok, Err, if◌then◌else◌, codes}
+use Rattle.std.specs.Prelude.{ℕ, ◌==◌, ◌&&◌, ◌||◌, nat_le, nat_lt, Bool, true, false, not, List, [], ◌∷◌, length, Option, None, Some, option_map, option_and_then, is_some, take, drop, position, Result, Ok, Err, if◌then◌else◌, codes}
 use Rattle.std.specs.Str.{bytes_eq}
 use Rattle.std.specs.Option.{option_copied}
 use Rattle.nt_lines.specs.Words.{caller_of, number_of}
@@ -54,10 +54,12 @@ are_lawful command (word ∷ value ∷ others) =
 pub data Asked : Type 0 where
   AskedWhy : (file : List ℕ) → (at : Option ℕ) → Asked
   AskedTimeline : (file : List ℕ) → (lines : Option (ℕ × ℕ)) → (object : Option (List ℕ)) → (thread : Option ℕ) → (svg : Option (List ℕ)) → Asked
+  AskedExplore : (file : List ℕ) → (most : ℕ) → Asked
 
 abbrev pub asked : Look → Asked
 asked (look.Why file at) = AskedWhy file.now at
 asked (look.Timeline file part svg) = AskedTimeline file.now part.lines (option_copied part.object) part.thread (option_copied svg)
+asked (look.Explore file most) = AskedExplore file.now most
 
 -- the number of a line, from 1 on
 unfoldable pub line_of : List ℕ → Option ℕ
@@ -92,10 +94,26 @@ timeline_in file words =
     option_map (λ narrowed. AskedTimeline file narrowed.0 (value_in (codes "--object") words) narrowed.1 (value_in (codes "--svg") words))
     (both (told lines_of (value_in (codes "--lines") words)) (told caller_of (value_in (codes "--thread") words)))
 
+-- how many states may be met
+abbrev pub most_of : List ℕ → Option ℕ
+most_of word = option_and_then (λ n. if nat_lt 0 n && nat_le n 4000000000 then Some n else None) (number_of 20 word)
+
+-- a million where that is left out
+abbrev pub most_told : Option (List ℕ) → Option ℕ
+most_told None = Some 1000000
+most_told (Some word) = most_of word
+
+abbrev pub most_in : List (List ℕ) → Option ℕ
+most_in words = most_told (value_in (codes "--most") words)
+
+abbrev pub explore_in : List ℕ → List (List ℕ) → Option Asked
+explore_in file words = option_map (AskedExplore file) (most_in words)
+
 -- what the command is to do with the file
 abbrev pub on_file : Command → List ℕ → List (List ℕ) → Option Asked
 on_file command.Why file words = why_in file words
 on_file command.Timeline file words = timeline_in file words
+on_file command.Explore file words = explore_in file words
 
 -- what these words after the command ask for, if they are lawful
 abbrev pub after : Command → List (List ℕ) → Option Asked

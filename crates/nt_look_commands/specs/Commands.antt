@@ -2,22 +2,28 @@
 use Rattle.std.specs.Prelude.{ℕ, ◌||◌, ◌++◌, Bool, List, Option, None, Some, if◌then◌else◌, codes}
 use Rattle.std.specs.Str.{bytes_eq}
 use Rattle.nt_look_commands.specs.declared.command.Command.{Command}
-use Rattle.nt_look_commands.specs.declared.command.Command.TheVariants.{Timeline, Why}
+use Rattle.nt_look_commands.specs.declared.command.Command.TheVariants.{Timeline, Why, Explore}
 
 -- the command with this name
 abbrev pub command_of : List ℕ → Option Command
-command_of word = if bytes_eq word (codes "why") then Some Why else (if bytes_eq word (codes "timeline") then Some Timeline else None)
+command_of word =
+    if bytes_eq word (codes "why") then Some Why
+    else if bytes_eq word (codes "timeline") then Some Timeline
+    else if bytes_eq word (codes "explore") then Some Explore
+    else None
 
 -- whether the command has this option
 abbrev pub knows : Command → List ℕ → Bool
 knows Why option = bytes_eq option (codes "--at")
 knows Timeline option = bytes_eq option (codes "--lines") || bytes_eq option (codes "--object") || bytes_eq option (codes "--thread") || bytes_eq option (codes "--svg")
+knows Explore option = bytes_eq option (codes "--most")
 
 -- the line that tells how the command is called
 abbrev pub usage_of : Command → List ℕ
 usage_of Why = codes "ntlook: usage: ntlook why FILE [--at LINE]\n"
 usage_of Timeline = codes "ntlook: usage: ntlook timeline FILE [--lines A..B] [--object NAME] [--thread tN] [--svg OUT]\n"
+usage_of Explore = codes "ntlook: usage: ntlook explore FILE [--most STATES]   (1 to 4000000000; 1000000 if left out)\n"
 
 -- the same of all commands
 abbrev pub usage : List ℕ
-usage = usage_of Why ++ usage_of Timeline
+usage = usage_of Why ++ (usage_of Timeline ++ usage_of Explore)

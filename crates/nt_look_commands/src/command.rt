@@ -10,6 +10,8 @@ pub enum Command {
     Why,
     /// What happened, line by line.
     Timeline,
+    /// Whether an order of the threads' lines hangs.
+    Explore,
 }
 
 /// The command with this name.
@@ -20,6 +22,8 @@ pub(crate) fn command_of(word: &str) -> Option<Command>
         Some(Command::Why)
     } else if word == "timeline" {
         Some(Command::Timeline)
+    } else if word == "explore" {
+        Some(Command::Explore)
     } else {
         None
     }
@@ -40,6 +44,7 @@ impl Command {
         match self {
             Command::Why => option == "--at",
             Command::Timeline => is_of_timeline(option),
+            Command::Explore => option == "--most",
         }
     }
 
@@ -51,6 +56,9 @@ impl Command {
             Command::Why => b"ntlook: usage: ntlook why FILE [--at LINE]\n",
             Command::Timeline => {
                 b"ntlook: usage: ntlook timeline FILE [--lines A..B] [--object NAME] [--thread tN] [--svg OUT]\n"
+            }
+            Command::Explore => {
+                b"ntlook: usage: ntlook explore FILE [--most STATES]   (1 to 4000000000; 1000000 if left out)\n"
             }
         }
     }

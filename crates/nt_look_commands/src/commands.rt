@@ -1,20 +1,23 @@
 //! What is done with the words of a command line.
 ghost use Rattle.std.specs.Prelude.{◌≡◌, map, string_bytes};
 ghost use Rattle.nt_look_commands.specs.CommandLine.{asked, look_of};
-ghost use Rattle.nt_look_commands.specs.Ending.{CommandEnds, MakesTimeline, PrintTimeline, PrintTold, usage_for};
+ghost use Rattle.nt_look_commands.specs.Ending.{CommandEnds, MakesTimeline, PrintOrders, PrintTimeline, PrintTold, usage_for};
 ghost use Rattle.std.specs.Option.{option_copied};
 
 use crate::command::Command;
 use crate::look::{Look, look_of};
 use nt_devices::{Counted, Sink};
 use nt_hangs::{lacks_memory, say, why_file};
+use nt_orders::explore_file;
 use nt_timeline::{Part, picture_file, timeline_file};
 use std::io::{self, BufWriter, Print};
 use std::rt::Files;
 
 /// The usage of all commands.
-const USAGE: &[u8] =
-    b"ntlook: usage: ntlook why FILE [--at LINE]\nntlook: usage: ntlook timeline FILE [--lines A..B] [--object NAME] [--thread tN] [--svg OUT]\n";
+const USAGE: &[u8] = b"ntlook: usage: ntlook why FILE [--at LINE]
+ntlook: usage: ntlook timeline FILE [--lines A..B] [--object NAME] [--thread tN] [--svg OUT]
+ntlook: usage: ntlook explore FILE [--most STATES]   (1 to 4000000000; 1000000 if left out)
+";
 
 /// Reports to standard output why the threads of this file's script wait, and answers the exit status.
 fn print_why<R: Files + AllocGlobal + Print, E: Sink>(
@@ -44,6 +47,22 @@ fn print_timeline<R: Files + AllocGlobal + Print, E: Sink>(
 {
     match BufWriter::new(rt.alloc(), io::writer(rt)) {
         Ok(writer) => timeline_file(rt, path, part, &mut Counted::new(writer), errors),
+        Err(_) => lacks_memory(errors),
+    }
+}
+
+/// Explores the orders of this file's script, reports on standard output, and answers the exit status.
+fn print_orders<R: Files + AllocGlobal + Print, E: Sink>(
+    rt: &R,
+    path: &str,
+    most: u64,
+    errors: &mut E,
+) -> u8
+    ensures { PrintOrders (E.contents errors.old) (E.contents errors.new) (E.failed errors.old)
+        (E.failed errors.new) result }
+{
+    match BufWriter::new(rt.alloc(), io::writer(rt)) {
+        Ok(writer) => explore_file(rt, path, most as usize, &mut Counted::new(writer), errors),
         Err(_) => lacks_memory(errors),
     }
 }
@@ -83,6 +102,7 @@ fn take_look<R: Files + AllocGlobal + Print, E: Sink>(rt: &R, look: Look<'_>, er
     match look {
         Look::Why { file, at } => print_why(rt, file, at, errors),
         Look::Timeline { file, part, svg } => make_timeline(rt, file, &part, svg, errors),
+        Look::Explore { file, most } => print_orders(rt, file, most, errors),
     }
 }
 

@@ -1,6 +1,6 @@
 //! What a command line asks for.
 ghost use Rattle.std.specs.Prelude.{◌≡◌, ◌<◌, None, Some, IfSome, length, position, MatchOption, MatchResult, codes, map, string_bytes};
-ghost use Rattle.nt_look_commands.specs.CommandLine.{after, after_dots, asked, both, is_dot, line_of, lines_of, look_of, timeline_in, told, value_in, why_in};
+ghost use Rattle.nt_look_commands.specs.CommandLine.{after, after_dots, asked, both, explore_in, is_dot, line_of, lines_of, look_of, most_in, most_of, timeline_in, told, value_in, why_in};
 ghost use Rattle.nt_lines.specs.Words.{caller_of};
 ghost use Rattle.nt_look_commands.specs.Looks.{Finds};
 
@@ -8,6 +8,12 @@ use crate::command::{Command, command_of};
 use crate::words::{are_lawful, file_in, value_in};
 use nt_lines::{caller_of, number_of};
 use nt_timeline::Part;
+
+/// How many states may be met at the most.
+const MOST_STATES: u64 = 4_000_000_000;
+
+/// How many may, if nothing is told.
+const MANY_STATES: u64 = 1_000_000;
 
 /// What the program is to do.
 #[derive(Clone, Copy, Debug)]
@@ -22,6 +28,11 @@ pub enum Look<'a> {
         file: &'a str,
         part: Part<'a>,
         svg: Option<&'a str>,
+    },
+    /// Explore the orders of the lines of the script in this file, until so many states are met.
+    Explore {
+        file: &'a str,
+        most: u64,
     },
 }
 
@@ -143,6 +154,36 @@ fn timeline_in<'a>(file: &'a str, words: &'a [String]) -> Option<Look<'a>>
     }
 }
 
+/// How many states may be met.
+fn most_of(word: &str) -> Option<u64>
+    ensures { result ≡ most_of word.now }
+{
+    match number_of(word.as_bytes(), 20) {
+        Some(most) if 0 < most && most <= MOST_STATES => Some(most),
+        _ => None,
+    }
+}
+
+/// The states that an option tells, or as many as where it is left out.
+fn most_in(words: &[String]) -> Option<u64>
+    ensures { result ≡ most_in (map string_bytes words.now) }
+{
+    match value_in("--most", words) {
+        Some(word) => most_of(word),
+        None => Some(MANY_STATES),
+    }
+}
+
+/// `ntlook explore`
+fn explore_in<'a>(file: &'a str, words: &[String]) -> Option<Look<'a>>
+    ensures { Finds (explore_in file.now (map string_bytes words.now)) result }
+{
+    match most_in(words) {
+        Some(most) => Some(Look::Explore { file, most }),
+        None => None,
+    }
+}
+
 /// What the words after the command ask for, if they are lawful.
 fn after(command: Command, words: &[String]) -> Option<Look<'_>>
     ensures { Finds (after command (map string_bytes words.now)) result }
@@ -154,6 +195,7 @@ fn after(command: Command, words: &[String]) -> Option<Look<'_>>
         Some(file) => match command {
             Command::Why => why_in(file, words),
             Command::Timeline => timeline_in(file, words),
+            Command::Explore => explore_in(file, words),
         },
         None => None,
     }

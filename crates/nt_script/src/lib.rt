@@ -42,6 +42,7 @@ pub use laws::{
     statements_read_back,
 };
 pub use nt_devices::{Counted, Sink, Source};
+pub use parser::{Name, Statement};
 pub use runner::run;
 pub use session::{Session, carry_out};
 pub use summary::Summary;

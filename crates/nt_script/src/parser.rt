@@ -18,7 +18,7 @@ use std::marker::Model;
 
 /// A name that a creation is to bind.
 #[derive(Debug, Drop)]
-pub(crate) struct Name {
+pub struct Name {
     text: Vec<u8>,
 }
 
@@ -48,10 +48,14 @@ impl Name {
 
 /// What a line after `threads` says.
 #[derive(Drop)]
-pub(crate) enum Statement {
+pub enum Statement {
+    /// Nothing.
     Blank,
+    /// A thread makes an object or a handle, which is to have this name.
     Create { who: u32, name: Name, act: Act },
+    /// A thread makes another call.
     Perform { who: u32, call: Call },
+    /// All moments up to this one pass.
     Tick { moment: Moment },
 }
 

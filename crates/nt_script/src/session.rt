@@ -107,8 +107,8 @@ impl Session {
         parse_statement(alloc, &self.bindings, words)
     }
 
-    /// Reads a line after `threads`.
-    fn read(&self, alloc: Global, line: &[u8]) -> Result<Statement, LineFault>
+    /// What a line after `threads` says. Nothing is carried out.
+    pub fn read(&self, alloc: Global, line: &[u8]) -> Result<Statement, LineFault>
         requires { length line.now ≤ 4096 }
         ensures reads { ReadsStatement self.now.bindings.scope line.now result }
         ensures free { IfOk result (NamesFree self.now.bindings.scope) }
@@ -318,6 +318,16 @@ impl Session {
             granted: self.tally.granted,
             pending: self.core.pending(),
         }
+    }
+
+    /// Puts another dispatcher in the place of its own, which is answered. What is bound and counted stays.
+    pub fn replace_core(&mut self, core: Core) -> Core
+        ensures answer { result ≡ self.old.core }
+        ensures own { self.new.core ≡ core }
+        ensures bindings { self.new.bindings ≡ self.old.bindings }
+        ensures tally { self.new.tally ≡ self.old.tally }
+    {
+        mem::replace(&mut self.core, core)
     }
 
     /// The dispatcher, as the lines so far left it.

@@ -1,0 +1,293 @@
+"""Every order of a script's lines, over the machine of bench/machine.py: the states, what hangs and what is lost, and the report of it."""
+import re
+
+from machine import BACK, DEEP, DENIED, ENDED, GONE, NO_HANDLE, NOT_OWNER, PARAMETER, TOO_MANY, UNKNOWN, WAITING, Event, Gone, Machine, Mutex, Semaphore, Thread, Timer
+
+CREATES = ("event", "semaphore", "mutex", "timer", "dup")
+REFUSALS = {
+    DENIED: "ERROR_ACCESS_DENIED",
+    NO_HANDLE: "ERROR_INVALID_HANDLE",
+    GONE: "ERROR_GEN_FAILURE",
+    PARAMETER: "ERROR_INVALID_PARAMETER",
+    NOT_OWNER: "ERROR_NOT_OWNER",
+    TOO_MANY: "ERROR_TOO_MANY_POSTS",
+    WAITING: "NT_ERROR_THREAD_WAITING",
+    ENDED: "NT_ERROR_THREAD_ENDED",
+    UNKNOWN: "NT_ERROR_UNKNOWN_THREAD",
+    DEEP: "NT_ERROR_RECURSION_LIMIT",
+    BACK: "NT_ERROR_MOMENT_BACK",
+}
+
+
+# ---- scripts
+
+def lines_of(text):
+    """The lines of a script that say something, each with its number."""
+    lines = [(number, " ".join(it.split(";")[0].split())) for number, it in enumerate(text.splitlines(), 1)]
+    return [it for it in lines if it[1]]
+
+
+class Names:
+    """What a script's words stand for."""
+
+    def __init__(self):
+        self.handles = {}
+
+    def handle(self, word):
+        return int(word[1:]) if re.fullmatch(r"t\d+", word) else int(word) if word.isdigit() else self.handles[word]
+
+    def waiting(self, words):
+        """TIME MODE OBJ.."""
+        return [self.handle(it) for it in words[2:]], None if words[0] == "inf" else int(words[0]), words[1] == "alertable"
+
+    def call(self, keyword, words):
+        """The words after the keyword, as the machine takes them."""
+        if keyword in ("any", "all"):
+            handles, ms, alertable = self.waiting(words)
+            return "wait", handles, keyword == "all", ms, alertable
+        if keyword == "sleep":
+            return "sleep", *self.waiting(words)[1:]
+        if keyword == "swap":
+            return "swap", self.handle(words[0]), self.handle(words[1]), *self.waiting(words[2:])[1:]
+        if keyword in CREATES:
+            return keyword, *self.options(keyword, words[1:])
+        if keyword == "arm":
+            return "arm", self.handle(words[0]), int(words[1]), int(words[2]), (int(words[3]), int(words[4])) if words[3:] else None
+        return keyword, *([self.handle(words[0])] if words else []), *map(int, words[1:])
+
+    def options(self, keyword, words):
+        if keyword == "event":
+            return "manual" in words, "set" in words
+        if keyword == "dup":
+            return self.handle(words[0]), int(words[1])
+        return [int(it) for it in words] if keyword == "semaphore" else [bool(words)]
+
+    def carry_out(self, machine, line):
+        """Makes the line's call, or lets its moments pass. Answers what is told, and the waits that ended."""
+        first, *words = line.split()
+        if first == "tick":
+            return machine.tick(int(words[0]))
+        answer = machine.call(int(first[1:]), *self.call(words[0], words[1:]))
+        if words[0] in CREATES and answer[0].startswith("handle"):
+            self.handles[words[1]] = int(answer[0].split()[1])
+        return answer
+
+
+class Script:
+    """The machine after the creations at the head, and the numbered lines of each lane: those of the threads, and last the ticks."""
+
+    def __init__(self, text):
+        (_, opening), *lines = lines_of(text)
+        self.threads = int(opening.split()[1])
+        self.start, self.names = Machine(self.threads), Names()
+        while lines and lines[0][1].split()[1] in CREATES:
+            self.names.carry_out(self.start, lines.pop(0)[1])
+        self.lanes = [[] for _ in range(self.threads + 1)]
+        for number, line in lines:
+            first = line.split()[0]
+            self.lanes[self.threads if first == "tick" else int(first[1:])].append((number, line))
+
+
+# ---- what hangs
+
+def ends_in_time(machine, who, wait):
+    """Whether time alone can end it: a deadline, timers that are armed, APCs."""
+    timers = [it for it in machine.objects if isinstance(it, Timer) and it.armed]
+    comes = [machine.ready(who, it) or isinstance(machine.objects[it], Timer) and bool(machine.objects[it].armed) for it in wait.objects]
+    called = bool(machine.apcs[who]) or any(it.armed.routine and it.armed.routine[2] == who for it in timers)
+    fits = bool(comes) and all(comes) if wait.all else any(comes)
+    return wait.deadline is not None or fits or wait.alertable and called
+
+
+def is_held(machine, knot, who, number):
+    """Whether the knot holds the object: nobody outside it can make it signaled."""
+    it = machine.objects[number]
+    named = any(opened and opened[0] == number for opened in machine.handles)
+    if isinstance(it, Mutex):
+        return it.owner in knot and it.owner != who
+    if isinstance(it, Thread):
+        return number in knot and not it.ended
+    if isinstance(it, Gone):
+        return True
+    idle = isinstance(it, Event) or isinstance(it, Semaphore) or it.armed is None
+    return not named and idle and not machine.ready(who, number)
+
+
+def is_tied(machine, knot, who):
+    wait = machine.waits.get(who)
+    if wait is None or wait.deadline is not None or wait.alertable:
+        return False
+    held = [is_held(machine, knot, who, it) for it in wait.objects]
+    return any(held) if wait.all else all(held)
+
+
+def knot_of(machine, callers):
+    """The greatest knot: whoever makes no call any more is of it."""
+    knot = set(range(machine.threads))
+    while loose := {who for who in knot & callers if not is_tied(machine, knot, who)}:
+        knot -= loose
+    return knot & set(machine.waits)
+
+
+def is_stuck(machine, callers):
+    """Whether each thread that may call and runs waits, and time alone ends no wait."""
+    running = {who for who in callers if isinstance(machine.objects[who], Thread) and not machine.objects[who].ended}
+    return running <= set(machine.waits) and not any(ends_in_time(machine, who, it) for who, it in machine.waits.items())
+
+
+def hangs(machine, callers):
+    """Whether a wait pends that nothing ends: all is stuck, or threads hold each other."""
+    return bool(machine.waits) and is_stuck(machine, callers) or bool(knot_of(machine, callers))
+
+
+# ---- every order
+
+class Point:
+    def __init__(self, machine, at, before, lane):
+        self.machine, self.at, self.before, self.lane = machine, at, before, lane
+        self.after = []
+
+    def order(self):
+        """The lanes that lead here, the first first."""
+        lanes, here = [], self
+        while here.before:
+            lanes, here = [here.lane, *lanes], here.before
+        return lanes
+
+
+class Found:
+    """All points of a script, level by level; which hang, and where a wait is lost."""
+
+    def __init__(self, script):
+        self.script, self.steps, self.points, met = script, 0, [], {}
+        start = Point(script.start, (0,) * len(script.lanes), None, None)
+        self.points.append(start)
+        met[start.at, start.machine.key()] = start
+        for here in self.points:
+            for lane in range(len(script.lanes)):
+                self.go(here, lane, met)
+        self.hanging = [it for it in self.points if hangs(it.machine, self.callers(it))]
+        self.find_losses()
+
+    def callers(self, point):
+        more = {lane for lane in range(self.script.threads) if point.at[lane] < len(self.script.lanes[lane])}
+        return more | set(point.machine.waits)
+
+    def go(self, here, lane, met):
+        if here.at[lane] == len(self.script.lanes[lane]) or lane in here.machine.waits:
+            return
+        machine = here.machine.copy()
+        self.script.names.carry_out(machine, self.script.lanes[lane][here.at[lane]][1])
+        next_one = Point(machine, (*here.at[:lane], here.at[lane] + 1, *here.at[lane + 1:]), here, lane)
+        found = met.setdefault((next_one.at, machine.key()), next_one)
+        if found is next_one:
+            self.points.append(found)
+        here.after.append(found)
+        self.steps += 1
+
+    def find_losses(self):
+        """A wait is lost where it pends, and is lost wherever one lane leads."""
+        lost = {}
+        for it in reversed(self.points):
+            lost[it] = set(it.machine.waits).intersection(*(lost[after] for after in it.after))
+        self.losses = [(it, sorted(lost[it])) for it in self.points if lost[it]]
+
+    def told(self):
+        """What must agree: states, steps, hangs, the least hang's length and the least loss's."""
+        hang = len(self.hanging[0].order()) if self.hanging else None
+        loss = len(self.losses[0][0].order()) if self.hanging else None
+        return len(self.points), self.steps, len(self.hanging), hang, loss if loss != hang else None
+
+    # ---- the report
+
+    def report(self, name):
+        """What `ntlook explore` is to write of it."""
+        states, steps, many, hang, loss = self.told()
+        counts = f"{name}: {counted(states, 'state')}, {counted(steps, 'step')}, "
+        if hang is None:
+            return counts + "none hangs\n"
+        told = f"{counts}{many} hang{'s' * (many == 1)}; the shortest order, {counted(hang, 'line')}:\n"
+        told += self.rows(self.hanging[0], 2) + self.hang_text() + self.waiters_text()
+        if loss is None:
+            return told
+        point, threads = self.losses[0]
+        told += f"  lost after {counted(loss, 'line')}: the wait of t{threads[0]} ends in no order from here on\n"
+        return told + self.rows(point, 4)
+
+    def rows(self, point, indent):
+        machine, at, rows = self.script.start.copy(), [0] * len(self.script.lanes), []
+        for lane in point.order():
+            number, line = self.script.lanes[lane][at[lane]]
+            answer, grants = self.script.names.carry_out(machine, line)
+            at[lane] += 1
+            ends = "".join(f"; t{who}'s wait ends: {status_name(status)}" for who, status in grants)
+            rows.append((str(number), line, answer_name(answer) + ends))
+        numbers, texts = (max(len(row[column]) for row in rows) for column in (0, 1))
+        return "".join(f"{' ' * indent}line {number:>{numbers}}  {line:<{texts}}    {answer}\n" for number, line, answer in rows)
+
+    def hang_text(self):
+        point = self.hanging[0]
+        callers = self.callers(point)
+        knot = [f"t{it}" for it in sorted(knot_of(point.machine, callers))]
+        if not knot:
+            return "  stuck: whoever has a line left waits, and nothing can end that\n"
+        others = "; nor the other waits" if is_stuck(point.machine, callers) and len(knot) < len(point.machine.waits) else ""
+        if len(knot) == 1:
+            return f"  nothing can end the wait of {knot[0]}{others}\n"
+        return f"  {', '.join(knot[:-1])} and {knot[-1]} hold each other: nothing can end their waits{others}\n"
+
+    def waiters_text(self):
+        point, told = self.hanging[0], ""
+        for who, wait in sorted(point.machine.waits.items()):
+            number = self.script.lanes[who][point.at[who] - 1][0]
+            kind = "all" if wait.all else "any" if wait.objects else "sleep"
+            time = "inf" if wait.deadline is None else f"until {wait.deadline}"
+            named = "".join(f" {self.name_of(it)}" for it in wait.objects)
+            gap = "   " if len(wait.objects) == 1 else "\n    "
+            states = "".join(f"{gap}{self.name_of(it)}: {object_text(point.machine, it)}" for it in wait.objects)
+            told += f"  t{who} since line {number}  {kind} {time} {'alertable' if wait.alertable else 'plain'}{named}{states}\n"
+        return told
+
+    def name_of(self, number):
+        """A thread by its number, any other object by the first name that it was given."""
+        if number < self.script.threads:
+            return f"t{number}"
+        return next(name for name, handle in self.script.names.handles.items() if self.script.start.handles[handle][0] == number)
+
+
+def counted(count, what):
+    return f"{count} {what}{'s' * (count != 1)}"
+
+
+def status_name(status):
+    if status < 64:
+        return f"WAIT_OBJECT_0+{status}"
+    return f"WAIT_ABANDONED_0+{status - 128}" if status < 192 else {0xC0: "WAIT_IO_COMPLETION", 0x102: "WAIT_TIMEOUT"}[status]
+
+
+def answer_name(answer):
+    first, _, second = answer.partition(" ")
+    return status_name(int(second, 16)) if first == "status" else REFUSALS[int(second)] if first == "error" else answer
+
+
+def doing(machine, who):
+    it = machine.objects[who]
+    return "waits" if who in machine.waits else "has ended" if not isinstance(it, Thread) or it.ended else "runs"
+
+
+def object_text(machine, number):
+    """The object's state, in words."""
+    it = machine.objects[number]
+    unnamed = "" if any(opened and opened[0] == number for opened in machine.handles) else ", which no handle names"
+    is_set = "set" if getattr(it, "set", None) else "not set"
+    if isinstance(it, Event):
+        return f"event, {is_set}{unnamed}"
+    if isinstance(it, Semaphore):
+        return f"semaphore, count {it.count} of {it.maximum}{unnamed}"
+    if isinstance(it, Timer):
+        return f"timer, {is_set}, {f'due at {it.armed.due}' if it.armed else 'not armed'}{unnamed}"
+    if isinstance(it, Mutex) and it.owner is not None:
+        return f"mutex, owned by t{it.owner} ({counted(it.depth, 'release')} owed), who {doing(machine, it.owner)}{unnamed}"
+    if isinstance(it, Mutex):
+        return f"mutex, {'abandoned' if it.mark else 'free'}{unnamed}"
+    return "gone" + unnamed if isinstance(it, Gone) else f"thread, who {doing(machine, number)}{unnamed}"

@@ -1,0 +1,3 @@
+pub mod Heads
+pub mod Adding
+pub mod Telling

@@ -1,0 +1,10 @@
+use Rattle.nt_hangs.specs.Watching.{seen_of}
+use Rattle.nt_orders.proofs.Adding.{is_plan}
+use Rattle.nt_orders.proofs.lanes.read_script.Goals as goal
+
+pub returns-in_ok-read_lanes-in-Ok-see_head-clause-plan : goal.returns-in_ok-read_lanes-in-Ok-see_head-clause-plan
+returns-in_ok-read_lanes-in-Ok-see_head-clause-plan c =
+    let begun = c.in_ok-script-in-Ok-see_head in
+    let read = c.in_ok-read_lanes-in-Ok-see_head in
+    is_plan c.args.input.now c.in-Ok-see_head.rest.now c.in-Ok-see_head.count (seen_of c.see_head.new.watch) begun.script.session c.read_lanes.new.self.session begun.script.plan c.read_lanes.new.self.plan
+    c.in-Ok-see_head.ensures.head begun.ensures.session begun.ensures.plan read.ensures.plan read.ensures.session

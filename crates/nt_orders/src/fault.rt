@@ -1,0 +1,88 @@
+//! Why a script's orders are not explored.
+ghost use Rattle.std.specs.Prelude.{◌≡◌, ◌++◌, IfOk, OnOk, codes, decimal};
+ghost use Rattle.nt_orders.specs.Faults.{line_of, line_text, message_of, reason_of, status_of};
+
+use nt_hangs::put_number;
+use nt_script::RunFault;
+use std::alloc::{AllocError, Global};
+
+/// Why the orders of a script are not explored.
+#[derive(Clone, Copy, Debug, PartialEq, Eq)]
+pub enum OrdersFault {
+    /// A line can't be carried out or read.
+    Run(RunFault),
+    /// The line creates something, and a line before it does not.
+    Late { line: u64 },
+    /// No thread has the number of the line's caller.
+    NoThread { line: u64 },
+    /// Memory was refused to the search, or to the report.
+    Memory,
+}
+
+/// The fault in words, and its line.
+fn reason_of(fault: OrdersFault) -> &'static str
+    ensures { result.now ≡ reason_of fault }
+{
+    match fault {
+        OrdersFault::Run(fault) => fault.reason(),
+        OrdersFault::Late { .. } => "creation after a call",
+        OrdersFault::NoThread { .. } => "no such thread",
+        OrdersFault::Memory => "out of memory",
+    }
+}
+
+/// The line of which it is told, if it is told of one.
+fn line_of(fault: OrdersFault) -> Option<u64>
+    ensures { result ≡ line_of fault }
+{
+    match fault {
+        OrdersFault::Run(fault) => Some(fault.line()),
+        OrdersFault::Late { line } | OrdersFault::NoThread { line } => Some(line),
+        OrdersFault::Memory => None,
+    }
+}
+
+/// The exit status: 2 if the script is at fault, 1 if memory was refused.
+pub(crate) fn status_of(fault: OrdersFault) -> u8
+    ensures { result ≡ status_of fault }
+{
+    match fault {
+        OrdersFault::Run(RunFault::Script { .. }) => 2,
+        OrdersFault::Run(
+            RunFault::Read { .. } | RunFault::Write { .. } | RunFault::Memory { .. },
+        ) => 1,
+        OrdersFault::Late { .. } | OrdersFault::NoThread { .. } => 2,
+        OrdersFault::Memory => 1,
+    }
+}
+
+/// Puts the number of a line.
+fn put_line(out: &mut Vec<u8>, line: u64) -> Result<(), AllocError>
+    ensures { OnOk result (out.new.items ≡ out.old.items ++ (codes "line " ++ (decimal line ++ codes ": "))) }
+{
+    out.extend_from_slice(b"line ")?;
+    put_number(out, line)?;
+    out.extend_from_slice(b": ")
+}
+
+/// Puts the number of the line, if there is one.
+fn put_line_of(out: &mut Vec<u8>, line: Option<u64>) -> Result<(), AllocError>
+    ensures { OnOk result (out.new.items ≡ out.old.items ++ line_text line) }
+{
+    match line {
+        Some(line) => put_line(out, line),
+        None => Ok(()),
+    }
+}
+
+/// The line that tells why.
+pub(crate) fn message_of(alloc: Global, fault: OrdersFault) -> Result<Vec<u8>, AllocError>
+    ensures { IfOk result (λ line. line.items ≡ message_of fault) }
+{
+    let mut line = Vec::new(alloc);
+    line.extend_from_slice(b"ntlook: ")?;
+    put_line_of(&mut line, line_of(fault))?;
+    line.extend_from_slice(reason_of(fault).as_bytes())?;
+    line.push(b'\n')?;
+    Ok(line)
+}

@@ -1,0 +1,78 @@
+//! The head of a script: the lines before the first call that creates nothing.
+ghost use Rattle.std.specs.Prelude.{◌≡◌, IfErr, IfOk};
+ghost use Rattle.nt_script.specs.Progress.{progress_of};
+ghost use Rattle.nt_hangs.specs.Watching.{seen_of, unseen};
+ghost use Rattle.nt_orders.specs.Plans.{is_of_head, IsHeadFault, ReadsHead};
+ghost use Rattle.nt_orders.specs.Reading.{IsEnd, IsFaultAt};
+
+use nt_hangs::{Watch, first_line};
+use nt_script::{LineFault, RunFault, ScriptFault, Statement};
+use std::alloc::Global;
+
+/// The most bytes in a line.
+pub(crate) const LINE_BYTES: usize = 4096;
+
+/// Why the line with this number can't be carried out.
+pub(crate) fn fault_at(line: u64, fault: LineFault) -> RunFault
+    ensures { IsFaultAt line fault result }
+{
+    match fault {
+        LineFault::Memory => RunFault::Memory { line },
+        LineFault::Script(fault) => RunFault::Script { line, fault },
+    }
+}
+
+/// Whether the statement is of the head: it creates something, or is blank.
+fn is_of_head(statement: &Statement) -> bool
+    ensures { result ≡ is_of_head statement.now }
+{
+    match statement {
+        Statement::Blank | Statement::Create { .. } => true,
+        Statement::Perform { .. } | Statement::Tick { .. } => false,
+    }
+}
+
+/// Whether the head ends before this line.
+fn ends_head(watch: &Watch, alloc: Global, line: &[u8]) -> Result<bool, LineFault>
+    ensures { IsEnd (seen_of watch.now).now line.now result }
+{
+    if line.len() > LINE_BYTES {
+        return Err(LineFault::Script(ScriptFault::LineTooLong));
+    }
+    match watch.session() {
+        Some(session) => match session.read(alloc, line) {
+            Ok(statement) => Ok(!is_of_head(&statement)),
+            Err(fault) => Err(fault),
+        },
+        None => Ok(false),
+    }
+}
+
+/// Carries out the head, and answers how many lines it has, and what stands after it.
+pub(crate) fn see_head<'a>(
+    watch: &mut Watch,
+    alloc: Global,
+    input: &'a [u8],
+) -> Result<(u64, &'a [u8]), RunFault>
+    requires { seen_of watch.old ≡ unseen }
+    ensures head { IfOk result (λ read. ReadsHead input.now read.1.now read.0 (seen_of watch.new)) }
+    ensures fault { IfErr result (IsHeadFault input.now) }
+{
+    let mut rest = input;
+    let mut count: u64 = 0;
+    while !rest.is_empty() {
+        let (line, after) = first_line(rest);
+        match ends_head(watch, alloc, line) {
+            Ok(false) => {}
+            Ok(true) => return Ok((count, rest)),
+            Err(fault) => return Err(fault_at(count + 1, fault)),
+        }
+        match watch.see_line(alloc, count + 1, line) {
+            Ok(()) => {}
+            Err(fault) => return Err(fault),
+        }
+        rest = after;
+        count += 1;
+    }
+    Ok((count, rest))
+}

@@ -1,0 +1,232 @@
+//! The lines after the head, by lanes.
+ghost use Rattle.std.specs.Prelude.{◌≡◌, ◌+◌, ◌≤◌, [], Some, length, replicate, IfErr, IfOk, OnOk};
+ghost use Rattle.nt_core.specs.Dispatcher.{state};
+ghost use Rattle.nt_lines.specs.Lines.{lines_of};
+ghost use Rattle.nt_script.specs.Progress.{progress};
+ghost use Rattle.nt_script.specs.declared.parser.Statement.TheVariants as statement;
+ghost use Rattle.nt_hangs.specs.Watching.{seen_of};
+ghost use Rattle.nt_explore.specs.Search.{asked};
+ghost use Rattle.nt_orders.specs.Ending.{IsTold};
+ghost use Rattle.nt_orders.specs.Plans.{IsPlanOf, ReadsLanes, with_ask};
+ghost use Rattle.nt_orders.specs.Reading.{AddsLine, IsAskOf};
+
+use crate::fault::OrdersFault;
+use crate::head::{LINE_BYTES, fault_at, see_head};
+use nt_calls::Call;
+use nt_explore::{Ask, Plan};
+use nt_hangs::{Watch, first_line};
+use nt_lines::{first_word, text_of};
+use nt_script::{LineFault, RunFault, ScriptFault, Session, Statement};
+use std::alloc::{AllocError, Global};
+
+/// A line of a lane.
+#[derive(Drop)]
+pub struct Line {
+    /// Its number in the script, from 1 on.
+    pub number: u64,
+    /// Its words, with a space between two.
+    pub text: Vec<u8>,
+}
+
+/// A script as a plan: the dispatcher after its head, and each lane's lines.
+#[derive(Drop)]
+pub struct Script {
+    /// The dispatcher after the head, and the names.
+    pub(crate) session: Session,
+    /// By the places of names, the numbers of the objects that they were given to.
+    pub(crate) objects: Vec<u32>,
+    pub(crate) plan: Plan,
+    /// By lane, the lines that the plan's asks stand on.
+    pub(crate) lines: Vec<Vec<Line>>,
+}
+
+/// Puts the words of a text, with a space between two.
+fn put_words(out: &mut Vec<u8>, text: &[u8]) -> Result<(), AllocError> {
+    let mut left = text;
+    for _word in 0..text.len() {
+        let Some((word, rest)) = first_word(left) else {
+            return Ok(());
+        };
+        if !out.is_empty() {
+            out.push(b' ')?;
+        }
+        out.extend_from_slice(word)?;
+        left = rest;
+    }
+    Ok(())
+}
+
+/// The words of a line, with a space between two.
+fn words_of(alloc: Global, line: &[u8]) -> Result<Vec<u8>, AllocError> {
+    let mut text = Vec::new(alloc);
+    if let Some(said) = text_of(line) {
+        put_words(&mut text, said)?;
+    }
+    Ok(text)
+}
+
+/// Why a line is not of a lane.
+enum LaneFault {
+    Line(LineFault),
+    Late,
+    NoThread,
+}
+
+impl From<LineFault> for LaneFault {
+    fn from(fault: LineFault) -> LaneFault {
+        LaneFault::Line(fault)
+    }
+}
+
+impl From<AllocError> for LaneFault {
+    fn from(_error: AllocError) -> LaneFault {
+        LaneFault::Line(LineFault::Memory)
+    }
+}
+
+/// The same with the line's number.
+fn orders_fault_at(line: u64, fault: LaneFault) -> OrdersFault
+    ensures { IsTold result }
+{
+    match fault {
+        LaneFault::Line(fault) => OrdersFault::Run(fault_at(line, fault)),
+        LaneFault::Late => OrdersFault::Late { line },
+        LaneFault::NoThread => OrdersFault::NoThread { line },
+    }
+}
+
+/// The lane of a caller, and the call that it is asked for.
+fn call_of(who: u32, call: Call, threads: u32) -> Result<Option<(u32, Ask)>, LaneFault>
+    ensures { IsAskOf threads (statement.Perform who call) result }
+{
+    if who >= threads {
+        Err(LaneFault::NoThread)
+    } else {
+        Ok(Some((who, Ask::Call(call))))
+    }
+}
+
+/// The lane and what it is asked for by a statement, if it is asked for anything.
+fn ask_of(statement: Statement, threads: u32) -> Result<Option<(u32, Ask)>, LaneFault>
+    ensures { IsAskOf threads statement result }
+{
+    match statement {
+        Statement::Blank => Ok(None),
+        Statement::Create { .. } => Err(LaneFault::Late),
+        Statement::Perform { who, call } => call_of(who, call, threads),
+        Statement::Tick { moment } => Ok(Some((threads, Ask::Tick(moment)))),
+    }
+}
+
+/// No line yet, for so many threads and the ticks.
+fn no_lines(alloc: Global, threads: u32) -> Result<Vec<Vec<Line>>, AllocError> {
+    let mut lines = Vec::new(alloc);
+    for _lane in 0..threads as usize + 1 {
+        lines.push(Vec::new(alloc))?;
+    }
+    Ok(lines)
+}
+
+impl Script {
+    /// After its head, with no line of a lane yet.
+    fn new(alloc: Global, session: Session, objects: Vec<u32>) -> Result<Script, AllocError>
+        ensures session { IfOk result (λ script. script.session ≡ session) }
+        ensures plan { IfOk result (λ script. script.plan ≡ replicate ((state session.core).threads + 1) []) }
+    {
+        let threads = session.core().threads();
+        let plan = Plan::new(alloc, threads)?;
+        let lines = no_lines(alloc, threads)?;
+        Ok(Script {
+            session,
+            objects,
+            plan,
+            lines,
+        })
+    }
+
+    /// Puts the line with this number last in its lane.
+    fn add(&mut self, lane: u32, ask: Ask, number: u64, text: Vec<u8>) -> Result<(), AllocError>
+        ensures plan { OnOk result (self.new.plan ≡ with_ask self.old.plan lane (asked ask)) }
+        ensures session { self.new.session ≡ self.old.session }
+    {
+        if (lane as usize) < self.lines.len() {
+            self.lines[lane as usize].push(Line { number, text })?;
+        }
+        self.plan.add(lane, ask)
+    }
+
+    /// Reads the line with this number, and puts it last in its lane.
+    fn read(&mut self, alloc: Global, number: u64, line: &[u8]) -> Result<(), LaneFault>
+        ensures plan { OnOk result (AddsLine (progress self.old.session) line.now self.old.plan self.new.plan) }
+        ensures session { self.new.session ≡ self.old.session }
+    {
+        if line.len() > LINE_BYTES {
+            return Err(LaneFault::Line(LineFault::Script(ScriptFault::LineTooLong)));
+        }
+        let statement = self.session.read(alloc, line)?;
+        match ask_of(statement, self.session.core().threads())? {
+            Some((lane, ask)) => {
+                let text = words_of(alloc, line)?;
+                self.add(lane, ask, number, text)?;
+                Ok(())
+            }
+            None => Ok(()),
+        }
+    }
+
+    /// Reads the lines after so many.
+    fn read_lanes(&mut self, alloc: Global, count: u64, input: &[u8]) -> Result<(), OrdersFault>
+        ensures plan { OnOk result (ReadsLanes (progress self.old.session) (lines_of input.now) self.old.plan self.new.plan) }
+        ensures session { self.new.session ≡ self.old.session }
+        ensures fault { IfErr result IsTold }
+    {
+        let mut rest = input;
+        let mut number = count;
+        while !rest.is_empty() {
+            let (line, after) = first_line(rest);
+            number = number.saturating_add(1);
+            match self.read(alloc, number, line) {
+                Ok(()) => rest = after,
+                Err(fault) => return Err(orders_fault_at(number, fault)),
+            }
+        }
+        Ok(())
+    }
+}
+
+/// The script after its head, which was carried out.
+fn begin(alloc: Global, watch: Watch, count: u64) -> Result<Script, OrdersFault>
+    ensures session { IfOk result (λ script. (seen_of watch).now ≡ Some (progress script.session)) }
+    ensures plan { IfOk result (λ script. script.plan ≡ replicate ((state script.session.core).threads + 1) []) }
+    ensures fault { IfErr result IsTold }
+{
+    let (session, objects) = watch.into_parts();
+    match session {
+        Some(session) => match Script::new(alloc, session, objects) {
+            Ok(script) => Ok(script),
+            Err(_) => Err(OrdersFault::Memory),
+        },
+        None => Err(OrdersFault::Run(RunFault::Script {
+            line: count.saturating_add(1),
+            fault: ScriptFault::ThreadsExpected,
+        })),
+    }
+}
+
+/// Carries out the head of a script, and reads the lines after it.
+pub(crate) fn read_script(alloc: Global, input: &[u8]) -> Result<Script, OrdersFault>
+    ensures plan { IfOk result (λ script. IsPlanOf input.now script.plan (state script.session.core)) }
+    ensures fault { IfErr result IsTold }
+{
+    match Watch::new(alloc) {
+        Ok(mut watch) => match see_head(&mut watch, alloc, input) {
+            Ok((count, rest)) => {
+                let mut script = begin(alloc, watch, count)?;
+                script.read_lanes(alloc, count, rest)?;
+                Ok(script)
+            }
+            Err(fault) => Err(OrdersFault::Run(fault)),
+        },
+        Err(_) => Err(OrdersFault::Memory),
+    }
+}

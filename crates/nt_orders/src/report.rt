@@ -1,0 +1,203 @@
+//! The report of a script's orders.
+ghost use Rattle.std.specs.Prelude.{◌≡◌, IfOk};
+ghost use Rattle.nt_core.specs.Dispatcher.{state};
+ghost use Rattle.nt_hangs.specs.Watching.{before_zero};
+ghost use Rattle.nt_orders.specs.Ending.{code_of, IsJudged, IsOutcome};
+
+use crate::fault::OrdersFault;
+use crate::hang::{held_at, put_hang};
+use crate::lanes::{Script, read_script};
+use crate::rows::put_rows;
+use nt_core::Core;
+use nt_explore::{Explored, Loss, Verdict, Watcher, explore};
+use nt_hangs::{Report, before_zero, put_number, put_waiters};
+use nt_look::is_stuck;
+use std::alloc::{AllocError, Global};
+
+/// Nobody is told how far the search is.
+#[derive(Drop)]
+struct Nobody;
+
+impl Watcher for Nobody {
+    fn tell(&mut self, _looked: usize, _states: usize) {}
+}
+
+/// Puts a count and what is counted, with an `s` unless it is one.
+fn put_many(out: &mut Vec<u8>, count: usize, what: &[u8]) -> Result<(), AllocError> {
+    put_number(out, count as u64)?;
+    out.extend_from_slice(what)?;
+    out.extend_from_slice(if count == 1 { b"" } else { b"s" })
+}
+
+/// Puts the file's name, and how many states and steps there are.
+fn put_counts(out: &mut Vec<u8>, file: &[u8], explored: &Explored) -> Result<(), AllocError> {
+    out.extend_from_slice(file)?;
+    out.extend_from_slice(b": ")?;
+    put_many(out, explored.states, b" state")?;
+    out.extend_from_slice(b", ")?;
+    put_many(out, explored.steps, b" step")?;
+    out.extend_from_slice(b", ")
+}
+
+/// Puts how many states hang, and that others were not looked at.
+fn put_hangs(out: &mut Vec<u8>, hangs: usize, all: bool) -> Result<(), AllocError> {
+    put_number(out, hangs as u64)?;
+    out.extend_from_slice(if hangs == 1 { b" hangs" } else { b" hang" })?;
+    out.extend_from_slice(if all { b"" } else { b", and the bound was met" })
+}
+
+/// Puts how long the shortest order is.
+fn put_shortest(out: &mut Vec<u8>, count: usize) -> Result<(), AllocError> {
+    out.extend_from_slice(b"; the shortest order, ")?;
+    put_many(out, count, b" line")?;
+    out.extend_from_slice(b":\n")
+}
+
+/// Puts that no order hangs that was tried.
+fn put_bound(out: &mut Vec<u8>, level: usize) -> Result<(), AllocError> {
+    out.extend_from_slice(b"the bound was met: no order of fewer than ")?;
+    put_many(out, level.saturating_add(1), b" line")?;
+    out.extend_from_slice(b" hangs\n")
+}
+
+/// Puts since when a wait was lost, and whose.
+fn put_lost(out: &mut Vec<u8>, loss: &Loss) -> Result<(), AllocError> {
+    out.extend_from_slice(b"  lost after ")?;
+    put_many(out, loss.lanes.len(), b" line")?;
+    out.extend_from_slice(b": the wait of t")?;
+    put_number(out, u64::from(loss.thread))?;
+    out.extend_from_slice(b" ends in no order from here on\n")
+}
+
+/// Where an order ends: the dispatcher, and by thread the line on which it waits.
+#[derive(Drop)]
+struct End {
+    core: Core,
+    since: Vec<u64>,
+}
+
+/// Puts who hangs, in a line.
+fn put_hang_line(
+    out: &mut Vec<u8>,
+    alloc: Global,
+    core: &Core,
+    over: &[bool],
+) -> Result<(), AllocError> {
+    let held = held_at(alloc, core, over)?;
+    out.extend_from_slice(b"  ")?;
+    put_hang(out, core, is_stuck(core, over), &held)?;
+    out.extend_from_slice(b"\n")
+}
+
+impl Script {
+    /// Puts the order, and who hangs at its end.
+    fn put_order(
+        &self,
+        out: &mut Vec<u8>,
+        alloc: Global,
+        lanes: &[u32],
+    ) -> Result<End, AllocError> {
+        let mut core = self.session.core().copy().map_err(|_| AllocError)?;
+        let mut places = Vec::from_elem(alloc, 0, self.plan.lanes())?;
+        let rows = self.walk(alloc, &mut core, &mut places, lanes)?;
+        put_rows(out, 2, rows.as_slice())?;
+        let over = self.over(alloc, &core, &places)?;
+        put_hang_line(out, alloc, &core, &over)?;
+        let since = self.since(alloc, &places)?;
+        Ok(End { core, since })
+    }
+
+    /// Puts who waits where an order ends. Answers the dispatcher of the start.
+    fn put_end(&mut self, out: &mut Vec<u8>, end: End) -> Result<Core, AllocError> {
+        let start = self.session.replace_core(end.core);
+        put_waiters(out, &self.session, &self.objects, b"", &end.since)?;
+        Ok(start)
+    }
+
+    /// Puts the order that loses a wait.
+    fn put_loss(
+        &self,
+        out: &mut Vec<u8>,
+        alloc: Global,
+        start: &mut Core,
+        loss: &Loss,
+    ) -> Result<(), AllocError> {
+        let mut places = Vec::from_elem(alloc, 0, self.plan.lanes())?;
+        let rows = self.walk(alloc, start, &mut places, loss.lanes.as_slice())?;
+        put_lost(out, loss)?;
+        put_rows(out, 4, rows.as_slice())
+    }
+
+    /// Puts the order that hangs, and since when a wait was lost, where that was earlier.
+    fn put_hanging(
+        &mut self,
+        out: &mut Vec<u8>,
+        alloc: Global,
+        lanes: &[u32],
+        loss: &Option<Loss>,
+    ) -> Result<(), AllocError> {
+        put_shortest(out, lanes.len())?;
+        let end = self.put_order(out, alloc, lanes)?;
+        let mut start = self.put_end(out, end)?;
+        match loss {
+            Some(loss) if loss.lanes.len() < lanes.len() => {
+                self.put_loss(out, alloc, &mut start, loss)
+            }
+            _ => Ok(()),
+        }
+    }
+
+    /// The report of what was explored.
+    fn report(
+        &mut self,
+        alloc: Global,
+        file: &[u8],
+        explored: &Explored,
+    ) -> Result<Report, AllocError>
+        ensures { IfOk result (λ report. report.code ≡ code_of explored.now.verdict) }
+    {
+        let mut text = Vec::new(alloc);
+        put_counts(&mut text, file, explored)?;
+        let code = match &explored.verdict {
+            Verdict::None => {
+                text.extend_from_slice(b"none hangs\n")?;
+                0
+            }
+            Verdict::Met { level } => {
+                put_bound(&mut text, *level)?;
+                4
+            }
+            Verdict::Hangs { lanes, loss } => {
+                put_hangs(&mut text, explored.hangs, loss.is_some())?;
+                self.put_hanging(&mut text, alloc, lanes.as_slice(), loss)?;
+                3
+            }
+        };
+        Ok(Report { text, code })
+    }
+
+    /// Explores the orders, and reports.
+    fn explore(&mut self, alloc: Global, file: &[u8], most: usize) -> Result<Report, AllocError>
+        ensures { IfOk result (λ report. IsJudged self.old.plan (state self.old.session.core) report.code) }
+    {
+        let explored = explore(alloc, self.session.core(), &self.plan, most, &mut Nobody)?;
+        self.report(alloc, file, &explored)
+    }
+}
+
+/// Explores the orders of a script's lines until so many states are met, and reports. The script ends at its first zero byte. `file` is what
+/// the report calls it.
+pub fn report_on(
+    alloc: Global,
+    file: &[u8],
+    input: &[u8],
+    most: usize,
+) -> Result<Report, OrdersFault>
+    ensures { IsOutcome (before_zero input.now) result }
+{
+    let mut script = read_script(alloc, before_zero(input))?;
+    match script.explore(alloc, file, most) {
+        Ok(report) => Ok(report),
+        Err(_) => Err(OrdersFault::Memory),
+    }
+}

@@ -1,0 +1,24 @@
+//! Counts and gaps in a text.
+ghost use Rattle.std.specs.Prelude.{◌≡◌, ◌++◌, ◌==◌, OnOk, length, decimal};
+ghost use Rattle.nt_orders.specs.Rows.{gap};
+
+use itoa::Buffer;
+use std::alloc::AllocError;
+
+/// How many digits the number has.
+pub(crate) fn digits_in(number: u64) -> usize
+    ensures { result ≡ length (decimal number) }
+{
+    let mut buffer = Buffer::new();
+    buffer.format(number).len()
+}
+
+/// Puts so many spaces.
+pub(crate) fn put_gap(out: &mut Vec<u8>, count: usize) -> Result<(), AllocError>
+    ensures { OnOk result (out.new.items ≡ out.old.items ++ gap count) }
+{
+    match out.len().checked_add(count) {
+        Some(length) => out.resize(length, b' '),
+        None => Err(AllocError),
+    }
+}
