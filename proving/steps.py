@@ -13,6 +13,7 @@ import kit
 from command import noted, run
 from crates import crates_of, text_of
 from edits import edits_in, edits_of, folder_of
+from pictures import rendered
 from proofs import Proofs, handles_of
 from rooms import fill_room
 from telling import COUNTED, Step
@@ -149,7 +150,7 @@ def drawn(top, script, picture):
 
 def examples(top, progress):
     """What the launchers write of each example is the file beside it. Not each has a file of why its threads wait, a timeline, or orders. A picture of the docs
-    is what `ntlook timeline` draws."""
+    is what `ntlook timeline` draws, and a browser draws it."""
     passed, failed = 0, []
     for script in sorted(glob.glob(f"{top}/examples/*.nts")):
         for words, ending, statuses in ON_EXAMPLES:
@@ -163,10 +164,10 @@ def examples(top, progress):
             else:
                 passed += 1
     for script, picture in PICTURES:
-        same, told = drawn(top, script, picture)
-        for it in told:
-            progress.tell(it)
-        passed, failed = passed + same, failed + [picture] * (not same)
+        for same, told in (drawn(top, script, picture), rendered(f"{top}/{picture}")):
+            for it in told:
+                progress.tell(it.replace(f"{top}/", ""))
+            passed, failed = passed + bool(same), failed + [picture] * (same is False)
     return Step(passed, failed)
 
 
@@ -195,11 +196,12 @@ def unproved(top):
     ]
 
 
-def proved(top, tree, work, tries_all):
+def proved(top, tree, work, tries_each, tries_all):
+    """The steps with proofs: with each wrong turn, or a share; with every case and planted fault of C, or some."""
     scripts = [os.path.relpath(it, tree) for it in sorted(glob.glob(f"{tree}/examples/*.nts") + glob.glob(f"{tree}/tests/scripts/*/*.nts"))]
     return [
         ("proofs, tests and programs", functools.partial(proofs_of_all, tree, work), True),
-        ("wrong turns", functools.partial(wrong_turns, top, tree, work, tries_all), False),
+        ("wrong turns", functools.partial(wrong_turns, top, tree, work, tries_each), False),
         ("the tests, each growth refused", command(tree, "tests/growths/tests"), False),
         ("object numbers and handles", command(tree, "tests/types"), False),
         ("what closed objects leave", command(tree, "tests/memory"), False),

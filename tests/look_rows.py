@@ -137,6 +137,21 @@ CROSSES = """ 26 states, 34 steps, 1 hangs; the shortest order, 4 lines:
     line 8  t1 any inf plain m2    WAIT_OBJECT_0+0
     line 5  t0 any inf plain m2    pending
 """
+# The same with names that comments tell, wherever they stand: the last one counts.
+TITLED = CROSSED.replace(b"t0 mutex m1", b"; t0 is first\nt0 mutex m1\n; m1 is accounts") + b"; t0 is main\n; m2 of nobody\n"
+TITLES = """ 26 states, 34 steps, 1 hangs; the shortest order, 4 lines:
+  line  6  t0 any inf plain m1    WAIT_OBJECT_0+0
+  line 10  t1 any inf plain m2    WAIT_OBJECT_0+0
+  line  7  t0 any inf plain m2    pending
+  line 11  t1 any inf plain m1    pending
+  t0 main and t1 hold each other: nothing can end their waits
+  t0 main since line 7  any inf plain m2   m2: mutex, owned by t1 (1 release owed), who waits
+  t1 since line 11  any inf plain m1   m1 accounts: mutex, owned by t0 main (1 release owed), who waits
+  lost after 3 lines: the wait of t0 main ends in no order from here on
+    line  6  t0 any inf plain m1    WAIT_OBJECT_0+0
+    line 10  t1 any inf plain m2    WAIT_OBJECT_0+0
+    line  7  t0 any inf plain m2    pending
+"""
 # Each kind of answer, and each kind of name of a status or an error.
 ANSWERS = b"""threads 1
 t0 event e
@@ -227,6 +242,7 @@ FILES = {
     "named": NAMED,
     "refused.nts": b"threads 1\nt0 event e\nt0 unlock e\nt0 sleep 5 alertable\ntick 50000\n",
     "crossed.nts": CROSSED,
+    "titled.nts": TITLED,
     "crossed_crlf.nts": CROSSED.replace(b"\n", b"\r\n"),
     "answers.nts": ANSWERS,
     "ends.nts": b"threads 2\nt0 event e\nt0 event f\nt0 any inf plain e\nt0 any inf plain f\nt1 set e\n",
@@ -238,6 +254,11 @@ FILES = {
     "late_dup.nts": b"threads 1\nt0 event e\ntick 5\nt0 dup f e 0\n",
     "no_thread.nts": b"threads 2\nt0 event e\nt0 set e\nt2 set e\n",
     "lane_fault.nts": b"threads 2\nt0 event e\nt0 set e\nt1 sett e\n",
+    "late_first.nts": b"threads 2\nt0 event e\nt0 set e\nt0 event f\nt2 set e\nt1 sett e\n",
+    "thread_first.nts": b"threads 2\nt0 event e\nt0 set e\nt2 set e\nt0 event f\n",
+    "fault_first.nts": b"threads 2\nt0 event e\nt0 set e\nt1 sett e\nt0 event f\nt2 set e\n",
+    "late_taken.nts": b"threads 1\nt0 event e\nt0 set e\nt0 event e\n",
+    "comments.nts": b"; nothing\n\n; but this",
     "unnamed.nts": b"threads 1\nt0 semaphore s 3 2\nt0 release s 1\n",
     "renamed.nts": b"threads 2\nt0 event e\nt0 dup again e 1048578\nt1 any inf plain again\nt0 close e\n",
 }
@@ -318,6 +339,7 @@ EXPLORES = [
     ("the same on standard input", ["explore", "-"], CROSSED, 3, f"/dev/stdin:{CROSSES}", []),
     ("as many states as there are", ["explore", "crossed.nts", "--most", "26"], b"", 3, f"crossed.nts:{CROSSES}", []),
     ("the option first", ["explore", "--most", "4000000000", "crossed.nts"], b"", 3, f"crossed.nts:{CROSSES}", []),
+    ("names that comments tell", ["explore", "titled.nts"], b"", 3, f"titled.nts:{TITLES}", []),
     ("each kind of answer", ["explore", "answers.nts"], b"", 3, ANSWERED, []),
     ("a wait that another thread ends", ["explore", "ends.nts"], b"", 3, ENDED, []),
     ("a wait that a tick ends", ["explore", "ticks.nts"], b"", 3, TICKED, []),
@@ -329,6 +351,11 @@ EXPLORES = [
     ("a duplicate after a tick", ["explore", "late_dup.nts"], b"", 2, "", ["ntlook: line 4: creation after a call", "late_dup.nts:4:1: creation after a call", "  t0 dup f e 0"]),
     ("a thread that there is not", ["explore", "no_thread.nts"], b"", 2, "", ["ntlook: line 4: no such thread", "no_thread.nts:4:1: no such thread", "  t2 set e"]),
     ("a fault in a lane", ["explore", "lane_fault.nts"], b"", 2, "", ["ntlook: line 4: unknown word", "lane_fault.nts:4:4: unknown word", "  t1 sett e", "     ^^^^"]),
+    ("a late creation before other faults", ["explore", "late_first.nts"], b"", 2, "", ["ntlook: line 4: creation after a call", "late_first.nts:4:1: creation after a call"]),
+    ("no such thread before a late creation", ["explore", "thread_first.nts"], b"", 2, "", ["ntlook: line 4: no such thread", "thread_first.nts:4:1: no such thread"]),
+    ("a fault before both", ["explore", "fault_first.nts"], b"", 2, "", ["ntlook: line 4: unknown word", "fault_first.nts:4:4: unknown word"]),
+    ("a late creation whose name is taken", ["explore", "late_taken.nts"], b"", 2, "", ["ntlook: line 4: name taken", "late_taken.nts:4:10: name taken"]),
+    ("no `threads` line", ["explore", "comments.nts"], b"", 2, "", ["ntlook: line 4: threads expected"]),
     ("a name that was not given", ["explore", "unnamed.nts"], b"", 2, "", ["ntlook: line 3: unknown name", "unnamed.nts:3:1: unknown name"]),
     ("an empty file", ["explore", "empty.nts"], b"", 2, "", ["ntlook: line 1: threads expected", "empty.nts:1:1: threads expected"]),
     ("no file", ["explore", "none.nts"], b"", 1, "", ["ntlook: cannot open", "none.nts: No such file or directory"]),

@@ -87,3 +87,9 @@ def share_of(top, found):
         if some:
             chosen[crate] = some
     return chosen
+
+
+def is_mostly_untried(top, found):
+    """Whether a share would be more than two thirds of the edits."""
+    many = lambda chosen: sum(map(len, chosen.values()))
+    return 3 * many(share_of(top, found)) > 2 * many(found)
