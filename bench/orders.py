@@ -78,6 +78,7 @@ class Script:
 
     def __init__(self, text):
         (_, opening), *lines = lines_of(text)
+        self.called = dict(re.findall(r"(?m)^; (\S+) is (.*)$", text))
         self.threads = int(opening.split()[1])
         self.start, self.names = Machine(self.threads), Names()
         while lines and lines[0][1].split()[1] in CREATES:
@@ -86,6 +87,10 @@ class Script:
         for number, line in lines:
             first = line.split()[0]
             self.lanes[self.threads if first == "tick" else int(first[1:])].append((number, line))
+
+    def titled(self, word):
+        """The word, and what the last comment that tells it a name calls it."""
+        return f"{word} {self.called[word]}" if word in self.called else word
 
 
 # ---- what hangs
@@ -211,7 +216,7 @@ class Found:
         if loss is None:
             return told
         point, threads = self.losses[0]
-        told += f"  lost after {counted(loss, 'line')}: the wait of t{threads[0]} ends in no order from here on\n"
+        told += f"  lost after {counted(loss, 'line')}: the wait of {self.script.titled(f't{threads[0]}')} ends in no order from here on\n"
         return told + self.rows(point, 4)
 
     def rows(self, point, indent):
@@ -228,7 +233,7 @@ class Found:
     def hang_text(self):
         point = self.hanging[0]
         callers = self.callers(point)
-        knot = [f"t{it}" for it in sorted(knot_of(point.machine, callers))]
+        knot = [self.script.titled(f"t{it}") for it in sorted(knot_of(point.machine, callers))]
         if not knot:
             return "  stuck: whoever has a line left waits, and nothing can end that\n"
         others = "; nor the other waits" if is_stuck(point.machine, callers) and len(knot) < len(point.machine.waits) else ""
@@ -244,8 +249,8 @@ class Found:
             time = "inf" if wait.deadline is None else f"until {wait.deadline}"
             named = "".join(f" {self.name_of(it)}" for it in wait.objects)
             gap = "   " if len(wait.objects) == 1 else "\n    "
-            states = "".join(f"{gap}{self.name_of(it)}: {object_text(point.machine, it)}" for it in wait.objects)
-            told += f"  t{who} since line {number}  {kind} {time} {'alertable' if wait.alertable else 'plain'}{named}{states}\n"
+            states = "".join(f"{gap}{self.script.titled(self.name_of(it))}: {object_text(point.machine, it, self.script.titled)}" for it in wait.objects)
+            told += f"  {self.script.titled(f't{who}')} since line {number}  {kind} {time} {'alertable' if wait.alertable else 'plain'}{named}{states}\n"
         return told
 
     def name_of(self, number):
@@ -275,7 +280,7 @@ def doing(machine, who):
     return "waits" if who in machine.waits else "has ended" if not isinstance(it, Thread) or it.ended else "runs"
 
 
-def object_text(machine, number):
+def object_text(machine, number, titled):
     """The object's state, in words."""
     it = machine.objects[number]
     unnamed = "" if any(opened and opened[0] == number for opened in machine.handles) else ", which no handle names"
@@ -287,7 +292,7 @@ def object_text(machine, number):
     if isinstance(it, Timer):
         return f"timer, {is_set}, {f'due at {it.armed.due}' if it.armed else 'not armed'}{unnamed}"
     if isinstance(it, Mutex) and it.owner is not None:
-        return f"mutex, owned by t{it.owner} ({counted(it.depth, 'release')} owed), who {doing(machine, it.owner)}{unnamed}"
+        return f"mutex, owned by {titled(f't{it.owner}')} ({counted(it.depth, 'release')} owed), who {doing(machine, it.owner)}{unnamed}"
     if isinstance(it, Mutex):
         return f"mutex, {'abandoned' if it.mark else 'free'}{unnamed}"
     return "gone" + unnamed if isinstance(it, Gone) else f"thread, who {doing(machine, number)}{unnamed}"

@@ -6,6 +6,7 @@
 #include "../nt.h"
 #include "../win/windows.h"
 #include "../win/process.h"
+#include "script_words.h"
 
 #include <errno.h>
 #include <fcntl.h>

@@ -184,8 +184,8 @@ static inline void end_call(uint32_t refused, char *at)
 static inline char *put_wait(char *at, uint32_t ms, bool alertable, const uint32_t *handles, size_t count)
 {
     *at++ = ' ';
-    at = ms == NT_INFINITE ? put_text(at, "inf") : put_number(at, ms);
-    at = put_text(at, alertable ? " alertable" : " plain");
+    at = ms == NT_INFINITE ? put_text(at, WORD_INF) : put_number(at, ms);
+    at = put_text(at, alertable ? " " WORD_ALERTABLE : " " WORD_PLAIN);
     for (size_t i = 0; i < count; i++) {
         *at++ = ' ';
         at = put_number(at, handles[i]);

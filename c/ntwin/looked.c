@@ -52,42 +52,42 @@ static uint32_t looked_by_handle(uint32_t refused, uint32_t who, const char *wor
 
 static uint32_t look_exit(struct nt *nt, uint32_t who, struct nt_reply *reply)
 {
-    return looked_by_caller(nt_exit(nt, who, reply), who, "exit");
+    return looked_by_caller(nt_exit(nt, who, reply), who, WORD_EXIT);
 }
 
 static uint32_t look_next_apc(struct nt *nt, uint32_t who, struct nt_reply *reply)
 {
-    return looked_by_caller(nt_next_apc(nt, who, reply), who, "next");
+    return looked_by_caller(nt_next_apc(nt, who, reply), who, WORD_NEXT);
 }
 
 static uint32_t look_set_event(struct nt *nt, uint32_t who, uint32_t event, struct nt_reply *reply)
 {
-    return looked_by_handle(nt_set_event(nt, who, event, reply), who, "set ", event, false);
+    return looked_by_handle(nt_set_event(nt, who, event, reply), who, WORD_SET " ", event, false);
 }
 
 static uint32_t look_reset_event(struct nt *nt, uint32_t who, uint32_t event, struct nt_reply *reply)
 {
-    return looked_by_handle(nt_reset_event(nt, who, event, reply), who, "reset ", event, false);
+    return looked_by_handle(nt_reset_event(nt, who, event, reply), who, WORD_RESET " ", event, false);
 }
 
 static uint32_t look_pulse_event(struct nt *nt, uint32_t who, uint32_t event, struct nt_reply *reply)
 {
-    return looked_by_handle(nt_pulse_event(nt, who, event, reply), who, "pulse ", event, false);
+    return looked_by_handle(nt_pulse_event(nt, who, event, reply), who, WORD_PULSE " ", event, false);
 }
 
 static uint32_t look_release_mutex(struct nt *nt, uint32_t who, uint32_t mutex, struct nt_reply *reply)
 {
-    return looked_by_handle(nt_release_mutex(nt, who, mutex, reply), who, "unlock ", mutex, false);
+    return looked_by_handle(nt_release_mutex(nt, who, mutex, reply), who, WORD_UNLOCK " ", mutex, false);
 }
 
 static uint32_t look_cancel_timer(struct nt *nt, uint32_t who, uint32_t timer, struct nt_reply *reply)
 {
-    return looked_by_handle(nt_cancel_timer(nt, who, timer, reply), who, "cancel ", timer, false);
+    return looked_by_handle(nt_cancel_timer(nt, who, timer, reply), who, WORD_CANCEL " ", timer, false);
 }
 
 static uint32_t look_close_handle(struct nt *nt, uint32_t who, uint32_t handle, struct nt_reply *reply)
 {
-    return looked_by_handle(nt_close_handle(nt, who, handle, reply), who, "close ", handle, waiting.pending != 0);
+    return looked_by_handle(nt_close_handle(nt, who, handle, reply), who, WORD_CLOSE " ", handle, waiting.pending != 0);
 }
 
 /* Writes a creation, whose last words are these. With the last number that there is the journal ends. */
@@ -109,18 +109,18 @@ static uint32_t looked_creation(uint32_t refused, uint32_t who, const char *word
 
 static uint32_t look_create_event(struct nt *nt, uint32_t who, uint32_t flags, struct nt_reply *reply)
 {
-    static const char *const words[] = { "", " manual", " set", " manual set" };
-    return looked_creation(nt_create_event(nt, who, flags, reply), who, "event ", words[flags % 4], reply);
+    static const char *const words[] = { "", " " WORD_MANUAL, " " WORD_SET, " " WORD_MANUAL " " WORD_SET };
+    return looked_creation(nt_create_event(nt, who, flags, reply), who, WORD_EVENT " ", words[flags % 4], reply);
 }
 
 static uint32_t look_create_mutex(struct nt *nt, uint32_t who, uint32_t flags, struct nt_reply *reply)
 {
-    return looked_creation(nt_create_mutex(nt, who, flags, reply), who, "mutex ", (flags & NT_MUTEX_INITIAL_OWNER) != 0 ? " owned" : "", reply);
+    return looked_creation(nt_create_mutex(nt, who, flags, reply), who, WORD_MUTEX " ", (flags & NT_MUTEX_INITIAL_OWNER) != 0 ? " " WORD_OWNED : "", reply);
 }
 
 static uint32_t look_create_timer(struct nt *nt, uint32_t who, uint32_t flags, struct nt_reply *reply)
 {
-    return looked_creation(nt_create_timer(nt, who, flags, reply), who, "timer ", (flags & NT_TIMER_MANUAL_RESET) != 0 ? " manual" : "", reply);
+    return looked_creation(nt_create_timer(nt, who, flags, reply), who, WORD_TIMER " ", (flags & NT_TIMER_MANUAL_RESET) != 0 ? " " WORD_MANUAL : "", reply);
 }
 
 /* Two numbers, each after a space. */
@@ -137,19 +137,19 @@ static const char *pair_of(char *to, int64_t one, int64_t other)
 static uint32_t look_create_semaphore(struct nt *nt, uint32_t who, int32_t initial, int32_t maximum, struct nt_reply *reply)
 {
     char words[48];
-    return looked_creation(nt_create_semaphore(nt, who, initial, maximum, reply), who, "semaphore ", pair_of(words, initial, maximum), reply);
+    return looked_creation(nt_create_semaphore(nt, who, initial, maximum, reply), who, WORD_SEMAPHORE " ", pair_of(words, initial, maximum), reply);
 }
 
 static uint32_t look_duplicate(struct nt *nt, uint32_t who, uint32_t handle, uint32_t access, struct nt_reply *reply)
 {
     char words[48];
-    return looked_creation(nt_duplicate(nt, who, handle, access, reply), who, "dup ", pair_of(words, handle, access), reply);
+    return looked_creation(nt_duplicate(nt, who, handle, access, reply), who, WORD_DUP " ", pair_of(words, handle, access), reply);
 }
 
 static uint32_t look_release_semaphore(struct nt *nt, uint32_t who, uint32_t semaphore, int32_t count, struct nt_reply *reply)
 {
     const uint32_t refused = nt_release_semaphore(nt, who, semaphore, count, reply);
-    char *at = begin_call(refused, who, "release ");
+    char *at = begin_call(refused, who, WORD_RELEASE " ");
     if (at != NULL) {
         at = put_number(at, semaphore);
         *at++ = ' ';
@@ -168,7 +168,7 @@ static char *put_armed(char *at, uint32_t timer, int64_t due, int32_t period)
 static uint32_t look_set_timer(struct nt *nt, uint32_t who, uint32_t timer, int64_t due, int32_t period, struct nt_reply *reply)
 {
     const uint32_t refused = nt_set_timer(nt, who, timer, due, period, reply);
-    char *at = begin_call(refused, who, "arm ");
+    char *at = begin_call(refused, who, WORD_ARM " ");
     if (at != NULL)
         end_call(refused, put_armed(at, timer, due, period));
     return looked_at(refused, false);
@@ -187,7 +187,7 @@ static uint32_t look_set_timer_apc(struct nt *nt, uint32_t who, uint32_t timer, 
                                    uint64_t argument, struct nt_reply *reply)
 {
     const uint32_t refused = nt_set_timer_apc(nt, who, timer, due, period, routine, argument, reply);
-    char *at = begin_call(refused, who, "arm ");
+    char *at = begin_call(refused, who, WORD_ARM " ");
     if (at != NULL)
         end_call(refused, put_routine(put_armed(at, timer, due, period), routine, argument));
     return looked_at(refused, false);
@@ -196,7 +196,7 @@ static uint32_t look_set_timer_apc(struct nt *nt, uint32_t who, uint32_t timer, 
 static uint32_t look_queue_apc(struct nt *nt, uint32_t who, uint32_t thread, uint64_t routine, uint64_t argument, struct nt_reply *reply)
 {
     const uint32_t refused = nt_queue_apc(nt, who, thread, routine, argument, reply);
-    char *at = begin_call(refused, who, "apc ");
+    char *at = begin_call(refused, who, WORD_APC " ");
     if (at != NULL)
         end_call(refused, put_routine(put_number(at, thread), routine, argument));
     return looked_at(refused, false);
@@ -213,7 +213,7 @@ static uint32_t look_wait_objects(struct nt *nt, uint32_t who, const uint32_t *h
                                   struct nt_reply *reply)
 {
     const uint32_t refused = nt_wait_objects(nt, who, handles, count, all, ms, alertable, reply);
-    char *at = begin_call(refused, who, all ? "all" : "any");
+    char *at = begin_call(refused, who, all ? WORD_ALL : WORD_ANY);
     if (at != NULL)
         end_call(refused, put_wait(at, ms, alertable, handles, count));
     return looked_at(refused, pends(refused, reply));
@@ -222,7 +222,7 @@ static uint32_t look_wait_objects(struct nt *nt, uint32_t who, const uint32_t *h
 static uint32_t look_wait_object(struct nt *nt, uint32_t who, uint32_t handle, uint32_t ms, bool alertable, struct nt_reply *reply)
 {
     const uint32_t refused = nt_wait_object(nt, who, handle, ms, alertable, reply);
-    char *at = begin_call(refused, who, "any");
+    char *at = begin_call(refused, who, WORD_ANY);
     if (at != NULL)
         end_call(refused, put_wait(at, ms, alertable, &handle, 1));
     return looked_at(refused, pends(refused, reply));
@@ -231,7 +231,7 @@ static uint32_t look_wait_object(struct nt *nt, uint32_t who, uint32_t handle, u
 static uint32_t look_sleep(struct nt *nt, uint32_t who, uint32_t ms, bool alertable, struct nt_reply *reply)
 {
     const uint32_t refused = nt_sleep(nt, who, ms, alertable, reply);
-    char *at = begin_call(refused, who, "sleep");
+    char *at = begin_call(refused, who, WORD_SLEEP);
     if (at != NULL)
         end_call(refused, put_wait(at, ms, alertable, NULL, 0));
     return looked_at(refused, pends(refused, reply));
@@ -240,7 +240,7 @@ static uint32_t look_sleep(struct nt *nt, uint32_t who, uint32_t ms, bool alerta
 static uint32_t look_swap(struct nt *nt, uint32_t who, uint32_t signal, uint32_t object, uint32_t ms, bool alertable, struct nt_reply *reply)
 {
     const uint32_t refused = nt_swap(nt, who, signal, object, ms, alertable, reply);
-    char *at = begin_call(refused, who, "swap ");
+    char *at = begin_call(refused, who, WORD_SWAP " ");
     if (at != NULL) {
         at = put_number(at, signal);
         *at++ = ' ';
@@ -254,7 +254,7 @@ static uint32_t look_tick(struct nt *nt, uint64_t moment)
     const uint32_t refused = nt_tick(nt, moment);
     char *at = begin_line();
     if (at != NULL)
-        end_line(put_number(put_text(at, "ick "), moment), 't');
+        end_line(put_number(put_text(at, &(WORD_TICK " ")[1]), moment), WORD_TICK[0]);
     return looked_at(refused, false);
 }
 

@@ -219,43 +219,43 @@ static bool is(const char *keyword)
 /* The call of the line. */
 static struct answer called(void)
 {
-    if (is("event"))
-        return created(CreateEvent(NULL, has("manual"), has("set"), NULL));
-    if (is("semaphore"))
+    if (is(WORD_EVENT))
+        return created(CreateEvent(NULL, has(WORD_MANUAL), has(WORD_SET), NULL));
+    if (is(WORD_SEMAPHORE))
         return created(CreateSemaphore(NULL, (LONG)signed_number(3), (LONG)signed_number(4), NULL));
-    if (is("mutex"))
-        return created(CreateMutex(NULL, has("owned"), NULL));
-    if (is("timer"))
-        return created(CreateWaitableTimer(NULL, has("manual"), NULL));
-    if (is("dup"))
+    if (is(WORD_MUTEX))
+        return created(CreateMutex(NULL, has(WORD_OWNED), NULL));
+    if (is(WORD_TIMER))
+        return created(CreateWaitableTimer(NULL, has(WORD_MANUAL), NULL));
+    if (is(WORD_DUP))
         return duplicated();
-    if (is("set"))
+    if (is(WORD_SET))
         return done(SetEvent(named(handle(2))));
-    if (is("reset"))
+    if (is(WORD_RESET))
         return done(ResetEvent(named(handle(2))));
-    if (is("pulse"))
+    if (is(WORD_PULSE))
         return done(PulseEvent(named(handle(2))));
-    if (is("release"))
+    if (is(WORD_RELEASE))
         return released();
-    if (is("unlock"))
+    if (is(WORD_UNLOCK))
         return done(ReleaseMutex(named(handle(2))));
-    if (is("arm"))
+    if (is(WORD_ARM))
         return armed();
-    if (is("apc"))
+    if (is(WORD_APC))
         return queued();
-    if (is("next"))
+    if (is(WORD_NEXT))
         return taken();
-    if (is("cancel"))
+    if (is(WORD_CANCEL))
         return done(CancelWaitableTimer(named(handle(2))));
-    if (is("close"))
+    if (is(WORD_CLOSE))
         return done(CloseHandle(named(handle(2))));
-    if (is("any") || is("all"))
-        return waited(is("all"));
-    if (is("sleep"))
+    if (is(WORD_ANY) || is(WORD_ALL))
+        return waited(is(WORD_ALL));
+    if (is(WORD_SLEEP))
         return ended(SleepEx(timeout(2), alertable(3)));
-    if (is("swap"))
+    if (is(WORD_SWAP))
         return ended(SignalObjectAndWait(named(handle(2)), named(handle(3)), timeout(4), alertable(5)));
-    if (is("exit"))
+    if (is(WORD_EXIT))
         ExitThread(0);
     stop();
     return refused();
@@ -360,7 +360,7 @@ static void end_all(void)
 static void carry_out(void)
 {
     const unsigned long thread = strtoul(word(0) + 1, NULL, 10);
-    if (strcmp(word(0), "tick") == 0) {
+    if (strcmp(word(0), WORD_TICK) == 0) {
         if (number(1) < MOMENT)
             stop();
         tick(number(1));
@@ -375,7 +375,7 @@ static void carry_out(void)
 
 int main(void)
 {
-    if (!read_line() || strcmp(word(0), "threads") != 0 || number(1) >= NT_MAXIMUM_THREADS)
+    if (!read_line() || strcmp(word(0), WORD_THREADS) != 0 || number(1) >= NT_MAXIMUM_THREADS)
         stop();
     THREADS = (uint32_t)number(1);
     for (uint32_t thread = 0; thread < THREADS; thread++) {

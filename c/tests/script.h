@@ -3,6 +3,7 @@
 #define SCRIPT_H
 
 #include "../nt.h"
+#include "../ntwin/script_words.h"
 
 #include <stdio.h>
 #include <stdlib.h>
@@ -51,12 +52,12 @@ static int64_t signed_number(int at)
 
 static uint32_t timeout(int at)
 {
-    return strcmp(word(at), "inf") == 0 ? NT_INFINITE : (uint32_t)number(at);
+    return strcmp(word(at), WORD_INF) == 0 ? NT_INFINITE : (uint32_t)number(at);
 }
 
 static bool alertable(int at)
 {
-    return strcmp(word(at), "alertable") == 0;
+    return strcmp(word(at), WORD_ALERTABLE) == 0;
 }
 
 static uint32_t handle(int at)

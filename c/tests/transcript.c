@@ -10,16 +10,16 @@ static uint32_t create(uint32_t who, struct nt_reply *reply)
 {
     const char *kind = word(1);
     uint32_t refused;
-    if (strcmp(kind, "event") == 0)
-        refused = nt_create_event(&NT, who, (has("manual") ? NT_EVENT_MANUAL_RESET : 0) | (has("set") ? NT_EVENT_INITIAL_SET : 0), reply);
-    else if (strcmp(kind, "semaphore") == 0)
+    if (strcmp(kind, WORD_EVENT) == 0)
+        refused = nt_create_event(&NT, who, (has(WORD_MANUAL) ? NT_EVENT_MANUAL_RESET : 0) | (has(WORD_SET) ? NT_EVENT_INITIAL_SET : 0), reply);
+    else if (strcmp(kind, WORD_SEMAPHORE) == 0)
         refused = nt_create_semaphore(&NT, who, (int32_t)signed_number(3), (int32_t)signed_number(4), reply);
-    else if (strcmp(kind, "dup") == 0)
+    else if (strcmp(kind, WORD_DUP) == 0)
         refused = nt_duplicate(&NT, who, handle(3), (uint32_t)number(4), reply);
-    else if (strcmp(kind, "mutex") == 0)
-        refused = nt_create_mutex(&NT, who, has("owned") ? NT_MUTEX_INITIAL_OWNER : 0, reply);
+    else if (strcmp(kind, WORD_MUTEX) == 0)
+        refused = nt_create_mutex(&NT, who, has(WORD_OWNED) ? NT_MUTEX_INITIAL_OWNER : 0, reply);
     else
-        refused = nt_create_timer(&NT, who, has("manual") ? NT_TIMER_MANUAL_RESET : 0, reply);
+        refused = nt_create_timer(&NT, who, has(WORD_MANUAL) ? NT_TIMER_MANUAL_RESET : 0, reply);
     if (refused == 0)
         give_name(reply->number);
     return refused;
@@ -48,33 +48,33 @@ static uint32_t wait_for(uint32_t who, bool all, struct nt_reply *reply)
 static uint32_t call(uint32_t who, struct nt_reply *reply)
 {
     const char *keyword = word(1);
-    if (strcmp(keyword, "set") == 0)
+    if (strcmp(keyword, WORD_SET) == 0)
         return nt_set_event(&NT, who, handle(2), reply);
-    if (strcmp(keyword, "reset") == 0)
+    if (strcmp(keyword, WORD_RESET) == 0)
         return nt_reset_event(&NT, who, handle(2), reply);
-    if (strcmp(keyword, "pulse") == 0)
+    if (strcmp(keyword, WORD_PULSE) == 0)
         return nt_pulse_event(&NT, who, handle(2), reply);
-    if (strcmp(keyword, "release") == 0)
+    if (strcmp(keyword, WORD_RELEASE) == 0)
         return nt_release_semaphore(&NT, who, handle(2), (int32_t)signed_number(3), reply);
-    if (strcmp(keyword, "unlock") == 0)
+    if (strcmp(keyword, WORD_UNLOCK) == 0)
         return nt_release_mutex(&NT, who, handle(2), reply);
-    if (strcmp(keyword, "arm") == 0)
+    if (strcmp(keyword, WORD_ARM) == 0)
         return arm(who, reply);
-    if (strcmp(keyword, "cancel") == 0)
+    if (strcmp(keyword, WORD_CANCEL) == 0)
         return nt_cancel_timer(&NT, who, handle(2), reply);
-    if (strcmp(keyword, "apc") == 0)
+    if (strcmp(keyword, WORD_APC) == 0)
         return nt_queue_apc(&NT, who, handle(2), number(3), number(4), reply);
-    if (strcmp(keyword, "close") == 0)
+    if (strcmp(keyword, WORD_CLOSE) == 0)
         return nt_close_handle(&NT, who, handle(2), reply);
-    if (strcmp(keyword, "any") == 0 || strcmp(keyword, "all") == 0)
-        return wait_for(who, strcmp(keyword, "all") == 0, reply);
-    if (strcmp(keyword, "sleep") == 0)
+    if (strcmp(keyword, WORD_ANY) == 0 || strcmp(keyword, WORD_ALL) == 0)
+        return wait_for(who, strcmp(keyword, WORD_ALL) == 0, reply);
+    if (strcmp(keyword, WORD_SLEEP) == 0)
         return nt_sleep(&NT, who, timeout(2), alertable(3), reply);
-    if (strcmp(keyword, "swap") == 0)
+    if (strcmp(keyword, WORD_SWAP) == 0)
         return nt_swap(&NT, who, handle(2), handle(3), timeout(4), alertable(5), reply);
-    if (strcmp(keyword, "next") == 0)
+    if (strcmp(keyword, WORD_NEXT) == 0)
         return nt_next_apc(&NT, who, reply);
-    if (strcmp(keyword, "exit") == 0)
+    if (strcmp(keyword, WORD_EXIT) == 0)
         return nt_exit(&NT, who, reply);
     return create(who, reply);
 }
@@ -171,7 +171,7 @@ static void give_turn(uint32_t who)
 static void carry_out(void)
 {
     const struct nt_reply done = { .kind = NT_DONE };
-    if (strcmp(word(0), "tick") == 0)
+    if (strcmp(word(0), WORD_TICK) == 0)
         write_answer(nt_tick(&NT, number(1)), &done);
     else if (word(0)[0] == 't' && strtoul(word(0) + 1, NULL, 10) < THREADS)
         give_turn((uint32_t)strtoul(word(0) + 1, NULL, 10));
@@ -187,7 +187,7 @@ int main(void)
 {
     pthread_t threads[NT_MAXIMUM_THREADS];
     NT.room = aligned_alloc(16, (nt_room() + 15) / 16 * 16);
-    if (!read_line() || strcmp(word(0), "threads") != 0 || NT.room == NULL || nt_open(&NT, (uint32_t)number(1)) != 0)
+    if (!read_line() || strcmp(word(0), WORD_THREADS) != 0 || NT.room == NULL || nt_open(&NT, (uint32_t)number(1)) != 0)
         stop();
     THREADS = (uint32_t)number(1);
     for (uint32_t thread = 0; thread < THREADS; thread++)
