@@ -22,7 +22,7 @@ use Rattle.nt_calls.specs.Steps.{Called}
 use Rattle.nt_core.specs.Dispatcher.{state}
 use Rattle.nt_sleepers.specs.Sleepers.{Sleeping}
 use Rattle.nt_c.specs.Asks.{Asked, Makes}
-use Rattle.nt_c.proofs.Renewing.{wait_makes, wait_own, wait_renews, wait_limit}
+use Rattle.nt_c.proofs.Renewing.{wait_makes, wait_own, wait_limit}
 
 -- the causes that come before those of the wait, and these
 abbrev callers : State → ℕ → List Cause → List Cause
@@ -93,7 +93,7 @@ makes_alike old new who wait wait' cause (Err r) is is' made = record {
   limit = λ limit. wait_limit (state old.core) old.spare wait wait' (made.limit limit);
   unchanged = made.unchanged;
   lawful = made.lawful;
-  looks = record { local = λ own. tt; untested = λ own. made.looks.untested (wait_renews old.spare wait) };
+  looks = record { local = tt; untested = made.looks.untested };
   woke = made.woke;
   nobody = made.nobody;
 }

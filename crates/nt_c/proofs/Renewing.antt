@@ -1,5 +1,5 @@
 -- A waiting call is no renewal.
-use Rattle.std.proofs.Common.{◌≡◌, ℕ, false, List, Option, None, Some, refl}
+use Rattle.std.proofs.Common.{◌≡◌, ℕ, List, Option, None, Some, refl}
 use Rattle.std.specs.Prelude.{OnOk, OnErr}
 use Rattle.std.specs.declared.result.Result.{Result}
 use Rattle.nt_status.specs.declared.refusal.Refusal.{Refusal}
@@ -14,7 +14,7 @@ use Rattle.nt_calls.specs.Steps.{Called}
 use Rattle.nt_core.specs.Accepts.{IsLocal}
 use Rattle.nt_core.specs.Dispatcher.{state}
 use Rattle.nt_core.specs.Lawful.{IsLawful}
-use Rattle.nt_life.specs.Lasting.{Spares, FindsNoneFor, MakesCall, may_renew}
+use Rattle.nt_life.specs.Lasting.{Spares, FindsNoneFor, MakesCall}
 use Rattle.nt_life.proofs.Once.{unchanged_by, unnumbered_limit}
 use Rattle.nt_sleepers.specs.Sleepers.{Sleeping, Woke}
 use Rattle.nt_c.specs.Asks.{Makes}
@@ -26,10 +26,6 @@ wait_makes old (Some spare) who wait result grants new own = own
 pub wait_own : (old : State) (spare : Option Spares) (who : ℕ) (wait : WaitCall) (result : Result Reply Refusal) (grants : List Grant) (new : State) → MakesCall old spare who (Call.Wait wait) result grants new → Called old who (Call.Wait wait) result grants new
 wait_own old None who wait result grants new own = own
 wait_own old (Some spare) who wait result grants new own = own
-
-pub wait_renews : (spare : Option Spares) (wait : WaitCall) → may_renew spare (Call.Wait wait) ≡ false
-wait_renews None wait = refl
-wait_renews (Some spare) wait = refl
 
 pub wait_limit : (s : State) (spare : Option Spares) (wait wait' : WaitCall) → FindsNoneFor s spare (Call.Wait wait) → FindsNoneFor s spare (Call.Wait wait')
 wait_limit s None wait wait' none = tt
@@ -44,7 +40,7 @@ wait_made old new who wait result called lawful local untested woke nobody =
       limit = unnumbered_limit (state old.core) old.spare who (Call.Wait wait) result new.core.grants (state new.core) refl called;
       unchanged = unchanged_by (state old.core) old.spare who (Call.Wait wait) result new.core.grants (state new.core) makes;
       lawful = lawful;
-      looks = record { local = λ own. local; untested = λ own. untested };
+      looks = record { local = local; untested = untested };
       woke = woke;
       nobody = nobody;
     }

@@ -45,7 +45,7 @@ pub record Makes (old : Sleeping) (who : ℕ) (call : Call) (result : Result Rep
   pub limit : result ≡ Err HandleLimit → FindsNoneFor (state old.core) old.spare call
   pub unchanged : IsUnchanged (state old.core) result new.core.grants (state new.core)
   pub lawful : IsLawful new.core
-  pub looks : LooksAt old.core old.spare who call result new.core
+  pub looks : LooksAt old.core who call result new.core
   pub woke : Woke old who (pended result) new
   pub nobody : OnErr result (new.called ≡ None)
 

@@ -1,13 +1,14 @@
 //! Waits.
 ghost use Rattle.std.specs.Prelude.{◌≡◌, ◌<◌, ◌≤◌, ◌∷◌, [], length, false};
 ghost use Rattle.nt_calls.specs.declared.call.WaitCall.{WaitCall};
-ghost use Rattle.nt_c.specs.Asks.{IsFit, WaitsWith};
+ghost use Rattle.nt_calls.specs.declared.call.Call.{Call};
+ghost use Rattle.nt_c.specs.Asks.{IsFit, Asked, WaitsWith};
 
 use crate::handle::Nt;
 use crate::reply::{NtReply, tell};
 use arrayvec::ArrayVec;
-use nt_core::{Call, WaitCall};
-use nt_status::{Handle, Handles, MAX_WAIT_OBJECTS};
+use nt_core::{Call, Reply, WaitCall};
+use nt_status::{Handle, Handles, MAX_WAIT_OBJECTS, Refusal};
 use std::alloc::Global;
 
 /// The handles that a wait names, at most as many as it may name. They lie in the value itself.
@@ -29,6 +30,63 @@ fn handles_of(numbers: &[u32]) -> WaitedHandles
     handles
 }
 
+/// Up to how many handles a wait's few may be.
+const FEW: usize = 8;
+
+/// The handles of a wait that names few, of which less has to be cleared.
+type FewHandles = ArrayVec<Handle, FEW>;
+
+/// The handles with these numbers, in this order.
+#[inline(always)]
+fn few_handles_of(numbers: &[u32]) -> FewHandles
+    requires { length numbers.now ≤ FEW }
+    ensures { result.items ≡ numbers.now }
+{
+    let mut handles = FewHandles::new();
+    for number in numbers {
+        handles.push(Handle::new(*number));
+    }
+    handles
+}
+
+/// The wait for the few objects that the handles with these numbers name.
+#[inline(always)]
+fn wait_for_few(
+    nt: &mut Nt,
+    who: u32,
+    numbers: &[u32],
+    all: bool,
+    alertable: bool,
+    ms: u32,
+) -> Result<Reply, Refusal>
+    requires fit { IsFit nt.old }
+    requires few { length numbers.now ≤ FEW }
+    ensures fit { IsFit nt.new }
+    ensures asked { Asked nt.old.cell.held who (Call.Wait (WaitCall.Objects all alertable ms numbers.now))
+        result nt.new.cell.held }
+{
+    let these = few_handles_of(numbers);
+    nt.wait(who, these.as_slice(), all, alertable, ms)
+}
+
+/// The wait for the objects that the handles with these numbers name.
+fn wait_for_many(
+    nt: &mut Nt,
+    who: u32,
+    numbers: &[u32],
+    all: bool,
+    alertable: bool,
+    ms: u32,
+) -> Result<Reply, Refusal>
+    requires fit { IsFit nt.old }
+    ensures fit { IsFit nt.new }
+    ensures asked { Asked nt.old.cell.held who (Call.Wait (WaitCall.Objects all alertable ms numbers.now))
+        result nt.new.cell.held }
+{
+    let these = handles_of(numbers);
+    nt.wait(who, these.as_slice(), all, alertable, ms)
+}
+
 /// WaitForMultipleObjectsEx: for any of the objects, or for all. The timeout is in milliseconds, 0xFFFFFFFF for INFINITE.
 #[unsafe(no_mangle)]
 pub extern "C" fn nt_wait_objects(
@@ -45,8 +103,12 @@ pub extern "C" fn nt_wait_objects(
     ensures answers { WaitsWith nt.old who
         (WaitCall.Objects all alertable ms handles.now) result out.old out.new nt.new }
 {
-    let these = handles_of(handles);
-    tell(nt.wait(who, these.as_slice(), all, alertable, ms), out)
+    let asked = if handles.len() <= FEW {
+        wait_for_few(nt, who, handles, all, alertable, ms)
+    } else {
+        wait_for_many(nt, who, handles, all, alertable, ms)
+    };
+    tell(asked, out)
 }
 
 /// WaitForSingleObjectEx. The timeout is in milliseconds, 0xFFFFFFFF for INFINITE.

@@ -12,6 +12,7 @@ use Rattle.nt_objects.specs.declared.object.Object.{Object}
 use Rattle.nt_objects.specs.declared.object.Object.TheVariants.{Thread}
 use Rattle.nt_objects.specs.Object.{due_of, setter_of, is_thread, taken, IsLawfulObject}
 use Rattle.nt_alarms.specs.Alarms.{alarm_at}
+use Rattle.nt_apc.specs.Queues.{place_of}
 use Rattle.nt_status.specs.declared.limits.TheConstants.{MAX_MANY_THREADS, MAX_WAIT_OBJECTS}
 use Rattle.nt_calls.specs.declared.call.Call.{Call}
 use Rattle.nt_calls.specs.declared.call.Reply.{Reply}
@@ -157,8 +158,8 @@ quiet_alarms zero h = refl
 quiet_alarms (suc n) zero = refl
 quiet_alarms (suc n) (suc h) = quiet_alarms n h
 
-pub opening_steady : (d : Dispatcher) → d.threads ≤ MAX_MANY_THREADS → d.handles ≡ own_handles d.threads (full_access (Thread false)) → d.objects ≡ replicate d.threads (Thread false) → d.table.pending ≡ fin.empty → Agrees d.table.pending d.table.queues → length d.handing ≡ d.threads → length d.apcs.queues ≡ d.threads → d.grants ≡ [] → d.alarms ≡ replicate d.threads None → d.leaving ≡ replicate d.threads None → d.marked.changed ≡ replicate d.threads None → d.marked.alerted ≡ replicate d.threads None → IsSteady d
-opening_steady d few handles objects waits agrees hands inboxes grants alarms leaving changed alerted = record {
+pub opening_steady : (d : Dispatcher) → d.threads ≤ MAX_MANY_THREADS → d.handles ≡ own_handles d.threads (full_access (Thread false)) → d.objects ≡ replicate d.threads (Thread false) → d.table.pending ≡ fin.empty → Agrees d.table.pending d.table.queues → length d.handing ≡ d.threads → length d.apcs.queues ≡ d.threads → d.apcs.places ≡ [] → d.grants ≡ [] → d.alarms ≡ replicate d.threads None → d.leaving ≡ replicate d.threads None → d.marked.changed ≡ replicate d.threads None → d.marked.alerted ≡ replicate d.threads None → IsSteady d
+opening_steady d few handles objects waits agrees hands inboxes unplaced grants alarms leaving changed alerted = record {
   sound = record {
     few = few;
     waits = λ t w pends. nobody t w pends;
@@ -172,6 +173,7 @@ opening_steady d few handles objects waits agrees hands inboxes grants alarms le
       count = ap (λ clocks. length clocks) alarms ∙ (length-replicate d.threads None ∙ sym (ap (λ os. length os) objects ∙ length-replicate d.threads (Thread false)));
       alarm = λ h. ap (λ clocks. alarm_at clocks h) alarms ∙ (quiet_alarms d.threads h ∙ sym (ap due_of (running h)));
       placed = λ h t is. nobody_set t (sym (ap setter_of (running h)) ∙ is);
+      known = λ h t at. nobody_set t (sym (ap (λ ps. place_of ps h) unplaced) ∙ at);
       runs = λ h t is. nobody_set t (sym (ap setter_of (running h)) ∙ is);
     };
     handles = subst (λ (hs : List (Option Opened)). HandlesAgree (length d.objects) hs) (sym handles) (handles_along (own_handles d.threads (full_access (Thread false))) (ap (λ os. length os) objects ∙ length-replicate d.threads (Thread false)) (own_agree d.threads (full_access (Thread false)) few));

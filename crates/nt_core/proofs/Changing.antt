@@ -264,6 +264,7 @@ sound_longer d o owned handles sound lawful no_thread due agree marked = record 
     count = let objects = length-append d.objects (o ∷ []) in let alarms = length-append d.alarms (None ∷ []) in let before = sound.timers.count in omega (arith, objects, alarms, before);
     alarm = λ h. alarm_created d.alarms h ∙ (sound.timers.alarm h ∙ sym (reading_created due_of d.objects o due h));
     placed = λ h t is. sound.timers.placed h t (sym (reading_created setter_of d.objects o (unset_undue o due) h) ∙ is);
+    known = λ h t at. let longer = length-append d.objects (o ∷ []) in let before = sound.timers.known h t at in omega (arith, longer, before);
     runs = λ h t is.
         let own = sound.timers.runs h t (sym (reading_created setter_of d.objects o (unset_undue o due) h) ∙ is) in
         (own.0, ap has_ended (object_at-append d.objects (o ∷ []) t (sound.own t own.0).0) ∙ own.1);

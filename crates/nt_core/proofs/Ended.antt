@@ -53,6 +53,10 @@ gone_sound d o owned apcs sound forgotten len places = record {
       | inl here ↦ none_set h t here sets
       | inr other ↦ places h other ∙ sound.timers.placed h t (sym (ap setter_of (object_at-set_other d.objects o h Gone other)) ∙ sets)
     ];
+    known = λ h t at. subst (λ (n : ℕ). h < n) (sym count) (elim (cases_eq h o) [
+      | inl here ↦ subst (λ (j : ℕ). j < length d.objects) (sym here) known
+      | inr other ↦ sound.timers.known h t (sym (places h other) ∙ at)
+    ]);
     runs = λ h t sets. elim (cases_eq h o) [
       | inl here ↦ none_set h t here sets
       | inr other ↦

@@ -1,6 +1,6 @@
 -- The parts of a thread's end put together.
-use Rattle.std.proofs.Common.{Option, ◌≡◌, ◌≢◌, ◌<◌, ◌≤◌, ◌*◌, ◌^◌, ℕ, not, ◌&&◌, true, false, cond, List, [], ◌∷◌, length, length-append, set, refl, sym, ap, ◌∙◌, subst, arith, Some, None, inl, inr, ◌⊎◌, map}
-use Rattle.std.specs.Prelude.{◌↔◌}
+use Rattle.std.proofs.Common.{Bool, Option, ◌≡◌, ◌≢◌, ◌<◌, ◌≤◌, ◌*◌, ◌^◌, ℕ, not, ◌&&◌, true, false, cond, List, [], ◌∷◌, length, length-append, set, refl, sym, ap, ◌∙◌, subst, arith, Some, None, inl, inr, ◌⊎◌, map}
+use Rattle.std.specs.Prelude.{◌↔◌, if◌then◌else◌}
 use Rattle.std.specs.List.{flat_map}
 use Rattle.std.specs.FinMap as fin
 use Rattle.std.proofs.lemmas.Bool.{cases_eq, false≢true}
@@ -12,7 +12,7 @@ use Rattle.nt_alarms.specs.Marks.{AddsMarks, marked_places}
 use Rattle.nt_objects.specs.declared.object.Object.{Object}
 use Rattle.nt_objects.specs.declared.object.Object.TheVariants.{Event, Semaphore, Mutex, Timer, Thread, Gone}
 use Rattle.nt_objects.specs.Object.{is_thread, is_gone, has_ended, owned_by, due_of, setter_of, abandoned_by, unset_by, IsLawfulObject}
-use Rattle.nt_apc.specs.Queues.{Apcs, place_of, given_up, cleared}
+use Rattle.nt_apc.specs.Queues.{Apcs, place_of, is_at, given_up, cleared}
 use Rattle.nt_apc.specs.declared.apc.Queued.{Queued}
 use Rattle.nt_calls.specs.State.{State, object_at}
 use Rattle.nt_core.specs.Dispatcher.{Dispatcher, state}
@@ -58,6 +58,11 @@ thread_unset (Timer manual was armed) is = absurd (false≢true is)
 thread_unset (Thread ended) is = refl
 thread_unset Gone is = refl
 
+-- a place that is left after some are given up was there before
+not_given_up : (b : Bool) (place : Option ℕ) (u : ℕ) → (if b then None else place) ≡ Some u → place ≡ Some u
+not_given_up true place u at = let none : None ≡ Some u = at in (cc)
+not_given_up false place u at = at
+
 pub ended_sound : (d : Dispatcher) (t : ℕ) (apcs : Apcs) → IsSound d → fin.get d.table.pending t ≡ None → t < d.threads → has_ended (object_at d.objects t) ≡ false → ((h : ℕ) → setter_of (object_at d.objects h) ≢ Some t) → length apcs.queues ≡ length d.apcs.queues → ((m : ℕ) → place_of apcs.places m ≡ given_up t (place_of d.apcs.places m)) → IsSound (record d { objects = set d.objects t (Thread true); apcs = apcs; leaving = set d.leaving t (Some 0) })
 ended_sound d t apcs sound idle known running unset len places = record {
   few = sound.few;
@@ -83,6 +88,7 @@ ended_sound d t apcs sound idle known running unset len places = record {
     placed = λ h u sets.
         let before = sym (setters h) ∙ sets in
         places h ∙ (ap (given_up t) (sound.timers.placed h u before) ∙ stays u (λ same. unset h (before ∙ ap Some same)));
+    known = λ h u at. subst (λ (n : ℕ). h < n) (sym count) (sound.timers.known h u (not_given_up (is_at t (place_of d.apcs.places h)) (place_of d.apcs.places h) u (sym (places h) ∙ at)));
     runs = λ h u sets.
         let before = sym (setters h) ∙ sets in
         let own = sound.timers.runs h u before in

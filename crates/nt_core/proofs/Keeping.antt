@@ -240,6 +240,7 @@ timers_kept n old new alarms places agree len due setter ended = record {
   count = agree.count ∙ sym len;
   alarm = λ h. agree.alarm h ∙ sym (due h);
   placed = λ h t is. agree.placed h t (sym (setter h) ∙ is);
+  known = λ h t at. subst (λ (k : ℕ). h < k) (sym len) (agree.known h t at);
   runs = λ h t is. let own = agree.runs h t (sym (setter h) ∙ is) in (own.0, ended t ∙ own.1);
 }
 

@@ -1,6 +1,6 @@
 -- One object number more, of an object that is gone, leaves a dispatcher lawful.
-use Rattle.std.proofs.Common.{◌≡◌, ◌≢◌, ℕ, zero, suc, ◌+◌, ◌<◌, ◌≤◌, Bool, true, false, not, ◌&&◌, ◌||◌, List, [], ◌∷◌, ◌++◌, length, length-append, refl, sym, ap, ◌∙◌, subst, arith, None, inl, inr}
-use Rattle.std.specs.Prelude.{nat_lt, Result, Ok, Err, IfOk, IfErr, OnOk, OnErr, if◌then◌else◌}
+use Rattle.std.proofs.Common.{◌≡◌, ◌≢◌, ℕ, zero, suc, ◌+◌, ◌<◌, ◌≤◌, Bool, true, false, not, ◌&&◌, ◌||◌, List, [], ◌∷◌, ◌++◌, length, length-append, refl, sym, ap, ◌∙◌, subst, arith, Option, Some, None, inl, inr}
+use Rattle.std.specs.Prelude.{nat_lt, nat_le, Result, Ok, Err, IfOk, IfErr, OnOk, OnErr, if◌then◌else◌}
 use Rattle.std.proofs.lemmas.Bool.{cases_eq}
 use Rattle.std.proofs.lemmas.Bool.Decides.{nat_tests}
 use Rattle.nt_status.proofs.Lists.{contains_none}
@@ -9,16 +9,17 @@ use Rattle.nt_status.specs.declared.refusal.Refusal.TheVariants.{HandleLimit, Me
 use Rattle.nt_objects.specs.declared.object.Object.{Object}
 use Rattle.nt_objects.specs.declared.object.Object.TheVariants.{Gone}
 use Rattle.nt_objects.specs.Object.{is_gone, has_ended}
+use Rattle.nt_apc.specs.Queues.{KeepsPlaces, place_of, is_queued}
 use Rattle.nt_calls.specs.State.{State, object_at}
 use Rattle.nt_calls.specs.Living.{is_opened, is_awaited, runs, is_kept, lives, LivesWhileKept}
 use Rattle.nt_core.specs.Dispatcher.{Dispatcher, state, with_object}
 use Rattle.nt_core.specs.Lawful.{IsSound, IsSteady, HandlesAgree, MarksAgreeBut}
 use Rattle.nt_core.specs.Accepts.{IsFresh}
-use Rattle.nt_core.specs.Renewals.{AddsVacant}
+use Rattle.nt_core.specs.Renewals.{AddsVacant, is_vacant}
 use Rattle.nt_core.proofs.Changing.{object_at-append, sound_longer, served_unchanged, due_kept, alarm_created}
 use Rattle.nt_core.proofs.Replacing.{created_only, due_created}
 use Rattle.nt_core.proofs.Remaining.{and_not}
-use Rattle.nt_core.proofs.Renewing.{never_forgotten}
+use Rattle.nt_core.proofs.Renewing.{never_forgotten, not_queued}
 
 -- ---- the objects
 
@@ -145,3 +146,32 @@ added_vacant old mid new result same fresh room number becomes memory stays = su
 pub either_vacant : (P : Dispatcher → Type 0) (mid new : Dispatcher) (result : Result ℕ Refusal) → OnOk result (new ≡ with_object mid Gone new.owned) → OnErr result (new ≡ mid) → P (with_object mid Gone new.owned) → P mid → P new
 either_vacant P mid new (Ok n) ok err longer before = subst P (sym ok) longer
 either_vacant P mid new (Err cause) ok err longer before = subst P (sym err) before
+
+-- ---- the number that there is more
+
+-- no timer has that number yet
+pub unplaced : (d : Dispatcher) → IsSound d → place_of d.apcs.places (length d.objects) ≡ None
+unplaced d sound = go (place_of d.apcs.places (length d.objects)) refl
+  where
+    go : (place : Option ℕ) → place_of d.apcs.places (length d.objects) ≡ place → place_of d.apcs.places (length d.objects) ≡ None
+    go None at = at
+    go (Some t) at = let known = sound.timers.known (length d.objects) t at in absurd (omega (arith, known))
+
+last_vacant : (d : Dispatcher) (owned : List (List ℕ)) → IsSound d → KeepsPlaces d.apcs → is_vacant (state (with_object d Gone owned)) (length d.objects) ≡ true
+last_vacant d owned sound keeps =
+    let first = threads_first d sound in
+    let longer = length-append d.objects (Gone ∷ []) in
+    let beyond : nat_le d.threads (length d.objects) ≡ true = grind (arith, nat_tests, first) in
+    let there : nat_lt (length d.objects) (length (d.objects ++ Gone ∷ [])) ≡ true = grind (arith, nat_tests, longer) in
+    let quiet = not_queued d.apcs (length d.objects) keeps (unplaced d sound) in
+    ap (λ b. b && (nat_lt (length d.objects) (length (d.objects ++ Gone ∷ [])) && (is_gone (object_at (d.objects ++ Gone ∷ []) (length d.objects)) && not (is_queued d.apcs.queues (length d.objects))))) beyond
+    ∙ (ap (λ b. b && (is_gone (object_at (d.objects ++ Gone ∷ []) (length d.objects)) && not (is_queued d.apcs.queues (length d.objects)))) there
+    ∙ (ap (λ x. is_gone x && not (is_queued d.apcs.queues (length d.objects))) (last_number d.objects Gone)
+    ∙ ap not quiet))
+
+-- the number that there is more is vacant: no timer had it, so no APC of one is queued
+pub vacant_added : (mid new : Dispatcher) (result : Result ℕ Refusal) → IsSound mid → KeepsPlaces mid.apcs → IfOk result (λ n. n ≡ length mid.objects) → OnOk result (new ≡ with_object mid Gone new.owned) → IfOk result (λ n. is_vacant (state new) n ≡ true)
+vacant_added mid new (Err cause) sound keeps number ok = tt
+vacant_added mid new (Ok n) sound keeps number ok =
+    subst (λ (k : ℕ). is_vacant (state new) k ≡ true) (sym number)
+    (subst (λ (d : Dispatcher). is_vacant (state d) (length mid.objects) ≡ true) (sym ok) (last_vacant mid new.owned sound keeps))

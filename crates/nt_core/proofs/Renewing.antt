@@ -166,6 +166,7 @@ sound_again d o h x handing owned sound living may = record {
     count = sound.timers.count ∙ sym (length-set d.objects o x);
     alarm = λ k. sound.timers.alarm k ∙ sym (reading_set due_of d.objects o x (same_due d o h x handing may) k);
     placed = λ k t is. sound.timers.placed k t (sym (reading_set setter_of d.objects o x (same_setter d o h x handing may) k) ∙ is);
+    known = λ k t at. longer k (sound.timers.known k t at);
     runs = λ k t is.
         let own = sound.timers.runs k t (sym (reading_set setter_of d.objects o x (same_setter d o h x handing may) k) ∙ is) in
         (own.0, ap has_ended (other t (not_gone (object_at d.objects t) own.1)) ∙ own.1);

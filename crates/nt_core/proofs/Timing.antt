@@ -171,6 +171,10 @@ retimed_sound d h o apcs sound was is len placed others = record {
     count = length-set d.alarms h (due_of o) ∙ (sound.timers.count ∙ sym (length-set d.objects h o));
     alarm = alarm_set d.alarms d.objects h o sound.timers.count sound.timers.alarm;
     placed = λ k t sets. (own k t sets).0;
+    known = λ k t at. subst (λ (n : ℕ). k < n) (sym (length-set d.objects h o)) (elim (cases_eq k h) [
+      | inl same ↦ subst (λ (j : ℕ). j < length d.objects) (sym same) (known_timer d.objects h was)
+      | inr other ↦ sound.timers.known k t (sym (others k other) ∙ at)
+    ]);
     runs = λ k t sets. let here = own k t sets in (here.1, ended t ∙ here.2);
   };
   handles = handles_along d.handles (length-set d.objects h o) sound.handles;

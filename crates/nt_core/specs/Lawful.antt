@@ -37,11 +37,13 @@ pub record IsSoundWait (threads : ℕ) (objects : List Object) (t : ℕ) (w : Wa
   pub named : (h : ℕ) → Names w h → (h < length objects) × (is_at_limit objects t h ≡ false)
   pub living : (h : ℕ) → Names w h → is_gone (object_at objects h) ≡ false
 
--- each armed timer has its alarm, and where it has a routine a place for its APC in the queue of the thread that armed it
+-- each armed timer has its alarm, and where it has a routine a place for its APC in the queue of the thread that armed it; each place is that of an object
+-- that there is
 pub record TimersAgree (threads : ℕ) (objects : List Object) (alarms places : List (Option ℕ)) : Type 0 where
   pub count : length alarms ≡ length objects
   pub alarm : (h : ℕ) → alarm_at alarms h ≡ due_of (object_at objects h)
   pub placed : (h t : ℕ) → setter_of (object_at objects h) ≡ Some t → place_of places h ≡ Some t
+  pub known : (h t : ℕ) → place_of places h ≡ Some t → h < length objects
   -- who armed it runs
   pub runs : (h t : ℕ) → setter_of (object_at objects h) ≡ Some t → (t < threads) × (has_ended (object_at objects t) ≡ false)
 

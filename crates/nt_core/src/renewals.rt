@@ -163,6 +163,7 @@ impl Machine {
         requires steady { IsSteady self.old }
         requires living { LivesWhileKept (state self.old) }
         ensures added { AddsVacant (state self.old) result self.new.grants (state self.new) }
+        ensures vacant { IfOk result (λ number. is_vacant (state self.new) number ≡ true) }
         ensures untested { self.new.table.looked ≡ 0 }
         ensures steady { IsSteady self.new }
         ensures living { LivesWhileKept (state self.new) }
@@ -171,6 +172,9 @@ impl Machine {
         if self.objects.as_slice().len() >= self.handles.len() {
             return Err(Refusal::HandleLimit);
         }
+        // (No timer has this number yet, and so no APC of one is queued.)
+        let number = ObjectNumber::new(self.objects.as_slice().len() as u32);
+        prove!(self.apcs.place_of(number).is_none());
         self.lengthen()
     }
 
@@ -266,6 +270,7 @@ impl Core {
     /// Refused with `HandleLimit` where there are as many object numbers as handle numbers, and with 8 where memory is refused.
     pub fn add_vacant(&mut self) -> Result<ObjectNumber, Refusal>
         ensures added { AddsVacant (state self.old) result self.new.grants (state self.new) }
+        ensures vacant { IfOk result (λ number. is_vacant (state self.new) number ≡ true) }
         ensures untested { self.new.table.looked ≡ 0 }
         ensures lawful { IsLawful self.new }
     {

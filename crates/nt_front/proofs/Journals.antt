@@ -11,98 +11,139 @@ use Rattle.nt_status.specs.declared.refusal.Refusal.{Refusal}
 use Rattle.nt_calls.specs.declared.call.Call.{Call}
 use Rattle.nt_calls.specs.declared.call.Reply.{Reply}
 use Rattle.nt_calls.specs.declared.call.Grant.{Grant}
-use Rattle.std.proofs.Common.{Option, None, is_some, is_err, ◌&&◌}
+use Rattle.std.proofs.Common.{Option, is_some, IsTrue}
+use Rattle.nt_answers.specs.Answers.{is_done}
 use Rattle.std.specs.FinMap.{get-empty}
 use Rattle.std.specs.Ordering.{nat_cmp}
 use Rattle.nt_waits.specs.declared.wait.Wait.{Wait}
 use Rattle.nt_calls.specs.State.{State, pends, opening}
-use Rattle.nt_calls.specs.Naming.{call_named}
-use Rattle.nt_calls.specs.Rights.{is_denied}
-use Rattle.nt_calls.specs.Refusals.{refusal}
-use Rattle.nt_calls.specs.Steps.{Called as IsCalled}
 use Rattle.nt_calls.specs.Runs.{Turn, Calls, Ticks, IsTurn}
 use Rattle.nt_core.specs.Dispatcher.{Dispatcher, state}
 use Rattle.nt_core.specs.Lawful.{IsLawful}
+use Rattle.nt_core.specs.Renewals.{BeginsAgain}
+use Rattle.nt_life.specs.declared.renewal.Renewal.TheVariants.{Begin}
 use Rattle.nt_mail.specs.declared.entry.Entry.{Entry}
-use Rattle.nt_mail.specs.declared.entry.Entry.TheVariants.{Called, Ticked}
+use Rattle.nt_mail.specs.declared.entry.Entry.TheVariants.{Called, Ticked, Granted, Renewed}
+use Rattle.nt_life.specs.Lasting.{WithSpare}
+use Rattle.nt_mail.specs.Journals.{Deed, IsDeed, written, is_renewal}
+use Rattle.nt_mail.proofs.Lives.{deeds-append, written-append}
 use Rattle.nt_calls.specs.Moves.{one_if, pended, granted_to, Moves, IsMomentAfter}
-use Rattle.nt_core.proofs.Accepting.{free_caller}
-use Rattle.nt_core.proofs.Judging.{undenied}
 use Rattle.nt_core.proofs.Lawful.{who_waits}
 use Rattle.nt_core.proofs.Runs.{turns-append}
 use Rattle.nt_mail.specs.Entries.{Each, arms, is_armed, accepted, accepted_at, IsOwn}
 use Rattle.nt_mail.specs.Knowledge.{latest}
 use Rattle.nt_mail.proofs.Calls.{same_push, after_call, after_grant, one_or, own_thread}
 use Rattle.nt_mail.proofs.Taken.{latest-push}
-use Rattle.nt_front.specs.Runs.{granted, entries_of, journal_of, IsRunFrom, LeadTo, Agree, AreArmed}
-use Rattle.nt_front.specs.Books.{Stands, ledger}
+use Rattle.nt_front.specs.Runs.{granted, entries_of, journal_of, IsRunFrom, IsHistoryFrom, LeadTo, Agree, AreArmed}
+use Rattle.nt_front.specs.Books.{Stands, ledger, entries_by, IsOfCall}
 
--- ---- the journal as a run
+-- ---- the journal as a history
 
 journal_of-append : (first more : List Turn) → journal_of (first ++ more) ≡ journal_of first ++ journal_of more
 journal_of-append [] more = refl
 journal_of-append (turn ∷ turns) more = ap (λ l. entries_of turn ++ l) (journal_of-append turns more) ∙ sym (append_assoc (entries_of turn) (journal_of turns) (journal_of more))
 
-pub run_goes_on : (base : State) (es : List Entry) (old new : State) (turn : Turn) → IsRunFrom base es old → IsTurn old turn new → IsRunFrom base (es ++ entries_of turn) new
+-- the turn of a call or a tick
+run_goes_on : (base : State) (es : List Entry) (old new : State) (turn : Turn) → IsRunFrom base es old → IsTurn old turn new → IsRunFrom base (es ++ entries_of turn) new
 run_goes_on base es old new turn r step = record {
   turns = r.turns ++ turn ∷ [];
   run = turns-append base old new r.turns (turn ∷ []) r.run (new, step, refl);
   entries = ap (λ l. l ++ entries_of turn) r.entries ∙ (ap (λ l. journal_of r.turns ++ l) (sym (append-nil (entries_of turn))) ∙ sym (journal_of-append r.turns (turn ∷ [])));
 }
 
--- a run after a run
-pub run_joins : (base mid : State) (before es : List Entry) (s : State) → IsRunFrom base before mid → IsRunFrom mid es s → IsRunFrom base (before ++ es) s
-run_joins base mid before es s first next = record {
+-- a deed that is no renewal is a turn
+turn_goes_on : (base : State) (es : List Entry) (old new : State) (e : Entry) (gs : List Grant) → IsRunFrom base es old → IsDeed old (record { entry = e; grants = gs }) new → is_renewal e ≡ false → IsRunFrom base (es ++ e ∷ map granted gs) new
+turn_goes_on base es old new (Called who call result) gs r is plain =
+    run_goes_on base es old new (Calls who call result gs) r (subst (λ (s : State). IsTurn old (Calls who call result gs) s) (sym is.1.2) is.1.1)
+turn_goes_on base es old new (Ticked by moment result) gs r is plain =
+    run_goes_on base es old new (Ticks by moment result gs) r (subst (λ (s : State). IsTurn old (Ticks by moment result gs) s) (sym is.1.2) is.1.1)
+turn_goes_on base es old new (Granted who status) gs r is plain = absurd (false≢true is.0)
+turn_goes_on base es old new (Renewed who renewal result) gs r is plain = absurd (false≢true (sym plain))
+
+history_goes_on : (lasts : Bool) (base : State) (es : List Entry) (old new : State) (d : Deed) → IsHistoryFrom lasts base es old → IsDeed old d new → (lasts ≡ false → is_renewal d.entry ≡ false) → IsHistoryFrom lasts base (es ++ entries_by d) new
+history_goes_on false base es old new d r step once = turn_goes_on base es old new d.entry d.grants r step (once refl)
+history_goes_on true base es old new d r step once = record {
+  deeds = r.deeds ++ d ∷ [];
+  life = deeds-append base old new r.deeds (d ∷ []) r.life (new, step, refl);
+  entries = ap (λ l. l ++ entries_by d) r.entries ∙ (ap (λ l. written r.deeds ++ d.entry ∷ l) (sym (append-nil (map granted d.grants))) ∙ sym (written-append r.deeds (d ∷ [])));
+}
+
+-- a history after a history
+history_joins : (lasts : Bool) (base mid : State) (before es : List Entry) (s : State) → IsHistoryFrom lasts base before mid → IsHistoryFrom lasts mid es s → IsHistoryFrom lasts base (before ++ es) s
+history_joins false base mid before es s first next = record {
   turns = first.turns ++ next.turns;
   run = turns-append base mid s first.turns next.turns first.run next.run;
   entries = ap (λ l. l ++ es) first.entries ∙ (ap (λ l. journal_of first.turns ++ l) next.entries ∙ sym (journal_of-append first.turns next.turns));
 }
-
-pub stands_after : (core after base : Dispatcher) (written more : List Entry) (first : ℕ) (es next : List Entry) (room : ℕ) (turn : Turn) → Stands (ledger core base written first es room) → IsLawful after → after.threads ≡ core.threads
-    → IsTurn (state core) turn (state after) → next ≡ es ++ entries_of turn → more ≡ written ++ entries_of turn → Stands (ledger after base more first next room)
-stands_after core after base written more first es next room turn s lawful same step grown longer = record {
-  lawful = lawful;
-  run = subst (λ (l : List Entry). IsRunFrom (state base) l (state after)) (sym grown) (run_goes_on (state base) es (state core) (state after) turn s.run step);
-  before = s.before;
-  led = subst (λ (n : ℕ). LeadTo n first s.before (state base)) (sym same) s.led;
-  all = longer ∙ (ap (λ l. l ++ entries_of turn) s.all ∙ (append_assoc s.before es (entries_of turn) ∙ ap (λ l. s.before ++ l) (sym grown)));
+history_joins true base mid before es s first next = record {
+  deeds = first.deeds ++ next.deeds;
+  life = deeds-append base mid s first.deeds next.deeds first.life next.life;
+  entries = ap (λ l. l ++ es) first.entries ∙ (ap (λ l. written first.deeds ++ l) next.entries ∙ sym (written-append first.deeds next.deeds));
 }
 
-leads_at_first : (n : ℕ) (s : State) → s ≡ opening n → LeadTo n 1 [] s
-leads_at_first n s new = record {
-  run = record { turns = []; run = new; entries = refl };
+-- nothing was done yet
+nothing_yet : (lasts : Bool) (base : State) (es : List Entry) (s : State) → s ≡ base → es ≡ [] → IsHistoryFrom lasts base es s
+nothing_yet false base es s same none = record { turns = []; run = same; entries = none }
+nothing_yet true base es s same none = record { deeds = []; life = same; entries = none }
+
+pub stands_after : (life after : WithSpare) (base : Dispatcher) (before more : List Entry) (first : ℕ) (es next : List Entry) (room : ℕ) (d : Deed) → Stands (ledger life base before first es room) → IsLawful after.core → after.core.threads ≡ life.core.threads
+    → IsDeed (state life.core) d (state after.core) → is_some after.spare ≡ is_some life.spare → (is_some life.spare ≡ false → is_renewal d.entry ≡ false) → next ≡ es ++ entries_by d → more ≡ before ++ entries_by d → Stands (ledger after base more first next room)
+stands_after life after base before more first es next room d s lawful same step lasts once grown longer = record {
+  lawful = lawful;
+  run = subst (λ (x : Bool × List Entry). IsHistoryFrom x.0 (state base) x.1 (state after.core)) {x = (is_some life.spare, es ++ entries_by d)} {y = (is_some after.spare, next)} (λ i. (sym lasts i, sym grown i))
+      (history_goes_on (is_some life.spare) (state base) es (state life.core) (state after.core) d s.run step once);
+  before = s.before;
+  led = subst (λ (x : Bool × ℕ). LeadTo x.0 x.1 first s.before (state base)) {x = (is_some life.spare, life.core.threads)} {y = (is_some after.spare, after.core.threads)} (λ i. (sym lasts i, sym same i)) s.led;
+  all = longer ∙ (ap (λ l. l ++ entries_by d) s.all ∙ (append_assoc s.before es (entries_by d) ∙ ap (λ l. s.before ++ l) (sym grown)));
+}
+
+leads_at_first : (lasts : Bool) (n : ℕ) (s : State) → s ≡ opening n → LeadTo lasts n 1 [] s
+leads_at_first lasts n s new = record {
+  run = nothing_yet lasts (opening n) [] s new refl;
   threads = ap (λ (x : State). x.threads) new;
   numbers = refl;
   past = tt;
 }
 
-pub stands_at_first : (core base : Dispatcher) (n room : ℕ) (written es : List Entry) → state core ≡ opening n → IsLawful core → state base ≡ opening n → written ≡ [] → es ≡ [] → Stands (ledger core base written 1 es room)
-stands_at_first core base n room written es new lawful same unwritten none = record {
+pub stands_at_first : (life : WithSpare) (base : Dispatcher) (n room : ℕ) (before es : List Entry) → state life.core ≡ opening n → IsLawful life.core → state base ≡ opening n → before ≡ [] → es ≡ [] → Stands (ledger life base before 1 es room)
+stands_at_first life base n room before es new lawful same unwritten none = record {
   lawful = lawful;
-  run = record { turns = []; run = new ∙ sym same; entries = none };
+  run = nothing_yet (is_some life.spare) (state base) es (state life.core) (new ∙ sym same) none;
   before = [];
-  led = subst (λ (k : ℕ). LeadTo k 1 [] (state base)) (sym (ap (λ (s : State). s.threads) new)) (leads_at_first n (state base) same);
+  led = subst (λ (k : ℕ). LeadTo (is_some life.spare) k 1 [] (state base)) (sym (ap (λ (s : State). s.threads) new)) (leads_at_first (is_some life.spare) n (state base) same);
   all = unwritten ∙ sym none;
 }
 
+-- nothing changed but what the dispatcher tells of its last call
+pub stands_same : (life after : WithSpare) (base : Dispatcher) (before : List Entry) (first : ℕ) (es : List Entry) (room : ℕ) → Stands (ledger life base before first es room) → IsLawful after.core → state after.core ≡ state life.core → is_some after.spare ≡ is_some life.spare
+    → Stands (ledger after base before first es room)
+stands_same life after base before first es room s lawful same lasts = record {
+  lawful = lawful;
+  run = subst (λ (x : Bool × State). IsHistoryFrom x.0 (state base) es x.1) {x = (is_some life.spare, state life.core)} {y = (is_some after.spare, state after.core)} (λ i. (sym lasts i, sym same i)) s.run;
+  before = s.before;
+  led = subst (λ (x : Bool × State). LeadTo x.0 x.1.threads first s.before (state base)) {x = (is_some life.spare, state life.core)} {y = (is_some after.spare, state after.core)} (λ i. (sym lasts i, sym same i)) s.led;
+  all = s.all;
+}
+
 -- all entries written lead to the present state
-leads_on : (core base : Dispatcher) (written : List Entry) (first n : ℕ) (es : List Entry) (room : ℕ) → Stands (ledger core base written first es room) → Agree n written (state core) → LeadTo core.threads (length written + 1) written (state core)
-leads_on core base written first n es room s a = record {
-  run = subst (λ (l : List Entry). IsRunFrom (opening core.threads) l (state core)) (sym s.all) (run_joins (opening core.threads) (state base) s.before es (state core) s.led.run s.run);
+leads_on : (life : WithSpare) (base : Dispatcher) (before : List Entry) (first n : ℕ) (es : List Entry) (room : ℕ) → Stands (ledger life base before first es room) → Agree n before (state life.core) → LeadTo (is_some life.spare) life.core.threads (length before + 1) before (state life.core)
+leads_on life base before first n es room s a = record {
+  run = subst (λ (l : List Entry). IsHistoryFrom (is_some life.spare) (opening life.core.threads) l (state life.core)) (sym s.all)
+      (history_joins (is_some life.spare) (opening life.core.threads) (state base) s.before es (state life.core) s.led.run s.run);
   threads = refl;
   numbers = refl;
   past = a.past;
 }
 
 -- a dispatcher whose entries were handed out stands on a copy of itself
-pub stands_anew : (core base copied : Dispatcher) (written told : List Entry) (first next n : ℕ) (es none : List Entry) (room : ℕ) → Stands (ledger core base written first es room) → Agree n written (state core) → copied ≡ core → told ≡ written
-    → next ≡ length written + 1 → none ≡ [] → Stands (ledger core copied told next none room)
-stands_anew core base copied written told first next n es none room s a same unchanged number empty = record {
+pub stands_anew : (life : WithSpare) (base copied : Dispatcher) (before told : List Entry) (first next n : ℕ) (es none : List Entry) (room : ℕ) → Stands (ledger life base before first es room) → Agree n before (state life.core) → copied ≡ life.core → told ≡ before
+    → next ≡ length before + 1 → none ≡ [] → Stands (ledger life copied told next none room)
+stands_anew life base copied before told first next n es none room s a same unchanged number empty = record {
   lawful = s.lawful;
-  run = record { turns = []; run = ap state (sym same); entries = empty };
-  before = written;
-  led = subst (λ (x : ℕ × State). LeadTo core.threads x.0 written x.1) (λ i. (sym number i, state (sym same i))) (leads_on core base written first n es room s a);
-  all = unchanged ∙ (sym (append-nil written) ∙ ap (λ l. written ++ l) (sym empty));
+  run = nothing_yet (is_some life.spare) (state copied) none (state life.core) (ap state (sym same)) empty;
+  before = before;
+  led = subst (λ (x : ℕ × State). LeadTo (is_some life.spare) life.core.threads x.0 before x.1) (λ i. (sym number i, state (sym same i))) (leads_on life base before first n es room s a);
+  all = unchanged ∙ (sym (append-nil before) ∙ ap (λ l. before ++ l) (sym empty));
 }
 
 pub agree_at_first : (n : ℕ) (es : List Entry) (s : State) → s ≡ opening n → es ≡ [] → Agree n es s
@@ -228,17 +269,24 @@ agree_goes_on n es s new who result e armed gs a below moved p moment past = rec
   past = subst (Each (λ m. m ≤ new.now)) (sym (accepted-step es e gs)) past;
 }
 
+-- ---- the entry of a call
+
+pub own_of : (who : ℕ) (call : Call) (result : Result Reply Refusal) (e : Entry) → IsOfCall who call result e → IsOwn who e
+own_of who call result (Called by asked answer) of = of.0
+own_of who call result (Renewed by renewal answer) of = of.0
+own_of who call result _ of = absurd of
+
+pub arms_of : (who : ℕ) (call : Call) (result : Result Reply Refusal) (e : Entry) → IsOfCall who call result e → arms e ≡ pended result
+arms_of who call result (Called by asked answer) of = ap pended of.2
+arms_of who call result (Renewed by renewal answer) of = ap pended of.2
+arms_of who call result _ of = absurd of
+
+pub accepted_of : (who : ℕ) (call : Call) (result : Result Reply Refusal) (e : Entry) → IsOfCall who call result e → accepted_at e ≡ []
+accepted_of who call result (Called by asked answer) of = refl
+accepted_of who call result (Renewed by renewal answer) of = refl
+accepted_of who call result _ of = absurd of
+
 -- ---- a call
-
--- a call that nothing refuses is of a thread that waits for nothing
-accepted_free : (s : State) (who : ℕ) (denied : Bool) (call : Call) → refusal s who denied call ≡ None → pends s who ≡ false
-accepted_free s who denied call none = ap is_some (free_caller s who call (undenied s who denied call none)).2
-
--- a wait of the caller pended before its call exactly where one pends after it, and the call was refused
-pub waits_before : (old : State) (who : ℕ) (call : Call) (result : Result Reply Refusal) (gs : List Grant) (new : State) → IsCalled old who call result gs new
-    → (is_err result && pends new who) ≡ pends old who
-waits_before old who call (Ok reply) gs new called = sym (accepted_free old who (is_denied old call) (call_named old.handles call) called.1.0)
-waits_before old who call (Err r) gs new called = ap (λ (s : State). pends s who) called.2
 
 or_one : (waited p : Bool) → (p ≡ true → waited ≡ false) → one_if waited + one_if p ≡ one_if (waited || p)
 or_one true true h = absurd (let a = ap one_if (h refl) in omega arith)
@@ -247,30 +295,43 @@ or_one false true h = refl
 or_one false false h = refl
 
 -- whether a wait of the caller pends after its call
-pub call_arms : (n : ℕ) (es : List Entry) (s : State) (who : ℕ) (call : Call) (result : Result Reply Refusal) (gs : List Grant) (new : State) (waited : Bool) → Agree n es s → Moves s who (pended result) gs new → waited ≡ pends s who
-    → one_if (is_armed who es) + one_if (pended result) ≡ one_if (waited || pended result)
-call_arms n es s who call result gs new waited a moved is =
+pub call_arms : (n : ℕ) (es : List Entry) (s : State) (who : ℕ) (result : Result Reply Refusal) (e : Entry) (gs : List Grant) (new : State) (waited : Bool) → Agree n es s → Moves s who (pended result) gs new → waited ≡ pends s who → arms e ≡ pended result
+    → one_if (is_armed who es) + one_if (arms e) ≡ one_if (waited || pended result)
+call_arms n es s who result e gs new waited a moved is arm =
     let b = ap one_if (a.waits who ∙ sym is) in
     let c = or_one waited (pended result) (λ p. is ∙ moved.free p) in
+    let d = ap one_if arm in
     omega arith
 
-posted_call : (n : ℕ) (es : List Entry) (s : State) (who : ℕ) (call : Call) (result : Result Reply Refusal) (gs : List Grant) (new : State) (waited : Bool) → Agree n es s → Moves s who (pended result) gs new → waited ≡ pends s who
-    → IsPosted es s who result (Called who call result) (waited || pended result)
-posted_call n es s who call result gs new waited a moved is = record { own = refl; arm = refl; one = call_arms n es s who call result gs new waited a moved is }
+posted_call : (n : ℕ) (es : List Entry) (s : State) (who : ℕ) (call : Call) (result : Result Reply Refusal) (e : Entry) (gs : List Grant) (new : State) (waited : Bool) → Agree n es s → Moves s who (pended result) gs new → waited ≡ pends s who → IsOfCall who call result e
+    → IsPosted es s who result e (waited || pended result)
+posted_call n es s who call result e gs new waited a moved is of =
+    let arm = arms_of who call result e of in record { own = own_of who call result e of; arm = arm; one = call_arms n es s who result e gs new waited a moved is arm }
 
-pub call_sends : (n : ℕ) (es : List Entry) (s : State) (who : ℕ) (call : Call) (result : Result Reply Refusal) (gs : List Grant) (new : State) (waited : Bool) → Agree n es s → AreBelow n s → Moves s who (pended result) gs new → waited ≡ pends s who
-    → AreArmed n (es ++ Called who call result ∷ []) gs
-call_sends n es s who call result gs new waited a below moved is =
-    can_send n es s new who result (Called who call result) (waited || pended result) gs a below moved (posted_call n es s who call result gs new waited a moved is)
+pub call_sends : (n : ℕ) (es : List Entry) (s : State) (who : ℕ) (call : Call) (result : Result Reply Refusal) (e : Entry) (gs : List Grant) (new : State) (waited : Bool) → Agree n es s → AreBelow n s → Moves s who (pended result) gs new → waited ≡ pends s who → IsOfCall who call result e
+    → AreArmed n (es ++ e ∷ []) gs
+call_sends n es s who call result e gs new waited a below moved is of =
+    can_send n es s new who result e (waited || pended result) gs a below moved (posted_call n es s who call result e gs new waited a moved is of)
 
-pub agree_after_call : (n : ℕ) (es : List Entry) (s : State) (who : ℕ) (call : Call) (result : Result Reply Refusal) (gs : List Grant) (new : State) (waited : Bool) → Agree n es s → AreBelow n s → Moves s who (pended result) gs new → waited ≡ pends s who
-    → new.now ≡ s.now → Agree n (es ++ entries_of (Calls who call result gs)) new
-agree_after_call n es s who call result gs new waited a below moved is same =
-    agree_goes_on n es s new who result (Called who call result) (waited || pended result) gs a below moved (posted_call n es s who call result gs new waited a moved is)
-    (ap (latest 0) (append-nil (accepted es)) ∙ (a.moment ∙ sym same))
-    (subst (Each (λ m. m ≤ new.now)) (sym (append-nil (accepted es))) (each_most s.now new.now (accepted es) (omega (arith, same)) a.past))
+-- an entry that lets no moment pass
+quiet : (n : ℕ) (es : List Entry) (s new : State) (who : ℕ) (result : Result Reply Refusal) (e : Entry) (armed : Bool) (gs : List Grant) → Agree n es s → AreBelow n s → Moves s who (pended result) gs new → IsPosted es s who result e armed → accepted_at e ≡ []
+    → new.now ≡ s.now → Agree n (es ++ e ∷ map granted gs) new
+quiet n es s new who result e armed gs a below moved p none same =
+    let moments : accepted es ++ accepted_at e ≡ accepted es = ap (λ l. accepted es ++ l) none ∙ append-nil (accepted es) in
+    agree_goes_on n es s new who result e armed gs a below moved p (ap (latest 0) moments ∙ (a.moment ∙ sym same))
+    (subst (Each (λ m. m ≤ new.now)) (sym moments) (each_most s.now new.now (accepted es) (omega (arith, same)) a.past))
+
+pub agree_after_call : (n : ℕ) (es : List Entry) (s : State) (who : ℕ) (call : Call) (result : Result Reply Refusal) (e : Entry) (gs : List Grant) (new : State) (waited : Bool) → Agree n es s → AreBelow n s → Moves s who (pended result) gs new → waited ≡ pends s who → IsOfCall who call result e
+    → new.now ≡ s.now → Agree n (es ++ e ∷ map granted gs) new
+agree_after_call n es s who call result e gs new waited a below moved is of same =
+    quiet n es s new who result e (waited || pended result) gs a below moved (posted_call n es s who call result e gs new waited a moved is of) (accepted_of who call result e of) same
 
 -- ---- a tick
+
+pub done_stays : (result : Result Reply Refusal) → IsTrue (is_done result) → pended result ≡ false
+done_stays (Ok Reply.Done) done = refl
+done_stays (Err cause) done = refl
+done_stays (Ok reply) done = absurd (false≢true done)
 
 -- a wait of who ticks pends after the tick where it did before
 pub tick_arms : (n : ℕ) (es : List Entry) (s : State) (by : ℕ) (result : Result Reply Refusal) (waited : Bool) → Agree n es s → pended result ≡ false → waited ≡ pends s by
@@ -302,7 +363,7 @@ tick_past es s by m (Ok reply) new past come = (let here = come.0 in let now = c
 tick_past es s by m (Err cause) new past come = subst (Each (λ x. x ≤ new.now)) (sym (append-nil (accepted es))) (each_most s.now new.now (accepted es) (omega (arith, come)) past)
 
 pub agree_after_tick : (n : ℕ) (es : List Entry) (s : State) (by m : ℕ) (result : Result Reply Refusal) (gs : List Grant) (new : State) (waited : Bool) → Agree n es s → AreBelow n s → pended result ≡ false → Moves s by false gs new → IsMomentAfter s.now m result new.now → waited ≡ pends s by
-    → Agree n (es ++ entries_of (Ticks by m result gs)) new
+    → Agree n (es ++ Ticked by m result ∷ map granted gs) new
 agree_after_tick n es s by m result gs new waited a below stays moved come is =
     agree_goes_on n es s new by result (Ticked by m result) waited gs a below (moved_by s by result gs new stays moved) (posted_tick n es s by m result waited a stays is)
     (tick_moment es s by m result new a.moment come) (tick_past es s by m result new a.past come)
@@ -311,6 +372,30 @@ agree_after_tick n es s by m result gs new waited a below stays moved come is =
 pub tick_rises : (n : ℕ) (es : List Entry) (s : State) (m : ℕ) (result : Result Reply Refusal) (new : State) (published : List ℕ) → Agree n es s → IsMomentAfter s.now m result new.now → published ≡ accepted es → IfOk result (λ _. latest 0 published ≤ m)
 tick_rises n es s m (Ok reply) new published a come is = let b = ap (latest 0) is in let c = a.moment in let d = come.0 in omega arith
 tick_rises n es s m (Err cause) new published a come is = tt
+
+-- ---- a thread that begins again
+
+pub begin_moves : (old : State) (t h : ℕ) (grants : List Grant) (new : State) → BeginsAgain old t h (Ok (Reply.Handle h)) grants new → Moves old t false [] new
+begin_moves old t h grants new begun =
+    let same : (x : ℕ) → pends new x ≡ pends old x = λ x. ap (λ (s : State). pends s x) begun.3 in record {
+      threads = ap (λ (s : State). s.threads) begun.3;
+      free = λ e. absurd (false≢true e);
+      ended = λ x. (let none : granted_to x [] ≡ 0 = refl in omega (arith, none));
+      each = λ x. (let waits = ap one_if (same x) in both x (eqb t x) waits);
+    }
+  where
+    both : (x : ℕ) (b : Bool) → one_if (pends new x) ≡ one_if (pends old x) → one_if (pends new x) + 0 ≡ one_if (pends old x) + cond b 0 0
+    both x true waits = omega (arith, waits)
+    both x false waits = omega (arith, waits)
+
+pub agree_after_begin : (n : ℕ) (es : List Entry) (s : State) (t h : ℕ) (grants : List Grant) (new : State) (waited : Bool) → Agree n es s → AreBelow n s → waited ≡ pends s t → BeginsAgain s t h (Ok (Reply.Handle h)) grants new
+    → Agree n (es ++ Renewed t (Begin h) (Ok h) ∷ []) new
+agree_after_begin n es s t h grants new waited a below is begun =
+    quiet n es s new t (Ok (Reply.Handle h)) (Renewed t (Begin h) (Ok h)) waited [] a below (begin_moves s t h grants new begun) (record { own = refl; arm = refl; one = tick_arms n es s t (Ok (Reply.Handle h)) waited a refl is }) refl
+    (ap (λ (x : State). x.now) begun.3)
+
+pub begin_deed : (s : State) (t h : ℕ) (grants : List Grant) (new : State) → BeginsAgain s t h (Ok (Reply.Handle h)) grants new → IsDeed s (record { entry = Renewed t (Begin h) (Ok h); grants = [] }) new
+begin_deed s t h grants new begun = (refl, (new, (begun.0, begun.1, refl, begun.3), refl))
 
 -- ---- the book
 

@@ -1,3 +1,4 @@
+pub mod Told
 pub mod Journals
 pub mod Floors
 pub mod Polling

@@ -11,13 +11,15 @@ use Rattle.nt_front.specs.declared.polls.Polled.{Polled}
 use Rattle.nt_front.specs.declared.calls.Begun.{Begun}
 use Rattle.nt_front.specs.declared.waits.Waited.{Waited}
 use Rattle.nt_front.specs.declared.calls.Exited.{Exited}
+use Rattle.nt_front.specs.declared.again.BegunAgain.{BegunAgain}
+use Rattle.nt_mail.specs.declared.knowledge.Asked.{Asked}
 use Rattle.nt_mail.specs.declared.word.Word.{Word}
 use Rattle.nt_mail.specs.Entries.{given}
 use Rattle.nt_mail.specs.Words.{IsLawfulWord, TellsGrant, granted_word}
 use Rattle.nt_mail.specs.Knowledge.{with_got, with_polled, IsEarlier}
 use Rattle.nt_front.specs.Names.{Prepared}
-use Rattle.nt_front.specs.Books.{WasFull}
-use Rattle.nt_front.specs.Holds.{IsGiven, with_call}
+use Rattle.nt_front.specs.Books.{WasFull, WasTaken}
+use Rattle.nt_front.specs.Holds.{IsGiven, with_call, with_made}
 
 -- the word tells no grant
 abbrev pub IsUngranted : ℕ → Type 0
@@ -64,3 +66,11 @@ IsWaited front old wait (Waited.NoRoom new) = (new ≡ old) × WasFull front old
 abbrev pub IsExited : {X : Type 0} → Prepared → Knowledge → Exited X → Type 0
 IsExited front old (Exited.Ended new receipt) = IsMade old Call.Exit receipt.entry receipt.result new
 IsExited front old (Exited.NoRoom new) = (new ≡ old) × WasFull front old
+
+-- the front lasts, and that the thread began again was written, under a number above all that the thread had, with its handle; or its place
+-- was not free; or the journal was full
+abbrev pub IsBegunAgain : {X : Type 0} → Prepared → Knowledge → BegunAgain X → Type 0
+IsBegunAgain front old (BegunAgain.Begun new receipt) =
+    (front.lasts ≡ true) × (new ≡ with_made old receipt.entry Asked.Begin receipt.result) × IsEarlier receipt.entry old × ((handle : ℕ) × (receipt.result ≡ Ok (Reply.Handle handle)))
+IsBegunAgain front old (BegunAgain.Taken new) = (new ≡ old) × WasTaken front old
+IsBegunAgain front old (BegunAgain.NoRoom new) = (new ≡ old) × WasFull front old

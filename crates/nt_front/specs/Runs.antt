@@ -1,12 +1,12 @@
--- A journal as a run of the machine.
-use Rattle.std.specs.Prelude.{◌≡◌, ◌<◌, ◌≤◌, ◌+◌, ℕ, List, [], ◌∷◌, ◌++◌, length, true}
+-- A journal as a run of the machine, or, of a front that lasts, as a life.
+use Rattle.std.specs.Prelude.{◌≡◌, ◌<◌, ◌≤◌, ◌+◌, ℕ, Bool, List, [], ◌∷◌, ◌++◌, length, true, false}
 use Rattle.nt_calls.specs.declared.call.Grant.{Grant}
 use Rattle.nt_core.specs.Dispatcher.{Dispatcher, state}
 use Rattle.nt_core.specs.Lawful.{IsLawful}
 use Rattle.nt_calls.specs.State.{State, pends, opening}
 use Rattle.nt_mail.specs.declared.entry.Entry.{Entry}
 use Rattle.nt_mail.specs.Entries.{Each, is_armed, accepted}
-pub use Rattle.nt_mail.specs.Journals.{granted, entries_of, journal_of, IsRunFrom}
+pub use Rattle.nt_mail.specs.Journals.{granted, entries_of, journal_of, IsRunFrom, IsLifeFrom}
 use Rattle.nt_mail.specs.Knowledge.{latest}
 
 -- the entries are those of a run of n threads, from the opening to this state
@@ -17,10 +17,24 @@ IsRun n es s = IsRunFrom (opening n) es s
 abbrev pub IsLawfulRun : Dispatcher → List Entry → Type 0
 IsLawfulRun base es = (core : Dispatcher) × IsLawful core × IsRunFrom (state base) es (state core)
 
+-- the same of a life
+abbrev pub IsLawfulLife : Dispatcher → List Entry → Type 0
+IsLawfulLife base es = (core : Dispatcher) × IsLawful core × IsLifeFrom (state base) es (state core)
+
+-- what a front writes leads from the base to this state: it is a run, or, if the front lasts, a life
+abbrev pub IsHistoryFrom : Bool → State → List Entry → State → Type 0
+IsHistoryFrom false base es s = IsRunFrom base es s
+IsHistoryFrom true base es s = IsLifeFrom base es s
+
+-- the same, from the base to a lawful dispatcher
+abbrev pub IsLawfulHistory : Bool → Dispatcher → List Entry → Type 0
+IsLawfulHistory false base es = IsLawfulRun base es
+IsLawfulHistory true base es = IsLawfulLife base es
+
 -- these entries led n threads from the opening to the base, and the next one has number `first`; no tick among them was accepted
 -- with a moment after the base's
-pub record LeadTo (n first : ℕ) (before : List Entry) (base : State) : Type 0 where
-  pub run : IsRun n before base
+pub record LeadTo (lasts : Bool) (n first : ℕ) (before : List Entry) (base : State) : Type 0 where
+  pub run : IsHistoryFrom lasts (opening n) before base
   pub threads : base.threads ≡ n
   pub numbers : first ≡ length before + 1
   pub past : Each (λ m. m ≤ base.now) (accepted before)

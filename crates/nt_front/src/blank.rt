@@ -1,8 +1,9 @@
 //! How a front is made.
-ghost use Rattle.std.specs.Prelude.{◌≡◌, ◌+◌, ◌≤◌, ◌&&◌, [], vec_len, vec_capacity, IfOk, IfErr, MatchBool, true, nat_le};
+ghost use Rattle.std.specs.Prelude.{◌≡◌, ◌+◌, ◌≤◌, ◌&&◌, [], vec_len, vec_capacity, IfOk, IfErr, MatchBool, is_some, true, false, nat_le};
 ghost use Rattle.nt_status.specs.declared.refusal.Refusal.TheVariants.{InvalidParameter, Memory};
 ghost use Rattle.nt_calls.specs.State.{opening};
 ghost use Rattle.nt_core.specs.Dispatcher.{state};
+ghost use Rattle.nt_core.specs.Lawful.{IsLawful};
 ghost use Rattle.nt_mail.specs.Knowledge.{newcomers};
 ghost use Rattle.nt_front.specs.Books.{is_lawful_front};
 ghost use Rattle.nt_front.specs.Holds.{new_threads};
@@ -14,6 +15,7 @@ use crate::lock::Locked;
 use crate::named::Named;
 use crate::wake::Bells;
 use nt_core::Core;
+use nt_life::Lasting;
 use nt_mail::{Entry, JoinedSeats, Mail, Opened};
 use nt_status::{MAX_THREADS, Moment, Refusal, ThreadId};
 use std::alloc::Global;
@@ -23,14 +25,29 @@ use std::marker::{Model, PhantomData};
 const MOST_ENTRIES: usize = 1_048_576;
 
 /// A front that no name stands for yet.
-#[derive(Drop)]
 pub struct Blank {
     mail: Mail,
     seats: JoinedSeats,
-    core: Core,
+    life: Lasting,
     journal: Vec<Entry>,
     threads: u32,
     room: usize,
+    lasts: bool,
+}
+
+/// Written by hand, as that of a front.
+impl Drop for Blank {
+    fn drop(self) {
+        let Blank {
+            mail: _,
+            seats: _,
+            life: _,
+            journal: _,
+            threads: _,
+            room: _,
+            lasts: _,
+        } = self;
+    }
 }
 
 impl Model for Blank {
@@ -40,9 +57,9 @@ impl Model for Blank {
 
     ghost Value = { Prepared };
 
-    ghost view = { λ b. prepared b.mail b.threads b.room };
+    ghost view = { λ b. prepared b.mail b.threads b.room b.lasts };
 
-    ghost invariant = { λ b. IsBlank (prepared b.mail b.threads b.room) b.seats b.core b.journal.items
+    ghost invariant = { λ b. IsBlank (prepared b.mail b.threads b.room b.lasts) b.seats b.life b.journal.items
         (vec_capacity b.journal) };
 }
 
@@ -53,13 +70,23 @@ impl Model for Blank {
 pub fn prepare(alloc: Global, threads: u32, journal_room: usize) -> Result<Blank, Refusal>
     ensures ok { IfOk result (λ b. (b.threads ≡ threads) × (b.room ≡ journal_room)
         × (is_lawful_front threads journal_room ≡ true)) }
+    ensures once { IfOk result (λ b. b.lasts ≡ false) }
     ensures err { IfErr result (λ r. MatchBool (is_lawful_front threads journal_room) (r ≡ Memory)
         (r ≡ InvalidParameter)) }
 {
-    if !is_lawful(threads, journal_room) {
-        return Err(Refusal::InvalidParameter);
-    }
-    parts(alloc, threads, journal_room)
+    prepare_for(alloc, threads, journal_room, false)
+}
+
+/// The same, for a front that lasts: the numbers of closed handles and of objects that are gone are given again, and a thread that has
+/// ended can begin again.
+pub fn prepare_lasting(alloc: Global, threads: u32, journal_room: usize) -> Result<Blank, Refusal>
+    ensures ok { IfOk result (λ b. (b.threads ≡ threads) × (b.room ≡ journal_room)
+        × (is_lawful_front threads journal_room ≡ true)) }
+    ensures lasts { IfOk result (λ b. b.lasts ≡ true) }
+    ensures err { IfErr result (λ r. MatchBool (is_lawful_front threads journal_room) (r ≡ Memory)
+        (r ≡ InvalidParameter)) }
+{
+    prepare_for(alloc, threads, journal_room, true)
 }
 
 /// Opens the front under its name. The passes are in the order of the threads.
@@ -72,7 +99,7 @@ pub fn open<N: Named>(alloc: Global, blank: Blank) -> Result<(Front<N>, Vec<Pass
     ensures memory { IfErr result (λ r. r ≡ Memory) }
 {
     match make_rest(alloc, &blank) {
-        Ok(made) => Ok(put_together(blank, made)),
+        Ok(made) => Ok(blank.put_together(made)),
         Err(refused) => {
             drop(blank);
             Err(refused)
@@ -80,35 +107,38 @@ pub fn open<N: Named>(alloc: Global, blank: Blank) -> Result<(Front<N>, Vec<Pass
     }
 }
 
-/// Puts the front together. Each thread gets its pass.
-fn put_together<N: Named>(blank: Blank, made: Made<N>) -> (Front<N>, Vec<Pass<N>>)
-    requires name { blank ≡ N.front }
-    requires room { (made.passes.items ≡ []) × (blank.threads ≤ vec_capacity made.passes) }
-    requires base { state made.base ≡ opening blank.threads }
-    ensures passes { result.1.items ≡ new_threads blank.threads }
-    ensures count { vec_len result.1 ≡ blank.threads }
-{
-    let Blank {
-        mail,
-        mut seats,
-        core,
-        journal,
-        threads,
-        room,
-    } = blank;
-    let Made {
-        bells,
-        mut passes,
-        base,
-    } = made;
-    hand_out(&mail, &mut seats, threads as u16, &mut passes);
-    let book = Book::new(core, base, threads, journal, room, seats.into_dispatcher());
-    let front = Front {
-        mail,
-        book: Locked::new(book),
-        bells,
-    };
-    (front, passes)
+impl Blank {
+    /// Puts the front together. Each thread gets its pass.
+    fn put_together<N: Named>(self, made: Made<N>) -> (Front<N>, Vec<Pass<N>>)
+        requires name { self ≡ N.front }
+        requires room { (made.passes.items ≡ []) × (self.threads ≤ vec_capacity made.passes) }
+        requires base { state made.base ≡ opening self.threads }
+        ensures passes { result.1.items ≡ new_threads self.threads }
+        ensures count { vec_len result.1 ≡ self.threads }
+    {
+        let Blank {
+            mail,
+            mut seats,
+            life,
+            journal,
+            threads,
+            room,
+            lasts: _,
+        } = self;
+        let Made {
+            bells,
+            mut passes,
+            base,
+        } = made;
+        hand_out(&mail, &mut seats, threads as u16, &mut passes);
+        let book = Book::new(life, base, threads, journal, room, seats.into_dispatcher());
+        let front = Front {
+            mail,
+            book: Locked::new(book),
+            bells,
+        };
+        (front, passes)
+    }
 }
 
 /// What opening takes memory for: a bell for each thread, room for the passes, and the dispatcher that the journal begins at.
@@ -127,7 +157,7 @@ fn make_rest<N: Named>(alloc: Global, blank: &Blank) -> Result<Made<N>, Refusal>
     let threads = blank.threads as usize;
     let bells = Bells::new(alloc, blank.threads as u16)?;
     let passes = Vec::with_capacity(alloc, threads)?;
-    match blank.core.copy() {
+    match blank.life.core().copy() {
         Ok(base) => Ok(Made {
             bells,
             passes,
@@ -147,25 +177,56 @@ fn is_lawful(threads: u32, room: usize) -> bool
     1 <= threads && threads <= MAX_THREADS && 1 <= room && room <= MOST_ENTRIES
 }
 
+/// Makes what a front needs that lasts, or does not.
+fn prepare_for(alloc: Global, threads: u32, room: usize, lasts: bool) -> Result<Blank, Refusal>
+    ensures ok { IfOk result (λ b. (b.threads ≡ threads) × (b.room ≡ room)
+        × (is_lawful_front threads room ≡ true)) }
+    ensures lasts { IfOk result (λ b. b.lasts ≡ lasts) }
+    ensures err { IfErr result (λ r. MatchBool (is_lawful_front threads room) (r ≡ Memory) (r ≡ InvalidParameter)) }
+{
+    if !is_lawful(threads, room) {
+        return Err(Refusal::InvalidParameter);
+    }
+    parts(alloc, threads, room, lasts)
+}
+
 /// The parts of a front.
-fn parts(alloc: Global, threads: u32, room: usize) -> Result<Blank, Refusal>
+fn parts(alloc: Global, threads: u32, room: usize, lasts: bool) -> Result<Blank, Refusal>
     requires { (1 ≤ threads) × (threads ≤ MAX_THREADS) }
     ensures ok { IfOk result (λ b. (b.threads ≡ threads) × (b.room ≡ room)) }
+    ensures lasts { IfOk result (λ b. b.lasts ≡ lasts) }
     ensures memory { IfErr result (λ r. r ≡ Memory) }
 {
     let Ok(Opened { mail, seats }) = Mail::new(alloc, threads) else {
         return Err(Refusal::Memory);
     };
     let journal = Vec::with_capacity(alloc, room)?;
-    let core = Core::new(alloc, threads)?;
+    let life = life_of(alloc, threads, lasts)?;
     Ok(Blank {
         mail,
         seats,
-        core,
+        life,
         journal,
         threads,
         room,
+        lasts,
     })
+}
+
+/// A dispatcher for these threads, that lasts or gives each number once.
+fn life_of(alloc: Global, threads: u32, lasts: bool) -> Result<Lasting, Refusal>
+    requires { (1 ≤ threads) × (threads ≤ MAX_THREADS) }
+    ensures opens { IfOk result (λ life. (state life.core ≡ opening threads) × IsLawful life.core) }
+    ensures lasts { IfOk result (λ life. is_some life.spare ≡ lasts) }
+    ensures memory { IfErr result (λ r. r ≡ Memory) }
+{
+    let life = if lasts {
+        Lasting::new(alloc, threads)?
+    } else {
+        Lasting::once(alloc, threads)?
+    };
+    life.stands();
+    Ok(life)
 }
 
 /// Gives each thread its pass.

@@ -1,5 +1,5 @@
 //! What lies behind the lock.
-ghost use Rattle.std.specs.Prelude.{◌≡◌, ◌+◌, ◌-◌, ◌^◌, ◌<◌, ◌≤◌, ◌↔◌, [], length, min, vec_capacity, true, false, IfOk, IfErr, OnErr, Err, is_err, IsTrue, ◌&&◌};
+ghost use Rattle.std.specs.Prelude.{◌≡◌, ◌+◌, ◌-◌, ◌^◌, ◌<◌, ◌≤◌, ◌↔◌, [], length, min, vec_capacity, true, false, IfOk, IfErr, OnErr, Err, is_err, is_some, IsTrue, ◌&&◌};
 ghost use Rattle.std.specs.FinMap as map;
 ghost use Rattle.nt_status.specs.declared.refusal.Refusal.TheVariants.{JournalFull, Memory};
 ghost use Rattle.nt_calls.specs.State.{opening, pends};
@@ -10,7 +10,7 @@ ghost use Rattle.nt_answers.specs.Answers.{is_done};
 ghost use Rattle.nt_answers.specs.Kinds.{is_answer};
 ghost use Rattle.nt_mail.specs.Entries.{accepted};
 ghost use Rattle.nt_mail.specs.Knowledge.{IsEarlier};
-ghost use Rattle.nt_front.specs.Books.{Stands, WritesCall, WritesTick, IsFull, WasFull, HandsOut, WasHandedOut, ledger, next_number};
+ghost use Rattle.nt_front.specs.Books.{Stands, WritesCall, WritesTick, IsFull, WasFull, HandsOut, WasHandedOut, gives_again, ledger, next_number};
 ghost use Rattle.nt_front.specs.Holds.{with_call, with_tick};
 ghost use Rattle.nt_front.specs.Wakes.{Wakes};
 
@@ -21,6 +21,7 @@ use crate::receipt::{History, Part, Receipt};
 use crate::wake::ToWake;
 use crate::write::{publish, send, tell, write_call};
 use nt_core::{Call, Core, Reply};
+use nt_life::Lasting;
 use nt_mail::{DispatcherSeat, Entry, Mail};
 use nt_status::{Moment, Refusal, ThreadId};
 use std::marker::{Model, PhantomData};
@@ -31,16 +32,17 @@ const NUMBERS: u64 = 1 << 54;
 
 /// The dispatcher, its journal with the dispatcher that it begins at, and the seat that knows all entries. Only `open` makes one.
 ///
-/// Its type keeps that the dispatcher is lawful, and that the journal is a run which leads from its base to this very state.
+/// Its type keeps that the dispatcher is lawful, and that the journal is a run which leads from its base to this very state, or, if it
+/// lasts, a life.
 #[derive(Drop)]
 pub(crate) struct Book<N: Named> {
-    core: Core,
+    pub(crate) life: Lasting,
     base: Core,
-    first: u64,
-    journal: Vec<Entry>,
-    room: usize,
+    pub(crate) first: u64,
+    pub(crate) journal: Vec<Entry>,
+    pub(crate) room: usize,
     threads: u32,
-    dispatcher: DispatcherSeat,
+    pub(crate) dispatcher: DispatcherSeat,
     of: PhantomData<N>,
 }
 
@@ -54,9 +56,9 @@ impl<N: Named> Model for Book<N> {
 
     ghost coded = { Prim.hlevel (codes, waits_code) };
 
-    ghost view = { λ b. ledger b.core b.base b.dispatcher.written b.first b.journal.items b.room };
+    ghost view = { λ b. ledger b.life b.base b.dispatcher.written b.first b.journal.items b.room };
 
-    ghost invariant = { λ b. IsBook (ledger b.core b.base b.dispatcher.written b.first b.journal.items b.room) b.threads
+    ghost invariant = { λ b. IsBook (ledger b.life b.base b.dispatcher.written b.first b.journal.items b.room) b.threads
         (vec_capacity b.journal) b.dispatcher N.front };
 }
 
@@ -87,12 +89,12 @@ impl<N: Named> Book<N> {
     {
         let place = self.journal.len();
         let entry = self.first + place as u64;
-        if is_full(place, self.room, entry, self.core.pending()) {
+        if is_full(place, self.room, entry, self.life.core().pending()) {
             return Err(self.refusal(mail, caller));
         }
         let who = caller.thread();
-        let result = write_call(&mut self.core, &mut self.journal, who, call);
-        let waited = waited_before(&self.core, who, &result);
+        let result = write_call(&mut self.life, &mut self.journal, who, call);
+        let waited = waited_before(self.life.core(), who, &result);
         let armed = waited | has_pended(&result);
         tell(
             mail,
@@ -108,9 +110,9 @@ impl<N: Named> Book<N> {
             &mut self.dispatcher,
             &mut self.journal,
             entry + 1,
-            self.core.grants(),
+            self.life.core().grants(),
         );
-        let to_wake = ToWake::of(self.core.grants());
+        let to_wake = ToWake::of(self.life.core().grants());
         Ok((Receipt { entry, result }, to_wake))
     }
 
@@ -138,12 +140,12 @@ impl<N: Named> Book<N> {
     {
         let place = self.journal.len();
         let entry = self.first + place as u64;
-        if is_full(place, self.room, entry, self.core.pending()) {
+        if is_full(place, self.room, entry, self.life.core().pending()) {
             return Err(self.refusal(mail, caller));
         }
         let by = caller.thread();
-        let armed = self.core.is_waiting(u32::from(by.get()));
-        let result = self.core.tick(moment);
+        let armed = self.life.core().is_waiting(u32::from(by.get()));
+        let result = self.life.tick(moment);
         self.journal
             .push_reserved(Entry::Ticked { by, moment, result });
         tell(
@@ -161,10 +163,10 @@ impl<N: Named> Book<N> {
             &mut self.dispatcher,
             &mut self.journal,
             entry + 1,
-            self.core.grants(),
+            self.life.core().grants(),
         );
         publish(mail, &mut self.dispatcher, moment, &result);
-        let to_wake = ToWake::of(self.core.grants());
+        let to_wake = ToWake::of(self.life.core().grants());
         Ok((Receipt { entry, result }, to_wake))
     }
 
@@ -209,13 +211,13 @@ impl<N: Named> Book<N> {
         ensures memory { IfErr result (λ r. r ≡ Memory) }
     {
         let journal = Vec::with_capacity(*self.journal.allocator(), self.room)?;
-        let base = self.core.copy()?;
+        let base = self.life.core().copy()?;
         Ok((journal, base))
     }
 
     /// The refusal of a call where the journal is full. Nothing changes; what the thread knows is what the journal tells of it.
     #[inline(never)]
-    fn refusal(&mut self, mail: &Mail, caller: &mut Hold<N>) -> Refusal
+    pub(crate) fn refusal(&mut self, mail: &Mail, caller: &mut Hold<N>) -> Refusal
         requires mail { mail.now ≡ N.front.table }
         requires full { IsFull self.old }
         ensures refusal { result ≡ JournalFull }
@@ -228,22 +230,23 @@ impl<N: Named> Book<N> {
 
     /// A book with an empty journal, which begins at the opening.
     pub(crate) fn new(
-        core: Core,
+        life: Lasting,
         base: Core,
         threads: u32,
         journal: Vec<Entry>,
         room: usize,
         dispatcher: DispatcherSeat,
     ) -> Book<N>
-        requires core { (state core ≡ opening threads) × IsLawful core }
+        requires life { (state life.core ≡ opening threads) × IsLawful life.core }
         requires base { state base ≡ opening threads }
         requires journal { (journal.items ≡ []) × (room ≤ vec_capacity journal) }
         requires dispatcher { dispatcher ≡ record { table = N.front.table; written = []; published = [] } }
         requires front { (N.front.table.words ≡ threads + 1) × (threads ≡ N.front.threads) × (room ≡ N.front.room) }
-        ensures { result ≡ ledger core base [] 1 [] room }
+        requires lasts { is_some life.spare ≡ N.front.lasts }
+        ensures { result ≡ ledger life base [] 1 [] room }
     {
         Book {
-            core,
+            life,
             base,
             first: 1,
             journal,
@@ -254,11 +257,11 @@ impl<N: Named> Book<N> {
         }
     }
 
-    /// The dispatcher is lawful and the journal a run to its state, now as ever; there is nothing to do for it.
+    /// The dispatcher is lawful and the journal leads to its state, now as ever; there is nothing to do for it.
     pub(crate) fn stands(&self)
         ensures { Stands self.now }
     {
-        let _ = &self.core;
+        let _ = &self.life;
     }
 
     /// The rest of the journal, and the seat that knows all entries.
@@ -267,11 +270,12 @@ impl<N: Named> Book<N> {
             × (result.0.entries.items ≡ self.journal) }
         ensures stands { Stands self }
         ensures threads { self.core.threads ≡ N.front.threads }
+        ensures lasts { gives_again self ≡ N.front.lasts }
         ensures seat { result.1
             ≡ record { table = N.front.table; written = self.written; published = accepted self.written } }
     {
         let Book {
-            core,
+            life,
             base,
             first,
             journal,
@@ -280,7 +284,7 @@ impl<N: Named> Book<N> {
             dispatcher,
             of: _,
         } = self;
-        drop(core);
+        drop(life);
         let history = History {
             first,
             base,
@@ -292,7 +296,7 @@ impl<N: Named> Book<N> {
 
 /// There is no place, or no number, for one entry and one more for each pending wait.
 #[inline(always)]
-fn is_full(entries: usize, room: usize, next: u64, pending: usize) -> bool
+pub(crate) fn is_full(entries: usize, room: usize, next: u64, pending: usize) -> bool
     requires { next ≤ 2 ^ 54 }
     ensures { (result ≡ true) ↔ (min (room - entries) (2 ^ 54 - next) < 1 + pending) }
 {

@@ -1,14 +1,16 @@
 //! What a thread with a pass may do under the lock.
-ghost use Rattle.std.specs.Prelude.{◌≡◌, ◌++◌, List, true, IfOk, IfErr, OnErr, IsTrue};
+ghost use Rattle.std.specs.Prelude.{◌≡◌, ◌++◌, List, true, false, IfOk, IfErr, OnErr, IsTrue};
+ghost use Rattle.std.specs.List.{list_any};
 ghost use Rattle.nt_status.specs.declared.refusal.Refusal.TheVariants.{JournalFull, Memory};
 ghost use Rattle.nt_calls.specs.declared.call.Call.{Call};
 ghost use Rattle.nt_core.specs.Dispatcher.{state};
 ghost use Rattle.nt_calls.specs.Moves.{pended, is_wait};
 ghost use Rattle.nt_answers.specs.Answers.{is_done};
+ghost use Rattle.nt_mail.specs.Journals.{is_renewal};
 ghost use Rattle.nt_mail.specs.Knowledge.{IsEarlier};
 ghost use Rattle.nt_front.specs.Books.{WasFull, WasHandedOut};
 ghost use Rattle.nt_front.specs.Held.{IsAllOf};
-ghost use Rattle.nt_front.specs.Runs.{IsLawfulRun, LeadTo};
+ghost use Rattle.nt_front.specs.Runs.{IsLawfulHistory, IsLawfulRun, LeadTo};
 ghost use Rattle.nt_mail.specs.declared.entry.Entry.{Entry};
 ghost use Rattle.nt_front.specs.Holds.{with_tick};
 ghost use Rattle.nt_front.specs.Polls.{IsMade, IsBegun, IsExited};
@@ -81,10 +83,13 @@ impl<N: Named> Front<N> {
     ///
     /// Refused with 8 where memory is refused; nothing changes then. It is no call: it is not written, and is never refused with
     /// JournalFull.
-    #[tactic(auto, using(crate::proofs::Since::part_runs, crate::proofs::Since::part_accounts))]
+    #[tactic(auto, using(crate::proofs::Since::part_runs, crate::proofs::Since::part_ungiven, crate::proofs::Since::part_accounts))]
     pub fn rotate(&self, rt: &impl Wait, pass: &mut Pass<N>) -> Result<Part, Refusal>
-        ensures run { IfOk result (λ part. IsLawfulRun part.base part.entries.items) }
-        ensures account { IfOk result (λ part. (before : List Entry) × LeadTo N.front.threads part.first before (state part.base)
+        ensures run { IfOk result (λ part. IsLawfulHistory N.front.lasts part.base part.entries.items) }
+        ensures ungiven { IfOk result (λ part. list_any is_renewal part.entries.items ≡ false
+            → IsLawfulRun part.base part.entries.items) }
+        ensures account { IfOk result (λ part. (before : List Entry)
+            × LeadTo N.front.lasts N.front.threads part.first before (state part.base)
             × IsAllOf (before ++ part.entries.items) pass.old) }
         ensures book { IfOk result (WasHandedOut N.front pass.old) }
         ensures pass { pass.new ≡ pass.old }

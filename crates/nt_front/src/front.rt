@@ -1,9 +1,11 @@
 //! The front: the mail, the book behind its lock, and a condition variable for each thread.
-ghost use Rattle.std.specs.Prelude.{◌≡◌, ◌++◌, List};
+ghost use Rattle.std.specs.Prelude.{◌≡◌, ◌++◌, List, false};
+ghost use Rattle.std.specs.List.{list_any};
 ghost use Rattle.nt_core.specs.Dispatcher.{state};
 ghost use Rattle.nt_mail.specs.declared.entry.Entry.{Entry};
 ghost use Rattle.nt_mail.specs.Entries.{Each};
-ghost use Rattle.nt_front.specs.Runs.{IsLawfulRun, LeadTo};
+ghost use Rattle.nt_mail.specs.Journals.{is_renewal};
+ghost use Rattle.nt_front.specs.Runs.{IsLawfulHistory, IsLawfulRun, LeadTo};
 ghost use Rattle.nt_front.specs.Held.{IsAccounted};
 
 use crate::hold::Held;
@@ -14,7 +16,6 @@ use crate::wake::Bells;
 use nt_mail::Mail;
 
 /// The dispatcher behind a lock, for the threads that have passes of this name.
-#[derive(Drop)]
 pub struct Front<N: Named> {
     pub(crate) mail: Mail,
     pub(crate) book: Locked<N>,
@@ -22,12 +23,25 @@ pub struct Front<N: Named> {
     ghost named: { mail ≡ N.front.table },
 }
 
+/// Written by hand, so that whoever lets a front go has one function to call, and nothing to prove of its parts.
+impl<N: Named> Drop for Front<N> {
+    fn drop(self) {
+        let Front {
+            mail: _,
+            book: _,
+            bells: _,
+        } = self;
+    }
+}
+
 impl<N: Named> Front<N> {
     /// Ends the front, and answers the rest of the journal. What each hold knows is what stands there, and in the entries that were handed
     /// out before.
     pub fn finish(self, mut holds: Vec<Held<N>>) -> History
-        ensures run { IsLawfulRun result.base result.entries.items }
-        ensures told { (before : List Entry) × LeadTo N.front.threads result.first before (state result.base)
+        ensures run { IsLawfulHistory N.front.lasts result.base result.entries.items }
+        ensures ungiven { list_any is_renewal result.entries.items ≡ false
+            → IsLawfulRun result.base result.entries.items }
+        ensures told { (before : List Entry) × LeadTo N.front.lasts N.front.threads result.first before (state result.base)
             × Each (IsAccounted (before ++ result.entries.items)) holds.items }
     {
         let Front {

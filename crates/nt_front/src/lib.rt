@@ -28,6 +28,10 @@
 //! - A program that runs for long takes the journal in parts: `rotate` hands out the entries since the last part, with their base, the
 //!   dispatcher as it was before the first of them. The journal is empty then, and the numbers of entries go on.
 //!
+//! - A front that was prepared to last (`prepare_lasting`) has no end by its numbers: those of closed handles and of objects that are gone are
+//!   given again, and an ended thread whose object is gone may `begin_again`. Its journal tells which numbers were given again, so that it
+//!   can be made again; it is a run as long as none was, and else a life.
+//!
 //! Every entry has its place before the call is made: a call is refused with JournalFull, and changes nothing, where there would be
 //! no room for its entry and one for each pending wait. So nothing that the dispatcher did can fail to be written.
 //!
@@ -35,6 +39,7 @@
 //! granted, and no other, once the lock is given back.
 #![tactic(auto)]
 
+mod again;
 mod blank;
 mod book;
 mod calls;
@@ -50,7 +55,8 @@ mod waits;
 mod wake;
 mod write;
 
-pub use blank::{Blank, open, prepare};
+pub use again::BegunAgain;
+pub use blank::{Blank, open, prepare, prepare_lasting};
 pub use calls::{Begun, Exited};
 pub use carried::{Carried, LetGo};
 pub use front::Front;

@@ -1,4 +1,6 @@
 //! What is told of entries.
+ghost use Rattle.std.specs.Prelude.{◌≡◌};
+
 use nt_core::{Core, Reply};
 use nt_mail::Entry;
 use nt_status::Refusal;
@@ -12,7 +14,6 @@ pub struct Receipt {
 }
 
 /// A part of the journal: the entries since the last part, or since the opening.
-#[derive(Drop)]
 pub struct Part {
     /// The number of the first of the entries. Numbers go on from part to part.
     pub first: u64,
@@ -21,12 +22,60 @@ pub struct Part {
     pub entries: Vec<Entry>,
 }
 
+/// Written by hand, so that whoever lets a part go has one function to call, and nothing to prove of its entries.
+impl Drop for Part {
+    fn drop(self) {
+        let Part {
+            first: _,
+            base: _,
+            entries: _,
+        } = self;
+    }
+}
+
+impl Part {
+    /// The dispatcher as it was before the first of the entries, and these.
+    pub fn into_run(self) -> (Core, Vec<Entry>)
+        ensures { (result.0 ≡ self.base) × (result.1 ≡ self.entries) }
+    {
+        let Part {
+            first: _,
+            base,
+            entries,
+        } = self;
+        (base, entries)
+    }
+}
+
 /// The rest of the journal, at the end: all of it where no part was handed out.
-#[derive(Drop)]
 pub struct History {
     /// The number of the first of the entries.
     pub first: u64,
     /// The dispatcher as it was before the first of the entries, from which they can be made again.
     pub base: Core,
     pub entries: Vec<Entry>,
+}
+
+impl Drop for History {
+    fn drop(self) {
+        let History {
+            first: _,
+            base: _,
+            entries: _,
+        } = self;
+    }
+}
+
+impl History {
+    /// The dispatcher as it was before the first of the entries, and these.
+    pub fn into_run(self) -> (Core, Vec<Entry>)
+        ensures { (result.0 ≡ self.base) × (result.1 ≡ self.entries) }
+    {
+        let History {
+            first: _,
+            base,
+            entries: rest,
+        } = self;
+        (base, rest)
+    }
 }

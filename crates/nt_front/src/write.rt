@@ -1,35 +1,67 @@
 //! How entries are written, and told to their threads.
-ghost use Rattle.std.specs.Prelude.{◌≡◌, ◌+◌, ◌-◌, ◌^◌, ◌<◌, ◌≤◌, ◌++◌, ◌∷◌, [], length, map, vec_len, vec_capacity, IfOk};
+ghost use Rattle.std.specs.Prelude.{◌≡◌, ◌+◌, ◌-◌, ◌^◌, ◌<◌, ◌≤◌, ◌++◌, ◌∷◌, [], length, map, vec_len, vec_capacity, ℕ, Result, IfOk, IsTrue};
+ghost use Rattle.nt_status.specs.declared.refusal.Refusal.{Refusal};
 ghost use Rattle.nt_calls.specs.Moves.{one_if};
-ghost use Rattle.nt_mail.specs.declared.entry.Entry.TheVariants.{Called};
-ghost use Rattle.nt_mail.specs.Entries.{accepted_if, arms, is_armed, IsOwn};
+ghost use Rattle.nt_answers.specs.Answers.{is_handle};
+ghost use Rattle.nt_mail.specs.declared.entry.Entry.{Entry};
+ghost use Rattle.nt_mail.specs.declared.entry.Entry.TheVariants.{Renewed};
+ghost use Rattle.nt_mail.specs.Entries.{handle_reply, accepted_if, arms, is_armed, IsOwn};
 ghost use Rattle.nt_mail.specs.Seats.{seated};
 ghost use Rattle.nt_mail.specs.Knowledge.{with_call, latest, IsEarlier};
 ghost use Rattle.nt_front.specs.Runs.{granted, AreArmed};
 ghost use Rattle.nt_front.specs.Books.{IsCarriedOut};
 
-use nt_core::{Call, Core, Grant, Reply};
+use nt_answers::handle_told;
+use nt_core::{Call, Grant, Reply};
+use nt_life::{Lasting, Renewal};
 use nt_mail::{DispatcherSeat, Entry, Mail, ThreadSeat};
 use nt_status::{Moment, Refusal, ThreadId};
 
-/// Carries the call out, and writes it with its result.
+/// Carries the call out, and writes it with its result, or which numbers were given again for it.
 #[inline(always)]
 pub(crate) fn write_call(
-    core: &mut Core,
+    life: &mut Lasting,
     journal: &mut Vec<Entry>,
     who: ThreadId,
     call: Call,
 ) -> Result<Reply, Refusal>
     requires room { vec_len journal.old < vec_capacity journal.old }
-    ensures carried_out { IsCarriedOut core.old who call result core.new }
-    ensures journal { journal.new.items ≡ journal.old.items ++ Called who call result ∷ [] }
+    ensures carried_out { (entry : Entry) × (journal.new.items ≡ journal.old.items ++ entry ∷ [])
+        × IsCarriedOut life.old who call result entry life.new }
     ensures room { (vec_len journal.new ≡ vec_len journal.old + 1)
         × (vec_capacity journal.new ≡ vec_capacity journal.old) }
 {
-    let result = core.call(u32::from(who.get()), &call);
+    let mut renewal = None;
+    let result = life.call_told(u32::from(who.get()), &call, &mut renewal);
     let told = result;
-    journal.push_reserved(Entry::Called { who, call, result });
+    match renewal {
+        None => journal.push_reserved(Entry::Called { who, call, result }),
+        Some(renewal) => write_renewal(journal, who, renewal, result),
+    }
     told
+}
+
+/// Writes which numbers were given again, with the answer.
+#[inline(never)]
+fn write_renewal(
+    journal: &mut Vec<Entry>,
+    who: ThreadId,
+    renewal: Renewal,
+    answer: Result<Reply, Refusal>,
+)
+    requires room { vec_len journal.old < vec_capacity journal.old }
+    requires handle { IsTrue (is_handle answer) }
+    ensures journal { (told : Result ℕ Refusal) × (handle_reply told ≡ answer)
+        × (journal.new.items ≡ journal.old.items ++ Renewed who renewal told ∷ []) }
+    ensures room { (vec_len journal.new ≡ vec_len journal.old + 1)
+        × (vec_capacity journal.new ≡ vec_capacity journal.old) }
+{
+    let result = handle_told(answer);
+    journal.push_reserved(Entry::Renewed {
+        who,
+        renewal,
+        result,
+    });
 }
 
 /// Tells the thread of its entry, and whether a wait of it is pending.

@@ -1,5 +1,5 @@
 -- What each call of a front answers, by what its thread knows then.
-use Rattle.std.specs.Prelude.{◌≡◌, ◌≢◌, ℕ, Bool, true, false, ⊤, Option, Some, None, Result, Ok, Err}
+use Rattle.std.specs.Prelude.{◌≡◌, ◌≢◌, ℕ, Bool, true, false, ⊤, length, Option, Some, None, Result, Ok, Err}
 use Rattle.nt_calls.specs.declared.call.Call.{Call}
 use Rattle.nt_calls.specs.declared.call.WaitCall.{WaitCall}
 use Rattle.nt_calls.specs.declared.call.Reply.{Reply}
@@ -19,17 +19,17 @@ use Rattle.nt_front_calls.specs.declared.told.Polled.{Polled}
 
 -- ---- a call
 
--- the call is a wait for a list of objects
-abbrev pub names_objects : Call → Bool
-names_objects (Call.Wait (WaitCall.Objects all alertable ms handles)) = true
-names_objects _ = false
+-- the call is a wait for a list of objects, and not for one alone, which takes no memory
+abbrev pub TakesMemory : Call → Type 0
+TakesMemory (Call.Wait (WaitCall.Objects all alertable ms handles)) = length handles ≢ 1
+TakesMemory _ = ⊥
 
 -- the call was refused: by the dispatcher, and so written; or the journal was full; or a wait's list of handles found no memory. Nothing was
 -- done or written in the last two cases
 abbrev pub IsRefused : Prepared → Knowledge → Call → Refused → Knowledge → Type 0
 IsRefused front old call (Refused.Call entry refusal) new = IsMade old call entry (Err refusal) new
 IsRefused front old call Refused.JournalFull new = (new ≡ old) × WasFull front old
-IsRefused front old call Refused.NoMemory new = (new ≡ old) × (names_objects call ≡ true)
+IsRefused front old call Refused.NoMemory new = (new ≡ old) × TakesMemory call
 
 -- the call was made and written, with the reply for which the answer stands; or it was refused
 abbrev pub IsTold : {A : Type 0} → (A → Reply) → Prepared → Knowledge → Call → Result (Told A) Refused → Knowledge → Type 0

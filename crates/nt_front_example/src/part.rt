@@ -1,7 +1,7 @@
 //! A part of the journal, made again.
 use crate::fault::Fault;
 use crate::host::Host;
-use nt_front::{Front, History, Named, Part, Pass};
+use nt_front::{Front, History, Named, Pass};
 use nt_replay::replay;
 
 /// Takes the entries since the last part, and makes their calls and ticks again: each answer is the same.
@@ -11,11 +11,7 @@ pub fn replay_part<N: Named>(
     pass: &mut Pass<N>,
 ) -> Result<(), Fault> {
     let part = front.rotate(rt, pass)?;
-    let Part {
-        first: _,
-        base,
-        entries,
-    } = part;
+    let (base, entries) = part.into_run();
     let after = replay(base, entries.as_slice())?;
     drop(after);
     Ok(())
@@ -23,11 +19,7 @@ pub fn replay_part<N: Named>(
 
 /// The same with the rest of the journal.
 pub fn replay_rest(history: History) -> Result<(), Fault> {
-    let History {
-        first: _,
-        base,
-        entries,
-    } = history;
+    let (base, entries) = history.into_run();
     let after = replay(base, entries.as_slice())?;
     drop(after);
     Ok(())

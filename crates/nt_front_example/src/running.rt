@@ -5,7 +5,7 @@ use crate::fault::Fault;
 use crate::host::Host;
 use crate::part::replay_rest;
 use crate::starting::{AllBack, Others, run_threads};
-use nt_front::{Blank, Carried, Front, Held, Named, Pass, open, prepare};
+use nt_front::{Blank, Carried, Front, Held, Named, Pass, open, prepare_lasting};
 use std::io::Write;
 use std::marker::Brand;
 
@@ -17,7 +17,7 @@ const ROOM: usize = 50_000;
 
 /// Runs the threads, and writes what they did.
 pub fn run<R: Host>(rt: &R, out: &mut impl Write) -> Result<(), Fault> {
-    let blank = prepare(rt.alloc(), THREADS, ROOM)?;
+    let blank = prepare_lasting(rt.alloc(), THREADS, ROOM)?;
     let pieces = run_named::<Brand, R>(rt, blank)?;
     writeln!(out, "{pieces} pieces of work were done")?;
     writeln!(out, "the journal makes the same run again")?;

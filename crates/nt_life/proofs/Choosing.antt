@@ -1,24 +1,31 @@
 -- Which numbers a creation or a duplicate takes.
-use Rattle.std.proofs.Common.{◌≡◌, ◌≤◌, ◌<◌, ℕ, ◌-◌, Bool, true, false, ◌&&◌, List, [], ◌∷◌, ◌++◌, length, length-append, zero, suc, get_or, refl, sym, ap, ◌∙◌, subst, arith, Some, None, inl, inr, ◌⊎◌}
-use Rattle.std.specs.Prelude.{nat_lt, MatchBool, if◌then◌else◌}
+use Rattle.std.proofs.Common.{◌≡◌, ◌≤◌, ◌<◌, ℕ, ◌-◌, Bool, true, false, not, ◌&&◌, List, [], ◌∷◌, ◌++◌, length, length-append, zero, suc, get_or, refl, sym, ap, ◌∙◌, subst, arith, Some, None, inl, inr, ◌⊎◌}
+use Rattle.std.specs.Prelude.{nat_lt, nat_le, MatchBool, if◌then◌else◌}
 use Rattle.std.specs.declared.result.Result.{Result}
 use Rattle.std.specs.declared.result.Result.TheVariants.{Ok, Err}
 use Rattle.std.proofs.lemmas.Bool.{false≢true}
 use Rattle.std.proofs.lemmas.Bool.Decides.{nat_tests}
 use Rattle.nt_status.specs.declared.limits.TheConstants.{MAX_HANDLES}
 use Rattle.nt_status.specs.declared.refusal.Refusal.{Refusal}
-use Rattle.nt_status.specs.declared.refusal.Refusal.TheVariants.{HandleLimit, Memory}
+use Rattle.nt_status.specs.declared.refusal.Refusal.TheVariants.{HandleLimit, Memory, ThreadEnded, ThreadWaiting, UnknownThread}
+use Rattle.nt_objects.specs.declared.object.Object.{Object}
 use Rattle.nt_objects.specs.declared.object.Object.TheVariants.{Gone}
+use Rattle.nt_objects.specs.Object.{has_ended, is_gone}
+use Rattle.nt_apc.specs.Queues.{has_apc}
 use Rattle.nt_calls.specs.declared.call.Act.{Act}
 use Rattle.nt_calls.specs.declared.call.Call.{Call}
 use Rattle.nt_calls.specs.declared.call.Reply.{Reply}
 use Rattle.nt_calls.specs.declared.call.Grant.{Grant}
-use Rattle.nt_calls.specs.State.{State}
-use Rattle.nt_calls.specs.Living.{is_opened}
+use Rattle.nt_calls.specs.State.{State, pends}
+use Rattle.nt_calls.specs.Living.{is_opened, is_awaited}
+use Rattle.nt_calls.specs.Refusals.{first_of_causes, refusal}
 use Rattle.nt_calls.specs.Steps.{Called}
 use Rattle.nt_core.specs.Dispatcher.{Dispatcher, state}
 use Rattle.nt_core.specs.Lawful.{IsLawful}
-use Rattle.nt_core.specs.Renewals.{is_vacant, AddsVacant, CreatesAgain, DuplicatesAgain}
+use Rattle.nt_core.specs.Renewals.{is_closed, is_vacant, AddsVacant, CreatesAgain, DuplicatesAgain}
+use Rattle.nt_core.specs.SetAside.{is_movable}
+use Rattle.nt_core.proofs.Accepting.{free_caller}
+use Rattle.nt_core.proofs.Changing.{object_at-append, reading_created}
 use Rattle.nt_core.proofs.Remaining.{both, some_handle}
 use Rattle.nt_life.specs.Lasting.{Spares, IsSpare, times, is_ready, is_creation, last_closed, last_unnamed, CreatesElse, LastsCreation, LastsDuplicate, LastsAct, LastsCall, NoHandle, NoObject, FindsNone}
 use Rattle.nt_life.proofs.Calls.{none_vacant}
@@ -157,6 +164,24 @@ added_spare d spare after object grants new lawful is adds closed unnamed =
 last_added : (ns : List ℕ) (k : ℕ) → get_or (ns ++ k ∷ []) (length ns) 0 ≡ k
 last_added [] k = refl
 last_added (n ∷ ns) k = last_added ns k
+
+-- who could call may call still, since each thread has an object of its own
+pub added_caller : (d : Dispatcher) (new : State) (o : ℕ) (grants : List Grant) (who : ℕ) → IsLawful d → AddsVacant (state d) (Ok o) grants new → refusal (state d) who false Call.Exit ≡ None → refusal new who false Call.Exit ≡ None
+added_caller d new o grants who lawful adds none =
+    let known = (free_caller (state d) who Call.Exit none).0 in
+    let first = own_first d lawful in
+    subst (λ (s : State). refusal s who false Call.Exit ≡ None) (sym adds.3)
+    (ap (λ (x : Object). first_of_causes ((nat_le d.threads who, UnknownThread) ∷ (has_ended x, ThreadEnded) ∷ (pends (state d) who, ThreadWaiting) ∷ [])) (object_at-append d.objects (Gone ∷ []) who (omega (arith, known, first))) ∙ none)
+
+-- what could be moved can be moved still
+pub added_movable : (old new : State) (o : ℕ) (grants : List Grant) (t : ℕ) → AddsVacant old (Ok o) grants new → is_movable old t ≡ true → is_movable new t ≡ true
+added_movable old new o grants t adds is =
+    subst (λ (s : State). is_movable s t ≡ true) (sym adds.3)
+    (reading_created (λ x. nat_lt t old.threads && (has_ended x && (not (is_gone x) && (not (is_awaited old t) && not (has_apc old.apcs t))))) old.objects Gone refl t ∙ is)
+
+-- and what was closed is closed still
+pub added_closed : (old new : State) (o : ℕ) (grants : List Grant) (h : ℕ) → AddsVacant old (Ok o) grants new → is_closed old h ≡ true → is_closed new h ≡ true
+added_closed old new o grants h adds is = ap (λ (s : State). is_closed s h) adds.3 ∙ is
 
 -- it stands last
 pub added_at : (spare after : Spares) (object place : ℕ) → place ≡ length spare.unnamed → after.unnamed ≡ spare.unnamed ++ object ∷ [] → get_or after.unnamed place 0 ≡ object

@@ -6,6 +6,7 @@ mod Calls
 mod Taken
 mod Choosing
 mod Pacing
+mod Looking
 mod Stacking
 mod Aside
 pub mod Once

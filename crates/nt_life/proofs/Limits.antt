@@ -1,6 +1,6 @@
 -- When a call is refused with HandleLimit.
 use Rattle.std.proofs.Common.{◌≡◌, ◌≤◌, ℕ, Bool, true, false, not, ◌&&◌, ◌||◌, List, [], ◌∷◌, length, refl, sym, ap, ◌∙◌, subst, arith, Option, Some, None}
-use Rattle.std.specs.Prelude.{nat_le, is_none, IsTrue, MatchOption}
+use Rattle.std.specs.Prelude.{nat_le, is_none, if◌then◌else◌, IsTrue, MatchOption}
 use Rattle.std.specs.declared.result.Result.{Result}
 use Rattle.std.specs.declared.result.Result.TheVariants.{Ok, Err}
 use Rattle.std.proofs.lemmas.Bool.{false≢true}
@@ -13,7 +13,8 @@ use Rattle.nt_status.specs.Flags.{only_known, event_bits, mutex_bits, timer_bits
 use Rattle.nt_objects.specs.declared.object.Object.{Object}
 use Rattle.nt_objects.specs.declared.handles.Opened.{Opened}
 use Rattle.nt_objects.specs.Handles.{opened_at}
-use Rattle.nt_objects.specs.Object.{may_count, has_ended}
+use Rattle.nt_objects.specs.declared.object.Object.TheVariants.{Semaphore}
+use Rattle.nt_objects.specs.Object.{event_of, mutex_of, timer_of, may_count, has_ended}
 use Rattle.nt_calls.specs.declared.call.Act.{Act}
 use Rattle.nt_calls.specs.declared.call.Call.{Call}
 use Rattle.nt_calls.specs.declared.call.WaitCall.{WaitCall}
@@ -24,7 +25,7 @@ use Rattle.nt_calls.specs.Naming.{call_named, act_named, wait_named, object_name
 use Rattle.nt_calls.specs.Rights.{is_denied}
 use Rattle.nt_calls.specs.Refusals.{Cause, first_of_causes, refusal, IsRefusal, is_full, is_unknown, call_causes, act_causes, wait_causes, creation_causes, duplicate_causes, grows}
 use Rattle.nt_calls.specs.Steps.{Called}
-use Rattle.nt_core.specs.Renewals.{is_closed, is_vacant, creation, or_else, CreatesAgain, DuplicatesAgain}
+use Rattle.nt_core.specs.Renewals.{is_closed, is_vacant, creation, creation_refusal, or_else, CreatesAgain, DuplicatesAgain}
 use Rattle.nt_life.specs.Lasting.{is_creation}
 
 -- ---- which causes are it
@@ -149,6 +150,70 @@ called_limit old who call grants new is =
 
 pub refused_full : (old : State) (who : ℕ) (call : Call) (result : Result Reply Refusal) (grants : List Grant) (new : State) → Called old who call result grants new → result ≡ Err HandleLimit → IsFull old call
 refused_full old who call result grants new called limit = called_limit old who call grants new (subst (λ (r : Result Reply Refusal). Called old who call r grants new) limit called)
+
+-- ---- then nothing but a number is lacking
+
+-- what comes before that cause is none
+before_limit : (b : Bool) (r : Refusal) (cs : List Cause) → is_limit r ≡ false → first_of_causes ((b, r) ∷ cs) ≡ Some HandleLimit → b ≡ false
+unfolding is_limit
+before_limit true r cs differs is = absurd (false≢true (sym differs ∙ ap is_limit (some_same r HandleLimit is)))
+before_limit false r cs differs is = refl
+
+may_call : (s : State) (who : ℕ) (denied : Bool) (call : Call) → refusal s who denied call ≡ Some HandleLimit → refusal s who false Call.Exit ≡ None
+unfolding is_limit
+may_call s who denied call is =
+    let third = (pends s who, ThreadWaiting) ∷ call_causes s who denied call in
+    let second = (has_ended (object_at s.objects who), ThreadEnded) ∷ third in
+    let runs = some_other (nat_le s.threads who) UnknownThread second refl is in
+    let idle = some_other (has_ended (object_at s.objects who)) ThreadEnded third refl runs in
+    ap (λ b. first_of_causes ((b, UnknownThread) ∷ (has_ended (object_at s.objects who), ThreadEnded) ∷ (pends s who, ThreadWaiting) ∷ [])) (before_limit (nat_le s.threads who) UnknownThread second refl is)
+    ∙ (ap (λ b. first_of_causes ((b, ThreadEnded) ∷ (pends s who, ThreadWaiting) ∷ [])) (before_limit (has_ended (object_at s.objects who)) ThreadEnded third refl runs)
+    ∙ ap (λ b. first_of_causes ((b, ThreadWaiting) ∷ [])) (before_limit (pends s who) ThreadWaiting (call_causes s who denied call) refl idle))
+
+unturned : (b : Bool) → not b ≡ false → b ≡ true
+unturned true e = refl
+unturned false e = absurd (false≢true (sym e))
+
+lawful_arguments : (hs : List (Option Opened)) (lawful : Bool) → first_of_causes (creation_causes hs lawful) ≡ Some HandleLimit → lawful ≡ true
+unfolding is_limit
+lawful_arguments hs lawful is = unturned lawful (before_limit (not lawful) InvalidParameter ((is_full hs, HandleLimit) ∷ []) refl is)
+
+made_by : (made : Object) (lawful : Bool) → lawful ≡ true → is_none (if lawful then Some made else None) ≡ false
+made_by made lawful is = ap (λ b. is_none (if b then Some made else None)) is
+
+may_make : (s : State) (who : ℕ) (denied : Bool) (act : Act) → is_creation act ≡ true → first_of_causes (call_causes s who denied (call_named s.handles (Call.Act act))) ≡ Some HandleLimit → is_none (creation who act) ≡ false
+may_make s who denied (Act.CreateEvent flags) creates is = made_by (event_of flags) (only_known event_bits flags) (lawful_arguments s.handles (only_known event_bits flags) is)
+may_make s who denied (Act.CreateSemaphore initial maximum) creates is = made_by (Semaphore initial maximum) (may_count initial maximum) (lawful_arguments s.handles (may_count initial maximum) is)
+may_make s who denied (Act.CreateMutex flags) creates is = made_by (mutex_of flags who) (only_known mutex_bits flags) (lawful_arguments s.handles (only_known mutex_bits flags) is)
+may_make s who denied (Act.CreateTimer flags) creates is = made_by (timer_of flags) (only_known timer_bits flags) (lawful_arguments s.handles (only_known timer_bits flags) is)
+may_make s who denied act creates is = absurd (false≢true creates)
+
+told_so : (old : State) (who : ℕ) (call : Call) (result : Result Reply Refusal) (grants : List Grant) (new : State) → Called old who call result grants new → result ≡ Err HandleLimit → refusal old who (is_denied old call) (call_named old.handles call) ≡ Some HandleLimit
+told_so old who call result grants new called limit =
+    told_limit old who (is_denied old call) (call_named old.handles call) (subst (λ (r : Result Reply Refusal). Called old who call r grants new) limit called).0
+
+-- the caller may call
+pub limit_caller : (old : State) (who : ℕ) (call : Call) (result : Result Reply Refusal) (grants : List Grant) (new : State) → Called old who call result grants new → result ≡ Err HandleLimit → refusal old who false Call.Exit ≡ None
+limit_caller old who call result grants new called limit =
+    may_call old who (is_denied old call) (call_named old.handles call) (told_so old who call result grants new called limit)
+
+-- what it creates is lawful
+pub limit_lawful : (old : State) (who : ℕ) (act : Act) (result : Result Reply Refusal) (grants : List Grant) (new : State) → is_creation act ≡ true → Called old who (Call.Act act) result grants new → result ≡ Err HandleLimit → is_none (creation who act) ≡ false
+limit_lawful old who act result grants new creates called limit =
+    may_make old who (is_denied old (Call.Act act)) act creates
+    (own_limit old who (is_denied old (Call.Act act)) (call_named old.handles (Call.Act act)) (told_so old who (Call.Act act) result grants new called limit))
+
+-- so once there are numbers, it is made
+pub created_surely : (s : State) (who : ℕ) (act : Act) (o h : ℕ) (result : Result Reply Refusal) (grants : List Grant) (new : State) → refusal s who false Call.Exit ≡ None → is_none (creation who act) ≡ false → is_vacant s o ≡ true → is_closed s h ≡ true → CreatesAgain s who act o h result grants new → result ≡ Ok (Reply.Handle h)
+created_surely s who act o h (Ok reply) grants new caller lawful vacant closed created = ap (λ (r : Reply). Ok r) created.1
+created_surely s who act o h (Err cause) grants new caller lawful vacant closed created =
+    let none : creation_refusal s who act o h ≡ None =
+    ap (λ r. or_else r (first_of_causes ((is_none (creation who act), InvalidParameter) ∷ (not (is_vacant s o && is_closed s h), InvalidHandle) ∷ []))) caller
+    ∙ (ap (λ b. first_of_causes ((b, InvalidParameter) ∷ (not (is_vacant s o && is_closed s h), InvalidHandle) ∷ [])) lawful
+    ∙ (ap (λ b. first_of_causes ((not (b && is_closed s h), InvalidHandle) ∷ [])) vacant
+    ∙ ap (λ b. first_of_causes ((not b, InvalidHandle) ∷ [])) closed)) in
+    let first = created.0 in
+    absurd (cc (none, first))
 
 -- it changes nothing
 pub refused_same : (old : State) (who : ℕ) (call : Call) (result : Result Reply Refusal) (grants : List Grant) (new : State) → Called old who call result grants new → result ≡ Err HandleLimit → new ≡ old

@@ -1,5 +1,5 @@
 -- A dispatcher that gives numbers again, or gives each once.
-use Rattle.std.proofs.Common.{◌≡◌, ◌≤◌, ◌∙◌, ℕ, Bool, true, false, List, [], length, refl, sym, Option, Some, None, inl, inr}
+use Rattle.std.proofs.Common.{◌≡◌, ◌≤◌, ℕ, Bool, true, false, List, [], length, refl, sym, Option, Some, None, inl, inr}
 use Rattle.std.specs.Prelude.{IfSome, OnOk, MatchBool, nat_lt}
 use Rattle.std.specs.declared.result.Result.{Result}
 use Rattle.std.specs.declared.result.Result.TheVariants.{Ok, Err}
@@ -12,10 +12,9 @@ use Rattle.nt_calls.specs.declared.call.Reply.{Reply}
 use Rattle.nt_calls.specs.declared.call.Grant.{Grant}
 use Rattle.nt_calls.specs.State.{State}
 use Rattle.nt_calls.specs.Steps.{Called}
-use Rattle.nt_core.specs.Dispatcher.{Dispatcher}
 use Rattle.nt_core.specs.Renewals.{AddsVacant, CreatesAgain, DuplicatesAgain}
 use Rattle.nt_laws.specs.Laws.{call_closes}
-use Rattle.nt_life.specs.Lasting.{Spares, MaySpare, MakesCall, FindsNone, FindsNoneFor, LooksAt, IsUnchanged, CreatesBeside, CreatesElse, LastsCreation, LastsDuplicate, LastsAct, IsStacked, MayStack, gives, is_numbered, is_creation, is_ready, may_renew, last_closed, last_unnamed, LastsCall}
+use Rattle.nt_life.specs.Lasting.{Spares, MaySpare, MakesCall, FindsNone, FindsNoneFor, IsUnchanged, CreatesBeside, CreatesElse, LastsCreation, LastsDuplicate, LastsAct, IsStacked, MayStack, gives, is_numbered, is_ready, last_closed, last_unnamed, LastsCall}
 use Rattle.nt_life.proofs.Limits.{IsFull, refused_full, wants_number}
 use Rattle.nt_life.proofs.Calls.{call_spare}
 use Rattle.nt_life.proofs.Spares.{spare_same}
@@ -56,7 +55,7 @@ unnumbered_taken s (Some spare) call result none = λ finds. absurd (unnumbered_
 
 unchanged_own : (old : State) (who : ℕ) (call : Call) (result : Result Reply Refusal) (grants : List Grant) (new : State) → Called old who call result grants new → IsUnchanged old result grants new
 unchanged_own old who call (Ok reply) grants new is = tt
-unchanged_own old who call (Err cause) grants new is = (is.1, inl is.2)
+unchanged_own old who call (Err cause) grants new is = (is.1, is.2)
 
 -- ---- the same of a dispatcher that may give each number once
 
@@ -111,33 +110,20 @@ pub call_may_spare : (old : State) (who : ℕ) (call : Call) (result : Result Re
 call_may_spare old who call result grants new None enough none threads called is = tt
 call_may_spare old who call result grants new (Some spare) enough none threads called is = call_spare old who call result grants new spare enough none threads called is
 
--- ---- what a call looks at
-
-creation_renews : (spare : Spares) (act : Act) → is_creation act ≡ true → may_renew (Some spare) (Call.Act act) ≡ true
-creation_renews spare (Act.CreateEvent flags) creates = refl
-creation_renews spare (Act.CreateSemaphore initial maximum) creates = refl
-creation_renews spare (Act.CreateMutex flags) creates = refl
-creation_renews spare (Act.CreateTimer flags) creates = refl
-creation_renews spare act creates = absurd (false≢true creates)
-
--- of a creation nothing is said
-pub creation_looks : (old new : Dispatcher) (spare : Spares) (who : ℕ) (act : Act) (result : Result Reply Refusal) → is_creation act ≡ true → LooksAt old (Some spare) who (Call.Act act) result new
-creation_looks old new spare who act result creates = record {
-  local = λ own. absurd (false≢true (sym own ∙ creation_renews spare act creates));
-  untested = λ own. absurd (false≢true (sym own ∙ creation_renews spare act creates));
-}
-
 -- ---- a refused call
 
 unchanged_again : (old : State) (who : ℕ) (act : Act) (o h : ℕ) (result : Result Reply Refusal) (grants : List Grant) (new : State) → CreatesAgain old who act o h result grants new → IsUnchanged old result grants new
 unchanged_again old who act o h (Ok reply) grants new is = tt
-unchanged_again old who act o h (Err cause) grants new is = (is.1, inl is.2)
+unchanged_again old who act o h (Err cause) grants new is = (is.1, is.2)
+
+err_not_ok : (cause : Refusal) (reply : Reply) → Err cause ≡ Ok reply → ⊥
+err_not_ok cause reply e = (cc)
 
 unchanged_beside : (added : Result ℕ Refusal) (old mid : State) (h who : ℕ) (act : Act) (result : Result Reply Refusal) (grants : List Grant) (new : State) → AddsVacant old added [] mid → CreatesBeside added old mid h who act result grants new → IsUnchanged old result grants new
 unchanged_beside (Ok o) old mid h who act (Ok reply) grants new adds is = tt
-unchanged_beside (Ok o) old mid h who act (Err cause) grants new adds is = (is.1, inr (is.2 ∙ adds.3))
+unchanged_beside (Ok o) old mid h who act (Err cause) grants new adds is = absurd (err_not_ok cause (Reply.Handle h) is.0)
 unchanged_beside (Err cause) old mid h who act (Ok reply) grants new adds is = tt
-unchanged_beside (Err cause) old mid h who act (Err other) grants new adds is = (is.1, inl is.2)
+unchanged_beside (Err cause) old mid h who act (Err other) grants new adds is = (is.1, is.2)
 
 unchanged_else : (old : State) (spare : Spares) (who : ℕ) (act : Act) (result : Result Reply Refusal) (grants : List Grant) (new : State) → CreatesElse old spare who act result grants new → IsUnchanged old result grants new
 unchanged_else old spare who act result grants new (inl own) = unchanged_own old who (Call.Act act) result grants new own
@@ -156,8 +142,8 @@ unchanged_duplicate old spare who source access (Ok reply) grants new lasts = tt
 unchanged_duplicate old spare who source access (Err cause) grants new lasts = go (nat_lt 0 (length spare.closed)) lasts
   where
     go : (b : Bool) → MatchBool b (DuplicatesAgain old who source access (last_closed spare) (Err cause) grants new) (Called old who (Call.Act (Act.Duplicate source access)) (Err cause) grants new) → IsUnchanged old (Err cause) grants new
-    go true again = (again.1, inl again.2)
-    go false own = (own.1, inl own.2)
+    go true again = (again.1, again.2)
+    go false own = (own.1, own.2)
 
 unchanged_act : (old : State) (spare : Spares) (who : ℕ) (act : Act) (result : Result Reply Refusal) (grants : List Grant) (new : State) → LastsAct old spare who act result grants new → IsUnchanged old result grants new
 unchanged_act old spare who (Act.Duplicate source access) result grants new lasts = unchanged_duplicate old spare who source access result grants new lasts

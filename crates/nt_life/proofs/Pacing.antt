@@ -60,7 +60,7 @@ duplicated_pace old who source access h result grants new is =
 beside_pace : (added : Result ℕ Refusal) (old mid : State) (h who : ℕ) (act : Act) (result : Result Reply Refusal) (grants : List Grant) (new : State) → AddsVacant old added [] mid → CreatesBeside added old mid h who act result grants new → KeepsPace old who (Call.Act act) result grants new
 beside_pace (Ok o) old mid h who act result grants new adds is =
     renewed old mid (created_again mid o h (created_by (creation who act))) (creation_refusal mid who act o h) who h (Call.Act act) result grants new
-    (ap (λ (s : State). s.threads) adds.3) (ap (λ (s : State). s.waits) adds.3) (ap (λ (s : State). s.now) adds.3) refl refl refl is
+    (ap (λ (s : State). s.threads) adds.3) (ap (λ (s : State). s.waits) adds.3) (ap (λ (s : State). s.now) adds.3) refl refl refl is.1
 beside_pace (Err cause) old mid h who act result grants new adds is =
     quiet old who (Call.Act act) result grants new (ap (λ (r : Result Reply Refusal). pended r) is.0) is.1 (ap (λ (s : State). s.threads) is.2) (ap (λ (s : State). s.waits) is.2) (ap (λ (s : State). s.now) is.2)
 

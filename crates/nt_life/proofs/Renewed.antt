@@ -1,7 +1,8 @@
 -- What becomes of the spare numbers where numbers are given again.
 use Rattle.std.proofs.Common.{◌≡◌, ◌≤◌, ◌<◌, ℕ, zero, suc, ◌+◌, ◌==◌, Bool, true, false, not, ◌&&◌, ◌||◌, List, [], ◌∷◌, length, set, refl, sym, ap, ◌∙◌, arith, Option, Some, None}
-use Rattle.std.specs.Prelude.{nat_lt, nat_le, is_none}
-use Rattle.std.specs.declared.result.Result.TheVariants.{Ok}
+use Rattle.std.specs.Prelude.{nat_lt, nat_le, is_err, is_none}
+use Rattle.std.specs.declared.result.Result.{Result}
+use Rattle.std.specs.declared.result.Result.TheVariants.{Ok, Err}
 use Rattle.std.proofs.lemmas.Bool.{false≢true}
 use Rattle.std.proofs.lemmas.Bool.Decides.{nat_tests}
 use Rattle.std.proofs.lemmas.List.{length-set, length-replicate}
@@ -113,6 +114,26 @@ begun_spare old new t h reply grants spare after is begun closed unnamed =
       handles = handles_given old new spare after.closed h opened is parts.0 parts.1 handles closed;
       objects = λ n. ap (λ ns. times n ns) unnamed ∙ objects_begun old new spare opened is (let test = below.0 in grind (arith, nat_tests, test)) (λ k. ap (λ hs. count_named hs k) handles ∙ counted_again old.handles h opened k parts.0 parts.1) (ap (λ (s : State). s.threads) begun.3) (ap (λ (s : State). length s.objects) begun.3 ∙ length-set old.objects t (Thread false)) n;
     }
+
+-- the same of any answer that is no refusal
+pub begun_spared : (old new : State) (t h : ℕ) (result : Result Reply Refusal) (grants : List Grant) (spare after : Spares) → is_err result ≡ false → IsSpare old spare → BeginsAgain old t h result grants new
+    → ((n : ℕ) → times n after.closed + weight (h == n) ≡ times n spare.closed) → after.unnamed ≡ spare.unnamed → IsSpare new after
+begun_spared old new t h (Ok reply) grants spare after told is begun closed unnamed = begun_spare old new t h reply grants spare after is begun closed unnamed
+begun_spared old new t h (Err cause) grants spare after told is begun closed unnamed = absurd (false≢true (sym told))
+
+-- a beginning at a closed handle is refused if the place is not free
+pub begun_not : (old new : State) (t h : ℕ) (result : Result Reply Refusal) (grants : List Grant) → is_err result ≡ true → is_closed old h ≡ true → BeginsAgain old t h result grants new → (is_left old t ≡ false) × (new ≡ old)
+begun_not old new t h (Ok reply) grants told closed begun = absurd (false≢true told)
+begun_not old new t h (Err cause) grants told closed begun = (go (is_left old t) refl, begun.2)
+  where
+    none_some : (r : Refusal) → None ≡ Some r → ⊥
+    none_some r e = (cc)
+
+    go : (b : Bool) → is_left old t ≡ b → is_left old t ≡ false
+    go false e = e
+    go true e =
+        let none = ap (λ (x : Bool × Bool). first_of_causes ((not (x.0 && x.1), InvalidHandle) ∷ [])) {x = (is_left old t, is_closed old h)} {y = (true, true)} (λ i. (e i, closed i)) in
+        absurd (none_some cause (sym none ∙ begun.0))
 
 -- ---- at the opening
 

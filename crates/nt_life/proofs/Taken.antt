@@ -85,7 +85,7 @@ ok_not_err reply cause e = (cc)
 beside_taken : (added : Result ℕ Refusal) (old mid : State) (who : ℕ) (act : Act) (h : ℕ) (reply : Reply) (grants : List Grant) (new : State) → HandlesAgree (length old.objects) old.handles → AddsVacant old added [] mid → CreatesBeside added old mid h who act (Ok reply) grants new → NoHandle old ⊎ NoObject old → ⊥
 beside_taken (Err cause) old mid who act h reply grants new agree adds creates none = ok_not_err reply cause creates.0
 beside_taken (Ok o) old mid who act h reply grants new agree adds creates (inl none) =
-    let closed : is_closed mid h ≡ true = (created_free mid who act o h reply grants new creates).1 in
+    let closed : is_closed mid h ≡ true = (created_free mid who act o h reply grants new creates.1).1 in
     let same : is_closed mid h ≡ is_closed old h = ap (λ (s : State). is_closed s h) adds.3 in
     not_both (is_closed old h) (sym same ∙ closed) (none.1 h)
 beside_taken (Ok o) old mid who act h reply grants new agree adds creates (inr none) =

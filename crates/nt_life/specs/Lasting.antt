@@ -8,7 +8,6 @@ use Rattle.std.specs.declared.result.Result.TheVariants.{Ok, Err}
 use Rattle.nt_status.specs.declared.limits.TheConstants.{MAX_HANDLES}
 use Rattle.nt_status.specs.declared.refusal.Refusal.{Refusal}
 use Rattle.nt_status.specs.declared.refusal.Refusal.TheVariants.{InvalidHandle}
-use Rattle.nt_objects.specs.declared.object.Object.TheVariants.{Gone}
 use Rattle.nt_calls.specs.declared.call.Act.{Act}
 use Rattle.nt_calls.specs.declared.call.Call.{Call}
 use Rattle.nt_calls.specs.declared.call.Reply.{Reply}
@@ -86,9 +85,9 @@ abbrev pub CreatesSpare : State → Spares → ℕ → Act → Result Reply Refu
 CreatesSpare old spare who act result grants new =
     (0 < length spare.closed) × ((o : ℕ) × (is_vacant old o ≡ true) × CreatesAgain old who act o (last_closed spare) result grants new)
 
--- the creation, once an object number was added for it; where memory was refused to that, it is refused
+-- the creation, once an object number was added for it: nothing refuses it then; where memory was refused to that, it is refused
 abbrev pub CreatesBeside : Result ℕ Refusal → State → State → ℕ → ℕ → Act → Result Reply Refusal → List Grant → State → Type 0
-CreatesBeside (Ok o) old mid h who act result grants new = CreatesAgain mid who act o h result grants new
+CreatesBeside (Ok o) old mid h who act result grants new = (result ≡ Ok (Reply.Handle h)) × CreatesAgain mid who act o h result grants new
 CreatesBeside (Err cause) old mid h who act result grants new = (result ≡ Err cause) × (grants ≡ []) × (new ≡ old)
 
 -- each handle number was handed out: an object number is added, and the handle gets the number of the one that was closed last
@@ -146,14 +145,10 @@ abbrev pub MakesCall : State → Option Spares → ℕ → Call → Result Reply
 MakesCall old None who call result grants new = Called old who call result grants new
 MakesCall old (Some spare) who call result grants new = LastsCall old spare who call result grants new
 
--- the state, or the same with one object number more, of an object that is gone
-abbrev pub IsAsItWas : State → State → Type 0
-IsAsItWas old new = (new ≡ old) ⊎ (new ≡ record old { objects = old.objects ++ Gone ∷ [] })
-
--- a refused call changes nothing and ends no wait; but it may leave an object number more, where numbers are given again
+-- a refused call changes nothing and ends no wait
 abbrev pub IsUnchanged : State → Result Reply Refusal → List Grant → State → Type 0
 IsUnchanged old (Ok reply) grants new = Unit {0}
-IsUnchanged old (Err cause) grants new = (grants ≡ []) × IsAsItWas old new
+IsUnchanged old (Err cause) grants new = (grants ≡ []) × (new ≡ old)
 
 -- ---- the limit
 
@@ -178,11 +173,20 @@ FindsNoneFor s (Some spare) call = FindsNone s call
 
 -- ---- threads
 
--- a thread begins in the place of one that has ended, and its handle gets the number of the handle that was closed last; or nothing
--- changes, since there is no such place, or no handle was closed
+-- a thread begins in this place, of one that has ended, and its handle gets the number of the handle that was closed last; or nothing
+-- changes, since the place is not free so, or no handle was closed
+abbrev pub BeginsThis : State → Spares → ℕ → Option ℕ → List Grant → State → Type 0
+BeginsThis old spare t (Some handle) grants new = (0 < length spare.closed) × (handle ≡ last_closed spare) × BeginsAgain old t handle (Ok (Reply.Handle handle)) grants new
+BeginsThis old spare t None grants new = ((length spare.closed ≡ 0) ⊎ (is_left old t ≡ false)) × (new ≡ old)
+
+-- the same; none begins if no number is given again
+abbrev pub MayBeginThis : State → Option Spares → ℕ → Option ℕ → List Grant → State → Type 0
+MayBeginThis old None t begun grants new = (begun ≡ None) × (new ≡ old)
+MayBeginThis old (Some spare) t begun grants new = BeginsThis old spare t begun grants new
+
+-- a thread begins so in some place; or nothing changes, since there is no such place, or no handle was closed
 abbrev pub BeginsSpare : State → Spares → Option Begun → List Grant → State → Type 0
-BeginsSpare old spare (Some begun) grants new =
-    (0 < length spare.closed) × (begun.handle ≡ last_closed spare) × BeginsAgain old begun.thread begun.handle (Ok (Reply.Handle begun.handle)) grants new
+BeginsSpare old spare (Some begun) grants new = BeginsThis old spare begun.thread (Some begun.handle) grants new
 BeginsSpare old spare None grants new = ((length spare.closed ≡ 0) ⊎ ((t : ℕ) → is_left old t ≡ false)) × (new ≡ old)
 
 -- the same; none begins if no number is given again
@@ -192,10 +196,9 @@ MayBegin old (Some spare) begun grants new = BeginsSpare old spare begun grants 
 
 -- ---- the object of an ended thread is set aside
 
--- the thread's object gets the number o; or it can't have it, and nothing changes
+-- the thread's object gets the number o, which is returned
 abbrev pub MovesAside : State → ℕ → ℕ → Result ℕ Refusal → List Grant → State → Type 0
-MovesAside old t o (Ok number) grants new = (number ≡ o) × SetsAside old t o true grants new
-MovesAside old t o (Err cause) grants new = (cause ≡ InvalidHandle) × SetsAside old t o false grants new
+MovesAside old t o result grants new = (result ≡ Ok o) × SetsAside old t o true grants new
 
 -- the same, once an object number was added for it; if none could be added, it is refused with that cause
 abbrev pub AsideBeside : Result ℕ Refusal → State → State → ℕ → Result ℕ Refusal → List Grant → State → Type 0
@@ -227,17 +230,10 @@ pub record KeepsPace (old : State) (who : ℕ) (call : Call) (result : Result Re
   pub waits : pended result ≡ true → is_wait call ≡ true
   pub moment : new.now ≡ old.now
 
--- the call may be a renewal: it is a creation or a duplicate, and numbers are given again
-abbrev pub may_renew : Option Spares → Call → Bool
-may_renew None call = false
-may_renew (Some spare) (Call.Act (Act.Duplicate source access)) = true
-may_renew (Some spare) (Call.Act act) = is_creation act
-may_renew (Some spare) call = false
-
--- a call that is no renewal looks at no waits but those that it must, and a refused one at none
-pub record LooksAt (old : Dispatcher) (spare : Option Spares) (who : ℕ) (call : Call) (result : Result Reply Refusal) (new : Dispatcher) : Type 0 where
-  pub local : may_renew spare call ≡ false → OnOk result (IsLocal (state old) who (call_named old.handles call) new.table.looked new.grants)
-  pub untested : may_renew spare call ≡ false → OnErr result (new.table.looked ≡ 0)
+-- a call looks at no waits but those that it must, and a refused one at none
+pub record LooksAt (old : Dispatcher) (who : ℕ) (call : Call) (result : Result Reply Refusal) (new : Dispatcher) : Type 0 where
+  pub local : OnOk result (IsLocal (state old) who (call_named old.handles call) new.table.looked new.grants)
+  pub untested : OnErr result (new.table.looked ≡ 0)
 
 -- ---- which number comes next
 

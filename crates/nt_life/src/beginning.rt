@@ -4,7 +4,7 @@ ghost use Rattle.nt_calls.specs.declared.call.Reply.{Reply};
 ghost use Rattle.nt_core.specs.Dispatcher.{state};
 ghost use Rattle.nt_core.specs.Lawful.{IsLawful};
 ghost use Rattle.nt_core.specs.Renewals.{is_closed, is_left, BeginsAgain};
-ghost use Rattle.nt_life.specs.Lasting.{IsSpare, MaySpare, BeginsSpare, MayBegin, Pops, MayPop};
+ghost use Rattle.nt_life.specs.Lasting.{IsSpare, MaySpare, BeginsSpare, BeginsThis, MayBegin, MayBeginThis, Pops, MayPop};
 
 use crate::begun::Begun;
 use crate::spare::Spare;
@@ -55,6 +55,42 @@ pub(crate) fn begin_with(core: &mut Core, spare: &mut Option<Spare>) -> Option<B
 {
     match spare {
         Some(spare) => begin(core, spare),
+        None => None,
+    }
+}
+
+/// A thread begins in this place, of one that has ended, and its handle gets the number of the handle that was closed last.
+fn begin_this(core: &mut Core, spare: &mut Spare, thread: u32) -> Option<Handle>
+    requires lawful { IsLawful core.old }
+    requires spare { IsSpare (state core.old) spare.old }
+    ensures begun { BeginsThis (state core.old) spare.old thread result core.new.grants (state core.new) }
+    ensures lawful { IsLawful core.new }
+    ensures spare { IsSpare (state core.new) spare.new }
+    ensures stacked { Pops spare.old.closed spare.new.closed }
+{
+    let handle = spare.handle()?;
+    if core.begin_again(thread, handle).is_err() {
+        return None;
+    }
+    spare.take_handle();
+    Some(handle)
+}
+
+/// The same; none begins if each number is given once.
+pub(crate) fn begin_this_with(
+    core: &mut Core,
+    spare: &mut Option<Spare>,
+    thread: u32,
+) -> Option<Handle>
+    requires lawful { IsLawful core.old }
+    requires spare { MaySpare (state core.old) spare.old }
+    ensures begun { MayBeginThis (state core.old) spare.old thread result core.new.grants (state core.new) }
+    ensures lawful { IsLawful core.new }
+    ensures spare { MaySpare (state core.new) spare.new }
+    ensures stacked { MayPop spare.old spare.new }
+{
+    match spare {
+        Some(spare) => begin_this(core, spare, thread),
         None => None,
     }
 }

@@ -1,5 +1,5 @@
 //! Creations, duplicates and closes, and what they do to the spare numbers.
-ghost use Rattle.std.specs.Prelude.{◌≡◌, ◌<◌, ◌≤◌, ◌↔◌, ◌⊎◌, ℕ, true, length, slice_index_or, Err, Some, None, IfSome, false, ◌++◌, ◌∷◌, [], OnOk, OnErr};
+ghost use Rattle.std.specs.Prelude.{◌≡◌, ◌<◌, ◌≤◌, ◌↔◌, ◌⊎◌, ℕ, true, length, slice_index_or, is_none, Err, Some, None, IfSome, false, ◌++◌, ◌∷◌, [], OnOk, OnErr};
 ghost use Rattle.nt_status.specs.declared.limits.TheConstants.{MAX_HANDLES};
 ghost use Rattle.nt_status.specs.declared.refusal.Refusal.TheVariants.{HandleLimit};
 ghost use Rattle.nt_calls.specs.declared.call.Call.{Call};
@@ -7,9 +7,10 @@ ghost use Rattle.nt_calls.specs.declared.call.Act.{Act};
 ghost use Rattle.nt_calls.specs.Steps.{Called};
 ghost use Rattle.nt_core.specs.Dispatcher.{state};
 ghost use Rattle.nt_core.specs.Lawful.{IsLawful};
-ghost use Rattle.nt_core.specs.Renewals.{CreatesAgain};
 ghost use Rattle.nt_calls.specs.Naming.{call_named};
+ghost use Rattle.nt_calls.specs.Refusals.{refusal};
 ghost use Rattle.nt_core.specs.Accepts.{IsLocal};
+ghost use Rattle.nt_core.specs.Renewals.{CreatesAgain, creation};
 ghost use Rattle.nt_life.specs.Lasting.{IsSpare, MaySpare, MakesCall, FindsNoneFor, LastsCall, MayStack, LooksAt, IsUnchanged, gives, is_numbered, NoHandle, NoObject, CreatesSpare, CreatesMore, CreatesElse, LastsCreation, LastsDuplicate, LastsAct, FindsNone, KeepsPace, Pops, IsStacked, is_creation, is_unnamed, last_closed};
 ghost use Rattle.nt_life.specs.declared.renewal.Renewal.TheVariants.{Create};
 ghost use Rattle.nt_life.specs.Renewals.{Tells};
@@ -44,6 +45,7 @@ fn create_at(
     ensures told { told.new ≡ Some (Create act.now (slice_index_or spare.old.unnamed place 0) handle) }
     ensures created { CreatesAgain (state core.old) who act.now (slice_index_or spare.old.unnamed place 0) handle
         result core.new.grants (state core.new) }
+    ensures untested { core.new.table.looked ≡ 0 }
     ensures lawful { IsLawful core.new }
     ensures spare { IsSpare (state core.new) spare.new }
     ensures stacked { Pops spare.old.closed spare.new.closed }
@@ -74,10 +76,13 @@ fn create_more(
     requires closed { 0 < length spare.old.closed }
     requires handle { handle ≡ last_closed spare.old }
     requires full { MAX_HANDLES ≤ length core.old.handles }
+    requires caller { refusal (state core.old) who false Call.Exit ≡ None }
+    requires lawful_act { is_none (creation who act.now) ≡ false }
     ensures told { Tells (state core.old) who (Call.Act act.now) told.new result core.new.grants (state core.new) }
     ensures created { CreatesSpare (state core.old) spare.old who act.now result core.new.grants (state core.new)
         ⊎ CreatesMore (state core.old) spare.old who act.now result core.new.grants (state core.new) }
     ensures limit { result ≡ Err HandleLimit → NoHandle (state core.old) ⊎ NoObject (state core.old) }
+    ensures untested { core.new.table.looked ≡ 0 }
     ensures lawful { IsLawful core.new }
     ensures spare { IsSpare (state core.new) spare.new }
     ensures stacked { Pops spare.old.closed spare.new.closed }
@@ -120,6 +125,7 @@ fn create_new(
     ensures created { CreatesElse (state core.old) spare.old who act.now result core.new.grants (state core.new) }
     ensures limit { result ≡ Err HandleLimit → NoHandle (state core.old) ⊎ NoObject (state core.old) }
     ensures pace { KeepsPace (state core.old) who (Call.Act act.now) result core.new.grants (state core.new) }
+    ensures looks { LooksAt core.old who (Call.Act act.now) result core.new }
     ensures lawful { IsLawful core.new }
     ensures spare { IsSpare (state core.new) spare.new }
     ensures stacked { Pops spare.old.closed spare.new.closed }
@@ -152,6 +158,7 @@ fn create(
     ensures created { LastsCreation (state core.old) spare.old who act.now result core.new.grants (state core.new) }
     ensures limit { result ≡ Err HandleLimit → NoHandle (state core.old) ⊎ NoObject (state core.old) }
     ensures pace { KeepsPace (state core.old) who (Call.Act act.now) result core.new.grants (state core.new) }
+    ensures looks { LooksAt core.old who (Call.Act act.now) result core.new }
     ensures lawful { IsLawful core.new }
     ensures spare { IsSpare (state core.new) spare.new }
     ensures stacked { Pops spare.old.closed spare.new.closed }
@@ -186,6 +193,7 @@ fn duplicate(
     ensures limit { result ≡ Err HandleLimit → NoHandle (state core.old) }
     ensures pace { KeepsPace (state core.old) who (Call.Act (Act.Duplicate source access))
         result core.new.grants (state core.new) }
+    ensures looks { LooksAt core.old who (Call.Act (Act.Duplicate source access)) result core.new }
     ensures lawful { IsLawful core.new }
     ensures spare { IsSpare (state core.new) spare.new }
     ensures stacked { Pops spare.old.closed spare.new.closed }
@@ -272,7 +280,7 @@ pub(crate) fn make_act(
     ensures lasts { LastsAct (state core.old) spare.old who act.now result core.new.grants (state core.new) }
     ensures limit { result ≡ Err HandleLimit → FindsNone (state core.old) (Call.Act act.now) }
     ensures pace { KeepsPace (state core.old) who (Call.Act act.now) result core.new.grants (state core.new) }
-    ensures looks { LooksAt core.old (Some spare.old) who (Call.Act act.now) result core.new }
+    ensures looks { LooksAt core.old who (Call.Act act.now) result core.new }
     ensures lawful { IsLawful core.new }
     ensures spare { IsSpare (state core.new) spare.new }
     ensures stacked { IsStacked (Call.Act act.now) result spare.old.closed spare.new.closed }
@@ -319,7 +327,7 @@ fn call_giving(
     ensures taken { FindsNone (state core.old) call.now → OnOk result ⊥ }
     ensures stacked { IsStacked call.now result spare.old.closed spare.new.closed }
     ensures pace { KeepsPace (state core.old) who call.now result core.new.grants (state core.new) }
-    ensures looks { LooksAt core.old (Some spare.old) who call.now result core.new }
+    ensures looks { LooksAt core.old who call.now result core.new }
     ensures lawful { IsLawful core.new }
     ensures spare { IsSpare (state core.new) spare.new }
 {
@@ -355,7 +363,7 @@ pub(crate) fn make_call(
     ensures stacked { MayStack call.now result spare.old spare.new }
     ensures pace { KeepsPace (state core.old) who call.now result core.new.grants (state core.new) }
     ensures unchanged { IsUnchanged (state core.old) result core.new.grants (state core.new) }
-    ensures looks { LooksAt core.old spare.old who call.now result core.new }
+    ensures looks { LooksAt core.old who call.now result core.new }
     ensures lawful { IsLawful core.new }
     ensures spare { MaySpare (state core.new) spare.new }
 {

@@ -12,10 +12,10 @@ ghost use Rattle.nt_calls.specs.declared.call.Call.{Call};
 ghost use Rattle.nt_calls.specs.declared.call.WaitCall.{WaitCall};
 ghost use Rattle.nt_core.specs.Dispatcher.{state};
 ghost use Rattle.nt_core.specs.Lawful.{IsLawful};
-ghost use Rattle.nt_life.specs.Lasting.{MaySpare, MakesCall, FindsNone, FindsNoneFor, MayBegin, KeepsPace, LooksAt, IsUnchanged, KeepsClosed, MayPop, MaySetAside, MayStack, no_spares};
+ghost use Rattle.nt_life.specs.Lasting.{MaySpare, MakesCall, FindsNone, FindsNoneFor, MayBegin, KeepsPace, LooksAt, IsUnchanged, KeepsClosed, gives, MayBeginThis, MayPop, MaySetAside, MayStack, no_spares};
 ghost use Rattle.nt_life.specs.Renewals.{Tells};
 
-use crate::beginning::begin_with;
+use crate::beginning::{begin_this_with, begin_with};
 use crate::begun::Begun;
 use crate::giving::{gives, make_call};
 use crate::renewal::Renewal;
@@ -27,11 +27,17 @@ use std::alloc::Global;
 use std::marker::Model;
 
 /// A dispatcher for a fixed number of threads, driven by one, that gives numbers again, or gives each once.
-#[derive(Drop)]
 pub struct Lasting {
     core: Core,
     /// None if each number is given once.
     spare: Option<Spare>,
+}
+
+/// Written by hand, so that whoever lets it go has one function to call, and nothing to prove of its parts.
+impl Drop for Lasting {
+    fn drop(self) {
+        let Lasting { core: _, spare: _ } = self;
+    }
 }
 
 impl Model for Lasting {
@@ -116,7 +122,7 @@ impl Lasting {
         ensures stacked { MayStack call.now result self.old.spare self.new.spare }
         ensures pace { KeepsPace (state self.old.core) who call.now result self.new.core.grants (state self.new.core) }
         ensures unchanged { IsUnchanged (state self.old.core) result self.new.core.grants (state self.new.core) }
-        ensures looks { LooksAt self.old.core self.old.spare who call.now result self.new.core }
+        ensures looks { LooksAt self.old.core who call.now result self.new.core }
         ensures lawful { IsLawful self.new.core }
     {
         let mut told = None;
@@ -134,6 +140,7 @@ impl Lasting {
     ) -> Result<Reply, Refusal>
         ensures told { Tells (state self.old.core) who call.now told.new
             result self.new.core.grants (state self.new.core) }
+        ensures own { gives self.old.spare call.now ≡ false → told.new ≡ None }
         ensures makes { MakesCall (state self.old.core) self.old.spare who call.now
             result self.new.core.grants (state self.new.core) }
         ensures limit { result ≡ Err HandleLimit → FindsNoneFor (state self.old.core) self.old.spare call.now }
@@ -141,7 +148,7 @@ impl Lasting {
         ensures stacked { MayStack call.now result self.old.spare self.new.spare }
         ensures pace { KeepsPace (state self.old.core) who call.now result self.new.core.grants (state self.new.core) }
         ensures unchanged { IsUnchanged (state self.old.core) result self.new.core.grants (state self.new.core) }
-        ensures looks { LooksAt self.old.core self.old.spare who call.now result self.new.core }
+        ensures looks { LooksAt self.old.core who call.now result self.new.core }
         ensures lawful { IsLawful self.new.core }
     {
         *told = None;
@@ -207,15 +214,30 @@ impl Lasting {
         begin_with(&mut self.core, &mut self.spare)
     }
 
+    /// A thread begins in this place, by the same rules. It returns the thread's handle.
+    ///
+    /// None if the thread that had the place runs or its object lives, or no handle is closed, or each number is given once.
+    pub fn begin_this(&mut self, thread: u32) -> Option<Handle>
+        ensures begun { MayBeginThis (state self.old.core) self.old.spare thread result
+            self.new.core.grants (state self.new.core) }
+        ensures lawful { IsLawful self.new.core }
+        ensures stacked { MayPop self.old.spare self.new.spare }
+    {
+        begin_this_with(&mut self.core, &mut self.spare, thread)
+    }
+
     /// Sets aside the object of a thread that has ended and that handles still name: it gets the number of an object that is gone, by which
     /// they name it from then on, and `begin` can give the thread's place to another. Returns that number. It looks at each handle, and takes
     /// no memory unless a number has to be added.
     ///
-    /// Refused with 6 if the thread runs, nothing names its object, a pending wait names it, or each number is given once; with HandleLimit
-    /// if no object number is free and there are as many as handle numbers; and with 8 if memory is refused.
+    /// Refused with 6 if the thread runs, nothing names its object, a pending wait names it, an APC is queued to it, or each number is given
+    /// once; else with HandleLimit if no object number is free and there are as many as handle numbers, and with 8 if memory is refused. A
+    /// refusal changes nothing.
     pub fn set_aside(&mut self, thread: u32) -> Result<ObjectNumber, Refusal>
         ensures aside { MaySetAside (state self.old.core) self.old.spare thread result
             self.new.core.grants (state self.new.core) }
+        ensures unchanged { OnErr result ((state self.new.core ≡ state self.old.core)
+            × (self.new.spare ≡ self.old.spare)) }
         ensures lawful { IsLawful self.new.core }
         ensures closed { KeepsClosed self.old.spare self.new.spare }
     {

@@ -1,35 +1,32 @@
 //! Ended threads that handles still name, and whose objects are set aside.
-ghost use Rattle.std.specs.Prelude.{◌≡◌, ◌<◌, length, slice_index_or};
+ghost use Rattle.std.specs.Prelude.{◌≡◌, ◌<◌, true, Ok, OnErr, length, slice_index_or};
 ghost use Rattle.nt_core.specs.Dispatcher.{state};
 ghost use Rattle.nt_core.specs.Lawful.{IsLawful};
+ghost use Rattle.nt_core.specs.Renewals.{is_vacant};
+ghost use Rattle.nt_core.specs.SetAside.{is_movable};
 ghost use Rattle.nt_life.specs.Lasting.{IsSpare, MaySpare, KeepsClosed, MovesAside, SetsAsideSpare, MaySetAside};
 
 use crate::spare::Spare;
 use nt_core::Core;
 use nt_status::{ObjectNumber, Refusal};
 
-/// The thread's object gets the number at this place.
-fn set_aside_at(
-    core: &mut Core,
-    spare: &mut Spare,
-    thread: u32,
-    place: usize,
-) -> Result<ObjectNumber, Refusal>
+/// The thread's object gets the number at this place, which is returned.
+fn set_aside_at(core: &mut Core, spare: &mut Spare, thread: u32, place: usize) -> ObjectNumber
     requires lawful { IsLawful core.old }
     requires spare { IsSpare (state core.old) spare.old }
     requires place { place < length spare.old.unnamed }
-    ensures moves { MovesAside (state core.old) thread (slice_index_or spare.old.unnamed place 0) result
+    requires movable { is_movable (state core.old) thread ≡ true }
+    requires vacant { is_vacant (state core.old) (slice_index_or spare.old.unnamed place 0) ≡ true }
+    ensures moves { MovesAside (state core.old) thread (slice_index_or spare.old.unnamed place 0) (Ok result)
         core.new.grants (state core.new) }
     ensures lawful { IsLawful core.new }
     ensures spare { IsSpare (state core.new) spare.new }
     ensures closed { spare.new.closed ≡ spare.old.closed }
 {
     let object = spare.object(place);
-    if !core.set_aside(thread, object) {
-        return Err(Refusal::InvalidHandle);
-    }
+    let _done = core.set_aside(thread, object);
     spare.take_object(place);
-    Ok(object)
+    object
 }
 
 /// The thread's object gets a spare number. An object number is added, if none can be given.
@@ -37,6 +34,7 @@ fn set_aside(core: &mut Core, spare: &mut Spare, thread: u32) -> Result<ObjectNu
     requires lawful { IsLawful core.old }
     requires spare { IsSpare (state core.old) spare.old }
     ensures aside { SetsAsideSpare (state core.old) thread result core.new.grants (state core.new) }
+    ensures unchanged { OnErr result ((state core.new ≡ state core.old) × (spare.new ≡ spare.old)) }
     ensures lawful { IsLawful core.new }
     ensures spare { IsSpare (state core.new) spare.new }
     ensures closed { spare.new.closed ≡ spare.old.closed }
@@ -45,14 +43,14 @@ fn set_aside(core: &mut Core, spare: &mut Spare, thread: u32) -> Result<ObjectNu
         return Err(Refusal::InvalidHandle);
     }
     if let Some(place) = spare.any_vacant(core) {
-        return set_aside_at(core, spare, thread, place);
+        return Ok(set_aside_at(core, spare, thread, place));
     }
     let object = match core.add_vacant() {
         Ok(object) => object,
         Err(refusal) => return Err(refusal),
     };
     let place = spare.add_object(object);
-    set_aside_at(core, spare, thread, place)
+    Ok(set_aside_at(core, spare, thread, place))
 }
 
 /// The same; none is set aside if each number is given once.
@@ -64,6 +62,7 @@ pub(crate) fn set_aside_with(
     requires lawful { IsLawful core.old }
     requires spare { MaySpare (state core.old) spare.old }
     ensures aside { MaySetAside (state core.old) spare.old thread result core.new.grants (state core.new) }
+    ensures unchanged { OnErr result ((state core.new ≡ state core.old) × (spare.new ≡ spare.old)) }
     ensures lawful { IsLawful core.new }
     ensures spare { MaySpare (state core.new) spare.new }
     ensures closed { KeepsClosed spare.old spare.new }

@@ -4,7 +4,6 @@ use nt_life::Renewal;
 use nt_status::{Handle, Moment, Refusal, Status, ThreadId};
 
 /// One entry of the journal. Entries are numbered from 1.
-#[derive(Drop)]
 pub enum Entry {
     /// A thread's call, with its answer.
     Called {
@@ -29,6 +28,30 @@ pub enum Entry {
         renewal: Renewal,
         result: Result<Handle, Refusal>,
     },
+}
+
+/// Written by hand, so that whoever lets a journal go has nothing to prove of its entries' parts.
+impl Drop for Entry {
+    fn drop(self) {
+        match self {
+            Entry::Called {
+                who: _,
+                call: _,
+                result: _,
+            } => {}
+            Entry::Ticked {
+                by: _,
+                moment: _,
+                result: _,
+            } => {}
+            Entry::Granted { who: _, status: _ } => {}
+            Entry::Renewed {
+                who: _,
+                renewal: _,
+                result: _,
+            } => {}
+        }
+    }
 }
 
 // Writing it is the largest part of what a call of the front costs beside the core's own.

@@ -13,9 +13,15 @@ use std::alloc::{AllocError, Global};
 use std::marker::Model;
 
 /// The words: one for the moment, and one for each thread. Contracts see it as the name of its table.
-#[derive(Drop)]
 pub struct Mail {
     pub(crate) table: Letters,
+}
+
+/// Written by hand, so that whoever lets a mail go has nothing to prove of its table.
+impl Drop for Mail {
+    fn drop(self) {
+        let Mail { table: _ } = self;
+    }
 }
 
 impl Model for Mail {

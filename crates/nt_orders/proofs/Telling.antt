@@ -1,14 +1,24 @@
 -- What is told where the orders are not explored.
-use Rattle.std.proofs.Common.{◌≡◌, ℕ, List, Option, subst, inl}
+use Rattle.std.proofs.Common.{◌≡◌, ℕ, ◌+◌, List, [], ◌∷◌, ◌++◌, length, replicate, Option, Some, None, refl, sym, ap, subst, ◌∙◌, arith, inl, inr}
+use Rattle.std.proofs.lemmas.List.{append-nil}
+use Rattle.std.specs.Prelude.{Result, Err, IfErr}
+use Rattle.nt_core.specs.Dispatcher.{state}
+use Rattle.nt_lines.specs.Lines.{lines_of}
+use Rattle.nt_look.specs.Orders.{Plan}
+use Rattle.nt_script.specs.Progress.{Progress, progress}
+use Rattle.nt_script.specs.declared.session.Session.{Session}
+use Rattle.nt_script.specs.declared.fault.ScriptFault.TheVariants.{ThreadsExpected}
 use Rattle.nt_script.specs.declared.fault.LineFault.{LineFault}
 use Rattle.nt_script.specs.declared.fault.LineFault.TheVariants as line
 use Rattle.nt_script.specs.declared.fault.RunFault.{RunFault}
 use Rattle.nt_script.specs.declared.fault.RunFault.TheVariants.{Script, Read, Write, Memory}
 use Rattle.nt_hangs.specs.Ending.{Says}
-use Rattle.nt_orders.specs.Ending.{IsTold, TellsFault}
+use Rattle.nt_hangs.specs.Watching.{Seen, unseen}
+use Rattle.nt_orders.specs.declared.lanes.LaneFault.TheVariants as lane
+use Rattle.nt_orders.specs.Ending.{IsFirstFault, TellsFault}
 use Rattle.nt_orders.specs.Faults.{message_of, status_of}
-use Rattle.nt_orders.specs.Plans.{IsHeadFault}
-use Rattle.nt_orders.specs.Reading.{IsFaultAt}
+use Rattle.nt_orders.specs.Plans.{EndsHead, IsHeadFault, LacksThreads, ReadsHead, SeesHead, StopsAfterHead, StopsInLanes}
+use Rattle.nt_orders.specs.Reading.{IsFaultAt, at_line}
 use Rattle.nt_orders.specs.declared.fault.OrdersFault.{OrdersFault}
 use Rattle.nt_orders.specs.declared.fault.OrdersFault.TheVariants as orders
 
@@ -16,14 +26,65 @@ pub told_fault : (fault : OrdersFault) (line : List ℕ) (shown shown' : Option 
     → TellsFault fault shown shown' failed failed' status
 told_fault fault line shown shown' failed failed' status same says is = inl (subst (Says shown shown' failed failed') same says, is)
 
--- a fault of a line is told
-pub line_told : (number : ℕ) (fault : LineFault) (result : RunFault) → IsFaultAt number fault result → IsTold (orders.Run result)
-line_told number (line.Script fault) result is = rw is (tt)
-line_told number line.Memory result is = rw is (tt)
+-- a fault of a line, with its number
+pub line_at : (number : ℕ) (fault : LineFault) (result : RunFault) → IsFaultAt number fault result → orders.Run result ≡ at_line number (lane.Line fault)
+line_at number (line.Script fault) result is = ap (λ (r : RunFault). orders.Run r) is
+line_at number line.Memory result is = ap (λ (r : RunFault). orders.Run r) is
 
--- so is a fault of the head
-pub head_told : (input : List ℕ) (fault : RunFault) → IsHeadFault input fault → IsTold (orders.Run fault)
-head_told input (Script number fault) is = tt
-head_told input (Memory number) is = tt
-head_told input (Read number) is = is
-head_told input (Write number) is = is
+-- a fault of the head is the first
+pub head_first : (input : List ℕ) (fault : RunFault) → IsHeadFault input fault → IsFirstFault input (orders.Run fault)
+head_first input (Script number fault) is = inl is
+head_first input (Memory number) is = tt
+head_first input (Read number) is = is
+head_first input (Write number) is = is
+
+-- it is what an error is
+pub err_first : {X : Type 0} → (input : List ℕ) (fault : OrdersFault) (result : Result X OrdersFault) → result ≡ Err fault → IsFirstFault input fault → IfErr result (IsFirstFault input)
+err_first input fault result is first = rw is (first)
+
+-- no line is in no lane since a read failed, or a write
+not_read : (now : Progress) (number line : ℕ) (lines : List (List ℕ)) (plan : Plan) → StopsInLanes now number lines plan (orders.Run (Read line)) → ⊥
+not_read now number line [] plan stops = stops
+not_read now number line (bytes ∷ lines) plan (inl is) = is
+not_read now number line (bytes ∷ lines) plan (inr later) = not_read now (number + 1) line lines later.1 later.4
+
+not_written : (now : Progress) (number line : ℕ) (lines : List (List ℕ)) (plan : Plan) → StopsInLanes now number lines plan (orders.Run (Write line)) → ⊥
+not_written now number line [] plan stops = stops
+not_written now number line (bytes ∷ lines) plan (inl is) = is
+not_written now number line (bytes ∷ lines) plan (inr later) = not_written now (number + 1) line lines later.1 later.4
+
+module _ (input rest : List ℕ) (count : ℕ) (seen : Seen) (head : ReadsHead input rest count seen) where
+  -- a head with no `threads` line is the whole script
+  pub lacks_threads : seen.now ≡ None → IsFirstFault input (orders.Run (Script (count + 1) ThreadsExpected))
+  lacks_threads none = inr (inl (refl, go (lines_of rest) refl (subst (λ (now : Option Progress). EndsHead now (lines_of rest)) none head.ends)))
+    where
+      go : (lines : List (List ℕ)) → lines_of rest ≡ lines → EndsHead None (lines_of rest) → LacksThreads input (count + 1)
+      go [] empty ends =
+          let whole : lines_of input ≡ head.head = head.lines ∙ (ap (λ (l : List (List ℕ)). head.head ++ l) empty ∙ append-nil head.head) in
+          record {
+            seen = seen;
+            sees = subst (λ (l : List (List ℕ)). SeesHead 1 unseen l seen) (sym whole) head.sees;
+            none = none;
+            place = let place = head.place in let long = ap (λ (l : List (List ℕ)). length l) whole in omega (arith, place, long);
+          }
+      go (bytes ∷ lines) some ends = absurd (subst (EndsHead None) some ends)
+
+  -- a fault of a line after the head is the first, if the lines between the two were read
+  pub lanes_first : (session : Session) (plan : Plan) (fault : OrdersFault) → seen.now ≡ Some (progress session) → plan ≡ replicate ((state session.core).threads + 1) []
+      → StopsInLanes (progress session) (count + 1) (lines_of rest) plan fault → IsFirstFault input fault
+  lanes_first session plan fault is none stops = go fault (subst (λ (p : Plan). StopsInLanes (progress session) (count + 1) (lines_of rest) p fault) none stops)
+    where
+      begun : Plan
+      begun = replicate ((state session.core).threads + 1) []
+
+      after : (cause : OrdersFault) → StopsInLanes (progress session) (count + 1) (lines_of rest) begun cause → StopsAfterHead input cause
+      after cause stops = record { rest = rest; count = count; seen = seen; head = head; now = progress session; is = is; stops = stops }
+
+      go : (cause : OrdersFault) → StopsInLanes (progress session) (count + 1) (lines_of rest) begun cause → IsFirstFault input cause
+      go (orders.Run (Script line cause)) stops = inr (inr (after (orders.Run (Script line cause)) stops))
+      go (orders.Run (Memory line)) stops = tt
+      go (orders.Run (Read line)) stops = not_read (progress session) (count + 1) line (lines_of rest) begun stops
+      go (orders.Run (Write line)) stops = not_written (progress session) (count + 1) line (lines_of rest) begun stops
+      go (orders.Late line) stops = after (orders.Late line) stops
+      go (orders.NoThread line) stops = after (orders.NoThread line) stops
+      go orders.Memory stops = tt

@@ -9,11 +9,12 @@ use Rattle.nt_explore.specs.declared.explored.Verdict.{Verdict}
 use Rattle.nt_explore.specs.declared.explored.Verdict.TheVariants as verdict
 use Rattle.nt_script.specs.Running.{Has}
 use Rattle.nt_script.specs.declared.fault.RunFault.TheVariants.{Script, Read, Write, Memory}
+use Rattle.nt_script.specs.declared.fault.ScriptFault.TheVariants.{ThreadsExpected}
 use Rattle.nt_hangs.specs.declared.reports.Report.{Report}
 use Rattle.nt_hangs.specs.Ending.{Says, SaysMemory, Shows}
 use Rattle.nt_hangs.specs.Watching.{before_zero}
 use Rattle.nt_orders.specs.Faults.{message_of, status_of}
-use Rattle.nt_orders.specs.Plans.{IsPlanOf}
+use Rattle.nt_orders.specs.Plans.{IsPlanOf, LacksThreads, StopsAfterHead, StopsInHead}
 use Rattle.nt_orders.specs.declared.fault.OrdersFault.{OrdersFault}
 use Rattle.nt_orders.specs.declared.fault.OrdersFault.TheVariants as orders
 
@@ -27,20 +28,21 @@ code_of (verdict.Met level) = 4
 abbrev pub IsJudged : Plan → State → ℕ → Type 0
 IsJudged plan s code = (found : Verdict) × Tells plan (beginning plan s) found × (code ≡ code_of found)
 
--- A line has a fault, or memory was refused.
-abbrev pub IsTold : OrdersFault → Type 0
-IsTold (orders.Run (Script line fault)) = Unit {0}
-IsTold (orders.Run (Memory line)) = Unit {0}
-IsTold (orders.Run (Read line)) = ⊥
-IsTold (orders.Run (Write line)) = ⊥
-IsTold (orders.Late line) = Unit {0}
-IsTold (orders.NoThread line) = Unit {0}
-IsTold orders.Memory = Unit {0}
+-- This is the script's first fault: in its head; that it has no `threads` line; or in a lane. Or memory was refused.
+abbrev pub IsFirstFault : List ℕ → OrdersFault → Type 0
+IsFirstFault input (orders.Run (Script line fault)) =
+    StopsInHead input line fault ⊎ (((fault ≡ ThreadsExpected) × LacksThreads input line) ⊎ StopsAfterHead input (orders.Run (Script line fault)))
+IsFirstFault input (orders.Run (Memory line)) = Unit {0}
+IsFirstFault input (orders.Run (Read line)) = ⊥
+IsFirstFault input (orders.Run (Write line)) = ⊥
+IsFirstFault input (orders.Late line) = StopsAfterHead input (orders.Late line)
+IsFirstFault input (orders.NoThread line) = StopsAfterHead input (orders.NoThread line)
+IsFirstFault input orders.Memory = Unit {0}
 
--- What an exploration comes to: a report on the plan of the script; or a line has a fault, or memory was refused.
+-- What an exploration comes to: a report on the plan of the script; or the script has this first fault, or memory was refused.
 abbrev pub IsOutcome : List ℕ → Result Report OrdersFault → Type 0
 IsOutcome input (Ok report) = (plan : Plan) × (s : State) × IsPlanOf input plan s × IsJudged plan s report.code
-IsOutcome input (Err fault) = IsTold fault
+IsOutcome input (Err fault) = IsFirstFault input fault
 
 -- It is said why the orders are not explored, or that memory ran out for that too.
 abbrev pub TellsFault : OrdersFault → (shown shown' : Option (List ℕ)) → (failed failed' status : ℕ) → Type 0

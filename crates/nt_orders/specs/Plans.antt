@@ -1,5 +1,5 @@
 -- A script's lines as a plan: what stands at its head, and what each lane is to do.
-use Rattle.std.specs.Prelude.{◌≡◌, ℕ, ◌+◌, ◌<◌, ◌++◌, Bool, true, false, List, [], ◌∷◌, length, replicate, slice_set, Option, None, Some}
+use Rattle.std.specs.Prelude.{◌≡◌, ◌⊎◌, ℕ, ◌+◌, ◌<◌, ◌++◌, Bool, true, false, nat_le, List, [], ◌∷◌, length, replicate, slice_set, Option, None, Some}
 use Rattle.nt_calls.specs.State.{State}
 use Rattle.nt_look.specs.Orders.{Ask, Calls, Passes, Plan, asks}
 use Rattle.nt_lines.specs.Lines.{lines_of}
@@ -11,6 +11,8 @@ use Rattle.nt_script.specs.declared.fault.RunFault.TheVariants.{Script, Read, Wr
 use Rattle.nt_script.specs.declared.parser.Statement.{Statement}
 use Rattle.nt_script.specs.declared.parser.Statement.TheVariants.{Blank, Create, Perform, Tick}
 use Rattle.nt_hangs.specs.Watching.{Seen, Sees, unseen}
+use Rattle.nt_orders.specs.declared.fault.OrdersFault.{OrdersFault}
+use Rattle.nt_orders.specs.declared.fault.OrdersFault.TheVariants as orders
 
 -- ---- the head
 
@@ -60,6 +62,13 @@ pub record StopsInHead (input : List ℕ) (number : ℕ) (fault : ScriptFault) :
   pub sees : SeesHead 1 unseen before seen
   pub cause : FaultIn (scope_of seen.now) bytes fault
 
+-- All lines are of a head that has no `threads` line, and this is the number after the last.
+pub record LacksThreads (input : List ℕ) (number : ℕ) : Type 0 where
+  pub seen : Seen
+  pub sees : SeesHead 1 unseen (lines_of input) seen
+  pub none : seen.now ≡ None
+  pub place : number ≡ 1 + length (lines_of input)
+
 -- a fault of the head, or memory was refused
 abbrev pub IsHeadFault : List ℕ → RunFault → Type 0
 IsHeadFault input (Script number fault) = StopsInHead input number fault
@@ -96,3 +105,50 @@ pub record IsPlanOf (input : List ℕ) (plan : Plan) (s : State) : Type 0 where
   pub is : seen.now ≡ Some now
   pub start : s ≡ now.state
   pub lanes : ReadsLanes now (lines_of rest) (replicate (now.state.threads + 1) []) plan
+
+-- ---- faults of the lanes
+
+-- it creates something
+abbrev pub creates : Statement → Bool
+creates Blank = false
+creates (Create who name act) = true
+creates (Perform who call) = false
+creates (Tick moment) = false
+
+-- it is a call of a thread that is none of so many
+abbrev pub is_of_nobody : ℕ → Statement → Bool
+is_of_nobody threads Blank = false
+is_of_nobody threads (Create who name act) = false
+is_of_nobody threads (Perform who call) = nat_le threads who
+is_of_nobody threads (Tick moment) = false
+
+-- the line is such a statement
+abbrev pub IsLineThat : Progress → List ℕ → (Statement → Bool) → Type 0
+IsLineThat now bytes is = (statement : Statement) × IsLine now.scope statement bytes × (is statement ≡ true)
+
+-- The line with this number is in no lane: it has this first fault, or memory was refused to it; it creates something; or there is no such thread.
+abbrev pub IsInNoLane : Progress → ℕ → List ℕ → OrdersFault → Type 0
+IsInNoLane now number bytes (orders.Run (Script line fault)) = (line ≡ number) × FaultIn (Some now.scope) bytes fault
+IsInNoLane now number bytes (orders.Run (Memory line)) = line ≡ number
+IsInNoLane now number bytes (orders.Run (Read line)) = ⊥
+IsInNoLane now number bytes (orders.Run (Write line)) = ⊥
+IsInNoLane now number bytes (orders.Late line) = (line ≡ number) × IsLineThat now bytes creates
+IsInNoLane now number bytes (orders.NoThread line) = (line ≡ number) × IsLineThat now bytes (is_of_nobody now.state.threads)
+IsInNoLane now number bytes orders.Memory = ⊥
+
+-- Of these lines, from this number on, the first that can't be added to the plan is in no lane for this cause.
+abbrev pub StopsInLanes : Progress → ℕ → List (List ℕ) → Plan → OrdersFault → Type 0
+StopsInLanes now number [] plan fault = ⊥
+StopsInLanes now number (bytes ∷ lines) plan fault =
+    IsInNoLane now number bytes fault
+    ⊎ ((statement : Statement) × (mid : Plan) × IsLine now.scope statement bytes × Adds now.state.threads statement plan mid × StopsInLanes now (number + 1) lines mid fault)
+
+-- The head was carried out, and of the lines after it the first that can't be added to the plan has this fault.
+pub record StopsAfterHead (input : List ℕ) (fault : OrdersFault) : Type 0 where
+  pub rest : List ℕ
+  pub count : ℕ
+  pub seen : Seen
+  pub head : ReadsHead input rest count seen
+  pub now : Progress
+  pub is : seen.now ≡ Some now
+  pub stops : StopsInLanes now (count + 1) (lines_of rest) (replicate (now.state.threads + 1) []) fault

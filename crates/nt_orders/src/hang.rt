@@ -48,20 +48,21 @@ fn stuck_text() -> &'static [u8]
     b"stuck: whoever has a line left waits, and nothing can end that"
 }
 
-/// Puts who hangs: those that hold each other, or all that wait.
+/// Puts who hangs: those that hold each other, or all that wait. The lines of `told` tell names.
 pub(crate) fn put_hang(
     out: &mut Vec<u8>,
     core: &Core,
+    told: &[u8],
     stuck: bool,
     held: &[bool],
 ) -> Result<(), AllocError>
-    ensures { OnOk result (out.new.items ≡ out.old.items ++ hang_text (state core.now) stuck held.now) }
+    ensures { OnOk result (out.new.items ≡ out.old.items ++ hang_text (state core.now) told.now stuck held.now) }
 {
     let count = marks_in(held);
     if count == 0 {
         out.extend_from_slice(stuck_text())
     } else {
         let all = stuck && count < core.pending();
-        put_held(out, b"", held, core.threads(), all)
+        put_held(out, told, held, core.threads(), all)
     }
 }

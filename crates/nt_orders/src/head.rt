@@ -1,5 +1,5 @@
 //! The head of a script: the lines before the first call that creates nothing.
-ghost use Rattle.std.specs.Prelude.{◌≡◌, IfErr, IfOk};
+ghost use Rattle.std.specs.Prelude.{◌≡◌, ◌+◌, ◌≤◌, length, IfErr, IfOk};
 ghost use Rattle.nt_script.specs.Progress.{progress_of};
 ghost use Rattle.nt_hangs.specs.Watching.{seen_of, unseen};
 ghost use Rattle.nt_orders.specs.Plans.{is_of_head, IsHeadFault, ReadsHead};
@@ -56,6 +56,7 @@ pub(crate) fn see_head<'a>(
 ) -> Result<(u64, &'a [u8]), RunFault>
     requires { seen_of watch.old ≡ unseen }
     ensures head { IfOk result (λ read. ReadsHead input.now read.1.now read.0 (seen_of watch.new)) }
+    ensures few { IfOk result (λ read. read.0 + length read.1.now ≤ length input.now) }
     ensures fault { IfErr result (IsHeadFault input.now) }
 {
     let mut rest = input;

@@ -1,14 +1,17 @@
 //! The lines after the head, by lanes.
-ghost use Rattle.std.specs.Prelude.{◌≡◌, ◌+◌, ◌≤◌, [], Some, length, replicate, IfErr, IfOk, OnOk};
+ghost use Rattle.std.specs.Prelude.{◌≡◌, ◌⊎◌, ◌+◌, ◌^◌, ◌<◌, [], None, Some, length, replicate, IfErr, IfOk, OnOk};
 ghost use Rattle.nt_core.specs.Dispatcher.{state};
 ghost use Rattle.nt_lines.specs.Lines.{lines_of};
 ghost use Rattle.nt_script.specs.Progress.{progress};
 ghost use Rattle.nt_script.specs.declared.parser.Statement.TheVariants as statement;
 ghost use Rattle.nt_hangs.specs.Watching.{seen_of};
 ghost use Rattle.nt_explore.specs.Search.{asked};
-ghost use Rattle.nt_orders.specs.Ending.{IsTold};
-ghost use Rattle.nt_orders.specs.Plans.{IsPlanOf, ReadsLanes, with_ask};
-ghost use Rattle.nt_orders.specs.Reading.{AddsLine, IsAskOf};
+ghost use Rattle.nt_script.specs.declared.fault.RunFault.TheVariants as run;
+ghost use Rattle.nt_script.specs.declared.fault.ScriptFault.TheVariants.{ThreadsExpected};
+ghost use Rattle.nt_orders.specs.declared.fault.OrdersFault.TheVariants as orders;
+ghost use Rattle.nt_orders.specs.Ending.{IsFirstFault};
+ghost use Rattle.nt_orders.specs.Plans.{IsPlanOf, ReadsLanes, StopsInLanes, with_ask};
+ghost use Rattle.nt_orders.specs.Reading.{AddsLine, Finds, IsAskOf, IsLaneFault, at_line};
 
 use crate::fault::OrdersFault;
 use crate::head::{LINE_BYTES, fault_at, see_head};
@@ -66,27 +69,16 @@ fn words_of(alloc: Global, line: &[u8]) -> Result<Vec<u8>, AllocError> {
 }
 
 /// Why a line is not of a lane.
-enum LaneFault {
+#[derive(Clone, Copy)]
+pub(crate) enum LaneFault {
     Line(LineFault),
     Late,
     NoThread,
 }
 
-impl From<LineFault> for LaneFault {
-    fn from(fault: LineFault) -> LaneFault {
-        LaneFault::Line(fault)
-    }
-}
-
-impl From<AllocError> for LaneFault {
-    fn from(_error: AllocError) -> LaneFault {
-        LaneFault::Line(LineFault::Memory)
-    }
-}
-
 /// The same with the line's number.
 fn orders_fault_at(line: u64, fault: LaneFault) -> OrdersFault
-    ensures { IsTold result }
+    ensures { result ≡ at_line line fault }
 {
     match fault {
         LaneFault::Line(fault) => OrdersFault::Run(fault_at(line, fault)),
@@ -115,6 +107,19 @@ fn ask_of(statement: Statement, threads: u32) -> Result<Option<(u32, Ask)>, Lane
         Statement::Create { .. } => Err(LaneFault::Late),
         Statement::Perform { who, call } => call_of(who, call, threads),
         Statement::Tick { moment } => Ok(Some((threads, Ask::Tick(moment)))),
+    }
+}
+
+/// The lane of a line, and what it is asked for by it, if it is asked for anything.
+fn find(session: &Session, alloc: Global, line: &[u8]) -> Result<Option<(u32, Ask)>, LaneFault>
+    ensures { Finds (progress session.now) line.now result }
+{
+    if line.len() > LINE_BYTES {
+        return Err(LaneFault::Line(LineFault::Script(ScriptFault::LineTooLong)));
+    }
+    match session.read(alloc, line) {
+        Ok(statement) => ask_of(statement, session.core().threads()),
+        Err(fault) => Err(LaneFault::Line(fault)),
     }
 }
 
@@ -155,36 +160,53 @@ impl Script {
         self.plan.add(lane, ask)
     }
 
+    /// Puts the line with this number last in its lane, with its words.
+    fn put(
+        &mut self,
+        alloc: Global,
+        number: u64,
+        line: &[u8],
+        lane: u32,
+        ask: Ask,
+    ) -> Result<(), LaneFault>
+        ensures plan { OnOk result (self.new.plan ≡ with_ask self.old.plan lane (asked ask)) }
+        ensures session { self.new.session ≡ self.old.session }
+        ensures fault { IfErr result (IsLaneFault (progress self.old.session) line.now) }
+    {
+        let Ok(text) = words_of(alloc, line) else {
+            return Err(LaneFault::Line(LineFault::Memory));
+        };
+        match self.add(lane, ask, number, text) {
+            Ok(()) => Ok(()),
+            Err(_) => Err(LaneFault::Line(LineFault::Memory)),
+        }
+    }
+
     /// Reads the line with this number, and puts it last in its lane.
     fn read(&mut self, alloc: Global, number: u64, line: &[u8]) -> Result<(), LaneFault>
         ensures plan { OnOk result (AddsLine (progress self.old.session) line.now self.old.plan self.new.plan) }
         ensures session { self.new.session ≡ self.old.session }
+        ensures fault { IfErr result (IsLaneFault (progress self.old.session) line.now) }
     {
-        if line.len() > LINE_BYTES {
-            return Err(LaneFault::Line(LineFault::Script(ScriptFault::LineTooLong)));
-        }
-        let statement = self.session.read(alloc, line)?;
-        match ask_of(statement, self.session.core().threads())? {
-            Some((lane, ask)) => {
-                let text = words_of(alloc, line)?;
-                self.add(lane, ask, number, text)?;
-                Ok(())
-            }
-            None => Ok(()),
+        match find(&self.session, alloc, line) {
+            Ok(Some((lane, ask))) => self.put(alloc, number, line, lane, ask),
+            Ok(None) => Ok(()),
+            Err(fault) => Err(fault),
         }
     }
 
     /// Reads the lines after so many.
     fn read_lanes(&mut self, alloc: Global, count: u64, input: &[u8]) -> Result<(), OrdersFault>
+        requires few { count + length input.now < 2 ^ 64 }
         ensures plan { OnOk result (ReadsLanes (progress self.old.session) (lines_of input.now) self.old.plan self.new.plan) }
         ensures session { self.new.session ≡ self.old.session }
-        ensures fault { IfErr result IsTold }
+        ensures fault { IfErr result (StopsInLanes (progress self.old.session) (count + 1) (lines_of input.now) self.old.plan) }
     {
         let mut rest = input;
         let mut number = count;
         while !rest.is_empty() {
             let (line, after) = first_line(rest);
-            number = number.saturating_add(1);
+            number += 1;
             match self.read(alloc, number, line) {
                 Ok(()) => rest = after,
                 Err(fault) => return Err(orders_fault_at(number, fault)),
@@ -196,9 +218,11 @@ impl Script {
 
 /// The script after its head, which was carried out.
 fn begin(alloc: Global, watch: Watch, count: u64) -> Result<Script, OrdersFault>
+    requires few { count + 1 < 2 ^ 64 }
     ensures session { IfOk result (λ script. (seen_of watch).now ≡ Some (progress script.session)) }
     ensures plan { IfOk result (λ script. script.plan ≡ replicate ((state script.session.core).threads + 1) []) }
-    ensures fault { IfErr result IsTold }
+    ensures fault { IfErr result (λ fault. (fault ≡ orders.Memory)
+        ⊎ (((seen_of watch).now ≡ None) × (fault ≡ orders.Run (run.Script (count + 1) ThreadsExpected)))) }
 {
     let (session, objects) = watch.into_parts();
     match session {
@@ -207,7 +231,7 @@ fn begin(alloc: Global, watch: Watch, count: u64) -> Result<Script, OrdersFault>
             Err(_) => Err(OrdersFault::Memory),
         },
         None => Err(OrdersFault::Run(RunFault::Script {
-            line: count.saturating_add(1),
+            line: count + 1,
             fault: ScriptFault::ThreadsExpected,
         })),
     }
@@ -216,7 +240,7 @@ fn begin(alloc: Global, watch: Watch, count: u64) -> Result<Script, OrdersFault>
 /// Carries out the head of a script, and reads the lines after it.
 pub(crate) fn read_script(alloc: Global, input: &[u8]) -> Result<Script, OrdersFault>
     ensures plan { IfOk result (λ script. IsPlanOf input.now script.plan (state script.session.core)) }
-    ensures fault { IfErr result IsTold }
+    ensures fault { IfErr result (IsFirstFault input.now) }
 {
     match Watch::new(alloc) {
         Ok(mut watch) => match see_head(&mut watch, alloc, input) {

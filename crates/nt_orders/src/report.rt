@@ -10,7 +10,7 @@ use crate::lanes::{Script, read_script};
 use crate::rows::put_rows;
 use nt_core::Core;
 use nt_explore::{Explored, Loss, Verdict, Watcher, explore};
-use nt_hangs::{Report, before_zero, put_number, put_waiters};
+use nt_hangs::{Report, before_zero, put_number, put_thread_title, put_waiters};
 use nt_look::is_stuck;
 use std::alloc::{AllocError, Global};
 
@@ -61,11 +61,11 @@ fn put_bound(out: &mut Vec<u8>, level: usize) -> Result<(), AllocError> {
 }
 
 /// Puts since when a wait was lost, and whose.
-fn put_lost(out: &mut Vec<u8>, loss: &Loss) -> Result<(), AllocError> {
+fn put_lost(out: &mut Vec<u8>, told: &[u8], loss: &Loss) -> Result<(), AllocError> {
     out.extend_from_slice(b"  lost after ")?;
     put_many(out, loss.lanes.len(), b" line")?;
-    out.extend_from_slice(b": the wait of t")?;
-    put_number(out, u64::from(loss.thread))?;
+    out.extend_from_slice(b": the wait of ")?;
+    put_thread_title(out, told, loss.thread)?;
     out.extend_from_slice(b" ends in no order from here on\n")
 }
 
@@ -81,11 +81,12 @@ fn put_hang_line(
     out: &mut Vec<u8>,
     alloc: Global,
     core: &Core,
+    told: &[u8],
     over: &[bool],
 ) -> Result<(), AllocError> {
     let held = held_at(alloc, core, over)?;
     out.extend_from_slice(b"  ")?;
-    put_hang(out, core, is_stuck(core, over), &held)?;
+    put_hang(out, core, told, is_stuck(core, over), &held)?;
     out.extend_from_slice(b"\n")
 }
 
@@ -95,6 +96,7 @@ impl Script {
         &self,
         out: &mut Vec<u8>,
         alloc: Global,
+        told: &[u8],
         lanes: &[u32],
     ) -> Result<End, AllocError> {
         let mut core = self.session.core().copy().map_err(|_| AllocError)?;
@@ -102,15 +104,15 @@ impl Script {
         let rows = self.walk(alloc, &mut core, &mut places, lanes)?;
         put_rows(out, 2, rows.as_slice())?;
         let over = self.over(alloc, &core, &places)?;
-        put_hang_line(out, alloc, &core, &over)?;
+        put_hang_line(out, alloc, &core, told, &over)?;
         let since = self.since(alloc, &places)?;
         Ok(End { core, since })
     }
 
     /// Puts who waits where an order ends. Answers the dispatcher of the start.
-    fn put_end(&mut self, out: &mut Vec<u8>, end: End) -> Result<Core, AllocError> {
+    fn put_end(&mut self, out: &mut Vec<u8>, told: &[u8], end: End) -> Result<Core, AllocError> {
         let start = self.session.replace_core(end.core);
-        put_waiters(out, &self.session, &self.objects, b"", &end.since)?;
+        put_waiters(out, &self.session, &self.objects, told, &end.since)?;
         Ok(start)
     }
 
@@ -119,12 +121,13 @@ impl Script {
         &self,
         out: &mut Vec<u8>,
         alloc: Global,
+        told: &[u8],
         start: &mut Core,
         loss: &Loss,
     ) -> Result<(), AllocError> {
         let mut places = Vec::from_elem(alloc, 0, self.plan.lanes())?;
         let rows = self.walk(alloc, start, &mut places, loss.lanes.as_slice())?;
-        put_lost(out, loss)?;
+        put_lost(out, told, loss)?;
         put_rows(out, 4, rows.as_slice())
     }
 
@@ -133,25 +136,27 @@ impl Script {
         &mut self,
         out: &mut Vec<u8>,
         alloc: Global,
+        told: &[u8],
         lanes: &[u32],
         loss: &Option<Loss>,
     ) -> Result<(), AllocError> {
         put_shortest(out, lanes.len())?;
-        let end = self.put_order(out, alloc, lanes)?;
-        let mut start = self.put_end(out, end)?;
+        let end = self.put_order(out, alloc, told, lanes)?;
+        let mut start = self.put_end(out, told, end)?;
         match loss {
             Some(loss) if loss.lanes.len() < lanes.len() => {
-                self.put_loss(out, alloc, &mut start, loss)
+                self.put_loss(out, alloc, told, &mut start, loss)
             }
             _ => Ok(()),
         }
     }
 
-    /// The report of what was explored.
+    /// The report of what was explored. The lines of `told` tell names.
     fn report(
         &mut self,
         alloc: Global,
         file: &[u8],
+        told: &[u8],
         explored: &Explored,
     ) -> Result<Report, AllocError>
         ensures { IfOk result (λ report. report.code ≡ code_of explored.now.verdict) }
@@ -169,7 +174,7 @@ impl Script {
             }
             Verdict::Hangs { lanes, loss } => {
                 put_hangs(&mut text, explored.hangs, loss.is_some())?;
-                self.put_hanging(&mut text, alloc, lanes.as_slice(), loss)?;
+                self.put_hanging(&mut text, alloc, told, lanes.as_slice(), loss)?;
                 3
             }
         };
@@ -177,16 +182,22 @@ impl Script {
     }
 
     /// Explores the orders, and reports.
-    fn explore(&mut self, alloc: Global, file: &[u8], most: usize) -> Result<Report, AllocError>
+    fn explore(
+        &mut self,
+        alloc: Global,
+        file: &[u8],
+        told: &[u8],
+        most: usize,
+    ) -> Result<Report, AllocError>
         ensures { IfOk result (λ report. IsJudged self.old.plan (state self.old.session.core) report.code) }
     {
         let explored = explore(alloc, self.session.core(), &self.plan, most, &mut Nobody)?;
-        self.report(alloc, file, &explored)
+        self.report(alloc, file, told, &explored)
     }
 }
 
 /// Explores the orders of a script's lines until so many states are met, and reports. The script ends at its first zero byte. `file` is what
-/// the report calls it.
+/// the report calls it; threads and objects go by the names that its comments tell, as `; h256 is accounts`.
 pub fn report_on(
     alloc: Global,
     file: &[u8],
@@ -195,8 +206,9 @@ pub fn report_on(
 ) -> Result<Report, OrdersFault>
     ensures { IsOutcome (before_zero input.now) result }
 {
-    let mut script = read_script(alloc, before_zero(input))?;
-    match script.explore(alloc, file, most) {
+    let lines = before_zero(input);
+    let mut script = read_script(alloc, lines)?;
+    match script.explore(alloc, file, lines, most) {
         Ok(report) => Ok(report),
         Err(_) => Err(OrdersFault::Memory),
     }

@@ -15,8 +15,7 @@ use Rattle.nt_calls.specs.State.{State, Pending, pends}
 use Rattle.nt_calls.specs.declared.call.Call.{Call}
 use Rattle.nt_calls.specs.Steps.{IsNextMoment, NothingDue, Called, Ticked}
 use Rattle.nt_calls.specs.Moves.{Moves, pended, one_if, granted_to}
-use Rattle.nt_life.specs.Lasting.{IsAsItWas, IsUnchanged}
-use Rattle.nt_sleepers.proofs.Renewing.{kept_as_it_was}
+use Rattle.nt_life.specs.Lasting.{IsUnchanged}
 use Rattle.nt_sleepers.specs.Sleepers.{Sleeping, Woke, Watches, TimeIsKept, CalledWaits, IsWatched, MeetsDeadlines, IsShortEnough, IsCalled, SleepsUpTo, NoneUpTo, OnlyWaiting, without_woken, set_if, with_called, settled, deadline_of, SleepsTo}
 use Rattle.nt_sleepers.proofs.Staying.{StayedOrBegan}
 use Rattle.nt_sleepers.proofs.Deadlines.{deadlines_after, deadlines_watch, deadlines_stop, in_time, watched}
@@ -219,7 +218,7 @@ nobody_called new who began gs own called alarms watchers watchers' none not kep
     (subst (λ (xs : List (Option ℕ)). IsCalled new alarms xs called) as_before
     (subst (λ (xs : List (Option ℕ)). IsCalled new xs watchers' called) alarms-are is))
 
-kept_same : (old new : State) (alarms watchers : List (Option ℕ)) → new ≡ old → TimeIsKept old alarms watchers → TimeIsKept new alarms watchers
+pub kept_same : (old new : State) (alarms watchers : List (Option ℕ)) → new ≡ old → TimeIsKept old alarms watchers → TimeIsKept new alarms watchers
 kept_same old new alarms watchers same kept = subst (λ (s : State). TimeIsKept s alarms watchers) (sym same) kept
 
 pub nobody_by_call : (old new : State) (who : ℕ) (call : Call) (result : Result Reply Refusal) (began : Bool) (gs : List Grant) (own called : Option ℕ) (alarms watchers watchers' : List (Option ℕ)) → Called old who call result gs new → began ≡ pended result → TimeIsKept old alarms watchers → watchers' ≡ without_woken gs watchers → IsCalled new (set_if began who own (without_woken gs alarms)) watchers' called → OnErr result (called ≡ None)
@@ -231,7 +230,7 @@ nobody_by_call old new who call (Err r) began gs own called alarms watchers watc
 pub nobody_by_renewal : (old new : State) (who : ℕ) (result : Result Reply Refusal) (began : Bool) (gs : List Grant) (own called : Option ℕ) (alarms watchers watchers' : List (Option ℕ)) → IsUnchanged old result gs new → began ≡ pended result → TimeIsKept old alarms watchers → watchers' ≡ without_woken gs watchers → IsCalled new (set_if began who own (without_woken gs alarms)) watchers' called → OnErr result (called ≡ None)
 nobody_by_renewal old new who (Ok reply) began gs own called alarms watchers watchers' made b kept watchers-are is = tt
 nobody_by_renewal old new who (Err r) began gs own called alarms watchers watchers' made b kept watchers-are is =
-    nobody_called new who began gs own called alarms watchers watchers' made.0 b (kept_as_it_was old new alarms watchers made.1 kept) watchers-are is
+    nobody_called new who began gs own called alarms watchers watchers' made.0 b (kept_same old new alarms watchers made.1 kept) watchers-are is
 
 pub nobody_by_tick : (old new : State) (m : ℕ) (result : Result Reply Refusal) (gs : List Grant) (own called : Option ℕ) (alarms watchers watchers' : List (Option ℕ)) → Ticked old m result gs new → TimeIsKept old alarms watchers → watchers' ≡ without_woken gs watchers → IsCalled new (without_woken gs alarms) watchers' called → OnErr result (called ≡ None)
 nobody_by_tick old new m (Ok reply) gs own called alarms watchers watchers' ticked kept watchers-are is = tt
@@ -255,8 +254,8 @@ woke_still old new who began not none alarms-are watchers-are nobody = record {
   called = subst (λ (c : Option ℕ). IsCalled (state new.core) (settled old.alarms who began new.core) new.watchers c) (sym nobody) tt;
 }
 
--- a refused call has changed nothing that counts here
-pub refused : (old new : State) (result : Result Reply Refusal) (gs : List Grant) (r : Refusal) → result ≡ Err r → IsUnchanged old result gs new → (pended result ≡ false) × (gs ≡ []) × IsAsItWas old new
+-- a refused call has changed nothing
+pub refused : (old new : State) (result : Result Reply Refusal) (gs : List Grant) (r : Refusal) → result ≡ Err r → IsUnchanged old result gs new → (pended result ≡ false) × (gs ≡ []) × (new ≡ old)
 refused old new (Ok reply) gs r is made = absurd (cc)
 refused old new (Err cause) gs r is made = (refl, made.0, made.1)
 

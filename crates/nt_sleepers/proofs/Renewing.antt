@@ -22,7 +22,7 @@ use Rattle.nt_core.specs.Renewals.{AddsVacant, CreatesAgain, DuplicatesAgain, Re
 use Rattle.nt_core.specs.SetAside.{is_movable, set_aside}
 use Rattle.nt_core.proofs.Changing.{reading_created, reading_set}
 use Rattle.nt_core.proofs.SettingAside.{MayMove, may_move, read_aside}
-use Rattle.nt_life.specs.Lasting.{Spares, AsideBeside, FindsNumber, MaySetAside, MovesAside, CreatesBeside, CreatesElse, IsAsItWas, LastsAct, LastsCreation, LastsDuplicate, MakesCall, MayBegin, is_ready, last_closed, last_unnamed}
+use Rattle.nt_life.specs.Lasting.{Spares, AsideBeside, FindsNumber, MaySetAside, MovesAside, CreatesBeside, CreatesElse, LastsAct, LastsCreation, LastsDuplicate, MakesCall, MayBegin, is_ready, last_closed, last_unnamed}
 use Rattle.nt_life.specs.declared.begun.Begun.{Begun}
 use Rattle.nt_sleepers.specs.Sleepers.{TimeIsKept, deadline_of}
 use Rattle.nt_sleepers.proofs.Staying.{StayedOrBegan, call_stayed, same_stayed}
@@ -50,10 +50,9 @@ more_awaits : (s : State) (u : ℕ) → IsAwaited (record s { objects = s.object
 more_awaits s u (inl due) = inl (due.0, sym (reading_created due_of s.objects Gone refl due.0) ∙ due.1)
 more_awaits s u (inr late) = inr late
 
-pub kept_as_it_was : (old new : State) (alarms watchers : List (Option ℕ)) → IsAsItWas old new → TimeIsKept old alarms watchers → TimeIsKept new alarms watchers
-kept_as_it_was old new alarms watchers (inl same) kept = subst (λ (s : State). TimeIsKept s alarms watchers) (sym same) kept
-kept_as_it_was old new alarms watchers (inr more) kept =
-    subst (λ (s : State). TimeIsKept s alarms watchers) (sym more)
+kept_added : (old new : State) (o : ℕ) (alarms watchers : List (Option ℕ)) → AddsVacant old (Ok o) [] new → TimeIsKept old alarms watchers → TimeIsKept new alarms watchers
+kept_added old new o alarms watchers adds kept =
+    subst (λ (s : State). TimeIsKept s alarms watchers) (sym adds.3)
     (keeps_time old (record old { objects = old.objects ++ Gone ∷ [] }) alarms watchers refl refl (more_awaits old) kept)
 
 -- ---- a thread that begins
@@ -88,13 +87,12 @@ aside_awaits s t o u may (inl due) = inl (due.0, sym (read_aside due_of s.object
 aside_awaits s t o u may (inr late) = inr late
 
 kept_moved : (old new : State) (t o : ℕ) (result : Result ℕ Refusal) (gs : List Grant) (alarms watchers : List (Option ℕ)) → MovesAside old t o result gs new → TimeIsKept old alarms watchers → TimeIsKept new alarms watchers
-kept_moved old new t o (Ok number) gs alarms watchers is kept =
+kept_moved old new t o result gs alarms watchers is kept =
     subst (λ (s : State). TimeIsKept s alarms watchers) (sym is.1.2)
     (keeps_time old (set_aside old t o) alarms watchers refl refl (λ u. aside_awaits old t o u (may_move old t o (sym is.1.0))) kept)
-kept_moved old new t o (Err cause) gs alarms watchers is kept = subst (λ (s : State). TimeIsKept s alarms watchers) (sym is.1.2) kept
 
 kept_beside : (added : Result ℕ Refusal) (old mid new : State) (t : ℕ) (result : Result ℕ Refusal) (gs : List Grant) (alarms watchers : List (Option ℕ)) → AddsVacant old added [] mid → AsideBeside added old mid t result gs new → TimeIsKept old alarms watchers → TimeIsKept new alarms watchers
-kept_beside (Ok o) old mid new t result gs alarms watchers adds is kept = kept_moved mid new t o result gs alarms watchers is (kept_as_it_was old mid alarms watchers (inr adds.3) kept)
+kept_beside (Ok o) old mid new t result gs alarms watchers adds is kept = kept_moved mid new t o result gs alarms watchers is (kept_added old mid o alarms watchers adds kept)
 kept_beside (Err cause) old mid new t result gs alarms watchers adds is kept = subst (λ (s : State). TimeIsKept s alarms watchers) (sym is.1) kept
 
 kept_found : (old new : State) (t : ℕ) (result : Result ℕ Refusal) (gs : List Grant) (alarms watchers : List (Option ℕ)) → FindsNumber old t result gs new → TimeIsKept old alarms watchers → TimeIsKept new alarms watchers
@@ -120,7 +118,7 @@ created_stayed old mid who act o h result gs new before is =
     renewal_stayed old mid (created_again mid o h (created_by (creation who act))) (creation_refusal mid who act o h) who h (pended result) result gs new before refl is
 
 beside_stayed : (added : Result ℕ Refusal) (old mid : State) (h who : ℕ) (act : Act) (result : Result Reply Refusal) (gs : List Grant) (new : State) → AddsVacant old added [] mid → CreatesBeside added old mid h who act result gs new → StayedOrBegan old who (pended result) new
-beside_stayed (Ok o) old mid h who act result gs new adds is = created_stayed old mid who act o h result gs new (ap (λ (s : State). s.waits) adds.3) is
+beside_stayed (Ok o) old mid h who act result gs new adds is = created_stayed old mid who act o h result gs new (ap (λ (s : State). s.waits) adds.3) is.1
 beside_stayed (Err cause) old mid h who act result gs new adds is = same_stayed old new who (pended result) (ap (λ (s : State). s.waits) is.2)
 
 else_stayed : (old : State) (spare : Spares) (who : ℕ) (act : Act) (result : Result Reply Refusal) (gs : List Grant) (new : State) → CreatesElse old spare who act result gs new → StayedOrBegan old who (pended result) new

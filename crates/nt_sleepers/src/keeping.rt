@@ -1,5 +1,5 @@
 //! How the time is kept: whose alarms are cleared, who is called, and to which moment a thread sleeps.
-ghost use Rattle.std.specs.Prelude.{◌≡◌, ◌≤◌, Bool, true, [], Some, None, MatchBool, length, slice_set};
+ghost use Rattle.std.specs.Prelude.{◌≡◌, ◌≤◌, Bool, true, false, [], Some, None, MatchBool, length, slice_set};
 ghost use Rattle.std.specs.FinMap as map;
 ghost use Rattle.nt_status.specs.declared.limits.TheConstants.{MAX_MANY_THREADS};
 ghost use Rattle.nt_alarms.specs.Alarms.{IsQuiet};
@@ -89,8 +89,18 @@ fn call_one(core: &Core, alarms: &mut Alarms, watchers: &Alarms) -> Option<u32>
     Some(watcher as u32)
 }
 
-/// What becomes of alarms and watchers after a call of this thread, whose wait began or did not, or after a tick. Returns who is called.
-pub(crate) fn settle_all(
+/// Whether nothing becomes of alarms and watchers: no wait began, none has ended, and nobody watches.
+#[inline(always)]
+fn is_quiet(core: &Core, watchers: &Alarms, began: bool) -> bool
+    ensures began { result ≡ true → began ≡ false }
+    ensures ended { result ≡ true → core.now.grants ≡ [] }
+    ensures watched { result ≡ true → IsQuiet watchers.now }
+{
+    !began && core.grants().is_empty() && watchers.earliest().is_none()
+}
+
+/// As `settle_all`, step by step.
+fn settle_each(
     core: &Core,
     alarms: &mut Alarms,
     watchers: &mut Alarms,
@@ -108,6 +118,28 @@ pub(crate) fn settle_all(
     clear_all(watchers, core.grants());
     begin(core, alarms, who, began);
     call_one(core, alarms, watchers)
+}
+
+/// What becomes of alarms and watchers after a call of this thread, whose wait began or did not, or after a tick. Returns who is called.
+#[inline(always)]
+pub(crate) fn settle_all(
+    core: &Core,
+    alarms: &mut Alarms,
+    watchers: &mut Alarms,
+    who: u32,
+    began: bool,
+) -> Option<u32>
+    requires count { length watchers.old ≡ length alarms.old }
+    requires few { length alarms.old ≤ MAX_MANY_THREADS }
+    ensures in_time { IsWatched (state core.now) alarms.new watchers.new }
+    ensures alarms { alarms.new ≡ with_called result (settled alarms.old who began core.now) }
+    ensures watchers { watchers.new ≡ without_woken core.now.grants watchers.old }
+    ensures called { IsCalled (state core.now) (settled alarms.old who began core.now) watchers.new result }
+{
+    if is_quiet(core, watchers, began) {
+        return None;
+    }
+    settle_each(core, alarms, watchers, who, began)
 }
 
 /// The same for who is called. If no wait pended before and none began, one look tells that nothing becomes of them.

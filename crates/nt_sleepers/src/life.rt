@@ -29,6 +29,7 @@ pub(crate) fn is_idle(life: &Lasting) -> bool
 }
 
 /// What becomes of alarms and watchers after a call of this thread, whose wait began or did not, or after a tick. Returns who is called.
+#[inline(always)]
 pub(crate) fn settle_all(
     life: &Lasting,
     alarms: &mut Alarms,

@@ -132,7 +132,7 @@ impl Sleepers {
         ensures limit { result ≡ Err HandleLimit → FindsNoneFor (state self.old.core) self.old.spare call.now }
         ensures unchanged { IsUnchanged (state self.old.core) result self.new.core.grants (state self.new.core) }
         ensures lawful { IsLawful self.new.core }
-        ensures looks { LooksAt self.old.core self.old.spare who call.now result self.new.core }
+        ensures looks { LooksAt self.old.core who call.now result self.new.core }
         ensures woke { Woke self.old who (pended result) self.new }
         ensures nobody { OnErr result (self.new.called ≡ None) }
     {

@@ -1,5 +1,5 @@
 //! The plan over a front, by threads that run.
-ghost use Rattle.std.specs.Prelude.{◌≡◌, ◌+◌, ◌-◌, ◌*◌, ◌<◌, ◌≤◌, [], true, map, vec_len, vec_capacity, IfOk};
+ghost use Rattle.std.specs.Prelude.{◌≡◌, ◌+◌, ◌-◌, ◌*◌, ◌<◌, ◌≤◌, [], true, false, map, vec_len, vec_capacity, IfOk};
 ghost use Rattle.nt_core.specs.Dispatcher.{Dispatcher, state};
 ghost use Rattle.nt_core.specs.Lawful.{IsLawful};
 ghost use Rattle.nt_front.specs.Runs.{IsRun};
@@ -141,6 +141,7 @@ fn run<N: Named + Send + Sync, R: Threads + Wait + Sync>(
     rounds: u32,
 ) -> Result<Ran, AllocError>
     requires front { blank ≡ N.front }
+    requires once { blank.lasts ≡ false }
     requires threads { (0 < blank.threads) × (blank.threads ≤ 65) }
     requires rounds { rounds ≤ 1000 }
     ensures comes { IfOk result (λ r. r.whole ≡ true → ComesOfRun blank.threads r.history.entries.items) }
@@ -165,6 +166,7 @@ fn run_in<N: Named + Send + Sync, R: Threads + Wait + Sync>(
     rounds: u32,
 ) -> Result<Ran, AllocError>
     requires front { blank ≡ N.front }
+    requires once { blank.lasts ≡ false }
     requires threads { (0 < blank.threads) × (blank.threads ≤ 65) }
     requires rounds { rounds ≤ 1000 }
     requires doors { (room.doors.items ≡ []) × (65 ≤ vec_capacity room.doors) }
@@ -193,6 +195,7 @@ fn run_on<N: Named + Send + Sync, R: Threads + Wait + Sync>(
     rounds: u32,
 ) -> Ran
     requires passes { (passes.items ≡ new_threads N.front.threads) × (0 < N.front.threads) }
+    requires once { N.front.lasts ≡ false }
     requires threads { vec_len passes ≤ 65 }
     requires rounds { rounds ≤ 1000 }
     requires doors { (room.doors.items ≡ []) × (vec_len passes ≤ vec_capacity room.doors) }

@@ -122,8 +122,11 @@ fn by_both<N: Named>(
 ) -> History
     requires { (vec_len passes ≡ 2) × (vec_len holds + 2 ≤ vec_capacity holds) }
 {
-    if let Some(other) = passes.pop() {
-        if let Some(mut first) = passes.pop() {
+    let other = passes.pop();
+    let first = passes.pop();
+    passes.destroy_empty();
+    if let Some(other) = other {
+        if let Some(mut first) = first {
             let other = begin(rt, alloc, &front, &mut first, other);
             let other = hand_over(rt, &front, &mut first, other, row, parts);
             holds.push_reserved(other);
@@ -132,7 +135,6 @@ fn by_both<N: Named>(
             holds.push_reserved(Held::Pass(other));
         }
     }
-    passes.destroy_empty();
     front.finish(holds)
 }
 

@@ -28,7 +28,7 @@ returns-in_default c =
       pace = record { most = c.call.ensures.most; few = c.call.ensures.few; moves = c.call.ensures.moves; waits = c.call.ensures.waits; moment = c.call.ensures.moment };
       limit = λ limit. absurd (no_act_full old call c.in_default.not-Act (refused_full old c.args.who call c.call.result c.call.new.self.grants new c.call.ensures.called limit));
       taken = λ none. call_taken old c.args.spare.now c.args.who call c.call.result c.call.new.self.grants new c.requires.lawful.steady.sound.handles lasts none;
-      looks = record { local = λ own. c.call.ensures.local; untested = λ own. c.call.ensures.untested };
+      looks = record { local = c.call.ensures.local; untested = c.call.ensures.untested };
       lawful = c.call.ensures.lawful;
       spare = call_spare old c.args.who call c.call.result c.call.new.self.grants new c.args.spare.now c.requires.lawful.steady.sound.handles.enough (no_act_closes call c.in_default.not-Act) c.call.ensures.moves.threads c.call.ensures.called c.requires.spare;
     }

@@ -4,6 +4,7 @@ use Rattle.nt_core.specs.Renewals.{CreatesAgain}
 use Rattle.nt_life.specs.Lasting.{Spares, CreatesElse}
 use Rattle.nt_life.proofs.Limits.{again_limit}
 use Rattle.nt_life.proofs.Choosing.{creates_else, creates_at, unready_object}
+use Rattle.nt_life.proofs.Looking.{created_nobody, creation_looks}
 use Rattle.nt_life.proofs.Pacing.{created_pace}
 use Rattle.nt_life.specs.Lasting.{Pops}
 use Rattle.nt_life.proofs.Telling.{tells_created}
@@ -40,3 +41,8 @@ returns-clause-stacked c = subst (λ (spare : Spares). Pops spare.closed c.creat
 pub returns-clause-told : goal.returns-clause-told
 returns-clause-told c =
     tells_created (state c.args.core.now) c.args.who c.args.act.now (get_or c.vacant.new.self.unnamed c.in-Some-vacant.place 0) c.in-Some.handle c.create_at.new.told c.create_at.result c.create_at.new.core.grants (state c.create_at.new.core) c.create_at.ensures.told c.create_at.ensures.created
+
+pub returns-clause-looks : goal.returns-clause-looks
+returns-clause-looks c =
+    creation_looks c.args.core.now c.create_at.new.core c.args.who c.args.act.now c.create_at.result c.requires.creates c.create_at.ensures.untested
+    (created_nobody (state c.args.core.now) c.args.who c.args.act.now (get_or c.vacant.new.self.unnamed c.in-Some-vacant.place 0) c.in-Some.handle c.create_at.result c.create_at.new.core.grants (state c.create_at.new.core) c.create_at.ensures.created)

@@ -1,14 +1,15 @@
-use Rattle.std.proofs.Common.{◌≡◌, ℕ, get_or, refl, ap, subst, inr, inl}
+use Rattle.std.proofs.Common.{◌≡◌, ◌∙◌, ℕ, true, get_or, refl, ap, subst, inr, inl}
 use Rattle.std.specs.declared.result.Result.{Result}
 use Rattle.std.specs.declared.result.Result.TheVariants.{Ok, Err}
 use Rattle.nt_status.specs.declared.refusal.Refusal.{Refusal}
 use Rattle.nt_status.specs.declared.refusal.Refusal.TheVariants.{HandleLimit}
 use Rattle.nt_calls.specs.declared.call.Reply.{Reply}
 use Rattle.nt_core.specs.Dispatcher.{state}
-use Rattle.nt_core.specs.Renewals.{AddsVacant, CreatesAgain}
-use Rattle.nt_life.proofs.Limits.{again_limit}
-use Rattle.nt_life.proofs.Choosing.{added_spare, added_room, added_at, none_added}
-use Rattle.nt_life.specs.Lasting.{Pops}
+use Rattle.nt_core.specs.Renewals.{AddsVacant, CreatesAgain, is_closed}
+use Rattle.nt_life.proofs.Calls.{last_is_closed}
+use Rattle.nt_life.proofs.Limits.{again_limit, created_surely}
+use Rattle.nt_life.proofs.Choosing.{added_spare, added_room, added_at, added_caller, added_closed, none_added}
+use Rattle.nt_life.specs.Lasting.{Pops, CreatesBeside}
 use Rattle.nt_life.proofs.Telling.{tells_created, tells_added}
 use Rattle.nt_life.proofs.giving.create_more.Goals as goal
 
@@ -38,11 +39,26 @@ create_at-answer-requires-clause-spare c =
     added_spare c.args.core.now c.args.spare.now c.add_object-place.new.self c.in-Ok.object c.add_vacant.new.self.grants (state c.add_vacant.new.self) c.requires.lawful c.requires.spare c.in-Ok.ensures.added
     c.add_object-place.ensures.closed c.add_object-place.ensures.unnamed
 
+-- it is made with the number that was added
+created : (c : goal.After-told-2-1) → CreatesAgain (state c.add_vacant.new.self) c.args.who c.args.act.now c.in-Ok.object c.args.handle c.create_at-answer.result c.create_at-answer.new.core.grants (state c.create_at-answer.new.core)
+created c =
+    let at = added_at c.args.spare.now c.add_object-place.new.self c.in-Ok.object c.add_object-place.result c.add_object-place.ensures.place c.add_object-place.ensures.unnamed in
+    subst (λ (o : ℕ). CreatesAgain (state c.add_vacant.new.self) c.args.who c.args.act.now o c.args.handle c.create_at-answer.result c.create_at-answer.new.core.grants (state c.create_at-answer.new.core)) at c.create_at-answer.ensures.created
+
+made : (c : goal.After-told-2-1) → c.create_at-answer.result ≡ Ok (Reply.Handle c.args.handle)
+made c =
+    let old = state c.args.core.now in
+    let mid = state c.add_vacant.new.self in
+    let closed : is_closed old c.args.handle ≡ true = ap (λ (h : ℕ). is_closed old h) c.requires.handle ∙ last_is_closed old c.args.spare.now c.requires.spare c.requires.closed in
+    created_surely mid c.args.who c.args.act.now c.in-Ok.object c.args.handle c.create_at-answer.result c.create_at-answer.new.core.grants (state c.create_at-answer.new.core)
+    (added_caller c.args.core.now mid c.in-Ok.object c.add_vacant.new.self.grants c.args.who c.requires.lawful c.in-Ok.ensures.added c.requires.caller)
+    c.requires.lawful_act c.in-Ok.ensures.vacant
+    (added_closed old mid c.in-Ok.object c.add_vacant.new.self.grants c.args.handle c.in-Ok.ensures.added closed) (created c)
+
 pub returns-clause-created : goal.returns-clause-created
 returns-clause-created c =
     let adds = c.in-Ok.ensures.added in
     let mid = state c.add_vacant.new.self in
-    let at = added_at c.args.spare.now c.add_object-place.new.self c.in-Ok.object c.add_object-place.result c.add_object-place.ensures.place c.add_object-place.ensures.unnamed in
     inr (
       c.requires.closed,
       c.requires.full,
@@ -50,8 +66,7 @@ returns-clause-created c =
         Ok c.in-Ok.object,
         mid,
         (adds.0, adds.1, refl, adds.3),
-        subst (λ (h : ℕ). CreatesAgain mid c.args.who c.args.act.now c.in-Ok.object h c.create_at-answer.result c.create_at-answer.new.core.grants (state c.create_at-answer.new.core)) c.requires.handle
-            (subst (λ (o : ℕ). CreatesAgain mid c.args.who c.args.act.now o c.args.handle c.create_at-answer.result c.create_at-answer.new.core.grants (state c.create_at-answer.new.core)) at c.create_at-answer.ensures.created),
+        subst (λ (h : ℕ). CreatesBeside (Ok c.in-Ok.object) (state c.args.core.now) mid h c.args.who c.args.act.now c.create_at-answer.result c.create_at-answer.new.core.grants (state c.create_at-answer.new.core)) c.requires.handle (made c, created c),
       ),
     )
 
@@ -71,6 +86,4 @@ returns-in-Some-clause-told c =
 
 pub returns-clause-told : goal.returns-clause-told
 returns-clause-told c =
-    let at = added_at c.args.spare.now c.add_object-place.new.self c.in-Ok.object c.add_object-place.result c.add_object-place.ensures.place c.add_object-place.ensures.unnamed in
-    tells_added (state c.args.core.now) (state c.add_vacant.new.self) c.args.who c.args.act.now c.in-Ok.object c.args.handle c.create_at-answer.result c.add_vacant.new.self.grants c.create_at-answer.new.core.grants (state c.create_at-answer.new.core) c.in-Ok.ensures.added
-    (subst (λ (o : ℕ). CreatesAgain (state c.add_vacant.new.self) c.args.who c.args.act.now o c.args.handle c.create_at-answer.result c.create_at-answer.new.core.grants (state c.create_at-answer.new.core)) at c.create_at-answer.ensures.created)
+    tells_added (state c.args.core.now) (state c.add_vacant.new.self) c.args.who c.args.act.now c.in-Ok.object c.args.handle c.create_at-answer.result c.add_vacant.new.self.grants c.create_at-answer.new.core.grants (state c.create_at-answer.new.core) c.in-Ok.ensures.added (created c)

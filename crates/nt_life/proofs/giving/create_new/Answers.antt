@@ -1,11 +1,14 @@
-use Rattle.std.proofs.Common.{◌∙◌, ◌⊎◌, ap, subst, inl, inr, refl}
+use Rattle.std.proofs.Common.{◌≡◌, ◌∙◌, ◌⊎◌, false, None, sym, ap, subst, inl, inr, refl}
 use Rattle.nt_calls.specs.declared.call.Call.{Call}
+use Rattle.nt_calls.specs.Refusals.{refusal}
 use Rattle.nt_calls.specs.State.{State}
+use Rattle.nt_calls.specs.Steps.{Called}
 use Rattle.nt_core.specs.Dispatcher.{state}
 use Rattle.nt_laws.specs.Laws.{call_closes}
 use Rattle.nt_life.specs.Lasting.{CreatesSpare, CreatesMore, NoHandle, NoObject}
 use Rattle.nt_life.proofs.Calls.{call_spare, creation_closes, none_closed}
-use Rattle.nt_life.proofs.Limits.{refused_full, refused_same}
+use Rattle.nt_life.proofs.Limits.{refused_full, refused_same, limit_caller, limit_lawful}
+use Rattle.nt_life.proofs.Looking.{creation_looks, more_nobody, own_looks}
 use Rattle.nt_life.specs.Lasting.{KeepsPace}
 use Rattle.nt_life.proofs.Pacing.{more_pace}
 use Rattle.nt_life.specs.Renewals.{Tells}
@@ -40,6 +43,30 @@ returns-in-Some-clause-pace c =
     let same = refused_same (state c.args.core.now) c.args.who c.args.call.now c.call-answer.result c.call-answer.new.self.grants (state c.call-answer.new.self) c.call-answer.ensures.called (c.is_limit.ensures.0 c.if-not-is_limit.false) in
     subst (λ (s : State). KeepsPace s c.args.who (Call.Act c.args.act.now) c.create_more.result c.create_more.new.core.grants (state c.create_more.new.core)) same
     (more_pace (state c.call-answer.new.self) c.args.spare.now c.args.who c.args.act.now c.create_more.result c.create_more.new.core.grants (state c.create_more.new.core) c.create_more.ensures.created)
+
+pub create_more-requires-clause-caller : goal.create_more-requires-clause-caller
+create_more-requires-clause-caller c =
+    let limit = c.is_limit.ensures.0 c.if-not-is_limit.false in
+    let old = state c.args.core.now in
+    let same = refused_same old c.args.who c.args.call.now c.call-answer.result c.call-answer.new.self.grants (state c.call-answer.new.self) c.call-answer.ensures.called limit in
+    subst (λ (s : State). refusal s c.args.who false Call.Exit ≡ None) (sym same)
+    (limit_caller old c.args.who c.args.call.now c.call-answer.result c.call-answer.new.self.grants (state c.call-answer.new.self) c.call-answer.ensures.called limit)
+
+pub create_more-requires-clause-lawful_act : goal.create_more-requires-clause-lawful_act
+create_more-requires-clause-lawful_act c =
+    let called = subst (λ (call : Call). Called (state c.args.core.now) c.args.who call c.call-answer.result c.call-answer.new.self.grants (state c.call-answer.new.self)) c.requires.act c.call-answer.ensures.called in
+    limit_lawful (state c.args.core.now) c.args.who c.args.act.now c.call-answer.result c.call-answer.new.self.grants (state c.call-answer.new.self) c.requires.creates called (c.is_limit.ensures.0 c.if-not-is_limit.false)
+
+pub returns-then-not-is_limit-clause-looks : goal.returns-then-not-is_limit-clause-looks
+returns-then-not-is_limit-clause-looks c = own_looks c.args.core.now c.call-answer.new.self c.args.who c.args.call.now (Call.Act c.args.act.now) c.call-answer.result c.requires.act c.call-answer.ensures.local c.call-answer.ensures.untested
+
+pub returns-in-None-clause-looks : goal.returns-in-None-clause-looks
+returns-in-None-clause-looks c = own_looks c.args.core.now c.call-answer.new.self c.args.who c.args.call.now (Call.Act c.args.act.now) c.call-answer.result c.requires.act c.call-answer.ensures.local c.call-answer.ensures.untested
+
+pub returns-in-Some-clause-looks : goal.returns-in-Some-clause-looks
+returns-in-Some-clause-looks c =
+    creation_looks c.args.core.now c.create_more.new.core c.args.who c.args.act.now c.create_more.result c.requires.creates c.create_more.ensures.untested
+    (more_nobody (state c.call-answer.new.self) c.args.spare.now c.args.who c.args.act.now c.create_more.result c.create_more.new.core.grants (state c.create_more.new.core) c.create_more.ensures.created)
 
 pub returns-then-not-is_limit-clause-stacked : goal.returns-then-not-is_limit-clause-stacked
 returns-then-not-is_limit-clause-stacked c = inl refl

@@ -12,6 +12,7 @@ use Rattle.nt_life.proofs.Calls.{call_spare, none_closed}
 use Rattle.nt_life.proofs.Limits.{refused_full, duplicated_limit}
 use Rattle.nt_life.proofs.Choosing.{duplicates_own}
 use Rattle.nt_life.proofs.Renewed.{duplicated_spare}
+use Rattle.nt_life.proofs.Looking.{duplicate_looks, duplicated_nobody, own_looks}
 use Rattle.nt_life.proofs.Pacing.{duplicated_pace}
 use Rattle.nt_life.specs.Lasting.{last_closed}
 use Rattle.nt_calls.specs.declared.call.Act.{Act}
@@ -70,3 +71,16 @@ returns-in_err-reply-clause-limit c limit =
     let shared : DuplicatesAgain (state c.args.core.now) c.args.who c.args.source c.args.access c.in-Some.handle c.from_residual.result c.duplicate_again.new.self.grants (state c.duplicate_again.new.self) = search rules in
     absurd (duplicated_limit (state c.args.core.now) c.args.who c.args.source c.args.access c.in-Some.handle c.duplicate_again.new.self.grants (state c.duplicate_again.new.self)
     (subst (λ (r : Result Reply Refusal). DuplicatesAgain (state c.args.core.now) c.args.who c.args.source c.args.access c.in-Some.handle r c.duplicate_again.new.self.grants (state c.duplicate_again.new.self)) limit shared))
+
+pub returns-in_default-clause-looks : goal.returns-in_default-clause-looks
+returns-in_default-clause-looks c = own_looks c.args.core.now c.call.new.self c.args.who c.args.call.now (Call.Act (Act.Duplicate c.args.source c.args.access)) c.call.result c.requires.act c.call.ensures.local c.call.ensures.untested
+
+pub returns-in_err-reply-clause-looks : goal.returns-in_err-reply-clause-looks
+returns-in_err-reply-clause-looks c =
+    duplicate_looks c.args.core.now c.duplicate_again.new.self c.args.who c.args.source c.args.access c.from_residual.result c.duplicate_again.ensures.untested
+    (duplicated_nobody (state c.args.core.now) c.args.who c.args.source c.args.access c.in-Some.handle c.duplicate_again.result c.duplicate_again.new.self.grants (state c.duplicate_again.new.self) c.duplicate_again.ensures.duplicated)
+
+pub returns-clause-looks : goal.returns-clause-looks
+returns-clause-looks c =
+    duplicate_looks c.args.core.now c.duplicate_again.new.self c.args.who c.args.source c.args.access (Ok c.in_ok-reply.reply) c.duplicate_again.ensures.untested
+    (duplicated_nobody (state c.args.core.now) c.args.who c.args.source c.args.access c.in-Some.handle c.duplicate_again.result c.duplicate_again.new.self.grants (state c.duplicate_again.new.self) c.duplicate_again.ensures.duplicated)

@@ -7,11 +7,8 @@ use Rattle.nt_laws.specs.Laws.{call_closes}
 use Rattle.nt_life.proofs.Calls.{call_spare, act_closes, creation_closes}
 use Rattle.nt_life.proofs.Limits.{refused_full}
 use Rattle.nt_life.proofs.Choosing.{creates_lasts, creation_finds, other_lasts, other_full}
-use Rattle.nt_life.proofs.Once.{creation_looks}
+use Rattle.nt_life.proofs.Looking.{own_looks}
 use Rattle.nt_life.proofs.Stacking.{stacked_by}
-use Rattle.std.specs.Prelude.{OnOk}
-use Rattle.nt_calls.specs.Naming.{call_named}
-use Rattle.nt_core.specs.Accepts.{IsLocal}
 use Rattle.nt_life.proofs.Telling.{tells_own}
 use Rattle.nt_life.proofs.giving.make_act.Goals as goal
 
@@ -24,7 +21,7 @@ returns-then-is_creation c =
       pace = c.create.ensures.pace;
       stacked = stacked_by (Call.Act c.args.act.now) c.create.result c.args.spare.now.closed c.create.new.spare.closed (creation_closes c.args.act.now creates) c.create.ensures.stacked;
       limit = λ limit. creation_finds (state c.args.core.now) c.args.act.now creates (c.create.ensures.limit limit);
-      looks = creation_looks c.args.core.now c.create.new.core c.args.spare.now c.args.who c.args.act.now c.create.result creates;
+      looks = c.create.ensures.looks;
       lawful = c.create.ensures.lawful;
       spare = c.create.ensures.spare;
     }
@@ -41,10 +38,7 @@ returns-else-is_creation c =
       told = tells_own old c.args.who (Call.Act c.args.act.now) c.args.call.now c.args.told.now c.call.result c.call.new.self.grants new c.requires.untold c.requires.act c.call.ensures.called;
       pace = record { most = c.call.ensures.most; few = c.call.ensures.few; moves = c.call.ensures.moves; waits = subst (λ (call : Call). pended c.call.result ≡ true → is_wait call ≡ true) c.requires.act c.call.ensures.waits; moment = c.call.ensures.moment };
       limit = λ limit. absurd (other_full old c.args.act.now c.in_default.not-Duplicate other (refused_full old c.args.who (Call.Act c.args.act.now) c.call.result c.call.new.self.grants new called limit));
-      looks = record {
-        local = λ own. subst (λ (call : Call). OnOk c.call.result (IsLocal old c.args.who (call_named c.args.core.now.handles call) c.call.new.self.table.looked c.call.new.self.grants)) c.requires.act c.call.ensures.local;
-        untested = λ own. c.call.ensures.untested;
-      };
+      looks = own_looks c.args.core.now c.call.new.self c.args.who c.args.call.now (Call.Act c.args.act.now) c.call.result c.requires.act c.call.ensures.local c.call.ensures.untested;
       lawful = c.call.ensures.lawful;
       spare =
           call_spare old c.args.who c.args.call.now c.call.result c.call.new.self.grants new c.args.spare.now c.requires.lawful.steady.sound.handles.enough
@@ -54,3 +48,6 @@ returns-else-is_creation c =
 pub returns-in-Close-clause-told : goal.returns-in-Close-clause-told
 returns-in-Close-clause-told c =
     tells_own (state c.args.core.now) c.args.who (Call.Act c.args.act.now) c.args.call.now c.args.told.now c.close.result c.close.new.core.grants (state c.close.new.core) c.requires.untold c.requires.act c.close.ensures.called
+
+pub returns-in-Close-clause-looks : goal.returns-in-Close-clause-looks
+returns-in-Close-clause-looks c = own_looks c.args.core.now c.close.new.core c.args.who c.args.call.now (Call.Act c.args.act.now) c.close.result c.requires.act c.close.ensures.local c.close.ensures.untested

@@ -6,5 +6,5 @@ use Rattle.nt_orders.proofs.report.report_on.Goals as goal
 pub returns-in-Ok : goal.returns-in-Ok
 returns-in-Ok c =
     let script = c.in_ok-script.script in
-    let plan : IsPlanOf _ script.plan (state script.session.core) = subst (λ (bytes : List ℕ). IsPlanOf bytes script.plan (state script.session.core)) c.before_zero.ensures c.in_ok-script.ensures.plan in
+    let plan : IsPlanOf _ script.plan (state script.session.core) = subst (λ (bytes : List ℕ). IsPlanOf bytes script.plan (state script.session.core)) c.before_zero-lines.ensures c.in_ok-script.ensures.plan in
     (script.plan, state script.session.core, plan, c.in-Ok.ensures)

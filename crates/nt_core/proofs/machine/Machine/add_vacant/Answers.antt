@@ -1,9 +1,10 @@
 use Rattle.std.proofs.Common.{◌≡◌, ◌<◌, length, sym, subst, arith}
+use Rattle.nt_apc.specs.Queues.{KeepsPlaces}
 use Rattle.nt_calls.specs.State.{State}
 use Rattle.nt_calls.specs.Living.{LivesWhileKept}
 use Rattle.nt_core.specs.Dispatcher.{Dispatcher, state}
 use Rattle.nt_core.specs.Lawful.{IsSteady}
-use Rattle.nt_core.proofs.Lengthening.{added_vacant, either_vacant, living_vacant, steady_vacant}
+use Rattle.nt_core.proofs.Lengthening.{added_vacant, either_vacant, living_vacant, steady_vacant, vacant_added}
 use Rattle.nt_core.proofs.machine.Machine.add_vacant.Goals as goal
 
 refused : (old mid : State) → mid ≡ old → LivesWhileKept old → LivesWhileKept mid
@@ -38,3 +39,9 @@ returns-clause-living c =
     either_vacant (λ (d : Dispatcher). LivesWhileKept (state d)) mid c.lengthen.new.self c.lengthen.result c.lengthen.ensures.ok c.lengthen.ensures.err
     (living_vacant mid c.lengthen.new.self.owned c.tell_anew.ensures.fresh.steady.sound living)
     living
+
+pub returns-clause-vacant : goal.returns-clause-vacant
+returns-clause-vacant c =
+    vacant_added c.tell_anew.new.self c.lengthen.new.self c.lengthen.result c.tell_anew.ensures.fresh.steady.sound
+    (subst (λ (d : Dispatcher). KeepsPlaces d.apcs) c.self.view_is c.place_of.ensures.keeps)
+    c.lengthen.ensures.number c.lengthen.ensures.ok

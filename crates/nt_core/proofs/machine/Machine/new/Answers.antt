@@ -17,7 +17,7 @@ returns-clause-steady c =
     let handles = c.in_ok-handles.ensures ∙ ap (λ a. own_handles c.args.threads a) (c.full_access.ensures ∙ ap (λ o. full_access o) c.new_thread.ensures) in
     let hands : length c.in_ok-handing.handing.items ≡ c.args.threads = ap (λ hs. length hs) c.in_ok-handing.ensures ∙ length-replicate c.args.threads false in
     let inboxes : length c.in_ok-apcs.apcs.queues ≡ c.args.threads = ap (λ qs. length qs) c.in_ok-apcs.ensures.queues ∙ length-replicate c.args.threads [] in
-    opening_steady d c.requires handles c.in_ok-objects.ensures.items c.with_reader-waits.ensures.pending c.with_reader-waits.ensures.agrees hands inboxes c.in_ok-grants.ensures.items c.in_ok-alarms.ensures.alarms c.in_ok-alarms.ensures.marks c.in_ok-alarms.ensures.more c.in_ok-alerted.ensures
+    opening_steady d c.requires handles c.in_ok-objects.ensures.items c.with_reader-waits.ensures.pending c.with_reader-waits.ensures.agrees hands inboxes c.in_ok-apcs.ensures.places c.in_ok-grants.ensures.items c.in_ok-alarms.ensures.alarms c.in_ok-alarms.ensures.marks c.in_ok-alarms.ensures.more c.in_ok-alerted.ensures
 
 pub returns-clause-opening : goal.returns-clause-opening
 returns-clause-opening c =

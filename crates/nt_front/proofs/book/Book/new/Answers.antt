@@ -12,8 +12,8 @@ invariant_of-result g c =
     let none : c.args.dispatcher.written ≡ [] = ap (λ (d : Dispatcher). d.written) c.requires.dispatcher in
     let unwritten = ap length none in
     let empty = ap length c.requires.journal.0 in record {
-      stands = stands_at_first c.args.core c.args.base c.args.threads c.args.room c.args.dispatcher.written c.args.journal.items c.requires.core.0 c.requires.core.1 c.requires.base none c.requires.journal.0;
-      agree = agree_at_first c.args.threads c.args.dispatcher.written (state c.args.core) c.requires.core.0 none;
+      stands = stands_at_first c.args.life c.args.base c.args.threads c.args.room c.args.dispatcher.written c.args.journal.items c.requires.life.0 c.requires.life.1 c.requires.base none c.requires.journal.0;
+      agree = agree_at_first c.args.threads c.args.dispatcher.written (state c.args.life.core) c.requires.life.0 none;
       places = c.requires.journal.1;
       next = omega (arith, unwritten, empty);
       numbers = omega (arith, empty);
@@ -21,4 +21,5 @@ invariant_of-result g c =
       words = c.requires.front.0;
       threads = c.requires.front.1;
       room = c.requires.front.2;
+      lasts = c.requires.lasts;
     }

@@ -9,10 +9,11 @@ pub returns-clause-told : goal.returns-clause-told
 returns-clause-told g c =
     let kept = c.self.invariant in
     let published = ap (λ (d : Dispatcher). d.published) kept.seat in record {
-      book = ledger c.self.inside.core c.self.inside.base c.self.inside.dispatcher.written c.self.inside.first c.self.inside.journal.items c.self.inside.room;
+      book = ledger c.self.inside.life c.self.inside.base c.self.inside.dispatcher.written c.self.inside.first c.self.inside.journal.items c.self.inside.room;
       stands = kept.stands;
       threads = kept.agree.threads ∙ kept.threads;
       room = kept.room;
+      lasts = kept.lasts;
       full = subst IsFull (sym c.self.view_is) c.requires.full;
       told = subst (λ (x : List ℕ × Knowledge). IsTold c.self.inside.dispatcher.written x.0 x.1) (λ i. (published i, c.caller.view_is i)) c.look.ensures.told;
     }

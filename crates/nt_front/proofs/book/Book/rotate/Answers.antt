@@ -12,13 +12,14 @@ returns-clause-told g c =
     let inside = c.self.inside in
     let es = inside.dispatcher.written in
     let published = ap (λ (d : Dispatcher). d.published) kept.seat in record {
-      book = ledger inside.core inside.base es inside.first inside.journal.items inside.room;
+      book = ledger inside.life inside.base es inside.first inside.journal.items inside.room;
       stands = kept.stands;
       threads = kept.agree.threads ∙ kept.threads;
       room = kept.room;
+      lasts = kept.lasts;
       told = subst (λ (x : List ℕ × Knowledge). IsTold es x.0 x.1) (λ i. (published i, c.caller.view_is i)) c.look.ensures.told;
       rest = c.hand_out.new.self;
-      handed = subst (λ (l : List Entry). HandsOut (ledger inside.core inside.base l inside.first inside.journal.items inside.room) c.hand_out.result c.hand_out.new.self) (ap (λ (d : Dispatcher). d.written) c.look.ensures.same.0) c.hand_out.ensures.part;
+      handed = subst (λ (l : List Entry). HandsOut (ledger inside.life inside.base l inside.first inside.journal.items inside.room) c.hand_out.result c.hand_out.new.self) (ap (λ (d : Dispatcher). d.written) c.look.ensures.same.0) c.hand_out.ensures.part;
       goes_on = c.hand_out.ensures.stands;
     }
 

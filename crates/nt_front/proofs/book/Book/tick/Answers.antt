@@ -1,18 +1,20 @@
-use Rattle.std.proofs.Common.{◌≡◌, ◌+◌, ◌-◌, ℕ, List, ◌∷◌, [], ◌++◌, length, length-append, map, rules, arith, subst, sym, ap, ◌∙◌}
+use Rattle.std.proofs.Common.{◌≡◌, ◌+◌, ◌-◌, ℕ, List, ◌∷◌, [], ◌++◌, length, length-append, map, rules, arith, refl, subst, sym, ap, ◌∙◌}
 use Rattle.atomic_table.specs.Seated.{TableId}
 use Rattle.nt_calls.specs.declared.call.Grant.{Grant}
 use Rattle.nt_calls.specs.State.{pends}
-use Rattle.nt_core.specs.Dispatcher.{state}
-use Rattle.nt_calls.specs.Runs.{Ticks}
+use Rattle.nt_core.specs.Dispatcher.{Dispatcher as Core, state}
+use Rattle.std.specs.FinMap.{len}
+use Rattle.std.specs.Prelude.{is_some}
 use Rattle.nt_mail.specs.declared.entry.Entry.{Entry}
 use Rattle.nt_mail.specs.declared.entry.Entry.TheVariants.{Ticked}
 use Rattle.nt_mail.specs.declared.knowledge.Asked.{Asked}
 use Rattle.nt_mail.specs.declared.knowledge.Knowledge.{Knowledge}
 use Rattle.nt_mail.specs.Entries.{accepted, accepted_if}
 use Rattle.nt_mail.specs.Seats.{Dispatcher, Seated}
-use Rattle.nt_front.specs.Runs.{Agree, AreArmed, entries_of, granted}
+use Rattle.nt_front.specs.Runs.{Agree, AreArmed, granted}
+use Rattle.nt_front.specs.Books.{Ledger, ledger, Writes}
 use Rattle.nt_front.specs.Holds.{floor_of, moment_if, with_tick, AreNumbered}
-use Rattle.nt_front.proofs.Journals.{below, stands_after, tick_sends, agree_after_tick, accepted-step, journal_is, written_count, last_is, room_left}
+use Rattle.nt_front.proofs.Journals.{below, done_stays, stands_after, tick_sends, agree_after_tick, accepted-step, journal_is, written_count, last_is, room_left}
 use Rattle.nt_front.proofs.Floors.{fewer_calls, floor_ticks, calls_made, numbered_made, made_tick}
 use Rattle.std.specs.Prelude.{max}
 use Rattle.nt_answers.proofs.Telling.{tick_told}
@@ -28,45 +30,47 @@ pub send-requires-clause-armed : goal.send-requires-clause-armed
 send-requires-clause-armed g c =
     let es = c.self.inside.dispatcher.written in
     let n = c.self.inside.threads in
-    let old = state c.self.inside.core in
+    let old = state c.self.inside.life.core in
     let done = c.tick-result.ensures in
-    let new = state c.tick-result.new.self in
-    let grants = c.tick-result.new.self.grants in
-    let waited = subst (λ (t : ℕ). c.is_waiting-armed.result ≡ pends old t) (c.from.ensures ∙ c.get.ensures) c.is_waiting-armed.ensures in
+    let stays = done_stays c.tick-result.result (tick_told (state c.self.inside.life.core) (state c.tick-result.new.self.core) c.args.moment c.tick-result.result c.tick-result.new.self.core.grants done.ticked) in
+    let new = state c.tick-result.new.self.core in
+    let grants = c.tick-result.new.self.core.grants in
+    let waited = subst (λ (t : ℕ). c.is_waiting-armed.result ≡ pends old t) (c.from.ensures ∙ c.get.ensures) (c.is_waiting-armed.ensures ∙ ap (λ (d : Core). pends (state d) c.from.result) c.core-2.ensures) in
     let words = ap (λ (t : TableId). t.words) c.requires.mail in
     let count : c.args.mail.now.words - 1 ≡ n = omega (arith, words, c.self.invariant.words) in
-    let known = below c.self.inside.core n c.self.invariant.stands.lawful c.self.invariant.agree.threads in
+    let known = below c.self.inside.life.core n c.self.invariant.stands.lawful c.self.invariant.agree.threads in
     let e = Ticked c.thread-by.result c.args.moment c.tick-result.result in
     let here : c.len-place.result ≡ length c.self.inside.journal.items = search rules in
     let entry : c.index.result.now ≡ e = last_is c.self.inside.journal.items e c.push_reserved.new.self.items c.len-place.result c.index.result.now c.index.ensures c.push_reserved.ensures.items here in
     let told : c.tell.new.dispatcher.written ≡ es ++ e ∷ [] = ap (λ (d : Dispatcher). d.written) c.tell.ensures.written ∙ ap (λ (x : Entry). es ++ x ∷ []) entry in
-    subst (λ (x : ℕ × List Entry × List Grant). AreArmed x.0 x.1 x.2) (λ i. (sym count i, sym told i, sym c.grants.ensures i))
-    (tick_sends n es old c.thread-by.result c.args.moment c.tick-result.result grants new c.is_waiting-armed.result c.self.invariant.agree known done.waits (done.moves c.thread-by.result) waited)
+    subst (λ (x : ℕ × List Entry × List Grant). AreArmed x.0 x.1 x.2) (λ i. (sym count i, sym told i, sym (c.grants.ensures ∙ ap (λ (d : Core). d.grants) c.core-3.ensures) i))
+    (tick_sends n es old c.thread-by.result c.args.moment c.tick-result.result grants new c.is_waiting-armed.result c.self.invariant.agree known stays (done.moves c.thread-by.result) waited)
 
 pub invariant_of-self : goal.invariant_of-self
 invariant_of-self g c =
     let es = c.self.inside.dispatcher.written in
     let n = c.self.inside.threads in
-    let old = state c.self.inside.core in
+    let old = state c.self.inside.life.core in
     let done = c.tick-result.ensures in
+    let stays = done_stays c.tick-result.result (tick_told (state c.self.inside.life.core) (state c.tick-result.new.self.core) c.args.moment c.tick-result.result c.tick-result.new.self.core.grants done.ticked) in
     let after = c.tick-result.new.self in
-    let new = state after in
+    let new = state after.core in
     let by = c.thread-by.result in
     let result = c.tick-result.result in
-    let grants = after.grants in
+    let grants = after.core.grants in
     let moved = done.moves by in
-    let waited = subst (λ (t : ℕ). c.is_waiting-armed.result ≡ pends old t) (c.from.ensures ∙ c.get.ensures) c.is_waiting-armed.ensures in
-    let known = below c.self.inside.core n c.self.invariant.stands.lawful c.self.invariant.agree.threads in
-    let turn = Ticks by c.args.moment result grants in
+    let waited = subst (λ (t : ℕ). c.is_waiting-armed.result ≡ pends old t) (c.from.ensures ∙ c.get.ensures) (c.is_waiting-armed.ensures ∙ ap (λ (d : Core). pends (state d) c.from.result) c.core-2.ensures) in
+    let known = below c.self.inside.life.core n c.self.invariant.stands.lawful c.self.invariant.agree.threads in
     let e = Ticked by c.args.moment result in
+    let sent_are = c.grants.ensures ∙ ap (λ (d : Core). d.grants) c.core-3.ensures in
     let held = c.self.inside.journal.items in
     let next = c.send.new.journal.items in
-    let grown : next ≡ held ++ entries_of turn = journal_is held c.push_reserved.new.self.items next e grants c.grants.result.now c.push_reserved.ensures.items c.send.ensures.journal c.grants.ensures in
+    let grown : next ≡ held ++ (e ∷ map granted grants) = journal_is held c.push_reserved.new.self.items next e grants c.grants.result.now c.push_reserved.ensures.items c.send.ensures.journal sent_are in
     let here : c.len-place.result ≡ length held = search rules in
     let entry : c.index.result.now ≡ e = last_is held e c.push_reserved.new.self.items c.len-place.result c.index.result.now c.index.ensures c.push_reserved.ensures.items here in
     let told : c.tell.new.dispatcher.written ≡ es ++ e ∷ [] = ap (λ (d : Dispatcher). d.written) c.tell.ensures.written ∙ ap (λ (x : Entry). es ++ x ∷ []) entry in
     let more = c.send.new.dispatcher.written in
-    let longer : more ≡ es ++ entries_of turn = journal_is es c.tell.new.dispatcher.written more e grants c.grants.result.now told (ap (λ (d : Dispatcher). d.written) c.send.ensures.written) c.grants.ensures in
+    let longer : more ≡ es ++ (e ∷ map granted grants) = journal_is es c.tell.new.dispatcher.written more e grants c.grants.result.now told (ap (λ (d : Dispatcher). d.written) c.send.ensures.written) sent_are in
     let sent = c.send.ensures.written ∙ ap (λ (d : Dispatcher). record d { written = d.written ++ map granted c.grants.result.now }) (c.tell.ensures.written ∙ ap (λ (d : Dispatcher). record d { written = d.written ++ c.index.result.now ∷ [] }) c.self.invariant.seat) in
     let kept = c.publish.ensures ∙ ap (λ (d : Dispatcher). record d { published = d.published ++ accepted_if c.args.moment result }) sent in
     let written = ap (λ (d : Dispatcher). d.written) kept in
@@ -74,18 +78,19 @@ invariant_of-self g c =
     let now = ap accepted last ∙ accepted-step es e grants in
     let one = ap length grown in
     let two = ap length last in
-    let three = length-append held (entries_of turn) in
-    let four = length-append es (entries_of turn) in
+    let three = length-append held ((e ∷ map granted grants)) in
+    let four = length-append es ((e ∷ map granted grants)) in
     let before = c.self.invariant.next in
     let free = room_left c.len-place.result c.self.inside.room (c.self.inside.first + c.len-place.result) c.pending.result c.is_full.result c.is_full.ensures c.if-is_full.false in
     let count = written_count held next e grants grown in
     let place = c.len-place.ensures in
-    let pending = c.pending.ensures in
+    let pending = c.pending.ensures ∙ ap (λ (d : Core). len (state d).waits) c.core.ensures in
     let most = done.few in record {
-      stands = stands_after c.self.inside.core after c.self.inside.base es c.publish.new.dispatcher.written c.self.inside.first held next c.self.inside.room turn c.self.invariant.stands done.lawful moved.threads done.ticked grown last;
-      agree = subst (λ l. Agree n l new) (sym last) (agree_after_tick n es old by c.args.moment result grants new c.is_waiting-armed.result c.self.invariant.agree known done.waits moved done.moment waited);
+      stands = stands_after c.self.inside.life after c.self.inside.base es c.publish.new.dispatcher.written c.self.inside.first held next c.self.inside.room (record { entry = e; grants = grants }) c.self.invariant.stands done.lawful moved.threads (refl, (new, done.ticked, refl)) (ap is_some done.spare) (λ once. refl) grown last;
+      agree = subst (λ l. Agree n l new) (sym last) (agree_after_tick n es old by c.args.moment result grants new c.is_waiting-armed.result c.self.invariant.agree known stays moved done.moment waited);
       threads = c.self.invariant.threads;
       room = c.self.invariant.room;
+      lasts = ap is_some done.spare ∙ c.self.invariant.lasts;
       places = omega (arith, c.self.invariant.places, c.push_reserved.ensures.capacity, c.send.ensures.capacity);
       next = omega (arith, one, two, three, four, before);
       numbers = omega (arith, count, free.1, place, pending, most);
@@ -112,5 +117,28 @@ invariant_of-caller g c =
     }
 
 pub returns-clause-answer : goal.returns-clause-answer
-returns-clause-answer g c =
-    tick_told (state c.self.inside.core) (state c.tick-result.new.self) c.args.moment c.tick-result.result c.tick-result.new.self.grants c.tick-result.ensures.ticked
+returns-clause-answer g c = tick_told (state c.self.inside.life.core) (state c.tick-result.new.self.core) c.args.moment c.tick-result.result c.tick-result.new.self.core.grants c.tick-result.ensures.ticked
+
+pub returns-clause-book : goal.returns-clause-book
+returns-clause-book g c =
+    let es = c.self.inside.dispatcher.written in
+    let done = c.tick-result.ensures in
+    let after = c.tick-result.new.self in
+    let by = c.thread-by.result in
+    let moment = c.args.moment in
+    let result = c.tick-result.result in
+    let grants = after.core.grants in
+    let e = Ticked by moment result in
+    let sent_are = c.grants.ensures ∙ ap (λ (d : Core). d.grants) c.core-3.ensures in
+    let held = c.self.inside.journal.items in
+    let next = c.send.new.journal.items in
+    let grown : next ≡ held ++ e ∷ map granted grants = journal_is held c.push_reserved.new.self.items next e grants c.grants.result.now c.push_reserved.ensures.items c.send.ensures.journal sent_are in
+    let here : c.len-place.result ≡ length held = search rules in
+    let entry : c.index.result.now ≡ e = last_is held e c.push_reserved.new.self.items c.len-place.result c.index.result.now c.index.ensures c.push_reserved.ensures.items here in
+    let told : c.tell.new.dispatcher.written ≡ es ++ e ∷ [] = ap (λ (d : Dispatcher). d.written) c.tell.ensures.written ∙ ap (λ (x : Entry). es ++ x ∷ []) entry in
+    let more = c.send.new.dispatcher.written in
+    let longer : more ≡ es ++ e ∷ map granted grants = journal_is es c.tell.new.dispatcher.written more e grants c.grants.result.now told (ap (λ (d : Dispatcher). d.written) c.send.ensures.written) sent_are in
+    let last = ap (λ (d : Dispatcher). d.written) c.publish.ensures ∙ longer in
+    subst (λ (x : Ledger × ℕ). Writes x.0 (record { entry = Ticked x.1 moment result; grants = grants }) (ledger after c.self.inside.base c.publish.new.dispatcher.written c.self.inside.first next c.self.inside.room))
+    {x = (ledger c.self.inside.life c.self.inside.base es c.self.inside.first held c.self.inside.room, by)} {y = (c.args.self.now, c.args.caller.now.thread)} (λ i. (c.self.view_is i, c.thread-by.ensures i))
+    (record { step = (refl, (state after.core, done.ticked, refl)); once = λ none. refl; lasts = ap is_some done.spare; journal = grown; written = last; base = refl; first = refl; room = refl })

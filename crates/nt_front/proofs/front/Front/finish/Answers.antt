@@ -5,7 +5,7 @@ use Rattle.nt_mail.specs.Rule.{IsTold}
 use Rattle.nt_mail.specs.Seats.{Dispatcher, Gathered, Seated}
 use Rattle.nt_front.specs.Held.{IsAccounted}
 use Rattle.nt_front.proofs.Closing.{AreJoined, none_joined, one_joined, all_accounted}
-use Rattle.nt_front.proofs.Since.{runs_from, led_from, all_written}
+use Rattle.nt_front.proofs.Since.{runs_from, ungiven_runs, led_from, all_written}
 use Rattle.nt_front.proofs.front.Front.finish.Goals as goal
 
 pub loop-hold-init : goal.loop-hold-init
@@ -30,7 +30,12 @@ loop-hold-preserved g c =
 pub returns-clause-run : goal.returns-clause-run
 returns-clause-run g c =
     let history = c.into_history-history.ensures.history in
-    runs_from c.into_inner.result c.into_history-history.result.0.base c.into_history-history.result.0.entries.items c.into_history-history.ensures.stands history.1 history.2
+    runs_from c.into_inner.result g.N.Named.front.lasts c.into_history-history.result.0.base c.into_history-history.result.0.entries.items c.into_history-history.ensures.stands c.into_history-history.ensures.lasts history.1 history.2
+
+pub returns-clause-ungiven : goal.returns-clause-ungiven
+returns-clause-ungiven g c none =
+    let told_of = c.into_history-history.result.0 in
+    ungiven_runs g.N.Named.front.lasts told_of.base told_of.entries.items (returns-clause-run g c) none
 
 pub returns-clause-told : goal.returns-clause-told
 returns-clause-told g c =
@@ -44,6 +49,6 @@ returns-clause-told g c =
     let stands = c.into_history-history.ensures.stands in
     let told_of = c.into_history-history.result.0 in (
       stands.before,
-      led_from book g.N.Named.front.threads told_of.first told_of.base stands c.into_history-history.ensures.threads history.0 history.1,
+      led_from book g.N.Named.front.lasts g.N.Named.front.threads told_of.first told_of.base stands c.into_history-history.ensures.lasts c.into_history-history.ensures.threads history.0 history.1,
       subst (λ (l : List Entry). Each (IsAccounted l) c.args.holds.items) (all_written book told_of.entries.items stands history.2) (all_accounted book.written c.args.holds.items c.loop-hold.all.parts joined told),
     )

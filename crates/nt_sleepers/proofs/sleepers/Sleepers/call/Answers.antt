@@ -4,8 +4,8 @@ use Rattle.nt_core.specs.Dispatcher.{state}
 use Rattle.std.specs.FinMap.{get}
 use Rattle.nt_sleepers.specs.Sleepers.{Sleeping, CalledWaits, deadline_of, settled}
 use Rattle.nt_sleepers.proofs.Staying.{StayedOrBegan}
-use Rattle.nt_sleepers.proofs.Renewing.{kept_as_it_was, makes_stayed}
-use Rattle.nt_sleepers.proofs.Kept.{refused, still, woke_still, on_err, kept_after, called_waits, nobody_by_renewal, woke_as}
+use Rattle.nt_sleepers.proofs.Renewing.{makes_stayed}
+use Rattle.nt_sleepers.proofs.Kept.{kept_same, refused, still, woke_still, on_err, kept_after, called_waits, nobody_by_renewal, woke_as}
 use Rattle.nt_sleepers.proofs.sleepers.Sleepers.call.Goals as goal
 
 pub invariant_of-self-2 : goal.invariant_of-self-2
@@ -30,7 +30,7 @@ pub invariant_of-self : goal.invariant_of-self
 invariant_of-self c =
     let cause = c.was_refused.ensures c.if-was_refused.true in
     let as_before = refused (state c.self.inside.life.core) (state c.call-result.new.self.core) c.call-result.result c.call-result.new.self.core.grants cause.0 cause.1 c.call-result.ensures.unchanged in
-    (kept_as_it_was (state c.self.inside.life.core) (state c.call-result.new.self.core) c.self.inside.alarms c.self.inside.watchers as_before.2 c.self.invariant.0, tt)
+    (kept_same (state c.self.inside.life.core) (state c.call-result.new.self.core) c.self.inside.alarms c.self.inside.watchers as_before.2 c.self.invariant.0, tt)
 
 pub invariant_of-self-then-is_still : goal.invariant_of-self-then-is_still
 invariant_of-self-then-is_still c =

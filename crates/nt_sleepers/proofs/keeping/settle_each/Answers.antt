@@ -1,6 +1,6 @@
 use Rattle.std.proofs.Common.{◌≡◌, length, sym, ap, ◌∙◌, arith}
 use Rattle.nt_sleepers.proofs.Counts.{woken_length, set_if_length}
-use Rattle.nt_sleepers.proofs.keeping.settle_all.Goals as goal
+use Rattle.nt_sleepers.proofs.keeping.settle_each.Goals as goal
 
 pub call_one-requires-clause-count : goal.call_one-requires-clause-count
 call_one-requires-clause-count c =
