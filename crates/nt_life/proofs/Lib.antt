@@ -9,5 +9,6 @@ mod Pacing
 mod Looking
 mod Stacking
 mod Aside
+mod Gathering
 pub mod Once
 pub mod Telling

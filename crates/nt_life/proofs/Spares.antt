@@ -13,7 +13,7 @@ use Rattle.nt_core.specs.Renewals.{is_closed}
 use Rattle.nt_life.specs.Lasting.{Spares, IsSpare, times, is_unnamed}
 use Rattle.nt_life.proofs.Times.{same_weight, other_weight, times_end, bounded}
 
-and_not : (b : Bool) → (b && false) ≡ false
+pub and_not : (b : Bool) → (b && false) ≡ false
 and_not true = refl
 and_not false = refl
 
@@ -48,7 +48,7 @@ opened_last : (hs : List (Option Opened)) (x : Option Opened) → opened_at (hs 
 opened_last [] x = refl
 opened_last (y ∷ hs) x = opened_last hs x
 
-below_more : (k n m : ℕ) → m ≡ n + 1 → k ≢ n → nat_lt k m ≡ nat_lt k n
+pub below_more : (k n m : ℕ) → m ≡ n + 1 → k ≢ n → nat_lt k m ≡ nat_lt k n
 below_more k n m more differs = go (nat_lt k n) refl
   where
     go : (b : Bool) → nat_lt k n ≡ b → nat_lt k m ≡ nat_lt k n

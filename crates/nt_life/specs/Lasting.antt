@@ -7,7 +7,7 @@ use Rattle.std.specs.declared.result.Result.{Result}
 use Rattle.std.specs.declared.result.Result.TheVariants.{Ok, Err}
 use Rattle.nt_status.specs.declared.limits.TheConstants.{MAX_HANDLES}
 use Rattle.nt_status.specs.declared.refusal.Refusal.{Refusal}
-use Rattle.nt_status.specs.declared.refusal.Refusal.TheVariants.{InvalidHandle}
+use Rattle.nt_status.specs.declared.refusal.Refusal.TheVariants.{InvalidHandle, Memory}
 use Rattle.nt_calls.specs.declared.call.Act.{Act}
 use Rattle.nt_calls.specs.declared.call.Call.{Call}
 use Rattle.nt_calls.specs.declared.call.Reply.{Reply}
@@ -219,6 +219,15 @@ SetsAsideSpare old t result grants new = MatchBool (is_movable old t) (FindsNumb
 abbrev pub MaySetAside : State → Option Spares → ℕ → Result ℕ Refusal → List Grant → State → Type 0
 MaySetAside old None t result grants new = (result ≡ Err InvalidHandle) × (new ≡ old)
 MaySetAside old (Some spare) t result grants new = SetsAsideSpare old t result grants new
+
+-- ---- numbers are given again from now on
+
+-- each number that may be given again is spare once, and they are given again from now on, or were before; refused with 8, each is given
+-- once as before
+abbrev pub GivesFromNow : State → Option Spares → Result (Unit {0}) Refusal → Option Spares → Type 0
+GivesFromNow s (Some spare) result new = (result ≡ Ok tt) × (new ≡ Some spare)
+GivesFromNow s None (Ok done) new = (spare : Spares) × (new ≡ Some spare) × IsSpare s spare
+GivesFromNow s None (Err cause) new = (cause ≡ Memory) × (new ≡ None)
 
 -- ---- what every call keeps
 

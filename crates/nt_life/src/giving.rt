@@ -212,7 +212,7 @@ fn duplicate(
 }
 
 /// Whether the object is no thread's, and no handle names it.
-fn is_unnamed(core: &Core, object: ObjectNumber) -> bool
+pub(crate) fn is_unnamed(core: &Core, object: ObjectNumber) -> bool
     requires { object < length core.now.objects }
     ensures { result ≡ is_unnamed (state core.now) object }
 {

@@ -12,11 +12,12 @@ ghost use Rattle.nt_calls.specs.declared.call.Call.{Call};
 ghost use Rattle.nt_calls.specs.declared.call.WaitCall.{WaitCall};
 ghost use Rattle.nt_core.specs.Dispatcher.{state};
 ghost use Rattle.nt_core.specs.Lawful.{IsLawful};
-ghost use Rattle.nt_life.specs.Lasting.{MaySpare, MakesCall, FindsNone, FindsNoneFor, MayBegin, KeepsPace, LooksAt, IsUnchanged, KeepsClosed, gives, MayBeginThis, MayPop, MaySetAside, MayStack, no_spares};
+ghost use Rattle.nt_life.specs.Lasting.{MaySpare, MakesCall, FindsNone, FindsNoneFor, MayBegin, KeepsPace, LooksAt, IsUnchanged, KeepsClosed, GivesFromNow, gives, MayBeginThis, MayPop, MaySetAside, MayStack, no_spares};
 ghost use Rattle.nt_life.specs.Renewals.{Tells};
 
 use crate::beginning::{begin_this_with, begin_with};
 use crate::begun::Begun;
+use crate::from_now::give_from_now;
 use crate::giving::{gives, make_call};
 use crate::renewal::Renewal;
 use crate::set_aside::set_aside_with;
@@ -242,6 +243,18 @@ impl Lasting {
         ensures closed { KeepsClosed self.old.spare self.new.spare }
     {
         set_aside_with(&mut self.core, &mut self.spare, thread)
+    }
+
+    /// From now on numbers are given again, though each was given once so far: those of the handles that are closed and of the objects that no
+    /// handle names. If numbers are given again already, nothing is done.
+    ///
+    /// It looks at each handle and at each object once, so no call should wait for it: it is made once in a life, when numbers run out. Refused
+    /// with 8 if memory is refused, and then nothing changes.
+    pub fn give_again(&mut self, alloc: Global) -> Result<(), Refusal>
+        ensures core { self.new.core ≡ self.old.core }
+        ensures gives { GivesFromNow (state self.old.core) self.old.spare result self.new.spare }
+    {
+        give_from_now(alloc, &self.core, &mut self.spare)
     }
 
     /// An equal dispatcher in memory of its own, as a point to come back to. Each goes its own way from then on.

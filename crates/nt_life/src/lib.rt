@@ -24,6 +24,7 @@
 //! live on while a wait names it, and so it is asked about before its number is given. What is alive keeps its number.
 //!
 //! Opened by `Lasting::once` it gives each number once, and each of its calls is the machine's own. So one type serves whoever may want either.
+//! Whoever comes to the end of the numbers so can go on: from `Lasting::give_again` on they are given again.
 //!
 //! The lists have room for all numbers from the opening on, so that closing never takes memory: 512 KiB of addresses, of which what is used
 //! once is touched.
@@ -31,8 +32,10 @@
 
 mod beginning;
 mod begun;
+mod from_now;
 mod giving;
 mod lasting;
+mod listing;
 mod renewal;
 mod set_aside;
 mod spare;

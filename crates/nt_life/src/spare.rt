@@ -3,9 +3,11 @@ ghost use Rattle.std.specs.Prelude.{◌≡◌, ◌<◌, ◌≤◌, ◌-◌, ◌+
 ghost use Rattle.std.specs.List.{swap_remove};
 ghost use Rattle.nt_status.specs.declared.limits.TheConstants.{MAX_HANDLES};
 ghost use Rattle.nt_core.specs.Dispatcher.{state};
+ghost use Rattle.nt_core.specs.Lawful.{IsLawful};
 ghost use Rattle.nt_core.specs.Renewals.{is_vacant};
-ghost use Rattle.nt_life.specs.Lasting.{last_closed, last_unnamed};
+ghost use Rattle.nt_life.specs.Lasting.{IsSpare, last_closed, last_unnamed};
 
+use crate::listing::{closed_in, unnamed_in};
 use crate::stack::Stack;
 use nt_core::Core;
 use nt_status::{Handle, ObjectNumber};
@@ -53,6 +55,18 @@ impl Spare {
         Ok(Spare {
             closed: Stack::new(alloc)?,
             unnamed: Stack::new(alloc)?,
+            turn: 0,
+        })
+    }
+
+    /// The numbers that may be given again in this dispatcher. The greatest come first, since it is not known which were freed last.
+    pub fn of(alloc: Global, core: &Core) -> Result<Self, AllocError>
+        requires lawful { IsLawful core.now }
+        ensures { IfOk result (λ spare. IsSpare (state core.now) spare) }
+    {
+        Ok(Spare {
+            closed: closed_in(alloc, core)?,
+            unnamed: unnamed_in(alloc, core)?,
             turn: 0,
         })
     }
