@@ -10,7 +10,7 @@ ghost use Rattle.nt_calls.specs.Naming.{call_named};
 ghost use Rattle.nt_calls.specs.State.{opening};
 ghost use Rattle.nt_calls.specs.Steps.{Called, Ticked};
 ghost use Rattle.nt_core.specs.Accepts.{IsLocal, IsTickLocal};
-ghost use Rattle.nt_life.specs.Lasting.{MakesCall, FindsNoneFor, IsUnchanged, LooksAt, MayBegin, MaySetAside, no_spares};
+ghost use Rattle.nt_life.specs.Lasting.{MakesCall, FindsNoneFor, IsUnchanged, LooksAt, MayBegin, MaySetAside, GivesFromNow, no_spares};
 ghost use Rattle.nt_core.specs.Dispatcher.{state};
 ghost use Rattle.nt_core.specs.Lawful.{IsLawful};
 ghost use Rattle.nt_sleepers.specs.Sleepers.{LetsSleep, Stops, Watches, Woke, told_of};
@@ -228,6 +228,14 @@ impl Sleepers {
     {
         self.called = None;
         self.life.set_aside(thread)
+    }
+
+    /// Numbers are given again from now on, as `Lasting::give_again` has it. What the last call told stays told.
+    pub fn give_again(&mut self, alloc: Global) -> Result<(), Refusal>
+        ensures gives { GivesFromNow (state self.old.core) self.old.spare result self.new.spare }
+        ensures same { self.new ≡ record self.old { spare = self.new.spare } }
+    {
+        self.life.give_again(alloc)
     }
 
     /// A timer may end the pending wait of this thread: it watches from now on. Returns the moment to which it sleeps by itself, in units
