@@ -1,6 +1,6 @@
-/* What the calls of nt.h take of memory: opens a dispatcher and its copy, and makes waits that end at once, for each number of handles
- * from 1 to 64, in each of the two. Words: how many rounds of them. It writes what opening, creating and copying answered, and ends
- * there where one is refused. Run by tests/allocations, which counts. */
+/* What the calls of nt.h take of memory: opens a dispatcher and its copy, which gives numbers again from then on, and makes waits that end at once,
+ * for each number of handles from 1 to 64, in each of the two. Words: how many rounds of them. It writes what opening, creating, copying and giving
+ * again answered, and ends there where one is refused. Run by tests/allocations, which counts. */
 #include "../nt.h"
 #include "check.h"
 
@@ -57,6 +57,7 @@ int main(int count, char **words)
         EVENTS[i] = reply.number;
     }
     tell("copy", nt_copy(&nt, &copy));
+    tell("again", nt_give_again(&copy));
     for (long round = 0; round < rounds; round++) {
         make_waits(&nt);
         make_waits(&copy);

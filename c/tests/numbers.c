@@ -140,11 +140,44 @@ static void limit(void)
     free(lasting.room);
 }
 
+/* A dispatcher that gave each number once gives the numbers of closed handles and of objects that are gone again, once that is asked for. */
+static void from_now_on(void)
+{
+    struct nt once = { room(), false };
+    struct nt_begun begun;
+    uint32_t count = 2, number;
+    IS(nt_give_again(&once), NT_ERROR_INVALID_HANDLE);
+    IS(nt_open(&once, 2), 0);
+    while ((number = made_in(&once)) != 0)
+        count++;
+    IS(count, NT_MAXIMUM_HANDLES);
+    IS(nt_close_handle(&once, 0, 100, &reply), 0);
+    IS(nt_close_handle(&once, 0, 200, &reply), 0);
+    IS(nt_exit(&once, 1, &reply), 0);
+    IS(nt_close_handle(&once, 0, 1, &reply), 0);
+    IS(nt_create_event(&once, 0, 0, &reply), NT_ERROR_HANDLE_LIMIT);
+    IS(nt_begin(&once, &begun), NT_ERROR_NO_MORE_ITEMS);
+    IS(nt_give_again(&once), 0);
+    IS(made_in(&once), 200);
+    IS(nt_set_event(&once, 0, 100, &reply), NT_ERROR_INVALID_HANDLE);
+    IS(nt_give_again(&once), 0);
+    IS(made_in(&once), 100);
+    IS(nt_begin(&once, &begun), 0);
+    IS(begun.thread, 1);
+    IS(begun.handle, 1);
+    IS(made_in(&once), 0);
+    IS(nt_close_handle(&once, 0, 300, &reply), 0);
+    IS(made_in(&once), 300);
+    nt_close(&once);
+    free(once.room);
+}
+
 int main(void)
 {
     numbers();
     places();
     aside();
     limit();
+    from_now_on();
     return counted();
 }

@@ -24,7 +24,7 @@ use Rattle.nt_core.specs.Accepts.{IsTickLocal}
 use Rattle.nt_calls.specs.State.{opening, pends}
 use Rattle.nt_calls.specs.Steps.{Ticked, IsNextMoment, NothingDue}
 use Rattle.nt_calls.specs.Moves.{pended}
-use Rattle.nt_life.specs.Lasting.{Spares, MakesCall, FindsNoneFor, IsUnchanged, LooksAt, MayBegin, MaySetAside}
+use Rattle.nt_life.specs.Lasting.{Spares, MakesCall, FindsNoneFor, IsUnchanged, LooksAt, MayBegin, MaySetAside, GivesFromNow}
 use Rattle.nt_life.specs.declared.begun.Begun.{Begun}
 use Rattle.nt_sleepers.specs.Sleepers.{LetsSleep, Sleeping, Woke}
 
@@ -256,3 +256,22 @@ pub record PutsAside (old : Sleeping) (t number : ℕ) (new : Sleeping) : Type 0
 abbrev pub PutsAsideIn : Option Sleeping → ℕ → ℕ → Option Sleeping → Type 0
 PutsAsideIn None t number new = (number ≡ 6) × (new ≡ None)
 PutsAsideIn (Some old) t number new = (s : Sleeping) × (new ≡ Some s) × PutsAside old t number s
+
+-- ---- numbers are given again from now on
+
+-- the number that C sees of what returns nothing, or of its refusal
+abbrev pub done_error : Result (Unit {0}) Refusal → ℕ
+done_error (Ok done) = 0
+done_error (Err refusal) = number_of refusal
+
+-- the dispatcher gives numbers again from now on, or memory is refused for that; all else of it is as it was
+pub record GivesAgain (old : Sleeping) (number : ℕ) (new : Sleeping) : Type 0 where
+  pub result : Result (Unit {0}) Refusal
+  pub gives : GivesFromNow (state old.core) old.spare result new.spare
+  pub same : new ≡ record old { spare = new.spare }
+  pub told : number ≡ done_error result
+
+-- the same of what the handle holds
+abbrev pub GivesAgainIn : Option Sleeping → ℕ → Option Sleeping → Type 0
+GivesAgainIn None number new = (number ≡ 6) × (new ≡ None)
+GivesAgainIn (Some old) number new = (s : Sleeping) × (new ≡ Some s) × GivesAgain old number s

@@ -4,11 +4,12 @@ ghost use Rattle.nt_life.specs.Lasting.{no_spares};
 ghost use Rattle.nt_status.specs.declared.limits.TheConstants.{MAX_MANY_THREADS, MAX_THREADS};
 ghost use Rattle.std.specs.Mem.{type_size};
 ghost use Rattle.nt_sleepers.specs.contracts.sleepers.Sleepers.{the_row as sleepers_row};
-ghost use Rattle.nt_c.specs.Asks.{IsFit, Keeps, Opens, Copies};
+ghost use Rattle.nt_c.specs.Asks.{IsFit, Keeps, Opens, Copies, GivesAgainIn, done_error};
 
 use crate::handle::Nt;
 use crate::numbers::{INVALID_PARAMETER, NO_DISPATCHER};
 use nt_sleepers::Sleepers;
+use nt_status::Refusal;
 use std::alloc::Global;
 
 /// How many bytes of room a dispatcher takes, at an alignment of 16.
@@ -60,6 +61,32 @@ pub extern "C" fn nt_open_lasting(alloc: Global, nt: &mut Nt, threads: u32) -> u
         }
         Err(refusal) => refusal.number(),
     }
+}
+
+/// The number of the refusal; 0 if there is none.
+fn error_of(done: Result<(), Refusal>) -> u32
+    ensures { result ≡ done_error done }
+{
+    match done {
+        Ok(()) => 0,
+        Err(refusal) => refusal.number(),
+    }
+}
+
+/// A dispatcher that gave each number once gives numbers again from now on, as one of `nt_open_lasting` does: so a program whose numbers ran out
+/// goes on. It looks at each handle and each object, once. Where numbers are given again already, nothing is done.
+///
+/// Refused with 6 where the handle has no dispatcher, and with 8 where memory is refused, which changes nothing.
+#[unsafe(no_mangle)]
+pub extern "C" fn nt_give_again(alloc: Global, nt: &mut Nt) -> u32
+    requires fit { IsFit nt.old }
+    ensures fit { IsFit nt.new }
+    ensures gives { GivesAgainIn nt.old.cell.held result nt.new.cell.held }
+{
+    if !nt.live {
+        return NO_DISPATCHER;
+    }
+    error_of(nt.cell.held_mut().give_again(alloc))
 }
 
 /// Opens an equal dispatcher where the other handle has none, as a point to come back to. Each goes its own way from then on.
