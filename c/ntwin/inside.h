@@ -188,6 +188,7 @@ static struct {
     struct runner *left;     /* threads of CreateThread that have left and are not joined */
     uint32_t process_handle; /* the number of an event that is never set, which stands for the process; NO_HANDLE before that is waited for */
     struct nt dispatcher;
+    bool gives_once;         /* the dispatcher gives each number once, since a journal is kept, or was until the numbers ran out */
     uint32_t places;         /* how many threads the dispatcher has */
     struct seat seats[NT_MANY_THREADS];
     uint32_t given[NT_MAXIMUM_HANDLES]; /* by number the program's handle, or that which was closed last, marked so (calls.c); */

@@ -16,12 +16,6 @@ static struct {
     ino_t node;
 } journal;
 
-/* Whether a number may name another object, or thread, once what it named is gone: in a journal it names one alone. */
-static inline bool gives_numbers_again(void)
-{
-    return journal.text == NULL;
-}
-
 /* ---- The caller is not ended by a signal where it writes what nobody reads, or more than a file may hold. */
 
 struct quiet {
@@ -113,6 +107,17 @@ static void end_journal(const char *why)
     *at++ = ';';
     end_line(put_text(put_text(at, " the journal ends here: "), why), ';');
     close_journal();
+}
+
+/* Numbers ran out, under the lock, of these: in a journal each names one of them alone. So the journal ends, and from now on numbers are given again.
+ * Answers whether that is new: not where they were given again before, or memory is refused for it. */
+static bool give_numbers_again(const char *why)
+{
+    if (!waiting.gives_once)
+        return false;
+    end_journal(why);
+    waiting.gives_once = nt_give_again(&waiting.dispatcher) != 0;
+    return !waiting.gives_once;
 }
 
 /* Fills what was mapped at last with blank lines. */

@@ -90,13 +90,15 @@ static uint32_t look_close_handle(struct nt *nt, uint32_t who, uint32_t handle, 
     return looked_by_handle(nt_close_handle(nt, who, handle, reply), who, WORD_CLOSE " ", handle, waiting.pending != 0);
 }
 
-/* Writes a creation, whose last words are these. With the last number that there is the journal ends. */
+/* Whether a creation that was answered so is made again: it found no number, and there are some from now on, since the journal has ended. */
+static inline bool is_made_again(uint32_t refused)
+{
+    return refused == NT_ERROR_HANDLE_LIMIT && give_numbers_again("each handle's number was used once");
+}
+
+/* Writes a creation, whose last words are these. */
 static uint32_t looked_creation(uint32_t refused, uint32_t who, const char *word, const char *words, const struct nt_reply *reply)
 {
-    if (refused == NT_ERROR_HANDLE_LIMIT) {
-        end_journal("each handle's number was used once");
-        return refused;
-    }
     char *at = begin_call(refused, who, word);
     if (at == NULL)
         return refused;
@@ -110,17 +112,29 @@ static uint32_t looked_creation(uint32_t refused, uint32_t who, const char *word
 static uint32_t look_create_event(struct nt *nt, uint32_t who, uint32_t flags, struct nt_reply *reply)
 {
     static const char *const words[] = { "", " " WORD_MANUAL, " " WORD_SET, " " WORD_MANUAL " " WORD_SET };
-    return looked_creation(nt_create_event(nt, who, flags, reply), who, WORD_EVENT " ", words[flags % 4], reply);
+    uint32_t refused;
+    do
+        refused = nt_create_event(nt, who, flags, reply);
+    while (is_made_again(refused));
+    return looked_creation(refused, who, WORD_EVENT " ", words[flags % 4], reply);
 }
 
 static uint32_t look_create_mutex(struct nt *nt, uint32_t who, uint32_t flags, struct nt_reply *reply)
 {
-    return looked_creation(nt_create_mutex(nt, who, flags, reply), who, WORD_MUTEX " ", (flags & NT_MUTEX_INITIAL_OWNER) != 0 ? " " WORD_OWNED : "", reply);
+    uint32_t refused;
+    do
+        refused = nt_create_mutex(nt, who, flags, reply);
+    while (is_made_again(refused));
+    return looked_creation(refused, who, WORD_MUTEX " ", (flags & NT_MUTEX_INITIAL_OWNER) != 0 ? " " WORD_OWNED : "", reply);
 }
 
 static uint32_t look_create_timer(struct nt *nt, uint32_t who, uint32_t flags, struct nt_reply *reply)
 {
-    return looked_creation(nt_create_timer(nt, who, flags, reply), who, WORD_TIMER " ", (flags & NT_TIMER_MANUAL_RESET) != 0 ? " " WORD_MANUAL : "", reply);
+    uint32_t refused;
+    do
+        refused = nt_create_timer(nt, who, flags, reply);
+    while (is_made_again(refused));
+    return looked_creation(refused, who, WORD_TIMER " ", (flags & NT_TIMER_MANUAL_RESET) != 0 ? " " WORD_MANUAL : "", reply);
 }
 
 /* Two numbers, each after a space. */
@@ -137,13 +151,21 @@ static const char *pair_of(char *to, int64_t one, int64_t other)
 static uint32_t look_create_semaphore(struct nt *nt, uint32_t who, int32_t initial, int32_t maximum, struct nt_reply *reply)
 {
     char words[48];
-    return looked_creation(nt_create_semaphore(nt, who, initial, maximum, reply), who, WORD_SEMAPHORE " ", pair_of(words, initial, maximum), reply);
+    uint32_t refused;
+    do
+        refused = nt_create_semaphore(nt, who, initial, maximum, reply);
+    while (is_made_again(refused));
+    return looked_creation(refused, who, WORD_SEMAPHORE " ", pair_of(words, initial, maximum), reply);
 }
 
 static uint32_t look_duplicate(struct nt *nt, uint32_t who, uint32_t handle, uint32_t access, struct nt_reply *reply)
 {
     char words[48];
-    return looked_creation(nt_duplicate(nt, who, handle, access, reply), who, WORD_DUP " ", pair_of(words, handle, access), reply);
+    uint32_t refused;
+    do
+        refused = nt_duplicate(nt, who, handle, access, reply);
+    while (is_made_again(refused));
+    return looked_creation(refused, who, WORD_DUP " ", pair_of(words, handle, access), reply);
 }
 
 static uint32_t look_release_semaphore(struct nt *nt, uint32_t who, uint32_t semaphore, int32_t count, struct nt_reply *reply)

@@ -66,6 +66,8 @@ static void leave_closed_handle(void)
 /* Each place is taken, under the lock: that of a thread which has left is made free, though handles name the thread. */
 static void make_place(void)
 {
+    if (waiting.ended > 0)
+        give_numbers_again("each thread's number was used once");
     renew_seats();
     struct past *past = waiting.spare == NULL ? calloc(1, sizeof *past) : NULL;
     if (past == NULL)
@@ -195,10 +197,10 @@ __attribute__((constructor(101))) static void begin_process(void)
  * a run of the machine, in which no number is given again. */
 static uint32_t open_for_all(void)
 {
-    const bool again = gives_numbers_again();
     take_lock();
-    waiting.places = again ? NT_MANY_THREADS : NT_MAXIMUM_THREADS;
-    const uint32_t refused = (again ? nt_open_lasting : nt_open)(&waiting.dispatcher, waiting.places);
+    waiting.gives_once = journal.text != NULL;
+    waiting.places = waiting.gives_once ? NT_MAXIMUM_THREADS : NT_MANY_THREADS;
+    const uint32_t refused = (waiting.gives_once ? nt_open : nt_open_lasting)(&waiting.dispatcher, waiting.places);
     give_lock();
     return refused;
 }

@@ -3,6 +3,8 @@
  *   many      so many calls that the journal grows several times
  *   numbers   objects, until all numbers were given
  *   closed    events, each of which is closed before the next is made
+ *   events    the same, but more than there are numbers
+ *   threads   threads one after another, more than a journal has numbers for
  *   fork      a child goes on, and then its parent
  *   closes    the program closes each file that it did not open, and opens one */
 #include <windows.h>
@@ -72,6 +74,47 @@ static void close_each(void)
     IS(GetLastError(), ERROR_SUCCESS);
 }
 
+/* A handle that was closed is refused, though its number is another event's. */
+static void outlive_handles(void)
+{
+    const int count = 70000;
+    HANDLE closed = NULL;
+    for (int i = 0; i < count; i++) {
+        HANDLE event = CreateEvent(NULL, TRUE, i % 2, NULL);
+        must(event != NULL);
+        if (i % 1000 < 2)
+            must(WaitForSingleObject(event, 0) == (DWORD)(i % 2 ? WAIT_OBJECT_0 : WAIT_TIMEOUT));
+        if (i > count - 100)
+            must(!SetEvent(closed) && GetLastError() == ERROR_INVALID_HANDLE);
+        must(CloseHandle(event));
+        closed = event;
+    }
+    ANSWERS(CloseHandle(closed), FALSE, ERROR_INVALID_HANDLE);
+}
+
+static DWORD WINAPI set_and_end(LPVOID event)
+{
+    return SetEvent(event) ? 7 : 8;
+}
+
+/* The first one's handle is kept open, and so names it to the end. */
+static void outlive_threads(void)
+{
+    HANDLE event = CreateEvent(NULL, FALSE, FALSE, NULL), first = NULL;
+    DWORD code;
+    for (int i = 0; i < 600; i++) {
+        HANDLE thread = CreateThread(NULL, 0, set_and_end, event, 0, NULL);
+        must(thread != NULL && WaitForSingleObject(event, INFINITE) == WAIT_OBJECT_0);
+        must(WaitForSingleObject(thread, INFINITE) == WAIT_OBJECT_0 && GetExitCodeThread(thread, &code) && code == 7);
+        if (first == NULL)
+            first = thread;
+        else
+            must(CloseHandle(thread));
+    }
+    IS(GetExitCodeThread(first, &code) && code == 7, TRUE);
+    IS(WaitForSingleObject(first, 0), WAIT_OBJECT_0);
+}
+
 static void fork_once(void)
 {
     int status = 0;
@@ -107,6 +150,10 @@ int main(int count, char **words)
         use_all_numbers();
     else if (strcmp(what, "closed") == 0)
         close_each();
+    else if (strcmp(what, "events") == 0)
+        outlive_handles();
+    else if (strcmp(what, "threads") == 0)
+        outlive_threads();
     else if (strcmp(what, "fork") == 0)
         fork_once();
     else if (strcmp(what, "closes") == 0)
