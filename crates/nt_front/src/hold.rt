@@ -30,6 +30,19 @@ pub(crate) struct Hold<N: Named> {
     pub(crate) of: PhantomData<N>,
 }
 
+/// Written by hand, so that whoever holds a pass, a sleeper or an ended thread has nothing to prove of its seat.
+impl<N: Named> Drop for Hold<N> {
+    fn drop(self) {
+        let Hold {
+            floor: _,
+            calls: _,
+            looks: _,
+            seat: _,
+            of: _,
+        } = self;
+    }
+}
+
 impl<N: Named> Model for Hold<N> {
     ghost use Rattle.nt_mail.specs.declared.knowledge.Knowledge.{Knowledge};
     ghost use Rattle.nt_front.specs.Holds.{IsHold};

@@ -1,14 +1,14 @@
 -- Lives as a journal tells them: their stages, and those that are runs.
-use Rattle.std.proofs.Common.{◌≡◌, Bool, true, false, ◌||◌, List, [], ◌∷◌, ◌++◌, map, refl, sym, ap, ◌∙◌, subst, append_assoc, Ok, Err}
+use Rattle.std.proofs.Common.{◌≡◌, Bool, true, false, ◌||◌, List, [], ◌∷◌, ◌++◌, map, refl, sym, ap, ◌∙◌, subst, append_assoc}
 use Rattle.std.specs.List.{list_any}
 use Rattle.std.proofs.lemmas.Bool.{false≢true}
 use Rattle.nt_calls.specs.declared.call.Grant.{Grant}
 use Rattle.nt_calls.specs.State.{State}
 use Rattle.nt_calls.specs.Runs.{Turn, Calls, Ticks, IsTurn, Turns}
-use Rattle.nt_laws.specs.Lives.{Stage, Takes, Stages}
+use Rattle.nt_laws.specs.Lives.{Stage, Stages}
 use Rattle.nt_mail.specs.declared.entry.Entry.{Entry}
 use Rattle.nt_mail.specs.declared.entry.Entry.TheVariants.{Called, Ticked, Granted, Renewed}
-use Rattle.nt_mail.specs.Journals.{granted, entries_of, journal_of, IsRunFrom, Deed, stages_of, IsDeed, Deeds, written, IsLifeFrom, is_renewal}
+use Rattle.nt_mail.specs.Journals.{granted, journal_of, IsRunFrom, Deed, stages_of, IsDeed, Deeds, written, IsLifeFrom, is_renewal}
 
 -- ---- one after another
 

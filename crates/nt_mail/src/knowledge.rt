@@ -5,6 +5,7 @@ use nt_status::{Moment, Refusal, Status, ThreadId};
 use std::collections::LinkedList;
 
 /// What a thread asked: a call or a tick, or, once it had ended, to begin again.
+#[derive(Drop)]
 pub enum Asked {
     Call(Call),
     Tick(Moment),
@@ -12,6 +13,7 @@ pub enum Asked {
 }
 
 /// A call or tick, or a beginning, that was written, with the number of its entry.
+#[derive(Drop)]
 pub struct Made {
     pub number: u64,
     pub asked: Asked,
@@ -19,12 +21,14 @@ pub struct Made {
 }
 
 /// A grant that a thread took, with the number of its entry.
+#[derive(Drop)]
 pub struct Got {
     pub number: u64,
     pub status: Status,
 }
 
 /// What a thread knows.
+#[derive(Drop)]
 pub struct Knowledge {
     pub thread: ThreadId,
     /// The calls and ticks of it that were written.
@@ -47,4 +51,16 @@ pub struct View {
     pub published: LinkedList<Moment>,
     /// What the threads know whose seats it is, or that are joined to it.
     pub parts: LinkedList<Knowledge>,
+}
+
+/// Written by hand, so that whoever has a seat of a front has nothing to prove of what it knows.
+impl Drop for View {
+    fn drop(self) {
+        let View {
+            keeps: _,
+            written: _,
+            published: _,
+            parts: _,
+        } = self;
+    }
 }

@@ -78,7 +78,7 @@ impl Mail {
         requires seat { seat.table ≡ self.now }
         ensures { all.new ≡ record all.old { parts = seat.known ∷ all.old.parts } }
     {
-        let ThreadSeat { thread: _, seat } = seat;
+        let seat = seat.into_place();
         self.table.shared.join_seat::<Together>(&mut all.seat, seat);
     }
 

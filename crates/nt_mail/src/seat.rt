@@ -1,5 +1,6 @@
 //! The dispatcher's seat and the threads'. Contracts see of a seat its table and what it knows.
 ghost use Rattle.std.specs.Prelude.{◌≡◌, []};
+ghost use Rattle.nt_mail.specs.Views.{holder};
 
 use crate::rule::Place;
 use nt_status::ThreadId;
@@ -39,11 +40,17 @@ impl DispatcherSeat {
 }
 
 /// The seat of one thread, which knows the thread's calls, its grants, and the words and moments that it read.
-#[derive(Drop)]
 pub struct ThreadSeat {
     /// The thread's number, in a whole word, as which it is moved.
     pub(crate) thread: usize,
     pub(crate) seat: Place,
+}
+
+/// Written by hand, so that whoever holds a thread's seat has one function to call, and nothing to prove of its parts.
+impl Drop for ThreadSeat {
+    fn drop(self) {
+        let ThreadSeat { thread: _, seat: _ } = self;
+    }
 }
 
 impl Model for ThreadSeat {
@@ -65,6 +72,15 @@ impl ThreadSeat {
         ensures { result ≡ self.now.known.thread }
     {
         ThreadId::new(self.thread as u16)
+    }
+
+    /// The seat in the table, which has the same view.
+    pub(crate) fn into_place(self) -> Place
+        ensures table { result.table_id ≡ self.table }
+        ensures view { result.me ≡ (holder self.known, []) }
+    {
+        let ThreadSeat { thread: _, seat } = self;
+        seat
     }
 }
 
