@@ -1,4 +1,4 @@
-use Rattle.std.proofs.Common.{ℕ, Option, None, Some, sym, ◌∙◌, subst}
+use Rattle.std.proofs.Common.{ℕ, Option, sym, ◌∙◌, subst}
 use Rattle.nt_core.specs.Dispatcher.{state}
 use Rattle.nt_life.specs.declared.renewal.Renewal.{Renewal}
 use Rattle.nt_life.specs.Renewals.{Tells}

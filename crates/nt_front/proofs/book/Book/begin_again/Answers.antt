@@ -1,8 +1,8 @@
-use Rattle.std.proofs.Common.{◌≡◌, ◌+◌, ◌++◌, ◌∷◌, ◌⊎◌, ℕ, List, [], Ok, Option, None, false, is_some, length, length-append, rules, arith, refl, subst, sym, ap, ◌∙◌}
+use Rattle.std.proofs.Common.{◌≡◌, ◌+◌, ◌++◌, ◌∷◌, ◌⊎◌, ℕ, List, [], Ok, Option, false, is_some, length, length-append, rules, arith, refl, subst, sym, ap, ◌∙◌}
 use Rattle.std.specs.Prelude.{MatchOption}
 use Rattle.std.proofs.lemmas.List.{append-nil}
 use Rattle.nt_calls.specs.declared.call.Reply.{Reply}
-use Rattle.nt_calls.specs.State.{State, pends}
+use Rattle.nt_calls.specs.State.{pends}
 use Rattle.nt_core.specs.Dispatcher.{Dispatcher as Core, state}
 use Rattle.nt_core.specs.Renewals.{is_left, BeginsAgain}
 use Rattle.nt_life.specs.Lasting.{MayBeginThis}
@@ -12,7 +12,6 @@ use Rattle.nt_mail.specs.declared.entry.Entry.TheVariants.{Renewed}
 use Rattle.nt_mail.specs.declared.knowledge.Asked.{Asked}
 use Rattle.nt_mail.specs.declared.knowledge.Knowledge.{Knowledge}
 use Rattle.nt_mail.specs.Entries.{accepted}
-use Rattle.nt_mail.specs.Knowledge.{with_call as entry_known}
 use Rattle.nt_mail.specs.Rule.{IsTold}
 use Rattle.nt_mail.specs.Seats.{Dispatcher, Seated}
 use Rattle.nt_front.specs.Books.{Ledger, ledger, Writes}

@@ -1,6 +1,5 @@
-use Rattle.std.proofs.Common.{subst, sym, ◌∙◌}
+use Rattle.std.proofs.Common.{subst, sym}
 use Rattle.nt_mail.specs.Knowledge.{IsFree}
-use Rattle.nt_front.specs.Books.{WasFull, WasTaken}
 use Rattle.nt_front.proofs.Floors.{free_begins}
 use Rattle.nt_front.proofs.front.Front.begin_again.Goals as goal
 
