@@ -1,6 +1,7 @@
 /* The calls of c/nt.h that bench/sizes counts, beside so much that they don't touch.
  *
  * usage: sizes WHAT SIZE ROUNDS     makes SIZE of what is to be there, and then each round so often
+ *        sizes once SIZE ROUNDS     the same for SIZE threads, in a dispatcher that gives each number once
  *
  * It writes what that took of memory, and what a round of each took. Under valgrind's callgrind each round's instructions are dumped by
  * its name. Each answer is looked at: a call that is refused, or answers another kind, ends the program with status 1. */
@@ -111,10 +112,29 @@ static void set_and_take(void)
     waits(0, own[0], 0, NT_STATUS);
 }
 
+static void set_and_reset(void)
+{
+    set(own[0]);
+    expect(nt_reset_event(&nt, 0, own[0], &reply), NT_DONE);
+}
+
+static void released_by(uint32_t who) { expect(nt_release_mutex(&nt, who, own[0], &reply), NT_DONE); }
+
 static void take_and_release(void)
 {
     waits(0, own[0], 0, NT_STATUS);
-    expect(nt_release_mutex(&nt, 0, own[0], &reply), NT_DONE);
+    released_by(0);
+}
+
+/* Thread 0 takes a mutex, hands it to thread 1, and gets it back. */
+static void to_and_fro(void)
+{
+    waits(0, own[0], 0, NT_STATUS);
+    waits(1, own[0], NT_INFINITE, NT_PENDED);
+    released_by(0);
+    waits(0, own[0], NT_INFINITE, NT_PENDED);
+    released_by(1);
+    released_by(0);
 }
 
 static void release_and_take(void)
@@ -180,6 +200,7 @@ static const struct {
     unsigned made;
 } SHAPES[] = {
     { "set_and_take", set_and_take, event, 1 },
+    { "set_and_reset", set_and_reset, event, 1 },
     { "take_and_release", take_and_release, mutex, 1 },
     { "release_and_take", release_and_take, semaphore, 1 },
     { "hand_over", hand_over, event, 1 },
@@ -187,6 +208,7 @@ static const struct {
     { "look_for_any", look_for_any, event, A_WAIT },
     { "pend_for_any", pend_for_any, event, A_WAIT },
     { "swap", swap, event, 2 },
+    { "to_and_fro", to_and_fro, mutex, 1 },
     { "arm_and_cancel", arm_and_cancel, timer, 1 },
     { "create_and_close", create_and_close, event, 0 },
     { "duplicate_and_close", duplicate_and_close, event, 1 },
@@ -205,8 +227,17 @@ static void run(const char *name, void (*round)(void), uint32_t (*make)(void), u
         round();
     CALLGRIND_DUMP_STATS_AT(name);
     printf("%s: %zu bytes\n", name, (asked - before) / ROUNDS);
-    for (unsigned i = 0; i < made; i++)
-        closed(own[i]);
+    /* (The last one first, so that the next shape's numbers rise, too, if they are given again.) */
+    for (unsigned i = made; i > 0; i--)
+        closed(own[i - 1]);
+}
+
+/* Opens the dispatcher for this. */
+static uint32_t opened_for(const char *what, unsigned size)
+{
+    if (strcmp(what, "once") == 0)
+        return nt_open(&nt, size);
+    return nt_open_lasting(&nt, strcmp(what, "threads") == 0 ? size : THREADS);
 }
 
 int main(int words, char **word)
@@ -218,7 +249,7 @@ int main(int words, char **word)
     const unsigned size = (unsigned)strtoul(word[2], NULL, 10);
     ROUNDS = (unsigned)strtoul(word[3], NULL, 10);
     nt.room = aligned_alloc(16, (nt_room() + 15) / 16 * 16);
-    if (nt.room == NULL || nt_open_lasting(&nt, strcmp(word[1], "threads") == 0 ? size : THREADS) != 0)
+    if (nt.room == NULL || opened_for(word[1], size) != 0)
         return 1;
     if (strcmp(word[1], "objects") == 0)
         events(size);
