@@ -1,11 +1,13 @@
 -- How far a search is. No public clause cites this module.
 use Rattle.std.specs.Prelude.{Contains, [], ◌∷◌, ◌*◌, if◌then◌else◌, slice_set, nat_lt, ◌≡◌, ◌<◌, ◌≤◌, ◌+◌, ℕ, Bool, true, false, List, length, Option, None, Some}
 use Rattle.nt_calls.specs.State.{State, pends}
+use Rattle.nt_core.specs.Dispatcher.{Dispatcher}
 use Rattle.nt_look.specs.Hangs.{marked}
 use Rattle.nt_look.specs.Orders.{Plan, Point, Goes, Hangs, IsLost, steps}
 use Rattle.nt_explore.specs.declared.loss.Edge.{Edge}
 use Rattle.nt_explore.specs.declared.loss.Edges.{Edges}
 use Rattle.nt_explore.specs.declared.met.Entry.{Entry}
+use Rattle.nt_explore.specs.Search.{beginning, start_of}
 use Rattle.nt_explore.specs.Walk.{IsWalk, HasPoint, Rises}
 
 -- the first that hangs, of those that were looked at
@@ -48,6 +50,22 @@ IsSearch plan start entries edges looked first =
     × AreLooked plan start entries looked first point
     × AreEdges plan edges.threads edges.pairs.items edges.waits.items looked (length entries) point
     × IsLostThere plan point first
+
+-- one state more was looked at, of a search from this dispatcher
+abbrev pub LooksOn : Plan → Dispatcher → (old new : List Entry) → (edges more : Edges) → ℕ → (first first' : Option ℕ) → Type 0
+LooksOn plan core old new edges more looked first first' =
+    IsSearch plan (start_of plan core) old edges looked first → IsSearch plan (start_of plan core) new more (looked + 1) first'
+
+-- it is so of every search that came so far
+abbrev pub OfSearch : List Entry → Edges → ℕ → Option ℕ → (Plan → Point → Type 0) → Type 0
+OfSearch entries edges looked first so = (plan : Plan) (s : State) → IsSearch plan (beginning plan s) entries edges looked first → so plan (beginning plan s)
+
+-- it is so of the points of every search that looked at all of so many states
+abbrev pub OfLooked : ℕ → Edges → (Plan → (ℕ → Point) → Type 0) → Type 0
+OfLooked states edges so =
+    (plan : Plan) (start : Point) (entries : List Entry) (first : Option ℕ) (point : ℕ → Point)
+    → length entries ≡ states → AreLooked plan start entries states first point
+    → AreEdges plan edges.threads edges.pairs.items edges.waits.items states states point → so plan point
 
 -- the thread's wait is lost at this point, and at none before it
 abbrev pub IsFirstLost : Plan → (ℕ → Point) → ℕ → ℕ → Option ℕ → Type 0

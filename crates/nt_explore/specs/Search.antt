@@ -1,6 +1,7 @@
 -- What a search of all orders tells.
 use Rattle.std.specs.Prelude.{length, replicate, Option, Some, None, IsSome}
 use Rattle.nt_calls.specs.State.{State}
+use Rattle.nt_core.specs.Dispatcher.{Dispatcher, state}
 use Rattle.nt_look.specs.Orders as orders
 use Rattle.nt_look.specs.Orders.{Calls, Passes, Plan, Point, NoneHangs, NoneHangsWithin, IsShortestHang, IsShortestLoss}
 use Rattle.nt_explore.specs.declared.plan.Ask.{Ask}
@@ -17,6 +18,10 @@ asked (Tick moment) = Passes moment
 -- nothing of the plan was made yet
 abbrev pub beginning : Plan → State → Point
 beginning plan s = record { at = replicate (length plan) 0; state = s }
+
+-- the same from this dispatcher
+abbrev pub start_of : Plan → Dispatcher → Point
+start_of plan core = beginning plan (state core)
 
 -- since when a wait was lost, where that is told
 abbrev pub TellsLoss : Plan → Point → Option Loss → Type 0

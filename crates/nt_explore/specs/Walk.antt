@@ -1,6 +1,8 @@
 -- How the states that a search met lie in its table. No public clause cites this module.
 use Rattle.std.specs.Prelude.{Contains, ◌⊎◌, true, false, Option, None, Some, ◌≡◌, ◌<◌, ◌≤◌, ◌+◌, ℕ, Bool, List, [], ◌∷◌, length, slice_index_or}
+use Rattle.nt_calls.specs.State.{State, pends}
 use Rattle.nt_core.specs.Dispatcher.{Dispatcher, state}
+use Rattle.nt_look.specs.Hangs.{marked}
 use Rattle.nt_look.specs.Orders.{Plan, Point, Goes, steps}
 use Rattle.nt_explore.specs.declared.loss.Edge.{Edge}
 use Rattle.nt_explore.specs.declared.met.Entry.{Entry}
@@ -103,6 +105,39 @@ pub record TriesLane (plan : Plan) (start : Point) (old new : List Entry) (pairs
   pub deep : (i : ℕ) → length old ≤ i → i < length new → steps (points i).at ≡ steps p.at + 1
   pub tried : (q : Point) → Goes plan p lane q → HasPoint new points q
   pub leads : Leads plan p index (length new) points (λ l. l ≡ lane) pairs more
+
+-- one of these threads waits
+abbrev pub WaitsAmong : State → List Bool → Type 0
+WaitsAmong s among = (t : ℕ) × (marked among t ≡ true) × (pends s t ≡ true)
+
+-- none of them does
+abbrev pub NoneWaitsAmong : State → List Bool → Type 0
+NoneWaitsAmong s among = (t : ℕ) → t < s.threads → marked among t ≡ true → pends s t ≡ true → ⊥
+
+-- a lane that leads anywhere leads to this point
+abbrev pub GoesOn : Plan → Point → ℕ → Point → Type 0
+GoesOn plan old lane new = (q : Point) → Goes plan old lane q → Goes plan old lane new
+
+-- whatever points were met, the one to which the lane leads from the parent is one of them now
+abbrev pub MeetsFrom : Plan → Point → (old new : List Entry) → ℕ → ℕ → Point → ℕ → Type 0
+MeetsFrom plan start old new parent lane p j =
+    (point : ℕ → Point) → IsWalk plan start old point → Goes plan (point parent) lane p → Meets plan start old new p j point
+
+-- whatever points were met, each of the first lanes is tried from the one with this number, which is this one
+abbrev pub TriesAt : Plan → Point → (old new : List Entry) → (pairs more : List Edge) → Point → ℕ → ℕ → Type 0
+TriesAt plan start old new pairs more p index lanes =
+    (point : ℕ → Point) → IsWalk plan start old point → point index ≡ p → Tries plan start old new pairs more p index lanes point
+
+-- the same of one lane more
+abbrev pub TriesLaneAt : Plan → Point → (old new : List Entry) → (pairs more : List Edge) → Point → ℕ → ℕ → Type 0
+TriesLaneAt plan start old new pairs more p index lane =
+    (point : ℕ → Point) → IsWalk plan start old point → point index ≡ p → TriesLane plan start old new pairs more p index lane point
+
+-- the same of one that leads to this point
+abbrev pub TriesLaneTo : Plan → Point → (old new : List Entry) → (pairs more : List Edge) → ℕ → ℕ → Point → Type 0
+TriesLaneTo plan start old new pairs more index lane next =
+    (p : Point) → IsWide plan p → (point : ℕ → Point) → IsWalk plan start old point → point index ≡ p → Goes plan p lane next
+    → TriesLane plan start old new pairs more p index lane point
 
 -- where the lane leads, if it goes
 abbrev pub LeadsTo : Plan → Point → ℕ → Option Point → Type 0

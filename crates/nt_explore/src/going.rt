@@ -2,9 +2,9 @@
 ghost use Rattle.std.specs.Prelude.{◌≡◌, ◌≢◌, ◌<◌, length, Err, MatchBool, IfOk, OnOk};
 ghost use Rattle.nt_status.specs.declared.refusal.Refusal.TheVariants.{Memory};
 ghost use Rattle.nt_core.specs.Dispatcher.{state};
-ghost use Rattle.nt_look.specs.Orders.{Calls, Passes, IsMade, Point, Goes};
+ghost use Rattle.nt_look.specs.Orders.{Calls, Passes, IsMade};
 ghost use Rattle.nt_explore.specs.Search.{asked};
-ghost use Rattle.nt_explore.specs.Walk.{point_at, Went};
+ghost use Rattle.nt_explore.specs.Walk.{point_of, GoesOn, Went};
 
 use crate::place::Place;
 use crate::plan::{Ask, Plan};
@@ -58,8 +58,7 @@ fn make(core: &mut Core, thread: u32, ask: &Ask) -> Result<(), AllocError>
 pub fn go(plan: &Plan, place: &mut Place, lane: u32) -> Result<bool, AllocError>
     requires wide { length place.old.places.items ≡ length plan.now }
     requires there { lane < length plan.now }
-    ensures point { IfOk result (λ went. Went plan.now (point_at place.old.places.items place.old.core) lane went
-        (point_at place.new.places.items place.new.core)) }
+    ensures point { IfOk result (λ went. Went plan.now (point_of place.old) lane went (point_of place.new)) }
     ensures wide { OnOk result (length place.new.places.items ≡ length plan.now) }
     ensures threads { (state place.new.core).threads ≡ (state place.old.core).threads }
 {
@@ -78,8 +77,7 @@ pub fn go(plan: &Plan, place: &mut Place, lane: u32) -> Result<bool, AllocError>
 /// Lets the lane go, which can.
 pub fn go_on(plan: &Plan, place: &mut Place, lane: u32) -> Result<(), AllocError>
     requires wide { length place.old.places.items ≡ length plan.now }
-    ensures point { OnOk result ((q : Point) → Goes plan.now (point_at place.old.places.items place.old.core) lane q
-        → Goes plan.now (point_at place.old.places.items place.old.core) lane (point_at place.new.places.items place.new.core)) }
+    ensures point { OnOk result (GoesOn plan.now (point_of place.old) lane (point_of place.new)) }
     ensures wide { OnOk result (length place.new.places.items ≡ length plan.now) }
     ensures threads { (state place.new.core).threads ≡ (state place.old.core).threads }
 {

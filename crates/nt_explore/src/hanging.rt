@@ -4,7 +4,7 @@ ghost use Rattle.nt_calls.specs.State.{pends};
 ghost use Rattle.nt_core.specs.Dispatcher.{state};
 ghost use Rattle.nt_look.specs.Hangs.{marked};
 ghost use Rattle.nt_look.specs.Orders.{Hangs, asks, goes_on};
-ghost use Rattle.nt_explore.specs.Walk.{point_at};
+ghost use Rattle.nt_explore.specs.Walk.{point_of, WaitsAmong, NoneWaitsAmong};
 
 use crate::place::Place;
 use crate::plan::Plan;
@@ -26,7 +26,7 @@ fn has_more(plan: &Plan, places: &[usize], lane: u32) -> bool
 /// Whether the thread makes a call still, or waits.
 fn goes_on(plan: &Plan, place: &Place, thread: u32) -> bool
     requires { length place.now.places.items ≡ length plan.now }
-    ensures { result ≡ goes_on plan.now (point_at place.now.places.items place.now.core) thread }
+    ensures { result ≡ goes_on plan.now (point_of place.now) thread }
 {
     has_more(plan, &place.places, thread) || place.core.is_waiting(thread)
 }
@@ -35,7 +35,7 @@ fn goes_on(plan: &Plan, place: &Place, thread: u32) -> bool
 fn over_at(alloc: Global, plan: &Plan, place: &Place) -> Result<Vec<bool>, AllocError>
     requires { length place.now.places.items ≡ length plan.now }
     ensures point { IfOk result (λ over. (t : ℕ) → t < (state place.now.core).threads
-        → marked over.items t ≡ not (goes_on plan.now (point_at place.now.places.items place.now.core) t)) }
+        → marked over.items t ≡ not (goes_on plan.now (point_of place.now) t)) }
     ensures count { IfOk result (λ over. length over.items ≡ (state place.now.core).threads) }
 {
     let mut over = Vec::new(alloc);
@@ -47,9 +47,7 @@ fn over_at(alloc: Global, plan: &Plan, place: &Place) -> Result<Vec<bool>, Alloc
 
 /// Whether one of these threads waits.
 fn has_waiting(core: &Core, among: &[bool]) -> bool
-    ensures { MatchBool result
-        ((t : ℕ) × (marked among.now t ≡ true) × (pends (state core.now) t ≡ true))
-        ((t : ℕ) → t < (state core.now).threads → marked among.now t ≡ true → pends (state core.now) t ≡ true → ⊥) }
+    ensures { MatchBool result (WaitsAmong (state core.now) among.now) (NoneWaitsAmong (state core.now) among.now) }
 {
     for thread in 0..core.threads() {
         if is_among(among, thread) && core.is_waiting(thread) {
@@ -86,7 +84,7 @@ fn is_among(among: &[bool], thread: u32) -> bool
 /// Whether a wait pends here that nothing can end.
 pub fn hangs(alloc: Global, plan: &Plan, place: &Place) -> Result<bool, AllocError>
     requires { length place.now.places.items ≡ length plan.now }
-    ensures { IfOk result (λ hangs. (hangs ≡ true) ↔ Hangs plan.now (point_at place.now.places.items place.now.core)) }
+    ensures { IfOk result (λ hangs. (hangs ≡ true) ↔ Hangs plan.now (point_of place.now)) }
 {
     place.core.stands();
     place.core.owners_stand();

@@ -1,14 +1,12 @@
 //! Since when a wait was lost: it pends, and in every order of what is left it pends on.
 ghost use Rattle.std.specs.Prelude.{◌≡◌, ◌<◌, ◌≤◌, ◌*◌, List, ◌++◌, ◌∷◌, [], ℕ, true, false, Option, Some, IsSome, length, slice_set, IfOk, OnOk};
-ghost use Rattle.nt_calls.specs.State.{State, pends};
+ghost use Rattle.nt_calls.specs.State.{pends};
 ghost use Rattle.nt_core.specs.Dispatcher.{state};
 ghost use Rattle.nt_look.specs.Hangs.{marked};
-ghost use Rattle.nt_look.specs.Orders.{Plan, Point};
-ghost use Rattle.nt_explore.specs.declared.met.Entry.{Entry};
-ghost use Rattle.nt_explore.specs.Search.{beginning, TellsLoss};
+ghost use Rattle.nt_explore.specs.Search.{TellsLoss};
 ghost use Rattle.nt_explore.specs.Walk.{edge, AreBehind};
 ghost use Rattle.nt_explore.specs.Levels as levels;
-ghost use Rattle.nt_explore.specs.Levels.{AreLooked, AreEdges, IsSearch, IsRow, IsColumn, IsFirstMark, IsFirstLost, IsFirstLoss};
+ghost use Rattle.nt_explore.specs.Levels.{OfLooked, OfSearch, IsRow, IsColumn, IsFirstMark, IsFirstLost, IsFirstLoss};
 
 use crate::explored::Loss;
 use crate::met::{Entry, way_to};
@@ -160,10 +158,7 @@ fn first_of(
     thread: u32,
 ) -> Result<Option<usize>, AllocError>
     requires known { thread < edges.now.threads }
-    ensures { IfOk result (λ found. (plan : Plan) (start : Point) (entries : List Entry) (first : Option ℕ) (point : ℕ → Point)
-        → length entries ≡ states → AreLooked plan start entries states first point
-        → AreEdges plan edges.now.threads edges.now.pairs.items edges.now.waits.items states states point
-        → IsFirstLost plan point states thread found) }
+    ensures { IfOk result (λ found. OfLooked states edges.now (λ plan point. IsFirstLost plan point states thread found)) }
 {
     let mut lost = waits_of(alloc, &edges.waits, edges.threads, states, thread)?;
     Ok(first_left(&mut lost, &edges.pairs))
@@ -192,10 +187,8 @@ fn first_lost(
     edges: &Edges,
     states: usize,
 ) -> Result<Option<(usize, u32)>, AllocError>
-    ensures { IfOk result (λ found. (plan : Plan) (start : Point) (entries : List Entry) (first : Option ℕ) (point : ℕ → Point)
-        → length entries ≡ states → AreLooked plan start entries states first point
-        → AreEdges plan edges.now.threads edges.now.pairs.items edges.now.waits.items states states point
-        → IsFirstLoss plan point states edges.now.threads found) }
+    ensures { IfOk result (λ found.
+        OfLooked states edges.now (λ plan point. IsFirstLoss plan point states edges.now.threads found)) }
 {
     let mut best = None;
     for thread in 0..edges.threads {
@@ -212,10 +205,10 @@ pub fn first_loss(
     edges: &Edges,
 ) -> Result<Option<Loss>, AllocError>
     requires behind { AreBehind entries.now }
-    ensures told { IfOk result (λ loss. (plan : Plan) (s : State) (first : Option ℕ)
-        → IsSearch plan (beginning plan s) entries.now edges.now (length entries.now) first → TellsLoss plan (beginning plan s) loss) }
-    ensures whole { IfOk result (λ loss. (plan : Plan) (s : State) (h : ℕ)
-        → IsSearch plan (beginning plan s) entries.now edges.now (length entries.now) (Some h) → IsSome loss) }
+    ensures told { IfOk result (λ loss. (first : Option ℕ)
+        → OfSearch entries.now edges.now (length entries.now) first (λ plan start. TellsLoss plan start loss)) }
+    ensures whole { IfOk result (λ loss. (h : ℕ)
+        → OfSearch entries.now edges.now (length entries.now) (Some h) (λ plan start. IsSome loss)) }
 {
     let found = first_lost(alloc, edges, entries.len())?;
     let Some((state, thread)) = found else {

@@ -1,9 +1,9 @@
 //! The states that were met.
 ghost use Rattle.std.specs.Prelude.{◌≡◌, ◌<◌, ◌≤◌, ◌+◌, ◌++◌, ◌∷◌, [], ℕ, true, Some, length, replicate, IfOk, OnOk, OnErr};
 ghost use Rattle.nt_core.specs.Dispatcher.{state};
-ghost use Rattle.nt_look.specs.Orders.{Point, Goes, steps};
-ghost use Rattle.nt_explore.specs.Search.{beginning};
-ghost use Rattle.nt_explore.specs.Walk.{no_entry, point_at, Arrives, AreBehind, IsWalk, IsFound, Meets};
+ghost use Rattle.nt_look.specs.Orders.{Point};
+ghost use Rattle.nt_explore.specs.Search.{start_of};
+ghost use Rattle.nt_explore.specs.Walk.{no_entry, point_of, Arrives, AreBehind, IsWalk, IsFound, MeetsFrom};
 
 use crate::going::go_on;
 use crate::hash::hash_of;
@@ -49,8 +49,8 @@ pub fn way_to(alloc: Global, entries: &[Entry], index: usize) -> Result<Vec<u32>
 
 /// The state to which these lanes lead from the start, the last first.
 fn at_end(alloc: Global, start: &Core, plan: &Plan, way: &[u32]) -> Result<Place, AllocError>
-    ensures point { IfOk result (λ place. (q : Point) → Arrives plan.now (beginning plan.now (state start.now)) way.now q
-        → point_at place.places.items place.core ≡ q) }
+    ensures point { IfOk result (λ place. (q : Point) → Arrives plan.now (start_of plan.now start.now) way.now q
+        → point_of place ≡ q) }
     ensures wide { IfOk result (λ place. length place.places.items ≡ length plan.now) }
     ensures threads { IfOk result (λ place. (state place.core).threads ≡ (state start.now).threads) }
 {
@@ -73,8 +73,8 @@ pub fn again(
 ) -> Result<Place, AllocError>
     requires behind { AreBehind entries.now }
     requires there { index < length entries.now }
-    ensures point { IfOk result (λ place. (point : ℕ → Point) → IsWalk plan.now (beginning plan.now (state start.now)) entries.now point
-        → point_at place.places.items place.core ≡ point index) }
+    ensures point { IfOk result (λ place. (point : ℕ → Point) → IsWalk plan.now (start_of plan.now start.now) entries.now point
+        → point_of place ≡ point index) }
     ensures wide { IfOk result (λ place. length place.places.items ≡ length plan.now) }
     ensures threads { IfOk result (λ place. (state place.core).threads ≡ (state start.now).threads) }
 {
@@ -93,8 +93,8 @@ fn is_at(
     hash: u32,
 ) -> Result<bool, AllocError>
     requires behind { AreBehind entries.now }
-    ensures { IfOk result (λ found. found ≡ true → IsFound plan.now (beginning plan.now (state start.now)) entries.now
-        (point_at place.now.places.items place.now.core) (Some index)) }
+    ensures { IfOk result (λ found. found ≡ true → IsFound plan.now (start_of plan.now start.now) entries.now
+        (point_of place.now) (Some index)) }
 {
     if index >= entries.len() || entries[index].hash != hash {
         return Ok(false);
@@ -114,8 +114,8 @@ fn find(
     hash: u32,
 ) -> Result<Option<usize>, AllocError>
     requires behind { AreBehind entries.now }
-    ensures { IfOk result (IsFound plan.now (beginning plan.now (state start.now)) entries.now
-        (point_at place.now.places.items place.now.core)) }
+    ensures { IfOk result (IsFound plan.now (start_of plan.now start.now) entries.now
+        (point_of place.now)) }
 {
     let count = slots.len();
     for step in 0..count {
@@ -217,11 +217,8 @@ impl Met {
     ) -> Result<usize, AllocError>
         requires behind { AreBehind self.old.entries.items }
         requires there { parent < length self.old.entries.items }
-        ensures point { IfOk result (λ j. (point : ℕ → Point)
-            → IsWalk plan.now (beginning plan.now (state start.now)) self.old.entries.items point
-            → Goes plan.now (point parent) lane (point_at place.now.places.items place.now.core)
-            → Meets plan.now (beginning plan.now (state start.now)) self.old.entries.items self.new.entries.items
-            (point_at place.now.places.items place.now.core) j point) }
+        ensures point { IfOk result (MeetsFrom plan.now (start_of plan.now start.now) self.old.entries.items self.new.entries.items
+            parent lane (point_of place.now)) }
         ensures behind { OnOk result (AreBehind self.new.entries.items) }
         ensures longer { OnOk result (length self.old.entries.items ≤ length self.new.entries.items) }
     {

@@ -1,8 +1,8 @@
 //! How far each lane is, and the dispatcher.
 ghost use Rattle.std.specs.Prelude.{◌≡◌, true, length, IfOk};
 ghost use Rattle.nt_core.specs.Dispatcher.{state};
-ghost use Rattle.nt_explore.specs.Search.{beginning};
-ghost use Rattle.nt_explore.specs.Walk.{point_at};
+ghost use Rattle.nt_explore.specs.Search.{start_of};
+ghost use Rattle.nt_explore.specs.Walk.{point_at, point_of};
 
 use crate::plan::Plan;
 use nt_core::Core;
@@ -17,7 +17,7 @@ pub struct Place {
 
 /// A copy of the dispatcher, with these places.
 fn place_of(core: &Core, places: Vec<usize>) -> Result<Place, AllocError>
-    ensures point { IfOk result (λ place. point_at place.places.items place.core ≡ point_at places.items core.now) }
+    ensures point { IfOk result (λ place. point_of place ≡ point_at places.items core.now) }
     ensures wide { IfOk result (λ place. length place.places.items ≡ length places.items) }
 {
     let Ok(core) = core.copy() else {
@@ -28,7 +28,7 @@ fn place_of(core: &Core, places: Vec<usize>) -> Result<Place, AllocError>
 
 /// A copy of the start.
 pub fn at_start(alloc: Global, start: &Core, plan: &Plan) -> Result<Place, AllocError>
-    ensures { IfOk result (λ place. point_at place.places.items place.core ≡ beginning plan.now (state start.now)) }
+    ensures { IfOk result (λ place. point_of place ≡ start_of plan.now start.now) }
 {
     let places = Vec::from_elem(alloc, 0, plan.lanes())?;
     place_of(start, places)
@@ -36,7 +36,7 @@ pub fn at_start(alloc: Global, start: &Core, plan: &Plan) -> Result<Place, Alloc
 
 /// The same, in memory of its own.
 pub fn copy_of(alloc: Global, place: &Place) -> Result<Place, AllocError>
-    ensures point { IfOk result (λ copied. point_at copied.places.items copied.core ≡ point_at place.now.places.items place.now.core) }
+    ensures point { IfOk result (λ copied. point_of copied ≡ point_of place.now) }
     ensures wide { IfOk result (λ copied. length copied.places.items ≡ length place.now.places.items) }
 {
     let places = Vec::from_slice(alloc, &place.places)?;
@@ -45,7 +45,7 @@ pub fn copy_of(alloc: Global, place: &Place) -> Result<Place, AllocError>
 
 /// Whether both are the same place in equal states.
 pub fn is_like(a: &Place, b: &Place) -> bool
-    ensures { result ≡ true → point_at a.now.places.items a.now.core ≡ point_at b.now.places.items b.now.core }
+    ensures { result ≡ true → point_of a.now ≡ point_of b.now }
 {
     a.places == b.places && a.core.is_like(&b.core)
 }

@@ -1,14 +1,10 @@
 //! The search, level by level.
-ghost use Rattle.std.specs.Prelude.{◌≡◌, ◌<◌, ◌≤◌, ◌+◌, ◌^◌, ℕ, length, Option, None, Some, IsSome, IfOk, OnOk};
-ghost use Rattle.nt_core.specs.Dispatcher.{state};
-ghost use Rattle.nt_calls.specs.State.{State};
-ghost use Rattle.nt_look.specs.Orders as orders;
-ghost use Rattle.nt_look.specs.Orders.{Point, Goes};
+ghost use Rattle.std.specs.Prelude.{◌≡◌, ◌<◌, ◌≤◌, ◌^◌, ℕ, length, Option, None, Some, IsSome, IfOk, OnOk};
 ghost use Rattle.std.specs.Option.{ForSome, option_map};
 ghost use Rattle.nt_explore.specs.declared.loss.Edges.{Edges};
-ghost use Rattle.nt_explore.specs.Search.{beginning, Tells, TellsLoss, HasLoss};
-ghost use Rattle.nt_explore.specs.Walk.{point_at, point_of, AreBehind, IsWalk, LeadsTo, Tries, TriesLane};
-ghost use Rattle.nt_explore.specs.Levels.{IsSearch, first_then};
+ghost use Rattle.nt_explore.specs.Search.{start_of, Tells, TellsLoss, HasLoss};
+ghost use Rattle.nt_explore.specs.Walk.{point_of, AreBehind, LeadsTo, TriesAt, TriesLaneAt, TriesLaneTo};
+ghost use Rattle.nt_explore.specs.Levels.{LooksOn, OfSearch, first_then};
 
 use crate::explored::{Explored, Loss, Verdict};
 use crate::going::go;
@@ -43,7 +39,7 @@ fn next_of(
 ) -> Result<Option<Place>, AllocError>
     requires wide { length place.now.places.items ≡ length plan.now }
     requires known { lane < length plan.now }
-    ensures { IfOk result (λ next. LeadsTo plan.now (point_at place.now.places.items place.now.core) lane (option_map point_of next)) }
+    ensures { IfOk result (λ next. LeadsTo plan.now (point_of place.now) lane (option_map point_of next)) }
 {
     let mut next = copy_of(alloc, place)?;
     if go(plan, &mut next, lane)? {
@@ -66,11 +62,8 @@ fn meet_next(
 ) -> Result<bool, AllocError>
     requires behind { AreBehind met.old.entries.items }
     requires there { index < length met.old.entries.items }
-    ensures point { OnOk result ((p : Point) → length p.at ≡ length plan.now → (point : ℕ → Point)
-        → IsWalk plan.now (beginning plan.now (state start.now)) met.old.entries.items point
-        → point index ≡ p → Goes plan.now p lane (point_of next.now)
-        → TriesLane plan.now (beginning plan.now (state start.now)) met.old.entries.items met.new.entries.items
-        pairs.old.items pairs.new.items p index lane point) }
+    ensures point { OnOk result (TriesLaneTo plan.now (start_of plan.now start.now) met.old.entries.items met.new.entries.items
+        pairs.old.items pairs.new.items index lane (point_of next.now)) }
     ensures behind { OnOk result (AreBehind met.new.entries.items) }
     ensures longer { OnOk result (length met.old.entries.items ≤ length met.new.entries.items) }
 {
@@ -94,10 +87,8 @@ fn try_lane(
     requires there { index < length met.old.entries.items }
     requires wide { length place.now.places.items ≡ length plan.now }
     requires known { lane < length plan.now }
-    ensures point { OnOk result ((point : ℕ → Point) → IsWalk plan.now (beginning plan.now (state start.now)) met.old.entries.items point
-        → point index ≡ point_at place.now.places.items place.now.core
-        → TriesLane plan.now (beginning plan.now (state start.now)) met.old.entries.items met.new.entries.items
-        pairs.old.items pairs.new.items (point_at place.now.places.items place.now.core) index lane point) }
+    ensures point { OnOk result (TriesLaneAt plan.now (start_of plan.now start.now) met.old.entries.items met.new.entries.items
+        pairs.old.items pairs.new.items (point_of place.now) index lane) }
     ensures behind { OnOk result (AreBehind met.new.entries.items) }
     ensures longer { OnOk result (length met.old.entries.items ≤ length met.new.entries.items) }
 {
@@ -121,10 +112,8 @@ fn try_lanes(
     requires behind { AreBehind met.old.entries.items }
     requires there { index < length met.old.entries.items }
     requires wide { length place.now.places.items ≡ length plan.now }
-    ensures point { OnOk result ((point : ℕ → Point) → IsWalk plan.now (beginning plan.now (state start.now)) met.old.entries.items point
-        → point index ≡ point_at place.now.places.items place.now.core
-        → Tries plan.now (beginning plan.now (state start.now)) met.old.entries.items met.new.entries.items
-        pairs.old.items pairs.new.items (point_at place.now.places.items place.now.core) index (length plan.now) point) }
+    ensures point { OnOk result (TriesAt plan.now (start_of plan.now start.now) met.old.entries.items met.new.entries.items
+        pairs.old.items pairs.new.items (point_of place.now) index (length plan.now)) }
     ensures behind { OnOk result (AreBehind met.new.entries.items) }
     ensures longer { OnOk result (length met.old.entries.items ≤ length met.new.entries.items) }
 {
@@ -160,8 +149,8 @@ fn look_at(
 ) -> Result<(), AllocError>
     requires behind { AreBehind met.old.entries.items }
     requires there { index < length met.old.entries.items }
-    ensures point { OnOk result (IsSearch plan.now (beginning plan.now (state start.now)) met.old.entries.items edges.old index counts.old.first
-        → IsSearch plan.now (beginning plan.now (state start.now)) met.new.entries.items edges.new (index + 1) counts.new.first) }
+    ensures point { OnOk result (LooksOn plan.now start.now met.old.entries.items met.new.entries.items
+        edges.old edges.new index counts.old.first counts.new.first) }
     ensures behind { OnOk result (AreBehind met.new.entries.items) }
     ensures longer { OnOk result (length met.old.entries.items ≤ length met.new.entries.items) }
 {
@@ -184,10 +173,10 @@ fn loss_at(
     looked: usize,
 ) -> Result<Option<Loss>, AllocError>
     requires behind { AreBehind entries.now }
-    ensures told { IfOk result (λ loss. (plan : orders.Plan) (s : State) (first : Option ℕ)
-        → IsSearch plan (beginning plan s) entries.now edges.now looked first → TellsLoss plan (beginning plan s) loss) }
-    ensures whole { IfOk result (λ loss. (plan : orders.Plan) (s : State) (h : ℕ)
-        → IsSearch plan (beginning plan s) entries.now edges.now looked (Some h) → length entries.now ≤ looked → IsSome loss) }
+    ensures told { IfOk result (λ loss. (first : Option ℕ)
+        → OfSearch entries.now edges.now looked first (λ plan start. TellsLoss plan start loss)) }
+    ensures whole { IfOk result (λ loss. (h : ℕ)
+        → OfSearch entries.now edges.now looked (Some h) (λ plan start. length entries.now ≤ looked → IsSome loss)) }
 {
     if looked < entries.len() {
         return Ok(None);
@@ -205,12 +194,10 @@ fn judge_hang(
 ) -> Result<Verdict, AllocError>
     requires behind { AreBehind entries.now }
     requires first { first < length entries.now }
-    ensures told { IfOk result (λ verdict. (plan : orders.Plan) (s : State)
-        → IsSearch plan (beginning plan s) entries.now edges.now looked (Some first)
-        → Tells plan (beginning plan s) verdict) }
-    ensures whole { IfOk result (λ verdict. (plan : orders.Plan) (s : State)
-        → IsSearch plan (beginning plan s) entries.now edges.now looked (Some first)
-        → length entries.now ≤ looked → HasLoss verdict) }
+    ensures told { IfOk result (λ verdict.
+        OfSearch entries.now edges.now looked (Some first) (λ plan start. Tells plan start verdict)) }
+    ensures whole { IfOk result (λ verdict.
+        OfSearch entries.now edges.now looked (Some first) (λ plan start. length entries.now ≤ looked → HasLoss verdict)) }
 {
     let mut lanes = way_to(alloc, entries, first)?;
     lanes.reverse();
@@ -223,9 +210,8 @@ fn judge_rest(alloc: Global, entries: &[Entry], looked: usize) -> Result<Verdict
     requires behind { AreBehind entries.now }
     requires some { 0 < looked }
     requires within { looked ≤ length entries.now }
-    ensures told { IfOk result (λ verdict. (plan : orders.Plan) (s : State) (edges : Edges)
-        → IsSearch plan (beginning plan s) entries.now edges looked None
-        → Tells plan (beginning plan s) verdict) }
+    ensures told { IfOk result (λ verdict. (edges : Edges)
+        → OfSearch entries.now edges looked None (λ plan start. Tells plan start verdict)) }
     ensures whole { IfOk result HasLoss }
 {
     if looked == entries.len() {
@@ -248,12 +234,10 @@ fn judge(
     requires some { 0 < looked }
     requires within { looked ≤ length entries.now }
     requires first { ForSome first (λ h. h < looked) }
-    ensures told { IfOk result (λ verdict. (plan : orders.Plan) (s : State)
-        → IsSearch plan (beginning plan s) entries.now edges.now looked first
-        → Tells plan (beginning plan s) verdict) }
-    ensures whole { IfOk result (λ verdict. (plan : orders.Plan) (s : State)
-        → IsSearch plan (beginning plan s) entries.now edges.now looked first
-        → length entries.now ≤ looked → HasLoss verdict) }
+    ensures told { IfOk result (λ verdict.
+        OfSearch entries.now edges.now looked first (λ plan start. Tells plan start verdict)) }
+    ensures whole { IfOk result (λ verdict.
+        OfSearch entries.now edges.now looked first (λ plan start. length entries.now ≤ looked → HasLoss verdict)) }
 {
     match first {
         Some(first) => judge_hang(alloc, entries, edges, looked, first),
@@ -269,7 +253,7 @@ pub fn explore<W: Watcher>(
     most: usize,
     watcher: &mut W,
 ) -> Result<Explored, AllocError>
-    ensures told { IfOk result (λ explored. Tells plan.now (beginning plan.now (state start.now)) explored.verdict) }
+    ensures told { IfOk result (λ explored. Tells plan.now (start_of plan.now start.now) explored.verdict) }
     ensures whole { IfOk result (λ explored. explored.states ≤ most → HasLoss explored.verdict) }
 {
     let mut met = Met::new(alloc)?;

@@ -9,7 +9,7 @@ pub returns-in-Some-clause-told : goal.returns-in-Some-clause-told
 returns-in-Some-clause-told c = if_ok _ _ c.judge_hang.result (λ verdict told plan s search. told plan s (subst (λ (f : Option ℕ). IsSearch plan (beginning plan s) c.args.entries.now c.args.edges.now c.args.looked f) c.in-Some.is search)) c.judge_hang.ensures.told
 
 pub returns-in-None-clause-told : goal.returns-in-None-clause-told
-returns-in-None-clause-told c = if_ok _ _ c.judge_rest.result (λ verdict told plan s search. told plan s c.args.edges.now (subst (λ (f : Option ℕ). IsSearch plan (beginning plan s) c.args.entries.now c.args.edges.now c.args.looked f) c.in-None.is search)) c.judge_rest.ensures.told
+returns-in-None-clause-told c = if_ok _ _ c.judge_rest.result (λ verdict told plan s search. told c.args.edges.now plan s (subst (λ (f : Option ℕ). IsSearch plan (beginning plan s) c.args.entries.now c.args.edges.now c.args.looked f) c.in-None.is search)) c.judge_rest.ensures.told
 
 pub returns-in-Some-clause-whole : goal.returns-in-Some-clause-whole
 returns-in-Some-clause-whole c = if_ok _ _ c.judge_hang.result (λ verdict told plan s search. told plan s (subst (λ (f : Option ℕ). IsSearch plan (beginning plan s) c.args.entries.now c.args.edges.now c.args.looked f) c.in-Some.is search)) c.judge_hang.ensures.whole

@@ -5,14 +5,14 @@ use Rattle.nt_explore.proofs.Ways.{if_ok}
 use Rattle.nt_explore.proofs.search.loss_at.Goals as goal
 
 pub returns-clause-told : goal.returns-clause-told
-returns-clause-told c = if_ok _ _ c.first_loss.result (λ loss told plan s first search.
+returns-clause-told c = if_ok _ _ c.first_loss.result (λ loss told first plan s search.
     let all : c.args.looked ≡ length c.args.entries.now = let other = c.if-looked-entries.false in let within = search.1.within in grind (arith, other, within) in
-    told plan s first (subst (λ (n : ℕ). IsSearch plan (beginning plan s) c.args.entries.now c.args.edges.now n first) all search)) c.first_loss.ensures.told
+    told first plan s (subst (λ (n : ℕ). IsSearch plan (beginning plan s) c.args.entries.now c.args.edges.now n first) all search)) c.first_loss.ensures.told
 
 pub returns-then-looked-entries-clause-whole : goal.returns-then-looked-entries-clause-whole
-returns-then-looked-entries-clause-whole c = λ plan s h search all. let less = c.if-looked-entries.true in absurd (grind (arith, less, all))
+returns-then-looked-entries-clause-whole c = λ h plan s search all. let less = c.if-looked-entries.true in absurd (grind (arith, less, all))
 
 pub returns-clause-whole : goal.returns-clause-whole
-returns-clause-whole c = if_ok _ _ c.first_loss.result (λ loss told plan s h search past.
+returns-clause-whole c = if_ok _ _ c.first_loss.result (λ loss told h plan s search past.
     let all : c.args.looked ≡ length c.args.entries.now = let within = search.1.within in omega (arith, past, within) in
-    told plan s h (subst (λ (n : ℕ). IsSearch plan (beginning plan s) c.args.entries.now c.args.edges.now n (Some h)) all search)) c.first_loss.ensures.whole
+    told h plan s (subst (λ (n : ℕ). IsSearch plan (beginning plan s) c.args.entries.now c.args.edges.now n (Some h)) all search)) c.first_loss.ensures.whole
