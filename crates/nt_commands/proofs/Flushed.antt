@@ -1,9 +1,9 @@
 -- A flush keeps what a run wrote, and is counted where it fails.
-use Rattle.std.proofs.Common.{◌≡◌, ◌<◌, ◌+◌, ◌-◌, ◌^◌, ◌∙◌, ℕ, Bool, true, false, List, Option, ◌++◌, Result, Ok, Err, inl, inr, refl, ap, sym, subst, arith}
+use Rattle.std.proofs.Common.{◌≡◌, ◌<◌, ◌+◌, ◌-◌, ◌^◌, ◌∙◌, ℕ, true, false, List, Option, ◌++◌, Result, Ok, Err, inl, inr, refl, ap, sym, subst, arith}
 use Rattle.std.specs.Prelude.{IfOk, IfErr}
 use Rattle.std.specs.Io.KnownBytes.{Keeps}
 use Rattle.std.proofs.KnownBytes.{Appends-kept}
-use Rattle.nt_devices.specs.Device.{Counts, HandsOn, one_more}
+use Rattle.nt_devices.specs.Device.{Counts, HandsOn, Reading, Writing, one_more}
 use Rattle.nt_script.specs.Progress.{Progress}
 use Rattle.nt_script.specs.Running.{Answers, CountsFailures, Stops, end_of}
 use Rattle.nt_script.specs.declared.summary.Summary.{Summary}
@@ -42,44 +42,46 @@ still_stopped left held mid held' number IsCause stops kept = record {
 one_more_is : (n : ℕ) → n < 2 ^ 64 - 1 → one_more n ≡ n + 1
 one_more_is n h = omega arith
 
-flushed : {X E : Type 0} (written mid written' : ℕ) (handed : Bool) (flush : Result X E) → written < 2 ^ 64 - 1 → mid ≡ written → Counts mid written' flush → HandsOn handed flush → IsFlushed written written' handed
-flushed written mid written' handed (Ok x) room same counts hands = inl (counts ∙ same, hands)
-flushed written mid written' handed (Err e) room same counts hands = inr (counts ∙ ap one_more same ∙ one_more_is written room, hands)
+flushed : {X E : Type 0} (writer mid writer' : Writing) (flush : Result X E) → writer.failed < 2 ^ 64 - 1 → mid.failed ≡ writer.failed → Counts mid.failed writer'.failed flush → HandsOn writer'.handed_on flush → IsFlushed writer writer'
+flushed writer mid writer' (Ok x) room same counts hands = inl (counts ∙ same, hands)
+flushed writer mid writer' (Err e) room same counts hands = inr (counts ∙ ap one_more same ∙ one_more_is writer.failed room, hands)
 
 -- ---- what is answered
 
-done : (left left' held mid held' : Option (List ℕ)) (read read' written before written' : ℕ) (handed : Bool) (summary : Summary)
-    → Answers left left' held mid (Ok summary) → CountsFailures read read' written before (Ok summary) → Keeps mid held' → written' ≡ before → handed ≡ true
-    → Outcome left left' held held' written written' handed (Ok summary) × CountsReads read read' (Ok summary)
-done left left' held mid held' read read' written before written' handed summary answers counts kept same hands = ((still_done left left' held mid held' summary answers kept, same ∙ counts.1, hands), counts.0)
+done : (reader reader' : Reading) (writer mid writer' : Writing) (summary : Summary)
+    → Answers reader.left reader'.left writer.held mid.held (Ok summary) → CountsFailures reader.failed reader'.failed writer.failed mid.failed (Ok summary) → Keeps mid.held writer'.held → writer'.failed ≡ mid.failed → writer'.handed_on ≡ true
+    → Outcome reader reader' writer writer' (Ok summary) × CountsReads reader reader' (Ok summary)
+done reader reader' writer mid writer' summary answers counts kept same hands = ((still_done reader.left reader'.left writer.held mid.held writer'.held summary answers kept, same ∙ counts.1, hands), counts.0)
 
-not_handed_on : (left left' held mid held' : Option (List ℕ)) (read read' written before written' : ℕ) (handed : Bool) (summary : Summary) (line : ℕ) → written < 2 ^ 64 - 1
-    → Answers left left' held mid (Ok summary) → CountsFailures read read' written before (Ok summary) → Keeps mid held' → written' ≡ one_more before → handed ≡ false → line ≡ summary.lines + 1
-    → Outcome left left' held held' written written' handed (Err (Write line)) × CountsReads read read' (Err (Write line))
-not_handed_on left left' held mid held' read read' written before written' handed summary line room answers counts kept more hands is =
-    ((more ∙ ap one_more counts.1 ∙ one_more_is written room, inr (summary, still_done left left' held mid held' summary answers kept, is, hands)), counts.0)
+not_handed_on : (reader reader' : Reading) (writer mid writer' : Writing) (summary : Summary) (line : ℕ) → writer.failed < 2 ^ 64 - 1
+    → Answers reader.left reader'.left writer.held mid.held (Ok summary) → CountsFailures reader.failed reader'.failed writer.failed mid.failed (Ok summary) → Keeps mid.held writer'.held → writer'.failed ≡ one_more mid.failed → writer'.handed_on ≡ false
+    → line ≡ summary.lines + 1
+    → Outcome reader reader' writer writer' (Err (Write line)) × CountsReads reader reader' (Err (Write line))
+not_handed_on reader reader' writer mid writer' summary line room answers counts kept more hands is =
+    ((more ∙ ap one_more counts.1 ∙ one_more_is writer.failed room, inr (summary, still_done reader.left reader'.left writer.held mid.held writer'.held summary answers kept, is, hands)), counts.0)
 
-pub ended : (left left' held mid held' : Option (List ℕ)) (read read' written before written' : ℕ) (handed : Bool) (summary : Summary) (result : Result Summary RunFault) → written < 2 ^ 64 - 1
-    → Answers left left' held mid (Ok summary) → CountsFailures read read' written before (Ok summary) → Keeps mid held'
-    → IfOk result (λ told. (told ≡ summary) × (written' ≡ before) × (handed ≡ true)) → IfErr result (λ fault. (fault ≡ Write (summary.lines + 1)) × (written' ≡ one_more before) × (handed ≡ false))
-    → Outcome left left' held held' written written' handed result × CountsReads read read' result
-ended left left' held mid held' read read' written before written' handed summary (Ok told) room answers counts kept ok err =
-    subst (λ s. Outcome left left' held held' written written' handed (Ok s) × CountsReads read read' (Ok s)) (sym ok.0) (done left left' held mid held' read read' written before written' handed summary answers counts kept ok.1 ok.2)
-ended left left' held mid held' read read' written before written' handed summary (Err fault) room answers counts kept ok err =
-    subst (λ f. Outcome left left' held held' written written' handed (Err f) × CountsReads read read' (Err f)) (sym err.0)
-    (not_handed_on left left' held mid held' read read' written before written' handed summary (summary.lines + 1) room answers counts kept err.1 err.2 refl)
+pub ended : (reader reader' : Reading) (writer mid writer' : Writing) (summary : Summary) (result : Result Summary RunFault) → writer.failed < 2 ^ 64 - 1
+    → Answers reader.left reader'.left writer.held mid.held (Ok summary) → CountsFailures reader.failed reader'.failed writer.failed mid.failed (Ok summary) → Keeps mid.held writer'.held
+    → IfOk result (λ told. (told ≡ summary) × (writer'.failed ≡ mid.failed) × (writer'.handed_on ≡ true)) → IfErr result (λ fault. (fault ≡ Write (summary.lines + 1)) × (writer'.failed ≡ one_more mid.failed) × (writer'.handed_on ≡ false))
+    → Outcome reader reader' writer writer' result × CountsReads reader reader' result
+ended reader reader' writer mid writer' summary (Ok told) room answers counts kept ok err =
+    subst (λ s. Outcome reader reader' writer writer' (Ok s) × CountsReads reader reader' (Ok s)) (sym ok.0) (done reader reader' writer mid writer' summary answers counts kept ok.1 ok.2)
+ended reader reader' writer mid writer' summary (Err fault) room answers counts kept ok err =
+    subst (λ f. Outcome reader reader' writer writer' (Err f) × CountsReads reader reader' (Err f)) (sym err.0)
+    (not_handed_on reader reader' writer mid writer' summary (summary.lines + 1) room answers counts kept err.1 err.2 refl)
 
-pub write_failed : (left left' held held' : Option (List ℕ)) (read read' written written' : ℕ) (handed : Bool) (line : ℕ) → Answers left left' held held' (Err (Write line)) → CountsFailures {X = Summary} read read' written written' (Err (Write line))
-    → Outcome left left' held held' written written' handed (Err (Write line)) × CountsReads read read' (Err (Write line))
-write_failed left left' held held' read read' written written' handed line answers counts = ((counts.1, inl answers), counts.0)
+pub write_failed : (reader reader' : Reading) (writer writer' : Writing) (line : ℕ) → Answers reader.left reader'.left writer.held writer'.held (Err (Write line)) → CountsFailures {X = Summary} reader.failed reader'.failed writer.failed writer'.failed (Err (Write line))
+    → Outcome reader reader' writer writer' (Err (Write line)) × CountsReads reader reader' (Err (Write line))
+write_failed reader reader' writer writer' line answers counts = ((counts.1, inl answers), counts.0)
 
-pub cut_short : {X E : Type 0} (left left' held mid held' : Option (List ℕ)) (read read' written before written' : ℕ) (handed : Bool) (flush : Result X E) (fault : RunFault) → written < 2 ^ 64 - 1
-    → ((line : ℕ) → fault ≡ Write line → ⊥) → Answers left left' held mid (Err fault) → CountsFailures {X = Summary} read read' written before (Err fault) → Keeps mid held' → Counts before written' flush → HandsOn handed flush
-    → Outcome left left' held held' written written' handed (Err fault) × CountsReads read read' (Err fault)
-cut_short left left' held mid held' read read' written before written' handed flush (Script line fault) room other answers counts kept more hands =
-    ((still_stopped left held mid held' line _ answers kept, flushed written before written' handed flush room counts.1 more hands), counts.0)
-cut_short left left' held mid held' read read' written before written' handed flush (Read line) room other answers counts kept more hands =
-    ((still_stopped left held mid held' line _ answers kept, flushed written before written' handed flush room counts.1 more hands), counts.0)
-cut_short left left' held mid held' read read' written before written' handed flush (Memory line) room other answers counts kept more hands =
-    ((still_stopped left held mid held' line _ answers kept, flushed written before written' handed flush room counts.1 more hands), counts.0)
-cut_short left left' held mid held' read read' written before written' handed flush (Write line) room other answers counts kept more hands = absurd (other line refl)
+pub cut_short : {X E : Type 0} (reader reader' : Reading) (writer mid writer' : Writing) (flush : Result X E) (fault : RunFault) → writer.failed < 2 ^ 64 - 1
+    → ((line : ℕ) → fault ≡ Write line → ⊥) → Answers reader.left reader'.left writer.held mid.held (Err fault) → CountsFailures {X = Summary} reader.failed reader'.failed writer.failed mid.failed (Err fault) → Keeps mid.held writer'.held
+    → Counts mid.failed writer'.failed flush → HandsOn writer'.handed_on flush
+    → Outcome reader reader' writer writer' (Err fault) × CountsReads reader reader' (Err fault)
+cut_short reader reader' writer mid writer' flush (Script line fault) room other answers counts kept more hands =
+    ((still_stopped reader.left writer.held mid.held writer'.held line _ answers kept, flushed writer mid writer' flush room counts.1 more hands), counts.0)
+cut_short reader reader' writer mid writer' flush (Read line) room other answers counts kept more hands =
+    ((still_stopped reader.left writer.held mid.held writer'.held line _ answers kept, flushed writer mid writer' flush room counts.1 more hands), counts.0)
+cut_short reader reader' writer mid writer' flush (Memory line) room other answers counts kept more hands =
+    ((still_stopped reader.left writer.held mid.held writer'.held line _ answers kept, flushed writer mid writer' flush room counts.1 more hands), counts.0)
+cut_short reader reader' writer mid writer' flush (Write line) room other answers counts kept more hands = absurd (other line refl)

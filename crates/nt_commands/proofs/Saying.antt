@@ -1,12 +1,12 @@
 -- Pieces that are written one after another.
-use Rattle.std.proofs.Common.{◌≡◌, ◌⊎◌, ℕ, Bool, ◌+◌, ◌<◌, ◌∙◌, ap, sym, subst, arith, inl, inr, List, [], ◌∷◌, ◌++◌, length, take, length-append, zero-add, suc, Option, Result, Ok, Err, append_assoc, codes}
+use Rattle.std.proofs.Common.{◌≡◌, ◌⊎◌, ℕ, ◌+◌, ◌<◌, ◌∙◌, ap, sym, subst, arith, inl, inr, List, [], ◌∷◌, ◌++◌, length, take, length-append, zero-add, suc, Option, Result, Ok, Err, append_assoc, codes}
 use Rattle.std.specs.Fmt.{decimal}
 use Rattle.std.specs.Io.KnownBytes.{Appends}
 use Rattle.std.proofs.KnownBytes.{Appends-trans}
 use Rattle.std.proofs.lemmas.List.{take-append-le}
-use Rattle.nt_devices.specs.Device.{AppendsPart, Writes, one_more}
+use Rattle.nt_devices.specs.Device.{AppendsPart, Says, Writes, Writing, one_more}
 use Rattle.nt_threads.specs.Reports.{IsReport}
-use Rattle.nt_commands.specs.Ending.{Says, message_of}
+use Rattle.nt_commands.specs.Ending.{message_of}
 use Rattle.nt_commands.specs.Telling.{EndsWell, EndsUnwritten, EndsSilent, TellsLines}
 use Rattle.nt_script.specs.Message.{line_number, reason_of}
 use Rattle.nt_script.specs.declared.fault.RunFault.{RunFault}
@@ -23,10 +23,10 @@ part_after a b c text more p q =
         ap (λ (k : ℕ). take k ((x ∷ xs) ++ ys)) next ∙ ap (λ (l : List ℕ). x ∷ l) (take_after xs ys n)
 
 -- the first piece was written, and the others so
-pub Writes-then : {Y F : Type 0} (a b c : Option (List ℕ)) (f g h : ℕ) (text more whole : List ℕ) (result : Result Y F)
-    → Appends a b text → g ≡ f → Writes b c g h more result → text ++ more ≡ whole → Writes a c f h whole result
-Writes-then a b c f g h text more whole (Ok y) p same q e = (subst (Appends a c) e (Appends-trans a b c text more p q.0), q.1 ∙ same)
-Writes-then a b c f g h text more whole (Err fault) p same q e = (subst (AppendsPart a c) e (part_after a b c text more p q.0), q.1 ∙ ap one_more same)
+pub Writes-then : {Y F : Type 0} (a b c : Writing) (text more whole : List ℕ) (result : Result Y F)
+    → Appends a.held b.held text → b.failed ≡ a.failed → Writes b c more result → text ++ more ≡ whole → Writes a c whole result
+Writes-then a b c text more whole (Ok y) p same q e = (subst (Appends a.held c.held) e (Appends-trans a.held b.held c.held text more p q.0), q.1 ∙ same)
+Writes-then a b c text more whole (Err fault) p same q e = (subst (AppendsPart a.held c.held) e (part_after a.held b.held c.held text more p q.0), q.1 ∙ ap one_more same)
 
 -- the first piece was not written whole
 pub part_of_front : (a b : Option (List ℕ)) (text more whole : List ℕ) → AppendsPart a b text → text ++ more ≡ whole → AppendsPart a b whole
@@ -37,9 +37,9 @@ part_of_front a b text more whole p e =
     subst (AppendsPart a b) e (n, within, subst (Appends a b) (sym same) p.2)
 
 -- what was written was said
-pub Writes-said : {X E : Type 0} (a b : Option (List ℕ)) (f g : ℕ) (text : List ℕ) (result : Result X E) → Writes a b f g text result → Says a b f g text
-Writes-said a b f g text (Ok x) p = inl p
-Writes-said a b f g text (Err e) p = inr p
+pub Writes-said : {X E : Type 0} (a b : Writing) (text : List ℕ) (result : Result X E) → Writes a b text result → Says a b text
+Writes-said a b text (Ok x) p = inl p
+Writes-said a b text (Err e) p = inr p
 
 -- a message in two pieces
 pub message_pieces : (fault : RunFault) (line : ℕ) (reason : List ℕ) → line ≡ line_number fault → reason ≡ reason_of fault
@@ -50,9 +50,9 @@ message_pieces fault line reason p q =
     ∙ ap (λ (l : List ℕ). codes "ntrun: line " ++ l) (sym (append_assoc (decimal (line_number fault)) (codes ": " ++ reason_of fault) (10 ∷ [])))
 
 -- the lines of a run were handed on, or they were not
-pub told : (workers rounds : ℕ) (lines : List ℕ) (held held' : Option (List ℕ)) (written written' : ℕ) (handed : Bool) (shown shown' : Option (List ℕ)) (failed failed' status : ℕ)
-    → IsReport workers rounds lines → TellsLines lines held held' written written' handed shown shown' failed failed' status
-    → EndsWell workers rounds held held' written written' handed shown shown' failed failed' status
-    ⊎ (EndsUnwritten workers rounds held held' written written' shown shown' failed failed' status ⊎ EndsSilent workers rounds held held' written written' shown shown' failed failed' status)
-told workers rounds lines held held' written written' handed shown shown' failed failed' status report (inl is) = inl ((lines, report, is.0), is.1, is.2, is.3, is.4, is.5)
-told workers rounds lines held held' written written' handed shown shown' failed failed' status report (inr is) = inr (inl ((lines, report, is.0), is.1, is.2, is.3))
+pub told : (workers rounds : ℕ) (lines : List ℕ) (writer writer' errors errors' : Writing) (status : ℕ)
+    → IsReport workers rounds lines → TellsLines lines writer writer' errors errors' status
+    → EndsWell workers rounds writer writer' errors errors' status
+    ⊎ (EndsUnwritten workers rounds writer writer' errors errors' status ⊎ EndsSilent workers rounds writer writer' errors errors' status)
+told workers rounds lines writer writer' errors errors' status report (inl is) = inl ((lines, report, is.0), is.1, is.2, is.3, is.4, is.5)
+told workers rounds lines writer writer' errors errors' status report (inr is) = inr (inl ((lines, report, is.0), is.1, is.2, is.3))

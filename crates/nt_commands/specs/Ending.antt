@@ -1,7 +1,7 @@
 -- How the program ends.
-use Rattle.std.specs.Prelude.{◌≡◌, ◌⊎◌, ℕ, ◌+◌, Bool, true, false, List, [], ◌∷◌, ◌++◌, Option, Result, Ok, Err, codes}
-use Rattle.std.specs.Io.KnownBytes.{Appends, Keeps}
-use Rattle.nt_devices.specs.Device.{AppendsPart, one_more}
+use Rattle.std.specs.Prelude.{◌≡◌, ◌⊎◌, ℕ, ◌+◌, true, false, List, [], ◌∷◌, ◌++◌, Result, Ok, Err, codes}
+use Rattle.std.specs.Io.KnownBytes.{Keeps}
+use Rattle.nt_devices.specs.Device.{Reading, Says, Writing}
 use Rattle.nt_script.specs.Message.{fault_text}
 use Rattle.nt_script.specs.Running.{Answers}
 use Rattle.nt_script.specs.declared.summary.Summary.{Summary}
@@ -17,33 +17,29 @@ status_of (Err (Write line)) = 1
 status_of (Err (Memory line)) = 1
 
 -- The reader failed once where that is why the run ended, and not otherwise.
-abbrev pub CountsReads : ℕ → ℕ → Result Summary RunFault → Type 0
-CountsReads read read' (Err (Read line)) = read' ≡ read + 1
-CountsReads read read' outcome = read' ≡ read
+abbrev pub CountsReads : (reader reader' : Reading) → Result Summary RunFault → Type 0
+CountsReads reader reader' (Err (Read line)) = reader'.failed ≡ reader.failed + 1
+CountsReads reader reader' outcome = reader'.failed ≡ reader.failed
 
 -- A flush was tried: all was handed on, or the writer failed once more.
-abbrev pub IsFlushed : ℕ → ℕ → Bool → Type 0
-IsFlushed written written' handed = ((written' ≡ written) × (handed ≡ true)) ⊎ ((written' ≡ written + 1) × (handed ≡ false))
+abbrev pub IsFlushed : (writer writer' : Writing) → Type 0
+IsFlushed writer writer' = ((writer'.failed ≡ writer.failed) × (writer'.handed_on ≡ true)) ⊎ ((writer'.failed ≡ writer.failed + 1) × (writer'.handed_on ≡ false))
 
 -- The script was run to its end and all was handed on; or the flush after its last line failed; or a write failed, with no flush after it; or it was cut short otherwise, and a flush was tried.
-abbrev pub Outcome : (left left' held held' : Option (List ℕ)) → (written written' : ℕ) → Bool → Result Summary RunFault → Type 0
-Outcome left left' held held' written written' handed (Ok summary) = Answers left left' held held' (Ok summary) × (written' ≡ written) × (handed ≡ true)
-Outcome left left' held held' written written' handed (Err (Write line)) =
-    (written' ≡ written + 1)
-    × (Answers left left' held held' (Err (Write line)) ⊎ ((summary : Summary) × Answers left left' held held' (Ok summary) × (line ≡ summary.lines + 1) × (handed ≡ false)))
-Outcome left left' held held' written written' handed (Err (Script line fault)) = Answers left left' held held' (Err (Script line fault)) × IsFlushed written written' handed
-Outcome left left' held held' written written' handed (Err (Read line)) = Answers left left' held held' (Err (Read line)) × IsFlushed written written' handed
-Outcome left left' held held' written written' handed (Err (Memory line)) = Answers left left' held held' (Err (Memory line)) × IsFlushed written written' handed
+abbrev pub Outcome : (reader reader' : Reading) → (writer writer' : Writing) → Result Summary RunFault → Type 0
+Outcome reader reader' writer writer' (Ok summary) = Answers reader.left reader'.left writer.held writer'.held (Ok summary) × (writer'.failed ≡ writer.failed) × (writer'.handed_on ≡ true)
+Outcome reader reader' writer writer' (Err (Write line)) =
+    (writer'.failed ≡ writer.failed + 1)
+    × (Answers reader.left reader'.left writer.held writer'.held (Err (Write line)) ⊎ ((summary : Summary) × Answers reader.left reader'.left writer.held writer'.held (Ok summary) × (line ≡ summary.lines + 1) × (writer'.handed_on ≡ false)))
+Outcome reader reader' writer writer' (Err (Script line fault)) = Answers reader.left reader'.left writer.held writer'.held (Err (Script line fault)) × IsFlushed writer writer'
+Outcome reader reader' writer writer' (Err (Read line)) = Answers reader.left reader'.left writer.held writer'.held (Err (Read line)) × IsFlushed writer writer'
+Outcome reader reader' writer writer' (Err (Memory line)) = Answers reader.left reader'.left writer.held writer'.held (Err (Memory line)) × IsFlushed writer writer'
 
 -- ---- what is said on standard error
 
 -- a line with its LF
 abbrev pub with_feed : List ℕ → List ℕ
 with_feed line = line ++ (10 ∷ [])
-
--- All of these bytes were said; or a part of them, and the writer failed once more.
-abbrev pub Says : (shown shown' : Option (List ℕ)) → (failed failed' : ℕ) → List ℕ → Type 0
-Says shown shown' failed failed' bytes = (Appends shown shown' bytes × (failed' ≡ failed)) ⊎ (AppendsPart shown shown' bytes × (failed' ≡ one_more failed))
 
 -- the line that tells why a run ended
 abbrev pub message_of : RunFault → List ℕ
@@ -55,24 +51,24 @@ said_of (Ok summary) = []
 said_of (Err fault) = message_of fault
 
 -- The exit status is that of the run, and what is said is said of it.
-pub record ScriptEnds (left left' held held' : Option (List ℕ)) (read read' written written' : ℕ) (handed : Bool) (shown shown' : Option (List ℕ)) (failed failed' status : ℕ) : Type 0 where
+pub record ScriptEnds (reader reader' : Reading) (writer writer' errors errors' : Writing) (status : ℕ) : Type 0 where
   pub outcome : Result Summary RunFault
-  pub ends : Outcome left left' held held' written written' handed outcome
-  pub reads : CountsReads read read' outcome
-  pub said : Says shown shown' failed failed' (said_of outcome)
+  pub ends : Outcome reader reader' writer writer' outcome
+  pub reads : CountsReads reader reader' outcome
+  pub said : Says errors errors' (said_of outcome)
   pub is : status ≡ status_of outcome
 
 -- It is said that the file can't be opened, and nothing was written; or the script in it was run.
-pub record FileEnds (held held' : Option (List ℕ)) (written written' : ℕ) (handed : Bool) (shown shown' : Option (List ℕ)) (failed failed' status : ℕ) : Type 0 where
+pub record FileEnds (writer writer' errors errors' : Writing) (status : ℕ) : Type 0 where
   pub either :
-      (Says shown shown' failed failed' (with_feed (codes "ntrun: cannot open")) × (status ≡ 1) × Keeps held held' × (written' ≡ written))
-      ⊎ ((left left' : Option (List ℕ)) × (read read' : ℕ) × ScriptEnds left left' held held' read read' written written' handed shown shown' failed failed' status)
+      (Says errors errors' (with_feed (codes "ntrun: cannot open")) × (status ≡ 1) × Keeps writer.held writer'.held × (writer'.failed ≡ writer.failed))
+      ⊎ ((reader reader' : Reading) × ScriptEnds reader reader' writer writer' errors errors' status)
 
 -- It is said that memory ran out; or a file was run, to some writer.
-abbrev pub PrintEnds : (shown shown' : Option (List ℕ)) → (failed failed' status : ℕ) → Type 0
-PrintEnds shown shown' failed failed' status =
-    (Says shown shown' failed failed' (with_feed (codes "ntrun: out of memory")) × (status ≡ 1))
-    ⊎ ((held held' : Option (List ℕ)) × (written written' : ℕ) × (handed : Bool) × FileEnds held held' written written' handed shown shown' failed failed' status)
+abbrev pub PrintEnds : (errors errors' : Writing) → (status : ℕ) → Type 0
+PrintEnds errors errors' status =
+    (Says errors errors' (with_feed (codes "ntrun: out of memory")) × (status ≡ 1))
+    ⊎ ((writer writer' : Writing) × FileEnds writer writer' errors errors' status)
 
 -- the line that tells how the program is called
 abbrev pub usage : List ℕ

@@ -15,8 +15,7 @@ use std::thread::Threads;
 
 /// Runs the script in this file to standard output, and answers the exit status.
 fn print_file<R: Files + AllocGlobal + Print, E: Sink>(rt: &R, path: &str, errors: &mut E) -> u8
-    ensures { PrintEnds (E.contents errors.old) (E.contents errors.new) (E.failed errors.old)
-        (E.failed errors.new) result }
+    ensures { PrintEnds (E.seen errors.old) (E.seen errors.new) result }
 {
     match BufWriter::new(rt.alloc(), io::writer(rt)) {
         Ok(writer) => run_file(rt, path, &mut Counted::new(writer), errors),
@@ -31,8 +30,7 @@ fn print_threads<R: AllocGlobal + Print + Threads + Wait + Sync, E: Sink>(
     rounds: u32,
     errors: &mut E,
 ) -> u8
-    ensures { PrintThreadsEnd workers rounds (E.contents errors.old) (E.contents errors.new) (E.failed errors.old)
-        (E.failed errors.new) result }
+    ensures { PrintThreadsEnd workers rounds (E.seen errors.old) (E.seen errors.new) result }
 {
     match BufWriter::new(rt.alloc(), io::writer(rt)) {
         Ok(writer) => threads_over(
@@ -53,8 +51,7 @@ pub fn carry_out<R: Files + AllocGlobal + Print + Threads + Wait + Sync, E: Sink
     plan: Result<Plan, PlanFault>,
     errors: &mut E,
 ) -> u8
-    ensures { PlanEnds plan (E.contents errors.old) (E.contents errors.new) (E.failed errors.old)
-        (E.failed errors.new) result }
+    ensures { PlanEnds plan (E.seen errors.old) (E.seen errors.new) result }
 {
     match plan {
         Ok(Plan::Script(path)) => print_file(rt, path.as_str(), errors),

@@ -2,8 +2,8 @@
 
 ghost use Rattle.std.specs.Prelude.{◌≡◌, ◌++◌, codes};
 ghost use Rattle.std.specs.Fmt.{decimal};
-ghost use Rattle.nt_devices.specs.Device.{Writes};
-ghost use Rattle.nt_commands.specs.Ending.{Says, message_of, with_feed};
+ghost use Rattle.nt_devices.specs.Device.{Says, Writes};
+ghost use Rattle.nt_commands.specs.Ending.{message_of, with_feed};
 
 use nt_devices::{Sink, WriteFailed, write_whole};
 use nt_script::RunFault;
@@ -15,8 +15,7 @@ pub(crate) const OUT_OF_MEMORY: &str = "ntrun: out of memory";
 /// Says a line, and answers the exit status that goes with it. A failure to say it is ignored.
 pub fn say<E: Sink>(errors: &mut E, line: &str, status: u8) -> u8
     ensures status { result ≡ status }
-    ensures said { Says (E.contents errors.old) (E.contents errors.new) (E.failed errors.old) (E.failed errors.new)
-        (with_feed line.now) }
+    ensures said { Says (E.seen errors.old) (E.seen errors.new) (with_feed line.now) }
 {
     let _ = write_line(errors, line);
     status
@@ -24,16 +23,14 @@ pub fn say<E: Sink>(errors: &mut E, line: &str, status: u8) -> u8
 
 /// Says why a run ended. A failure to say it is ignored.
 pub fn tell<E: Sink>(errors: &mut E, fault: RunFault)
-    ensures { Says (E.contents errors.old) (E.contents errors.new) (E.failed errors.old) (E.failed errors.new)
-        (message_of fault) }
+    ensures { Says (E.seen errors.old) (E.seen errors.new) (message_of fault) }
 {
     let _ = write_message(errors, fault);
 }
 
 /// Writes why a run ended.
 fn write_message<E: Sink>(errors: &mut E, fault: RunFault) -> Result<(), WriteFailed>
-    ensures { Writes (E.contents errors.old) (E.contents errors.new) (E.failed errors.old) (E.failed errors.new)
-        (message_of fault) result }
+    ensures { Writes (E.seen errors.old) (E.seen errors.new) (message_of fault) result }
 {
     match write_place(errors, fault.line()) {
         Ok(()) => write_reason(errors, fault.reason()),
@@ -43,8 +40,7 @@ fn write_message<E: Sink>(errors: &mut E, fault: RunFault) -> Result<(), WriteFa
 
 /// Writes the beginning of a message, with the line's number.
 fn write_place<E: Sink>(errors: &mut E, line: u64) -> Result<(), WriteFailed>
-    ensures { Writes (E.contents errors.old) (E.contents errors.new) (E.failed errors.old) (E.failed errors.new)
-        (codes "ntrun: line " ++ decimal line) result }
+    ensures { Writes (E.seen errors.old) (E.seen errors.new) (codes "ntrun: line " ++ decimal line) result }
 {
     match write_whole(errors, b"ntrun: line ") {
         Ok(()) => write_whole(errors, itoa::Buffer::new().format(line).as_bytes()),
@@ -54,8 +50,7 @@ fn write_place<E: Sink>(errors: &mut E, line: u64) -> Result<(), WriteFailed>
 
 /// Writes the rest of a message.
 fn write_reason<E: Sink>(errors: &mut E, reason: &str) -> Result<(), WriteFailed>
-    ensures { Writes (E.contents errors.old) (E.contents errors.new) (E.failed errors.old) (E.failed errors.new)
-        (codes ": " ++ with_feed reason.now) result }
+    ensures { Writes (E.seen errors.old) (E.seen errors.new) (codes ": " ++ with_feed reason.now) result }
 {
     match write_whole(errors, b": ") {
         Ok(()) => write_line(errors, reason),
@@ -65,8 +60,7 @@ fn write_reason<E: Sink>(errors: &mut E, reason: &str) -> Result<(), WriteFailed
 
 /// Writes a line.
 fn write_line<E: Sink>(errors: &mut E, line: &str) -> Result<(), WriteFailed>
-    ensures { Writes (E.contents errors.old) (E.contents errors.new) (E.failed errors.old) (E.failed errors.new)
-        (with_feed line.now) result }
+    ensures { Writes (E.seen errors.old) (E.seen errors.new) (with_feed line.now) result }
 {
     match write_whole(errors, line.as_bytes()) {
         Ok(()) => write_whole(errors, b"\n"),

@@ -21,12 +21,10 @@ pub fn script_over<R: Source, W: Sink, E: Sink>(
     writer: &mut W,
     errors: &mut E,
 ) -> u8
-    requires read_failures { R.failed reader.old < 2 ^ 64 - 1 }
-    requires write_failures { W.failed writer.old < 2 ^ 64 - 1 }
-    ensures { ScriptEnds (R.remaining reader.old) (R.remaining reader.new)
-        (W.contents writer.old) (W.contents writer.new) (R.failed reader.old) (R.failed reader.new)
-        (W.failed writer.old) (W.failed writer.new) (W.handed_on writer.new)
-        (E.contents errors.old) (E.contents errors.new) (E.failed errors.old) (E.failed errors.new) result }
+    requires read_failures { (R.seen reader.old).failed < 2 ^ 64 - 1 }
+    requires write_failures { (W.seen writer.old).failed < 2 ^ 64 - 1 }
+    ensures { ScriptEnds (R.seen reader.old) (R.seen reader.new) (W.seen writer.old) (W.seen writer.new)
+        (E.seen errors.old) (E.seen errors.new) result }
 {
     match run_and_flush(alloc, reader, writer) {
         Ok(_) => 0,
@@ -45,10 +43,8 @@ pub fn run_file<F: Files + AllocGlobal, W: Sink, E: Sink>(
     writer: &mut W,
     errors: &mut E,
 ) -> u8
-    requires { W.failed writer.old < 2 ^ 64 - 1 }
-    ensures { FileEnds (W.contents writer.old) (W.contents writer.new) (W.failed writer.old) (W.failed writer.new)
-        (W.handed_on writer.new) (E.contents errors.old) (E.contents errors.new) (E.failed errors.old)
-        (E.failed errors.new) result }
+    requires { (W.seen writer.old).failed < 2 ^ 64 - 1 }
+    ensures { FileEnds (W.seen writer.old) (W.seen writer.new) (E.seen errors.old) (E.seen errors.new) result }
 {
     match fs::open(files, path) {
         Ok(file) => script_over(files.alloc(), &mut Counted::new(file), writer, errors),
@@ -62,11 +58,10 @@ fn run_and_flush<R: Source, W: Sink>(
     reader: &mut R,
     writer: &mut W,
 ) -> Result<Summary, RunFault>
-    requires read_failures { R.failed reader.old < 2 ^ 64 - 1 }
-    requires write_failures { W.failed writer.old < 2 ^ 64 - 1 }
-    ensures { Outcome (R.remaining reader.old) (R.remaining reader.new) (W.contents writer.old) (W.contents writer.new)
-        (W.failed writer.old) (W.failed writer.new) (W.handed_on writer.new) result
-        × CountsReads (R.failed reader.old) (R.failed reader.new) result }
+    requires read_failures { (R.seen reader.old).failed < 2 ^ 64 - 1 }
+    requires write_failures { (W.seen writer.old).failed < 2 ^ 64 - 1 }
+    ensures { Outcome (R.seen reader.old) (R.seen reader.new) (W.seen writer.old) (W.seen writer.new) result
+        × CountsReads (R.seen reader.old) (R.seen reader.new) result }
 {
     match run(alloc, reader, writer) {
         Ok(summary) => hand_on(summary, writer),
@@ -81,11 +76,11 @@ fn run_and_flush<R: Source, W: Sink>(
 /// Hands on what the writer holds back of a script that was run to its end.
 fn hand_on<W: Sink>(summary: Summary, writer: &mut W) -> Result<Summary, RunFault>
     requires lines { summary.lines < 2 ^ 64 - 1 }
-    ensures kept { Keeps (W.contents writer.old) (W.contents writer.new) }
-    ensures ok { IfOk result (λ told. (told ≡ summary) × (W.failed writer.new ≡ W.failed writer.old)
-        × (W.handed_on writer.new ≡ true)) }
+    ensures kept { Keeps (W.seen writer.old).held (W.seen writer.new).held }
+    ensures ok { IfOk result (λ told. (told ≡ summary) × ((W.seen writer.new).failed ≡ (W.seen writer.old).failed)
+        × ((W.seen writer.new).handed_on ≡ true)) }
     ensures err { IfErr result (λ fault. (fault ≡ Write (summary.lines + 1))
-        × (W.failed writer.new ≡ one_more (W.failed writer.old)) × (W.handed_on writer.new ≡ false)) }
+        × ((W.seen writer.new).failed ≡ one_more (W.seen writer.old).failed) × ((W.seen writer.new).handed_on ≡ false)) }
 {
     match writer.flush_counted() {
         Ok(()) => Ok(summary),
@@ -97,9 +92,9 @@ fn hand_on<W: Sink>(summary: Summary, writer: &mut W) -> Result<Summary, RunFaul
 
 /// Tries to hand on what the writer holds back of a script that has a fault, which is what is told then.
 fn try_to_hand_on<W: Sink>(writer: &mut W)
-    requires { W.failed writer.old < 2 ^ 64 - 1 }
-    ensures kept { Keeps (W.contents writer.old) (W.contents writer.new) }
-    ensures flushed { IsFlushed (W.failed writer.old) (W.failed writer.new) (W.handed_on writer.new) }
+    requires { (W.seen writer.old).failed < 2 ^ 64 - 1 }
+    ensures kept { Keeps (W.seen writer.old).held (W.seen writer.new).held }
+    ensures flushed { IsFlushed (W.seen writer.old) (W.seen writer.new) }
 {
     let _ = writer.flush_counted();
 }

@@ -1,12 +1,12 @@
 //! Running the plan of threads before two writers.
 
 ghost use Rattle.std.specs.Prelude.{◌≡◌, ◌≤◌, ◌&&◌, nat_le};
-ghost use Rattle.nt_commands.specs.Telling.{Hands, TellsLines, ThreadsEnd};
+ghost use Rattle.nt_commands.specs.Telling.{TellsLines, ThreadsEnd};
 ghost use Rattle.nt_commands.specs.CommandLine.{are_lawful};
 
 use crate::errors::{OUT_OF_MEMORY, USAGE, say};
 use crate::plan::{MOST_ROUNDS, MOST_WORKERS};
-use nt_devices::{Sink, WriteFailed, write_whole};
+use nt_devices::{Sink, write_and_flush};
 use nt_threads::report_of;
 use std::alloc::Global;
 use std::sync::Wait;
@@ -24,9 +24,8 @@ pub fn threads_over<R: Threads + Wait + Sync, W: Sink, E: Sink>(
     writer: &mut W,
     errors: &mut E,
 ) -> u8
-    ensures { ThreadsEnd workers rounds (W.contents writer.old) (W.contents writer.new)
-        (W.failed writer.old) (W.failed writer.new) (W.handed_on writer.new)
-        (E.contents errors.old) (E.contents errors.new) (E.failed errors.old) (E.failed errors.new) result }
+    ensures { ThreadsEnd workers rounds (W.seen writer.old) (W.seen writer.new)
+        (E.seen errors.old) (E.seen errors.new) result }
 {
     if !are_lawful(workers, rounds) {
         return say(errors, USAGE, 2);
@@ -41,11 +40,10 @@ const WRITE_FAILED: &str = "ntrun: write failed";
 
 /// Writes the lines and hands them on, and answers the exit status. Why it is not 0 is said on `errors`.
 fn tell_lines<W: Sink, E: Sink>(lines: &[u8], writer: &mut W, errors: &mut E) -> u8
-    ensures { TellsLines lines.now (W.contents writer.old) (W.contents writer.new)
-        (W.failed writer.old) (W.failed writer.new) (W.handed_on writer.new)
-        (E.contents errors.old) (E.contents errors.new) (E.failed errors.old) (E.failed errors.new) result }
+    ensures { TellsLines lines.now (W.seen writer.old) (W.seen writer.new)
+        (E.seen errors.old) (E.seen errors.new) result }
 {
-    match hand(writer, lines) {
+    match write_and_flush(writer, lines) {
         Ok(()) => 0,
         Err(_) => say(errors, WRITE_FAILED, 1),
     }
@@ -56,18 +54,4 @@ fn are_lawful(workers: u32, rounds: u32) -> bool
     ensures { result ≡ are_lawful workers rounds }
 {
     1 <= workers && workers <= MOST_WORKERS && 1 <= rounds && rounds <= MOST_ROUNDS
-}
-
-/// Writes the lines, and hands them on. After a failed write nothing more is written.
-fn hand<W: Sink>(writer: &mut W, lines: &[u8]) -> Result<(), WriteFailed>
-    ensures { Hands (W.contents writer.old) (W.contents writer.new) (W.failed writer.old) (W.failed writer.new)
-        (W.handed_on writer.new) lines.now result }
-{
-    match write_whole(writer, lines) {
-        Ok(()) => match writer.flush_counted() {
-            Ok(()) => Ok(()),
-            Err(_) => Err(WriteFailed),
-        },
-        Err(failed) => Err(failed),
-    }
 }

@@ -79,7 +79,7 @@ impl<R: Read> Read for Counted<R> {
 }
 
 impl<R: Read> Source for Counted<R> {
-    ghost failed = { λ c. c.failures };
+    ghost seen = { λ c. record { left = R.remaining c.device; failed = c.failures } };
 
     fn failures(&self) -> u64 {
         self.count()
@@ -136,11 +136,7 @@ impl<W: Write> Write for Counted<W> {
 }
 
 impl<W: Write> Sink for Counted<W> {
-    ghost failed = { λ c. c.failures };
-
-    ghost flushes = { λ c. c.flushes };
-
-    ghost handed_on = { λ c. c.handed_on };
+    ghost seen = { λ c. record { held = W.contents c.device; failed = c.failures; flushes = c.flushes; handed_on = c.handed_on } };
 
     fn failures(&self) -> u64 {
         self.count()

@@ -14,6 +14,6 @@ mod sink;
 mod source;
 
 pub use counted::Counted;
-pub use output::{WriteFailed, write_whole};
+pub use output::{WriteFailed, write_and_flush, write_whole};
 pub use sink::Sink;
 pub use source::Source;

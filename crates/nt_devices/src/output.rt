@@ -1,7 +1,7 @@
 //! Writing bytes as a whole.
 
 ghost use Rattle.std.specs.Prelude.{◌≡◌, ◌<◌, false, length};
-ghost use Rattle.nt_devices.specs.Device.{Writes};
+ghost use Rattle.nt_devices.specs.Device.{Hands, Writes};
 
 use crate::sink::Sink;
 
@@ -11,10 +11,9 @@ pub struct WriteFailed;
 
 /// Writes all of the bytes, in as many writes as it takes. A failure is not tried again, and nothing is flushed.
 pub fn write_whole<W: Sink>(writer: &mut W, bytes: &[u8]) -> Result<(), WriteFailed>
-    ensures bytes { Writes (W.contents writer.old) (W.contents writer.new) (W.failed writer.old)
-        (W.failed writer.new) bytes.now result }
-    ensures unflushed { W.flushes writer.new ≡ W.flushes writer.old }
-    ensures held { 0 < length bytes.now → W.handed_on writer.new ≡ false }
+    ensures bytes { Writes (W.seen writer.old) (W.seen writer.new) bytes.now result }
+    ensures unflushed { (W.seen writer.new).flushes ≡ (W.seen writer.old).flushes }
+    ensures held { 0 < length bytes.now → (W.seen writer.new).handed_on ≡ false }
 {
     let mut done = 0;
     while done < bytes.len() {
@@ -24,4 +23,17 @@ pub fn write_whole<W: Sink>(writer: &mut W, bytes: &[u8]) -> Result<(), WriteFai
         }
     }
     Ok(())
+}
+
+/// Writes all of the bytes, and hands them on. After a failed write nothing more is written.
+pub fn write_and_flush<W: Sink>(writer: &mut W, bytes: &[u8]) -> Result<(), WriteFailed>
+    ensures { Hands (W.seen writer.old) (W.seen writer.new) bytes.now result }
+{
+    match write_whole(writer, bytes) {
+        Ok(()) => match writer.flush_counted() {
+            Ok(()) => Ok(()),
+            Err(_) => Err(WriteFailed),
+        },
+        Err(failed) => Err(failed),
+    }
 }

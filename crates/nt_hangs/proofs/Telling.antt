@@ -3,7 +3,7 @@ use Rattle.std.proofs.Common.{◌≡◌, ◌⊎◌, ◌↔◌, ◌+◌, suc, ari
 use Rattle.std.specs.Prelude.{MatchOption}
 use Rattle.std.specs.Io.KnownBytes.{Appends}
 use Rattle.std.specs.declared.alloc.AllocError.{AllocError}
-use Rattle.nt_devices.specs.Device.{AppendsPart, one_more}
+use Rattle.nt_devices.specs.Device.{AppendsPart, Says, Writing, one_more}
 use Rattle.nt_status.specs.declared.limits.TheConstants.{MAX_MOMENT}
 use Rattle.nt_calls.specs.Steps.{IsNextMoment, NothingDue}
 use Rattle.nt_core.specs.Dispatcher.{Dispatcher, state}
@@ -17,7 +17,7 @@ use Rattle.nt_hangs.specs.Waits.{waiter_text, waiters_text}
 use Rattle.nt_hangs.specs.Verdicts.{code_of}
 use Rattle.nt_hangs.specs.Reports.{report_text, IsReport, ReportsOf}
 use Rattle.nt_hangs.specs.Watching.{Seen}
-use Rattle.nt_hangs.specs.Ending.{message_of, status_of, Says, Shows, TellsFault}
+use Rattle.nt_hangs.specs.Ending.{message_of, status_of, Shows, TellsFault}
 
 -- two pieces, one after the other
 pub put_two : {X E : Type 0} (result : Result X E) (old mid new first second : List ℕ) → mid ≡ old ++ first → OnOk result (new ≡ mid ++ second) → OnOk result (new ≡ old ++ (first ++ second))
@@ -38,15 +38,15 @@ waiters_more now objects told since t line old mid new p q r =
     (r ∙ ap (λ (n : ℕ). mid ++ waiter_text now objects told n t (get now.state.waits t)) p ∙ ap (λ (l : List ℕ). l ++ here) q ∙ append_assoc old (waiters_text now objects told since t) here)
 
 -- a report was not handed on
-pub unshown : (given text : List ℕ) (code : ℕ) (held held' : Option (List ℕ)) (written written' : ℕ) (handed : Bool) (shown shown' : Option (List ℕ)) (failed failed' status : ℕ) → given ≡ text
-    → AppendsPart held held' given ⊎ Appends held held' given → written' ≡ one_more written → Says shown shown' failed failed' (codes "ntlook: write failed\n") → status ≡ 1
-    → Shows text code held held' written written' handed shown shown' failed failed' status
-unshown given text code held held' written written' handed shown shown' failed failed' status same part more says is =
-    inr (subst (λ (bytes : List ℕ). AppendsPart held held' bytes ⊎ Appends held held' bytes) same part, more, says, is)
+pub unshown : (given text : List ℕ) (code : ℕ) (writer writer' errors errors' : Writing) (status : ℕ) → given ≡ text
+    → AppendsPart writer.held writer'.held given ⊎ Appends writer.held writer'.held given → writer'.failed ≡ one_more writer.failed → Says errors errors' (codes "ntlook: write failed\n") → status ≡ 1
+    → Shows text code writer writer' errors errors' status
+unshown given text code writer writer' errors errors' status same part more says is =
+    inr (subst (λ (bytes : List ℕ). AppendsPart writer.held writer'.held bytes ⊎ Appends writer.held writer'.held bytes) same part, more, says, is)
 
-pub told_fault : (fault : RunFault) (line : List ℕ) (shown shown' : Option (List ℕ)) (failed failed' status : ℕ) → line ≡ message_of fault → Says shown shown' failed failed' line → status ≡ status_of fault
-    → TellsFault fault shown shown' failed failed' status
-told_fault fault line shown shown' failed failed' status same says is = inl (subst (Says shown shown' failed failed') same says, is)
+pub told_fault : (fault : RunFault) (line : List ℕ) (errors errors' : Writing) (status : ℕ) → line ≡ message_of fault → Says errors errors' line → status ≡ status_of fault
+    → TellsFault fault errors errors' status
+told_fault fault line errors errors' status same says is = inl (subst (Says errors errors') same says, is)
 
 pub is_report : (file : List ℕ) (count : ℕ) (session : Session) (core : Dispatcher) (since objects told : List ℕ) (stuck : Bool) (knot : List Bool) (next : Option ℕ) (moment : ℕ) (empty text : List ℕ) (code : ℕ)
     → core ≡ session.core → moment ≡ MAX_MOMENT → ((stuck ≡ true) ↔ IsStuck (λ t. true) (state core)) → IsGreatestKnot (λ t. true) (state core) knot

@@ -1,6 +1,7 @@
 //! What is said on standard error.
 ghost use Rattle.std.specs.Prelude.{◌≡◌, ◌++◌, IfOk, OnOk, Err};
-ghost use Rattle.nt_hangs.specs.Ending.{message_of, status_of, Says, SaysMemory};
+ghost use Rattle.nt_devices.specs.Device.{Says};
+ghost use Rattle.nt_hangs.specs.Ending.{message_of, status_of, SaysMemory};
 
 use crate::text::put_number;
 use nt_devices::{Sink, write_whole};
@@ -10,8 +11,7 @@ use std::alloc::{AllocError, Global};
 /// Says a line, and answers the exit status that goes with it. A failure to say it is ignored.
 pub fn say<E: Sink>(errors: &mut E, line: &[u8], status: u8) -> u8
     ensures status { result ≡ status }
-    ensures said { Says (E.contents errors.old) (E.contents errors.new) (E.failed errors.old) (E.failed errors.new)
-        line.now }
+    ensures said { Says (E.seen errors.old) (E.seen errors.new) line.now }
 {
     let _ = write_whole(errors, line);
     status
@@ -19,8 +19,7 @@ pub fn say<E: Sink>(errors: &mut E, line: &[u8], status: u8) -> u8
 
 /// Says that memory was refused, and answers the exit status.
 pub fn lacks_memory<E: Sink>(errors: &mut E) -> u8
-    ensures { SaysMemory (E.contents errors.old) (E.contents errors.new) (E.failed errors.old) (E.failed errors.new)
-        result }
+    ensures { SaysMemory (E.seen errors.old) (E.seen errors.new) result }
 {
     say(errors, b"ntlook: out of memory\n", 1)
 }

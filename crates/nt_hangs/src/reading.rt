@@ -33,8 +33,7 @@ fn read_piece<R: Source>(
 ) -> Result<bool, InputFault>
     requires { 0 < length chunk.old }
     ensures room { length chunk.new ≡ length chunk.old }
-    ensures piece { ReadsPiece (R.remaining reader.old) (R.remaining reader.new) (R.failed reader.old) (R.failed reader.new)
-        bytes.old.items bytes.new.items result }
+    ensures piece { ReadsPiece (R.seen reader.old) (R.seen reader.new) bytes.old.items bytes.new.items result }
 {
     match reader.read_counted(chunk) {
         Ok(0) => Ok(false),
@@ -54,8 +53,8 @@ fn read_pieces<R: Source>(
 ) -> Result<(), InputFault>
     requires room { 0 < length chunk.old }
     requires empty { bytes.old.items ≡ [] }
-    ensures ok { OnOk result (Has (R.remaining reader.old) bytes.new.items) }
-    ensures counts { CountsInput (R.failed reader.old) (R.failed reader.new) result }
+    ensures ok { OnOk result (Has (R.seen reader.old).left bytes.new.items) }
+    ensures counts { CountsInput (R.seen reader.old) (R.seen reader.new) result }
 {
     for _turn in 0..u64::MAX {
         if !read_piece(reader, chunk, bytes)? {
@@ -67,8 +66,8 @@ fn read_pieces<R: Source>(
 
 /// All bytes that the reader has left.
 pub fn read_whole<R: Source>(alloc: Global, reader: &mut R) -> Result<Vec<u8>, InputFault>
-    ensures ok { IfOk result (λ bytes. Has (R.remaining reader.old) bytes.items) }
-    ensures counts { CountsInput (R.failed reader.old) (R.failed reader.new) result }
+    ensures ok { IfOk result (λ bytes. Has (R.seen reader.old).left bytes.items) }
+    ensures counts { CountsInput (R.seen reader.old) (R.seen reader.new) result }
 {
     let mut chunk = vec![in alloc; 0; CHUNK]?;
     let mut bytes = Vec::new(alloc);

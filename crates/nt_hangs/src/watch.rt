@@ -3,6 +3,7 @@ ghost use Rattle.std.specs.Prelude.{◌≡◌, ◌+◌, ◌<◌, ◌≤◌, ◌+
 ghost use Rattle.std.specs.Prelude.{IfOk, IfErr, OnOk, MatchOption, None, Some};
 ghost use Rattle.std.specs.List.{ends_with};
 ghost use Rattle.std.specs.Option.{option_copied};
+ghost use Rattle.nt_lines.specs.declared.input.TheConstants.{MAX_LINE};
 ghost use Rattle.nt_script.specs.Scope.{handle_in};
 ghost use Rattle.nt_script.specs.Progress.{AreCounted, LineAnswers, progress, progress_of};
 ghost use Rattle.nt_lines.specs.Lines.{lines_of};
@@ -10,15 +11,13 @@ ghost use Rattle.nt_hangs.specs.Steps.{is_last, HasFault, IsFaultOf, Watches};
 ghost use Rattle.nt_hangs.specs.Watching.{is_waiting, names_of, object_named, object_of, seen_of, since_of, since_then, telling, unseen, up_to, Sees};
 
 use crate::input::first_line;
+use nt_lines::MAX_LINE;
 use nt_script::{LineFault, RunFault, ScriptFault, Session, carry_out};
 use nt_status::Handle;
 use std::alloc::{AllocError, Global};
 
 /// The greatest number of threads, each of which has a place.
 const MOST_THREADS: usize = 256;
-
-/// The most bytes in a line.
-const LINE_BYTES: usize = 4096;
 
 /// A script that is run, and what is seen of it.
 #[derive(Drop)]
@@ -168,7 +167,7 @@ impl Watch {
 
     /// Carries out the line with this number, and notes what is seen.
     fn see(&mut self, alloc: Global, number: u64, line: &[u8]) -> Result<(), LineFault>
-        requires short { length line.now ≤ 4096 }
+        requires short { length line.now ≤ MAX_LINE }
         requires counted { AreCounted number (progress_of self.old.session) }
         requires places { vec_len self.old.since ≡ 256 }
         ensures sees { OnOk result (Sees number line.now (seen_of self.old) (seen_of self.new)) }
@@ -196,7 +195,7 @@ impl Watch {
         ensures places { vec_len self.new.since ≡ 256 }
         ensures fault { IfErr result (λ fault. IsFaultOf number (progress_of self.old.session) line.now fault) }
     {
-        if line.len() > LINE_BYTES {
+        if line.len() > MAX_LINE {
             let fault = ScriptFault::LineTooLong;
             return Err(RunFault::Script {
                 line: number,

@@ -1,37 +1,22 @@
 //! Why the threads of a script wait, between a reader and two writers.
 ghost use Rattle.std.specs.Prelude.{◌≡◌};
-ghost use Rattle.nt_hangs.specs.Ending.{FileTold, Hands, Shows, TellsFault, TellsInput, WhyEnds};
+ghost use Rattle.nt_hangs.specs.Ending.{FileTold, Shows, TellsFault, TellsInput, WhyEnds};
 
 use crate::errors::{lacks_memory, message_of, say, status_of};
 use crate::reading::{InputFault, read_whole};
 use crate::reports::{Report, report_on};
-use nt_devices::{Counted, Sink, Source, WriteFailed, write_whole};
+use nt_devices::{Counted, Sink, Source, write_and_flush};
 use nt_script::RunFault;
 use std::alloc::Global;
 use std::fs;
 use std::rt::Files;
 
-/// Writes the text, and hands it on. After a failed write nothing more is written.
-fn hand<W: Sink>(writer: &mut W, text: &[u8]) -> Result<(), WriteFailed>
-    ensures { Hands (W.contents writer.old) (W.contents writer.new) (W.failed writer.old) (W.failed writer.new)
-        (W.handed_on writer.new) text.now result }
-{
-    match write_whole(writer, text) {
-        Ok(()) => match writer.flush_counted() {
-            Ok(()) => Ok(()),
-            Err(_) => Err(WriteFailed),
-        },
-        Err(failed) => Err(failed),
-    }
-}
-
 /// Writes the report, and answers its exit status; 1 if it could not be handed on, which is said.
 pub fn show<W: Sink, E: Sink>(report: &Report, writer: &mut W, errors: &mut E) -> u8
-    ensures { Shows report.now.text.items report.now.code (W.contents writer.old) (W.contents writer.new)
-        (W.failed writer.old) (W.failed writer.new) (W.handed_on writer.new)
-        (E.contents errors.old) (E.contents errors.new) (E.failed errors.old) (E.failed errors.new) result }
+    ensures { Shows report.now.text.items report.now.code (W.seen writer.old) (W.seen writer.new)
+        (E.seen errors.old) (E.seen errors.new) result }
 {
-    match hand(writer, report.text.as_slice()) {
+    match write_and_flush(writer, report.text.as_slice()) {
         Ok(()) => report.code,
         Err(_) => say(errors, b"ntlook: write failed\n", 1),
     }
@@ -39,8 +24,7 @@ pub fn show<W: Sink, E: Sink>(report: &Report, writer: &mut W, errors: &mut E) -
 
 /// Says why the script was not run to the line, and answers the exit status.
 pub fn tell<E: Sink>(alloc: Global, fault: RunFault, errors: &mut E) -> u8
-    ensures { TellsFault fault (E.contents errors.old) (E.contents errors.new) (E.failed errors.old)
-        (E.failed errors.new) result }
+    ensures { TellsFault fault (E.seen errors.old) (E.seen errors.new) result }
 {
     match message_of(alloc, fault) {
         Ok(line) => say(errors, line.as_slice(), status_of(fault)),
@@ -57,9 +41,8 @@ fn why_input<W: Sink, E: Sink>(
     writer: &mut W,
     errors: &mut E,
 ) -> u8
-    ensures { TellsInput file.now input.now last (W.contents writer.old) (W.contents writer.new)
-        (W.failed writer.old) (W.failed writer.new) (W.handed_on writer.new)
-        (E.contents errors.old) (E.contents errors.new) (E.failed errors.old) (E.failed errors.new) result }
+    ensures { TellsInput file.now input.now last (W.seen writer.old) (W.seen writer.new)
+        (E.seen errors.old) (E.seen errors.new) result }
 {
     match report_on(alloc, file, input, last) {
         Ok(report) => show(&report, writer, errors),
@@ -80,10 +63,8 @@ pub fn why_over<R: Source, W: Sink, E: Sink>(
     writer: &mut W,
     errors: &mut E,
 ) -> u8
-    ensures { WhyEnds file.now last (R.remaining reader.old) (R.failed reader.old) (R.failed reader.new)
-        (W.contents writer.old) (W.contents writer.new) (W.failed writer.old) (W.failed writer.new)
-        (W.handed_on writer.new) (E.contents errors.old) (E.contents errors.new) (E.failed errors.old)
-        (E.failed errors.new) result }
+    ensures { WhyEnds file.now last (R.seen reader.old) (R.seen reader.new)
+        (W.seen writer.old) (W.seen writer.new) (E.seen errors.old) (E.seen errors.new) result }
 {
     match read_whole(alloc, reader) {
         Ok(input) => why_input(alloc, file, input.as_slice(), last, writer, errors),
@@ -100,9 +81,7 @@ pub fn why_file<F: Files + AllocGlobal, W: Sink, E: Sink>(
     writer: &mut W,
     errors: &mut E,
 ) -> u8
-    ensures { FileTold path.now last (W.contents writer.old) (W.contents writer.new) (W.failed writer.old)
-        (W.failed writer.new) (W.handed_on writer.new) (E.contents errors.old) (E.contents errors.new)
-        (E.failed errors.old) (E.failed errors.new) result }
+    ensures { FileTold path.now last (W.seen writer.old) (W.seen writer.new) (E.seen errors.old) (E.seen errors.new) result }
 {
     match fs::open(files, path) {
         Ok(file) => why_over(

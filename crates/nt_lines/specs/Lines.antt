@@ -1,8 +1,9 @@
 -- The lines of a text, and how they are read.
-use Rattle.std.specs.Prelude.{◌≡◌, ℕ, ◌<◌, ◌≤◌, ◌==◌, Bool, false, List, [], ◌∷◌, ◌++◌, length, All, Option, Result, Ok, Err}
+use Rattle.std.specs.Prelude.{◌≡◌, ℕ, ◌<◌, ◌≤◌, ◌+◌, ◌==◌, Bool, false, List, [], ◌∷◌, ◌++◌, length, All, Option, Result, Ok, Err}
 use Rattle.std.specs.List.{slice_split}
 use Rattle.std.specs.Io.KnownBytes.{Consumes, IsAtEnd, prepend_known}
 use Rattle.nt_devices.specs.Device.{one_more}
+use Rattle.nt_lines.specs.declared.input.TheConstants.{MAX_LINE}
 use Rattle.nt_lines.specs.declared.input.Ending.{Ending}
 use Rattle.nt_lines.specs.declared.input.Ending.TheVariants.{Feed, EndOfInput}
 use Rattle.nt_lines.specs.declared.input.Piece.{Piece}
@@ -32,13 +33,13 @@ to_come ahead left = prepend_known ahead left
 
 -- One line was read: up to its LF, or to the end of the input.
 abbrev pub ReadsLine : Option (List ℕ) → Option (List ℕ) → List ℕ → Ending → Type 0
-ReadsLine old new line Feed = HasNoFeed line × (length line ≤ 4096) × Consumes old new (line ++ 10 ∷ [])
-ReadsLine old new line EndOfInput = HasNoFeed line × (length line ≤ 4096) × Consumes old new line × IsAtEnd new
+ReadsLine old new line Feed = HasNoFeed line × (length line ≤ MAX_LINE) × Consumes old new (line ++ 10 ∷ [])
+ReadsLine old new line EndOfInput = HasNoFeed line × (length line ≤ MAX_LINE) × Consumes old new line × IsAtEnd new
 
--- Reading stopped within a line: the device failed, or the line's 4097th byte came.
+-- Reading stopped within a line: the device failed, or the line has a byte too many.
 abbrev pub StopsInLine : Option (List ℕ) → Option (List ℕ) → List ℕ → ReadFault → Type 0
-StopsInLine old new line TooLong = HasNoFeed line × (length line ≡ 4097) × Consumes old new line
-StopsInLine old new line Failed = HasNoFeed line × (length line ≤ 4096) × Consumes old new line
+StopsInLine old new line TooLong = HasNoFeed line × (length line ≡ MAX_LINE + 1) × Consumes old new line
+StopsInLine old new line Failed = HasNoFeed line × (length line ≤ MAX_LINE) × Consumes old new line
 
 -- Failed is answered where a read failed, and nothing else counts as a failure.
 abbrev pub CountsReadFault : {X : Type 0} → ℕ → ℕ → Result X ReadFault → Type 0
@@ -62,6 +63,6 @@ pub record EndsLine (old new line line' : List ℕ) : Type 0 where
   pub added : line' ≡ line ++ bytes
 
 abbrev pub TakesPiece : List ℕ → List ℕ → List ℕ → List ℕ → Piece → Type 0
-TakesPiece old new line line' Ended = EndsLine old new line line' × (length line' ≤ 4096)
-TakesPiece old new line line' Open = MovesBytes old new line line' × (length line' ≤ 4096)
-TakesPiece old new line line' Full = MovesBytes old new line line' × (length line' ≡ 4097)
+TakesPiece old new line line' Ended = EndsLine old new line line' × (length line' ≤ MAX_LINE)
+TakesPiece old new line line' Open = MovesBytes old new line line' × (length line' ≤ MAX_LINE)
+TakesPiece old new line line' Full = MovesBytes old new line line' × (length line' ≡ MAX_LINE + 1)

@@ -1,8 +1,9 @@
 //! Reading line by line.
 
-ghost use Rattle.std.specs.Prelude.{◌≡◌, ◌≢◌, ◌↔◌, ◌≤◌, [], drop, length, IfOk, IfErr, IsTrue, OnOk, OnErr, Err, vec_capacity, vec_len};
+ghost use Rattle.std.specs.Prelude.{◌≡◌, ◌≢◌, ◌↔◌, ◌≤◌, ◌+◌, [], drop, length, IfOk, IfErr, IsTrue, OnOk, OnErr, Err, vec_capacity, vec_len};
 ghost use Rattle.std.specs.Io.KnownBytes.{Keeps, IsAtEnd};
 ghost use Rattle.nt_devices.specs.Device.{one_more};
+ghost use Rattle.nt_lines.specs.declared.input.TheConstants.{MAX_LINE};
 ghost use Rattle.nt_lines.specs.Lines.{to_come, ReadsLine, StopsInLine, CountsReadFault, TakesPiece};
 
 use crate::text::put;
@@ -77,12 +78,12 @@ impl Input {
 
     /// Reads ahead, where nothing is left of what was read before.
     fn fill<R: Source>(&mut self, reader: &mut R) -> Result<(), ReadFault>
-        ensures bytes { Keeps (to_come self.old (R.remaining reader.old)) (to_come self.new (R.remaining reader.new)) }
-        ensures end { OnOk result (self.new ≡ [] → IsAtEnd (R.remaining reader.new)) }
+        ensures bytes { Keeps (to_come self.old (R.seen reader.old).left) (to_come self.new (R.seen reader.new).left) }
+        ensures end { OnOk result (self.new ≡ [] → IsAtEnd (R.seen reader.new).left) }
         ensures failed { OnErr result (result ≡ Err ReadFault.Failed) }
         ensures nothing_ahead { OnErr result (self.new ≡ []) }
-        ensures uncounted { OnOk result (R.failed reader.new ≡ R.failed reader.old) }
-        ensures counted { OnErr result (R.failed reader.new ≡ one_more (R.failed reader.old)) }
+        ensures uncounted { OnOk result ((R.seen reader.new).failed ≡ (R.seen reader.old).failed) }
+        ensures counted { OnErr result ((R.seen reader.new).failed ≡ one_more (R.seen reader.old).failed) }
     {
         if self.start < self.end {
             return Ok(());
@@ -108,8 +109,8 @@ impl Input {
     /// Puts what was read ahead at the end of the line, up to its LF, or to the first byte too many.
     fn take_piece(&mut self, line: &mut Vec<u8>) -> Piece
         requires some { self.old ≢ [] }
-        requires short { vec_len line.old ≤ 4096 }
-        requires room { 4097 ≤ vec_capacity line.old }
+        requires short { vec_len line.old ≤ MAX_LINE }
+        requires room { MAX_LINE + 1 ≤ vec_capacity line.old }
         ensures piece { TakesPiece self.old self.new line.old.items line.new.items result }
         ensures room { vec_capacity line.old ≤ vec_capacity line.new }
     {
@@ -142,13 +143,13 @@ impl Input {
         reader: &mut R,
         line: &mut Vec<u8>,
     ) -> Result<Ending, ReadFault>
-        requires { 4097 ≤ vec_capacity line.old }
-        ensures ok { IfOk result (ReadsLine (to_come self.old (R.remaining reader.old))
-            (to_come self.new (R.remaining reader.new)) line.new.items) }
-        ensures err { IfErr result (StopsInLine (to_come self.old (R.remaining reader.old))
-            (to_come self.new (R.remaining reader.new)) line.new.items) }
+        requires { MAX_LINE + 1 ≤ vec_capacity line.old }
+        ensures ok { IfOk result (ReadsLine (to_come self.old (R.seen reader.old).left)
+            (to_come self.new (R.seen reader.new).left) line.new.items) }
+        ensures err { IfErr result (StopsInLine (to_come self.old (R.seen reader.old).left)
+            (to_come self.new (R.seen reader.new).left) line.new.items) }
         ensures nothing_ahead { result ≡ Err ReadFault.Failed → self.new ≡ [] }
-        ensures counted { CountsReadFault (R.failed reader.old) (R.failed reader.new) result }
+        ensures counted { CountsReadFault (R.seen reader.old).failed (R.seen reader.new).failed result }
         ensures room { vec_capacity line.old ≤ vec_capacity line.new }
     {
         line.clear();

@@ -26,8 +26,7 @@ fn print_why<R: Files + AllocGlobal + Print, E: Sink>(
     last: Option<u64>,
     errors: &mut E,
 ) -> u8
-    ensures { PrintTold path.now last (E.contents errors.old) (E.contents errors.new) (E.failed errors.old)
-        (E.failed errors.new) result }
+    ensures { PrintTold path.now last (E.seen errors.old) (E.seen errors.new) result }
 {
     match BufWriter::new(rt.alloc(), io::writer(rt)) {
         Ok(writer) => why_file(rt, path, last, &mut Counted::new(writer), errors),
@@ -42,8 +41,7 @@ fn print_timeline<R: Files + AllocGlobal + Print, E: Sink>(
     part: &Part<'_>,
     errors: &mut E,
 ) -> u8
-    ensures { PrintTimeline (E.contents errors.old) (E.contents errors.new) (E.failed errors.old)
-        (E.failed errors.new) result }
+    ensures { PrintTimeline (E.seen errors.old) (E.seen errors.new) result }
 {
     match BufWriter::new(rt.alloc(), io::writer(rt)) {
         Ok(writer) => timeline_file(rt, path, part, &mut Counted::new(writer), errors),
@@ -58,8 +56,7 @@ fn print_orders<R: Files + AllocGlobal + Print, E: Sink>(
     most: u64,
     errors: &mut E,
 ) -> u8
-    ensures { PrintOrders (E.contents errors.old) (E.contents errors.new) (E.failed errors.old)
-        (E.failed errors.new) result }
+    ensures { PrintOrders (E.seen errors.old) (E.seen errors.new) result }
 {
     match BufWriter::new(rt.alloc(), io::writer(rt)) {
         Ok(writer) => explore_file(rt, path, most as usize, &mut Counted::new(writer), errors),
@@ -85,8 +82,7 @@ fn make_timeline<R: Files + AllocGlobal + Print, E: Sink>(
     svg: Option<&str>,
     errors: &mut E,
 ) -> u8
-    ensures { MakesTimeline (option_copied svg.entry) (E.contents errors.old) (E.contents errors.new)
-        (E.failed errors.old) (E.failed errors.new) result }
+    ensures { MakesTimeline (option_copied svg.entry) (E.seen errors.old) (E.seen errors.new) result }
 {
     match svg {
         Some(out) => picture_file(rt, path, part, out, errors),
@@ -96,8 +92,7 @@ fn make_timeline<R: Files + AllocGlobal + Print, E: Sink>(
 
 /// Does what is asked for, and answers the exit status.
 fn take_look<R: Files + AllocGlobal + Print, E: Sink>(rt: &R, look: Look<'_>, errors: &mut E) -> u8
-    ensures { CommandEnds (Ok (asked look.entry)) (E.contents errors.old) (E.contents errors.new)
-        (E.failed errors.old) (E.failed errors.new) result }
+    ensures { CommandEnds (Ok (asked look.entry)) (E.seen errors.old) (E.seen errors.new) result }
 {
     match look {
         Look::Why { file, at } => print_why(rt, file, at, errors),
@@ -112,8 +107,7 @@ pub fn carry_out<R: Files + AllocGlobal + Print, E: Sink>(
     words: &[String],
     errors: &mut E,
 ) -> u8
-    ensures { CommandEnds (look_of (map string_bytes words.now)) (E.contents errors.old) (E.contents errors.new)
-        (E.failed errors.old) (E.failed errors.new) result }
+    ensures { CommandEnds (look_of (map string_bytes words.now)) (E.seen errors.old) (E.seen errors.new) result }
 {
     match look_of(words) {
         Ok(look) => take_look(rt, look, errors),

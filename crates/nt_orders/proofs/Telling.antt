@@ -12,7 +12,7 @@ use Rattle.nt_script.specs.declared.fault.LineFault.{LineFault}
 use Rattle.nt_script.specs.declared.fault.LineFault.TheVariants as line
 use Rattle.nt_script.specs.declared.fault.RunFault.{RunFault}
 use Rattle.nt_script.specs.declared.fault.RunFault.TheVariants.{Script, Read, Write, Memory}
-use Rattle.nt_hangs.specs.Ending.{Says}
+use Rattle.nt_devices.specs.Device.{Says, Writing}
 use Rattle.nt_hangs.specs.Watching.{Seen, unseen}
 use Rattle.nt_orders.specs.declared.lanes.LaneFault.TheVariants as lane
 use Rattle.nt_orders.specs.Ending.{IsFirstFault, TellsFault}
@@ -22,9 +22,9 @@ use Rattle.nt_orders.specs.Reading.{IsFaultAt, at_line}
 use Rattle.nt_orders.specs.declared.fault.OrdersFault.{OrdersFault}
 use Rattle.nt_orders.specs.declared.fault.OrdersFault.TheVariants as orders
 
-pub told_fault : (fault : OrdersFault) (line : List ℕ) (shown shown' : Option (List ℕ)) (failed failed' status : ℕ) → line ≡ message_of fault → Says shown shown' failed failed' line → status ≡ status_of fault
-    → TellsFault fault shown shown' failed failed' status
-told_fault fault line shown shown' failed failed' status same says is = inl (subst (Says shown shown' failed failed') same says, is)
+pub told_fault : (fault : OrdersFault) (line : List ℕ) (errors errors' : Writing) (status : ℕ) → line ≡ message_of fault → Says errors errors' line → status ≡ status_of fault
+    → TellsFault fault errors errors' status
+told_fault fault line errors errors' status same says is = inl (subst (Says errors errors') same says, is)
 
 -- a fault of a line, with its number
 pub line_at : (number : ℕ) (fault : LineFault) (result : RunFault) → IsFaultAt number fault result → orders.Run result ≡ at_line number (lane.Line fault)

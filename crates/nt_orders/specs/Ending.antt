@@ -1,7 +1,7 @@
 -- How `ntlook explore` ends.
-use Rattle.std.specs.Prelude.{◌≡◌, ◌⊎◌, ℕ, Bool, List, Option, Result, Ok, Err, codes}
+use Rattle.std.specs.Prelude.{◌≡◌, ◌⊎◌, ℕ, List, Result, Ok, Err, codes}
 use Rattle.std.specs.Io.KnownBytes.{Keeps}
-use Rattle.nt_devices.specs.Device.{one_more}
+use Rattle.nt_devices.specs.Device.{Reading, Says, Writing, one_more}
 use Rattle.nt_calls.specs.State.{State}
 use Rattle.nt_look.specs.Orders.{Plan}
 use Rattle.nt_explore.specs.Search.{Tells, beginning}
@@ -11,7 +11,7 @@ use Rattle.nt_script.specs.Running.{Has}
 use Rattle.nt_script.specs.declared.fault.RunFault.TheVariants.{Script, Read, Write, Memory}
 use Rattle.nt_script.specs.declared.fault.ScriptFault.TheVariants.{ThreadsExpected}
 use Rattle.nt_hangs.specs.declared.reports.Report.{Report}
-use Rattle.nt_hangs.specs.Ending.{Says, SaysMemory, Shows}
+use Rattle.nt_hangs.specs.Ending.{SaysMemory, Shows}
 use Rattle.nt_hangs.specs.Watching.{before_zero}
 use Rattle.nt_orders.specs.Faults.{message_of, status_of}
 use Rattle.nt_orders.specs.Plans.{IsPlanOf, LacksThreads, StopsAfterHead, StopsInHead}
@@ -45,32 +45,32 @@ IsOutcome input (Ok report) = (plan : Plan) × (s : State) × IsPlanOf input pla
 IsOutcome input (Err fault) = IsFirstFault input fault
 
 -- It is said why the orders are not explored, or that memory ran out for that too.
-abbrev pub TellsFault : OrdersFault → (shown shown' : Option (List ℕ)) → (failed failed' status : ℕ) → Type 0
-TellsFault fault shown shown' failed failed' status = (Says shown shown' failed failed' (message_of fault) × (status ≡ status_of fault)) ⊎ SaysMemory shown shown' failed failed' status
+abbrev pub TellsFault : OrdersFault → (errors errors' : Writing) → (status : ℕ) → Type 0
+TellsFault fault errors errors' status = (Says errors errors' (message_of fault) × (status ≡ status_of fault)) ⊎ SaysMemory errors errors' status
 
 -- The report was shown; or nothing was written, and it is said why there is none.
-abbrev pub TellsOutcome : Result Report OrdersFault → (held held' : Option (List ℕ)) → (written written' : ℕ) → Bool → (shown shown' : Option (List ℕ)) → (failed failed' status : ℕ) → Type 0
-TellsOutcome (Ok report) held held' written written' handed shown shown' failed failed' status =
-    Shows report.text.items report.code held held' written written' handed shown shown' failed failed' status
-TellsOutcome (Err fault) held held' written written' handed shown shown' failed failed' status =
-    Keeps held held' × (written' ≡ written) × TellsFault fault shown shown' failed failed' status
+abbrev pub TellsOutcome : Result Report OrdersFault → (writer writer' errors errors' : Writing) → (status : ℕ) → Type 0
+TellsOutcome (Ok report) writer writer' errors errors' status =
+    Shows report.text.items report.code writer writer' errors errors' status
+TellsOutcome (Err fault) writer writer' errors errors' status =
+    Keeps writer.held writer'.held × (writer'.failed ≡ writer.failed) × TellsFault fault errors errors' status
 
 -- What is told of a script with these bytes.
-pub record TellsOrders (input : List ℕ) (held held' : Option (List ℕ)) (written written' : ℕ) (handed : Bool) (shown shown' : Option (List ℕ)) (failed failed' status : ℕ) : Type 0 where
+pub record TellsOrders (input : List ℕ) (writer writer' errors errors' : Writing) (status : ℕ) : Type 0 where
   pub outcome : Result Report OrdersFault
   pub is : IsOutcome (before_zero input) outcome
-  pub tells : TellsOutcome outcome held held' written written' handed shown shown' failed failed' status
+  pub tells : TellsOutcome outcome writer writer' errors errors' status
 
 -- All was read, and told of; or nothing was written, and it is said that the read failed or memory ran out.
-pub record OrdersEnd (left : Option (List ℕ)) (read read' : ℕ) (held held' : Option (List ℕ)) (written written' : ℕ) (handed : Bool) (shown shown' : Option (List ℕ)) (failed failed' status : ℕ) : Type 0 where
+pub record OrdersEnd (reader reader' : Reading) (writer writer' errors errors' : Writing) (status : ℕ) : Type 0 where
   pub either :
-      ((input : List ℕ) × Has left input × (read' ≡ read) × TellsOrders input held held' written written' handed shown shown' failed failed' status)
-      ⊎ (Keeps held held' × (written' ≡ written)
-      × (((read' ≡ one_more read) × Says shown shown' failed failed' (codes "ntlook: read failed\n") × (status ≡ 1))
-      ⊎ ((read' ≡ read) × SaysMemory shown shown' failed failed' status)))
+      ((input : List ℕ) × Has reader.left input × (reader'.failed ≡ reader.failed) × TellsOrders input writer writer' errors errors' status)
+      ⊎ (Keeps writer.held writer'.held × (writer'.failed ≡ writer.failed)
+      × (((reader'.failed ≡ one_more reader.failed) × Says errors errors' (codes "ntlook: read failed\n") × (status ≡ 1))
+      ⊎ ((reader'.failed ≡ reader.failed) × SaysMemory errors errors' status)))
 
 -- It is said that the file can't be opened, and nothing was written; or the script in it was told of.
-pub record OrdersTold (held held' : Option (List ℕ)) (written written' : ℕ) (handed : Bool) (shown shown' : Option (List ℕ)) (failed failed' status : ℕ) : Type 0 where
+pub record OrdersTold (writer writer' errors errors' : Writing) (status : ℕ) : Type 0 where
   pub either :
-      (Says shown shown' failed failed' (codes "ntlook: cannot open\n") × (status ≡ 1) × Keeps held held' × (written' ≡ written))
-      ⊎ ((left : Option (List ℕ)) × (read read' : ℕ) × OrdersEnd left read read' held held' written written' handed shown shown' failed failed' status)
+      (Says errors errors' (codes "ntlook: cannot open\n") × (status ≡ 1) × Keeps writer.held writer'.held × (writer'.failed ≡ writer.failed))
+      ⊎ ((reader reader' : Reading) × OrdersEnd reader reader' writer writer' errors errors' status)

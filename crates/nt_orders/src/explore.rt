@@ -11,7 +11,7 @@ use std::rt::Files;
 
 /// Says why the orders are not explored, and answers the exit status.
 fn tell<E: Sink>(alloc: Global, fault: OrdersFault, errors: &mut E) -> u8
-    ensures { TellsFault fault (E.contents errors.old) (E.contents errors.new) (E.failed errors.old) (E.failed errors.new) result }
+    ensures { TellsFault fault (E.seen errors.old) (E.seen errors.new) result }
 {
     match message_of(alloc, fault) {
         Ok(line) => say(errors, line.as_slice(), status_of(fault)),
@@ -28,9 +28,7 @@ fn explore_input<W: Sink, E: Sink>(
     writer: &mut W,
     errors: &mut E,
 ) -> u8
-    ensures { TellsOrders input.now (W.contents writer.old) (W.contents writer.new) (W.failed writer.old) (W.failed writer.new)
-        (W.handed_on writer.new) (E.contents errors.old) (E.contents errors.new) (E.failed errors.old)
-        (E.failed errors.new) result }
+    ensures { TellsOrders input.now (W.seen writer.old) (W.seen writer.new) (E.seen errors.old) (E.seen errors.new) result }
 {
     match report_on(alloc, file, input, most) {
         Ok(report) => show(&report, writer, errors),
@@ -51,10 +49,8 @@ pub fn explore_over<R: Source, W: Sink, E: Sink>(
     writer: &mut W,
     errors: &mut E,
 ) -> u8
-    ensures { OrdersEnd (R.remaining reader.old) (R.failed reader.old) (R.failed reader.new)
-        (W.contents writer.old) (W.contents writer.new) (W.failed writer.old) (W.failed writer.new)
-        (W.handed_on writer.new) (E.contents errors.old) (E.contents errors.new) (E.failed errors.old)
-        (E.failed errors.new) result }
+    ensures { OrdersEnd (R.seen reader.old) (R.seen reader.new)
+        (W.seen writer.old) (W.seen writer.new) (E.seen errors.old) (E.seen errors.new) result }
 {
     match read_whole(alloc, reader) {
         Ok(input) => explore_input(alloc, file, input.as_slice(), most, writer, errors),
@@ -71,9 +67,7 @@ pub fn explore_file<F: Files + AllocGlobal, W: Sink, E: Sink>(
     writer: &mut W,
     errors: &mut E,
 ) -> u8
-    ensures { OrdersTold (W.contents writer.old) (W.contents writer.new) (W.failed writer.old) (W.failed writer.new)
-        (W.handed_on writer.new) (E.contents errors.old) (E.contents errors.new) (E.failed errors.old)
-        (E.failed errors.new) result }
+    ensures { OrdersTold (W.seen writer.old) (W.seen writer.new) (E.seen errors.old) (E.seen errors.new) result }
 {
     match fs::open(files, path) {
         Ok(file) => explore_over(

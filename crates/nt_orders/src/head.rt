@@ -6,11 +6,9 @@ ghost use Rattle.nt_orders.specs.Plans.{is_of_head, IsHeadFault, ReadsHead};
 ghost use Rattle.nt_orders.specs.Reading.{IsEnd, IsFaultAt};
 
 use nt_hangs::{Watch, first_line};
+use nt_lines::MAX_LINE;
 use nt_script::{LineFault, RunFault, ScriptFault, Statement};
 use std::alloc::Global;
-
-/// The most bytes in a line.
-pub(crate) const LINE_BYTES: usize = 4096;
 
 /// Why the line with this number can't be carried out.
 pub(crate) fn fault_at(line: u64, fault: LineFault) -> RunFault
@@ -36,7 +34,7 @@ fn is_of_head(statement: &Statement) -> bool
 fn ends_head(watch: &Watch, alloc: Global, line: &[u8]) -> Result<bool, LineFault>
     ensures { IsEnd (seen_of watch.now).now line.now result }
 {
-    if line.len() > LINE_BYTES {
+    if line.len() > MAX_LINE {
         return Err(LineFault::Script(ScriptFault::LineTooLong));
     }
     match watch.session() {

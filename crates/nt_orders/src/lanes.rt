@@ -14,11 +14,11 @@ ghost use Rattle.nt_orders.specs.Plans.{IsPlanOf, ReadsLanes, StopsInLanes, with
 ghost use Rattle.nt_orders.specs.Reading.{AddsLine, Finds, IsAskOf, IsLaneFault, at_line};
 
 use crate::fault::OrdersFault;
-use crate::head::{LINE_BYTES, fault_at, see_head};
+use crate::head::{fault_at, see_head};
 use nt_calls::Call;
 use nt_explore::{Ask, Plan};
 use nt_hangs::{Watch, first_line};
-use nt_lines::{first_word, text_of};
+use nt_lines::{MAX_LINE, first_word, text_of};
 use nt_script::{LineFault, RunFault, ScriptFault, Session, Statement};
 use std::alloc::{AllocError, Global};
 
@@ -114,7 +114,7 @@ fn ask_of(statement: Statement, threads: u32) -> Result<Option<(u32, Ask)>, Lane
 fn find(session: &Session, alloc: Global, line: &[u8]) -> Result<Option<(u32, Ask)>, LaneFault>
     ensures { Finds (progress session.now) line.now result }
 {
-    if line.len() > LINE_BYTES {
+    if line.len() > MAX_LINE {
         return Err(LaneFault::Line(LineFault::Script(ScriptFault::LineTooLong)));
     }
     match session.read(alloc, line) {

@@ -1,6 +1,7 @@
 -- The lines of a script: which words make which statement, and the first fault of words that make none.
 use Rattle.std.specs.Prelude.{◌≡◌, ℕ, ◌+◌, ◌^◌, nat_le, is_some, Bool, true, false, List, [], ◌∷◌, ◌++◌, length, Option, Some, None, if◌then◌else◌, codes}
 use Rattle.std.specs.List.{list_all}
+use Rattle.nt_lines.specs.declared.input.TheConstants.{MAX_LINE}
 use Rattle.nt_status.specs.declared.limits.TheConstants.{MAX_THREADS}
 use Rattle.nt_calls.specs.declared.call.Call.{Call}
 use Rattle.nt_calls.specs.declared.call.Act.{Act}
@@ -287,12 +288,12 @@ opening_fault (first ∷ words) =
 
 -- at most 4096 bytes, each of those before a comment plain
 pub record IsPlainLine (bytes : List ℕ) : Type 0 where
-  pub short : nat_le (length bytes) 4096 ≡ true
+  pub short : nat_le (length bytes) MAX_LINE ≡ true
   pub plain : list_all is_plain (text_of bytes) ≡ true
 
 -- a line is judged by its length, then its bytes, then its words
 abbrev pub line_fault : (List (List ℕ) → Option ScriptFault) → List ℕ → Option ScriptFault
 line_fault fault_of_words bytes =
-    if nat_le (length bytes) 4096
+    if nat_le (length bytes) MAX_LINE
     then (if list_all is_plain (text_of bytes) then fault_of_words (words_of (text_of bytes)) else Some BadByte)
     else Some LineTooLong

@@ -2,6 +2,7 @@
 use Rattle.std.specs.Prelude.{◌≡◌, ℕ, ◌≤◌, ◌⊎◌, Bool, false, List, [], ◌∷◌, ◌++◌, length, Option, Some, codes}
 use Rattle.std.specs.List.{All}
 use Rattle.std.specs.Fmt.{decimal}
+use Rattle.nt_lines.specs.declared.input.TheConstants.{MAX_LINE}
 use Rattle.nt_status.specs.declared.limits.TheConstants.{INFINITE}
 use Rattle.nt_calls.specs.Runs.{Turn, Calls, Ticks}
 use Rattle.nt_laws.specs.Laws.{wants_memory}
@@ -23,7 +24,7 @@ abbrev pub StatementsReadBack : Type 0
 StatementsReadBack =
     (scope : Scope) (statement : Statement)
     → CanBeSaid scope statement
-    → length (statement_text statement) ≤ 4096
+    → length (statement_text statement) ≤ MAX_LINE
     → IsLine scope statement (statement_text statement)
     × ((other : Statement) → IsLine scope other (statement_text statement) → other ≡ statement)
 

@@ -2,6 +2,7 @@
 use Rattle.std.specs.Prelude.{◌≡◌, ℕ, ℤ, ◌==◌, nat_le, Bool, true, false, List, [], ◌∷◌, length, Option, Some, None, Result, Ok, Err, if◌then◌else◌, codes}
 use Rattle.std.specs.List.{list_all}
 use Rattle.std.specs.Str.{bytes_eq}
+use Rattle.nt_lines.specs.declared.input.TheConstants.{MAX_LINE}
 use Rattle.nt_status.specs.declared.limits.TheConstants.{MAX_MOMENT, MAX_THREADS}
 use Rattle.nt_lines.specs.Words.{text_of, words_of, is_plain, caller_of}
 use Rattle.nt_script.specs.Scope.{Scope}
@@ -174,7 +175,7 @@ plain_text line = if list_all is_plain (text_of line) then Ok (text_of line) els
 
 -- a line of at most 4096 bytes
 abbrev pub short_line : List ℕ → Result (List ℕ) ScriptFault
-short_line bytes = if nat_le (length bytes) 4096 then Ok bytes else Err LineTooLong
+short_line bytes = if nat_le (length bytes) MAX_LINE then Ok bytes else Err LineTooLong
 
 -- what a line says before the `threads` line: how many threads there are, or nothing
 abbrev pub opening_of : List ℕ → Result (Option ℕ) ScriptFault

@@ -3,15 +3,17 @@ use Rattle.std.specs.Prelude.{◌≡◌, ℕ, ◌+◌, ◌<◌, ◌≤◌, ◌�
 use Rattle.std.specs.List.{flat_map, sum_by, AllByRecursion}
 use Rattle.std.specs.FinMap.{len}
 use Rattle.std.specs.Io.KnownBytes.{Consumes, Appends, Keeps, IsAtEnd}
-use Rattle.nt_devices.specs.Device.{AppendsPart, one_more}
-use Rattle.nt_lines.specs.Lines.{HasNoFeed, lines_of}
+use Rattle.nt_lines.specs.declared.input.TheConstants.{MAX_LINE}
+use Rattle.nt_devices.specs.Device.{AppendsPart, Reading, Writing, one_more}
+use Rattle.nt_lines.specs.Lines.{HasNoFeed, lines_of, to_come}
 use Rattle.nt_calls.specs.Runs.{Turn}
 use Rattle.nt_script.specs.Transcript.{FaultIn, end_text}
-use Rattle.nt_script.specs.Progress.{Progress, Advances, AreCounted, CarriedOut, scope_of, is_refused, granted_by}
+use Rattle.nt_script.specs.Progress.{Progress, progress_of, Advances, AreCounted, CarriedOut, scope_of, is_refused, granted_by}
 use Rattle.nt_script.specs.declared.fault.ScriptFault.{ScriptFault}
 use Rattle.nt_script.specs.declared.fault.ScriptFault.TheVariants.{LineTooLong, ThreadsExpected}
 use Rattle.nt_script.specs.declared.fault.RunFault.{RunFault}
 use Rattle.nt_script.specs.declared.fault.RunFault.TheVariants.{Script, Read, Write, Memory}
+use Rattle.nt_script.specs.declared.runner.Runner.{Runner}
 use Rattle.nt_script.specs.declared.runner.Taken.{Taken}
 use Rattle.nt_script.specs.declared.runner.Taken.TheVariants.{Line, LastLine, Nothing}
 use Rattle.nt_script.specs.declared.summary.Summary.{Summary}
@@ -73,7 +75,7 @@ with_feeds lines = flat_map (λ line. line ++ 10 ∷ []) lines
 
 -- The lines before the next were read whole, and of the next a part without its LF: 4096 bytes at most.
 abbrev pub ReadsPart : (left left' : Option (List ℕ)) → List (List ℕ) → Option Progress → List (List ℕ) → Type 0
-ReadsPart left left' before now after = (part : List ℕ) × HasNoFeed part × (length part ≤ 4096) × Consumes left left' (with_feeds before ++ part)
+ReadsPart left left' before now after = (part : List ℕ) × HasNoFeed part × (length part ≤ MAX_LINE) × Consumes left left' (with_feeds before ++ part)
 
 abbrev pub AnyCause : List (List ℕ) → Option Progress → List (List ℕ) → Type 0
 AnyCause before now after = Unit {0}
@@ -144,7 +146,7 @@ pub record Carries (number : ℕ) (old new : Option Progress) (held held' : Opti
 abbrev pub FindsFault : Option (List ℕ) → Option (List ℕ) → Option Progress → ScriptFault → Type 0
 FindsFault left left' old fault =
     ((line : List ℕ) × TakesLine left left' line × FaultIn (scope_of old) line fault)
-    ⊎ ((line : List ℕ) × HasNoFeed line × (length line ≡ 4097) × Consumes left left' line × (fault ≡ LineTooLong))
+    ⊎ ((line : List ℕ) × HasNoFeed line × (length line ≡ MAX_LINE + 1) × Consumes left left' line × (fault ≡ LineTooLong))
 
 -- the line was carried out, and its text not written whole
 pub record FailsIn (number : ℕ) (old new : Option Progress) (left left' held held' : Option (List ℕ)) : Type 0 where
@@ -176,9 +178,14 @@ TakesNext number old new left left' held held' (Ok LastLine) =
     (line : List ℕ) × HasNoFeed line × (0 < length line) × Consumes left left' line × IsAtEnd left' × Carries number old new held held' line
 TakesNext number old new left left' held held' (Ok Nothing) = Keeps left left' × IsAtEnd left' × Keeps held held' × (new ≡ old)
 TakesNext number old new left left' held held' (Err (Script place fault)) = (place ≡ number) × FindsFault left left' old fault × Keeps held held'
-TakesNext number old new left left' held held' (Err (Read place)) = (place ≡ number) × ((part : List ℕ) × HasNoFeed part × (length part ≤ 4096) × Consumes left left' part) × Keeps held held'
+TakesNext number old new left left' held held' (Err (Read place)) = (place ≡ number) × ((part : List ℕ) × HasNoFeed part × (length part ≤ MAX_LINE) × Consumes left left' part) × Keeps held held'
 TakesNext number old new left left' held held' (Err (Memory place)) = (place ≡ number) × ((bytes : List ℕ) × Consumes left left' bytes) × Keeps held held'
 TakesNext number old new left left' held held' (Err (Write place)) = (place ≡ number) × FailsIn number old new left left' held held'
+
+-- The same of a runner, with what it read ahead, between a reader and a writer.
+abbrev pub RunnerTakesNext : ℕ → (old new : Runner) → (reader reader' : Reading) → (writer writer' : Writing) → Result Taken RunFault → Type 0
+RunnerTakesNext number old new reader reader' writer writer' result =
+    TakesNext number (progress_of old.session) (progress_of new.session) (to_come old.input reader.left) (to_come new.input reader'.left) writer.held writer'.held result
 
 -- Where a read failed, nothing is left of what was read before.
 abbrev pub NothingAhead : List ℕ → RunFault → Type 0

@@ -1,6 +1,7 @@
 -- A call of a run, written as the line of a script.
 use Rattle.std.specs.Prelude.{◌≡◌, ℕ, ◌<◌, Bool, true, false, List, [], ◌∷◌, ◌++◌, length, Option, Some, None, if◌then◌else◌, codes}
 use Rattle.std.specs.Fmt.{decimal}
+use Rattle.nt_lines.specs.declared.input.TheConstants.{MAX_LINE}
 use Rattle.nt_calls.specs.declared.call.Call.{Call}
 use Rattle.nt_calls.specs.declared.call.Act.{Act}
 use Rattle.nt_script.specs.Naming.{NamesFree}
@@ -40,5 +41,5 @@ pub record IsWritten (statement : Statement) (old new : List ℕ) : Type 0 where
 -- no line of any script is this statement; or its own text is longer than a line; or memory was refused
 abbrev pub IsUnwritten : Statement → Unwritten → Type 0
 IsUnwritten statement Unsayable = (scope : Scope) (bytes : List ℕ) → ¬ IsLine scope statement bytes
-IsUnwritten statement TooLong = 4096 < length (statement_text statement)
+IsUnwritten statement TooLong = MAX_LINE < length (statement_text statement)
 IsUnwritten statement Memory = Unit {0}

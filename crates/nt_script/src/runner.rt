@@ -1,9 +1,9 @@
 //! Scripts to transcripts.
 
 ghost use Rattle.std.specs.Prelude.{◌≡◌, ◌+◌, ◌-◌, ◌<◌, ◌≤◌, ◌^◌, [], length, IfOk, IfErr, OnOk, None, false, vec_capacity};
-ghost use Rattle.nt_lines.specs.Lines.{to_come};
+ghost use Rattle.nt_lines.specs.declared.input.TheConstants.{MAX_LINE};
 ghost use Rattle.nt_script.specs.Progress.{AreCounted, progress_of};
-ghost use Rattle.nt_script.specs.Running.{Answers, CountsFailures, CountsFaults, NothingAhead, TakesNext, WritesLine, WritesOutput, Ends};
+ghost use Rattle.nt_script.specs.Running.{Answers, CountsFailures, CountsFaults, NothingAhead, RunnerTakesNext, WritesLine, WritesOutput, Ends};
 
 use crate::fault::{LineFault, RunFault, ScriptFault};
 use crate::session::{Session, carry_out};
@@ -32,7 +32,7 @@ impl Runner {
     fn new(alloc: Global) -> Result<Runner, AllocError>
         ensures input { IfOk result (λ runner. runner.input ≡ []) }
         ensures session { IfOk result (λ runner. runner.session ≡ None) }
-        ensures line { IfOk result (λ runner. 4097 ≤ vec_capacity runner.line) }
+        ensures line { IfOk result (λ runner. MAX_LINE + 1 ≤ vec_capacity runner.line) }
     {
         Ok(Runner {
             input: Input::new(alloc)?,
@@ -51,15 +51,14 @@ impl Runner {
         writer: &mut W,
     ) -> Result<Taken, RunFault>
         requires counted { AreCounted number (progress_of self.old.session) }
-        requires line { 4097 ≤ vec_capacity self.old.line }
-        ensures line { 4097 ≤ vec_capacity self.new.line }
+        requires line { MAX_LINE + 1 ≤ vec_capacity self.old.line }
+        ensures line { MAX_LINE + 1 ≤ vec_capacity self.new.line }
         ensures ahead { IfErr result (NothingAhead self.new.input) }
-        ensures unflushed { W.flushes writer.new ≡ W.flushes writer.old }
-        ensures next { TakesNext number (progress_of self.old.session) (progress_of self.new.session)
-            (to_come self.old.input (R.remaining reader.old)) (to_come self.new.input (R.remaining reader.new))
-            (W.contents writer.old) (W.contents writer.new) result }
-        ensures counts { CountsFaults (R.failed reader.old) (R.failed reader.new) (W.failed writer.old)
-            (W.failed writer.new) result }
+        ensures unflushed { (W.seen writer.new).flushes ≡ (W.seen writer.old).flushes }
+        ensures next { RunnerTakesNext number self.old self.new (R.seen reader.old) (R.seen reader.new)
+            (W.seen writer.old) (W.seen writer.new) result }
+        ensures counts { CountsFaults (R.seen reader.old).failed (R.seen reader.new).failed (W.seen writer.old).failed
+            (W.seen writer.new).failed result }
     {
         match self.input.read_line(reader, &mut self.line) {
             Ok(Ending::Feed) => {
@@ -104,11 +103,11 @@ impl Runner {
     fn end<W: Sink>(&mut self, lines: u64, writer: &mut W) -> Result<Summary, RunFault>
         requires { lines + 1 < 2 ^ 64 }
         ensures lines { IfOk result (λ summary. summary.lines ≡ lines) }
-        ensures unflushed { W.flushes writer.new ≡ W.flushes writer.old }
-        ensures held { OnOk result (W.handed_on writer.new ≡ false) }
-        ensures ends { Ends lines (progress_of self.old.session) (W.contents writer.old)
-            (W.contents writer.new) result }
-        ensures counts { CountsFaults 0 0 (W.failed writer.old) (W.failed writer.new) result }
+        ensures unflushed { (W.seen writer.new).flushes ≡ (W.seen writer.old).flushes }
+        ensures held { OnOk result ((W.seen writer.new).handed_on ≡ false) }
+        ensures ends { Ends lines (progress_of self.old.session) (W.seen writer.old).held
+            (W.seen writer.new).held result }
+        ensures counts { CountsFaults 0 0 (W.seen writer.old).failed (W.seen writer.new).failed result }
     {
         let line = lines + 1;
         let Some(session) = &self.session else {
@@ -134,13 +133,13 @@ impl Runner {
     ) -> Result<Summary, RunFault>
         requires input { self.old.input ≡ [] }
         requires session { self.old.session ≡ None }
-        requires line { 4097 ≤ vec_capacity self.old.line }
-        ensures answers { Answers (R.remaining reader.old) (R.remaining reader.new) (W.contents writer.old)
-            (W.contents writer.new) result }
-        ensures counts { CountsFaults (R.failed reader.old) (R.failed reader.new) (W.failed writer.old)
-            (W.failed writer.new) result }
-        ensures unflushed { W.flushes writer.new ≡ W.flushes writer.old }
-        ensures held { OnOk result (W.handed_on writer.new ≡ false) }
+        requires line { MAX_LINE + 1 ≤ vec_capacity self.old.line }
+        ensures answers { Answers (R.seen reader.old).left (R.seen reader.new).left (W.seen writer.old).held
+            (W.seen writer.new).held result }
+        ensures counts { CountsFaults (R.seen reader.old).failed (R.seen reader.new).failed (W.seen writer.old).failed
+            (W.seen writer.new).failed result }
+        ensures unflushed { (W.seen writer.new).flushes ≡ (W.seen writer.old).flushes }
+        ensures held { OnOk result ((W.seen writer.new).handed_on ≡ false) }
         ensures lines { IfOk result (λ summary. summary.lines < 2 ^ 64 - 1) }
     {
         for number in 1..u64::MAX {
@@ -164,12 +163,12 @@ fn write_line<W: Sink>(
     out: &mut Vec<u8>,
     writer: &mut W,
 ) -> Result<(), RunFault>
-    requires short { length line.now ≤ 4096 }
+    requires short { length line.now ≤ MAX_LINE }
     requires counted { AreCounted number (progress_of session.old) }
-    ensures unflushed { W.flushes writer.new ≡ W.flushes writer.old }
+    ensures unflushed { (W.seen writer.new).flushes ≡ (W.seen writer.old).flushes }
     ensures line { WritesLine number line.now (progress_of session.old) (progress_of session.new)
-        (W.contents writer.old) (W.contents writer.new) result }
-    ensures counts { CountsFaults 0 0 (W.failed writer.old) (W.failed writer.new) result }
+        (W.seen writer.old).held (W.seen writer.new).held result }
+    ensures counts { CountsFaults 0 0 (W.seen writer.old).failed (W.seen writer.new).failed result }
 {
     match carry_out(session, alloc, number, line, out) {
         Ok(()) => write_output(number, out.as_slice(), writer),
@@ -183,10 +182,10 @@ fn write_line<W: Sink>(
 
 /// Writes the output of the line with this number.
 fn write_output<W: Sink>(number: u64, output: &[u8], writer: &mut W) -> Result<(), RunFault>
-    ensures unflushed { W.flushes writer.new ≡ W.flushes writer.old }
-    ensures held { 0 < length output.now → W.handed_on writer.new ≡ false }
-    ensures output { WritesOutput number output.now (W.contents writer.old) (W.contents writer.new)
-        (W.failed writer.old) (W.failed writer.new) result }
+    ensures unflushed { (W.seen writer.new).flushes ≡ (W.seen writer.old).flushes }
+    ensures held { 0 < length output.now → (W.seen writer.new).handed_on ≡ false }
+    ensures output { WritesOutput number output.now (W.seen writer.old).held (W.seen writer.new).held
+        (W.seen writer.old).failed (W.seen writer.new).failed result }
 {
     match write_whole(writer, output) {
         Ok(()) => Ok(()),
@@ -200,12 +199,12 @@ fn run_lines<R: Source, W: Sink>(
     reader: &mut R,
     writer: &mut W,
 ) -> Result<Summary, RunFault>
-    ensures answers { Answers (R.remaining reader.old) (R.remaining reader.new) (W.contents writer.old)
-        (W.contents writer.new) result }
-    ensures counts { CountsFaults (R.failed reader.old) (R.failed reader.new) (W.failed writer.old)
-        (W.failed writer.new) result }
-    ensures unflushed { W.flushes writer.new ≡ W.flushes writer.old }
-    ensures held { OnOk result (W.handed_on writer.new ≡ false) }
+    ensures answers { Answers (R.seen reader.old).left (R.seen reader.new).left (W.seen writer.old).held
+        (W.seen writer.new).held result }
+    ensures counts { CountsFaults (R.seen reader.old).failed (R.seen reader.new).failed (W.seen writer.old).failed
+        (W.seen writer.new).failed result }
+    ensures unflushed { (W.seen writer.new).flushes ≡ (W.seen writer.old).flushes }
+    ensures held { OnOk result ((W.seen writer.new).handed_on ≡ false) }
     ensures lines { IfOk result (λ summary. summary.lines < 2 ^ 64 - 1) }
 {
     match Runner::new(alloc) {
@@ -229,14 +228,14 @@ pub fn run<R: Source, W: Sink>(
     reader: &mut R,
     writer: &mut W,
 ) -> Result<Summary, RunFault>
-    requires read_failures { R.failed reader.old < 2 ^ 64 - 1 }
-    requires write_failures { W.failed writer.old < 2 ^ 64 - 1 }
-    ensures answers { Answers (R.remaining reader.old) (R.remaining reader.new) (W.contents writer.old)
-        (W.contents writer.new) result }
-    ensures failures { CountsFailures (R.failed reader.old) (R.failed reader.new) (W.failed writer.old)
-        (W.failed writer.new) result }
-    ensures unflushed { W.flushes writer.new ≡ W.flushes writer.old }
-    ensures held { OnOk result (W.handed_on writer.new ≡ false) }
+    requires read_failures { (R.seen reader.old).failed < 2 ^ 64 - 1 }
+    requires write_failures { (W.seen writer.old).failed < 2 ^ 64 - 1 }
+    ensures answers { Answers (R.seen reader.old).left (R.seen reader.new).left (W.seen writer.old).held
+        (W.seen writer.new).held result }
+    ensures failures { CountsFailures (R.seen reader.old).failed (R.seen reader.new).failed (W.seen writer.old).failed
+        (W.seen writer.new).failed result }
+    ensures unflushed { (W.seen writer.new).flushes ≡ (W.seen writer.old).flushes }
+    ensures held { OnOk result ((W.seen writer.new).handed_on ≡ false) }
     ensures lines { IfOk result (λ summary. summary.lines < 2 ^ 64 - 1) }
 {
     run_lines(alloc, reader, writer)

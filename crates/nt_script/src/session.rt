@@ -2,6 +2,7 @@
 
 ghost use Rattle.std.specs.Prelude.{◌≡◌, ◌+◌, ◌*◌, ◌-◌, ◌<◌, ◌≤◌, ◌^◌, ◌∷◌, [], ◌++◌, OnOk, OnErr, IfOk, IfErr, IfSome, length, None, Some, vec_len, vec_capacity, Result, Ok, Err};
 ghost use Rattle.std.specs.FinMap.{len};
+ghost use Rattle.nt_lines.specs.declared.input.TheConstants.{MAX_LINE};
 ghost use Rattle.nt_core.specs.Dispatcher.{state};
 ghost use Rattle.nt_calls.specs.Steps.{Called, Ticked};
 ghost use Rattle.nt_script.specs.Reading.{Gives, statement_of, opening_of};
@@ -48,7 +49,7 @@ pub(crate) fn handle_of(answer: &Result<Reply, Refusal>) -> Option<Handle>
 
 /// Parses a line before `threads`, which tells the number of threads or says nothing.
 fn parse_opening_line(line: &[u8]) -> Result<Option<u32>, ScriptFault>
-    requires { length line.now ≤ 4096 }
+    requires { length line.now ≤ MAX_LINE }
     ensures exact { result ≡ opening_of line.now }
     ensures range { IfOk result (λ threads. IfSome threads (λ n. (0 < n) × (n ≤ MAX_THREADS))) }
 {
@@ -57,7 +58,7 @@ fn parse_opening_line(line: &[u8]) -> Result<Option<u32>, ScriptFault>
 
 /// Reads a line before `threads`.
 fn read_opening(line: &[u8]) -> Result<Option<u32>, LineFault>
-    requires { length line.now ≤ 4096 }
+    requires { length line.now ≤ MAX_LINE }
     ensures reads { ReadsOpening line.now result }
     ensures range { IfOk result (λ threads. IfSome threads (λ n. (0 < n) × (n ≤ MAX_THREADS))) }
 {
@@ -69,7 +70,7 @@ fn read_opening(line: &[u8]) -> Result<Option<u32>, LineFault>
 
 /// Carries out a line before `threads`. The core is opened by the `threads` line.
 pub(crate) fn open(alloc: Global, line: &[u8]) -> Result<Option<Session>, LineFault>
-    requires { length line.now ≤ 4096 }
+    requires { length line.now ≤ MAX_LINE }
     ensures { Opens line.now result }
 {
     match read_opening(line)? {
@@ -100,7 +101,7 @@ impl Session {
 
     /// Parses a line after `threads`.
     fn parse(&self, alloc: Global, line: &[u8]) -> Result<Statement, LineFault>
-        requires { length line.now ≤ 4096 }
+        requires { length line.now ≤ MAX_LINE }
         ensures { Gives (λ statement. statement) result (statement_of self.now.bindings.scope line.now) }
     {
         let words = Words::new(plain_text(line)?);
@@ -109,7 +110,7 @@ impl Session {
 
     /// What a line after `threads` says. Nothing is carried out.
     pub fn read(&self, alloc: Global, line: &[u8]) -> Result<Statement, LineFault>
-        requires { length line.now ≤ 4096 }
+        requires { length line.now ≤ MAX_LINE }
         ensures reads { ReadsStatement self.now.bindings.scope line.now result }
         ensures free { IfOk result (NamesFree self.now.bindings.scope) }
     {
@@ -213,7 +214,7 @@ impl Session {
         line: &[u8],
         out: &mut Vec<u8>,
     ) -> Result<(), LineFault>
-        requires short { length line.now ≤ 4096 }
+        requires short { length line.now ≤ MAX_LINE }
         requires counted { IsCounted number (progress self.old) }
         requires number { number < 2 ^ 64 }
         requires empty { out.old.items ≡ [] }
@@ -242,7 +243,7 @@ impl Session {
 
 /// Carries out a line before `threads`, where there is no session yet.
 fn begin(session: &mut Option<Session>, alloc: Global, line: &[u8]) -> Result<(), LineFault>
-    requires short { length line.now ≤ 4096 }
+    requires short { length line.now ≤ MAX_LINE }
     ensures opens { OnOk result (Opens line.now (Ok session.new)) }
     ensures fault { IfErr result (λ fault. Opens line.now (Err fault)) }
 {
@@ -260,7 +261,7 @@ pub fn carry_out(
     line: &[u8],
     out: &mut Vec<u8>,
 ) -> Result<(), LineFault>
-    requires short { length line.now ≤ 4096 }
+    requires short { length line.now ≤ MAX_LINE }
     requires counted { AreCounted number (progress_of session.old) }
     ensures { LineAnswers number line.now (progress_of session.old) result out.new.items (progress_of session.new) }
 {

@@ -1,6 +1,7 @@
 //! A call as the line of a script, so that a run can be looked at, and made again.
 
 ghost use Rattle.std.specs.Prelude.{◌≡◌, ◌<◌, ◌≤◌, ◌+◌, ℕ, Option, None, OnOk, OnErr, IfErr, IfSome, length, vec_len, vec_capacity};
+ghost use Rattle.nt_lines.specs.declared.input.TheConstants.{MAX_LINE};
 ghost use Rattle.nt_script.specs.Spelling.{statement_text};
 ghost use Rattle.nt_script.specs.Transcript.{handle_of};
 ghost use Rattle.nt_script.specs.Written.{statement_for, IsWritten, IsUnwritten};
@@ -10,7 +11,7 @@ ghost use Rattle.nt_script.specs.declared.writing.Unwritten.TheVariants.{Memory}
 use crate::session::handle_of;
 use crate::written_calls::put_call;
 use nt_core::{Act, Call, Reply, WaitCall};
-use nt_lines::put;
+use nt_lines::{MAX_LINE, put};
 use nt_status::{Refusal, ThreadId};
 use std::alloc::AllocError;
 
@@ -32,9 +33,6 @@ impl From<AllocError> for Unwritten {
         Unwritten::Memory
     }
 }
-
-/// The most bytes in a line.
-const LINE_BYTES: usize = 4096;
 
 /// The most bytes in a line before the objects of a wait.
 const FEW_BYTES: usize = 192;
@@ -64,7 +62,7 @@ pub fn write_line(
     out.reserve(room)?;
     let start = out.len();
     put_call(out, who, call, handle_of(answer));
-    if out.len() - start > LINE_BYTES {
+    if out.len() - start > MAX_LINE {
         out.truncate(start);
         return Err(Unwritten::TooLong);
     }
@@ -87,10 +85,10 @@ fn has_words(call: &Call) -> bool
 fn room_for(call: &Call) -> Option<usize>
     ensures some { IfSome result (λ room. room ≡ room_of call.now) }
     ensures none { result ≡ None → (who : ℕ) (created : Option ℕ)
-        → 4096 < length (statement_text (statement_for who call.now created)) }
+        → MAX_LINE < length (statement_text (statement_for who call.now created)) }
 {
     let count = objects_in(call);
-    if count <= LINE_BYTES {
+    if count <= MAX_LINE {
         Some(FEW_BYTES + OBJECT_BYTES * count)
     } else {
         None

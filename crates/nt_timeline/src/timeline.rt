@@ -124,9 +124,7 @@ fn timeline_input<W: Sink, E: Sink>(
     writer: &mut W,
     errors: &mut E,
 ) -> u8
-    ensures { TellsTimeline input.now (W.contents writer.old) (W.contents writer.new) (W.failed writer.old) (W.failed writer.new)
-        (W.handed_on writer.new) (E.contents errors.old) (E.contents errors.new) (E.failed errors.old)
-        (E.failed errors.new) result }
+    ensures { TellsTimeline input.now (W.seen writer.old) (W.seen writer.new) (E.seen errors.old) (E.seen errors.new) result }
 {
     match timeline_on(alloc, file, input, Form::Text, part) {
         Ok(report) => show(&report, writer, errors),
@@ -146,10 +144,8 @@ pub fn timeline_over<R: Source, W: Sink, E: Sink>(
     writer: &mut W,
     errors: &mut E,
 ) -> u8
-    ensures { TimelineEnds (R.remaining reader.old) (R.failed reader.old) (R.failed reader.new)
-        (W.contents writer.old) (W.contents writer.new) (W.failed writer.old) (W.failed writer.new)
-        (W.handed_on writer.new) (E.contents errors.old) (E.contents errors.new) (E.failed errors.old)
-        (E.failed errors.new) result }
+    ensures { TimelineEnds (R.seen reader.old) (R.seen reader.new)
+        (W.seen writer.old) (W.seen writer.new) (E.seen errors.old) (E.seen errors.new) result }
 {
     match read_whole(alloc, reader) {
         Ok(input) => timeline_input(alloc, file, input.as_slice(), part, writer, errors),
@@ -166,9 +162,7 @@ pub fn timeline_file<F: Files + AllocGlobal, W: Sink, E: Sink>(
     writer: &mut W,
     errors: &mut E,
 ) -> u8
-    ensures { TimelineTold (W.contents writer.old) (W.contents writer.new) (W.failed writer.old) (W.failed writer.new)
-        (W.handed_on writer.new) (E.contents errors.old) (E.contents errors.new) (E.failed errors.old)
-        (E.failed errors.new) result }
+    ensures { TimelineTold (W.seen writer.old) (W.seen writer.new) (E.seen errors.old) (E.seen errors.new) result }
 {
     match fs::open(files, path) {
         Ok(file) => timeline_over(
@@ -186,7 +180,7 @@ pub fn timeline_file<F: Files + AllocGlobal, W: Sink, E: Sink>(
 /// Creates the file, and writes the picture into it; 1 where either fails, which is said on `errors`.
 fn write_picture<F: Files, E: Sink>(files: &F, out: &str, picture: &Report, errors: &mut E) -> u8
     requires { picture.now.code ≡ 0 }
-    ensures { Creates (E.contents errors.old) (E.contents errors.new) (E.failed errors.old) (E.failed errors.new) result }
+    ensures { Creates (E.seen errors.old) (E.seen errors.new) result }
 {
     match fs::create(files, out) {
         Ok(file) => show(picture, &mut Counted::new(file), errors),
@@ -203,7 +197,7 @@ fn draw_input<F: Files + AllocGlobal, E: Sink>(
     out: &str,
     errors: &mut E,
 ) -> u8
-    ensures { DrawsInput input.now (E.contents errors.old) (E.contents errors.new) (E.failed errors.old) (E.failed errors.new) result }
+    ensures { DrawsInput input.now (E.seen errors.old) (E.seen errors.new) result }
 {
     match timeline_on(files.alloc(), file, input, Form::Picture, part) {
         Ok(picture) => write_picture(files, out, &picture, errors),
@@ -220,7 +214,7 @@ pub fn picture_file<F: Files + AllocGlobal, E: Sink>(
     out: &str,
     errors: &mut E,
 ) -> u8
-    ensures { PictureEnds (E.contents errors.old) (E.contents errors.new) (E.failed errors.old) (E.failed errors.new) result }
+    ensures { PictureEnds (E.seen errors.old) (E.seen errors.new) result }
 {
     match fs::open(files, path) {
         Ok(file) => match read_whole(files.alloc(), &mut Counted::new(file)) {

@@ -2,7 +2,7 @@ use Rattle.std.proofs.Common.{inl, inr}
 use Rattle.nt_commands.proofs.commands.print_file.Goals as goal
 
 pub returns-in-Ok : goal.returns-in-Ok
-returns-in-Ok g c = inr (_, _, _, _, _, c.run_file.ensures)
+returns-in-Ok g c = inr (_, _, c.run_file.ensures)
 
 pub returns-in-Err : goal.returns-in-Err
 returns-in-Err g c = inl (c.say.ensures.said, c.say.ensures.status)

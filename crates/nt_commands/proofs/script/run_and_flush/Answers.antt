@@ -5,4 +5,4 @@ pub returns-in-Ok : goal.returns-in-Ok
 returns-in-Ok g c =
     let given = c.in-Ok.ensures in
     let after = c.hand_on.ensures in
-    ended _ (g.R.Read.remaining c.run.new.reader) _ _ _ _ _ _ _ _ _ c.in-Ok.summary c.hand_on.result c.requires.write_failures given.answers given.failures after.kept after.ok after.err
+    ended (g.R.Source.seen c.args.reader.now) (g.R.Source.seen c.run.new.reader) (g.W.Sink.seen c.args.writer.now) (g.W.Sink.seen c.run.new.writer) (g.W.Sink.seen c.hand_on.new.writer) c.in-Ok.summary c.hand_on.result c.requires.write_failures given.answers given.failures after.kept after.ok after.err

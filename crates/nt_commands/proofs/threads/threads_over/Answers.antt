@@ -13,4 +13,4 @@ returns-then-not-are_lawful g c =
 pub returns-in-Ok : goal.returns-in-Ok
 returns-in-Ok g c =
     let report = subst (IsReport c.args.workers c.args.rounds) (sym c.as_slice.ensures.value) c.in-Ok.ensures in
-    record { either = told _ _ c.as_slice.result.now _ _ _ _ _ _ _ _ _ _ report c.tell_lines.ensures }
+    record { either = told _ _ c.as_slice.result.now (g.W.Sink.seen c.args.writer.now) (g.W.Sink.seen c.tell_lines.new.writer) (g.E.Sink.seen c.args.errors.now) (g.E.Sink.seen c.tell_lines.new.errors) _ report c.tell_lines.ensures }

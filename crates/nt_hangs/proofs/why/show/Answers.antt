@@ -2,4 +2,4 @@ use Rattle.nt_hangs.proofs.Telling.{unshown}
 use Rattle.nt_hangs.proofs.why.show.Goals as goal
 
 pub returns-in-Err : goal.returns-in-Err
-returns-in-Err g c = unshown c.as_slice.result.now c.args.report.now.text.items _ _ _ _ _ _ _ _ _ _ _ c.as_slice.ensures.value c.in-Err.ensures.0 c.in-Err.ensures.1 c.say.ensures.said c.say.ensures.status
+returns-in-Err g c = unshown c.as_slice.result.now c.args.report.now.text.items _ (g.W.Sink.seen c.args.writer.now) (g.W.Sink.seen c.write_and_flush.new.writer) (g.E.Sink.seen c.args.errors.now) (g.E.Sink.seen c.say.new.errors) _ c.as_slice.ensures.value c.in-Err.ensures.0 c.in-Err.ensures.1 c.say.ensures.said c.say.ensures.status

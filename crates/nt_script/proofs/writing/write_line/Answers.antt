@@ -19,7 +19,7 @@ returns-clause-ok c =
     let sum = length-append c.reserve.new.self.items (statement_text statement) in
     let after = c.len.ensures in
     let before = c.len-start.ensures in
-    let fits = c.if-len-start-gt-LINE_BYTES.false in
+    let fits = c.if-len-start-gt-MAX_LINE.false in
     let short : length (statement_text statement) ≤ 4096 = omega (arith, bytes, sum, after, before, fits) in
     rw (sym c.handle_of.ensures)
     (written c.args.out.now.items c.reserve.new.self.items c.put_call.new.out.items c.put.new.out.items statement c.reserve.ensures.items put c.put.ensures.items short)

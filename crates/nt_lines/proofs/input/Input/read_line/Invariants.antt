@@ -6,11 +6,11 @@ use Rattle.nt_lines.proofs.input.Input.read_line.Given as goal
 
 abbrev pub invariant-loop-self : goal.invariant-loop-self
 invariant-loop-self g l = record {
-  taken : Consumes (to_come l.fn.self (g.R.Read.remaining l.fn.reader)) (to_come l.self (g.R.Read.remaining l.reader)) l.line.items;
+  taken : Consumes (to_come l.fn.self (g.R.Source.seen l.fn.reader).left) (to_come l.self (g.R.Source.seen l.reader).left) l.line.items;
   one_line : HasNoFeed l.line.items;
   short : length l.line.items ≤ 4096;
   room : vec_capacity l.fn.line ≤ vec_capacity l.line;
-  failed : g.R.Source.failed l.reader ≡ g.R.Source.failed l.fn.reader;
+  failed : (g.R.Source.seen l.reader).failed ≡ (g.R.Source.seen l.fn.reader).failed;
 }
 
 abbrev pub decreases-loop-self : goal.decreases-loop-self

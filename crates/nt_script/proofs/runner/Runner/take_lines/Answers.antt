@@ -60,5 +60,5 @@ loop-number-preserved g c =
 pub returns-clause-answers : goal.returns-clause-answers
 returns-clause-answers g c =
     let last : c.loop-number.number ≡ 18446744073709551615 = omega arith in
-    subst (λ (n : ℕ). Stops (g.R.Read.remaining c.args.reader.now) (g.W.Write.contents c.args.writer.now) (g.W.Write.contents c.loop-number.writer) n AnyCause) last
-    (Answers-full _ _ _ _ (g.R.Read.remaining c.loop-number.reader) _ _ c.loop-number.invariant.so_far)
+    subst (λ (n : ℕ). Stops (g.R.Source.seen c.args.reader.now).left (g.W.Sink.seen c.args.writer.now).held (g.W.Sink.seen c.loop-number.writer).held n AnyCause) last
+    (Answers-full _ _ _ _ (g.R.Source.seen c.loop-number.reader).left _ _ c.loop-number.invariant.so_far)

@@ -6,9 +6,9 @@ use Rattle.nt_script.proofs.runner.Runner.take_lines.Given as goal
 
 abbrev pub invariant-loop-number : goal.invariant-loop-number
 invariant-loop-number g l = record {
-  so_far : SoFar l.number (progress_of l.self.session) (g.R.Read.remaining l.fn.reader) (to_come l.self.input (g.R.Read.remaining l.reader)) (g.W.Write.contents l.fn.writer) (g.W.Write.contents l.writer);
+  so_far : SoFar l.number (progress_of l.self.session) (g.R.Source.seen l.fn.reader).left (to_come l.self.input (g.R.Source.seen l.reader).left) (g.W.Sink.seen l.fn.writer).held (g.W.Sink.seen l.writer).held;
   line : 4097 ≤ vec_capacity l.self.line;
-  read : g.R.Source.failed l.reader ≡ g.R.Source.failed l.fn.reader;
-  flushes : g.W.Sink.flushes l.writer ≡ g.W.Sink.flushes l.fn.writer;
-  written : g.W.Sink.failed l.writer ≡ g.W.Sink.failed l.fn.writer;
+  read : (g.R.Source.seen l.reader).failed ≡ (g.R.Source.seen l.fn.reader).failed;
+  flushes : (g.W.Sink.seen l.writer).flushes ≡ (g.W.Sink.seen l.fn.writer).flushes;
+  written : (g.W.Sink.seen l.writer).failed ≡ (g.W.Sink.seen l.fn.writer).failed;
 }
