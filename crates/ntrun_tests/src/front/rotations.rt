@@ -110,6 +110,32 @@ fn hand_over<N: Named>(
     other
 }
 
+/// Both threads do their parts, and what they hold then stands among the holds.
+fn take_turns<N: Named>(
+    rt: &impl Wait,
+    alloc: Global,
+    front: &Front<N>,
+    passes: &mut Vec<Pass<N>>,
+    holds: &mut Vec<Held<N>>,
+    row: &mut Row,
+    parts: &mut Vec<Part>,
+)
+    requires { (vec_len passes.old ≡ 2) × (vec_len holds.old + 2 ≤ vec_capacity holds.old) }
+    ensures { vec_len passes.new ≡ 0 }
+{
+    let Some(other) = passes.pop() else {
+        return;
+    };
+    let Some(mut first) = passes.pop() else {
+        holds.push_reserved(Held::Pass(other));
+        return;
+    };
+    let other = begin(rt, alloc, front, &mut first, other);
+    let other = hand_over(rt, front, &mut first, other, row, parts);
+    holds.push_reserved(other);
+    holds.push_reserved(Held::Pass(first));
+}
+
 /// Both threads do their parts, and the front ends.
 fn by_both<N: Named>(
     rt: &impl Wait,
@@ -122,19 +148,8 @@ fn by_both<N: Named>(
 ) -> History
     requires { (vec_len passes ≡ 2) × (vec_len holds + 2 ≤ vec_capacity holds) }
 {
-    let other = passes.pop();
-    let first = passes.pop();
+    take_turns(rt, alloc, &front, &mut passes, &mut holds, row, parts);
     passes.destroy_empty();
-    if let Some(other) = other {
-        if let Some(mut first) = first {
-            let other = begin(rt, alloc, &front, &mut first, other);
-            let other = hand_over(rt, &front, &mut first, other, row, parts);
-            holds.push_reserved(other);
-            holds.push_reserved(Held::Pass(first));
-        } else {
-            holds.push_reserved(Held::Pass(other));
-        }
-    }
     front.finish(holds)
 }
 
