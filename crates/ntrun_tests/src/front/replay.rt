@@ -13,15 +13,25 @@ struct Follower {
 }
 
 impl Follower {
-    /// Makes the calls of the next entries too, as does a copy of the dispatcher that they begin at. Answers the number of the first
-    /// entry that one of them does not give, or that is missing.
+    /// Makes the calls of the next entries too, as does a copy of the dispatcher that they begin at, which is to be like this one. Answers
+    /// the number of the first entry that one of them does not give, or that is missing.
     fn follow(self, first: u64, base: &Core, entries: &[Entry]) -> Result<Follower, u64> {
-        match follows(self.next, first, base, entries) {
+        match self.precedes(first, base, entries) {
             Ok(()) => self.go_on(first, entries),
             Err(number) => {
                 drop(self);
                 Err(number)
             }
+        }
+    }
+
+    /// Whether these entries go on from here, and a copy of the dispatcher that they begin at gives them. Else the number of the first that
+    /// it does not give, or that is missing.
+    fn precedes(&self, first: u64, base: &Core, entries: &[Entry]) -> Result<(), u64> {
+        if self.core.is_like(base) {
+            follows(self.next, first, base, entries)
+        } else {
+            Err(self.next)
         }
     }
 
