@@ -156,22 +156,34 @@ __attribute__((always_inline)) static inline DWORD finish_wait(struct seat *seat
     return finish_pending(seat, wait);
 }
 
+/* Reads the first and the last of these handles, and so from each page that they stand in, of which there are two at the most: a list that can't be
+ * read does no harm while the lock is free. */
+static inline void read_ends(const HANDLE *objects, DWORD count)
+{
+    (void)*(const HANDLE volatile *)objects;
+    (void)*(const HANDLE volatile *)&objects[count - 1];
+}
+
+/* The numbers of these handles, under the lock. (Pseudo handles stand in no list.) */
+__attribute__((noinline)) static void read_numbers(uint32_t *numbers, const HANDLE *objects, DWORD count)
+{
+    for (DWORD i = 0; i < count; i++)
+        numbers[i] = listed_number_of(objects[i]);
+}
+
 __attribute__((always_inline)) static inline DWORD wait_for_objects(DWORD count, const HANDLE *objects, BOOL all, DWORD ms, BOOL alertable)
 {
-    HANDLE handles[MAXIMUM_WAIT_OBJECTS];
     uint32_t numbers[MAXIMUM_WAIT_OBJECTS];
     if (objects == NULL || count > MAXIMUM_WAIT_OBJECTS) {
         fail(ERROR_INVALID_PARAMETER);
         return WAIT_FAILED;
     }
-    /* (A list that can't be read does no harm while the lock is free. Pseudo handles stand in none.) */
-    for (DWORD i = 0; i < count; i++)
-        handles[i] = objects[i];
+    if (count > 0)
+        read_ends(objects, count);
     struct seat *seat = begin();
     if (seat == NULL)
         return WAIT_FAILED;
-    for (DWORD i = 0; i < count; i++)
-        numbers[i] = listed_number_of(handles[i]);
+    read_numbers(numbers, objects, count);
     begin_timed(seat, ms);
     return finish_wait(seat, nt_wait(&waiting.dispatcher, seat->number, numbers, count, all != FALSE, ms, alertable != FALSE, &seat->reply),
                        (struct wait){ numbers, count, alertable });
