@@ -22,6 +22,8 @@
 
 #include "ntwin/looked.c"
 
+#include "ntwin/lock.c"
+
 #include "ntwin/dues.c"
 
 #include "ntwin/waiting.c"

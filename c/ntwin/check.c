@@ -35,7 +35,7 @@ static bool sleeps_to_what_it_minds(const struct seat *seat)
 static void check_pending(const struct seat *seat, const struct nt_pending_wait *wait, struct found *found)
 {
     const uint64_t deadline = wait->timed ? wait->deadline : NEVER;
-    holds(seat->word != IS_GRANTED, "a thread whose wait pends is not granted");
+    holds(atomic_load_explicit(&seat->word, memory_order_relaxed) != IS_GRANTED, "a thread whose wait pends is not granted");
     holds(seat->moment <= deadline || seat->is_gone, "a thread sleeps no longer than to its deadline");
     holds(!seat->minds || sleeps_to_what_it_minds(seat), "who minds timers sleeps no longer than to the first");
     found->pending++;
@@ -44,13 +44,20 @@ static void check_pending(const struct seat *seat, const struct nt_pending_wait 
     found->moment = earlier_of(found->moment, seat->moment);
 }
 
+/* Whether some thread has the lock. */
+static bool is_taken(void)
+{
+    const uint32_t seen = atomic_load_explicit(&waiting.lock, memory_order_relaxed);
+    return seen < FAVOURS ? seen != FREE : atomic_load_explicit(&waiting.seats[seen - FAVOURS].inside, memory_order_relaxed) != 0;
+}
+
 static void check_waiting(void)
 {
     struct found found = { 0, 0, NEVER, NEVER };
     uint64_t next = NEVER;
     if (!waiting.dispatcher.live)
         return;
-    holds(waiting.lock != FREE, "the lock is taken");
+    holds(is_taken(), "the lock is taken");
     holds(waiting.wakes == 0, "nobody is left to be woken");
     for (uint32_t i = 0; i < waiting.seated; i++) {
         struct nt_pending_wait wait;

@@ -13,6 +13,7 @@
 #include <limits.h>
 #include <link.h>
 #include <linux/futex.h>
+#include <linux/membarrier.h>
 #include <pthread.h>
 #include <sched.h>
 #include <setjmp.h>
@@ -47,6 +48,14 @@
 #define WAITS_PER_TRY 4096 /* once in so many waits, those of all threads together, 2 of them try again whether looks help */
 #endif
 
+/* How often in a row a thread takes the lock before that favours it, at the least and at the most, and how often it takes it then so that this pays
+ * (lock.c). A test may set less. */
+#ifndef LEAST_PATIENCE
+#define LEAST_PATIENCE 64
+#define MOST_PATIENCE 65536
+#define TURNS_THAT_PAY 8192
+#endif
+
 /* How many timers with a routine a thread minds by itself. A test may set less. */
 #ifndef MINDED_AT_MOST
 #define MINDED_AT_MOST 16
@@ -65,8 +74,8 @@ enum {
 #define CURRENT_THREAD ((HANDLE)(intptr_t)-2)
 #define NEVER UINT64_MAX /* in the place of a moment */
 
-/* The lock is free, taken, or taken and wanted by threads that may sleep on it. */
-enum { FREE, TAKEN, WANTED };
+/* The lock is free, taken, or taken and wanted by threads that may sleep on it; or it favours the thread of a seat, whose number is added (lock.c). */
+enum { FREE, TAKEN, WANTED, FAVOURS };
 
 /* How the wait of a thread stands. */
 enum {
@@ -99,6 +108,8 @@ enum { WOKEN_LATER = 64 };
 /* A thread's place in the dispatcher. Once the thread has left and no handle names it any longer, the seat is another thread's. */
 struct seat {
     _Atomic uint32_t word;   /* how its wait stands: written by others under the lock */
+    _Atomic uint32_t inside; /* not 0 while it has the lock as the one that this favours, or looks whether it has (lock.c) */
+    uint32_t turns;          /* how often it has had it so in a row */
     uint32_t status;         /* with which status it was granted */
     uint32_t number;         /* the thread's, which is also the seat's place among all */
     uint32_t handle;         /* the number of its own handle, which no program sees */
@@ -159,6 +170,7 @@ static struct {
     pthread_key_t leaving;  /* its value in a thread: at which round of its destructors the thread is */
     pid_t id;
     bool looks;             /* threads look at a word before they sleep on it: there are several processors */
+    bool has_barriers;      /* a thread can make each other pass a barrier, so the lock may favour one (lock.c). Written under the lock, once several run */
     bool is_forked;         /* this is a child of a process with threads that are not here, */
     struct runner *lost;    /* these among them */
     uint64_t start;         /* the dispatcher's moment 0, on the monotonic clock */
@@ -174,6 +186,9 @@ static struct {
  *   - nobody is left to be woken: `wakes` is 0. */
 static struct {
     _Atomic uint32_t lock;
+    uint32_t turn;           /* the seat whose thread took the lock last, but not as the favoured one, */
+    uint32_t turns_left;     /* how often more it has to take it, with no other between, until the lock favours it, */
+    uint32_t patience;       /* and how often that is from the first time on */
     uint32_t pending;
     uint32_t wakes;          /* how many threads who has the lock wakes once it has given that back: they stand in its seat */
     uint64_t timers_due;     /* NEVER where no timer is set */

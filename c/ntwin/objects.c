@@ -199,7 +199,7 @@ BOOL SetWaitableTimer(HANDLE timer, const LARGE_INTEGER *due, LONG period, PTIME
     struct seat *seat = join();
     if (seat == NULL)
         return FALSE;
-    take_lock();
+    take_lock_for(seat);
     const uint64_t now = pass_time(seat);
     const int64_t moment = time < 0 ? time : moment_of(time);
     const uint32_t number = number_of(seat, timer), refused = set_timer(seat, number, moment, period, routine, argument);

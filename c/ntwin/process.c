@@ -13,9 +13,9 @@ static void *run_thread(void *at)
     const bool leaves_by_key = pthread_setspecific(process.leaving, rounds) == 0;
     own.id = id_of(seat);
     seat->runner->thread = pthread_self();
-    take_lock();
+    take_lock_for(seat);
     begin_life(seat, own.id);
-    give_lock();
+    give_lock_for(seat);
     own.end = &end;
     if (_setjmp(end) == 0) {
         wait_to_begin(seat);
@@ -79,7 +79,7 @@ HANDLE CreateThread(LPSECURITY_ATTRIBUTES attributes, SIZE_T stack, LPTHREAD_STA
     struct seat *caller = join();
     if (caller == NULL)
         return NULL;
-    join_those_who_are_gone();
+    join_those_who_are_gone(caller);
     struct runner *runner = calloc(1, sizeof *runner);
     if (runner == NULL) {
         fail(ERROR_NOT_ENOUGH_MEMORY);

@@ -134,7 +134,8 @@ static void end_seat(struct seat *seat)
  * at the time in its place. */
 static void leave(struct seat *seat)
 {
-    lock(seat);
+    take_lock();
+    see_to_the_overdue(seat);
     if (nt_close_handle(&waiting.dispatcher, seat->number, seat->handle, &seat->reply) == 0)
         note(seat);
     if (nt_exit(&waiting.dispatcher, seat->number, &seat->reply) == 0) {
@@ -180,7 +181,7 @@ static void note_fork(void)
     if (!is_opening)
         pthread_mutex_unlock(&process.opening);
     own.mark = 0;
-    if (!is_opening && atomic_load_explicit(&waiting.lock, memory_order_relaxed) == FREE && waiting.alive == (own.seat != NULL))
+    if (is_free_in_child() && !is_opening && waiting.alive == (own.seat != NULL))
         return;
     process.is_forked = true;
     own.seat = NULL;
@@ -190,6 +191,7 @@ static void note_fork(void)
 __attribute__((constructor(101))) static void begin_process(void)
 {
     process.looks = sysconf(_SC_NPROCESSORS_ONLN) > 1;
+    ask_for_barriers();
     pthread_atfork(rest_from_telling, go_on_telling, note_fork);
 }
 
@@ -198,6 +200,7 @@ __attribute__((constructor(101))) static void begin_process(void)
 static uint32_t open_for_all(void)
 {
     take_lock();
+    waiting.patience = waiting.turns_left = LEAST_PATIENCE;
     waiting.gives_once = journal.text != NULL;
     waiting.places = waiting.gives_once ? NT_MAXIMUM_THREADS : NT_MANY_THREADS;
     const uint32_t refused = (waiting.gives_once ? nt_open : nt_open_lasting)(&waiting.dispatcher, waiting.places);
@@ -261,9 +264,9 @@ static inline struct seat *join(void)
 }
 
 /* Joins the threads of CreateThread that are gone. It waits for none: who has left may still run destructors. */
-static void join_those_who_are_gone(void)
+static void join_those_who_are_gone(struct seat *caller)
 {
-    take_lock();
+    take_lock_for(caller);
     for (struct runner **at = &waiting.left, *runner; (runner = *at) != NULL;)
         if (pthread_tryjoin_np(runner->thread, NULL) != EBUSY) {
             *at = runner->next;
@@ -271,7 +274,7 @@ static void join_those_who_are_gone(void)
         } else {
             at = &runner->next;
         }
-    give_lock();
+    give_lock_for(caller);
 }
 
 /* At the end of the process, though not in a child that was forked: gives those who have left, and have nothing to do but to be gone, two

@@ -55,6 +55,14 @@ static uint64_t coarsely(void)
     return in_moments(&now);
 }
 
+static struct timespec in_timespec(uint64_t time)
+{
+    return (struct timespec){
+        .tv_sec = (time_t)(time / MOMENTS_PER_SECOND),
+        .tv_nsec = (long)(time % MOMENTS_PER_SECOND) * NANOSECONDS_PER_MOMENT,
+    };
+}
+
 /* UTC, in units of 100 ns since 1601. */
 static int64_t universal(void)
 {

@@ -145,12 +145,18 @@ __attribute__((noinline)) static void catch_up_unless_kept(struct seat *caller)
         catch_up(caller);
 }
 
-/* Takes the lock. Where nobody watches, what is overdue happens first. */
-static inline void lock(struct seat *caller)
+/* What is overdue happens, under the lock, where nobody watches. */
+static inline void see_to_the_overdue(struct seat *caller)
 {
-    take_lock();
     if (waiting.timers_due != NEVER && waiting.watchers == 0)
         catch_up_unless_kept(caller);
+}
+
+/* Takes the lock. Where nobody watches, what is overdue happens first. */
+__attribute__((always_inline)) static inline void lock(struct seat *caller)
+{
+    take_lock_for(caller);
+    see_to_the_overdue(caller);
 }
 
 /* How many threads the caller's call told something while they slept, under the lock. From now on the caller wakes them. */
@@ -173,7 +179,7 @@ __attribute__((noinline)) static void unlock_and_wake_all(struct seat *caller)
 {
     char *text = caller->tells ? text_of_knot() : NULL;
     const uint32_t wakes = wakes_left();
-    give_lock();
+    give_lock_for(caller);
     wake_all(caller, wakes);
     if (caller->tells)
         tell_knot(caller, text);
@@ -185,7 +191,7 @@ static inline void unlock_and_wake(struct seat *caller)
     if (waiting.wakes > 0)
         unlock_and_wake_all(caller);
     else
-        give_lock();
+        give_lock_for(caller);
 }
 
 /* As `note_and_unlock`, where there may be somebody. */
@@ -199,7 +205,7 @@ __attribute__((noinline)) static void note_and_unlock_all(struct seat *caller)
 static inline void note_and_unlock(struct seat *caller)
 {
     if ((waiting.pending | waiting.wakes) == 0)
-        give_lock();
+        give_lock_for(caller);
     else
         note_and_unlock_all(caller);
 }
@@ -238,11 +244,7 @@ static void look(struct seat *seat, uint32_t looks)
 /* Sleeps to this moment at the longest, until the caller is told something. Answers whether its wait was granted. */
 static bool sleep_to(struct seat *seat, uint64_t moment)
 {
-    const uint64_t time = process.start + moment;
-    const struct timespec until = {
-        .tv_sec = (time_t)(time / MOMENTS_PER_SECOND),
-        .tv_nsec = (long)(time % MOMENTS_PER_SECOND) * NANOSECONDS_PER_MOMENT,
-    };
+    const struct timespec until = in_timespec(process.start + moment);
     uint32_t seen = IS_AWAKE;
     if (atomic_compare_exchange_strong_explicit(&seat->word, &seen, IS_ASLEEP, memory_order_acquire, memory_order_acquire))
         do {
@@ -258,7 +260,7 @@ static bool sleep_to(struct seat *seat, uint64_t moment)
 static uint64_t look_at_time(struct seat *seat)
 {
     uint64_t moment = NEVER;
-    take_lock();
+    take_lock_for(seat);
     if (atomic_load_explicit(&seat->word, memory_order_relaxed) != IS_GRANTED) {
         atomic_store_explicit(&seat->word, IS_AWAKE, memory_order_relaxed);
         if (pass_time(seat) >= seat->timer_due)

@@ -25,10 +25,10 @@ static uint32_t hear_told(uint32_t refused, const struct nt_told *told);
 #define nt_told(nt, index, told) hear_told(nt_told(nt, index, told), told)
 
 static int read_clock(struct timespec *at);
-static long sleep_by_clock(_Atomic uint32_t *word, int operation, uint32_t value, const struct timespec *until);
+static long use_system(long number, void *word, int operation, uint32_t value);
 
 #define clock_gettime(clock, at) read_clock(at)
-#define syscall(number, word, operation, value, until, other, bits) sleep_by_clock(word, operation, value, until)
+#define syscall(number, word, operation, value, until, other, bits) ((void)(until), use_system(number, (void *)(uintptr_t)(word), operation, value))
 
 #include "../ntwin.c"
 
@@ -46,10 +46,9 @@ static int read_clock(struct timespec *at)
 }
 
 /* Who sleeps to a moment that is still to come sleeps until it is woken: `tick` does that. */
-static long sleep_by_clock(_Atomic uint32_t *word, int operation, uint32_t value, const struct timespec *until)
+static long use_system(long number, void *word, int operation, uint32_t value)
 {
-    (void)until;
-    return (syscall)(SYS_futex, word, operation, value, NULL, NULL, FUTEX_BITSET_MATCH_ANY);
+    return (syscall)(number, word, operation, value, NULL, NULL, FUTEX_BITSET_MATCH_ANY);
 }
 
 /* Whether this thread sleeps to a moment that has come, or was called and has not looked yet. */

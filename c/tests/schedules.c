@@ -49,7 +49,7 @@ static struct {
 
 static uint32_t hear_wait(uint32_t who, uint32_t refused, const struct nt_reply *reply)
 {
-    if (waiting.lock == FREE)
+    if (!is_taken())
         broken("thread %u begins a wait without the lock", who);
     point();
     /* (Not where it only asks whether there is an APC.) */
@@ -60,7 +60,7 @@ static uint32_t hear_wait(uint32_t who, uint32_t refused, const struct nt_reply 
 
 static uint32_t hear_told(uint32_t refused, const struct nt_told *told)
 {
-    if (waiting.lock == FREE)
+    if (!is_taken())
         broken("what is told is read without the lock");
     point();
     if (refused != 0)
@@ -188,7 +188,7 @@ static void look_at_all(void)
     uint64_t due;
     if (!waiting.dispatcher.live)
         return;
-    if (waiting.lock != FREE)
+    if (is_taken())
         broken("all threads sleep, and the lock is not free: %u", (unsigned)waiting.lock);
     for (uint32_t i = 0; i < waiting.seated; i++)
         any |= look_at(&waiting.seats[i]);

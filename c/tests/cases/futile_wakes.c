@@ -15,11 +15,19 @@ static _Thread_local LONG own_sleeps, own_wakes; /* those of the caller: a threa
 
 static long (*real)(long number, ...);
 
+/* (The library makes one before main.) */
+static void find_real(void)
+{
+    if (real == NULL)
+        *(void **)&real = dlsym(RTLD_NEXT, "syscall");
+}
+
 /* In the system's place. */
 long syscall(long number, ...)
 {
     long words[6];
     va_list list;
+    find_real();
     va_start(list, number);
     for (int i = 0; i < 6; i++)
         words[i] = va_arg(list, long);
@@ -88,7 +96,7 @@ static void sleep_to_own_timer(void)
 
 int main(void)
 {
-    *(void **)&real = dlsym(RTLD_NEXT, "syscall");
+    find_real();
     HANDLE event = CreateEvent(NULL, TRUE, FALSE, NULL), timer = CreateWaitableTimer(NULL, TRUE, NULL);
     HANDLE thread = CreateThread(NULL, 0, waits, event, 0, NULL);
     await(&begins);

@@ -10,6 +10,9 @@
 #define LOOKS_AT_WORD 3
 #define WAITS_PER_TRY 5
 #define MINDED_AT_MOST 2
+#define LEAST_PATIENCE 2
+#define MOST_PATIENCE 8
+#define TURNS_THAT_PAY 3
 /* What a thread finds of its own is one variable, which is changed at each switch. */
 #define own OWN
 #include "../../ntwin/inside.h"
@@ -43,6 +46,8 @@ struct strand {
     const void *word;       /* on which it sleeps, */
     uint64_t until;         /* to this time at the longest, in ns, */
     bool is_woken;          /* unless it was woken */
+    uint32_t *late_word;    /* to which it has stored this, which others do not see yet; null where there is none (system.h): */
+    uint32_t late_value;
     int priority;
     const void *leaving;    /* the value of its key */
     struct own kept;
@@ -102,6 +107,29 @@ __attribute__((format(printf, 1, 2), noreturn)) static void broken(const char *f
     va_end(list);
     fflush(stdout);
     _Exit(1);
+}
+
+/* ---- What a strand has stored last is late: others see it by chance, or once it makes a step, stores more, sleeps, or passes a barrier. */
+
+static void end_store(struct strand *strand)
+{
+    if (strand != NULL && strand->late_word != NULL)
+        __atomic_store_n(strand->late_word, strand->late_value, __ATOMIC_SEQ_CST);
+    if (strand != NULL)
+        strand->late_word = NULL;
+}
+
+static void store_late(void *word, uint32_t value)
+{
+    end_store(run.runs);
+    run.runs->late_word = word;
+    run.runs->late_value = value;
+}
+
+static void end_all_stores(void)
+{
+    for (int i = 0; i < run.count; i++)
+        end_store(&run.strands[i]);
 }
 
 /* ---- Which strand runs. */
@@ -198,20 +226,23 @@ __attribute__((noinline)) static void switch_to(struct strand *next)
 static void stand_aside(int state)
 {
     struct strand *me = run.runs;
+    end_store(me);
     me->state = state;
     switch_to(next_strand());
     me->state = CAN_RUN;
 }
 
-/* A point at which another strand may run. */
+/* A point at which another strand may run: but where all sleep, and are looked at. */
 static void point(void)
 {
     struct strand *me = run.runs;
     static const uint32_t seldom[HABITS] = { [OFTEN] = 2, [SOMETIMES] = 8, [BY_PRIORITY] = 1, [SELDOM] = 40 };
-    if (me == NULL)
+    if (me == NULL || me->state != CAN_RUN)
         return;
     if (++run.points > MOST_POINTS)
         broken("the run does not end");
+    if (one_in(4))
+        end_store(&run.strands[below((uint32_t)run.count)]);
     if (one_in(64))
         run.now += below(2000);
     if (one_in(2000))

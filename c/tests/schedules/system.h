@@ -6,11 +6,17 @@
 
 /* ---- The system, here. */
 
-static long use_futex(_Atomic uint32_t *word, int operation, uint32_t value, const struct timespec *until)
+static long use_system(long number, void *word, int operation, uint32_t value, const struct timespec *until)
 {
     struct strand *me = run.runs, *sleepers[MOST_STRANDS];
     uint32_t count = 0;
     point();
+    if (number == SYS_membarrier) {
+        end_all_stores();
+        point();
+        return 0;
+    }
+    end_store(me);
     if (operation == FUTEX_WAKE_PRIVATE) {
         for (int i = 0; i < run.count; i++)
             if (run.strands[i].state == SLEEPS && run.strands[i].word == word && !run.strands[i].is_woken)
@@ -66,7 +72,7 @@ static int yield_strand(void)
     return 0;
 }
 
-#define syscall(number, word, operation, value, until, ...) use_futex(word, operation, value, until)
+#define syscall(number, word, operation, value, until, ...) use_system(number, (void *)(uintptr_t)(word), operation, value, until)
 #define clock_gettime(clock, at) read_clock(at)
 /* (The system has no thread more now and then.) */
 #define pthread_create(thread, attributes, start, argument) ((void)(attributes), one_in(20) ? EAGAIN : create_strand(thread, start, argument))
@@ -99,16 +105,21 @@ static int yield_strand(void)
 #define exchange_step(word, value) __atomic_exchange_n(word, value, __ATOMIC_SEQ_CST)
 #define compare_step(word, seen, value) __atomic_compare_exchange_n(word, seen, value, false, __ATOMIC_SEQ_CST, __ATOMIC_SEQ_CST)
 #endif
-#define atomic_load_explicit(word, order) (point(), load_step(word))
-#define atomic_store_explicit(word, value, order) (point(), store_step(word, value))
+#define own_late_word(word) (run.runs != NULL && (void *)run.runs->late_word == (void *)(word))
+#define atomic_load_explicit(word, order) (point(), own_late_word(word) ? end_store(run.runs) : (void)0, load_step(word))
+#define atomic_store_explicit(word, value, order) \
+    (point(), run.runs != NULL && sizeof *(word) == sizeof(uint32_t) ? store_late((void *)(word), (uint32_t)(uintptr_t)(value)) \
+                                                                     : (end_store(run.runs), store_step(word, value)))
 /* (Another may run right after an exchange, too: that is how the lock is taken and given back.) */
 #define atomic_exchange_explicit(word, value, order) \
     __extension__({ \
         point(); \
+        end_store(run.runs); \
         __auto_type found_by_step = exchange_step(word, value); \
         point(); \
         found_by_step; \
     })
-#define atomic_compare_exchange_strong_explicit(word, seen, value, one, other) (point(), compare_step(word, seen, value))
+#define atomic_compare_exchange_strong_explicit(word, seen, value, one, other) \
+    (point(), end_store(run.runs), compare_step(word, seen, value))
 
 #endif

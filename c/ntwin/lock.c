@@ -1,0 +1,321 @@
+/* ---- The lock, and the thread that it favours, which takes it by plain stores and loads.
+ *
+ * `waiting.lock` is FREE, TAKEN, WANTED (taken, and threads may sleep on it), or FAVOURS + n. The thread of seat n says by `inside`, which nobody else
+ * writes, that it has the lock as the favoured one, or looks whether it has.
+ *
+ * To take it. The favoured thread sets `inside`, and then loads the lock: it has it if that still favours it. If not, it clears `inside` and does as
+ * all others: they make it TAKEN from FREE, or exchange it for WANTED once they are to sleep. Who changes FAVOURS + n so revokes it: membarrier(2) has
+ * each other thread pass a barrier, and who revokes has the lock once it finds `inside` of seat n clear after that.
+ * To give it back. Who is inside clears `inside`, and then loads the lock: if that favours it no longer, it wakes who sleeps on `inside`. All others
+ * make the lock FREE, and wake one thread if it was WANTED.
+ * To be favoured. Who has taken it `patience` times, with nobody else between, sets `inside` and makes it FAVOURS + n from TAKEN.
+ *
+ * Why no two have it. The barrier of who revokes stands somewhere among the steps of thread n. If thread n found the favour before the barrier, it had
+ * set `inside` before that, too: who revokes sees it, and waits. After the barrier, thread n finds that the lock does not favour it. Nobody but
+ * thread n makes the lock favour it again, and for that it has to have the lock.
+ * Why nobody sleeps in vain. Who sleeps on `inside` has revoked. If thread n clears `inside` before the barrier, who revokes sees that; if not, thread n
+ * loads the lock after the barrier, and wakes who sleeps. If threads sleep on the lock while it is not WANTED, one of them was woken: it makes it
+ * WANTED, be it FREE, TAKEN or FAVOURS + n.
+ *
+ * To revoke costs a call of the system. So `patience` doubles if a favour was too short to pay for that, and else halves. The lock favours nobody if
+ * the system has no such barriers, nor beside ThreadSanitizer and helgrind, which know none. If the system refuses one later, who revokes rests until
+ * each store has long arrived, and nobody is favoured any longer. */
+
+/* Whether the process has one thread, so that what it does with the lock need not be one step. */
+static inline bool is_alone(void)
+{
+#ifdef TELLS_WHETHER_ALONE
+    return __libc_single_threaded;
+#else
+    return false;
+#endif
+}
+
+/* ---- The favoured thread. */
+
+/* Wakes who has revoked the favour and sleeps until this thread is not inside. */
+__attribute__((noinline, cold)) static void wake_who_revoked(struct seat *seat)
+{
+    wake_one(&seat->inside);
+}
+
+static inline bool lock_is(uint32_t value)
+{
+    return atomic_load_explicit(&waiting.lock, memory_order_acquire) == value;
+}
+
+/* What `inside` is: 0, or how the lock is that favours this thread. */
+static inline uint32_t inside_of(const struct seat *seat)
+{
+    return atomic_load_explicit(&seat->inside, memory_order_relaxed);
+}
+
+/* The caller, which was inside, is no longer. */
+__attribute__((always_inline)) static inline void step_out(struct seat *seat, uint32_t inside)
+{
+    atomic_store_explicit(&seat->inside, 0, memory_order_release);
+    atomic_signal_fence(memory_order_seq_cst);
+    if (!lock_is(inside))
+        wake_who_revoked(seat);
+}
+
+/* The same where the lock has come to favour it no longer. Answers false. */
+__attribute__((noinline, cold)) static bool step_back(struct seat *seat, uint32_t inside)
+{
+    step_out(seat, inside);
+    return false;
+}
+
+/* Takes the lock if it favours the caller. (Who is inside was interrupted there by a signal, and does as the others.) */
+__attribute__((always_inline)) static inline bool step_in(struct seat *seat)
+{
+    const uint32_t mine = FAVOURS + seat->number;
+    if (!lock_is(mine) || inside_of(seat) != 0)
+        return false;
+    atomic_store_explicit(&seat->inside, mine, memory_order_relaxed);
+    atomic_signal_fence(memory_order_seq_cst);
+    if (!lock_is(mine))
+        return step_back(seat, mine);
+    seat->turns++;
+    return true;
+}
+
+/* The lock favours the caller from now on, which has it, unless it is wanted. */
+__attribute__((noinline, cold)) static void favour(struct seat *seat)
+{
+    const uint32_t mine = FAVOURS + seat->number;
+    uint32_t seen = TAKEN;
+    waiting.turns_left = waiting.patience;
+    if (!process.has_barriers)
+        return;
+    seat->turns = 0;
+    atomic_store_explicit(&seat->inside, mine, memory_order_relaxed);
+    if (!atomic_compare_exchange_strong_explicit(&waiting.lock, &seen, mine, memory_order_acq_rel, memory_order_relaxed))
+        atomic_store_explicit(&seat->inside, 0, memory_order_relaxed);
+}
+
+/* The caller has taken the lock as all do. */
+static void count_turn(struct seat *seat)
+{
+    if (waiting.turn != seat->number) {
+        waiting.turn = seat->number;
+        waiting.turns_left = waiting.patience;
+    } else if (--waiting.turns_left == 0) {
+        favour(seat);
+    }
+}
+
+/* ---- To revoke that. */
+
+static bool ask_system(int command)
+{
+    const int error = errno;
+    const bool is_done = syscall(SYS_membarrier, command, 0, 0, NULL, NULL, 0) == 0;
+    errno = error;
+    return is_done;
+}
+
+/* As the process begins, and in a child that was forked. */
+static void ask_for_barriers(void)
+{
+    process.has_barriers = knows_barriers() && ask_system(MEMBARRIER_CMD_REGISTER_PRIVATE_EXPEDITED);
+}
+
+/* Has each other thread pass a barrier, under the lock. */
+static void pass_barriers(void)
+{
+    static _Atomic uint32_t nobody;
+    if (ask_system(MEMBARRIER_CMD_PRIVATE_EXPEDITED))
+        return;
+    process.has_barriers = false;
+    const uint64_t end = monotonic() + MOMENTS_PER_SECOND / 10;
+    const struct timespec until = in_timespec(end);
+    while (monotonic() < end)
+        sleep_on(&nobody, 0, &until);
+}
+
+/* A favour has ended that lasted for so many turns, under the lock. */
+static void set_patience(uint32_t turns)
+{
+    const bool has_paid = turns >= TURNS_THAT_PAY;
+    if (has_paid && waiting.patience > LEAST_PATIENCE)
+        waiting.patience /= 2;
+    else if (!has_paid && waiting.patience < MOST_PATIENCE)
+        waiting.patience *= 2;
+}
+
+/* Waits until this thread is not inside. */
+static void wait_until_outside(struct seat *seat)
+{
+    for (uint32_t i = 0; process.looks && i < LOOKS_AT_LOCK; i++) {
+        if (atomic_load_explicit(&seat->inside, memory_order_acquire) == 0)
+            return;
+        rest();
+    }
+    for (uint32_t seen; (seen = atomic_load_explicit(&seat->inside, memory_order_acquire)) != 0;)
+        sleep_on(&seat->inside, seen, NULL);
+}
+
+/* The caller has made the lock, which was found so, TAKEN or WANTED: now it takes it from whom it favoured, if it did. */
+static void take_from(uint32_t found)
+{
+    if (found == FREE)
+        return;
+    struct seat *seat = &waiting.seats[found - FAVOURS];
+    if (seat != own.seat)
+        pass_barriers();
+    wait_until_outside(seat);
+    if (seat != own.seat)
+        set_patience(seat->turns);
+}
+
+/* ---- All threads. */
+
+/* Makes the lock TAKEN if it is as it was seen. */
+static inline bool take_as_seen(uint32_t seen)
+{
+    return atomic_compare_exchange_strong_explicit(&waiting.lock, &seen, TAKEN, memory_order_acquire, memory_order_relaxed);
+}
+
+/* Takes the lock if it was not free at once: looks at it for a while, and then sleeps on it. */
+__attribute__((noinline, cold)) static void wait_for_lock(void)
+{
+    uint32_t seen;
+    for (uint32_t i = 0; process.looks && i < LOOKS_AT_LOCK; i++) {
+        seen = atomic_load_explicit(&waiting.lock, memory_order_relaxed);
+        if (seen == WANTED)
+            break;
+        if (seen != TAKEN && take_as_seen(seen)) {
+            take_from(seen);
+            return;
+        }
+        rest();
+    }
+    while ((seen = atomic_exchange_explicit(&waiting.lock, WANTED, memory_order_acquire)) == TAKEN || seen == WANTED)
+        sleep_on(&waiting.lock, WANTED, NULL);
+    take_from(seen);
+}
+
+/* What a sanitizer is told of the lock. (These are functions so that a call keeps no register for them where there is none.) */
+__attribute__((noinline, cold)) static void tell_of_taking(void)
+{
+    comes_after(&waiting.lock);
+}
+
+__attribute__((noinline, cold)) static void tell_of_giving(void)
+{
+    comes_before(&waiting.lock);
+}
+
+/* Wakes one thread that sleeps on the lock. */
+__attribute__((noinline, cold)) static void wake_who_wants_lock(void)
+{
+    wake_one(&waiting.lock);
+}
+
+/* Takes the lock in one step, or waits for it. */
+static inline void take_in_a_step(void)
+{
+    if (!take_as_seen(FREE))
+        wait_for_lock();
+    if (has_sanitizer())
+        tell_of_taking();
+}
+
+/* Takes the lock as the process' only thread. */
+static inline bool take_alone(void)
+{
+    if (!is_alone() || atomic_load_explicit(&waiting.lock, memory_order_relaxed) != FREE)
+        return false;
+    atomic_store_explicit(&waiting.lock, TAKEN, memory_order_relaxed);
+    return true;
+}
+
+/* Takes the lock for a caller that may have no seat, or give back its seat. It is not favoured then. */
+static inline void take_lock(void)
+{
+    if (!take_alone())
+        take_in_a_step();
+}
+
+/* The same, where the thread of this seat calls. */
+__attribute__((noinline)) static void take_in_turn(struct seat *caller)
+{
+    take_lock();
+    count_turn(caller);
+}
+
+/* Takes the lock for the thread of this seat, which calls. */
+__attribute__((always_inline)) static inline void take_lock_for(struct seat *caller)
+{
+    if (!step_in(caller))
+        take_in_turn(caller);
+}
+
+/* Gives back what `take_lock` took. */
+__attribute__((always_inline)) static inline void give_lock(void)
+{
+    check_waiting();
+    if (is_alone()) {
+        atomic_store_explicit(&waiting.lock, FREE, memory_order_relaxed);
+        return;
+    }
+    if (has_sanitizer())
+        tell_of_giving();
+    if (atomic_exchange_explicit(&waiting.lock, FREE, memory_order_release) == WANTED)
+        wake_who_wants_lock();
+}
+
+/* Gives back what either of them took. */
+__attribute__((always_inline)) static inline void give_lock_for(struct seat *caller)
+{
+    const uint32_t inside = inside_of(caller);
+    if (inside == 0) {
+        give_lock();
+    } else {
+        check_waiting();
+        step_out(caller, inside);
+    }
+}
+
+/* Takes the lock if nobody has it. */
+static bool try_lock(void)
+{
+    const uint32_t seen = atomic_load_explicit(&waiting.lock, memory_order_relaxed);
+    if (seen == TAKEN || seen == WANTED || !take_as_seen(seen))
+        return false;
+    if (seen == FREE)
+        return true;
+    const struct seat *seat = &waiting.seats[seen - FAVOURS];
+    if (seat != own.seat)
+        pass_barriers();
+    if (atomic_load_explicit(&seat->inside, memory_order_acquire) == 0)
+        return true;
+    /* The lock favours that thread as before, which has it. */
+    if (atomic_exchange_explicit(&waiting.lock, seen, memory_order_release) == WANTED)
+        wake_who_wants_lock();
+    return false;
+}
+
+/* Takes the lock, where it is free within a tenth of a second. */
+static bool take_lock_at_last(void)
+{
+    const struct timespec pause = { .tv_nsec = 1000000 };
+    for (int i = 0; i < 100; i++) {
+        if (try_lock()) {
+            comes_after(&waiting.lock);
+            return true;
+        }
+        nanosleep(&pause, NULL);
+    }
+    return false;
+}
+
+/* In a child that was forked, by its only thread: whether nobody has the lock. It favours nobody from now on. */
+static bool is_free_in_child(void)
+{
+    ask_for_barriers();
+    if (own.seat != NULL && lock_is(FAVOURS + own.seat->number) && inside_of(own.seat) == 0)
+        atomic_store_explicit(&waiting.lock, FREE, memory_order_relaxed);
+    return atomic_load_explicit(&waiting.lock, memory_order_relaxed) == FREE;
+}

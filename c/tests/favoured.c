@@ -1,0 +1,128 @@
+/* The lock and the thread that it favours, under real threads: one of them takes the lock often, others do now and then, and which one that is
+ * changes; threads end, and others begin. A counter that nothing but the lock protects tells where two have it, and who is not done in time has
+ * slept with the lock free. A thread that reads what the favoured one stores makes these stores slow, so that others may see them late. */
+#define LEAST_PATIENCE 2
+#define MOST_PATIENCE 16
+#define TURNS_THAT_PAY 8
+#include "../ntwin.c"
+
+#define counted counted_checks /* (ntwin.c has another.) */
+#include "check.h"
+
+enum { THREADS = 4, LIVES = 40, ROUNDS = 500, MOST_IN_A_ROW = 80, LONG_HOLDS = 500, SHORT_HOLD = 20 };
+
+static volatile uint64_t COUNT;       /* how often it was taken, under the lock */
+static _Atomic uint64_t TAKES;        /* the same, of all threads that have ended */
+static _Atomic uint64_t FAVOURS_LOST; /* how often a thread found that the lock favours it no longer */
+static _Atomic uint64_t FAVOURED;     /* how often a thread took it as the favoured one */
+static _Atomic bool DONE;
+
+/* What a thread has seen. */
+struct taker {
+    uint64_t chance, takes, favoured, favours_lost;
+    bool was_favoured;
+};
+
+static uint32_t below(struct taker *me, uint32_t limit)
+{
+    me->chance = me->chance * UINT64_C(6364136223846793005) + 1442695040888963407;
+    return (uint32_t)(me->chance >> 33) % limit;
+}
+
+static void spend(uint32_t times)
+{
+    for (uint32_t i = 0; i < times; i++)
+        rest();
+}
+
+/* The caller has the lock: for a while, and seldom so long that others fall asleep. */
+static void count(struct taker *me)
+{
+    const struct timespec nap = { .tv_nsec = 50000 };
+    const uint64_t seen = COUNT;
+    if (below(me, LONG_HOLDS) == 0)
+        nanosleep(&nap, NULL);
+    else
+        spend(below(me, SHORT_HOLD) / (SHORT_HOLD - 1));
+    COUNT = seen + 1;
+    me->takes++;
+}
+
+/* A call of this thread. */
+static void call(struct taker *me, struct seat *seat)
+{
+    take_lock_for(seat);
+    const bool is_favoured_now = inside_of(seat) != 0;
+    me->favoured += is_favoured_now;
+    me->favours_lost += me->was_favoured && !is_favoured_now;
+    me->was_favoured = is_favoured_now;
+    count(me);
+    give_lock_for(seat);
+}
+
+/* It takes the lock as who has no seat, or as who ends the process. */
+static void take_otherwise(struct taker *me)
+{
+    if (below(me, 2) == 0)
+        take_lock();
+    else if (!try_lock())
+        return;
+    count(me);
+    give_lock();
+}
+
+static void *live(void *seed)
+{
+    struct taker me = { .chance = (uintptr_t)seed };
+    struct seat *seat = join();
+    must(seat != NULL);
+    for (int round = 0; round < ROUNDS; round++) {
+        for (uint32_t left = below(&me, 3) == 0 ? below(&me, MOST_IN_A_ROW) : 1; left > 0; left--)
+            call(&me, seat);
+        if (below(&me, 20) == 0)
+            take_otherwise(&me);
+        if (below(&me, 40) == 0)
+            sched_yield();
+        spend(below(&me, 200));
+    }
+    TAKES += me.takes;
+    FAVOURED += me.favoured;
+    FAVOURS_LOST += me.favours_lost;
+    return NULL;
+}
+
+/* So many threads, one after another. */
+static void *live_often(void *seed)
+{
+    for (uintptr_t i = 0; i < LIVES; i++) {
+        pthread_t thread;
+        must(pthread_create(&thread, NULL, live, (void *)((uintptr_t)seed * LIVES + i)) == 0 && pthread_join(thread, NULL) == 0);
+    }
+    return NULL;
+}
+
+/* (A sanitizer, beside which the lock favours nobody, would tell of this.) */
+static void *read_words(void *none)
+{
+    while (process.has_barriers && !DONE)
+        for (uint32_t i = 0; i <= THREADS; i++)
+            (void)atomic_load_explicit(&waiting.seats[i].inside, memory_order_relaxed);
+    return none;
+}
+
+int main(void)
+{
+    pthread_t threads[THREADS], reader;
+    must(pthread_create(&reader, NULL, read_words, NULL) == 0);
+    for (uintptr_t i = 0; i < THREADS; i++)
+        must(pthread_create(&threads[i], NULL, live_often, (void *)(i + 1)) == 0);
+    for (int i = 0; i < THREADS; i++)
+        must(pthread_join(threads[i], NULL) == 0);
+    DONE = true;
+    must(pthread_join(reader, NULL) == 0);
+    IS(COUNT, TAKES);
+    IS(FAVOURED > 0, process.has_barriers);
+    IS(FAVOURS_LOST > 0, process.has_barriers);
+    IS(waiting.alive, 0);
+    return counted();
+}
