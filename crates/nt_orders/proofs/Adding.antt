@@ -10,7 +10,6 @@ use Rattle.nt_script.specs.declared.parser.Statement.{Statement}
 use Rattle.nt_script.specs.declared.fault.LineFault.TheVariants as line
 use Rattle.nt_script.specs.declared.session.Session.{Session}
 use Rattle.nt_hangs.specs.Watching.{Seen}
-use Rattle.nt_orders.specs.declared.fault.OrdersFault.{OrdersFault}
 use Rattle.nt_orders.specs.declared.lanes.LaneFault.{LaneFault}
 use Rattle.nt_orders.specs.declared.lanes.LaneFault.TheVariants as lane
 use Rattle.nt_explore.specs.declared.plan.Ask.{Ask}

@@ -19,7 +19,7 @@ use Rattle.nt_orders.specs.declared.fault.OrdersFault.{OrdersFault}
 use Rattle.nt_orders.specs.declared.fault.OrdersFault.TheVariants as orders
 use Rattle.nt_orders.specs.declared.lanes.LaneFault.{LaneFault}
 use Rattle.nt_orders.specs.declared.lanes.LaneFault.TheVariants as lane
-use Rattle.nt_orders.specs.Plans.{Adds, EndsHead, IsLineThat, IsOfHead, IsOfLane, ReadsLanes, SeesHead, StopsInLanes, creates, is_of_nobody, with_ask}
+use Rattle.nt_orders.specs.Plans.{Adds, IsLineThat, IsOfHead, IsOfLane, ReadsLanes, SeesHead, StopsInLanes, creates, is_of_nobody, with_ask}
 
 -- the head ends before this line, or does not; or the line has a fault
 abbrev pub IsEnd : Option Progress → List ℕ → Result Bool LineFault → Type 0
