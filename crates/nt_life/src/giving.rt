@@ -311,6 +311,7 @@ fn is_numbered(call: &Call) -> bool
 }
 
 /// A call of a dispatcher that gives numbers again.
+#[inline(always)]
 fn call_giving(
     core: &mut Core,
     spare: &mut Spare,
