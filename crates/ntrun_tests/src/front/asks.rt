@@ -60,6 +60,10 @@ pub enum Ask {
     Poll,
     Await,
     Exit,
+    /// Of an ended thread: to begin again. No call by name.
+    BeginAgain,
+    /// A part of the journal. No call by name.
+    Part,
 }
 
 /// Which of two threads asks for what, under which number that is written, or 0, and what it is to be answered.
@@ -201,7 +205,7 @@ fn ask_by_pass<N: Named, R: Wait + Alloc<A = Global>>(
             let (held, ended) = calls.exit(pass);
             return (held, said_done(ended));
         }
-        Ask::Poll | Ask::Await => Said::NOTHING,
+        Ask::Poll | Ask::Await | Ask::BeginAgain | Ask::Part => Said::NOTHING,
     };
     (Held::Pass(pass), said)
 }

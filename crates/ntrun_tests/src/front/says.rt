@@ -24,6 +24,10 @@ pub enum Answer {
     Full,
     /// A list of handles found no memory.
     NoMemory,
+    /// The thread's place is not free, and nothing was written.
+    Taken,
+    /// So many entries are in the part, of which the first is the number of the answer.
+    Entries(usize),
     /// What the thread holds does not let it ask for this.
     Nothing,
 }
@@ -45,6 +49,11 @@ impl Said {
         entry: 0,
         answer: Answer::Still,
     };
+
+    /// What is answered, of which nothing was written.
+    pub fn unwritten(answer: Answer) -> Said {
+        Said { entry: 0, answer }
+    }
 
     pub fn pended(entry: u64) -> Said {
         Said {
