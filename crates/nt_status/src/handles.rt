@@ -1,5 +1,6 @@
-ghost use Rattle.std.specs.Prelude.{◌≡◌, ◌++◌, ◌∷◌, [], IfOk, OnOk, OnErr};
+ghost use Rattle.std.specs.Prelude.{◌≡◌, ◌≤◌, ◌++◌, ◌∷◌, [], length, IfOk, IsOk, OnOk, OnErr};
 
+use crate::limits::MAX_INLINE_HANDLES;
 use smallvec::SmallVec;
 use std::alloc::{AllocError, Global};
 use std::fmt::{Debug, Error, Formatter, Write};
@@ -33,10 +34,10 @@ impl Handle {
     }
 }
 
-/// The handles that a wait names, in order. Up to four take no memory.
+/// The handles that a wait names, in order. Up to `MAX_INLINE_HANDLES` take no memory.
 #[derive(Drop)]
 pub struct Handles {
-    items: SmallVec<Handle, 4>,
+    items: SmallVec<Handle, MAX_INLINE_HANDLES>,
 }
 
 impl Model for Handles {
@@ -69,7 +70,8 @@ impl Handles {
     /// These handles, in this order.
     #[inline(always)]
     pub fn from_slice(alloc: Global, handles: &[Handle]) -> Result<Self, AllocError>
-        ensures { IfOk result (λ these. these ≡ handles.now) }
+        ensures ok { IfOk result (λ these. these ≡ handles.now) }
+        ensures inline { length handles.now ≤ MAX_INLINE_HANDLES → IsOk result }
     {
         // Most lists have one, which is written here, without a call.
         match handles {
@@ -91,7 +93,8 @@ impl Handles {
     /// The same as `from_slice`, for any number of handles.
     #[inline(never)]
     fn from_many(alloc: Global, handles: &[Handle]) -> Result<Self, AllocError>
-        ensures { IfOk result (λ these. these ≡ handles.now) }
+        ensures ok { IfOk result (λ these. these ≡ handles.now) }
+        ensures inline { length handles.now ≤ MAX_INLINE_HANDLES → IsOk result }
     {
         Ok(Handles {
             items: SmallVec::from_slice(alloc, handles)?,

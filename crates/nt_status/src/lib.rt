@@ -34,7 +34,8 @@ pub use access::Access;
 pub use event_flags::EventFlags;
 pub use handles::{Handle, Handles};
 pub use limits::{
-    INFINITE, MAX_HANDLES, MAX_MANY_THREADS, MAX_MOMENT, MAX_THREADS, MAX_WAIT_OBJECTS,
+    INFINITE, MAX_HANDLES, MAX_INLINE_HANDLES, MAX_MANY_THREADS, MAX_MOMENT, MAX_THREADS,
+    MAX_WAIT_OBJECTS,
 };
 pub use moment::Moment;
 pub use mutex_flags::MutexFlags;

@@ -12,6 +12,9 @@ pub const MAX_HANDLES: usize = 65536;
 /// MAXIMUM_WAIT_OBJECTS: the most objects of one wait.
 pub const MAX_WAIT_OBJECTS: usize = 64;
 
+/// The most handles that take no memory in a list: they stand in the list itself.
+pub const MAX_INLINE_HANDLES: usize = 4;
+
 /// The greatest moment, in units of 100 ns since the dispatcher's moment 0. No tick is to a later one.
 pub const MAX_MOMENT: u64 = 1 << 62;
 
