@@ -1,5 +1,6 @@
 -- What each call of a front answers, by what its thread knows then.
-use Rattle.std.specs.Prelude.{◌≡◌, ◌≢◌, ℕ, Bool, true, false, ⊤, length, Option, Some, None, Result, Ok, Err}
+use Rattle.std.specs.Prelude.{◌≡◌, ◌≢◌, ◌<◌, ℕ, Bool, true, false, ⊤, length, Option, Some, None, Result, Ok, Err}
+use Rattle.nt_status.specs.declared.limits.TheConstants.{MAX_INLINE_HANDLES}
 use Rattle.nt_calls.specs.declared.call.Call.{Call}
 use Rattle.nt_calls.specs.declared.call.WaitCall.{WaitCall}
 use Rattle.nt_calls.specs.declared.call.Reply.{Reply}
@@ -19,9 +20,9 @@ use Rattle.nt_front_calls.specs.declared.told.Polled.{Polled}
 
 -- ---- a call
 
--- the call is a wait for a list of objects, and not for one alone, which takes no memory
+-- the call is a wait for more objects than a list of handles has in itself, which takes no memory
 abbrev pub TakesMemory : Call → Type 0
-TakesMemory (Call.Wait (WaitCall.Objects all alertable ms handles)) = length handles ≢ 1
+TakesMemory (Call.Wait (WaitCall.Objects all alertable ms handles)) = MAX_INLINE_HANDLES < length handles
 TakesMemory _ = ⊥
 
 -- the call was refused: by the dispatcher, and so written; or the journal was full; or a wait's list of handles found no memory. Nothing was

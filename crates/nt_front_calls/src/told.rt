@@ -21,8 +21,8 @@ pub enum Refused {
     Call { entry: u64, refusal: Refusal },
     /// The journal has too little room left for what the call may write. Nothing was done or written.
     JournalFull,
-    /// The list of the handles that a wait names found no memory. Up to four take none, and a wait for one object is never refused so. Nothing
-    /// was done or written.
+    /// The list of the handles that a wait names found no memory. A wait for at most `MAX_INLINE_HANDLES` objects takes none, and is never
+    /// refused so. Nothing was done or written.
     NoMemory,
 }
 

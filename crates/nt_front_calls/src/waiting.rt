@@ -1,5 +1,5 @@
 //! Waits that begin, and waits to their end.
-ghost use Rattle.std.specs.Prelude.{◌≡◌, ◌≢◌, ℕ, Ok, false, length, IsTrue, IfOk, IfErr, OnErr};
+ghost use Rattle.std.specs.Prelude.{◌≡◌, ◌≢◌, ℕ, Ok, false, IsTrue, IfErr};
 ghost use Rattle.nt_calls.specs.declared.call.WaitCall.{WaitCall};
 ghost use Rattle.nt_calls.specs.declared.call.Reply.{Reply};
 ghost use Rattle.nt_calls.specs.Moves.{pended};
@@ -14,7 +14,7 @@ use nt_answers::{Began as Begins, Timeout, began_told};
 use nt_core::{Reply, WaitCall};
 use nt_front::{Begun, Named, Pass, Polled as Found, Receipt, Sleeper, Waited};
 use nt_status::{Handle, Handles, Refusal, Status};
-use std::alloc::{Alloc, AllocError, Global};
+use std::alloc::{Alloc, Global};
 use std::sync::Wait;
 
 impl<'f, 'r, N: Named, R: Wait> Calls<'f, 'r, N, R> {
@@ -94,7 +94,7 @@ impl<'f, 'r, N: Named, R: Wait + Alloc<A = Global>> Calls<'f, 'r, N, R> {
     ) -> Began<N>
         ensures { HasBegun N.front pass (WaitCall.Objects all alertable timeout handles.now) result }
     {
-        let handles = match list_of(self.rt.alloc(), handles) {
+        let handles = match Handles::from_slice(self.rt.alloc(), handles) {
             Ok(handles) => handles,
             Err(_) => return Began::Refused(pass, Refused::NoMemory),
         };
@@ -118,7 +118,7 @@ impl<'f, 'r, N: Named, R: Wait + Alloc<A = Global>> Calls<'f, 'r, N, R> {
     ) -> (Pass<N>, Result<WaitEnd, Refused>)
         ensures { IsWaitedFor N.front pass (WaitCall.Objects all alertable timeout handles.now) result.1 result.0 }
     {
-        let handles = match list_of(self.rt.alloc(), handles) {
+        let handles = match Handles::from_slice(self.rt.alloc(), handles) {
             Ok(handles) => handles,
             Err(_) => return (pass, Err(Refused::NoMemory)),
         };
@@ -129,21 +129,6 @@ impl<'f, 'r, N: Named, R: Wait + Alloc<A = Global>> Calls<'f, 'r, N, R> {
             handles,
         };
         self.wait(pass, wait)
-    }
-}
-
-/// A list of these handles. One alone takes no memory, and of others those past the fourth.
-#[inline(always)]
-fn list_of(alloc: Global, handles: &[Handle]) -> Result<Handles, AllocError>
-    ensures ok { IfOk result (λ list. list ≡ handles.now) }
-    ensures err { OnErr result (length handles.now ≢ 1) }
-{
-    if handles.len() != 1 {
-        return Handles::from_slice(alloc, handles);
-    }
-    match handles {
-        [handle] => Ok(Handles::from_one(alloc, *handle)),
-        _ => unreachable!(),
     }
 }
 

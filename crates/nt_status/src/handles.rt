@@ -1,4 +1,4 @@
-ghost use Rattle.std.specs.Prelude.{◌≡◌, ◌≤◌, ◌++◌, ◌∷◌, [], length, IfOk, IsOk, OnOk, OnErr};
+ghost use Rattle.std.specs.Prelude.{◌≡◌, ◌<◌, ◌++◌, ◌∷◌, [], length, IfOk, OnOk, OnErr};
 
 use crate::limits::MAX_INLINE_HANDLES;
 use smallvec::SmallVec;
@@ -67,11 +67,11 @@ impl Handles {
         })
     }
 
-    /// These handles, in this order.
+    /// These handles, in this order. Only those past `MAX_INLINE_HANDLES` may find no memory.
     #[inline(always)]
     pub fn from_slice(alloc: Global, handles: &[Handle]) -> Result<Self, AllocError>
         ensures ok { IfOk result (λ these. these ≡ handles.now) }
-        ensures inline { length handles.now ≤ MAX_INLINE_HANDLES → IsOk result }
+        ensures err { OnErr result (MAX_INLINE_HANDLES < length handles.now) }
     {
         // Most lists have one, which is written here, without a call.
         match handles {
@@ -94,7 +94,7 @@ impl Handles {
     #[inline(never)]
     fn from_many(alloc: Global, handles: &[Handle]) -> Result<Self, AllocError>
         ensures ok { IfOk result (λ these. these ≡ handles.now) }
-        ensures inline { length handles.now ≤ MAX_INLINE_HANDLES → IsOk result }
+        ensures err { OnErr result (MAX_INLINE_HANDLES < length handles.now) }
     {
         Ok(Handles {
             items: SmallVec::from_slice(alloc, handles)?,
