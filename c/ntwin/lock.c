@@ -1,4 +1,4 @@
-/* ---- The lock, and the thread that it favours, which takes it by plain stores and loads.
+/* ---- The lock, and the thread that it favours, which takes it by a plain store and a load.
  *
  * `waiting.lock` is FREE, TAKEN, WANTED (taken, and threads may sleep on it), or FAVOURS + n. The thread of seat n says by `inside`, which nobody else
  * writes, that it has the lock as the favoured one, or looks whether it has.
@@ -6,8 +6,8 @@
  * To take it. The favoured thread sets `inside`, and then loads the lock: it has it if that still favours it. If not, it clears `inside` and does as
  * all others: they make it TAKEN from FREE, or exchange it for WANTED once they are to sleep. Who changes FAVOURS + n so revokes it: membarrier(2) has
  * each other thread pass a barrier, and who revokes has the lock once it finds `inside` of seat n clear after that.
- * To give it back. Who is inside clears `inside`, and then loads the lock: if that favours it no longer, it wakes who sleeps on `inside`. All others
- * make the lock FREE, and wake one thread if it was WANTED.
+ * To give it back. Who is inside clears `inside`, by an exchange, and then loads the lock: if that favours it no longer, it wakes who sleeps on `inside`.
+ * All others make the lock FREE, and wake one thread if it was WANTED.
  * To be favoured. Who has taken it `patience` times, with nobody else between, sets `inside` and makes it FAVOURS + n from TAKEN.
  *
  * Why no two have it. The barrier of who revokes stands somewhere among the steps of thread n. If thread n found the favour before the barrier, it had
@@ -50,11 +50,14 @@ static inline uint32_t inside_of(const struct seat *seat)
     return atomic_load_explicit(&seat->inside, memory_order_relaxed);
 }
 
-/* The caller, which was inside, is no longer. */
+/* The caller, which was inside, is no longer. Beside other threads by an exchange and not a store, so that a call is a full barrier (on x86), as one of
+ * Windows is: programs write that they are to sleep, call, and then look once more whether there is work. */
 __attribute__((always_inline)) static inline void step_out(struct seat *seat, uint32_t inside)
 {
-    atomic_store_explicit(&seat->inside, 0, memory_order_release);
-    atomic_signal_fence(memory_order_seq_cst);
+    if (is_alone())
+        atomic_store_explicit(&seat->inside, 0, memory_order_relaxed);
+    else
+        atomic_exchange_explicit(&seat->inside, 0, memory_order_seq_cst);
     if (!lock_is(inside))
         wake_who_revoked(seat);
 }
