@@ -12,6 +12,7 @@ mod free;
 mod handles;
 mod hangs;
 mod lasting;
+mod lives;
 pub mod memory;
 mod mutexes;
 mod openings;

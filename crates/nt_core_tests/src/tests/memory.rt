@@ -103,7 +103,7 @@ fn call_by_slice(core: &mut Core, who: u32, call: &Call) -> Result<Reply, Refusa
 }
 
 /// The call that asks for this of these objects, with a second try where memory is refused.
-fn call_of_at_last(rt: &impl Host, ask: Ask, objects: &[u32]) -> Result<Call, AllocError> {
+pub fn call_of_at_last(rt: &impl Host, ask: Ask, objects: &[u32]) -> Result<Call, AllocError> {
     match call_of(rt.alloc(), ask, objects) {
         Ok(call) => Ok(call),
         Err(_) => {

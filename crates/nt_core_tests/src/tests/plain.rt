@@ -1,161 +1,84 @@
-//! Signals and waits written as plainly as they can be, over plain data that shares nothing with the core: each grant is looked for
-//! anew among all pending waits, from the one that began first.
-use crate::tests::script::Answer::{Done, Pended, Previous, Status};
-use crate::tests::script::{
-    Answer, Ask, Ended, INVALID_HANDLE, NOT_OWNER, THREAD_WAITING, TIMEOUT, TOO_MANY_POSTS,
-};
+//! The machine written as plainly as it can be, over plain data that shares nothing with the core: each grant is looked for anew among
+//! all pending waits, from the one that began first.
+mod calls;
+pub mod life;
+mod moments;
+pub mod objects;
+mod places;
+pub mod waits;
+
+use crate::tests::plain::objects::{PlainObject, PlainObjects};
+use crate::tests::plain::waits::{NO_OBJECT, PlainWait};
+use crate::tests::script::{Ended, IO_COMPLETION};
 use std::alloc::{AllocError, Global};
 
-/// An object, as far as signals and waits see it.
+/// An APC: for which thread, and of which timer it is, if it is one's, with the moment for which that was armed.
 #[derive(Clone, Copy)]
-pub enum PlainObject {
-    /// A thread that runs on.
-    Thread,
-    Event { manual: bool, set: bool },
-    Semaphore { count: i32, maximum: i32 },
-    Mutex { owner: Option<u16>, depth: u32 },
+pub struct PlainApc {
+    pub thread: u16,
+    pub routine: u64,
+    pub arg: u64,
+    pub timer: Option<(u32, u64)>,
 }
 
-impl PlainObject {
-    fn is_signaled(self, thread: u16) -> bool {
-        match self {
-            PlainObject::Thread => false,
-            PlainObject::Event { manual: _, set } => set,
-            PlainObject::Semaphore { count, maximum: _ } => count > 0,
-            PlainObject::Mutex { owner, depth: _ } => owner.is_none() || owner == Some(thread),
-        }
-    }
-
-    /// The object once the thread has taken it.
-    fn taken(self, thread: u16) -> PlainObject {
-        match self {
-            PlainObject::Event {
-                manual: false,
-                set: _,
-            } => PlainObject::Event {
-                manual: false,
-                set: false,
-            },
-            PlainObject::Semaphore { count, maximum } => PlainObject::Semaphore {
-                count: count.saturating_sub(1),
-                maximum,
-            },
-            PlainObject::Mutex { owner: _, depth } => PlainObject::Mutex {
-                owner: Some(thread),
-                depth: depth.saturating_add(1),
-            },
-            other => other,
-        }
-    }
-
-    /// An event that is set, or not. Any other object stays.
-    fn with_set(self, set: bool) -> PlainObject {
-        match self {
-            PlainObject::Event { manual, set: _ } => PlainObject::Event { manual, set },
-            other => other,
-        }
-    }
-}
-
-/// The objects by their handles.
-#[derive(Drop)]
-struct PlainObjects {
-    items: Vec<PlainObject>,
-}
-
-impl PlainObjects {
-    /// The object at this handle. Where there is none, it is as one that is never signaled.
-    fn at(&self, handle: u32) -> PlainObject {
-        match self.items.get(handle as usize) {
-            Some(object) => *object,
-            None => PlainObject::Thread,
-        }
-    }
-
-    fn replace(&mut self, handle: u32, object: PlainObject) {
-        if (handle as usize) < self.items.len() {
-            self.items[handle as usize] = object;
-        }
-    }
-
-    fn take(&mut self, thread: u16, handle: u32) {
-        let taken = self.at(handle).taken(thread);
-        self.replace(handle, taken);
-    }
-
-    /// The first of these that is signaled for the thread: its index and its handle.
-    fn first_signaled(&self, thread: u16, handles: &[u32]) -> Option<(u32, u32)> {
-        let mut index: u32 = 0;
-        for handle in handles {
-            if self.at(*handle).is_signaled(thread) {
-                return Some((index, *handle));
-            }
-            index = index.saturating_add(1);
-        }
-        None
-    }
-
-    fn are_signaled(&self, thread: u16, handles: &[u32]) -> bool {
-        for handle in handles {
-            if !self.at(*handle).is_signaled(thread) {
-                return false;
-            }
-        }
-        true
-    }
-
-    fn take_each(&mut self, thread: u16, handles: &[u32]) {
-        for handle in handles {
-            self.take(thread, *handle);
-        }
-    }
-
-    /// Where the wait fits, takes what it is for, and answers its status: all that it names, or the first that is signaled.
-    fn try_wait(&mut self, wait: PlainWait) -> Option<u32> {
-        if wait.all {
-            if !self.are_signaled(wait.thread, wait.objects) {
-                return None;
-            }
-            self.take_each(wait.thread, wait.objects);
-            return Some(0);
-        }
-        let (index, handle) = self.first_signaled(wait.thread, wait.objects)?;
-        self.take(wait.thread, handle);
-        Some(index)
-    }
-}
-
+/// A thread, by its number.
 #[derive(Clone, Copy)]
-struct PlainWait {
-    thread: u16,
-    objects: &'static [u32],
-    all: bool,
+pub struct PlainThread {
+    /// Which object is its own.
+    pub own: u32,
+    /// Whether it may take its APCs one by one.
+    pub handing: bool,
 }
 
-/// What signals and waits see of a dispatcher.
+/// What calls see of a dispatcher. Its objects have no numbers of their own; it is told which numbers they have.
 #[derive(Drop)]
 pub struct PlainCore {
-    objects: PlainObjects,
+    pub(crate) objects: PlainObjects,
+    /// By number, the object that has it now.
+    pub(crate) numbers: Vec<u32>,
+    pub(crate) threads: Vec<PlainThread>,
     /// Those that pend, in the order in which they began.
-    waits: Vec<PlainWait>,
+    pub(crate) waits: Vec<PlainWait>,
+    /// Those that are queued, in the order in which they were.
+    pub(crate) apcs: Vec<PlainApc>,
     /// The waits that the last call ended, in the order in which they ended.
-    ended: Vec<Ended>,
+    pub(crate) ended: Vec<Ended>,
+    /// The objects as they were before the change that is served, and those that it changed, in the order of their numbers.
+    before: Vec<PlainObject>,
+    changed: Vec<u32>,
+    pub(crate) now: u64,
 }
 
 impl PlainCore {
-    /// These objects, and room for a wait of each of so many threads.
+    /// These objects, of which the first are those of so many threads, and room for so many objects and APCs. Each object has the number of
+    /// its place.
     pub fn new(
         alloc: Global,
         objects: &[PlainObject],
-        threads: usize,
+        threads: u16,
+        room: usize,
     ) -> Result<PlainCore, AllocError> {
-        let items = Vec::from_slice(alloc, objects)?;
-        let waits = Vec::with_capacity(alloc, threads)?;
-        let ended = Vec::with_capacity(alloc, threads)?;
+        let mut numbers = Vec::with_capacity(alloc, room)?;
+        for number in 0..objects.len() {
+            numbers.push(number as u32)?;
+        }
+        let mut all = Vec::with_capacity(alloc, usize::from(threads))?;
+        for thread in 0..threads {
+            all.push(PlainThread {
+                own: u32::from(thread),
+                handing: false,
+            })?;
+        }
         Ok(PlainCore {
-            objects: PlainObjects { items },
-            waits,
-            ended,
+            objects: PlainObjects::new(alloc, objects, room)?,
+            numbers,
+            threads: all,
+            waits: Vec::with_capacity(alloc, usize::from(threads))?,
+            apcs: Vec::with_capacity(alloc, room)?,
+            ended: Vec::with_capacity(alloc, usize::from(threads))?,
+            before: Vec::with_capacity(alloc, room)?,
+            changed: Vec::with_capacity(alloc, room)?,
+            now: 0,
         })
     }
 
@@ -167,131 +90,133 @@ impl PlainCore {
         self.waits.len()
     }
 
-    fn is_waiting(&self, thread: u16) -> bool {
-        for wait in &self.waits {
-            if wait.thread == thread {
-                return true;
-            }
+    /// The object that has this number now.
+    pub(crate) fn with_number(&self, number: usize) -> u32 {
+        match self.numbers.get(number) {
+            Some(object) => *object,
+            None => NO_OBJECT,
         }
-        false
     }
 
-    /// Grants the first pending wait that fits, where there is one.
-    fn grant_first(&mut self) -> Result<(), AllocError> {
-        for i in 0..self.waits.len() {
-            let Some(wait) = self.waits.get(i) else {
+    /// The place of the thread's wait.
+    pub(crate) fn place_of(&self, thread: u16) -> Option<usize> {
+        self.waits.iter().position(|wait| wait.thread == thread)
+    }
+
+    pub(crate) fn has_apc(&self, thread: u16) -> bool {
+        self.apcs.iter().any(|apc| apc.thread == thread)
+    }
+
+    /// Whether the thread may take its APCs from now on.
+    pub(crate) fn set_handing(&mut self, thread: u16, may: bool) {
+        if let Some(found) = self.threads.get_mut(usize::from(thread)) {
+            found.handing = may;
+        }
+    }
+
+    /// The wait at this place ends with this status. The flag says whether its thread may take its APCs.
+    pub(crate) fn end(&mut self, place: usize, status: u32, may: bool) -> Result<(), AllocError> {
+        let Some(wait) = self.waits.get(place) else {
+            return Ok(());
+        };
+        let thread = wait.thread;
+        self.waits.remove(place);
+        self.set_handing(thread, may);
+        self.ended.push((thread, status))?;
+        Ok(())
+    }
+
+    /// Keeps the objects as they are before a change.
+    pub(crate) fn keep(&mut self) -> Result<(), AllocError> {
+        self.before.clear();
+        for object in self.objects.as_slice() {
+            self.before.push(*object)?;
+        }
+        Ok(())
+    }
+
+    /// Whether the change made something else of the object. One that it made is waited for by nobody yet.
+    fn is_changed(&self, object: u32) -> bool {
+        match self.before.get(object as usize) {
+            Some(before) => *before != self.objects.at(object),
+            None => false,
+        }
+    }
+
+    /// Looks which objects the change altered, by rising number.
+    fn look(&mut self) -> Result<(), AllocError> {
+        self.changed.clear();
+        for number in 0..self.numbers.len() {
+            let object = self.with_number(number);
+            if self.is_changed(object) {
+                self.changed.push(object)?;
+            }
+        }
+        Ok(())
+    }
+
+    /// The place of the first wait for this object that fits.
+    fn first_for(&self, object: u32) -> Option<usize> {
+        for (place, wait) in self.waits.iter().enumerate() {
+            if wait.is_for(object) && self.objects.fit(wait) {
+                return Some(place);
+            }
+        }
+        None
+    }
+
+    /// The place of the wait that is granted next: object by object, the one that began first.
+    fn next_granted(&self) -> Option<usize> {
+        for object in &self.changed {
+            if let Some(place) = self.first_for(*object) {
+                return Some(place);
+            }
+        }
+        None
+    }
+
+    /// Grants the wait at this place, if it fits.
+    fn grant(&mut self, place: usize) -> Result<(), AllocError> {
+        let Some(wait) = self.waits.get(place) else {
+            return Ok(());
+        };
+        match self.objects.try_wait(*wait) {
+            Some(status) => self.end(place, status, false),
+            None => Ok(()),
+        }
+    }
+
+    /// Grants the first wait that fits of those for what the change altered, and then again the first, as long as one fits.
+    pub(crate) fn serve(&mut self) -> Result<(), AllocError> {
+        self.look()?;
+        for _ in 0..self.waits.len() {
+            let Some(place) = self.next_granted() else {
                 return Ok(());
             };
-            let wait = *wait;
-            if let Some(status) = self.objects.try_wait(wait) {
-                self.waits.remove(i);
-                self.ended.push((wait.thread, status))?;
-                return Ok(());
+            self.grant(place)?;
+        }
+        Ok(())
+    }
+
+    /// Ends each alertable wait whose thread has an APC, by rising thread.
+    pub(crate) fn alert(&mut self) -> Result<(), AllocError> {
+        for thread in 0..self.threads.len() {
+            let thread = thread as u16;
+            if let Some(place) = self.alerted(thread) {
+                self.end(place, IO_COMPLETION, true)?;
             }
         }
         Ok(())
     }
 
-    /// Grants the first pending wait that fits, and then again from the first, as long as one fits.
-    fn serve(&mut self) -> Result<(), AllocError> {
-        for _ in 0..self.waits.len() {
-            self.grant_first()?;
-        }
-        Ok(())
-    }
-
-    /// A thread waits: it takes what it waits for at once, or its wait ends late at once, or pends.
-    fn wait(&mut self, wait: PlainWait, ms: u32) -> Result<Answer, AllocError> {
-        if let Some(status) = self.objects.try_wait(wait) {
-            return Ok(Status(status));
-        }
-        if ms == 0 {
-            return Ok(Status(TIMEOUT));
-        }
-        self.waits.push(wait)?;
-        Ok(Pended)
-    }
-
-    /// The object changes, and then the waits are served.
-    fn signal(
-        &mut self,
-        handle: u32,
-        object: PlainObject,
-        answer: Answer,
-    ) -> Result<Answer, AllocError> {
-        self.objects.replace(handle, object);
-        self.serve()?;
-        Ok(answer)
-    }
-
-    fn set(&mut self, handle: u32, set: bool) -> Result<Answer, AllocError> {
-        let object = self.objects.at(handle).with_set(set);
-        self.signal(handle, object, Done)
-    }
-
-    fn pulse(&mut self, handle: u32) -> Result<Answer, AllocError> {
-        self.set(handle, true)?;
-        self.set(handle, false)
-    }
-
-    fn release(&mut self, handle: u32, more: i32) -> Result<Answer, AllocError> {
-        let PlainObject::Semaphore { count, maximum } = self.objects.at(handle) else {
-            return Ok(INVALID_HANDLE);
-        };
-        if i64::from(count) + i64::from(more) > i64::from(maximum) {
-            return Ok(TOO_MANY_POSTS);
-        }
-        let count_after = count.saturating_add(more);
-        let released = PlainObject::Semaphore {
-            count: count_after,
-            maximum,
-        };
-        self.signal(handle, released, Previous(count))
-    }
-
-    fn unlock(&mut self, thread: u16, handle: u32) -> Result<Answer, AllocError> {
-        let PlainObject::Mutex { owner, depth } = self.objects.at(handle) else {
-            return Ok(INVALID_HANDLE);
-        };
-        if owner != Some(thread) {
-            return Ok(NOT_OWNER);
-        }
-        let unlocked = PlainObject::Mutex {
-            owner: if depth > 1 { owner } else { None },
-            depth: depth.saturating_sub(1),
-        };
-        self.signal(handle, unlocked, Done)
-    }
-
-    /// Asks for this of these objects. What no sequence asks for is answered by an error that no call answers.
-    pub fn ask(
-        &mut self,
-        thread: u16,
-        ask: Ask,
-        objects: &'static [u32],
-    ) -> Result<Answer, AllocError> {
-        self.ended.clear();
-        if self.is_waiting(thread) {
-            return Ok(THREAD_WAITING);
-        }
-        let all = matches!(ask, Ask::All(_));
-        let wait = PlainWait {
-            thread,
-            objects,
-            all,
-        };
-        let handle = match objects.first() {
-            Some(handle) => *handle,
-            None => u32::MAX,
-        };
-        match ask {
-            Ask::Any(ms) | Ask::All(ms) => self.wait(wait, ms),
-            Ask::Set => self.set(handle, true),
-            Ask::Reset => self.set(handle, false),
-            Ask::Pulse => self.pulse(handle),
-            Ask::Release(count) => self.release(handle, count),
-            Ask::Unlock => self.unlock(thread, handle),
-            _ => Ok(Answer::Error(0)),
+    /// The place of the thread's wait, if an APC ends it.
+    fn alerted(&self, thread: u16) -> Option<usize> {
+        let place = self.place_of(thread)?;
+        let wait = self.waits.get(place)?;
+        if wait.alertable && self.has_apc(thread) {
+            Some(place)
+        } else {
+            None
         }
     }
 }

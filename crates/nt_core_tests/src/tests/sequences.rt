@@ -1,8 +1,8 @@
 //! Long sequences of signals and waits, drawn by numbers that look like chance: the core answers and grants as the plain reference.
 use crate::tests::calls::are_ended;
 use crate::tests::memory::{Host, answer_to, let_go, open, tell_refused};
-use crate::tests::plain::PlainObject::Thread;
-use crate::tests::plain::{PlainCore, PlainObject};
+use crate::tests::plain::PlainCore;
+use crate::tests::plain::objects::PlainObject;
 use crate::tests::play::take_steps;
 use crate::tests::script::Answer::Handle;
 use crate::tests::script::Ask::{
@@ -26,14 +26,14 @@ const CREATIONS: &[Step] = &[
 
 /// .. and as the reference has them, after the threads.
 const OBJECTS: &[PlainObject] = &[
-    Thread,
-    Thread,
-    Thread,
-    Thread,
-    Thread,
-    Thread,
-    Thread,
-    Thread,
+    THREAD,
+    THREAD,
+    THREAD,
+    THREAD,
+    THREAD,
+    THREAD,
+    THREAD,
+    THREAD,
     PlainObject::Event {
         manual: false,
         set: false,
@@ -49,8 +49,12 @@ const OBJECTS: &[PlainObject] = &[
     PlainObject::Mutex {
         owner: None,
         depth: 0,
+        abandoned: false,
     },
 ];
+
+/// A thread that runs on.
+const THREAD: PlainObject = PlainObject::Thread { ended: false };
 
 /// What is asked for, of which objects.
 type Request = (Ask, &'static [u32]);
@@ -99,7 +103,7 @@ const SEQUENCES: u64 = 6;
 const TURNS: u32 = 1000;
 
 /// The next number of a linear congruential generator, below this one. Below 0 it is 0.
-fn draw(number: &mut u64, below: u64) -> u64 {
+pub fn draw(number: &mut u64, below: u64) -> u64 {
     *number = number
         .wrapping_mul(6364136223846793005)
         .wrapping_add(1442695040888963407);
@@ -110,7 +114,7 @@ fn draw(number: &mut u64, below: u64) -> u64 {
 }
 
 /// One of these, each as likely as the next.
-fn pick<T: Copy>(number: &mut u64, items: &[T], otherwise: T) -> T {
+pub fn pick<T: Copy>(number: &mut u64, items: &[T], otherwise: T) -> T {
     let at = draw(number, items.len() as u64);
     match items.get(at as usize) {
         Some(item) => *item,
@@ -158,7 +162,7 @@ fn take_turn(
     (who, (ask, objects)): (u16, Request),
     (seed, turn): (u64, u32),
 ) -> Result<(), AllocError> {
-    let expected = plain.ask(who, ask, objects)?;
+    let expected = plain.ask(who, ask, objects, false)?;
     let found = answer_to(rt, core, u32::from(who), ask, objects);
     let pending = core.pending();
     expect_answer(
@@ -206,11 +210,11 @@ fn compare_turns(
 
 /// The reference, with a second try where memory is refused.
 fn open_plain(rt: &impl Host) -> Result<PlainCore, AllocError> {
-    match PlainCore::new(rt.alloc(), OBJECTS, THREADS as usize) {
+    match PlainCore::new(rt.alloc(), OBJECTS, THREADS as u16, OBJECTS.len()) {
         Ok(plain) => Ok(plain),
         Err(_) => {
             tell_refused(rt, "the test itself");
-            PlainCore::new(rt.alloc(), OBJECTS, THREADS as usize)
+            PlainCore::new(rt.alloc(), OBJECTS, THREADS as u16, OBJECTS.len())
         }
     }
 }
