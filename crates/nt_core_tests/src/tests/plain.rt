@@ -60,7 +60,7 @@ impl PlainCore {
     ) -> Result<PlainCore, AllocError> {
         let mut numbers = Vec::with_capacity(alloc, room)?;
         for number in 0..objects.len() {
-            numbers.push(number as u32)?;
+            numbers.push(number.min(0xFFFF_FFFF) as u32)?;
         }
         let mut all = Vec::with_capacity(alloc, usize::from(threads))?;
         for thread in 0..threads {
@@ -201,7 +201,7 @@ impl PlainCore {
     /// Ends each alertable wait whose thread has an APC, by rising thread.
     pub(crate) fn alert(&mut self) -> Result<(), AllocError> {
         for thread in 0..self.threads.len() {
-            let thread = thread as u16;
+            let thread = thread.min(0xFFFF) as u16;
             if let Some(place) = self.alerted(thread) {
                 self.end(place, IO_COMPLETION, true)?;
             }

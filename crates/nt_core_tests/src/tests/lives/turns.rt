@@ -124,7 +124,7 @@ fn is_of(object: PlainObject, kind: Kind) -> bool {
 /// A handle of an object of this kind. Once in ten times, or if there is none, it is any number up to the next one.
 fn draw_handle(number: &mut u64, plain: &PlainLife, kind: Kind) -> u32 {
     let count = plain.handles();
-    let from = draw(number, u64::from(count).saturating_add(1)) as u32;
+    let from = draw(number, u64::from(count).saturating_add(1)).min(0xFFFF_FFFF) as u32;
     if count == 0 || draw(number, 10) == 0 {
         return from;
     }
@@ -139,7 +139,7 @@ fn draw_handle(number: &mut u64, plain: &PlainLife, kind: Kind) -> u32 {
 
 /// A thread, mostly one that can call.
 fn draw_caller(number: &mut u64, plain: &PlainLife) -> u16 {
-    let from = draw(number, u64::from(THREADS)) as u16;
+    let from = draw(number, u64::from(THREADS)).min(0xFFFF) as u16;
     if draw(number, 16) == 0 {
         return from.saturating_add(1);
     }
@@ -226,7 +226,7 @@ fn draw_exit(number: &mut u64, plain: &PlainLife, who: u16) -> Turn {
 
 /// A thread begins, or one that has ended makes way for one.
 fn draw_place(number: &mut u64) -> Turn {
-    let thread = draw(number, u64::from(THREADS).saturating_add(1)) as u32;
+    let thread = draw(number, u64::from(THREADS).saturating_add(1)).min(0xFFFF_FFFF) as u32;
     match draw(number, 3) {
         0 => Turn::Begins,
         1 => Turn::BeginsIn(thread),

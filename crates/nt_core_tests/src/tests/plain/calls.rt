@@ -52,6 +52,15 @@ fn is_foreign(object: PlainObject, thread: u16) -> bool {
     }
 }
 
+/// Why a timer, if it is one, is not armed with this period.
+fn arm_refusal(is_timer: bool, denied: bool, period: i32) -> Option<Answer> {
+    first_of(&[
+        (!is_timer, INVALID_HANDLE),
+        (denied, ACCESS_DENIED),
+        (period < 0, INVALID_PARAMETER),
+    ])
+}
+
 /// Why a call on this object is refused that does not wait. `denied` tells that its handle lacks a right.
 fn act_refusal(thread: u16, ask: Ask, object: PlainObject, denied: bool) -> Option<Answer> {
     let is_event = matches!(object, PlainObject::Event { .. });
@@ -73,11 +82,8 @@ fn act_refusal(thread: u16, ask: Ask, object: PlainObject, denied: bool) -> Opti
             (!is_mutex, INVALID_HANDLE),
             (is_foreign(object, thread), NOT_OWNER),
         ]),
-        Ask::Arm(_, period) | Ask::ArmRoutine(_, period, _, _) => first_of(&[
-            (!is_timer, INVALID_HANDLE),
-            (denied, ACCESS_DENIED),
-            (period < 0, INVALID_PARAMETER),
-        ]),
+        Ask::Arm(_, period) => arm_refusal(is_timer, denied, period),
+        Ask::ArmRoutine(_, period, _, _) => arm_refusal(is_timer, denied, period),
         Ask::Cancel => first_of(&[(!is_timer, INVALID_HANDLE), (denied, ACCESS_DENIED)]),
         Ask::Apc(_, _) => first_of(&[
             (!is_thread, INVALID_HANDLE),
@@ -221,7 +227,7 @@ impl PlainCore {
         for thread in 0..self.threads.len() {
             if self.own(thread) == object {
                 self.apcs.push(PlainApc {
-                    thread: thread as u16,
+                    thread: thread.min(0xFFFF) as u16,
                     routine,
                     arg,
                     timer: None,

@@ -112,12 +112,13 @@ impl PlainLife {
 
     /// How many handle numbers there are, open and closed.
     pub fn handles(&self) -> u32 {
-        self.handles.len() as u32
+        self.handles.len().min(0xFFFF_FFFF) as u32
     }
 
     /// How many of them are open.
     pub fn open_handles(&self) -> u32 {
-        self.handles().saturating_sub(self.closed.len() as u32)
+        self.handles()
+            .saturating_sub(self.closed.len().min(0xFFFF_FFFF) as u32)
     }
 
     /// Whether the thread can call.
@@ -194,7 +195,7 @@ impl PlainLife {
     /// Each object that nothing keeps is gone, and so is its APC.
     pub(crate) fn forget(&mut self) {
         for object in 0..self.core.objects.as_slice().len() {
-            let object = object as u32;
+            let object = object.min(0xFFFF_FFFF) as u32;
             if self.core.objects.at(object) != PlainObject::Gone && !self.is_kept(object) {
                 self.core.objects.replace(object, PlainObject::Gone);
                 self.core.withdraw(object);
@@ -203,7 +204,7 @@ impl PlainLife {
     }
 
     pub(crate) fn threads(&self) -> u32 {
-        self.core.threads.len() as u32
+        self.core.threads.len().min(0xFFFF_FFFF) as u32
     }
 
     /// Whether this number is that of an object that is gone, and no thread's.
@@ -216,7 +217,7 @@ impl PlainLife {
     /// The number of this object; none of one that is gone.
     pub(crate) fn number_of(&self, object: u32) -> Option<u32> {
         let place = self.core.numbers.iter().position(|it| *it == object)?;
-        Some(place as u32)
+        Some(place.min(0xFFFF_FFFF) as u32)
     }
 
     /// The object has this number from now on, which is one that there is or the next.
@@ -287,7 +288,10 @@ impl PlainLife {
         };
         let (number, handle) = match place {
             Some(place) => (self.take_spare(place), self.open(opened)?),
-            None => (self.core.numbers.len() as u32, self.open_next(opened)?),
+            None => (
+                self.core.numbers.len().min(0xFFFF_FFFF) as u32,
+                self.open_next(opened)?,
+            ),
         };
         self.give_number(number, new)?;
         Ok(Shown {

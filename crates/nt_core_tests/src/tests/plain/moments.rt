@@ -146,7 +146,7 @@ impl PlainCore {
     /// Ends each wait with this deadline, by rising thread.
     fn time_out(&mut self, moment: u64) -> Result<(), AllocError> {
         for thread in 0..self.threads.len() {
-            if let Some((place, status)) = self.late(thread as u16, moment) {
+            if let Some((place, status)) = self.late(thread.min(0xFFFF) as u16, moment) {
                 self.end(place, status, false)?;
             }
         }

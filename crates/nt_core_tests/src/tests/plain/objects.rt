@@ -268,7 +268,7 @@ impl PlainObjects {
 
     /// Makes one more, and answers which it is.
     pub fn add(&mut self, object: PlainObject) -> Result<u32, AllocError> {
-        let place = self.items.len() as u32;
+        let place = self.items.len().min(0xFFFF_FFFF) as u32;
         self.items.push(object)?;
         Ok(place)
     }

@@ -81,7 +81,7 @@ impl PlainLife {
         let own = self.core.own(thread as usize);
         let number = match self.any_spare(given) {
             Some(place) => self.take_spare(place),
-            None => self.core.numbers.len() as u32,
+            None => self.core.numbers.len().min(0xFFFF_FFFF) as u32,
         };
         if number >= self.handles() {
             return Ok(Shown::answered(HANDLE_LIMIT));
