@@ -2,6 +2,7 @@
 import contextlib
 import dataclasses
 import functools
+import os
 import re
 import resource
 import signal
@@ -32,11 +33,12 @@ class Ended(Exception):
 
 @dataclasses.dataclass
 class Said:
-    """What a command ended with, and what it said."""
+    """What a command ended with, what it said, and how long it took: by the clock, and of processors with all that it ran itself."""
 
     status: int
     text: str
     seconds: float
+    of_processors: float = 0.0
 
     @property
     def was_killed(self):
@@ -51,6 +53,11 @@ class Said:
         """How many modules of the crate were taken from kept work, and how many were checked; none where that is not said."""
         found = re.findall(MODULES.format(re.escape(name)), self.text, re.M)
         return tuple(map(int, found[-1])) if found else None
+
+    def shows_kept(self, name):
+        """Whether the crate was proved with nearly all of it taken from kept work."""
+        taken, checked = self.modules(name) or (0, 1)
+        return self.status == 0 and 100 * checked <= taken
 
 
 @contextlib.contextmanager
@@ -74,9 +81,22 @@ def run(words, folder):
     begun = time.monotonic()
     how = {"cwd": folder, "stdin": subprocess.DEVNULL, "stdout": subprocess.PIPE, "stderr": subprocess.STDOUT}
     child = subprocess.Popen(words, errors="replace", **how)
-    with noted(child):
-        text, _ = child.communicate()
-    return Said(child.returncode, text, time.monotonic() - begun)
+    with noted(child), child.stdout:
+        text = child.stdout.read()
+        used = end_of(child)
+    return Said(child.returncode, text, time.monotonic() - begun, used)
+
+
+def end_of(child):
+    """Waits for the command's end, and returns the processor seconds of it and of what it waited for."""
+    try:
+        _, status, used = os.wait4(child.pid, 0)
+    except ChildProcessError:
+        # (`stop_all` took its status, with which nothing tells what it used)
+        child.wait()
+        return 0.0
+    child.returncode = os.waitstatus_to_exitcode(status)
+    return used.ru_utime + used.ru_stime
 
 
 def rt(folder, verb, *words):
@@ -128,6 +148,8 @@ def why_no_proof_of_tests(said, handles):
         return "its tests were killed twice, most likely for memory"
     if said.status:
         return f"its tests did not pass: status {said.status}"
+    if last.get("logic") != "proved" or last.get("tests", "0") == "0":
+        return "the last line of its tests does not say that they are proved"
     needs = {it for it in last.get("main", "").split("+") if it} - {*handles, "Abort"}
     bad = [it for it in last if it not in KNOWN] + [it for it in ("foreign", "bugs") if last.get(it, "0") != "0"]
     return f"the last line of its tests has what HANDLES or a proof may not have: {' '.join([*bad, *sorted(needs)])}" if bad or needs else None

@@ -43,6 +43,11 @@ class Crate:
     def has_tests(self):
         return any(re.search(r"(?m)^\s*#\[test\]", self.text(it)) for it in self.files() if it.endswith(".rt"))
 
+    def has_tests_alone(self):
+        """Whether the root has modules of tests and nothing else."""
+        code = re.sub(r"(?m)^\s*//.*$|^#!\[.*\]$", "", self.text("src/lib.rt"))
+        return self.has_tests() and re.fullmatch(r"(\s*#\[cfg\(test\)\]\s*mod \w+;)+\s*", code) is not None
+
     def lines(self, ending=".rt"):
         return sum(self.text(it).count("\n") for it in self.files() if it.endswith(ending))
 

@@ -3,6 +3,7 @@
 A crate is proved in a room of its own, over the libraries below it as this run built them. What its proof made and kept stands then in
 the crate's out/ in the tree.
 """
+import collections
 import contextlib
 import os
 import re
@@ -35,7 +36,7 @@ class Proofs:
 
     def __init__(self, crates, rooms, progress, handles, begin_with=None):
         self.crates, self.rooms, self.progress, self.handles, self.begin_with = crates, rooms, progress, handles, begin_with
-        self.checked, self.taken, self.failed, self.passed = 0, 0, [], []
+        self.checked, self.taken, self.failed, self.passed, self.parts, self.held = 0, 0, [], [], {}, set()
         self.used = {it.name for crate in crates.values() for it in crate.uses}
 
     def run(self, names, runs=True, checked=None):
@@ -68,14 +69,17 @@ class Proofs:
 
     def prove_in_room(self, crate, runs, checks):
         folder = fill_room(f"{self.rooms}/{crate.name}", crate, self.begin_with and f"{self.begin_with}/crates/{crate.name}/out")
+        parts = {}
         try:
-            said = prove(crate, folder, self.handles) if checks else None
+            # (of tests alone nothing is left for a check, and `rt test` proves them)
+            if checks and not (runs and crate.has_tests_alone()):
+                parts["check"] = prove(crate, folder, self.handles)
             if crate.is_static or crate.name in self.used:
-                build_library(crate, folder)
+                parts["lib"] = build_library(crate, folder)
             if runs and crate.has_tests():
-                pass_tests(crate, folder, self.handles)
+                parts["test"] = pass_tests(crate, folder, self.handles)
             if runs and crate.is_program:
-                build_program(crate, folder)
+                parts.update(build_program(crate, folder))
         finally:
             shutil.rmtree(f"{crate.folder}/out", ignore_errors=True)
             if os.path.isdir(f"{folder}/out"):
@@ -83,9 +87,20 @@ class Proofs:
             shutil.rmtree(f"{self.rooms}/{crate.name}", ignore_errors=True)
         if not checks:
             return
-        taken, checked = said.modules(crate.name) or (0, 0)
+        self.parts[crate.name] = parts
+        # (what its first command kept serves the next one: the check of a library, its build)
+        self.held |= {crate.name} if any(said.shows_kept(crate.name) for said in parts.values()) else set()
+        taken, checked = next(iter(parts.values())).modules(crate.name) or (0, 0)
         self.taken, self.checked = self.taken + taken, self.checked + checked
-        self.progress.tell(f"{crate.name}: proved, {said.seconds:.0f} s, {checked} modules checked, {taken} taken from work that was kept")
+        times = ", ".join(f"{part} {said.seconds:.0f} s ({said.of_processors:.0f} of processors)" for part, said in parts.items())
+        self.progress.tell(f"{crate.name}: proved, {checked} modules checked, {taken} taken from work that was kept; {times}")
+
+    def tell_times(self):
+        """Tells the processor seconds of each part of the proofs, of all crates together."""
+        used = collections.Counter()
+        for part, said in (it for parts in self.parts.values() for it in parts.items()):
+            used[part] += said.of_processors
+        self.progress.tell("of processors: " + ", ".join(f"{part} {seconds:.0f} s" for part, seconds in used.items()))
 
 
 def handles_of(top):
@@ -105,29 +120,34 @@ def prove(crate, folder, handles):
 
 
 def build_library(crate, folder):
+    """Builds the library, and returns what its build said."""
     built = rt(folder, "lib", *ONE_JOB)
     if built.status or not os.path.exists(f"{folder}/{crate.made}"):
         raise Failed(f"`rt lib` ended with status {built.status}", built.text)
+    return built
 
 
 def pass_tests(crate, folder, handles):
-    """Proves and runs the crate's tests."""
+    """Proves and runs the crate's tests, and returns what that said."""
     said = rt(folder, "test", *ONE_JOB)
     why = why_no_proof_of_tests(said, handles)
     if why:
         raise Failed(why, said.text)
+    return said
 
 
 def build_program(crate, folder):
-    """Builds the program with each of the kit's two compilers. (`rt run` runs it too; what that answers is judged by `run_program`.)"""
-    words = crate.text("args").split("\n")[:-1]
+    """Builds the program with each of the kit's two compilers, and returns what each build said. (`rt run` runs it too; what that answers is judged by
+    `run_program`.)"""
+    words, built = crate.text("args").split("\n")[:-1], {}
     for flags, ending in ((("--backend", "rattle"), BY_RATTLE), ((), "")):
-        said = rt(folder, "run", *ONE_JOB, *flags, "--", *words)
+        said = built[" ".join(["run", *flags])] = rt(folder, "run", *ONE_JOB, *flags, "--", *words)
         made = f"{folder}/out/{crate.name}"
         if not os.access(made, os.X_OK):
             raise Failed(f"`{' '.join(['rt run', *flags])}` built no program", said.text)
         if ending:
             os.rename(made, made + ending)
+    return built
 
 
 def given_to(crate, name):

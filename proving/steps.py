@@ -78,15 +78,18 @@ def edits_apply(top, progress):
     return Step(0 if bad else 1, [it.partition(":")[0] for it in bad])
 
 
-def proofs_of_all(tree, work, progress):
-    """Proves each crate once, and runs tests and programs. What was made stands in the tree."""
+def proofs_of_all(tree, work, held, progress):
+    """Proves each crate once, and runs tests and programs. What was made stands in the tree. The crates whose kept work was seen to serve are added
+    to `held`."""
     proofs = Proofs(crates_of(tree), work, progress, handles_of(tree))
     proofs.run(list(proofs.crates))
     progress.tell(f"{proofs.checked} modules were checked in this run, and {proofs.taken} taken from work that checks on this machine had kept")
+    proofs.tell_times()
+    held |= proofs.held
     return Step(len(proofs.passed), proofs.failed)
 
 
-def wrong_turns(top, tree, work, tries_all, progress):
+def wrong_turns(top, tree, work, held, tries_all, progress):
     """Tries wrong turns over what the proofs kept."""
     # (what cannot be applied was told, and counted, by a step before)
     found, bad = edits_in(tree)
@@ -97,7 +100,7 @@ def wrong_turns(top, tree, work, tries_all, progress):
         if crate.name == RATED:
             seconds = Trial(crate, [], work, progress).check({}).seconds
             progress.tell(f"{RATED}, with nothing to do and nothing beside it: checked, {seconds:.0f} s")
-    failed = try_edits(chosen, work, progress)
+    failed = try_edits(chosen, work, progress, held)
     if tries_all:
         not_tried = {name.split("/")[-2] for name in [*failed, *(it.partition(":")[0] for it in bad)]}
         sums = {it.name: stands_on(it, folder_of(tree, it.name)) for it in found if it.name not in not_tried}
@@ -199,9 +202,10 @@ def unproved(top):
 def proved(top, tree, work, tries_each, tries_all):
     """The steps with proofs: with each wrong turn, or a share; with every case and planted fault of C, or some."""
     scripts = [os.path.relpath(it, tree) for it in sorted(glob.glob(f"{tree}/examples/*.nts") + glob.glob(f"{tree}/tests/scripts/*/*.nts"))]
+    held = set()
     return [
-        ("proofs, tests and programs", functools.partial(proofs_of_all, tree, work), True),
-        ("wrong turns", functools.partial(wrong_turns, top, tree, work, tries_each), False),
+        ("proofs, tests and programs", functools.partial(proofs_of_all, tree, work, held), True),
+        ("wrong turns", functools.partial(wrong_turns, top, tree, work, held, tries_each), False),
         ("the tests, each growth refused", command(tree, "tests/growths/tests"), False),
         ("object numbers and handles", command(tree, "tests/types"), False),
         ("what closed objects leave", command(tree, "tests/memory"), False),

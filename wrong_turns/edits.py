@@ -85,6 +85,18 @@ def rounds_of(edits):
     return rounds
 
 
+def readings_of(edits):
+    """Rounds in which no two edits change one line: fewer than those above, and enough to tell which edits do not compile."""
+    rounds = []
+    for edit in edits:
+        this = next((it for it in rounds if not any(edit.lines.keys() & other.lines.keys() for other in it)), None)
+        if this is None:
+            rounds.append([edit])
+        else:
+            this.append(edit)
+    return rounds
+
+
 def texts_of(crate, edits):
     """The texts of the files that these edits change, with all of them in place."""
     texts = {}

@@ -37,11 +37,12 @@ def failing_answers(crate, functions):
 
 
 class Trial:
-    """The edits of one crate, and the folder of the rooms in which they are tried."""
+    """The edits of one crate, and the folder of the rooms in which they are tried. `is_held` says that the crate, with no edit, was seen to be
+    proved over what its proof kept."""
 
-    def __init__(self, crate, edits, rooms, progress):
-        self.crate, self.edits, self.rooms, self.progress = crate, edits, rooms, progress
-        self.kept, self.number, self.seconds, self.failed = f"{crate.folder}/out", 0, 0, []
+    def __init__(self, crate, edits, rooms, progress, is_held=False):
+        self.crate, self.edits, self.rooms, self.progress, self.is_held = crate, edits, rooms, progress, is_held
+        self.kept, self.number, self.used, self.failed = f"{crate.folder}/out", 0, 0, []
         self.functions = functions_of(crate)
         for it in edits:
             it.find(self.functions)
@@ -71,7 +72,7 @@ class Trial:
                 said = rt(folder, "check", *ONE_JOB, *(word for it in only for word in ("--only", it)))
         finally:
             shutil.rmtree(room, ignore_errors=True)
-        self.seconds = max(self.seconds, said.seconds)
+        self.used += said.of_processors
         return said
 
     def fail(self, edits, why):
@@ -81,19 +82,22 @@ class Trial:
             self.progress.tell(why)
 
     def holds(self):
-        """Checks the crate with no edit, and returns whether it is proved, nearly all of it taken from what its proof kept: else no edit tells anything."""
-        self.files, begun = files_in(f"{self.kept}/{OWN_WORK}"), time.monotonic()
-        said = self.check({})
-        taken, checked = said.modules(self.crate.name) or (0, 1)
-        is_proved = said.status == 0 and 100 * checked <= taken
-        how = "is proved" if is_proved else f"IS NOT PROVED, so no edit tells anything: status {said.status}, {checked} modules checked again, {taken} taken"
-        self.progress.tell(f"{self.crate.name}: with no edit it {how}, {time.monotonic() - begun:.0f} s; {len(self.edits)} edits in {len(self.rounds)} rounds")
+        """Returns whether the crate is proved with no edit, nearly all of it taken from what its proof kept: else no edit tells anything."""
+        self.files, how = files_in(f"{self.kept}/{OWN_WORK}"), "was proved"
+        if not self.is_held:
+            said = self.check({})
+            taken, checked = said.modules(self.crate.name) or (0, 1)
+            self.is_held = said.shows_kept(self.crate.name)
+            refused = f"IS NOT PROVED, so no edit tells anything: status {said.status}, {checked} modules checked again, {taken} taken"
+            how = f"is proved, {said.seconds:.0f} s" if self.is_held else refused
+        self.progress.tell(f"{self.crate.name}: with no edit it {how}; {len(self.edits)} edits in {len(self.rounds)} rounds")
         for name, size in dear_functions(f"{self.kept}/{OWN_WORK}"):
             self.progress.tell(f"{self.crate.name}: {name} is dear to prove: its steps take {size / 1e6:.1f} MB, and 4 are the most that they should")
-        return is_proved
+        return self.is_held
 
     def end(self):
-        """Fails all where a round has written into a file of what was kept."""
+        """Tells what the crate's checks took. It fails all where a round has written into a file of what was kept."""
+        self.progress.tell(f"{self.crate.name}: {self.number} checks, {self.used:.0f} s of processors")
         if files_in(f"{self.kept}/{OWN_WORK}") != self.files:
             self.fail(self.edits, f"{self.crate.name}: A ROUND WROTE INTO WHAT WAS KEPT, so no edit tells anything")
 
@@ -124,7 +128,8 @@ class Trial:
 
 
 def uncompiled(trial, edits):
-    """Those of these edits with which rattle does not read the crate, with what it says. It proves nothing."""
+    """Those of these edits with which rattle does not read the crate, with what it says. It proves nothing. (Two that read alone can clash where they
+    stand together, so what is not read is read again in halves.)"""
     said = trial.check(texts_of(trial.crate, edits), [""])
     if not said.status:
         return []
@@ -149,10 +154,10 @@ def files_in(folder):
     return {it: (os.stat(it).st_size, os.stat(it).st_mtime_ns) for it in paths}
 
 
-def try_edits(chosen, rooms, progress, at_once=None):
-    """Tries these edits, by crate, and returns the names of those that failed."""
+def try_edits(chosen, rooms, progress, held=(), at_once=None):
+    """Tries these edits, by crate, and returns the names of those that failed. Of the crates that are `held`, what the proof kept was seen to serve."""
     progress.of, tasks = "checks", {}
-    trials = [Trial(crate, edits, rooms, progress) for crate, edits in chosen.items()]
+    trials = [Trial(crate, edits, rooms, progress, crate.name in held) for crate, edits in chosen.items()]
     for it in trials:
         tasks.update(it.tasks())
     progress.total = len(tasks) - len(trials)
