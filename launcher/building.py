@@ -195,6 +195,11 @@ def build_unproved(built):
         file.write(str((time.time_ns() - began) // 10**9))
 
 
+def path_once_built(built):
+    """The program that `path_of` answered."""
+    return built.proved if is_current(built.proved, ("src", "specs", "proofs")) else built.unproved
+
+
 def path_of(built):
     """The program of these sources: the proved one where it is built, else the unproved one, which is built where it has to be."""
     if is_current(built.proved, ("src", "specs", "proofs")):

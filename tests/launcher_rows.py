@@ -111,7 +111,7 @@ RUNS = [
 
 # A fault with its script: the words of the last line, the marked word between ^ and ^, and what can stand there. A row may end with a line that
 # comes before that one.
-KEYWORDS = "all, any, apc, arm, cancel, close, dup, event, exit, mutex, next, pulse, release, reset, semaphore, set, sleep, swap, timer, unlock"
+KEYWORDS = "any, all, sleep, swap, next, exit, set, reset, pulse, release, unlock, arm, cancel, apc, close, event, semaphore, mutex, timer, dup"
 CALLER = "tick, or the thread that makes the call, as t0"
 TIME = "inf, or milliseconds from 0 to 4294967295"
 NAME = "a new name: a letter or _, then letters, digits or _, at most 32, and not t and digits alone"

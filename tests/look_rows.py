@@ -356,7 +356,7 @@ EXPLORES = [
     ("a fault before both", ["explore", "fault_first.nts"], b"", 2, "", ["ntlook: line 4: unknown word", "fault_first.nts:4:4: unknown word"]),
     ("a late creation whose name is taken", ["explore", "late_taken.nts"], b"", 2, "", ["ntlook: line 4: name taken", "late_taken.nts:4:10: name taken"]),
     ("no `threads` line", ["explore", "comments.nts"], b"", 2, "", ["ntlook: line 4: threads expected"]),
-    ("a name that was not given", ["explore", "unnamed.nts"], b"", 2, "", ["ntlook: line 3: unknown name", "unnamed.nts:3:1: unknown name"]),
+    ("a name that was not given", ["explore", "unnamed.nts"], b"", 2, "", ["ntlook: line 3: unknown name", "unnamed.nts:3:12: unknown name"]),
     ("an empty file", ["explore", "empty.nts"], b"", 2, "", ["ntlook: line 1: threads expected", "empty.nts:1:1: threads expected"]),
     ("no file", ["explore", "none.nts"], b"", 1, "", ["ntlook: cannot open", "none.nts: No such file or directory"]),
     ("a folder", ["explore", "."], b"", 1, "", ["ntlook: read failed", ".: Is a directory"]),

@@ -1,3 +1,1 @@
-pub mod MarkLemmas
-pub mod NodeLemmas
-pub mod TreeLemmas
+pub mod HeapLemmas

@@ -1,4 +1,2 @@
 pub mod Alarms
-pub mod Marks
-pub mod Node
-pub mod Tree
+pub mod Heap

@@ -1,49 +1,67 @@
-ghost use Rattle.std.specs.Prelude.{◌≡◌, ◌+◌, ◌<◌, ◌^◌, ◌++◌, ◌∷◌, ◌==◌, [], length, replicate, slice_set, Some, None, OnOk, OnErr, IfOk, MatchOption, vec_len, vec_capacity};
-ghost use Rattle.nt_alarms.specs.Tree.{alarms_of, IsTable};
+ghost use Rattle.std.specs.Prelude.{◌≡◌, ◌+◌, ◌<◌, ◌^◌, ◌++◌, ◌∷◌, ◌==◌, [], false, length, replicate, slice_set, Some, None, OnOk, OnErr, IfOk, MatchOption, vec_len, vec_capacity};
+ghost use Rattle.nt_alarms.specs.Heap.{alarms_of, IsTable};
 
-use crate::marks::Marks;
-use crate::node::{Node, TOO_MANY};
-use crate::tree::{clear_own, first_below, moment_of, set_own};
+use crate::heap::{arm, disarm, first, moment_of};
+use nt_marks::Marks;
 use std::alloc::{AllocError, Global};
 use std::marker::Model;
 
-/// Makes room for a place more. Where memory is refused, or there are too many, no place is added.
-fn make_room(moments: &mut Vec<u64>, nodes: &mut Vec<Node>) -> Result<(), AllocError>
+/// No table has as many places, so that a place's number and its rank fit into four bytes.
+const TOO_MANY: usize = 1 << 31;
+
+/// Makes room for a place more. If memory is refused, or there are too many, no place is added.
+fn make_room(
+    moments: &mut Vec<u64>,
+    ranks: &mut Vec<u32>,
+    places: &mut Vec<u32>,
+) -> Result<(), AllocError>
     ensures moments { moments.new.items ≡ moments.old.items }
-    ensures nodes { nodes.new.items ≡ nodes.old.items }
+    ensures ranks { ranks.new.items ≡ ranks.old.items }
+    ensures places { places.new.items ≡ places.old.items }
     ensures few { OnOk result (length moments.new.items + 1 < 2 ^ 31) }
     ensures room { OnOk result (vec_len moments.new < vec_capacity moments.new) }
-    ensures node_room { OnOk result (vec_len nodes.new < vec_capacity nodes.new) }
+    ensures rank_room { OnOk result (vec_len ranks.new < vec_capacity ranks.new) }
+    ensures place_room { OnOk result (vec_len places.new < vec_capacity places.new) }
 {
     if moments.len() + 1 >= TOO_MANY {
         return Err(AllocError);
     }
     moments.reserve(1)?;
-    nodes.reserve(1)
+    ranks.reserve(1)?;
+    places.reserve(1)
 }
 
-/// Adds a place, last, with no alarm.
-fn add_place(moments: &mut Vec<u64>, nodes: &mut Vec<Node>)
+/// Adds a place, last, with the last rank and so with no alarm.
+fn add_place(moments: &mut Vec<u64>, ranks: &mut Vec<u32>, places: &mut Vec<u32>, armed: usize)
     requires few { length moments.old.items + 1 < 2 ^ 31 }
     requires room { vec_len moments.old < vec_capacity moments.old }
-    requires node_room { vec_len nodes.old < vec_capacity nodes.old }
-    requires table { IsTable moments.old.items nodes.old.items }
-    ensures table { IsTable moments.new.items nodes.new.items }
-    ensures added { alarms_of moments.new.items nodes.new.items ≡ alarms_of moments.old.items nodes.old.items ++ None ∷ [] }
+    requires rank_room { vec_len ranks.old < vec_capacity ranks.old }
+    requires place_room { vec_len places.old < vec_capacity places.old }
+    requires table { IsTable armed moments.old.items ranks.old.items places.old.items }
+    ensures table { IsTable armed moments.new.items ranks.new.items places.new.items }
+    ensures added { alarms_of armed moments.new.items ranks.new.items
+        ≡ alarms_of armed moments.old.items ranks.old.items ++ None ∷ [] }
 {
+    let last = moments.len() as u32;
+    prove!(armed <= last as usize);
     moments.push_reserved(0);
-    nodes.push_reserved(Node::EMPTY);
+    ranks.push_reserved(last);
+    places.push_reserved(last);
 }
 
 /// A moment for each place, or none: an alarm clock for every timer, or every thread.
 ///
 /// Places are numbered from 0 in the order in which they were added. Setting and clearing an alarm
-/// takes steps in the logarithm of the number of places, and no memory; reading the earliest one
-/// step. There can be 2^31 - 1 places; a further one is refused as if there were no memory.
+/// takes steps in the logarithm of the number of alarms that are set, and no memory; reading the earliest one
+/// step. There can be 2^31 - 2 places; a further one is refused as if there were no memory.
 #[derive(Drop)]
 pub struct Alarms {
+    /// How many are set.
+    armed: usize,
     moments: Vec<u64>,
-    nodes: Vec<Node>,
+    ranks: Vec<u32>,
+    /// By rank.
+    places: Vec<u32>,
 }
 
 impl Model for Alarms {
@@ -51,11 +69,11 @@ impl Model for Alarms {
 
     ghost Value = { List (Option ℕ) };
 
-    ghost use Rattle.nt_alarms.specs.Tree.{alarms_of, IsTable};
+    ghost use Rattle.nt_alarms.specs.Heap.{alarms_of, IsTable};
 
-    ghost view = { λ a. alarms_of a.moments.items a.nodes.items };
+    ghost view = { λ a. alarms_of a.armed a.moments.items a.ranks.items };
 
-    ghost invariant = { λ a. IsTable a.moments.items a.nodes.items };
+    ghost invariant = { λ a. IsTable a.armed a.moments.items a.ranks.items a.places.items };
 }
 
 impl Alarms {
@@ -66,12 +84,14 @@ impl Alarms {
         ensures { result ≡ [] }
     {
         Alarms {
+            armed: 0,
             moments: Vec::new(alloc),
-            nodes: Vec::new(alloc),
+            ranks: Vec::new(alloc),
+            places: Vec::new(alloc),
         }
     }
 
-    /// So many places, each with no alarm.
+    /// This many places, each with no alarm.
     pub fn with_places(alloc: Global, count: usize) -> Result<Self, AllocError>
         ensures { IfOk result (λ alarms. alarms ≡ replicate count None) }
     {
@@ -85,8 +105,8 @@ impl Alarms {
     /// So many places in alarms, each with no alarm, and in each of two kinds of marks, each with no mark.
     pub fn with_marks(alloc: Global, count: usize) -> Result<(Self, Marks, Marks), AllocError>
         ensures alarms { IfOk result (λ all. all.0 ≡ replicate count None) }
-        ensures marks { IfOk result (λ all. all.1 ≡ replicate count None) }
-        ensures more { IfOk result (λ all. all.2 ≡ replicate count None) }
+        ensures marks { IfOk result (λ all. all.1 ≡ replicate count false) }
+        ensures more { IfOk result (λ all. all.2 ≡ replicate count false) }
     {
         let alarms = Alarms::with_places(alloc, count)?;
         let marks = Marks::with_places(alloc, count)?;
@@ -112,36 +132,33 @@ impl Alarms {
         ensures err { OnErr result (self.new ≡ self.old) }
     {
         // Room first, so that a refusal changes nothing.
-        make_room(&mut self.moments, &mut self.nodes)?;
-        add_place(&mut self.moments, &mut self.nodes);
+        make_room(&mut self.moments, &mut self.ranks, &mut self.places)?;
+        add_place(
+            &mut self.moments,
+            &mut self.ranks,
+            &mut self.places,
+            self.armed,
+        );
         Ok(())
     }
 
-    /// Adds a place to these alarms and one to the others, both last, with no alarm; where memory is refused, to neither.
-    pub fn add_both(&mut self, others: &mut Alarms) -> Result<(), AllocError>
-        ensures ok { OnOk result (self.new ≡ self.old ++ None ∷ []) }
-        ensures others { OnOk result (others.new ≡ others.old ++ None ∷ []) }
-        ensures err { OnErr result (self.new ≡ self.old) }
-        ensures kept { OnErr result (others.new ≡ others.old) }
-    {
-        make_room(&mut self.moments, &mut self.nodes)?;
-        others.add()?;
-        add_place(&mut self.moments, &mut self.nodes);
-        Ok(())
-    }
-
-    /// Adds a place to these alarms, with no alarm, and one to each of two kinds of marks, with no mark, all last; where memory is
+    /// Adds a place to these alarms, with no alarm, and one to each of two kinds of marks, with no mark, all last; if memory is
     /// refused, to none.
     pub fn add_with(&mut self, marks: &mut Marks, more: &mut Marks) -> Result<(), AllocError>
         ensures ok { OnOk result (self.new ≡ self.old ++ None ∷ []) }
-        ensures marks { OnOk result (marks.new ≡ marks.old ++ None ∷ []) }
-        ensures more { OnOk result (more.new ≡ more.old ++ None ∷ []) }
+        ensures marks { OnOk result (marks.new ≡ marks.old ++ false ∷ []) }
+        ensures more { OnOk result (more.new ≡ more.old ++ false ∷ []) }
         ensures err { OnErr result (self.new ≡ self.old) }
         ensures kept { OnErr result ((marks.new ≡ marks.old) × (more.new ≡ more.old)) }
     {
-        make_room(&mut self.moments, &mut self.nodes)?;
+        make_room(&mut self.moments, &mut self.ranks, &mut self.places)?;
         marks.add_both(more)?;
-        add_place(&mut self.moments, &mut self.nodes);
+        add_place(
+            &mut self.moments,
+            &mut self.ranks,
+            &mut self.places,
+            self.armed,
+        );
         Ok(())
     }
 
@@ -150,7 +167,16 @@ impl Alarms {
         requires { place < length self.old }
         ensures { self.new ≡ slice_set self.old place (Some moment) }
     {
-        set_own(&mut self.moments, &mut self.nodes, place, moment);
+        self.clear(place);
+        arm(
+            &mut self.moments,
+            &mut self.ranks,
+            &mut self.places,
+            self.armed,
+            place,
+            moment,
+        );
+        self.armed += 1;
     }
 
     /// Clears the alarm of this place, if it has one.
@@ -158,32 +184,41 @@ impl Alarms {
         requires { place < length self.old }
         ensures { self.new ≡ slice_set self.old place None }
     {
-        clear_own(&self.moments, &mut self.nodes, place);
+        if (self.ranks[place] as usize) < self.armed {
+            self.armed -= 1;
+            disarm(
+                &self.moments,
+                &mut self.ranks,
+                &mut self.places,
+                self.armed,
+                place,
+            );
+        }
     }
 
     /// The alarm of this place; none past the last place.
     pub fn get(&self, place: usize) -> Option<u64>
         ensures { result ≡ alarm_at self.now place }
     {
-        moment_of(&self.moments, &self.nodes, place)
+        moment_of(&self.moments, &self.ranks, self.armed, place)
     }
 
-    /// The earliest alarm, where there is one.
+    /// The earliest alarm, if there is one.
     pub fn earliest(&self) -> Option<u64>
         ensures { MatchOption result (IsQuiet self.now) (λ moment. IsEarliest self.now moment) }
     {
-        match first_below(&self.moments, &self.nodes, 0) {
+        match first(&self.moments, &self.places, self.armed) {
             Some(first) => Some(first.moment),
             None => None,
         }
     }
 
-    /// The lowest place whose alarm is this moment, where no alarm is before it.
+    /// The lowest place whose alarm is this moment, if no alarm is before it.
     pub fn first_at(&self, moment: u64) -> Option<usize>
         requires { NoneBefore self.now moment }
         ensures { MatchOption result (NoneAt self.now moment) (λ place. IsLowestAt self.now moment place) }
     {
-        match first_below(&self.moments, &self.nodes, 0) {
+        match first(&self.moments, &self.places, self.armed) {
             Some(first) if first.moment == moment => Some(first.place),
             _ => None,
         }
@@ -195,10 +230,13 @@ impl Alarms {
     {
         let alloc = *self.moments.allocator();
         Ok(Alarms {
+            armed: self.armed,
             moments: Vec::from_slice(alloc, &self.moments)?,
-            nodes: Vec::from_slice(alloc, &self.nodes)?,
+            ranks: Vec::from_slice(alloc, &self.ranks)?,
+            places: Vec::from_slice(alloc, &self.places)?,
         })
     }
+
     /// The same alarms, and the same marks of two kinds, in memory of their own.
     pub fn copy_with(&self, marks: &Marks, more: &Marks) -> Result<(Self, Marks, Marks), AllocError>
         ensures alarms { IfOk result (λ copied. copied.0 ≡ self.now) }

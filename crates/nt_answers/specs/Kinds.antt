@@ -18,11 +18,18 @@ abbrev pub act_kind : Act → Kind
 act_kind (Act.CreateEvent flags) = Handle
 act_kind (Act.CreateSemaphore initial maximum) = Handle
 act_kind (Act.CreateMutex flags) = Handle
-act_kind (Act.CreateTimer flags) = Handle
-act_kind (Act.Duplicate h access) = Handle
+act_kind (Act.SetEvent h) = Done
+act_kind (Act.ResetEvent h) = Done
+act_kind (Act.PulseEvent h) = Done
 act_kind (Act.ReleaseSemaphore h n) = Previous
+act_kind (Act.ReleaseMutex h) = Done
+act_kind (Act.CreateTimer flags) = Handle
+act_kind (Act.SetTimer h due period routine) = Done
+act_kind (Act.CancelTimer h) = Done
+act_kind (Act.QueueApc h routine arg) = Done
 act_kind Act.NextApc = Apc
-act_kind _ = Done
+act_kind (Act.Duplicate h access) = Handle
+act_kind (Act.Close h) = Done
 
 abbrev pub kind_of : Call → Kind
 kind_of (Call.Act act) = act_kind act

@@ -21,7 +21,7 @@ use Rattle.nt_calls.specs.State.{State}
 use Rattle.nt_calls.specs.Steps.{Called}
 use Rattle.nt_core.specs.Dispatcher.{state}
 use Rattle.nt_sleepers.specs.Sleepers.{Sleeping}
-use Rattle.nt_c.specs.Asks.{Asked, Makes}
+use Rattle.nt_c.specs.Asks.{Asked, MakesAndWakes}
 use Rattle.nt_c.proofs.Renewing.{wait_makes, wait_own, wait_limit}
 
 -- the causes that come before those of the wait, and these
@@ -84,7 +84,7 @@ never_called : {P : Type 0} (s new : State) (who : ℕ) (call : Call) (cause : R
 never_called s new who call cause reply grants is called =
     let both : Some cause ≡ None = sym is ∙ called.1.0 in (cc)
 
-makes_alike : (old new : Sleeping) (who : ℕ) (wait wait' : WaitCall) (cause : Refusal) (result : Result Reply Refusal) → IsRefusedFor (state old.core) who (Call.Wait wait) cause → IsRefusedFor (state old.core) who (Call.Wait wait') cause → Makes old who (Call.Wait wait) result new → Makes old who (Call.Wait wait') result new
+makes_alike : (old new : Sleeping) (who : ℕ) (wait wait' : WaitCall) (cause : Refusal) (result : Result Reply Refusal) → IsRefusedFor (state old.core) who (Call.Wait wait) cause → IsRefusedFor (state old.core) who (Call.Wait wait') cause → MakesAndWakes old who (Call.Wait wait) result new → MakesAndWakes old who (Call.Wait wait') result new
 makes_alike old new who wait wait' cause (Ok reply) is is' made =
     never_called (state old.core) (state new.core) who (Call.Wait wait) cause reply new.core.grants is (wait_own (state old.core) old.spare who wait (Ok reply) new.core.grants (state new.core) made.makes)
 makes_alike old new who wait wait' cause (Err r) is is' made = record {

@@ -1,6 +1,7 @@
 -- What a call through C's handle does.
 use Rattle.std.specs.Prelude.{◌≡◌, ℕ, ◌≤◌, ◌⊎◌, Bool, Option, None, Some, MatchOption, slice_get, MatchBool, nat_le, OnOk, OnErr, ◌&&◌, [], length, replicate, pos, is_some, true, false}
 use Rattle.std.specs.FinMap as map
+use Rattle.nt_c.specs.declared.numbers.TheConstants.{INVALID_HANDLE, INVALID_PARAMETER, NO_MORE, OUT_OF_MEMORY, UNKNOWN_THREAD}
 use Rattle.nt_c.specs.declared.grants.NtGrant.{NtGrant}
 use Rattle.nt_c.specs.declared.begins.NtBegun.{NtBegun}
 use Rattle.nt_c.specs.declared.handle.Nt.{Nt}
@@ -40,7 +41,7 @@ Keeps old new = new.cell.held ≡ old.cell.held
 
 -- a call of the dispatcher: the machine's own step, or, if numbers are given again, a renewal; no number is told to be left only if there is
 -- none; it tests no wait but those that it must, or, refused, none, and then changes nothing; and what becomes of who sleeps
-pub record Makes (old : Sleeping) (who : ℕ) (call : Call) (result : Result Reply Refusal) (new : Sleeping) : Type 0 where
+pub record MakesAndWakes (old : Sleeping) (who : ℕ) (call : Call) (result : Result Reply Refusal) (new : Sleeping) : Type 0 where
   pub makes : MakesCall (state old.core) old.spare who call result new.core.grants (state new.core)
   pub limit : result ≡ Err HandleLimit → FindsNoneFor (state old.core) old.spare call
   pub unchanged : IsUnchanged (state old.core) result new.core.grants (state new.core)
@@ -52,7 +53,7 @@ pub record Makes (old : Sleeping) (who : ℕ) (call : Call) (result : Result Rep
 -- a call on what the handle holds: one of the dispatcher there, or refused where there is none
 abbrev pub Asked : Option Sleeping → ℕ → Call → Result Reply Refusal → Option Sleeping → Type 0
 Asked None who call result new = (result ≡ Err InvalidHandle) × (new ≡ None)
-Asked (Some old) who call result new = (s : Sleeping) × (new ≡ Some s) × Makes old who call result s
+Asked (Some old) who call result new = (s : Sleeping) × (new ≡ Some s) × MakesAndWakes old who call result s
 
 -- the number that C sees of a result
 abbrev pub error_of : Result Reply Refusal → ℕ
@@ -79,25 +80,25 @@ reply_in (Reply.Apc None) = plain_reply 6 0
 reply_in (Reply.Apc (Some apc)) = timed_reply (record (plain_reply 5 0) { routine = apc.routine; arg = apc.arg }) apc.at
 
 -- what C has of a result where it had another reply before: a refusal leaves that
-abbrev pub told_in : NtReply → Result Reply Refusal → NtReply
-told_in old (Ok reply) = reply_in reply
-told_in old (Err refusal) = old
+abbrev pub reply_after : NtReply → Result Reply Refusal → NtReply
+reply_after old (Ok reply) = reply_in reply
+reply_after old (Err refusal) = old
 
 -- a call of which C sees the number and the reply
-abbrev pub Answers : Nt → ℕ → Call → ℕ → NtReply → NtReply → Nt → Type 0
-Answers old who call number before after new =
+abbrev pub AnswersCall : Nt → ℕ → Call → ℕ → NtReply → NtReply → Nt → Type 0
+AnswersCall old who call number before after new =
     (result : Result Reply Refusal)
     × Asked old.cell.held who call result new.cell.held
     × (number ≡ error_of result)
-    × (after ≡ told_in before result)
+    × (after ≡ reply_after before result)
 
 -- an act of which C sees the number and the reply
 abbrev pub Acts : Nt → ℕ → Act → ℕ → NtReply → NtReply → Nt → Type 0
-Acts old who act number before after new = Answers old who (Call.Act act) number before after new
+Acts old who act number before after new = AnswersCall old who (Call.Act act) number before after new
 
 -- a wait of which C sees the number and the reply
 abbrev pub WaitsWith : Nt → ℕ → WaitCall → ℕ → NtReply → NtReply → Nt → Type 0
-WaitsWith old who wait number before after new = Answers old who (Call.Wait wait) number before after new
+WaitsWith old who wait number before after new = AnswersCall old who (Call.Wait wait) number before after new
 
 -- ---- a tick
 
@@ -121,7 +122,7 @@ abbrev pub Ticks : Nt → ℕ → ℕ → Nt → Type 0
 Ticks old m number new =
     MatchBool (nat_le m MAX_MOMENT)
     ((result : Result Reply Refusal) × TickAsked old.cell.held m result new.cell.held × (number ≡ error_of result))
-    ((number ≡ 87) × (new ≡ old))
+    ((number ≡ INVALID_PARAMETER) × (new ≡ old))
 
 -- ---- what C reads
 
@@ -135,14 +136,14 @@ Told A value number after = (number ≡ 0) × (after ≡ value)
 
 -- a number of the dispatcher is told, or 6 is answered where there is none
 abbrev pub Reads : (Dispatcher → ℕ) → Nt → ℕ → ℕ → ℕ → Type 0
-Reads value nt number before after = MatchOption nt.cell.held (Untold ℕ 6 number before after) (λ s. Told ℕ (value s.core) number after)
+Reads value nt number before after = MatchOption nt.cell.held (Untold ℕ INVALID_HANDLE number before after) (λ s. Told ℕ (value s.core) number after)
 
 -- whether the thread's wait pends is told, or 536870915 is answered where no thread has this number
 abbrev pub ReadsWaiting : ℕ → Nt → ℕ → Bool → Bool → Type 0
 ReadsWaiting thread nt number before after =
     MatchOption nt.cell.held
-    (Untold Bool 6 number before after)
-    (λ s. MatchBool (nat_le (state s.core).threads thread) (Untold Bool 0x20000003 number before after) (Told Bool (pends (state s.core) thread) number after))
+    (Untold Bool INVALID_HANDLE number before after)
+    (λ s. MatchBool (nat_le (state s.core).threads thread) (Untold Bool UNKNOWN_THREAD number before after) (Told Bool (pends (state s.core) thread) number after))
 
 -- a number, or 0 for none
 abbrev or_zero : Option ℕ → ℕ
@@ -157,12 +158,12 @@ wait_in wait = record { count = length wait.objects; all = wait.all; alertable =
 abbrev ReadsOfWait : (A : Type 0) → ℕ → (Wait → Option A) → Nt → ℕ → A → A → Type 0
 ReadsOfWait A thread part nt number before after =
     MatchOption nt.cell.held
-    (Untold A 6 number before after)
+    (Untold A INVALID_HANDLE number before after)
     (λ s. MatchBool (nat_le (state s.core).threads thread)
-    (Untold A 0x20000003 number before after)
+    (Untold A UNKNOWN_THREAD number before after)
     (MatchOption (map.get (state s.core).waits thread)
-    (Untold A 259 number before after)
-    (λ wait. MatchOption (part wait) (Untold A 259 number before after) (λ value. Told A value number after))))
+    (Untold A NO_MORE number before after)
+    (λ wait. MatchOption (part wait) (Untold A NO_MORE number before after) (λ value. Told A value number after))))
 
 -- the pending wait of the thread is told
 abbrev pub ReadsWait : ℕ → Nt → ℕ → NtPendingWait → NtPendingWait → Type 0
@@ -180,25 +181,25 @@ grant_in grant = record { thread = grant.thread; status = grant.status }
 abbrev pub ReadsGrant : ℕ → Nt → ℕ → NtGrant → NtGrant → Type 0
 ReadsGrant index nt number before after =
     MatchOption nt.cell.held
-    (Untold NtGrant 6 number before after)
-    (λ s. MatchOption (slice_get s.core.grants index) (Untold NtGrant 259 number before after) (λ grant. Told NtGrant (grant_in grant) number after))
+    (Untold NtGrant INVALID_HANDLE number before after)
+    (λ s. MatchOption (slice_get s.core.grants index) (Untold NtGrant NO_MORE number before after) (λ grant. Told NtGrant (grant_in grant) number after))
 
 -- the next moment up to m at which something is due is told, or 259 is answered where nothing is
 abbrev IsDueTold : Dispatcher → ℕ → ℕ → ℕ → ℕ → Type 0
 IsDueTold core m number before after =
-    ((number ≡ 0) × IsNextMoment (state core) m after) ⊎ (Untold ℕ 259 number before after × NothingDue (state core) m)
+    ((number ≡ 0) × IsNextMoment (state core) m after) ⊎ (Untold ℕ NO_MORE number before after × NothingDue (state core) m)
 
 -- the same through a handle; no moment is above the greatest
 abbrev pub ReadsDue : ℕ → Nt → ℕ → ℕ → ℕ → Type 0
 ReadsDue m nt number before after =
     MatchBool (nat_le m MAX_MOMENT)
-    (MatchOption nt.cell.held (Untold ℕ 6 number before after) (λ s. IsDueTold s.core m number before after))
-    (Untold ℕ 87 number before after)
+    (MatchOption nt.cell.held (Untold ℕ INVALID_HANDLE number before after) (λ s. IsDueTold s.core m number before after))
+    (Untold ℕ INVALID_PARAMETER number before after)
 
 -- ---- dispatchers come and go
 
 -- a dispatcher for so many threads as it is at first: nothing was called, and nobody sleeps
-pub record IsOpening (spare : Option Spares) (threads : ℕ) (s : Sleeping) : Type 0 where
+pub record IsNewDispatcher (spare : Option Spares) (threads : ℕ) (s : Sleeping) : Type 0 where
   pub spare_is : s.spare ≡ spare
   pub state_is : state s.core ≡ opening threads
   pub grants : s.core.grants ≡ []
@@ -209,33 +210,33 @@ pub record IsOpening (spare : Option Spares) (threads : ℕ) (s : Sleeping) : Ty
 
 -- a dispatcher for so many threads, of whom none sleeps, is opened where there is none; refused with 87 where there is one, and for no
 -- thread or more than `most`, and with 8 where memory is refused
-abbrev pub Opens : ℕ → Option Spares → Option Sleeping → ℕ → ℕ → Option Sleeping → Type 0
-Opens most spare (Some old) threads number new = (number ≡ 87) × (new ≡ Some old)
-Opens most spare None threads number new =
-    ((s : Sleeping) × (new ≡ Some s) × (number ≡ 0) × (1 ≤ threads) × (threads ≤ most) × IsOpening spare threads s)
-    ⊎ ((new ≡ None) × MatchBool (nat_le 1 threads && nat_le threads most) (number ≡ 8) (number ≡ 87))
+abbrev pub OpensHandle : ℕ → Option Spares → Option Sleeping → ℕ → ℕ → Option Sleeping → Type 0
+OpensHandle most spare (Some old) threads number new = (number ≡ INVALID_PARAMETER) × (new ≡ Some old)
+OpensHandle most spare None threads number new =
+    ((s : Sleeping) × (new ≡ Some s) × (number ≡ 0) × (1 ≤ threads) × (threads ≤ most) × IsNewDispatcher spare threads s)
+    ⊎ ((new ≡ None) × MatchBool (nat_le 1 threads && nat_le threads most) (number ≡ OUT_OF_MEMORY) (number ≡ INVALID_PARAMETER))
 
 -- an equal dispatcher comes to where there was none; refused with 6 where there is nothing to copy, with 87 where there is one
 -- already, and with 8 where memory is refused
 abbrev pub Copies : Option Sleeping → Option Sleeping → ℕ → Option Sleeping → Type 0
-Copies None to number new = (number ≡ 6) × (new ≡ to)
-Copies (Some s) (Some to) number new = (number ≡ 87) × (new ≡ Some to)
-Copies (Some s) None number new = ((number ≡ 0) × (new ≡ Some s)) ⊎ ((number ≡ 8) × (new ≡ None))
+Copies None to number new = (number ≡ INVALID_HANDLE) × (new ≡ to)
+Copies (Some s) (Some to) number new = (number ≡ INVALID_PARAMETER) × (new ≡ Some to)
+Copies (Some s) None number new = ((number ≡ 0) × (new ≡ Some s)) ⊎ ((number ≡ OUT_OF_MEMORY) × (new ≡ None))
 
 -- ---- threads that begin
 
 -- a thread begins in the place of one that has ended, and its number and that of its handle are told; or none does, and 259 is answered
-pub record Begins (old : Sleeping) (number : ℕ) (before after : NtBegun) (new : Sleeping) : Type 0 where
+pub record BeginsThread (old : Sleeping) (number : ℕ) (before after : NtBegun) (new : Sleeping) : Type 0 where
   pub begun : Option Begun
   pub begins : MayBegin (state old.core) old.spare begun new.core.grants (state new.core)
   pub lawful : IsLawful new.core
   pub sleeps : LetsSleep old new
-  pub told : MatchOption begun (Untold NtBegun 259 number before after) (λ b. Told NtBegun (record { thread = b.thread; handle = b.handle }) number after)
+  pub told : MatchOption begun (Untold NtBegun NO_MORE number before after) (λ b. Told NtBegun (record { thread = b.thread; handle = b.handle }) number after)
 
 -- the same of what the handle holds
 abbrev pub BeginsIn : Option Sleeping → ℕ → NtBegun → NtBegun → Option Sleeping → Type 0
-BeginsIn None number before after new = Untold NtBegun 6 number before after × (new ≡ None)
-BeginsIn (Some old) number before after new = (s : Sleeping) × (new ≡ Some s) × Begins old number before after s
+BeginsIn None number before after new = Untold NtBegun INVALID_HANDLE number before after × (new ≡ None)
+BeginsIn (Some old) number before after new = (s : Sleeping) × (new ≡ Some s) × BeginsThread old number before after s
 
 -- ---- threads that have ended
 
@@ -254,7 +255,7 @@ pub record PutsAside (old : Sleeping) (t number : ℕ) (new : Sleeping) : Type 0
 
 -- the same of what the handle holds
 abbrev pub PutsAsideIn : Option Sleeping → ℕ → ℕ → Option Sleeping → Type 0
-PutsAsideIn None t number new = (number ≡ 6) × (new ≡ None)
+PutsAsideIn None t number new = (number ≡ INVALID_HANDLE) × (new ≡ None)
 PutsAsideIn (Some old) t number new = (s : Sleeping) × (new ≡ Some s) × PutsAside old t number s
 
 -- ---- numbers are given again from now on
@@ -273,5 +274,5 @@ pub record GivesAgain (old : Sleeping) (number : ℕ) (new : Sleeping) : Type 0 
 
 -- the same of what the handle holds
 abbrev pub GivesAgainIn : Option Sleeping → ℕ → Option Sleeping → Type 0
-GivesAgainIn None number new = (number ≡ 6) × (new ≡ None)
+GivesAgainIn None number new = (number ≡ INVALID_HANDLE) × (new ≡ None)
 GivesAgainIn (Some old) number new = (s : Sleeping) × (new ≡ Some s) × GivesAgain old number s

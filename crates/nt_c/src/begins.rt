@@ -3,7 +3,7 @@ ghost use Rattle.std.specs.Prelude.{◌≡◌};
 ghost use Rattle.nt_c.specs.Asks.{IsFit, BeginsIn, PutsAsideIn, aside_error};
 
 use crate::handle::Nt;
-use crate::numbers::{NO_DISPATCHER, NO_MORE};
+use crate::numbers::{INVALID_HANDLE, NO_MORE};
 use nt_status::{ObjectNumber, Refusal};
 
 /// A thread that began: its number, by which it calls, and its own handle.
@@ -26,7 +26,7 @@ pub extern "C" fn nt_begin(nt: &mut Nt, out: &mut NtBegun) -> u32
     ensures begins { BeginsIn nt.old.cell.held result out.old out.new nt.new.cell.held }
 {
     if !nt.live {
-        return NO_DISPATCHER;
+        return INVALID_HANDLE;
     }
     let Some(begun) = nt.cell.held_mut().begin() else {
         return NO_MORE;
@@ -60,7 +60,7 @@ pub extern "C" fn nt_set_aside(nt: &mut Nt, thread: u32) -> u32
     ensures aside { PutsAsideIn nt.old.cell.held thread result nt.new.cell.held }
 {
     if !nt.live {
-        return NO_DISPATCHER;
+        return INVALID_HANDLE;
     }
     error_of(nt.cell.held_mut().set_aside(thread))
 }

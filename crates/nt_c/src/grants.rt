@@ -2,7 +2,7 @@
 ghost use Rattle.nt_c.specs.Asks.{IsFit, Keeps, ReadsGrant};
 
 use crate::handle::Nt;
-use crate::numbers::{NO_DISPATCHER, NO_MORE};
+use crate::numbers::{INVALID_HANDLE, NO_MORE};
 
 /// A wait that ended: its thread and its status.
 #[repr(C)]
@@ -23,7 +23,7 @@ pub extern "C" fn nt_grant(nt: &mut Nt, index: usize, out: &mut NtGrant) -> u32
     ensures reads { ReadsGrant index nt.old result out.old out.new }
 {
     if !nt.live {
-        return NO_DISPATCHER;
+        return INVALID_HANDLE;
     }
     let Some(grant) = nt.cell.held_mut().core().grants().get(index) else {
         return NO_MORE;

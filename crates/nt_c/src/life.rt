@@ -4,10 +4,10 @@ ghost use Rattle.nt_life.specs.Lasting.{no_spares};
 ghost use Rattle.nt_status.specs.declared.limits.TheConstants.{MAX_MANY_THREADS, MAX_THREADS};
 ghost use Rattle.std.specs.Mem.{type_size};
 ghost use Rattle.nt_sleepers.specs.contracts.sleepers.Sleepers.{the_row as sleepers_row};
-ghost use Rattle.nt_c.specs.Asks.{IsFit, Keeps, Opens, Copies, GivesAgainIn, done_error};
+ghost use Rattle.nt_c.specs.Asks.{IsFit, Keeps, OpensHandle, Copies, GivesAgainIn, done_error};
 
 use crate::handle::Nt;
-use crate::numbers::{INVALID_PARAMETER, NO_DISPATCHER};
+use crate::numbers::{INVALID_HANDLE, INVALID_PARAMETER};
 use nt_sleepers::Sleepers;
 use nt_status::Refusal;
 use std::alloc::Global;
@@ -27,7 +27,7 @@ pub extern "C" fn nt_room() -> usize
 pub extern "C" fn nt_open(alloc: Global, nt: &mut Nt, threads: u32) -> u32
     requires fit { IsFit nt.old }
     ensures fit { IsFit nt.new }
-    ensures opens { Opens MAX_THREADS None nt.old.cell.held threads result nt.new.cell.held }
+    ensures opens { OpensHandle MAX_THREADS None nt.old.cell.held threads result nt.new.cell.held }
 {
     if nt.live {
         return INVALID_PARAMETER;
@@ -48,7 +48,7 @@ pub extern "C" fn nt_open(alloc: Global, nt: &mut Nt, threads: u32) -> u32
 pub extern "C" fn nt_open_lasting(alloc: Global, nt: &mut Nt, threads: u32) -> u32
     requires fit { IsFit nt.old }
     ensures fit { IsFit nt.new }
-    ensures opens { Opens MAX_MANY_THREADS (Some no_spares) nt.old.cell.held threads result nt.new.cell.held }
+    ensures opens { OpensHandle MAX_MANY_THREADS (Some no_spares) nt.old.cell.held threads result nt.new.cell.held }
 {
     if nt.live {
         return INVALID_PARAMETER;
@@ -84,7 +84,7 @@ pub extern "C" fn nt_give_again(alloc: Global, nt: &mut Nt) -> u32
     ensures gives { GivesAgainIn nt.old.cell.held result nt.new.cell.held }
 {
     if !nt.live {
-        return NO_DISPATCHER;
+        return INVALID_HANDLE;
     }
     error_of(nt.cell.held_mut().give_again(alloc))
 }
@@ -102,7 +102,7 @@ pub extern "C" fn nt_copy(nt: &mut Nt, to: &mut Nt) -> u32
     ensures copies { Copies nt.old.cell.held to.old.cell.held result to.new.cell.held }
 {
     if !nt.live {
-        return NO_DISPATCHER;
+        return INVALID_HANDLE;
     }
     if to.live {
         return INVALID_PARAMETER;

@@ -4,10 +4,10 @@ ghost use Rattle.nt_calls.specs.Steps.{IsNextMoment, NothingDue};
 ghost use Rattle.nt_core.specs.Dispatcher.{state};
 ghost use Rattle.nt_look.specs.Hangs.{unmarked, IsStuck};
 ghost use Rattle.nt_c.specs.Asks.{IsFit, Keeps};
-ghost use Rattle.nt_c.specs.Looks.{plain_object, owned_in, armed_in, object_in, IsWhy, ReadsNumbered, ReadsOpened, ReadsWhy};
+ghost use Rattle.nt_c.specs.Looks.{plain_object, owned_in, armed_in, object_for_c, IsWhy, ReadsNumbered, ReadsOpened, ReadsWhy};
 
 use crate::handle::Nt;
-use crate::numbers::{INVALID_PARAMETER, NO_DISPATCHER, NO_MORE, OUT_OF_MEMORY};
+use crate::numbers::{INVALID_HANDLE, INVALID_PARAMETER, NO_MORE, OUT_OF_MEMORY};
 use nt_core::Core;
 use nt_look::{greatest_knot, is_stuck};
 use nt_objects::{Armed, Object};
@@ -110,7 +110,7 @@ fn with_setting(object: NtObject, armed: Option<Armed>) -> NtObject
 
 /// The object in numbers.
 fn in_numbers(object: &Object) -> NtObject
-    ensures { result ≡ object_in object.now }
+    ensures { result ≡ object_for_c object.now }
 {
     match *object {
         Object::Gone => plain(0),
@@ -162,7 +162,7 @@ pub extern "C" fn nt_object(nt: &mut Nt, object: u32, out: &mut NtObject) -> u32
     ensures reads { ReadsNumbered object nt.old result out.old out.new }
 {
     if !nt.live {
-        return NO_DISPATCHER;
+        return INVALID_HANDLE;
     }
     let core = nt.cell.held_mut().core();
     let Some(found) = core.objects().get(object as usize) else {
@@ -181,10 +181,10 @@ pub extern "C" fn nt_opened(nt: &mut Nt, handle: u32, out: &mut NtOpened) -> u32
     ensures reads { ReadsOpened handle nt.old result out.old out.new }
 {
     if !nt.live {
-        return NO_DISPATCHER;
+        return INVALID_HANDLE;
     }
     let Some(opened) = nt.cell.held_mut().core().opened(Handle::new(handle)) else {
-        return NO_DISPATCHER;
+        return INVALID_HANDLE;
     };
     *out = NtOpened {
         object: opened.object.get(),
@@ -256,7 +256,7 @@ pub extern "C" fn nt_why(
         return INVALID_PARAMETER;
     };
     if !nt.live {
-        return NO_DISPATCHER;
+        return INVALID_HANDLE;
     }
     let core = nt.cell.held_mut().core();
     if knot.len() != core.threads() as usize {

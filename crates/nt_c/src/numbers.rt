@@ -1,7 +1,7 @@
 //! The numbers of errors that no call of the machine answers, or not for this cause.
 
-/// ERROR_INVALID_HANDLE: the handle has no dispatcher.
-pub(crate) const NO_DISPATCHER: u32 = 6;
+/// ERROR_INVALID_HANDLE: the handle has no dispatcher, or what is asked about has no such object.
+pub(crate) const INVALID_HANDLE: u32 = 6;
 
 /// ERROR_INVALID_PARAMETER.
 pub(crate) const INVALID_PARAMETER: u32 = 87;

@@ -1,7 +1,7 @@
 //! Handles, and threads that end.
 ghost use Rattle.nt_calls.specs.declared.call.Act.{Act};
 ghost use Rattle.nt_calls.specs.declared.call.Call.{Call};
-ghost use Rattle.nt_c.specs.Asks.{IsFit, Acts, Answers};
+ghost use Rattle.nt_c.specs.Asks.{IsFit, Acts, AnswersCall};
 
 use crate::handle::Nt;
 use crate::reply::{NtReply, tell};
@@ -44,7 +44,7 @@ pub extern "C" fn nt_close_handle(nt: &mut Nt, who: u32, handle: u32, out: &mut 
 pub extern "C" fn nt_exit(nt: &mut Nt, who: u32, out: &mut NtReply) -> u32
     requires fit { IsFit nt.old }
     ensures fit { IsFit nt.new }
-    ensures answers { Answers nt.old who Call.Exit result out.old out.new nt.new }
+    ensures answers { AnswersCall nt.old who Call.Exit result out.old out.new nt.new }
 {
     tell(nt.ask(who, &Call::Exit), out)
 }

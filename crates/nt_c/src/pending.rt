@@ -3,7 +3,7 @@ ghost use Rattle.std.specs.Prelude.{◌≡◌};
 ghost use Rattle.nt_c.specs.Asks.{IsFit, Keeps, ReadsWait, ReadsObject, wait_in};
 
 use crate::handle::Nt;
-use crate::numbers::{NO_DISPATCHER, NO_MORE, UNKNOWN_THREAD};
+use crate::numbers::{INVALID_HANDLE, NO_MORE, UNKNOWN_THREAD};
 use nt_waits::Wait;
 
 /// A pending wait: how many objects it names, 0 of a sleep, and its mode.
@@ -48,7 +48,7 @@ pub extern "C" fn nt_waits_for(nt: &mut Nt, thread: u32, out: &mut NtPendingWait
     ensures reads { ReadsWait thread nt.old result out.old out.new }
 {
     if !nt.live {
-        return NO_DISPATCHER;
+        return INVALID_HANDLE;
     }
     let core = nt.cell.held_mut().core();
     if core.threads() <= thread {
@@ -72,7 +72,7 @@ pub extern "C" fn nt_waited_object(nt: &mut Nt, thread: u32, index: usize, out: 
     ensures reads { ReadsObject thread index nt.old result out.old out.new }
 {
     if !nt.live {
-        return NO_DISPATCHER;
+        return INVALID_HANDLE;
     }
     let core = nt.cell.held_mut().core();
     if core.threads() <= thread {

@@ -4,7 +4,7 @@ ghost use Rattle.nt_core.specs.Dispatcher.{state};
 ghost use Rattle.nt_c.specs.Asks.{IsFit, Keeps, Reads, ReadsDue, ReadsWaiting, Ticks};
 
 use crate::handle::Nt;
-use crate::numbers::{INVALID_PARAMETER, NO_DISPATCHER, NO_MORE, UNKNOWN_THREAD};
+use crate::numbers::{INVALID_HANDLE, INVALID_PARAMETER, NO_MORE, UNKNOWN_THREAD};
 use nt_status::Moment;
 
 /// Lets the moments up to `m` pass, in units of 100 ns.
@@ -34,7 +34,7 @@ pub extern "C" fn nt_now(nt: &mut Nt, out: &mut u64) -> u32
     ensures reads { Reads (λ core. (state core).now) nt.old result out.old out.new }
 {
     if !nt.live {
-        return NO_DISPATCHER;
+        return INVALID_HANDLE;
     }
     *out = nt.cell.held_mut().core().now().get();
     0
@@ -54,7 +54,7 @@ pub extern "C" fn nt_due(nt: &mut Nt, m: u64, out: &mut u64) -> u32
         return INVALID_PARAMETER;
     };
     if !nt.live {
-        return NO_DISPATCHER;
+        return INVALID_HANDLE;
     }
     let Some(moment) = nt.cell.held_mut().core().due(up_to) else {
         return NO_MORE;
@@ -72,7 +72,7 @@ pub extern "C" fn nt_threads(nt: &mut Nt, out: &mut u32) -> u32
     ensures reads { Reads (λ core. (state core).threads) nt.old result out.old out.new }
 {
     if !nt.live {
-        return NO_DISPATCHER;
+        return INVALID_HANDLE;
     }
     *out = nt.cell.held_mut().core().threads();
     0
@@ -87,7 +87,7 @@ pub extern "C" fn nt_pending(nt: &mut Nt, out: &mut usize) -> u32
     ensures reads { Reads (λ core. map.len (state core).waits) nt.old result out.old out.new }
 {
     if !nt.live {
-        return NO_DISPATCHER;
+        return INVALID_HANDLE;
     }
     *out = nt.cell.held_mut().core().pending();
     0
@@ -102,7 +102,7 @@ pub extern "C" fn nt_tested(nt: &mut Nt, out: &mut u64) -> u32
     ensures reads { Reads (λ core. core.table.looked) nt.old result out.old out.new }
 {
     if !nt.live {
-        return NO_DISPATCHER;
+        return INVALID_HANDLE;
     }
     *out = nt.cell.held_mut().core().tested();
     0
@@ -119,7 +119,7 @@ pub extern "C" fn nt_is_waiting(nt: &mut Nt, thread: u32, out: &mut bool) -> u32
     ensures reads { ReadsWaiting thread nt.old result out.old out.new }
 {
     if !nt.live {
-        return NO_DISPATCHER;
+        return INVALID_HANDLE;
     }
     let core = nt.cell.held_mut().core();
     if core.threads() <= thread {

@@ -1,6 +1,6 @@
 //! What a call tells C.
 ghost use Rattle.std.specs.Prelude.{◌≡◌, pos, false};
-ghost use Rattle.nt_c.specs.Asks.{error_of, told_in, reply_in};
+ghost use Rattle.nt_c.specs.Asks.{error_of, reply_after, reply_in};
 
 use nt_core::Reply;
 use nt_status::Refusal;
@@ -73,7 +73,7 @@ fn in_numbers(reply: &Reply) -> NtReply
 #[inline(always)]
 pub(crate) fn tell(asked: Result<Reply, Refusal>, out: &mut NtReply) -> u32
     ensures number { result ≡ error_of asked }
-    ensures reply { out.new ≡ told_in out.old asked }
+    ensures reply { out.new ≡ reply_after out.old asked }
 {
     match asked {
         Ok(reply) => {

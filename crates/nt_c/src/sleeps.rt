@@ -1,10 +1,10 @@
 //! Those who sleep, as C sees them.
 ghost use Rattle.std.specs.Prelude.{◌≡◌};
 ghost use Rattle.nt_c.specs.Asks.{IsFit, Keeps};
-ghost use Rattle.nt_c.specs.Sleeps.{FallsAsleep, ReadsTold, Sleeps, Wakes, told_in_numbers};
+ghost use Rattle.nt_c.specs.Sleeps.{FallsAsleep, ReadsTold, Sleeps, WakesThread, told_in_numbers};
 
 use crate::handle::Nt;
-use crate::numbers::{NO_DISPATCHER, NO_MORE, UNKNOWN_THREAD};
+use crate::numbers::{INVALID_HANDLE, NO_MORE, UNKNOWN_THREAD};
 use nt_sleepers::{Sleepers, Told};
 
 /// What a thread is told while it sleeps: that its wait ended with this status, or, where it is called, that it is to look at the time.
@@ -57,7 +57,7 @@ pub extern "C" fn nt_pend(nt: &mut Nt, who: u32, watches: bool, out: &mut u64) -
     ensures falls_asleep { FallsAsleep watches who nt.old result out.old out.new nt.new }
 {
     if !nt.live {
-        return NO_DISPATCHER;
+        return INVALID_HANDLE;
     }
     let sleepers = nt.cell.held_mut();
     if sleepers.core().threads() <= who {
@@ -77,10 +77,10 @@ pub extern "C" fn nt_pend(nt: &mut Nt, who: u32, watches: bool, out: &mut u64) -
 pub extern "C" fn nt_woke(nt: &mut Nt, who: u32) -> u32
     requires fit { IsFit nt.old }
     ensures fit { IsFit nt.new }
-    ensures wakes { Wakes who nt.old result nt.new }
+    ensures wakes { WakesThread who nt.old result nt.new }
 {
     if !nt.live {
-        return NO_DISPATCHER;
+        return INVALID_HANDLE;
     }
     let sleepers = nt.cell.held_mut();
     if sleepers.core().threads() <= who {
@@ -101,7 +101,7 @@ pub extern "C" fn nt_told(nt: &mut Nt, index: usize, out: &mut NtTold) -> u32
     ensures reads { ReadsTold index nt.old result out.old out.new }
 {
     if !nt.live {
-        return NO_DISPATCHER;
+        return INVALID_HANDLE;
     }
     let Some(told) = nt.cell.held_mut().told(index) else {
         return NO_MORE;

@@ -8,9 +8,9 @@ use Rattle.nt_waits.specs.declared.wait.Wait.{Wait}
 use Rattle.nt_objects.specs.declared.object.Object.{Object}
 use Rattle.nt_objects.specs.Object.{signaled}
 use Rattle.nt_calls.specs.State.{object_at}
-use Rattle.nt_calls.specs.Serving.{is_ready, has_mark, least, status, status_at, take_at, take_each, IsTried}
+use Rattle.nt_calls.specs.Serving.{is_ready, is_abandoned_at, least, status, status_at, take_at, take_each, IsTried}
 
-pub tried_any : (old new : List Object) (t : ℕ) (w : Wait) (ended : ℕ) → w.all ≡ false → list_any (is_ready old t) w.objects ≡ true → ended ≡ status_at (has_mark old (get_or w.objects (least old t w) 0)) (least old t w) → new ≡ take_at old t (get_or w.objects (least old t w) 0) → IsTried old new t w (Some ended)
+pub tried_any : (old new : List Object) (t : ℕ) (w : Wait) (ended : ℕ) → w.all ≡ false → list_any (is_ready old t) w.objects ≡ true → ended ≡ status_at (is_abandoned_at old (get_or w.objects (least old t w) 0)) (least old t w) → new ≡ take_at old t (get_or w.objects (least old t w) 0) → IsTried old new t w (Some ended)
 tried_any old new t w ended any ready status taken = (rw any ready, status ∙ rw any refl, taken ∙ rw any refl)
 
 -- ---- taking one after another

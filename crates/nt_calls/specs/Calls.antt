@@ -10,11 +10,18 @@ abbrev pub act_grows : Act → Bool
 act_grows (Act.CreateEvent flags) = true
 act_grows (Act.CreateSemaphore initial maximum) = true
 act_grows (Act.CreateMutex flags) = true
+act_grows (Act.SetEvent event) = false
+act_grows (Act.ResetEvent event) = false
+act_grows (Act.PulseEvent event) = false
+act_grows (Act.ReleaseSemaphore semaphore count) = false
+act_grows (Act.ReleaseMutex mutex) = false
 act_grows (Act.CreateTimer flags) = true
-act_grows (Act.Duplicate h access) = true
 act_grows (Act.SetTimer timer due period routine) = is_some routine
+act_grows (Act.CancelTimer timer) = false
 act_grows (Act.QueueApc thread routine arg) = true
-act_grows _ = false
+act_grows Act.NextApc = false
+act_grows (Act.Duplicate h access) = true
+act_grows (Act.Close h) = false
 
 -- the timeout that a waiting call names, in milliseconds
 abbrev pub timeout_of : WaitCall → ℕ

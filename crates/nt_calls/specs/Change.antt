@@ -150,7 +150,8 @@ act_change s t (Act.Close h) = handle_closed s h
 
 abbrev pub wait_change : State → WaitCall → State
 wait_change s (WaitCall.Swap h object ms alertable) = at s h signal
-wait_change s _ = s
+wait_change s (WaitCall.Objects all alertable ms named) = s
+wait_change s (WaitCall.Sleep ms alertable) = s
 
 -- what a call changes before waits are served
 abbrev pub change : State → ℕ → Call → State
@@ -163,8 +164,15 @@ abbrev pub act_reply : State → ℕ → Act → Reply
 act_reply s t (Act.CreateEvent flags) = Reply.Handle (length s.handles)
 act_reply s t (Act.CreateSemaphore initial maximum) = Reply.Handle (length s.handles)
 act_reply s t (Act.CreateMutex flags) = Reply.Handle (length s.handles)
-act_reply s t (Act.CreateTimer flags) = Reply.Handle (length s.handles)
-act_reply s t (Act.Duplicate object access) = Reply.Handle (length s.handles)
+act_reply s t (Act.SetEvent h) = Reply.Done
+act_reply s t (Act.ResetEvent h) = Reply.Done
+act_reply s t (Act.PulseEvent h) = Reply.Done
 act_reply s t (Act.ReleaseSemaphore h n) = Reply.Previous (count_of (object_at s.objects h))
+act_reply s t (Act.ReleaseMutex h) = Reply.Done
+act_reply s t (Act.CreateTimer flags) = Reply.Handle (length s.handles)
+act_reply s t (Act.SetTimer h due period routine) = Reply.Done
+act_reply s t (Act.CancelTimer h) = Reply.Done
+act_reply s t (Act.QueueApc h routine arg) = Reply.Done
 act_reply s t Act.NextApc = apc_answered s t
-act_reply s t _ = Reply.Done
+act_reply s t (Act.Duplicate object access) = Reply.Handle (length s.handles)
+act_reply s t (Act.Close h) = Reply.Done

@@ -32,19 +32,23 @@ lacks access handles h = not (has_flag (access_in (opened_at handles h)) access)
 
 -- ---- a call with the numbers of the objects in the place of their handles
 
--- the act, with the numbers of the objects in the place of their handles
+-- the act, with the numbers of the objects in the place of their handles; creations name nothing, and Close is about the handle itself
 abbrev pub act_named : List (Option Opened) → Act → Act
+act_named handles (Act.CreateEvent flags) = Act.CreateEvent flags
+act_named handles (Act.CreateSemaphore initial maximum) = Act.CreateSemaphore initial maximum
+act_named handles (Act.CreateMutex flags) = Act.CreateMutex flags
 act_named handles (Act.SetEvent h) = Act.SetEvent (object_named handles h)
 act_named handles (Act.ResetEvent h) = Act.ResetEvent (object_named handles h)
 act_named handles (Act.PulseEvent h) = Act.PulseEvent (object_named handles h)
 act_named handles (Act.ReleaseSemaphore h n) = Act.ReleaseSemaphore (object_named handles h) n
 act_named handles (Act.ReleaseMutex h) = Act.ReleaseMutex (object_named handles h)
+act_named handles (Act.CreateTimer flags) = Act.CreateTimer flags
 act_named handles (Act.SetTimer h due period routine) = Act.SetTimer (object_named handles h) due period routine
 act_named handles (Act.CancelTimer h) = Act.CancelTimer (object_named handles h)
 act_named handles (Act.QueueApc h routine arg) = Act.QueueApc (object_named handles h) routine arg
+act_named handles Act.NextApc = Act.NextApc
 act_named handles (Act.Duplicate h access) = Act.Duplicate (object_named handles h) access
--- creations name nothing, and Close is about the handle itself
-act_named handles act = act
+act_named handles (Act.Close h) = Act.Close h
 
 -- the wait, with the numbers of the objects in the place of their handles
 abbrev pub wait_named : List (Option Opened) → WaitCall → WaitCall

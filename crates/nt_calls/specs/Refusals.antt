@@ -173,12 +173,10 @@ refusal s who denied call = first_of_causes (causes s who denied call)
 abbrev pub would_pend : State → ℕ → Wait → ℕ → Bool
 would_pend s t w ms = not (fits s.objects t w) && not (w.alertable && has_apc s.apcs t) && not (ms == 0)
 
--- whether a call may want memory: an act that may, a wait that would pend, and a swap with a timeout other than 0, since it makes
--- the room for its wait before it signals
+-- whether a call may want memory: an act that may, and a wait that would pend, unless it names one object: for such a wait, as of a swap, there is room
 abbrev pub grows : State → ℕ → Call → Bool
 grows s t (Call.Act act) = act_grows act
-grows s t (Call.Wait (WaitCall.Swap h object ms alertable)) = not (ms == 0)
-grows s t (Call.Wait wait) = would_pend s t (wait_of s.now wait) (timeout_of wait)
+grows s t (Call.Wait wait) = would_pend s t (wait_of s.now wait) (timeout_of wait) && not (length (wait_of s.now wait).objects == 1)
 grows s t Call.Exit = false
 
 -- out of memory is the last cause, of the calls that may take memory

@@ -14,15 +14,21 @@ use Rattle.nt_calls.specs.State.{State, object_at}
 -- an act is denied where its handle lacks a right that the act needs; ReleaseMutex and Close need none,
 -- and a duplicate those that it is to have
 abbrev pub act_denied : List (Option Opened) → Act → Bool
+act_denied handles (Act.CreateEvent flags) = false
+act_denied handles (Act.CreateSemaphore initial maximum) = false
+act_denied handles (Act.CreateMutex flags) = false
 act_denied handles (Act.SetEvent h) = lacks modify_state handles h
 act_denied handles (Act.ResetEvent h) = lacks modify_state handles h
 act_denied handles (Act.PulseEvent h) = lacks modify_state handles h
 act_denied handles (Act.ReleaseSemaphore h n) = lacks modify_state handles h
+act_denied handles (Act.ReleaseMutex h) = false
+act_denied handles (Act.CreateTimer flags) = false
 act_denied handles (Act.SetTimer h due period routine) = lacks modify_state handles h
 act_denied handles (Act.CancelTimer h) = lacks modify_state handles h
 act_denied handles (Act.QueueApc h routine arg) = lacks set_context handles h
+act_denied handles Act.NextApc = false
 act_denied handles (Act.Duplicate h access) = lacks access handles h
-act_denied handles act = false
+act_denied handles (Act.Close h) = false
 
 -- to signal an event or a semaphore needs a right, to release a mutex none
 abbrev pub signal_denied : List (Option Opened) → List Object → ℕ → Bool

@@ -32,19 +32,19 @@ fits objects t w =
 abbrev pub least : List Object → ℕ → Wait → ℕ
 least objects t w = position_or_len (is_ready objects t) w.objects
 
--- whether the object of this number is a mutex with the mark
-abbrev pub has_mark : List Object → ℕ → Bool
-has_mark objects h = is_abandoned (object_at objects h)
+-- whether the object of this number is an abandoned mutex
+abbrev pub is_abandoned_at : List Object → ℕ → Bool
+is_abandoned_at objects h = is_abandoned (object_at objects h)
 
 abbrev pub status_at : Bool → ℕ → ℕ
-status_at marked i = if marked then abandoned_code i else object_code i
+status_at abandoned i = if abandoned then abandoned_code i else object_code i
 
 -- the status with which the objects end the wait
 abbrev pub status : List Object → ℕ → Wait → ℕ
 status objects t w =
     if w.all
-    then status_at (list_any (has_mark objects) w.objects) 0
-    else status_at (has_mark objects (slice_index w.objects (least objects t w))) (least objects t w)
+    then status_at (list_any (is_abandoned_at objects) w.objects) 0
+    else status_at (is_abandoned_at objects (slice_index w.objects (least objects t w))) (least objects t w)
 
 -- the objects once t has taken the one of this number
 abbrev pub take_at : List Object → ℕ → ℕ → List Object

@@ -54,7 +54,7 @@ pub enum Act {
 }
 
 /// A call that may pend. Timeouts are in milliseconds; `INFINITE` has no deadline.
-#[derive(Debug, Drop)]
+#[derive(Debug)]
 pub enum WaitCall {
     /// WaitForMultipleObjectsEx: for any of the objects, or for all.
     Objects {
@@ -75,6 +75,30 @@ pub enum WaitCall {
         ms: u32,
         alertable: bool,
     },
+}
+
+/// Written by hand, so that whoever lets a wait go has one function to call, and nothing to prove of its handles.
+impl Drop for WaitCall {
+    fn drop(self) {
+        match self {
+            WaitCall::Objects {
+                all: _,
+                alertable: _,
+                ms: _,
+                handles: _,
+            } => {}
+            WaitCall::Sleep {
+                ms: _,
+                alertable: _,
+            } => {}
+            WaitCall::Swap {
+                signal: _,
+                object: _,
+                ms: _,
+                alertable: _,
+            } => {}
+        }
+    }
 }
 
 /// The same call, with its handles in memory of its own.
@@ -116,12 +140,23 @@ impl Clone for WaitCall {
 }
 
 /// What a thread asks of the dispatcher.
-#[derive(Debug, Drop)]
+#[derive(Debug)]
 pub enum Call {
     Act(Act),
     Wait(WaitCall),
     /// The calling thread ends.
     Exit,
+}
+
+/// Written by hand, as that of a wait.
+impl Drop for Call {
+    fn drop(self) {
+        match self {
+            Call::Act(_) => {}
+            Call::Wait(_) => {}
+            Call::Exit => {}
+        }
+    }
 }
 
 /// The same call, so that it can be kept or made again.

@@ -4,7 +4,7 @@ ghost use Rattle.std.specs.List.{position, list_all, list_any, IsDistinct};
 ghost use Rattle.nt_objects.specs.declared.object.Object.{Object};
 ghost use Rattle.nt_objects.specs.Object.{has_room, is_abandoned, TellsAbandoned};
 ghost use Rattle.nt_calls.specs.State.{object_at};
-ghost use Rattle.nt_calls.specs.Serving.{is_ready, has_mark, status_at, take_at, take_each, wait_for, CanTake, IsTried};
+ghost use Rattle.nt_calls.specs.Serving.{is_ready, is_abandoned_at, status_at, take_at, take_each, wait_for, CanTake, IsTried};
 
 use nt_objects::{Object, Taken};
 use nt_owners::ObjectTable;
@@ -20,9 +20,9 @@ pub fn is_ready(objects: &[Object], thread: ThreadId, number: ObjectNumber) -> b
     }
 }
 
-/// Whether the object of this number is a mutex with the mark.
-fn has_mark(objects: &[Object], number: ObjectNumber) -> bool
-    ensures { result ≡ has_mark objects.now number }
+/// Whether the object of this number is an abandoned mutex.
+fn is_abandoned(objects: &[Object], number: ObjectNumber) -> bool
+    ensures { result ≡ is_abandoned_at objects.now number }
 {
     match objects.get(number.get() as usize) {
         Some(object) => object.is_abandoned(),
@@ -48,11 +48,11 @@ fn are_ready(objects: &[Object], thread: ThreadId, numbers: &[ObjectNumber]) -> 
         .all(|number| is_ready(objects, thread, *number))
 }
 
-/// Whether one of the objects is a mutex with the mark.
-fn have_mark(objects: &[Object], numbers: &[ObjectNumber]) -> bool
-    ensures { result ≡ list_any (has_mark objects.now) numbers.now }
+/// Whether one of the objects is an abandoned mutex.
+fn is_any_abandoned(objects: &[Object], numbers: &[ObjectNumber]) -> bool
+    ensures { result ≡ list_any (is_abandoned_at objects.now) numbers.now }
 {
-    numbers.iter().any(|number| has_mark(objects, *number))
+    numbers.iter().any(|number| is_abandoned(objects, *number))
 }
 
 /// How a wait ends that took the object at this place of it.
@@ -74,7 +74,7 @@ fn take_at(objects: &mut ObjectTable, thread: ThreadId, number: ObjectNumber, pl
     requires room { IsTrue (has_room (object_at objects.old.items number)) }
     requires known { thread < length objects.old.owned }
     ensures items { objects.new.items ≡ take_at objects.old.items thread number }
-    ensures status { result ≡ status_at (has_mark objects.old.items number) place }
+    ensures status { result ≡ status_at (is_abandoned_at objects.old.items number) place }
     ensures threads { length objects.new.owned ≡ length objects.old.owned }
 {
     status_of(objects.take(number, thread), place)
@@ -122,7 +122,7 @@ fn try_all(objects: &mut ObjectTable, thread: ThreadId, numbers: &[ObjectNumber]
     if numbers.is_empty() || !are_ready(objects.as_slice(), thread, numbers) {
         return None;
     }
-    let marked = have_mark(objects.as_slice(), numbers);
+    let marked = is_any_abandoned(objects.as_slice(), numbers);
     take_each(objects, thread, numbers);
     Some(if marked {
         Status::abandoned(0)

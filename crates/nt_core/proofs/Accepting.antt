@@ -1,17 +1,18 @@
 -- From the parts of an accepted call to the whole.
 use Rattle.std.proofs.Common.{◌≡◌, ◌<◌, ◌≤◌, ℕ, zero, suc, Bool, true, false, cond, List, [], ◌∷◌, length, refl, sym, ap, ◌∙◌, subst, arith, Option, Some, None, inl, inr, Contains}
-use Rattle.std.specs.Prelude.{slice_index, replicate}
+use Rattle.std.specs.Prelude.{slice_index, slice_index_or, replicate}
 use Rattle.std.specs.List.{filter}
 use Rattle.std.specs.FinMap as fin
 use Rattle.std.specs.Ordering.{nat_cmp}
 use Rattle.std.proofs.lemmas.Bool.{false≢true}
-use Rattle.std.proofs.lemmas.List.{append-nil, length-replicate}
+use Rattle.std.proofs.lemmas.List.{append-nil, length-replicate, get_or-replicate}
 use Rattle.nt_waits.specs.declared.wait.Wait.{Wait}
 use Rattle.nt_waits.specs.Waits.{Waits, Agrees, Names}
 use Rattle.nt_objects.specs.declared.object.Object.{Object}
 use Rattle.nt_objects.specs.declared.object.Object.TheVariants.{Thread}
 use Rattle.nt_objects.specs.Object.{due_of, setter_of, is_thread, taken, IsLawfulObject}
 use Rattle.nt_alarms.specs.Alarms.{alarm_at}
+use Rattle.nt_marks.specs.Marks.{is_marked}
 use Rattle.nt_apc.specs.Queues.{place_of}
 use Rattle.nt_status.specs.declared.limits.TheConstants.{MAX_MANY_THREADS, MAX_WAIT_OBJECTS}
 use Rattle.nt_calls.specs.declared.call.Call.{Call}
@@ -49,6 +50,9 @@ use Rattle.nt_core.proofs.Changing.{same_changed}
 use Rattle.nt_core.proofs.Walks.{get_removed}
 use Rattle.nt_core.proofs.Orders.{length-filter-le}
 use Rattle.nt_core.proofs.Keeping.{same_reading, due_taken}
+use Rattle.nt_core.proofs.Standings.{standing_free}
+use Rattle.nt_core.specs.declared.standing.Standing.TheVariants.{Free}
+use Rattle.nt_core.specs.Lawful.{StandingsAgree}
 
 pub ok_then : {A E : Type 0} (P Q : A → Type 0) → ((a : A) → P a → Q a) → (r : Result A E) → IfOk r P → IfOk r Q
 ok_then P Q then (Ok a) h = then a h
@@ -158,13 +162,22 @@ quiet_alarms zero h = refl
 quiet_alarms (suc n) zero = refl
 quiet_alarms (suc n) (suc h) = quiet_alarms n h
 
-pub opening_steady : (d : Dispatcher) → d.threads ≤ MAX_MANY_THREADS → d.handles ≡ own_handles d.threads (full_access (Thread false)) → d.objects ≡ replicate d.threads (Thread false) → d.table.pending ≡ fin.empty → Agrees d.table.pending d.table.queues → length d.handing ≡ d.threads → length d.apcs.queues ≡ d.threads → d.apcs.places ≡ [] → d.grants ≡ [] → d.alarms ≡ replicate d.threads None → d.leaving ≡ replicate d.threads None → d.marked.changed ≡ replicate d.threads None → d.marked.alerted ≡ replicate d.threads None → IsSteady d
-opening_steady d few handles objects waits agrees hands inboxes unplaced grants alarms leaving changed alerted = record {
+no_marks : (n h : ℕ) → is_marked (replicate n false) h ≡ false
+no_marks zero h = refl
+no_marks (suc n) zero = refl
+no_marks (suc n) (suc h) = no_marks n h
+
+never_marked : {P : Type 0} → false ≡ true → P
+never_marked e = (cc)
+
+pub opening_steady : (d : Dispatcher) → d.threads ≤ MAX_MANY_THREADS → d.handles ≡ own_handles d.threads (full_access (Thread false)) → d.objects ≡ replicate d.threads (Thread false) → d.table.pending ≡ fin.empty → Agrees d.table.pending d.table.queues → length d.handing ≡ d.threads → d.standings ≡ replicate d.threads Free → length d.apcs.queues ≡ d.threads → d.apcs.places ≡ [] → d.grants ≡ [] → d.alarms ≡ replicate d.threads None → d.leaving ≡ replicate d.threads false → d.marked.changed ≡ replicate d.threads false → d.marked.alerted ≡ replicate d.threads false → IsSteady d
+opening_steady d few handles objects waits agrees hands standings inboxes unplaced grants alarms leaving changed alerted = record {
   sound = record {
     few = few;
     waits = λ t w pends. nobody t w pends;
     blocks = agrees;
     hands = hands;
+    standings = free;
     inboxes = inboxes;
     objects = λ h. subst IsLawfulObject (sym (running h)) tt;
     own = λ t below. (let len : length d.objects ≡ d.threads = ap (λ os. length os) objects ∙ length-replicate d.threads (Thread false) in omega (arith, len, below), inl (ap is_thread (running t)));
@@ -179,8 +192,8 @@ opening_steady d few handles objects waits agrees hands inboxes unplaced grants 
     handles = subst (λ (hs : List (Option Opened)). HandlesAgree (length d.objects) hs) (sym handles) (handles_along (own_handles d.threads (full_access (Thread false))) (ap (λ os. length os) objects ∙ length-replicate d.threads (Thread false)) (own_agree d.threads (full_access (Thread false)) few));
     marks = marks_opening d objects leaving running;
     places = record {
-      changed = ap (λ marks. length marks) changed ∙ (length-replicate d.threads None ∙ sym (ap (λ os. length os) objects ∙ length-replicate d.threads (Thread false)));
-      alerted = ap (λ marks. length marks) alerted ∙ length-replicate d.threads None;
+      changed = ap (λ marks. length marks) changed ∙ (length-replicate d.threads false ∙ sym (ap (λ os. length os) objects ∙ length-replicate d.threads (Thread false)));
+      alerted = ap (λ marks. length marks) alerted ∙ length-replicate d.threads false;
     };
     room = let none : length d.grants ≡ 0 = ap (λ gs. length gs) grants in let empty : fin.len d.table.pending ≡ 0 = ap (λ m. fin.len m) waits ∙ fin.len-empty nat_cmp Wait in omega (arith, none, empty);
   };
@@ -190,8 +203,8 @@ opening_steady d few handles objects waits agrees hands inboxes unplaced grants 
     passed = not_due;
   };
   unmarked = record {
-    changed = λ place at. nobody_set 0 (sym (ap (λ marks. alarm_at marks place) changed ∙ quiet_alarms d.threads place) ∙ at);
-    alerted = λ place at. nobody_set 0 (sym (ap (λ marks. alarm_at marks place) alerted ∙ quiet_alarms d.threads place) ∙ at);
+    changed = λ place at. never_marked (sym (ap (λ marks. is_marked marks place) changed ∙ no_marks d.threads place) ∙ at);
+    alerted = λ place at. never_marked (sym (ap (λ marks. is_marked marks place) alerted ∙ no_marks d.threads place) ∙ at);
   };
 }
   where
@@ -203,6 +216,15 @@ opening_steady d few handles objects waits agrees hands inboxes unplaced grants 
 
     running : (h : ℕ) → object_at d.objects h ≡ Thread false
     running h = ap (λ os. object_at os h) objects ∙ object_at-replicate d.threads h
+
+    free : StandingsAgree d.threads d.objects d.table.pending d.standings
+    free = record {
+      count = ap (λ xs. length xs) standings ∙ length-replicate d.threads Free;
+      each = λ t below.
+          ap (λ xs. slice_index_or xs t Free) standings
+          ∙ (get_or-replicate d.threads t Free Free below
+          ∙ sym (standing_free d.objects d.table.pending t (ap has_ended (running t)) (ap (λ m. fin.get m t) waits ∙ fin.get-empty nat_cmp t)));
+    }
 
     unfit : (t : ℕ) (o : Option Wait) → fin.get d.table.pending t ≡ o → satisfied d.objects t o ≡ false
     unfit t None e = refl
@@ -225,6 +247,7 @@ told_anew d table steady is = subst (λ (v : Waits). IsFresh (record d { table =
       waits = steady.sound.waits;
       blocks = steady.sound.blocks;
       hands = steady.sound.hands;
+      standings = steady.sound.standings;
       inboxes = steady.sound.inboxes;
       objects = steady.sound.objects;
       own = steady.sound.own;

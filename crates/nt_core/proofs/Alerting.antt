@@ -24,7 +24,7 @@ use Rattle.nt_calls.specs.Steps.{NothingDue, IsAwaited}
 use Rattle.nt_core.specs.Lawful.{IsSound, IsSettled, IsSteady, MarksAgreeBut, IsUnmarked}
 use Rattle.nt_core.specs.Accepts.{is_by_objects, IsRoused, IsAlertedAfter, IsFresh, Accepts}
 use Rattle.nt_core.proofs.Marking.{marks_along, marks_ended}
-use Rattle.nt_core.proofs.Walks.{get_removed}
+use Rattle.nt_core.proofs.Walks.{get_removed, get_same, get_other}
 use Rattle.nt_core.proofs.Visiting.{state_same, len_removed}
 use Rattle.nt_core.proofs.Changing.{none_changed, same_changed}
 use Rattle.nt_core.proofs.Accepting.{IsCalm, accepted}
@@ -33,10 +33,12 @@ use Rattle.nt_calls.specs.Change.{change, may_take}
 use Rattle.nt_calls.specs.Steps.{after_serving, answered}
 use Rattle.std.specs.Prelude.{if◌then◌else◌}
 use Rattle.nt_status.proofs.Lists.{contains_none, contains_first, contains_cases}
+use Rattle.nt_core.proofs.Standings.{standings_set, standing_free}
+use Rattle.nt_core.specs.declared.standing.Standing.TheVariants.{Free}
 
 -- ---- one wait ends
 
-pub ended_sound : (old : Dispatcher) (table : Waits) (t code : ℕ) (may : Bool) (w : Wait) (grants : List Grant) (leaving : List (Option ℕ)) → IsSound old → Some w ≡ fin.get old.table.pending t → table.pending ≡ fin.remove old.table.pending t → Agrees table.pending table.queues → grants ≡ old.grants ++ ending code t ∷ [] → MarksAgreeBut [] (record old { table = table; handing = set old.handing t may; grants = grants; leaving = leaving }) → IsSound (record old { table = table; handing = set old.handing t may; grants = grants; leaving = leaving })
+pub ended_sound : (old : Dispatcher) (table : Waits) (t code : ℕ) (may : Bool) (w : Wait) (grants : List Grant) (leaving : List Bool) → IsSound old → Some w ≡ fin.get old.table.pending t → table.pending ≡ fin.remove old.table.pending t → Agrees table.pending table.queues → grants ≡ old.grants ++ ending code t ∷ [] → MarksAgreeBut [] (record old { table = table; handing = set old.handing t may; standings = set old.standings t Free; grants = grants; leaving = leaving }) → IsSound (record old { table = table; handing = set old.handing t may; standings = set old.standings t Free; grants = grants; leaving = leaving })
 ended_sound old table t code may w grants leaving sound has waits agrees pushed marks =
     let longer : length grants ≡ length old.grants + 1 = ap (λ gs. length gs) pushed ∙ length-append old.grants (ending code t ∷ []) in
     let fewer = len_removed old.table.pending t w (sym has) in
@@ -46,6 +48,7 @@ ended_sound old table t code may w grants leaving sound has waits agrees pushed 
       waits = λ u v pends. sound.waits u v (get_removed old.table.pending t u v (ap (λ m. fin.get m u) (sym waits) ∙ pends)).1;
       blocks = agrees;
       hands = length-set old.handing t may ∙ sound.hands;
+      standings = standings_set old.threads old.objects old.objects old.table.pending table.pending old.standings t Free (standing_free old.objects table.pending t (sound.waits t w (sym has)).runs (ap (λ m. fin.get m t) waits ∙ get_same old.table.pending t)) (λ u differs. refl) (λ u differs. ap (λ m. fin.get m u) waits ∙ get_other old.table.pending t u differs) sound.standings;
       inboxes = sound.inboxes;
       objects = sound.objects;
       own = sound.own;
@@ -58,13 +61,13 @@ ended_sound old table t code may w grants leaving sound has waits agrees pushed 
     }
 
 -- what it named may lack its mark
-pub ended_unmarked : (old : Dispatcher) (table : Waits) (t : ℕ) (may : Bool) (w : Wait) (grants : List Grant) → IsSound old → Some w ≡ fin.get old.table.pending t → ((h : ℕ) → queue_of table h ≡ others t (queue_of old.table h)) → MarksAgreeBut w.objects (record old { table = table; handing = set old.handing t may; grants = grants })
+pub ended_unmarked : (old : Dispatcher) (table : Waits) (t : ℕ) (may : Bool) (w : Wait) (grants : List Grant) → IsSound old → Some w ≡ fin.get old.table.pending t → ((h : ℕ) → queue_of table h ≡ others t (queue_of old.table h)) → MarksAgreeBut w.objects (record old { table = table; handing = set old.handing t may; standings = set old.standings t Free; grants = grants })
 ended_unmarked old table t may w grants sound has queues =
-    marks_ended old (record old { table = table; handing = set old.handing t may; grants = grants }) t w sound (sym has) refl refl refl queues refl (λ o. refl) (λ o. refl)
+    marks_ended old (record old { table = table; handing = set old.handing t may; standings = set old.standings t Free; grants = grants }) t w sound (sym has) refl refl refl queues refl (λ o. refl) (λ o. refl)
 
-pub ended_over : (old : Dispatcher) (table : Waits) (t : ℕ) (may : Bool) (grants : List Grant) → table.pending ≡ fin.remove old.table.pending t → ((h : ℕ) → queue_of table h ≡ others t (queue_of old.table h)) → state (record old { table = table; handing = set old.handing t may; grants = grants }) ≡ wait_over (state old) t may
+pub ended_over : (old : Dispatcher) (table : Waits) (t : ℕ) (may : Bool) (grants : List Grant) → table.pending ≡ fin.remove old.table.pending t → ((h : ℕ) → queue_of table h ≡ others t (queue_of old.table h)) → state (record old { table = table; handing = set old.handing t may; standings = set old.standings t Free; grants = grants }) ≡ wait_over (state old) t may
 ended_over old table t may grants waits queues =
-    state_same (state (record old { table = table; handing = set old.handing t may; grants = grants })) (wait_over (state old) t may) refl refl refl waits queues refl refl refl
+    state_same (state (record old { table = table; handing = set old.handing t may; standings = set old.standings t Free; grants = grants })) (wait_over (state old) t may) refl refl refl waits queues refl refl refl
 
 -- some wait pends of whoever pends
 pub pending_wait : (s : State) (t : ℕ) → pends s t ≡ true → (w : Wait) × (Some w ≡ fin.get s.waits t)
@@ -219,6 +222,7 @@ posted_sound d t q sound = record {
   waits = sound.waits;
   blocks = sound.blocks;
   hands = sound.hands;
+  standings = sound.standings;
   inboxes = length-set d.apcs.queues t (inbox_of d.apcs.queues t ++ q ∷ []) ∙ sound.inboxes;
   objects = sound.objects;
   own = sound.own;
@@ -275,6 +279,7 @@ taken_steady d t steady idle = record {
     waits = steady.sound.waits;
     blocks = steady.sound.blocks;
     hands = steady.sound.hands;
+    standings = steady.sound.standings;
     inboxes = length-set d.apcs.queues t (without_oldest (inbox_of d.apcs.queues t)) ∙ steady.sound.inboxes;
     objects = steady.sound.objects;
     own = steady.sound.own;

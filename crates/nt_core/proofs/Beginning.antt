@@ -32,8 +32,17 @@ use Rattle.nt_core.proofs.Marking.{marks_along, marks_same, marks_begun}
 use Rattle.nt_core.proofs.Changing.{served_fewer, due_kept}
 use Rattle.nt_core.proofs.Accepting.{due_taken_by}
 use Rattle.nt_core.proofs.Visiting.{state_same, can_take}
+use Rattle.nt_core.proofs.Walks.{tied, apart}
+use Rattle.nt_core.proofs.Standings.{standings_kept, standings_set, standing_waits}
+use Rattle.nt_core.specs.declared.standing.Standing.TheVariants.{Waiting}
 
 -- ---- the map of waits with one more
+
+get_new : (m : Pending) (t : ℕ) (w : Wait) → fin.get (fin.insert m t w) t ≡ Some w
+get_new m t w = fin.get-insert nat_cmp_total m t w t ∙ rw (tied t t refl) refl
+
+get_old : (m : Pending) (t q : ℕ) (w : Wait) → q ≢ t → fin.get (fin.insert m t w) q ≡ fin.get m q
+get_old m t q w differs = fin.get-insert nat_cmp_total m t w q ∙ rw (apart q t differs) refl
 
 pub get_inserted : (m : Pending) (t q : ℕ) (w v : Wait) → fin.get (fin.insert m t w) q ≡ Some v → ((q ≡ t) × (w ≡ v)) ⊎ (fin.get m q ≡ Some v)
 get_inserted m t q w v e = go (eq_by_cmp nat_cmp q t) refl
@@ -92,19 +101,20 @@ queues_longer old table t w joined kept h some = go (names w h) refl
         grind (arith, nat_tests, longer)
     go false is = ap (λ q. nat_lt 0 (length q)) (kept h (λ named. names_no w.objects h is named.0 named.1 named.2)) ∙ some
 
-pub sound_begun : (old : Dispatcher) (table : Waits) (t : ℕ) (w : Wait) → IsSound old → IsSoundWait old.threads old.objects t w → fin.get old.table.pending t ≡ None → length old.grants + fin.len old.table.pending < old.threads → table.pending ≡ fin.insert old.table.pending t w → Agrees table.pending table.queues → ((h : ℕ) → nat_lt 0 (length (queue_of old.table h)) ≡ true → nat_lt 0 (length (queue_of table h)) ≡ true) → IsSound (record old { table = table })
+pub sound_begun : (old : Dispatcher) (table : Waits) (t : ℕ) (w : Wait) → IsSound old → IsSoundWait old.threads old.objects t w → fin.get old.table.pending t ≡ None → length old.grants + fin.len old.table.pending < old.threads → table.pending ≡ fin.insert old.table.pending t w → Agrees table.pending table.queues → ((h : ℕ) → nat_lt 0 (length (queue_of old.table h)) ≡ true → nat_lt 0 (length (queue_of table h)) ≡ true) → IsSound (record old { table = table; standings = set old.standings t Waiting })
 sound_begun old table t w sound able idle room pending agrees more = record {
   few = sound.few;
   waits = λ u v pends. go u v (get_inserted old.table.pending t u w v (ap (λ m. fin.get m u) (sym pending) ∙ pends));
   blocks = agrees;
   hands = sound.hands;
+  standings = standings_set old.threads old.objects old.objects old.table.pending table.pending old.standings t Waiting (standing_waits old.objects table.pending t w able.runs (ap (λ m. fin.get m t) pending ∙ get_new old.table.pending t w)) (λ u differs. refl) (λ u differs. ap (λ m. fin.get m u) pending ∙ get_old old.table.pending t u w differs) sound.standings;
   inboxes = sound.inboxes;
   objects = sound.objects;
   own = sound.own;
   none_else = sound.none_else;
   timers = sound.timers;
   handles = sound.handles;
-  marks = marks_begun old table more sound.marks;
+  marks = marks_along refl refl refl (λ o. refl) refl (marks_begun old table more sound.marks);
   places = sound.places;
   room = let more = len_inserted old.table.pending t w idle in let same : fin.len table.pending ≡ fin.len (fin.insert old.table.pending t w) = ap (λ m. fin.len m) pending in omega (arith, room, more, same);
 }
@@ -237,6 +247,7 @@ began_taken old objects owned t code w steady able idle tried =
             };
         blocks = sound.blocks;
         hands = length-set old.handing t false ∙ sound.hands;
+        standings = standings_kept old.threads old.objects objects old.table.pending old.standings (λ u below. well.ended u) sound.standings;
         inboxes = sound.inboxes;
         objects = well.lawful sound.objects;
         own = λ u below. (subst (λ (n : ℕ). u < n) (sym well.length) (sound.own u below).0, own_kept _ _ (well.threads u) (well.gone u) (sound.own u below).1);
@@ -263,6 +274,7 @@ handed_steady old t may steady = record {
     waits = steady.sound.waits;
     blocks = steady.sound.blocks;
     hands = length-set old.handing t may ∙ steady.sound.hands;
+    standings = steady.sound.standings;
     inboxes = steady.sound.inboxes;
     objects = steady.sound.objects;
     own = steady.sound.own;

@@ -26,6 +26,7 @@ use Rattle.nt_alarms.specs.Alarms.{alarm_at}
 use Rattle.std.proofs.lemmas.Bool.Decides.{nat_tests}
 use Rattle.std.proofs.lemmas.List.Elements.{Contains-append_left, Contains-append_right}
 use Rattle.nt_status.proofs.Lists.{contains_none, contains_first, contains_cases}
+use Rattle.nt_core.proofs.Standings.{standings_kept}
 
 -- ---- one object among the others
 
@@ -203,6 +204,7 @@ sound_replaced d h o owned sound may = record {
       };
   blocks = sound.blocks;
   hands = sound.hands;
+  standings = standings_kept d.threads d.objects (set d.objects h o) d.table.pending d.standings (λ t below. reading_set has_ended d.objects h o may.ended t) sound.standings;
   inboxes = sound.inboxes;
   objects = property_set IsLawfulObject d.objects h o may.lawful sound.objects;
   own = λ t below. (subst (λ (n : ℕ). t < n) (sym (length-set d.objects h o)) (sound.own t below).0, own_kept _ _ (reading_set is_thread d.objects h o may.thread t) (reading_set is_gone d.objects h o may.gone t) (sound.own t below).1);
@@ -221,7 +223,7 @@ reading_created f [] o same (suc k) = refl
 reading_created f (x ∷ os) o same zero = refl
 reading_created f (x ∷ os) o same (suc k) = reading_created f os o same k
 
-pub alarm_created : (alarms : List (Option ℕ)) (h : ℕ) → alarm_at (alarms ++ None ∷ []) h ≡ alarm_at alarms h
+alarm_created : (alarms : List (Option ℕ)) (h : ℕ) → alarm_at (alarms ++ None ∷ []) h ≡ alarm_at alarms h
 alarm_created [] zero = refl
 alarm_created [] (suc h) = refl
 alarm_created (a ∷ alarms) zero = refl
@@ -257,6 +259,7 @@ sound_longer d o owned handles sound lawful no_thread due agree marked = record 
       };
   blocks = sound.blocks;
   hands = sound.hands;
+  standings = standings_kept d.threads d.objects (d.objects ++ o ∷ []) d.table.pending d.standings (λ t below. ap has_ended (object_at-append d.objects (o ∷ []) t (sound.own t below).0)) sound.standings;
   inboxes = sound.inboxes;
   objects = all d.objects sound.objects;
   none_else = λ h beyond known. unlike d.objects h known (sound.none_else h beyond);
@@ -272,7 +275,7 @@ sound_longer d o owned handles sound lawful no_thread due agree marked = record 
   handles = agree;
   marks = marked;
   places = record {
-    changed = let objects = length-append d.objects (o ∷ []) in let marks = length-append d.marked.changed (None ∷ []) in let before = sound.places.changed in omega (arith, objects, marks, before);
+    changed = let objects = length-append d.objects (o ∷ []) in let marks = length-append d.marked.changed (false ∷ []) in let before = sound.places.changed in omega (arith, objects, marks, before);
     alerted = sound.places.alerted;
   };
   own = λ t below.

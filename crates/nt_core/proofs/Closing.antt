@@ -9,7 +9,7 @@ use Rattle.nt_status.specs.declared.refusal.Refusal.TheVariants.{InvalidHandle}
 use Rattle.nt_objects.specs.declared.handles.Opened.{Opened}
 use Rattle.nt_objects.specs.Handles.{opened_at, count_named, names}
 use Rattle.nt_objects.specs.Object.{is_gone}
-use Rattle.nt_alarms.specs.Alarms.{alarm_at}
+use Rattle.nt_marks.specs.Marks.{is_marked}
 use Rattle.nt_calls.specs.declared.call.Call.{Call}
 use Rattle.nt_calls.specs.declared.call.Act.{Act}
 use Rattle.nt_calls.specs.declared.call.Reply.{Reply}
@@ -83,14 +83,14 @@ handles_closed n handles h agree = record {
 }
 
 -- what it named has a mark
-marks_closed : (d : Dispatcher) (h : ℕ) (opened : Opened) → opened_at d.handles h ≡ Some opened → opened.object < length d.objects → MarksAgreeBut [] d → MarksAgreeBut [] (record d { handles = set d.handles h None; leaving = set d.leaving opened.object (Some 0) })
+marks_closed : (d : Dispatcher) (h : ℕ) (opened : Opened) → opened_at d.handles h ≡ Some opened → opened.object < length d.objects → MarksAgreeBut [] d → MarksAgreeBut [] (record d { handles = set d.handles h None; leaving = set d.leaving opened.object true })
 marks_closed d h opened is known marks = record {
   living = λ k other there. marks.living k other (opened_before d.handles h k other there);
-  count = length-set d.leaving opened.object (Some 0) ∙ marks.count;
+  count = length-set d.leaving opened.object true ∙ marks.count;
   marked = λ o forgotten. elim (cases_eq o opened.object) [
-    | inl here ↦ inl (ap (λ (k : ℕ). alarm_at (set d.leaving opened.object (Some 0)) k) here ∙ get_or-set_same d.leaving opened.object (Some 0) None (let count = marks.count in omega (arith, known, count)))
+    | inl here ↦ inl (ap (λ (k : ℕ). is_marked (set d.leaving opened.object true) k) here ∙ get_or-set_same d.leaving opened.object true false (let count = marks.count in omega (arith, known, count)))
     | inr other ↦ elim (marks.marked o (before o other (parts (handle_closed (state d) h) o forgotten))) [
-      | inl mark ↦ inl (get_or-set_other d.leaving opened.object o (Some 0) None other ∙ mark)
+      | inl mark ↦ inl (get_or-set_other d.leaving opened.object o true false other ∙ mark)
       | inr none ↦ absurd (contains_none o none)
     ]
   ];
@@ -101,7 +101,7 @@ marks_closed d h opened is known marks = record {
     before o other was = whole (state d) o (record { known = was.known; living = was.living; unopened = ap (λ n. nat_lt 0 n) (sym (count_other d.handles h opened o is other)) ∙ was.unopened; unawaited = was.unawaited; idle = was.idle })
 
 -- a close changes no object and serves nobody
-pub closed_accepted : (old new : Dispatcher) (t h : ℕ) (opened : Opened) → IsFresh old → opened_at old.handles h ≡ Some opened → new ≡ record old { handles = set old.handles h None; leaving = set old.leaving opened.object (Some 0) } → Accepts old new t (Call.Act (Act.Close h)) Reply.Done
+pub closed_accepted : (old new : Dispatcher) (t h : ℕ) (opened : Opened) → IsFresh old → opened_at old.handles h ≡ Some opened → new ≡ record old { handles = set old.handles h None; leaving = set old.leaving opened.object true } → Accepts old new t (Call.Act (Act.Close h)) Reply.Done
 closed_accepted old new t h opened fresh is becomes =
     subst (λ (x : Dispatcher). Accepts old x t (Call.Act (Act.Close h)) Reply.Done) (sym becomes)
     (accepted old d d t (Call.Act (Act.Close h)) Reply.Done
@@ -109,7 +109,7 @@ closed_accepted old new t h opened fresh is becomes =
     refl refl refl all refl)
   where
     d : Dispatcher
-    d = record old { handles = set old.handles h None; leaving = set old.leaving opened.object (Some 0) }
+    d = record old { handles = set old.handles h None; leaving = set old.leaving opened.object true }
 
     before : IsSound old
     before = fresh.steady.sound
@@ -121,6 +121,7 @@ closed_accepted old new t h opened fresh is becomes =
         waits = before.waits;
         blocks = before.blocks;
         hands = before.hands;
+        standings = before.standings;
         inboxes = before.inboxes;
         objects = before.objects;
         own = before.own;

@@ -297,6 +297,7 @@ tick_end old now m far none = (
       waits = far.sound.waits;
       blocks = far.sound.blocks;
       hands = far.sound.hands;
+      standings = far.sound.standings;
       inboxes = far.sound.inboxes;
       objects = far.sound.objects;
       own = far.sound.own;

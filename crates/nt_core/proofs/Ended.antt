@@ -26,6 +26,7 @@ use Rattle.nt_core.proofs.Lives.{still_forgotten, counted_opened, unkept, forgot
 use Rattle.nt_core.proofs.Remaining.{set_here}
 use Rattle.nt_core.proofs.Rousing.{cleared_other}
 use Rattle.nt_core.proofs.Settling.{queue_there}
+use Rattle.nt_core.proofs.Standings.{standings_kept}
 
 pub gone_sound : (d : Dispatcher) (o : ℕ) (owned : List (List ℕ)) (apcs : Apcs) → IsSound d → is_forgotten (state d) o ≡ true → length apcs.queues ≡ length d.apcs.queues → ((m : ℕ) → m ≢ o → place_of apcs.places m ≡ place_of d.apcs.places m) → IsSound (record d { objects = set d.objects o Gone; owned = owned; apcs = apcs; alarms = set d.alarms o None })
 gone_sound d o owned apcs sound forgotten len places = record {
@@ -42,6 +43,7 @@ gone_sound d o owned apcs sound forgotten len places = record {
       };
   blocks = sound.blocks;
   hands = sound.hands;
+  standings = standings_kept d.threads d.objects (set d.objects o Gone) d.table.pending d.standings (λ t below. ended_at t below (has_ended (object_at d.objects t)) refl (cases_eq t o)) sound.standings;
   inboxes = len ∙ sound.inboxes;
   objects = property_set IsLawfulObject d.objects o Gone tt sound.objects;
   own = λ t below. (subst (λ (n : ℕ). t < n) (sym count) (sound.own t below).0, own_at t (sound.own t below).1 (cases_eq t o));
@@ -93,6 +95,12 @@ gone_sound d o owned apcs sound forgotten len places = record {
         let is : runs (state d) u ≡ true = ap (λ b. b && not (has_ended (object_at d.objects u))) test ∙ ap (λ b. not b) on in
         false≢true (sym none.2 ∙ (ap (λ (k : ℕ). runs (state d) k) (sym same) ∙ is))
 
+    -- a thread that is gone had ended
+    ended_at : (t : ℕ) → t < d.threads → (b : Bool) → has_ended (object_at d.objects t) ≡ b → (t ≡ o) ⊎ (t ≢ o) → has_ended (object_at (set d.objects o Gone) t) ≡ has_ended (object_at d.objects t)
+    ended_at t below b is (inr other) = ap has_ended (object_at-set_other d.objects o t Gone other)
+    ended_at t below true is (inl here) = ap has_ended (here_gone t here) ∙ sym is
+    ended_at t below false is (inl here) = absurd (running t below is here)
+
     awaited : (u : ℕ) (w : Wait) (h : ℕ) → get d.table.pending u ≡ Some w → Names w h → h ≢ o
     awaited u w h pends names same =
         let is : is_awaited (state d) h ≡ true = queue_there (queue_of d.table h) u (sound.blocks.listed u h w pends names) in
@@ -143,12 +151,13 @@ ended_object old mid o objects owned alarms sound forgotten rest queues places p
     same_inboxes (q ∷ qs) = ap suc (same_inboxes qs)
 
 -- an object that is not forgotten needs no mark
-pub unmarked_sound : (d : Dispatcher) (o : ℕ) → IsSound d → is_forgotten (state d) o ≡ false → IsSound (record d { leaving = set d.leaving o None })
+pub unmarked_sound : (d : Dispatcher) (o : ℕ) → IsSound d → is_forgotten (state d) o ≡ false → IsSound (record d { leaving = set d.leaving o false })
 unmarked_sound d o sound needless = record {
   few = sound.few;
   waits = sound.waits;
   blocks = sound.blocks;
   hands = sound.hands;
+  standings = sound.standings;
   inboxes = sound.inboxes;
   objects = sound.objects;
   own = sound.own;
@@ -157,7 +166,7 @@ unmarked_sound d o sound needless = record {
   handles = sound.handles;
   marks = record {
     living = sound.marks.living;
-    count = length-set d.leaving o None ∙ sound.marks.count;
+    count = length-set d.leaving o false ∙ sound.marks.count;
     marked = λ x forgotten. elim (cases_eq x o) [
       | inl here ↦ absurd (false≢true (sym needless ∙ (ap (λ (k : ℕ). is_forgotten (state d) k) (sym here) ∙ forgotten)))
       | inr other ↦ elim (sound.marks.marked x forgotten) [

@@ -7,8 +7,7 @@ use Rattle.std.proofs.lemmas.Bool.{cases_eq, false≢true}
 use Rattle.std.proofs.lemmas.List.{length-set, length-map, get_or-set_other}
 use Rattle.nt_waits.specs.declared.wait.Wait.{Wait}
 use Rattle.nt_status.proofs.Lists.{few_below}
-use Rattle.nt_alarms.specs.Alarms.{alarm_at, NoneAt}
-use Rattle.nt_alarms.specs.Marks.{AddsMarks, marked_places}
+use Rattle.nt_marks.specs.Marks.{is_marked, NoneMarked, AddsMarks, marked_places}
 use Rattle.nt_objects.specs.declared.object.Object.{Object}
 use Rattle.nt_objects.specs.declared.object.Object.TheVariants.{Event, Semaphore, Mutex, Timer, Thread, Gone}
 use Rattle.nt_objects.specs.Object.{is_thread, is_gone, has_ended, owned_by, due_of, setter_of, abandoned_by, unset_by, IsLawfulObject}
@@ -27,14 +26,16 @@ use Rattle.nt_calls.specs.declared.call.Reply.{Reply}
 use Rattle.nt_core.proofs.Handling.{handles_along}
 use Rattle.nt_core.proofs.Keeping.{own_kept}
 use Rattle.nt_core.proofs.Lives.{not_gone}
-use Rattle.nt_core.proofs.Marking.{marks_ending}
-use Rattle.nt_core.proofs.Changing.{ChangedOnlyAt, object_at-set_other, reading_set, property_set, limit_set, fit_only_in}
+use Rattle.nt_core.proofs.Marking.{marks_along, marks_ending}
+use Rattle.nt_core.proofs.Changing.{ChangedOnlyAt, object_at-set_same, object_at-set_other, reading_set, property_set, limit_set, fit_only_in}
 use Rattle.nt_core.proofs.Accepting.{accepted, settled_after}
 use Rattle.nt_core.proofs.Replacing.{queue_few}
 use Rattle.nt_core.proofs.Listing.{same_no}
 use Rattle.nt_core.proofs.Places.{sound_marked, places_rising, set_mark, set_kept}
 use Rattle.nt_core.proofs.Passing.{rising_once}
 use Rattle.nt_core.proofs.Exiting.{left, mapped_at, mapped_twice, stopped_objects, unset_all, abandoned_setter, abandoned_sound, IsAltered, objects_left, altered_or_same, altered_changed, runs_before, due_exited, calm_exited}
+use Rattle.nt_core.proofs.Standings.{standings_set, standing_ended}
+use Rattle.nt_core.specs.declared.standing.Standing.TheVariants.{Ended}
 
 -- ---- the thread's own object, and its APCs
 
@@ -63,7 +64,7 @@ not_given_up : (b : Bool) (place : Option ℕ) (u : ℕ) → (if b then None els
 not_given_up true place u at = let none : None ≡ Some u = at in (cc)
 not_given_up false place u at = at
 
-pub ended_sound : (d : Dispatcher) (t : ℕ) (apcs : Apcs) → IsSound d → fin.get d.table.pending t ≡ None → t < d.threads → has_ended (object_at d.objects t) ≡ false → ((h : ℕ) → setter_of (object_at d.objects h) ≢ Some t) → length apcs.queues ≡ length d.apcs.queues → ((m : ℕ) → place_of apcs.places m ≡ given_up t (place_of d.apcs.places m)) → IsSound (record d { objects = set d.objects t (Thread true); apcs = apcs; leaving = set d.leaving t (Some 0) })
+pub ended_sound : (d : Dispatcher) (t : ℕ) (apcs : Apcs) → IsSound d → fin.get d.table.pending t ≡ None → t < d.threads → has_ended (object_at d.objects t) ≡ false → ((h : ℕ) → setter_of (object_at d.objects h) ≢ Some t) → length apcs.queues ≡ length d.apcs.queues → ((m : ℕ) → place_of apcs.places m ≡ given_up t (place_of d.apcs.places m)) → IsSound (record d { objects = set d.objects t (Thread true); apcs = apcs; leaving = set d.leaving t true; standings = set d.standings t Ended })
 ended_sound d t apcs sound idle known running unset len places = record {
   few = sound.few;
   waits = λ u w pends.
@@ -78,6 +79,7 @@ ended_sound d t apcs sound idle known running unset len places = record {
       };
   blocks = sound.blocks;
   hands = sound.hands;
+  standings = standings_set d.threads d.objects (set d.objects t (Thread true)) d.table.pending d.table.pending d.standings t Ended (standing_ended (set d.objects t (Thread true)) d.table.pending t (ap has_ended (object_at-set_same d.objects t (Thread true) (sound.own t known).0))) (λ u differs. ap has_ended (object_at-set_other d.objects t u (Thread true) differs)) (λ u differs. refl) sound.standings;
   inboxes = len ∙ sound.inboxes;
   objects = property_set IsLawfulObject d.objects t (Thread true) tt sound.objects;
   own = λ u below. (subst (λ (n : ℕ). u < n) (sym count) (sound.own u below).0, own_kept _ _ (threads u) (gone u) (sound.own u below).1);
@@ -95,7 +97,7 @@ ended_sound d t apcs sound idle known running unset len places = record {
         (own.0, runs_on u (λ same. unset h (before ∙ ap Some same)) own.1);
   };
   handles = handles_along d.handles count sound.handles;
-  marks = marks_ending d t apcs (sound.own t known).0 (not_gone (object_at d.objects t) running) sound.marks;
+  marks = marks_along refl refl refl (λ o. refl) refl (marks_ending d t apcs (sound.own t known).0 (not_gone (object_at d.objects t) running) sound.marks);
   places = record { changed = sound.places.changed ∙ sym count; alerted = sound.places.alerted };
   room = sound.room;
 }
@@ -126,15 +128,15 @@ ended_sound d t apcs sound idle known running unset len places = record {
 
 -- the dispatcher once the thread's own object says so, and its APCs are gone
 abbrev pub with_ended : Dispatcher → ℕ → Apcs → Dispatcher
-with_ended d t apcs = record d { objects = set d.objects t (Thread true); apcs = apcs; leaving = set d.leaving t (Some 0); marked = record d.marked { changed = set d.marked.changed t (Some 0) } }
+with_ended d t apcs = record d { objects = set d.objects t (Thread true); apcs = apcs; leaving = set d.leaving t true; standings = set d.standings t Ended; marked = record d.marked { changed = set d.marked.changed t true } }
 
-pub own_ended : (old new : Dispatcher) (t : ℕ) (apcs : Apcs) → IsSound old → fin.get old.table.pending t ≡ None → t < old.threads → has_ended (object_at old.objects t) ≡ false → ((h : ℕ) → setter_of (object_at old.objects h) ≢ Some t) → new ≡ with_ended old t apcs → apcs.queues ≡ cleared old.apcs.queues t → ((m : ℕ) → place_of apcs.places m ≡ given_up t (place_of old.apcs.places m)) → (state new ≡ record (state old) { objects = set old.objects t (Thread true); apcs = cleared old.apcs.queues t }) × IsSound new × (new.grants ≡ old.grants) × (new.table ≡ old.table) × (new.marked ≡ record old.marked { changed = set old.marked.changed t (Some 0) })
+pub own_ended : (old new : Dispatcher) (t : ℕ) (apcs : Apcs) → IsSound old → fin.get old.table.pending t ≡ None → t < old.threads → has_ended (object_at old.objects t) ≡ false → ((h : ℕ) → setter_of (object_at old.objects h) ≢ Some t) → new ≡ with_ended old t apcs → apcs.queues ≡ cleared old.apcs.queues t → ((m : ℕ) → place_of apcs.places m ≡ given_up t (place_of old.apcs.places m)) → (state new ≡ record (state old) { objects = set old.objects t (Thread true); apcs = cleared old.apcs.queues t }) × IsSound new × (new.grants ≡ old.grants) × (new.table ≡ old.table) × (new.marked ≡ record old.marked { changed = set old.marked.changed t true })
 own_ended old new t apcs sound idle known running unset becomes queues places = (
   ap (λ (d : Dispatcher). state d) becomes ∙ ap (λ (qs : List (List Queued)). record (state old) { objects = set old.objects t (Thread true); apcs = qs }) queues,
   subst (λ (d : Dispatcher). IsSound d) (sym becomes)
-      (sound_marked (record old { objects = set old.objects t (Thread true); apcs = apcs; leaving = set old.leaving t (Some 0) }) (record old.marked { changed = set old.marked.changed t (Some 0) })
+      (sound_marked (record old { objects = set old.objects t (Thread true); apcs = apcs; leaving = set old.leaving t true; standings = set old.standings t Ended }) (record old.marked { changed = set old.marked.changed t true })
       (ended_sound old t apcs sound idle known running unset (ap (λ qs. length qs) queues ∙ length-set old.apcs.queues t []) places)
-      (record { changed = length-set old.marked.changed t (Some 0) ∙ (sound.places.changed ∙ sym (length-set old.objects t (Thread true))); alerted = sound.places.alerted })),
+      (record { changed = length-set old.marked.changed t true ∙ (sound.places.changed ∙ sym (length-set old.objects t (Thread true))); alerted = sound.places.alerted })),
   ap (λ (d : Dispatcher). d.grants) becomes,
   ap (λ (d : Dispatcher). d.table) becomes,
   ap (λ (d : Dispatcher). d.marked) becomes,
@@ -174,7 +176,7 @@ none_set mid stopped t stops h sets =
     unset_all t (object_at mid.objects h) (sym (ap setter_of (ap (λ (os : List Object). object_at os h) objects ∙ mapped_at (unset_by t) refl mid.objects h)) ∙ sets)
 
 -- the mutexes of the thread were freed and marked in the lists that the dispatcher keeps
-pub freed_in : (v old : Dispatcher) (t : ℕ) (items : List Object) (owned : List (List ℕ)) (changed : List (Option ℕ)) → v ≡ old → items ≡ map (abandoned_by t) v.objects → record v { objects = items; owned = owned; marked = record v.marked { changed = changed } } ≡ record old { objects = map (abandoned_by t) old.objects; owned = owned; marked = record old.marked { changed = changed } }
+pub freed_in : (v old : Dispatcher) (t : ℕ) (items : List Object) (owned : List (List ℕ)) (changed : List Bool) → v ≡ old → items ≡ map (abandoned_by t) v.objects → record v { objects = items; owned = owned; marked = record v.marked { changed = changed } } ≡ record old { objects = map (abandoned_by t) old.objects; owned = owned; marked = record old.marked { changed = changed } }
 freed_in v old t items owned changed same is =
     ap (λ (os : List Object). record v { objects = os; owned = owned; marked = record v.marked { changed = changed } }) is
     ∙ ap (λ (x : Dispatcher). record x { objects = map (abandoned_by t) x.objects; owned = owned; marked = record x.marked { changed = changed } }) same
@@ -191,22 +193,22 @@ setter_before : (old : Dispatcher) (t h : ℕ) → IsSound old → setter_of (ob
 setter_before old t h sound = ap setter_of (mapped_at (abandoned_by t) refl old.objects h) ∙ abandoned_setter t (object_at old.objects h) (sound.objects h)
 
 -- its mutexes, then its timers, and its own object were marked
-pub record AreMarked (old : Dispatcher) (t : ℕ) (freed stopped ended : List (Option ℕ)) : Type 0 where
-  pub none : NoneAt old.marked.changed 0
+pub record AreMarked (old : Dispatcher) (t : ℕ) (freed stopped ended : List Bool) : Type 0 where
+  pub none : NoneMarked old.marked.changed
   pub mutexes : AddsMarks (λ m. owned_by (object_at old.objects m) t ≡ true) old.marked.changed freed
   pub timers : AddsMarks (IsSetBy (map (abandoned_by t) old.objects) t) freed stopped
-  pub own : ended ≡ set stopped t (Some 0)
+  pub own : ended ≡ set stopped t true
 
 -- what is marked is exactly what its end changes
-pub marked_changed : (old : Dispatcher) (t : ℕ) (freed stopped ended : List (Option ℕ)) → IsSound old → t < old.threads → has_ended (object_at old.objects t) ≡ false → AreMarked old t freed stopped ended → (h : ℕ) → (alarm_at ended h ≡ Some 0) ↔ IsChanged old.objects (objects_left old.objects t) h
+pub marked_changed : (old : Dispatcher) (t : ℕ) (freed stopped ended : List Bool) → IsSound old → t < old.threads → has_ended (object_at old.objects t) ≡ false → AreMarked old t freed stopped ended → (h : ℕ) → (is_marked ended h ≡ true) ↔ IsChanged old.objects (objects_left old.objects t) h
 marked_changed old t freed stopped ended sound known runs marks h = (
-  λ mark. altered_changed old t h sound known runs (to (cases_eq h t) (ap (λ (m : List (Option ℕ)). alarm_at m h) (sym marks.own) ∙ mark)),
-  λ changed. ap (λ (m : List (Option ℕ)). alarm_at m h) marks.own ∙ from (altered_or_same old.objects t h) changed,
+  λ mark. altered_changed old t h sound known runs (to (cases_eq h t) (ap (λ (m : List Bool). is_marked m h) (sym marks.own) ∙ mark)),
+  λ changed. ap (λ (m : List Bool). is_marked m h) marks.own ∙ from (altered_or_same old.objects t h) changed,
 )
   where
-    to : (h ≡ t) ⊎ (h ≢ t) → alarm_at (set stopped t (Some 0)) h ≡ Some 0 → IsAltered old.objects t h
+    to : (h ≡ t) ⊎ (h ≢ t) → is_marked (set stopped t true) h ≡ true → IsAltered old.objects t h
     to (inl same) mark = inr (inr (sym same))
-    to (inr differs) mark = elim ((marks.timers.exactly h).0 (sym (get_or-set_other stopped t h (Some 0) None differs) ∙ mark)) [
+    to (inr differs) mark = elim ((marks.timers.exactly h).0 (sym (get_or-set_other stopped t h true false differs) ∙ mark)) [
       | inl before ↦ elim ((marks.mutexes.exactly h).0 before) [
         | inl first ↦ absurd (marks.none h first)
         | inr owned ↦ inl owned
@@ -222,10 +224,10 @@ marked_changed old t freed stopped ended sound known runs marks h = (
         let b = marks.timers.count in
         omega (arith, there, places, a, b)
 
-    from : IsAltered old.objects t h ⊎ (object_at (objects_left old.objects t) h ≡ object_at old.objects h) → IsChanged old.objects (objects_left old.objects t) h → alarm_at (set stopped t (Some 0)) h ≡ Some 0
+    from : IsAltered old.objects t h ⊎ (object_at (objects_left old.objects t) h ≡ object_at old.objects h) → IsChanged old.objects (objects_left old.objects t) h → is_marked (set stopped t true) h ≡ true
     from (inl (inl owned)) changed = set_kept stopped t h ((marks.timers.exactly h).1 (inl ((marks.mutexes.exactly h).1 (inr owned))))
     from (inl (inr (inl sets))) changed = set_kept stopped t h ((marks.timers.exactly h).1 (inr (setter_before old t h sound ∙ sets)))
-    from (inl (inr (inr own))) changed = subst (λ (k : ℕ). alarm_at (set stopped t (Some 0)) k ≡ Some 0) own (set_mark stopped t place)
+    from (inl (inr (inr own))) changed = subst (λ (k : ℕ). is_marked (set stopped t true) k ≡ true) own (set_mark stopped t place)
     from (inr same) changed = absurd (changed.1 same)
 
 -- ---- waits are served

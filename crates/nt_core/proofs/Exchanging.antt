@@ -56,9 +56,6 @@ exchanged_served old mid new h o fresh known differs is serve sound most least m
     least
     (subst IsUnmarked (sym (marked ∙ ap (λ (x : Dispatcher). x.marked) is)) fresh.steady.unmarked)
 
-pub exchanged_prepared : (old mid new : Dispatcher) (h : ℕ) (o : Object) → IsExchanged old h o mid → new.table.prepared ≡ mid.table.prepared → new.table.prepared ≡ old.table.prepared
-exchanged_prepared old mid new h o is same = same ∙ ap (λ (x : Dispatcher). x.table.prepared) is
-
 -- ---- events: what setting one answered
 
 is_false : (b : Bool) → not b ≡ true → b ≡ false

@@ -26,6 +26,7 @@ use Rattle.nt_core.proofs.Replacing.{known_mutex}
 use Rattle.nt_core.proofs.Timing.{and_kept}
 use Rattle.nt_core.proofs.Listing.{same_yes, same_no}
 use Rattle.nt_core.proofs.Leaving.{stopped_unset, set_timer_known, setter_or_not, due_stopped}
+use Rattle.nt_core.proofs.Standings.{standings_kept}
 
 -- what is left of an object once thread t has ended
 abbrev pub left : ℕ → Object → Object
@@ -68,6 +69,7 @@ sound_mapped d f owned still may sound = record {
       };
   blocks = sound.blocks;
   hands = sound.hands;
+  standings = standings_kept d.threads d.objects (map f d.objects) d.table.pending d.standings (λ t below. reading has_ended (λ o r. r.ended) t) sound.standings;
   inboxes = sound.inboxes;
   objects = λ h. subst IsLawfulObject (sym (here h)) (may (object_at d.objects h) (sound.objects h)).lawful;
   own = λ t below. (subst (λ (n : ℕ). t < n) (sym len) (sound.own t below).0, own_kept _ _ (reading is_thread (λ o r. r.thread) t) (reading is_gone (λ o r. r.gone) t) (sound.own t below).1);

@@ -1,10 +1,10 @@
 -- The loop that ends the objects that nothing keeps any more.
-use Rattle.std.proofs.Common.{◌≡◌, ◌≢◌, ℕ, ◌<◌, ◌++◌, Bool, true, false, cond, List, [], ◌∷◌, refl, sym, ap, ◌∙◌, subst, arith, Option, Some, None, inl, inr, ◌⊎◌, Contains}
+use Rattle.std.proofs.Common.{◌≡◌, ◌≢◌, ℕ, ◌<◌, ◌++◌, Bool, true, false, cond, List, [], ◌∷◌, refl, sym, ap, ◌∙◌, subst, arith, inl, inr, ◌⊎◌, Contains}
 use Rattle.std.specs.Prelude.{slice_set}
 use Rattle.std.proofs.lemmas.Bool.{cases_eq}
 use Rattle.std.proofs.lemmas.List.Elements.{Contains-push_cases}
 use Rattle.nt_status.proofs.Lists.{contains_none, contains_or_not}
-use Rattle.nt_alarms.specs.Alarms.{alarm_at, NoneAt, IsLowestAt}
+use Rattle.nt_marks.specs.Marks.{is_marked, NoneMarked, IsFirstMarked}
 use Rattle.nt_calls.specs.Rising.{IsRising}
 use Rattle.nt_calls.specs.State.{State}
 use Rattle.nt_core.specs.Dispatcher.{Dispatcher, state}
@@ -26,7 +26,7 @@ pub record GoneSoFar (old now : Dispatcher) : Type 0 where
   pub rising : IsRising objects
   pub forgotten : (x : ℕ) → Contains objects x → is_forgotten (state old) x ≡ true
   pub over : state now ≡ all_gone (state old) objects
-  pub above : (x : ℕ) → alarm_at now.leaving x ≡ Some 0 → (y : ℕ) → Contains objects y → y < x
+  pub above : (x : ℕ) → is_marked now.leaving x ≡ true → (y : ℕ) → Contains objects y → y < x
   pub sound : IsSound now
   pub grants : now.grants ≡ old.grants
   pub table : now.table ≡ old.table
@@ -45,20 +45,20 @@ gone_none d sound = record {
   marked = refl;
 }
 
-no_mark : {P : Type 0} (n : ℕ) → None ≡ Some n → P
-no_mark n e = (cc)
+no_mark : {P : Type 0} → false ≡ true → P
+no_mark e = (cc)
 
-pub gone_next : (old now new : Dispatcher) (t : ℕ) → GoneSoFar old now → IsLowestAt now.leaving 0 t → state new ≡ cond (is_forgotten (state now) t) (gone (state now) t) (state now) → new.leaving ≡ slice_set now.leaving t None → IsSound new → new.grants ≡ now.grants → new.table ≡ now.table → new.marked ≡ now.marked → GoneSoFar old new
+pub gone_next : (old now new : Dispatcher) (t : ℕ) → GoneSoFar old now → IsFirstMarked now.leaving t → state new ≡ cond (is_forgotten (state now) t) (gone (state now) t) (state now) → new.leaving ≡ slice_set now.leaving t false → IsSound new → new.grants ≡ now.grants → new.table ≡ now.table → new.marked ≡ now.marked → GoneSoFar old new
 gone_next old now new t far lowest becomes leaving sound grants table marked = go (is_forgotten (state now) t) refl becomes
   where
-    mark_before : (x : ℕ) → x ≢ t → alarm_at new.leaving x ≡ alarm_at now.leaving x
-    mark_before x other = ap (λ (m : List (Option ℕ)). alarm_at m x) leaving ∙ cleared_other now.leaving t x other
+    mark_before : (x : ℕ) → x ≢ t → is_marked new.leaving x ≡ is_marked now.leaving x
+    mark_before x other = ap (λ (m : List Bool). is_marked m x) leaving ∙ cleared_other now.leaving t x other
 
-    no_mark_here : (x : ℕ) → x ≡ t → alarm_at new.leaving x ≡ None
-    no_mark_here x same = ap (λ (k : ℕ). alarm_at new.leaving k) same ∙ (ap (λ (m : List (Option ℕ)). alarm_at m t) leaving ∙ cleared_here now.leaving t)
+    no_mark_here : (x : ℕ) → x ≡ t → is_marked new.leaving x ≡ false
+    no_mark_here x same = ap (λ (k : ℕ). is_marked new.leaving k) same ∙ (ap (λ (m : List Bool). is_marked m t) leaving ∙ cleared_here now.leaving t)
 
-    after : (x : ℕ) → alarm_at new.leaving x ≡ Some 0 → (x ≡ t) ⊎ (x ≢ t) → (y : ℕ) → Contains far.objects y ⊎ (t ≡ y) → y < x
-    after x is (inl same) y m = no_mark 0 (sym (no_mark_here x same) ∙ is)
+    after : (x : ℕ) → is_marked new.leaving x ≡ true → (x ≡ t) ⊎ (x ≢ t) → (y : ℕ) → Contains far.objects y ⊎ (t ≡ y) → y < x
+    after x is (inl same) y m = no_mark (sym (no_mark_here x same) ∙ is)
     after x is (inr other) y (inl earlier) = far.above x (sym (mark_before x other) ∙ is) y earlier
     after x is (inr other) y (inr last) = let least = lowest_least now.leaving t x lowest (sym (mark_before x other) ∙ is) in omega (arith, least, other, last)
 
@@ -91,7 +91,7 @@ gone_next old now new t far lowest becomes leaving sound grants table marked = g
       marked = marked ∙ far.marked;
     }
 
-pub gone_end : (old now : Dispatcher) → GoneSoFar old now → NoneAt now.leaving 0 → Ends (state old) (state now)
+pub gone_end : (old now : Dispatcher) → GoneSoFar old now → NoneMarked now.leaving → Ends (state old) (state now)
 gone_end old now far none = record {
   objects = far.objects;
   forgotten = record {
@@ -111,7 +111,7 @@ gone_end old now far none = record {
 }
 
 -- the state that is left is steady, and each object lives in it exactly while it is kept
-pub gone_steady : (old now : Dispatcher) → IsSteady old → GoneSoFar old now → NoneAt now.leaving 0 → IsSteady now × LivesWhileKept (state now)
+pub gone_steady : (old now : Dispatcher) → IsSteady old → GoneSoFar old now → NoneMarked now.leaving → IsSteady now × LivesWhileKept (state now)
 gone_steady old now steady far none =
     let ends = gone_end old now far none in (
       record { sound = far.sound; settled = ends_settled old (state now) steady.sound.blocks steady.settled ends; unmarked = subst IsUnmarked (sym far.marked) steady.unmarked },

@@ -1,5 +1,5 @@
 -- A thread that ends: its timers are stopped and marked.
-use Rattle.std.proofs.Common.{◌≡◌, ◌≢◌, ◌<◌, ℕ, true, List, [], ◌∷◌, ◌++◌, length, set, refl, sym, ap, ◌∙◌, subst, Option, Some, None, inl, inr, ◌⊎◌}
+use Rattle.std.proofs.Common.{◌≡◌, ◌≢◌, ◌<◌, ℕ, true, List, [], ◌∷◌, ◌++◌, length, set, refl, sym, ap, ◌∙◌, subst, Option, Some, None, inl, inr, ◌⊎◌, Bool, false}
 use Rattle.std.specs.Prelude.{Contains, ◌↔◌}
 use Rattle.std.proofs.lemmas.Bool.{cases_eq}
 use Rattle.std.proofs.lemmas.List.{length-set, get_or-set_other}
@@ -8,8 +8,7 @@ use Rattle.nt_status.proofs.Lists.{contains_first, contains_or_not}
 use Rattle.nt_objects.specs.declared.object.Object.{Object}
 use Rattle.nt_objects.specs.declared.object.Object.TheVariants.{Event, Semaphore, Mutex, Timer, Thread, Gone}
 use Rattle.nt_objects.specs.Object.{is_timer, setter_of, due_of, armed_with}
-use Rattle.nt_alarms.specs.Alarms.{alarm_at}
-use Rattle.nt_alarms.specs.Marks.{AddsMarks}
+use Rattle.nt_marks.specs.Marks.{is_marked, AddsMarks}
 use Rattle.nt_apc.specs.Queues.{place_of}
 use Rattle.nt_calls.specs.State.{object_at}
 use Rattle.nt_core.specs.Dispatcher.{Dispatcher}
@@ -92,7 +91,7 @@ stopped_as P Q old new same stops = record {
 -- ---- the timers of a list, one after another
 
 -- of these timers those that the thread armed with a routine are stopped and marked, and what was sound is sound still
-pub record StoppedSoFar (t : ℕ) (timers : List ℕ) (old now : List Object) (old_alarms alarms old_marks marks : List (Option ℕ)) : Type 0 where
+pub record StoppedSoFar (t : ℕ) (timers : List ℕ) (old now : List Object) (old_alarms alarms : List (Option ℕ)) (old_marks marks : List Bool) : Type 0 where
   pub stopped : AreStopped (IsSetAmong timers old t) old now
   pub marked : AddsMarks (IsSetAmong timers old t) old_marks marks
   pub clocks : length alarms ≡ length now
@@ -112,7 +111,7 @@ set_before t timers old now h stops sets = (was, never was)
     never is member = stopped_unset (object_at old h) t (ap setter_of (sym (stops.stopped h (member, is))) ∙ sets)
 
 -- the next timer is the thread's: it is stopped and marked
-pub stopped_next : (t : ℕ) (timers : List ℕ) (h : ℕ) (old now : List Object) (old_alarms alarms old_marks marks : List (Option ℕ)) → IsSetBy now t h → h < length marks → StoppedSoFar t timers old now old_alarms alarms old_marks marks → StoppedSoFar t (timers ++ h ∷ []) old (set now h (armed_with None (object_at now h))) old_alarms (set alarms h None) old_marks (set marks h (Some 0))
+pub stopped_next : (t : ℕ) (timers : List ℕ) (h : ℕ) (old now : List Object) (old_alarms alarms : List (Option ℕ)) (old_marks marks : List Bool) → IsSetBy now t h → h < length marks → StoppedSoFar t timers old now old_alarms alarms old_marks marks → StoppedSoFar t (timers ++ h ∷ []) old (set now h (armed_with None (object_at now h))) old_alarms (set alarms h None) old_marks (set marks h true)
 stopped_next t timers h old now old_alarms alarms old_marks marks sets place far = record {
   stopped = record {
     count = length-set now h (armed_with None (object_at now h)) ∙ far.stopped.count;
@@ -120,7 +119,7 @@ stopped_next t timers h old now old_alarms alarms old_marks marks sets place far
     others = λ k none. object_at-set_other now h k (armed_with None (object_at now h)) (λ same. none (last k same)) ∙ far.stopped.others k (λ has. none (first k has));
   };
   marked = record {
-    count = length-set marks h (Some 0) ∙ far.marked.count;
+    count = length-set marks h true ∙ far.marked.count;
     exactly = λ k. (λ mark. to k mark (cases_eq k h), λ has. from k has);
   };
   clocks = length-set alarms h None ∙ (far.clocks ∙ sym (length-set now h (armed_with None (object_at now h))));
@@ -152,22 +151,22 @@ stopped_next t timers h old now old_alarms alarms old_marks marks sets place far
         earlier (inl member) = far.stopped.stopped k (member, has.1)
         earlier (inr same) = absurd (differs (sym same))
 
-    to : (k : ℕ) → alarm_at (set marks h (Some 0)) k ≡ Some 0 → (k ≡ h) ⊎ (k ≢ h) → (alarm_at old_marks k ≡ Some 0) ⊎ IsSetAmong (timers ++ h ∷ []) old t k
+    to : (k : ℕ) → is_marked (set marks h true) k ≡ true → (k ≡ h) ⊎ (k ≢ h) → (is_marked old_marks k ≡ true) ⊎ IsSetAmong (timers ++ h ∷ []) old t k
     to k mark (inl same) = inr (last k same)
-    to k mark (inr differs) = elim ((far.marked.exactly k).0 (sym (get_or-set_other marks h k (Some 0) None differs) ∙ mark)) [
+    to k mark (inr differs) = elim ((far.marked.exactly k).0 (sym (get_or-set_other marks h k true false differs) ∙ mark)) [
       | inl was ↦ inl was
       | inr has ↦ inr (first k has)
     ]
 
-    from : (k : ℕ) → (alarm_at old_marks k ≡ Some 0) ⊎ IsSetAmong (timers ++ h ∷ []) old t k → alarm_at (set marks h (Some 0)) k ≡ Some 0
+    from : (k : ℕ) → (is_marked old_marks k ≡ true) ⊎ IsSetAmong (timers ++ h ∷ []) old t k → is_marked (set marks h true) k ≡ true
     from k (inl was) = set_kept marks h k ((far.marked.exactly k).1 (inl was))
     from k (inr has) = elim (Contains-push_cases timers h k has.0) [
       | inl member ↦ set_kept marks h k ((far.marked.exactly k).1 (inr (member, has.1)))
-      | inr same ↦ subst (λ (n : ℕ). alarm_at (set marks h (Some 0)) n ≡ Some 0) same (set_mark marks h place)
+      | inr same ↦ subst (λ (n : ℕ). is_marked (set marks h true) n ≡ true) same (set_mark marks h place)
     ]
 
 -- the next timer is not the thread's
-pub stopped_not : (t : ℕ) (timers : List ℕ) (h : ℕ) (old now : List Object) (old_alarms alarms old_marks marks : List (Option ℕ)) → (IsSetBy now t h → ⊥) → StoppedSoFar t timers old now old_alarms alarms old_marks marks → StoppedSoFar t (timers ++ h ∷ []) old now old_alarms alarms old_marks marks
+pub stopped_not : (t : ℕ) (timers : List ℕ) (h : ℕ) (old now : List Object) (old_alarms alarms : List (Option ℕ)) (old_marks marks : List Bool) → (IsSetBy now t h → ⊥) → StoppedSoFar t timers old now old_alarms alarms old_marks marks → StoppedSoFar t (timers ++ h ∷ []) old now old_alarms alarms old_marks marks
 stopped_not t timers h old now old_alarms alarms old_marks marks none far = record {
   stopped = stopped_as (IsSetAmong timers old t) (IsSetAmong (timers ++ h ∷ []) old t) old now same far.stopped;
   marked = adds_as (IsSetAmong timers old t) (IsSetAmong (timers ++ h ∷ []) old t) old_marks marks same far.marked;

@@ -16,8 +16,9 @@ use Rattle.nt_core.specs.Dispatcher.{Dispatcher, state, with_object}
 use Rattle.nt_core.specs.Lawful.{IsSound, IsSteady, HandlesAgree, MarksAgreeBut}
 use Rattle.nt_core.specs.Accepts.{IsFresh}
 use Rattle.nt_core.specs.Renewals.{AddsVacant, is_vacant}
-use Rattle.nt_core.proofs.Changing.{object_at-append, sound_longer, served_unchanged, due_kept, alarm_created}
+use Rattle.nt_core.proofs.Changing.{object_at-append, sound_longer, served_unchanged, due_kept}
 use Rattle.nt_core.proofs.Replacing.{created_only, due_created}
+use Rattle.nt_core.proofs.Marking.{mark_created}
 use Rattle.nt_core.proofs.Remaining.{and_not}
 use Rattle.nt_core.proofs.Renewing.{never_forgotten, not_queued}
 
@@ -102,7 +103,7 @@ steady_vacant d owned steady living room = record {
     alerted = steady.settled.alerted;
     passed = due_kept (state d) (state new) d.now (λ k. due_created d.objects Gone k refl) refl steady.settled.passed;
   };
-  unmarked = record { changed = λ place at. steady.unmarked.changed place (sym (alarm_created d.marked.changed place) ∙ at); alerted = steady.unmarked.alerted };
+  unmarked = record { changed = λ place at. steady.unmarked.changed place (sym (mark_created d.marked.changed place) ∙ at); alerted = steady.unmarked.alerted };
 }
   where
     new : Dispatcher
@@ -124,7 +125,7 @@ steady_vacant d owned steady living room = record {
     marks : MarksAgreeBut [] new
     marks = record {
       living = λ h opened is. ap is_gone (object_at-append d.objects (Gone ∷ []) opened.object (sound.handles.named h opened is)) ∙ sound.marks.living h opened is;
-      count = let places = length-append d.leaving (None ∷ []) in let before = sound.marks.count in omega (arith, longer, places, before);
+      count = let places = length-append d.leaving (false ∷ []) in let before = sound.marks.count in omega (arith, longer, places, before);
       marked = λ k is. absurd (never_forgotten (state new) k (living_vacant d owned sound living) is);
       known = λ k m. absurd (contains_none k m);
     }

@@ -1,5 +1,5 @@
 -- Marks for what a wait that ended named.
-use Rattle.std.proofs.Common.{◌≡◌, ◌<◌, ℕ, zero, suc, true, false, Option, length, [], List, ◌∷◌, set, refl, sym, ap, ◌∙◌, subst, arith, Some, None, inl, inr, Contains}
+use Rattle.std.proofs.Common.{◌≡◌, ◌<◌, ℕ, zero, suc, Bool, true, false, Option, length, [], List, ◌∷◌, set, refl, sym, ap, ◌∙◌, subst, arith, inl, inr, Contains}
 use Rattle.std.specs.Prelude.{nat_lt, drop}
 use Rattle.std.proofs.lemmas.Bool.{cases_eq, false≢true}
 use Rattle.std.proofs.lemmas.Bool.Decides.{nat_tests}
@@ -7,13 +7,13 @@ use Rattle.std.proofs.lemmas.List.{length-set, get_or-set_same, get_or-set_other
 use Rattle.nt_status.proofs.Lists.{contains_none, contains_first, contains_later, contains_cases}
 use Rattle.nt_objects.specs.declared.handles.Opened.{Opened}
 use Rattle.nt_objects.specs.Handles.{count_named}
-use Rattle.nt_alarms.specs.Alarms.{alarm_at}
+use Rattle.nt_marks.specs.Marks.{is_marked}
 use Rattle.nt_core.specs.Dispatcher.{Dispatcher, state}
 use Rattle.nt_core.specs.Lawful.{MarksAgreeBut, LetsGoBut}
 use Rattle.nt_core.proofs.Lives.{parts}
 
 -- an object that a handle names needs no mark
-pub let_go_named : (handles : List (Option Opened)) (ended : List ℕ) (old now : List (Option ℕ)) (o : ℕ) (left : List ℕ) → LetsGoBut (o ∷ left) handles ended old now → nat_lt 0 (count_named handles o) ≡ true → LetsGoBut left handles ended old now
+pub let_go_named : (handles : List (Option Opened)) (ended : List ℕ) (old now : List Bool) (o : ℕ) (left : List ℕ) → LetsGoBut (o ∷ left) handles ended old now → nat_lt 0 (count_named handles o) ≡ true → LetsGoBut left handles ended old now
 let_go_named handles ended old now o left far named = record {
   count = far.count;
   marked = λ k member none. elim (far.marked k member none) [
@@ -27,16 +27,16 @@ let_go_named handles ended old now o left far named = record {
 }
 
 -- the others get one
-pub let_go_marked : (handles : List (Option Opened)) (ended : List ℕ) (old now : List (Option ℕ)) (o : ℕ) (left : List ℕ) → LetsGoBut (o ∷ left) handles ended old now → o < length old → LetsGoBut left handles ended old (set now o (Some 0))
+pub let_go_marked : (handles : List (Option Opened)) (ended : List ℕ) (old now : List Bool) (o : ℕ) (left : List ℕ) → LetsGoBut (o ∷ left) handles ended old now → o < length old → LetsGoBut left handles ended old (set now o true)
 let_go_marked handles ended old now o left far known =
     let count = far.count in
-    let here : alarm_at (set now o (Some 0)) o ≡ Some 0 = get_or-set_same now o (Some 0) None (omega (arith, known, count)) in
+    let here : is_marked (set now o true) o ≡ true = get_or-set_same now o true false (omega (arith, known, count)) in
     record {
-      count = length-set now o (Some 0) ∙ far.count;
+      count = length-set now o true ∙ far.count;
       marked = λ k member none. elim (cases_eq k o) [
-        | inl same ↦ inl (ap (λ j. alarm_at (set now o (Some 0)) j) same ∙ here)
+        | inl same ↦ inl (ap (λ j. is_marked (set now o true) j) same ∙ here)
         | inr other ↦ elim (far.marked k member none) [
-          | inl mark ↦ inl (get_or-set_other now o k (Some 0) None other ∙ mark)
+          | inl mark ↦ inl (get_or-set_other now o k true false other ∙ mark)
           | inr here_or_later ↦ elim (contains_cases o left k here_or_later) [
             | inl is ↦ absurd (other (sym is))
             | inr later ↦ inr later
@@ -44,13 +44,13 @@ let_go_marked handles ended old now o left far known =
         ]
       ];
       kept = λ k was. elim (cases_eq k o) [
-        | inl same ↦ ap (λ j. alarm_at (set now o (Some 0)) j) same ∙ here
-        | inr other ↦ get_or-set_other now o k (Some 0) None other ∙ far.kept k was
+        | inl same ↦ ap (λ j. is_marked (set now o true) j) same ∙ here
+        | inr other ↦ get_or-set_other now o k true false other ∙ far.kept k was
       ];
     }
 
 -- with these marks each object that lives while nothing keeps it has one
-pub let_go_agree : (d : Dispatcher) (ended : List ℕ) (leaving : List (Option ℕ)) → MarksAgreeBut ended d → LetsGoBut [] d.handles ended d.leaving leaving → MarksAgreeBut [] (record d { leaving = leaving })
+pub let_go_agree : (d : Dispatcher) (ended : List ℕ) (leaving : List Bool) → MarksAgreeBut ended d → LetsGoBut [] d.handles ended d.leaving leaving → MarksAgreeBut [] (record d { leaving = leaving })
 let_go_agree d ended leaving marks lets = record {
   living = marks.living;
   count = lets.count ∙ marks.count;

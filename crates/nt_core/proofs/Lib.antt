@@ -2,6 +2,7 @@ mod Taking
 mod Orders
 pub mod Keeping
 pub mod Walks
+mod Standings
 mod Stopping
 mod Visiting
 pub mod Changing

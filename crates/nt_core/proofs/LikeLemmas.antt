@@ -10,7 +10,7 @@ use Rattle.nt_status.proofs.Lists.{distinct_first, contains_first, contains_late
 use Rattle.nt_objects.specs.declared.object.Object.{Object}
 use Rattle.std.proofs.lemmas.Bool.Decides.{nat_tests}
 use Rattle.nt_waits.specs.declared.wait.Wait.{Wait}
-use Rattle.nt_waits.specs.Waits.{Waits, queue_of, next_after, Agrees}
+use Rattle.nt_waits.specs.Waits.{queue_of, next_after}
 use Rattle.nt_calls.specs.State.{State}
 use Rattle.nt_core.specs.Dispatcher.{Dispatcher, state}
 use Rattle.nt_core.specs.Lawful.{IsLawful}

@@ -1,5 +1,5 @@
 -- Which objects have a mark.
-use Rattle.std.proofs.Common.{◌≡◌, ◌≢◌, ℕ, zero, suc, ◌<◌, Bool, true, false, not, ◌&&◌, ◌||◌, List, [], ◌∷◌, ◌++◌, length, length-append, set, refl, sym, ap, ◌∙◌, subst, arith, Option, Some, None, inl, inr, ◌⊎◌, Contains}
+use Rattle.std.proofs.Common.{◌≡◌, ◌≢◌, ℕ, zero, suc, ◌<◌, Bool, true, false, not, ◌&&◌, ◌||◌, List, [], ◌∷◌, ◌++◌, length, length-append, set, refl, sym, ap, ◌∙◌, subst, arith, Option, Some, inl, inr, ◌⊎◌, Contains}
 use Rattle.std.specs.Prelude.{nat_lt, replicate}
 use Rattle.std.specs.FinMap.{get}
 use Rattle.std.proofs.lemmas.Bool.{cases_eq, false≢true}
@@ -14,7 +14,7 @@ use Rattle.nt_objects.specs.Object.{has_ended, is_gone}
 use Rattle.nt_waits.specs.declared.wait.Wait.{Wait}
 use Rattle.nt_status.proofs.Lists.{contains_none, contains_at, contains_or_not}
 use Rattle.nt_waits.specs.Waits.{Names, Waits, queue_of, others}
-use Rattle.nt_alarms.specs.Alarms.{alarm_at}
+use Rattle.nt_marks.specs.Marks.{is_marked}
 use Rattle.nt_apc.specs.Queues.{Apcs}
 use Rattle.nt_waits.proofs.OthersLemmas.{others_absent}
 use Rattle.nt_calls.specs.State.{State, object_at}
@@ -44,7 +44,7 @@ marks_from old new left handles leaving count gone before known marks = record {
   count = ap (λ m. length m) leaving ∙ (marks.count ∙ sym count);
   marked = λ o forgotten. elim (before o forgotten) [
     | inl earlier ↦ elim (marks.marked o earlier) [
-      | inl mark ↦ inl (ap (λ m. alarm_at m o) leaving ∙ mark)
+      | inl mark ↦ inl (ap (λ m. is_marked m o) leaving ∙ mark)
       | inr none ↦ absurd (contains_none o none)
     ]
     | inr member ↦ inr member
@@ -65,10 +65,10 @@ marks_along {old} {new} threads handles leaving queues objects marks =
     marks_same old new threads handles leaving queues (ap (λ os. length os) objects) (λ o. ap (λ os. is_gone (object_at os o)) objects) (λ o. ap (λ os. has_ended (object_at os o)) objects) marks
 
 -- at first each object is a thread that runs, and no mark stands
-pub marks_opening : (d : Dispatcher) → d.objects ≡ replicate d.threads (Thread false) → d.leaving ≡ replicate d.threads None → ((h : ℕ) → object_at d.objects h ≡ Thread false) → MarksAgreeBut [] d
+pub marks_opening : (d : Dispatcher) → d.objects ≡ replicate d.threads (Thread false) → d.leaving ≡ replicate d.threads false → ((h : ℕ) → object_at d.objects h ≡ Thread false) → MarksAgreeBut [] d
 marks_opening d objects leaving running = record {
   living = λ h opened is. ap is_gone (running opened.object);
-  count = ap (λ m. length m) leaving ∙ (length-replicate d.threads None ∙ sym count);
+  count = ap (λ m. length m) leaving ∙ (length-replicate d.threads false ∙ sym count);
   marked = λ o forgotten.
       let is = parts (state d) o forgotten in
       let known = is.known in
@@ -142,7 +142,7 @@ appended_last : (os : List Object) (o : Object) → object_at (os ++ o ∷ []) (
 appended_last [] o = refl
 appended_last (x ∷ os) o = appended_last os o
 
-mark_created : (marks : List (Option ℕ)) (h : ℕ) → alarm_at (marks ++ None ∷ []) h ≡ alarm_at marks h
+pub mark_created : (marks : List Bool) (h : ℕ) → is_marked (marks ++ false ∷ []) h ≡ is_marked marks h
 mark_created [] zero = refl
 mark_created [] (suc h) = refl
 mark_created (a ∷ marks) zero = refl
@@ -154,7 +154,7 @@ marks_created d o owned agree alive marks = record {
     | inl before ↦ ap is_gone (appended d.objects o opened.object (agree.named h opened before)) ∙ marks.living h opened before
     | inr same ↦ ap (λ k. is_gone (object_at (d.objects ++ o ∷ []) k)) (sym same) ∙ (ap is_gone (appended_last d.objects o) ∙ alive)
   ];
-  count = let objects = length-append d.objects (o ∷ []) in let places = length-append d.leaving (None ∷ []) in let before = marks.count in omega (arith, objects, places, before);
+  count = let objects = length-append d.objects (o ∷ []) in let places = length-append d.leaving (false ∷ []) in let before = marks.count in omega (arith, objects, places, before);
   marked = λ x forgotten. elim (marks.marked x (before x (parts (state (with_created d o owned)) x forgotten))) [
     | inl mark ↦ inl (mark_created d.leaving x ∙ mark)
     | inr none ↦ absurd (contains_none x none)
@@ -211,14 +211,14 @@ marks_ended old new t w sound pends threads handles leaving queues count gone en
         same_wait v u e = (cc)
 
 -- the thread ends, and its own object has a mark
-pub marks_ending : (d : Dispatcher) (t : ℕ) (apcs : Apcs) → t < length d.objects → is_gone (object_at d.objects t) ≡ false → MarksAgreeBut [] d → MarksAgreeBut [] (record d { objects = set d.objects t (Thread true); apcs = apcs; leaving = set d.leaving t (Some 0) })
+pub marks_ending : (d : Dispatcher) (t : ℕ) (apcs : Apcs) → t < length d.objects → is_gone (object_at d.objects t) ≡ false → MarksAgreeBut [] d → MarksAgreeBut [] (record d { objects = set d.objects t (Thread true); apcs = apcs; leaving = set d.leaving t true })
 marks_ending d t apcs known alive marks = record {
   living = λ h opened is. gone opened.object ∙ marks.living h opened is;
-  count = length-set d.leaving t (Some 0) ∙ (marks.count ∙ sym (length-set d.objects t (Thread true)));
+  count = length-set d.leaving t true ∙ (marks.count ∙ sym (length-set d.objects t (Thread true)));
   marked = λ o forgotten. elim (cases_eq o t) [
-    | inl here ↦ inl (ap (λ (k : ℕ). alarm_at (set d.leaving t (Some 0)) k) here ∙ get_or-set_same d.leaving t (Some 0) None (let count = marks.count in omega (arith, known, count)))
+    | inl here ↦ inl (ap (λ (k : ℕ). is_marked (set d.leaving t true) k) here ∙ get_or-set_same d.leaving t true false (let count = marks.count in omega (arith, known, count)))
     | inr other ↦ elim (marks.marked o (sym (forgotten_same (state d) (state new) o (length-set d.objects t (Thread true)) (gone o) (ap has_ended (get_or-set_other d.objects t o (Thread true) (Thread false) other)) refl refl refl) ∙ forgotten)) [
-      | inl mark ↦ inl (get_or-set_other d.leaving t o (Some 0) None other ∙ mark)
+      | inl mark ↦ inl (get_or-set_other d.leaving t o true false other ∙ mark)
       | inr none ↦ absurd (contains_none o none)
     ]
   ];
@@ -226,7 +226,7 @@ marks_ending d t apcs known alive marks = record {
 }
   where
     new : Dispatcher
-    new = record d { objects = set d.objects t (Thread true); apcs = apcs; leaving = set d.leaving t (Some 0) }
+    new = record d { objects = set d.objects t (Thread true); apcs = apcs; leaving = set d.leaving t true }
 
     gone : (o : ℕ) → is_gone (object_at (set d.objects t (Thread true)) o) ≡ is_gone (object_at d.objects o)
     gone o = elim (cases_eq o t) [

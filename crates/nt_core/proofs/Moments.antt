@@ -148,7 +148,7 @@ same_sequence : (old new : Dispatcher) (timers : List ℕ) → new.table ≡ old
 same_sequence old new timers table = ap (λ (v : Waits). flat_map (λ h. queue_of v h) timers) table
 
 -- what expired tells nothing of the marks that are left now
-pub expired_remarked : (old new : Dispatcher) (m u : ℕ) (timers : List ℕ) (marks : List (Option ℕ)) (marked : Marked) → IsExpiredAfter old m u new timers marks → IsExpiredAfter old m u (with_marked new marked) timers marks
+pub expired_remarked : (old new : Dispatcher) (m u : ℕ) (timers : List ℕ) (marks : List Bool) (marked : Marked) → IsExpiredAfter old m u new timers marks → IsExpiredAfter old m u (with_marked new marked) timers marks
 expired_remarked old new m u timers marks marked after = record {
   due = after.due;
   expired = after.expired;
@@ -160,7 +160,7 @@ expired_remarked old new m u timers marks marked after = record {
 }
 
 -- what fits after timers expired names one of them
-pub expired_fit : (old new : Dispatcher) (m u : ℕ) (timers : List ℕ) (marks : List (Option ℕ)) → IsSound old → IsServed (state old) → IsExpiredAfter old m u new timers marks → FitOnlyIn (sequence (state new) timers) (state new)
+pub expired_fit : (old new : Dispatcher) (m u : ℕ) (timers : List ℕ) (marks : List Bool) → IsSound old → IsServed (state old) → IsExpiredAfter old m u new timers marks → FitOnlyIn (sequence (state new) timers) (state new)
 expired_fit old new m u timers marks sound served after =
     subst (λ (v : Waits). FitOnlyIn (flat_map (λ h. queue_of v h) timers) (state (record new { table = v }))) (sym after.table)
     (fit_only_in timers old new.objects sound served (λ h known. in_or_same h (contains_or_not timers h)))
@@ -212,7 +212,7 @@ late_fewer d1 d2 d3 d4 u threads gs has rouse timed t late = by_grants gs has
         let count = Grants_len threads (state d1) (state d2) (g ∷ gs) has in
         omega (arith, count, out, roused)
 
-pub passed_whole : (old d1 d2 d3 d4 : Dispatcher) (m u : ℕ) (timers : List ℕ) (marks : List (Option ℕ)) → IsExpiredAfter old m u d1 timers marks → FitOnlyIn (sequence (state d1) timers) (state d1) → Visits (sequence (state d1) timers) d1 d2 → IsAlertedAfter d2 d3 → IsTimedOutAfter d3 u d4 → IsSound d4 → IsPassedAfter old m u d4
+pub passed_whole : (old d1 d2 d3 d4 : Dispatcher) (m u : ℕ) (timers : List ℕ) (marks : List Bool) → IsExpiredAfter old m u d1 timers marks → FitOnlyIn (sequence (state d1) timers) (state d1) → Visits (sequence (state d1) timers) d1 d2 → IsAlertedAfter d2 d3 → IsTimedOutAfter d3 u d4 → IsSound d4 → IsPassedAfter old m u d4
 passed_whole old d1 d2 d3 d4 m u timers marks after local visits rouse timed sound =
     let same = same_sequence old d1 timers after.table in
     let grants : Grants (sequence (state old) timers) (all_expired m (state old) timers) visits.ended (state d2) =
@@ -256,7 +256,7 @@ passed_whole old d1 d2 d3 d4 m u timers marks after local visits rouse timed sou
     }
 
 -- what is served then fits the counter
-pub expired_countable : (old new : Dispatcher) (m u : ℕ) (timers : List ℕ) (marks : List (Option ℕ)) → IsExpiredAfter old m u new timers marks → old.table.looked + due_weight (λ h. length ((state old).queues h)) m 0 old.objects < 2 ^ 64 → new.table.looked + length (sequence (state new) timers) < 2 ^ 64
+pub expired_countable : (old new : Dispatcher) (m u : ℕ) (timers : List ℕ) (marks : List Bool) → IsExpiredAfter old m u new timers marks → old.table.looked + due_weight (λ h. length ((state old).queues h)) m 0 old.objects < 2 ^ 64 → new.table.looked + length (sequence (state new) timers) < 2 ^ 64
 expired_countable old new m u timers marks after few =
     let looked : new.table.looked ≡ old.table.looked = ap (λ (v : Waits). v.looked) after.table in
     let same : length (sequence (state new) timers) ≡ length (sequence (state old) timers) = ap (λ q. length q) (same_sequence old new timers after.table) in
@@ -265,7 +265,7 @@ expired_countable old new m u timers marks after few =
     omega (arith, few, looked, same, placed, gone)
 
 -- no deadline is before this moment
-pub none_earlier_left : (old d1 d2 d3 : Dispatcher) (m u : ℕ) (timers : List ℕ) (marks : List (Option ℕ)) → IsNextMoment (state old) m u → IsExpiredAfter old m u d1 timers marks → Visits (sequence (state d1) timers) d1 d2 → IsAlertedAfter d2 d3 → NoneEarlier d3.table.pending u
+pub none_earlier_left : (old d1 d2 d3 : Dispatcher) (m u : ℕ) (timers : List ℕ) (marks : List Bool) → IsNextMoment (state old) m u → IsExpiredAfter old m u d1 timers marks → Visits (sequence (state d1) timers) d1 d2 → IsAlertedAfter d2 d3 → NoneEarlier d3.table.pending u
 none_earlier_left old d1 d2 d3 m u timers marks next after visits rouse t v has =
     let late = late_of (state d3) v t has in
     let a = (over_pending (state d2) rouse.alerts.threads true t late.0 (ap (λ (s : State). fin.get s.waits t) (sym rouse.alerts.leaves) ∙ late.1)).0 in

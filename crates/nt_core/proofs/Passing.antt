@@ -13,7 +13,7 @@ use Rattle.nt_objects.specs.declared.object.Armed.{Armed}
 use Rattle.nt_objects.specs.declared.object.Routine.{Routine}
 use Rattle.nt_objects.specs.Object.{due_of, setter_of, is_timer, rearmed}
 use Rattle.nt_alarms.specs.Alarms.{alarm_at, NoneBefore, NoneAt, IsLowestAt}
-use Rattle.nt_alarms.specs.Marks.{with_mark, marked_places}
+use Rattle.nt_marks.specs.Marks.{is_marked, with_mark, marked_places}
 use Rattle.nt_apc.specs.Queues.{has_apc}
 use Rattle.nt_calls.specs.Rising.{IsRising}
 use Rattle.nt_calls.specs.State.{State, object_at}
@@ -37,14 +37,14 @@ all_expired_append v s [] h = refl
 all_expired_append v s (k ∷ timers) h = all_expired_append v (expired v s k) timers h
 
 -- the timers that have expired so far; those that are due still have greater handles
-pub record ExpiredSoFar (old now : Dispatcher) (m u : ℕ) (timers : List ℕ) (marks : List (Option ℕ)) : Type 0 where
+pub record ExpiredSoFar (old now : Dispatcher) (m u : ℕ) (timers : List ℕ) (marks : List Bool) : Type 0 where
   pub rising : IsRising timers
   pub due : (h : ℕ) → Contains timers h → IsTimerDue (state old) u h
   pub expired : state now ≡ all_expired m (state old) timers
   pub others : (h : ℕ) → (Contains timers h → ⊥) → object_at now.objects h ≡ object_at old.objects h
   pub above : (h : ℕ) → IsTimerDue (state now) u h → (k : ℕ) → Contains timers k → k < h
   pub none_before : NoneBefore now.alarms u
-  pub marked : (t : ℕ) → IsAlerted (state now) t → alarm_at marks t ≡ Some 0
+  pub marked : (t : ℕ) → IsAlerted (state now) t → is_marked marks t ≡ true
   pub known : (h : ℕ) → Contains timers h → h < length old.objects
   pub fewer : (weight : ℕ → ℕ) → due_weight weight m 0 now.objects + total_weight weight timers ≡ due_weight weight m 0 old.objects
   pub count : length now.objects ≡ length old.objects
@@ -52,7 +52,7 @@ pub record ExpiredSoFar (old now : Dispatcher) (m u : ℕ) (timers : List ℕ) (
   pub table : now.table ≡ old.table
   pub sound : IsSound now
 
-pub expired_none : (d : Dispatcher) (m u : ℕ) (marks : List (Option ℕ)) → IsSound d → IsCalm (state d) → NoneBefore d.alarms u → ExpiredSoFar d d m u [] marks
+pub expired_none : (d : Dispatcher) (m u : ℕ) (marks : List Bool) → IsSound d → IsCalm (state d) → NoneBefore d.alarms u → ExpiredSoFar d d m u [] marks
 expired_none d m u marks sound calm before = record {
   rising = tt;
   due = λ h member. absurd (contains_none h member);
@@ -120,20 +120,20 @@ setter_parts : (o : Object) (manual was : Bool) (armed : Armed) → o ≡ Timer 
 setter_parts o manual was armed is r has = ap setter_of is ∙ ap (λ (routine : Option Routine). setter_of (Timer manual was (Some (record armed { routine = routine })))) has
 
 -- the marks after the setter of an expired timer, if any, has one
-pub record IsMarked (marks new : List (Option ℕ)) (setter : Option ℕ) : Type 0 where
-  pub kept : (t : ℕ) → alarm_at marks t ≡ Some 0 → alarm_at new t ≡ Some 0
-  pub own : (t : ℕ) → setter ≡ Some t → alarm_at new t ≡ Some 0
+pub record IsMarked (marks new : List Bool) (setter : Option ℕ) : Type 0 where
+  pub kept : (t : ℕ) → is_marked marks t ≡ true → is_marked new t ≡ true
+  pub own : (t : ℕ) → setter ≡ Some t → is_marked new t ≡ true
 
-pub marked_none : (marks : List (Option ℕ)) → IsMarked marks marks None
+pub marked_none : (marks : List Bool) → IsMarked marks marks None
 marked_none marks = record { kept = λ t is. is; own = λ t e. no t e }
   where
     no : {P : Type 0} (t : ℕ) → None ≡ Some t → P
     no t e = (cc)
 
-pub marked_some : (marks : List (Option ℕ)) (t : ℕ) → t < length marks → IsMarked marks (set marks t (Some 0)) (Some t)
+pub marked_some : (marks : List Bool) (t : ℕ) → t < length marks → IsMarked marks (set marks t true) (Some t)
 marked_some marks t below = record {
   kept = λ k is. set_kept marks t k is;
-  own = λ k e. let same : t ≡ k = some_same k e in subst (λ (j : ℕ). alarm_at (set marks t (Some 0)) j ≡ Some 0) same (set_mark marks t below);
+  own = λ k e. let same : t ≡ k = some_same k e in subst (λ (j : ℕ). is_marked (set marks t true) j ≡ true) same (set_mark marks t below);
 }
   where
     some_same : (k : ℕ) → Some t ≡ Some k → t ≡ k
@@ -153,7 +153,7 @@ alerted_before m s h u t due alerted =
         go (inl same) = inl (setter_parts (object_at s.objects h) manual was armed is r some ∙ ap (λ (k : ℕ). Some k) (sym same))
         go (inr other) = inr (alerted.0, alerted.1, and_kept (alerted.0).alertable (has_apc (notified s.apcs h armed.due (Some r)) t) (has_apc s.apcs t) (has_notified s.apcs h armed.due (Some r) r.thread t refl other) (subst (λ (x : Option Routine). ((alerted.0).alertable && has_apc (notified s.apcs h armed.due x) t) ≡ true) some alerted.2))
 
-pub expired_next : (old now new : Dispatcher) (m u h : ℕ) (timers : List ℕ) (marks marked : List (Option ℕ)) → u ≤ m → ExpiredSoFar old now m u timers marks → IsLowestAt now.alarms u h → IsMarked marks marked (setter_of (object_at now.objects h)) → state new ≡ expired m (state now) h → new.grants ≡ now.grants → new.table ≡ now.table → IsSound new → ExpiredSoFar old new m u (timers ++ h ∷ []) marked
+pub expired_next : (old now new : Dispatcher) (m u h : ℕ) (timers : List ℕ) (marks marked : List Bool) → u ≤ m → ExpiredSoFar old now m u timers marks → IsLowestAt now.alarms u h → IsMarked marks marked (setter_of (object_at now.objects h)) → state new ≡ expired m (state now) h → new.grants ≡ now.grants → new.table ≡ now.table → IsSound new → ExpiredSoFar old new m u (timers ++ h ∷ []) marked
 expired_next old now new m u h timers marks marked le far lowest mark becomes grants table sound =
     let due = lowest_due now u h far.sound lowest in
     let own = expired_objects m (state now) h u due in
@@ -217,7 +217,7 @@ expired_next old now new m u h timers marks marked le far lowest mark becomes gr
     before k v is (inr other) later elsewhere = far.none_before k v (far.sound.timers.alarm k ∙ (sym (ap due_of (elsewhere k other)) ∙ is))
 
 -- none is due then any more
-pub expired_end : (old now : Dispatcher) (m u : ℕ) (timers : List ℕ) (marks : List (Option ℕ)) → ExpiredSoFar old now m u timers marks → NoneAt now.alarms u → IsExpiredAfter old m u now timers marks
+pub expired_end : (old now : Dispatcher) (m u : ℕ) (timers : List ℕ) (marks : List Bool) → ExpiredSoFar old now m u timers marks → NoneAt now.alarms u → IsExpiredAfter old m u now timers marks
 expired_end old now m u timers marks far none = record {
   due = record { rising = far.rising; exactly = λ h. (λ member. far.due h member, λ due. listed h due (contains_or_not timers h)) };
   expired = far.expired;
@@ -233,7 +233,7 @@ expired_end old now m u timers marks far none = record {
     listed h due (inr out) = absurd (none h (far.sound.timers.alarm h ∙ (ap due_of (far.others h out) ∙ due)))
 
 -- there is room to list the next one
-pub room_more : (old now : Dispatcher) (m u h : ℕ) (timers : List ℕ) (marks : List (Option ℕ)) → ExpiredSoFar old now m u timers marks → IsLowestAt now.alarms u h → length timers + 1 ≤ length old.objects
+pub room_more : (old now : Dispatcher) (m u h : ℕ) (timers : List ℕ) (marks : List Bool) → ExpiredSoFar old now m u timers marks → IsLowestAt now.alarms u h → length timers + 1 ≤ length old.objects
 room_more old now m u h timers marks far lowest =
     let due = lowest_due now u h far.sound lowest in
     let known = alarm_known now.alarms h u lowest.here in
@@ -247,7 +247,7 @@ room_more old now m u h timers marks far lowest =
     omega (arith, few, longer)
 
 -- with the mark of its setter, if it has one
-pub setter_marked : (marks : List (Option ℕ)) (setter : Option ℕ) → ((t : ℕ) → setter ≡ Some t → t < length marks) → IsMarked marks (with_mark setter marks) setter
+pub setter_marked : (marks : List Bool) (setter : Option ℕ) → ((t : ℕ) → setter ≡ Some t → t < length marks) → IsMarked marks (with_mark setter marks) setter
 setter_marked marks None known = marked_none marks
 setter_marked marks (Some t) known = marked_some marks t (known t refl)
 
@@ -256,23 +256,23 @@ setter_known d h t sound sets = let known = (sound.timers.runs h t sets).0 in le
 
 -- the timer at h, which expires, and its setter are marked
 abbrev pub due_marked : Dispatcher → ℕ → Dispatcher
-due_marked d h = with_marked d (record { changed = set d.marked.changed h (Some 0); alerted = with_mark (setter_of (object_at d.objects h)) d.marked.alerted })
+due_marked d h = with_marked d (record { changed = set d.marked.changed h true; alerted = with_mark (setter_of (object_at d.objects h)) d.marked.alerted })
 
 pub lowest_known : (d : Dispatcher) (u h : ℕ) → IsSound d → IsLowestAt d.alarms u h → h < length d.objects
 lowest_known d u h sound lowest = let known = alarm_known d.alarms h u lowest.here in let clocks = sound.timers.count in omega (arith, known, clocks)
 
 pub marked_sound : (now mid : Dispatcher) (h : ℕ) → IsSound now → mid ≡ due_marked now h → IsSound mid
 marked_sound now mid h sound is = subst IsSound (sym is) (sound_marked now marks sound (record {
-  changed = length-set now.marked.changed h (Some 0) ∙ sound.places.changed;
+  changed = length-set now.marked.changed h true ∙ sound.places.changed;
   alerted = as_long (setter_of (object_at now.objects h)) ∙ sound.places.alerted;
 }))
   where
     as_long : (setter : Option ℕ) → length (with_mark setter now.marked.alerted) ≡ length now.marked.alerted
     as_long None = refl
-    as_long (Some t) = length-set now.marked.alerted t (Some 0)
+    as_long (Some t) = length-set now.marked.alerted t true
 
     marks : Marked
-    marks = record { changed = set now.marked.changed h (Some 0); alerted = with_mark (setter_of (object_at now.objects h)) now.marked.alerted }
+    marks = record { changed = set now.marked.changed h true; alerted = with_mark (setter_of (object_at now.objects h)) now.marked.alerted }
 
 pub due_by : (now mid : Dispatcher) (m u h : ℕ) → u ≤ m → IsSound now → IsLowestAt now.alarms u h → mid ≡ due_marked now h → IsSomeAnd (due_of (object_at mid.objects h)) (λ due. due ≤ m)
 due_by now mid m u h le sound lowest is =
@@ -291,7 +291,7 @@ expired_marked old now mid new m u h le far lowest is becomes grants table stays
     let setter = setter_of (object_at now.objects h) in
     let alerted : new.marked.alerted ≡ with_mark setter now.marked.alerted = ap (λ (mk : Marked). mk.alerted) (stays ∙ ap (λ (d : Dispatcher). d.marked) is) in
     subst (λ (timers : List ℕ). ExpiredSoFar old new m u timers new.marked.alerted) (sym (mark_places now mid new m u h old far lowest is stays))
-    (subst (λ (marks : List (Option ℕ)). ExpiredSoFar old new m u (marked_places now.marked.changed ++ h ∷ []) marks) (sym alerted)
+    (subst (λ (marks : List Bool). ExpiredSoFar old new m u (marked_places now.marked.changed ++ h ∷ []) marks) (sym alerted)
     (expired_next old now new m u h (marked_places now.marked.changed) now.marked.alerted (with_mark setter now.marked.alerted) le far lowest
     (setter_marked now.marked.alerted setter (λ t sets. setter_known now h t far.sound sets))
     (becomes ∙ ap (λ (d : Dispatcher). expired m (state d) h) is) (grants ∙ ap (λ (d : Dispatcher). d.grants) is) (table ∙ ap (λ (d : Dispatcher). d.table) is) sound))

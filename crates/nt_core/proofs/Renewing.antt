@@ -33,6 +33,12 @@ use Rattle.nt_core.proofs.Changing.{object_at-set_same, object_at-set_other, rea
 use Rattle.nt_core.proofs.Keeping.{no_thread_idle}
 use Rattle.nt_core.proofs.Lives.{not_gone, below_both, counted_opened}
 use Rattle.nt_core.proofs.Remaining.{both, turned}
+use Rattle.std.specs.FinMap as fin
+use Rattle.nt_waits.specs.declared.wait.Wait.{Wait}
+use Rattle.nt_core.proofs.Standings.{standings_kept, standings_set, standing_free}
+use Rattle.nt_core.specs.declared.standing.Standing.TheVariants.{Free}
+use Rattle.nt_core.specs.declared.standing.Standing.{Standing}
+use Rattle.nt_core.specs.Lawful.{StandingsAgree}
 
 -- ---- what an object that is gone is
 
@@ -90,8 +96,8 @@ counted_others hs h new k there closed differs =
 
 -- ---- a number is given again
 
--- the number o may be given to this object, and the number h to its handle; the hands of its threads stay as many
-pub record MayRenew (d : Dispatcher) (o h : ℕ) (x : Object) (handing : List Bool) : Type 0 where
+-- the number o may be given to this object, and the number h to its handle; the hands of its threads stay as many, and it is known which may call
+pub record MayRenew (d : Dispatcher) (o h : ℕ) (x : Object) (handing : List Bool) (standings : List Standing) : Type 0 where
   pub there : o < length d.objects
   pub gone : is_gone (object_at d.objects o) ≡ true
   pub known : h < length d.handles
@@ -101,22 +107,23 @@ pub record MayRenew (d : Dispatcher) (o h : ℕ) (x : Object) (handing : List Bo
   pub undue : due_of x ≡ None
   pub kind : is_thread x ≡ nat_lt o d.threads
   pub hands : length handing ≡ d.threads
+  pub stands : StandingsAgree d.threads (set d.objects o x) d.table.pending standings
 
-same_due : (d : Dispatcher) (o h : ℕ) (x : Object) (handing : List Bool) → MayRenew d o h x handing → due_of x ≡ due_of (object_at d.objects o)
-same_due d o h x handing may = may.undue ∙ sym (gone_undue (object_at d.objects o) may.gone)
+same_due : (d : Dispatcher) (o h : ℕ) (x : Object) (handing : List Bool) (standings : List Standing) → MayRenew d o h x handing standings → due_of x ≡ due_of (object_at d.objects o)
+same_due d o h x handing standings may = may.undue ∙ sym (gone_undue (object_at d.objects o) may.gone)
 
-same_setter : (d : Dispatcher) (o h : ℕ) (x : Object) (handing : List Bool) → MayRenew d o h x handing → setter_of x ≡ setter_of (object_at d.objects o)
-same_setter d o h x handing may = unset_undue x may.undue ∙ sym (unset_undue (object_at d.objects o) (gone_undue (object_at d.objects o) may.gone))
+same_setter : (d : Dispatcher) (o h : ℕ) (x : Object) (handing : List Bool) (standings : List Standing) → MayRenew d o h x handing standings → setter_of x ≡ setter_of (object_at d.objects o)
+same_setter d o h x handing standings may = unset_undue x may.undue ∙ sym (unset_undue (object_at d.objects o) (gone_undue (object_at d.objects o) may.gone))
 
 -- each object lives exactly while it is kept, the new one too
-pub living_again : (d : Dispatcher) (o h : ℕ) (x : Object) (handing : List Bool) (owned : List (List ℕ)) → LivesWhileKept (state d) → MayRenew d o h x handing → LivesWhileKept (state (with_again d o h x handing owned))
-living_again d o h x handing owned living may k = elim (cases_eq k o) [
+pub living_again : (d : Dispatcher) (o h : ℕ) (x : Object) (handing : List Bool) (standings : List Standing) (owned : List (List ℕ)) → LivesWhileKept (state d) → MayRenew d o h x handing standings → LivesWhileKept (state (with_again d o h x handing standings owned))
+living_again d o h x handing standings owned living may k = elim (cases_eq k o) [
   | inl same ↦ subst (λ (i : ℕ). lives (state new) i ≡ is_kept (state new) i) (sym same) (lives_here ∙ sym kept_here)
   | inr differs ↦ lives_other differs ∙ (living k ∙ sym (kept_other differs))
 ]
   where
     new : Dispatcher
-    new = with_again d o h x handing owned
+    new = with_again d o h x handing standings owned
 
     handle : Opened
     handle = record { object = o; access = full_access x }
@@ -143,8 +150,8 @@ never_forgotten s o living is =
     let two = both (lives s o) (not (is_kept s o)) is in
     false≢true (sym (turned (is_kept s o) two.1) ∙ (sym (living o) ∙ two.0))
 
-pub sound_again : (d : Dispatcher) (o h : ℕ) (x : Object) (handing : List Bool) (owned : List (List ℕ)) → IsSound d → LivesWhileKept (state d) → MayRenew d o h x handing → IsSound (with_again d o h x handing owned)
-sound_again d o h x handing owned sound living may = record {
+pub sound_again : (d : Dispatcher) (o h : ℕ) (x : Object) (handing : List Bool) (standings : List Standing) (owned : List (List ℕ)) → IsSound d → LivesWhileKept (state d) → MayRenew d o h x handing standings → IsSound (with_again d o h x handing standings owned)
+sound_again d o h x handing standings owned sound living may = record {
   few = sound.few;
   waits = λ t w pends.
       let own = sound.waits t w pends in
@@ -158,17 +165,18 @@ sound_again d o h x handing owned sound living may = record {
       };
   blocks = sound.blocks;
   hands = may.hands;
+  standings = may.stands;
   inboxes = sound.inboxes;
   objects = property_set IsLawfulObject d.objects o x may.lawful sound.objects;
   own = λ t below. (longer t (sound.own t below).0, own_thread t below);
   none_else = no_thread;
   timers = record {
     count = sound.timers.count ∙ sym (length-set d.objects o x);
-    alarm = λ k. sound.timers.alarm k ∙ sym (reading_set due_of d.objects o x (same_due d o h x handing may) k);
-    placed = λ k t is. sound.timers.placed k t (sym (reading_set setter_of d.objects o x (same_setter d o h x handing may) k) ∙ is);
+    alarm = λ k. sound.timers.alarm k ∙ sym (reading_set due_of d.objects o x (same_due d o h x handing standings may) k);
+    placed = λ k t is. sound.timers.placed k t (sym (reading_set setter_of d.objects o x (same_setter d o h x handing standings may) k) ∙ is);
     known = λ k t at. longer k (sound.timers.known k t at);
     runs = λ k t is.
-        let own = sound.timers.runs k t (sym (reading_set setter_of d.objects o x (same_setter d o h x handing may) k) ∙ is) in
+        let own = sound.timers.runs k t (sym (reading_set setter_of d.objects o x (same_setter d o h x handing standings may) k) ∙ is) in
         (own.0, ap has_ended (other t (not_gone (object_at d.objects t) own.1)) ∙ own.1);
   };
   handles = handles_again (length d.objects) (length (set d.objects o x)) d.handles h handle (length-set d.objects o x) may.there sound.handles;
@@ -178,7 +186,7 @@ sound_again d o h x handing owned sound living may = record {
       | inr here ↦ ap (λ (i : ℕ). is_gone (object_at (set d.objects o x) i)) (sym here) ∙ (ap is_gone (object_at-set_same d.objects o x may.there) ∙ may.living)
     ];
     count = sound.marks.count ∙ sym (length-set d.objects o x);
-    marked = λ k is. absurd (never_forgotten (state new) k (living_again d o h x handing owned living may) is);
+    marked = λ k is. absurd (never_forgotten (state new) k (living_again d o h x handing standings owned living may) is);
     known = λ k m. absurd (contains_none k m);
   };
   places = record { changed = sound.places.changed ∙ sym (length-set d.objects o x); alerted = sound.places.alerted };
@@ -186,7 +194,7 @@ sound_again d o h x handing owned sound living may = record {
 }
   where
     new : Dispatcher
-    new = with_again d o h x handing owned
+    new = with_again d o h x handing standings owned
 
     handle : Opened
     handle = record { object = o; access = full_access x }
@@ -215,19 +223,19 @@ sound_again d o h x handing owned sound living may = record {
       | inr differs ↦ ap (λ (y : Object). is_thread y && not (has_ended y)) (object_at-set_other d.objects o k x differs) ∙ sound.none_else k beyond (subst (λ (n : ℕ). k < n) (length-set d.objects o x) known)
     ]
 
-pub steady_again : (d : Dispatcher) (o h : ℕ) (x : Object) (handing : List Bool) (owned : List (List ℕ)) → IsSteady d → LivesWhileKept (state d) → MayRenew d o h x handing → IsSteady (with_again d o h x handing owned)
-steady_again d o h x handing owned steady living may = record {
-  sound = sound_again d o h x handing owned steady.sound living may;
+pub steady_again : (d : Dispatcher) (o h : ℕ) (x : Object) (handing : List Bool) (standings : List Standing) (owned : List (List ℕ)) → IsSteady d → LivesWhileKept (state d) → MayRenew d o h x handing standings → IsSteady (with_again d o h x handing standings owned)
+steady_again d o h x handing standings owned steady living may = record {
+  sound = sound_again d o h x handing standings owned steady.sound living may;
   settled = record {
     served = λ t. unserved t (is_due (state new) t) refl;
     alerted = steady.settled.alerted;
-    passed = due_kept (state d) (state new) d.now (λ k. inl (reading_set due_of d.objects o x (same_due d o h x handing may) k)) refl steady.settled.passed;
+    passed = due_kept (state d) (state new) d.now (λ k. inl (reading_set due_of d.objects o x (same_due d o h x handing standings may) k)) refl steady.settled.passed;
   };
   unmarked = steady.unmarked;
 }
   where
     new : Dispatcher
-    new = with_again d o h x handing owned
+    new = with_again d o h x handing standings owned
 
     -- nobody waits for what is gone
     nobody : (t : ℕ) → Contains (sequence (state d) (o ∷ [])) t → ⊥
@@ -278,6 +286,7 @@ steady_opened d h source access opened steady living may = record {
     waits = sound.waits;
     blocks = sound.blocks;
     hands = sound.hands;
+    standings = sound.standings;
     inboxes = sound.inboxes;
     objects = sound.objects;
     own = sound.own;
@@ -373,8 +382,8 @@ closed_parts s h is =
     (let test = two.0 in grind (arith, nat_tests, test), is_none_of (opened_at s.handles h) two.1)
 
 -- what makes a creation may be given the numbers
-pub may_renew : (d : Dispatcher) (t : ℕ) (act : Act) (o h : ℕ) (x : Object) → (is_vacant (state d) o && is_closed (state d) h) ≡ true → creation t act ≡ Some x → IsLawfulObject x → length d.handing ≡ d.threads → MayRenew d o h x d.handing
-may_renew d t act o h x free made lawful hands =
+pub may_renew : (d : Dispatcher) (t : ℕ) (act : Act) (o h : ℕ) (x : Object) → (is_vacant (state d) o && is_closed (state d) h) ≡ true → creation t act ≡ Some x → IsLawfulObject x → IsSound d → MayRenew d o h x d.handing d.standings
+may_renew d t act o h x free made lawful sound =
     let two = both (is_vacant (state d) o) (is_closed (state d) h) free in
     let closed = closed_parts (state d) h two.1 in
     let kept = both (nat_le d.threads o) (nat_lt o (length d.objects) && (is_gone (object_at d.objects o) && not (is_queued d.apcs.queues o))) two.0 in
@@ -390,11 +399,12 @@ may_renew d t act o h x free made lawful hands =
       living = new.living;
       undue = new.undue;
       kind = new.no_thread ∙ (let test = kept.0 in grind (arith, nat_tests, test));
-      hands = hands;
+      hands = sound.hands;
+      stands = standings_kept d.threads d.objects (set d.objects o x) d.table.pending d.standings (λ u below. ap has_ended (object_at-set_other d.objects o u x (λ same. let test = kept.0 in grind (arith, nat_tests, test, below, same)))) sound.standings;
     }
 
 -- a thread may begin again
-pub may_begin_again : (d : Dispatcher) (t h : ℕ) → IsSound d → (is_left (state d) t && is_closed (state d) h) ≡ true → MayRenew d t h (Thread false) (set d.handing t false)
+pub may_begin_again : (d : Dispatcher) (t h : ℕ) → IsSound d → (is_left (state d) t && is_closed (state d) h) ≡ true → MayRenew d t h (Thread false) (set d.handing t false) (set d.standings t Free)
 may_begin_again d t h sound free =
     let two = both (is_left (state d) t) (is_closed (state d) h) free in
     let closed = closed_parts (state d) h two.1 in
@@ -411,7 +421,17 @@ may_begin_again d t h sound free =
       undue = refl;
       kind = sym kept.0;
       hands = length-set d.handing t false ∙ sound.hands;
+      stands = standings_set d.threads d.objects (set d.objects t (Thread false)) d.table.pending d.table.pending d.standings t Free
+          (standing_free (set d.objects t (Thread false)) d.table.pending t (ap has_ended (object_at-set_same d.objects t (Thread false) (sound.own t below).0)) (idle gone.0 (fin.get d.table.pending t) refl))
+          (λ u differs. ap has_ended (object_at-set_other d.objects t u (Thread false) differs))
+          (λ u differs. refl)
+          sound.standings;
     }
+  where
+    -- whoever is gone does not wait
+    idle : is_gone (object_at d.objects t) ≡ true → (o : Option Wait) → fin.get d.table.pending t ≡ o → o ≡ None
+    idle gone None is = refl
+    idle gone (Some w) is = absurd (false≢true (sym (not_gone (object_at d.objects t) (sound.waits t w is).runs) ∙ gone))
 
 -- ---- what is answered
 

@@ -27,13 +27,13 @@ use Rattle.nt_status.specs.Access.{access_bits}
 use Rattle.nt_status.specs.Flags.{only_known}
 use Rattle.nt_status.specs.declared.refusal.Refusal.TheVariants.{AccessDenied, HandleLimit, InvalidHandle}
 use Rattle.nt_core.proofs.Handling.{handles_opened}
-use Rattle.nt_core.proofs.Marking.{marks_opened}
+use Rattle.nt_core.proofs.Marking.{marks_opened, mark_created}
 use Rattle.nt_objects.specs.declared.handles.Opened.{Opened}
 use Rattle.nt_calls.specs.Refusals.{duplicate_causes, first_of_causes, is_full, is_unknown}
 use Rattle.nt_core.specs.Visits.{FitOnlyIn}
 use Rattle.nt_core.specs.Lawful.{IsSound, IsSteady, MayReplace, IsUnmarked}
 use Rattle.nt_core.specs.Accepts.{IsFresh, IsServedAfter, Accepts}
-use Rattle.nt_core.proofs.Changing.{ChangedOnlyAt, one_changed, same_changed, fit_only_in, changed_at_one, sound_replaced, served_fewer, due_replaced, none_created, sound_created, served_unchanged, object_at-append, due_kept, known_event, known_object, set_as_before, object_at-set_same, alarm_created}
+use Rattle.nt_core.proofs.Changing.{ChangedOnlyAt, one_changed, same_changed, fit_only_in, changed_at_one, sound_replaced, served_fewer, due_replaced, none_created, sound_created, served_unchanged, object_at-append, due_kept, known_event, known_object, set_as_before, object_at-set_same}
 use Rattle.nt_core.proofs.Accepting.{accepted, settled_after, reading_taken_by, next_causes}
 
 -- ---- a queue holds each thread once at most
@@ -272,7 +272,7 @@ created_accepted old new t o owned call handle fresh room lawful no_thread alive
         alerted = fresh.steady.settled.alerted;
         passed = due_kept (state old) (state d) old.now (λ k. due_created old.objects o k due) refl fresh.steady.settled.passed;
       };
-      unmarked = record { changed = λ place at. fresh.steady.unmarked.changed place (sym (alarm_created old.marked.changed place) ∙ at); alerted = fresh.steady.unmarked.alerted };
+      unmarked = record { changed = λ place at. fresh.steady.unmarked.changed place (sym (mark_created old.marked.changed place) ∙ at); alerted = fresh.steady.unmarked.alerted };
     }
 
 -- ---- a duplicate
@@ -299,6 +299,7 @@ duplicated_accepted old new t object access handle fresh room known alive is bec
         waits = before.waits;
         blocks = before.blocks;
         hands = before.hands;
+        standings = before.standings;
         inboxes = before.inboxes;
         objects = before.objects;
         own = before.own;

@@ -1,5 +1,5 @@
 -- Alerts of threads with a mark, one after another.
-use Rattle.std.proofs.Common.{◌≡◌, ◌≢◌, ◌<◌, ◌≤◌, ℕ, zero, suc, ◌+◌, Bool, true, false, ◌&&◌, List, [], ◌∷◌, ◌++◌, set, map, refl, sym, ap, ◌∙◌, subst, arith, Option, Some, None, inl, inr, ◌⊎◌, append_assoc, Contains}
+use Rattle.std.proofs.Common.{◌≡◌, ◌≢◌, ◌<◌, ◌≤◌, ℕ, zero, suc, Bool, true, false, ◌&&◌, List, [], ◌∷◌, ◌++◌, set, map, refl, sym, ap, ◌∙◌, subst, arith, Option, Some, None, inl, inr, ◌⊎◌, append_assoc, Contains}
 use Rattle.std.specs.Prelude.{nat_le}
 use Rattle.std.specs.FinMap as fin
 use Rattle.std.proofs.lemmas.Bool.{cases_eq}
@@ -9,7 +9,7 @@ use Rattle.std.proofs.lemmas.List.Elements.{Contains-push_cases}
 use Rattle.nt_status.proofs.Lists.{contains_none, contains_first}
 use Rattle.nt_status.specs.Status.{io_completion_code}
 use Rattle.nt_waits.specs.declared.wait.Wait.{Wait}
-use Rattle.nt_alarms.specs.Alarms.{alarm_at, NoneAt, IsLowestAt}
+use Rattle.nt_marks.specs.Marks.{is_marked, NoneMarked, IsFirstMarked}
 use Rattle.nt_apc.specs.declared.apc.Queued.{Queued}
 use Rattle.nt_apc.specs.Queues.{has_apc}
 use Rattle.nt_calls.specs.Rising.{IsRising}
@@ -22,45 +22,32 @@ use Rattle.nt_core.proofs.Alerting.{over_pending, over_apcs}
 use Rattle.nt_core.proofs.Places.{sound_marked}
 use Rattle.nt_core.proofs.Ticking.{rising_append, over_append, map_append, gone_member}
 
--- how many marks there are
-abbrev pub marks_left : List (Option ℕ) → ℕ
-marks_left [] = 0
-marks_left (None ∷ marks) = marks_left marks
-marks_left (Some u ∷ marks) = marks_left marks + 1
-
-pub marks_less : (marks : List (Option ℕ)) (t u : ℕ) → alarm_at marks t ≡ Some u → marks_left (set marks t None) < marks_left marks
-marks_less [] t u is = let e : None ≡ Some u = is in (cc)
-marks_less (None ∷ marks) zero u is = let e : None ≡ Some u = is in (cc)
-marks_less (Some v ∷ marks) zero u is = omega arith
-marks_less (None ∷ marks) (suc t) u is = marks_less marks t u is
-marks_less (Some v ∷ marks) (suc t) u is = let rest = marks_less marks t u is in omega (arith, rest)
-
-pub cleared_other : (marks : List (Option ℕ)) (t k : ℕ) → k ≢ t → alarm_at (set marks t None) k ≡ alarm_at marks k
+pub cleared_other : (marks : List Bool) (t k : ℕ) → k ≢ t → is_marked (set marks t false) k ≡ is_marked marks k
 cleared_other [] t k other = refl
 cleared_other (a ∷ marks) zero zero other = absurd (other refl)
 cleared_other (a ∷ marks) zero (suc k) other = refl
 cleared_other (a ∷ marks) (suc t) zero other = refl
 cleared_other (a ∷ marks) (suc t) (suc k) other = cleared_other marks t k (λ e. other (ap suc e))
 
-pub cleared_here : (marks : List (Option ℕ)) (t : ℕ) → alarm_at (set marks t None) t ≡ None
+pub cleared_here : (marks : List Bool) (t : ℕ) → is_marked (set marks t false) t ≡ false
 cleared_here [] t = refl
 cleared_here (a ∷ marks) zero = refl
 cleared_here (a ∷ marks) (suc t) = cleared_here marks t
 
 -- the waits of these threads have ended so far; whoever is to be alerted still has a mark, and a greater number
-pub record AlertedSoFar (old now : Dispatcher) (marks : List (Option ℕ)) : Type 0 where
+pub record AlertedSoFar (old now : Dispatcher) (marks : List Bool) : Type 0 where
   pub threads : List ℕ
   pub rising : IsRising threads
   pub alerted : (x : ℕ) → Contains threads x → IsAlerted (state old) x
   pub grants : now.grants ≡ old.grants ++ map (ending io_completion_code) threads
   pub over : state now ≡ waits_over (state old) threads true
-  pub above : (x : ℕ) → alarm_at marks x ≡ Some 0 → (y : ℕ) → Contains threads y → y < x
-  pub marked : (x : ℕ) → IsAlerted (state now) x → alarm_at marks x ≡ Some 0
+  pub above : (x : ℕ) → is_marked marks x ≡ true → (y : ℕ) → Contains threads y → y < x
+  pub marked : (x : ℕ) → IsAlerted (state now) x → is_marked marks x ≡ true
   pub looked : now.table.looked ≡ old.table.looked
   pub stays : now.marked ≡ record old.marked { alerted = marks }
   pub sound : IsSound now
 
-pub alerted_none : (d : Dispatcher) → IsSound d → ((t : ℕ) → IsAlerted (state d) t → alarm_at d.marked.alerted t ≡ Some 0) → AlertedSoFar d d d.marked.alerted
+pub alerted_none : (d : Dispatcher) → IsSound d → ((t : ℕ) → IsAlerted (state d) t → is_marked d.marked.alerted t ≡ true) → AlertedSoFar d d d.marked.alerted
 alerted_none d sound marked = record {
   threads = [];
   rising = tt;
@@ -80,14 +67,14 @@ still_alerted s ts may x alerted =
     let before = over_pending s ts may x alerted.0 alerted.1 in
     ((alerted.0, before.0, subst (λ (qs : List (List Queued)). ((alerted.0).alertable && has_apc qs x) ≡ true) (over_apcs s ts may) alerted.2), before.1)
 
-pub lowest_least : (marks : List (Option ℕ)) (t x : ℕ) → IsLowestAt marks 0 t → alarm_at marks x ≡ Some 0 → t ≤ x
+pub lowest_least : (marks : List Bool) (t x : ℕ) → IsFirstMarked marks t → is_marked marks x ≡ true → t ≤ x
 lowest_least marks t x lowest is = go (nat_le t x) refl
   where
     go : (b : Bool) → nat_le t x ≡ b → t ≤ x
     go true le = grind (arith, nat_tests, le)
     go false gt = let below : x < t = grind (arith, nat_tests, gt) in absurd (lowest.none_below x below is)
 
-pub alerted_next : (old now new : Dispatcher) (marks : List (Option ℕ)) (t : ℕ) → AlertedSoFar old now marks → IsLowestAt marks 0 t → IsRoused (with_marked now (record now.marked { alerted = set marks t None })) new t → IsSound new → AlertedSoFar old new (set marks t None)
+pub alerted_next : (old now new : Dispatcher) (marks : List Bool) (t : ℕ) → AlertedSoFar old now marks → IsFirstMarked marks t → IsRoused (with_marked now (record now.marked { alerted = set marks t false })) new t → IsSound new → AlertedSoFar old new (set marks t false)
 alerted_next old now new marks t far lowest (inl roused) sound =
     let before = still_alerted (state old) far.threads true t (subst (λ (s : State). IsAlerted s t) far.over roused.0) in
     record {
@@ -104,18 +91,18 @@ alerted_next old now new marks t far lowest (inl roused) sound =
           let still = still_alerted (state now) (t ∷ []) true x (subst (λ (s : State). IsAlerted s x) roused.1 alerted) in
           cleared_other marks t x (λ e. still.1 (contains_first t [] x (sym e))) ∙ far.marked x still.0;
       looked = roused.3 ∙ far.looked;
-      stays = roused.4 ∙ ap (λ (m : Marked). record m { alerted = set marks t None }) far.stays;
+      stays = roused.4 ∙ ap (λ (m : Marked). record m { alerted = set marks t false }) far.stays;
       sound = sound;
     }
   where
-    no_mark : {P : Type 0} (n : ℕ) → None ≡ Some n → P
-    no_mark n e = (cc)
+    no_mark : {P : Type 0} → false ≡ true → P
+    no_mark e = (cc)
 
-    after : (x : ℕ) → alarm_at (set marks t None) x ≡ Some 0 → (x ≡ t) ⊎ (x ≢ t) → (y : ℕ) → Contains far.threads y ⊎ (t ≡ y) → y < x
-    after x is (inl same) y m = no_mark 0 (sym (cleared_here marks t) ∙ (ap (λ (k : ℕ). alarm_at (set marks t None) k) (sym same) ∙ is))
+    after : (x : ℕ) → is_marked (set marks t false) x ≡ true → (x ≡ t) ⊎ (x ≢ t) → (y : ℕ) → Contains far.threads y ⊎ (t ≡ y) → y < x
+    after x is (inl same) y m = no_mark (sym (cleared_here marks t) ∙ (ap (λ (k : ℕ). is_marked (set marks t false) k) (sym same) ∙ is))
     after x is (inr other) y (inl earlier) = far.above x (sym (cleared_other marks t x other) ∙ is) y earlier
     after x is (inr other) y (inr last) = let least = lowest_least marks t x lowest (sym (cleared_other marks t x other) ∙ is) in omega (arith, least, other, last)
-alerted_next old now new marks t far lowest (inr idle) sound = subst (λ (d : Dispatcher). AlertedSoFar old d (set marks t None)) (sym idle.1) (record {
+alerted_next old now new marks t far lowest (inr idle) sound = subst (λ (d : Dispatcher). AlertedSoFar old d (set marks t false)) (sym idle.1) (record {
   threads = far.threads;
   rising = far.rising;
   alerted = far.alerted;
@@ -127,27 +114,27 @@ alerted_next old now new marks t far lowest (inr idle) sound = subst (λ (d : Di
     | inr other ↦ cleared_other marks t x other ∙ far.marked x alerted
   ];
   looked = far.looked;
-  stays = ap (λ (m : Marked). record m { alerted = set marks t None }) far.stays;
+  stays = ap (λ (m : Marked). record m { alerted = set marks t false }) far.stays;
   sound = subst IsSound idle.1 sound;
 })
   where
-    no_mark : {P : Type 0} (n : ℕ) → None ≡ Some n → P
-    no_mark n e = (cc)
+    no_mark : {P : Type 0} → false ≡ true → P
+    no_mark e = (cc)
 
-    after : (x : ℕ) → alarm_at (set marks t None) x ≡ Some 0 → (x ≡ t) ⊎ (x ≢ t) → (y : ℕ) → Contains far.threads y → y < x
-    after x is (inl same) y m = no_mark 0 (sym (cleared_here marks t) ∙ (ap (λ (k : ℕ). alarm_at (set marks t None) k) (sym same) ∙ is))
+    after : (x : ℕ) → is_marked (set marks t false) x ≡ true → (x ≡ t) ⊎ (x ≢ t) → (y : ℕ) → Contains far.threads y → y < x
+    after x is (inl same) y m = no_mark (sym (cleared_here marks t) ∙ (ap (λ (k : ℕ). is_marked (set marks t false) k) (sym same) ∙ is))
     after x is (inr other) y m = far.above x (sym (cleared_other marks t x other) ∙ is) y m
 
 -- the lowest mark is taken away
-pub taken_sound : (now mid : Dispatcher) (t : ℕ) → IsSound now → mid ≡ with_marked now (record now.marked { alerted = set now.marked.alerted t None }) → IsSound mid
+pub taken_sound : (now mid : Dispatcher) (t : ℕ) → IsSound now → mid ≡ with_marked now (record now.marked { alerted = set now.marked.alerted t false }) → IsSound mid
 taken_sound now mid t sound is =
-    subst IsSound (sym is) (sound_marked now (record now.marked { alerted = set now.marked.alerted t None }) sound (record { changed = sound.places.changed; alerted = length-set now.marked.alerted t None ∙ sound.places.alerted }))
+    subst IsSound (sym is) (sound_marked now (record now.marked { alerted = set now.marked.alerted t false }) sound (record { changed = sound.places.changed; alerted = length-set now.marked.alerted t false ∙ sound.places.alerted }))
 
-pub alerted_left : (now mid new : Dispatcher) (t : ℕ) → mid ≡ with_marked now (record now.marked { alerted = set now.marked.alerted t None }) → IsRoused mid new t → new.marked.alerted ≡ set now.marked.alerted t None
+pub alerted_left : (now mid new : Dispatcher) (t : ℕ) → mid ≡ with_marked now (record now.marked { alerted = set now.marked.alerted t false }) → IsRoused mid new t → new.marked.alerted ≡ set now.marked.alerted t false
 alerted_left now mid new t is (inl roused) = ap (λ (m : Marked). m.alerted) roused.4 ∙ ap (λ (d : Dispatcher). d.marked.alerted) is
 alerted_left now mid new t is (inr quiet) = ap (λ (d : Dispatcher). d.marked.alerted) quiet.1 ∙ ap (λ (d : Dispatcher). d.marked.alerted) is
 
-pub alerted_end : (old now : Dispatcher) (marks : List (Option ℕ)) → AlertedSoFar old now marks → NoneAt marks 0 → NoneAt old.marked.changed 0 → IsAlertedAfter old now
+pub alerted_end : (old now : Dispatcher) (marks : List Bool) → AlertedSoFar old now marks → NoneMarked marks → NoneMarked old.marked.changed → IsAlertedAfter old now
 alerted_end old now marks far none served = record {
   ended = map (ending io_completion_code) far.threads;
   alerts = record {

@@ -26,6 +26,7 @@ use Rattle.nt_core.proofs.Lives.{below_both}
 use Rattle.nt_core.proofs.Remaining.{both, turned, and_not}
 use Rattle.nt_core.proofs.Renewing.{never_forgotten}
 use Rattle.nt_core.proofs.Renumbering.{named_before, count_other, count_from, count_to, handles_instead}
+use Rattle.nt_core.proofs.Standings.{standings_kept}
 
 -- thread t's object has the number o, and all handles that named it name it there
 abbrev pub with_aside : Dispatcher → ℕ → ℕ → List (List ℕ) → Dispatcher
@@ -204,6 +205,7 @@ sound_aside d t o owned sound living may = record {
       };
   blocks = sound.blocks;
   hands = sound.hands;
+  standings = standings_kept d.threads d.objects (aside d t o) d.table.pending d.standings (λ u below. reading has_ended d t o may refl u) sound.standings;
   inboxes = sound.inboxes;
   objects = property_set IsLawfulObject (set d.objects o (object_at d.objects t)) t Gone tt (property_set IsLawfulObject d.objects o (object_at d.objects t) (sound.objects t) sound.objects);
   own = λ u below. (longer u (sound.own u below).0, own_thread u below);

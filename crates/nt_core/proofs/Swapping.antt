@@ -1,6 +1,6 @@
 -- A signal, and the wait that begins after it.
 use Rattle.std.proofs.Common.{◌≡◌, ◌≢◌, ◌<◌, ℕ, zero, suc, ◌+◌, length-set, Bool, true, false, not, ◌&&◌, List, [], ◌∷◌, length, refl, sym, ap, ◌∙◌, subst, arith, Option, Some, None}
-use Rattle.std.specs.Prelude.{pos, slice_index, IsSome}
+use Rattle.std.specs.Prelude.{pos, slice_index}
 use Rattle.std.specs.List.{IsDistinct}
 use Rattle.std.specs.FinMap as fin
 use Rattle.std.proofs.lemmas.Bool.{false≢true}
@@ -17,48 +17,22 @@ use Rattle.nt_calls.specs.declared.call.WaitCall.{WaitCall}
 use Rattle.nt_calls.specs.declared.call.Reply.{Reply}
 use Rattle.nt_calls.specs.declared.call.Grant.{Grant}
 use Rattle.nt_calls.specs.State.{State, object_at}
-use Rattle.nt_core.specs.Dispatcher.{Dispatcher, state, with_prepared}
+use Rattle.nt_core.specs.Dispatcher.{Dispatcher, state}
 use Rattle.nt_calls.specs.Serving.{wait_for, sequence, Grants, granted, objects_taken}
 use Rattle.nt_calls.specs.Change.{at, signal}
 use Rattle.nt_calls.specs.Refusals.{may_signal, is_foreign, is_no, is_unknown, is_at_limit, refusal}
 use Rattle.nt_calls.specs.Steps.{begun, wait_of}
-use Rattle.nt_core.specs.Lawful.{IsSoundWait, IsSound, IsSteady, MayReplace}
+use Rattle.nt_core.specs.Lawful.{IsSoundWait, IsSteady, MayReplace}
 use Rattle.nt_core.specs.Accepts.{is_by_objects, IsFresh, IsServedAfter, Accepts}
 use Rattle.nt_objects.proofs.Lawful.{lawful_released, lawful_unlocked}
 use Rattle.nt_core.proofs.Accepting.{next_causes, own_causes, free_caller, no_alert}
 use Rattle.nt_core.proofs.Orders.{length-filter-le}
 use Rattle.nt_core.proofs.Keeping.{TakesWell, objects_taken_well}
-use Rattle.nt_core.proofs.Marking.{marks_along}
 use Rattle.nt_core.proofs.Visiting.{can_take, len_removed}
 use Rattle.nt_core.proofs.Walks.{get_removed}
 use Rattle.nt_core.proofs.Changing.{reading_set, limit_set, sound_replaced}
 use Rattle.nt_core.proofs.Beginning.{room_to_begin}
 use Rattle.nt_core.proofs.Replacing.{set_may_replace, released_may_replace, unlocked_may_replace, replaced_settled}
-
--- ---- which wait is prepared is no part of what is steady
-
-pub sound_prepared : (d : Dispatcher) (prepared : Option (ℕ × Wait)) → IsSound d → IsSound (with_prepared d prepared)
-sound_prepared d prepared sound = record {
-  few = sound.few;
-  waits = sound.waits;
-  blocks = sound.blocks;
-  hands = sound.hands;
-  inboxes = sound.inboxes;
-  objects = sound.objects;
-  own = sound.own;
-  none_else = sound.none_else;
-  timers = sound.timers;
-  handles = sound.handles;
-  marks = marks_along refl refl refl (λ o. refl) refl sound.marks;
-  places = sound.places;
-  room = sound.room;
-}
-
-pub steady_prepared : (d : Dispatcher) (prepared : Option (ℕ × Wait)) → IsSteady d → IsSteady (with_prepared d prepared)
-steady_prepared d prepared steady = record { sound = sound_prepared d prepared steady.sound; settled = steady.settled; unmarked = steady.unmarked }
-
-pub fresh_prepared : (d : Dispatcher) (prepared : Option (ℕ × Wait)) → IsFresh d → IsFresh (with_prepared d prepared)
-fresh_prepared d prepared fresh = record { steady = steady_prepared d prepared fresh.steady; no_grants = fresh.no_grants; untested = fresh.untested }
 
 -- ---- one object that may be signaled
 
@@ -259,12 +233,3 @@ module _ (old calm : Dispatcher) (t h object ms : ℕ) (alertable : Bool)
       least = let fewer = length-filter-le is_by_objects new.grants in let len : length new.grants ≡ length calm.grants = ap (λ gs. length gs) same in let least = served.least in omega (arith, fewer, len, least, looked);
     };
   }
-
--- ---- the prepared wait
-
-pub accepts_prepared : (old new : Dispatcher) (prepared : Option (ℕ × Wait)) (t : ℕ) (call : Call) (reply : Reply) → Accepts (with_prepared old prepared) new t call reply → Accepts old new t call reply
-accepts_prepared old new prepared t call reply accepts = record { step = accepts.step; steady = accepts.steady; local = accepts.local }
-
-pub some_of : (prepared : Option (ℕ × Wait)) → IsSome prepared → (p : ℕ × Wait) × (prepared ≡ Some p)
-some_of None there = absurd (false≢true there)
-some_of (Some p) there = (p, refl)

@@ -26,6 +26,7 @@ use Rattle.nt_core.proofs.Marking.{marks_same}
 use Rattle.nt_core.proofs.Changing.{reading_set, limit_set, property_set, object_at-set_same, object_at-set_other, set_as_before, known_object, one_changed, same_changed, served_fewer, due_kept}
 use Rattle.nt_core.proofs.Accepting.{accepted}
 use Rattle.nt_core.proofs.Replacing.{idle_served}
+use Rattle.nt_core.proofs.Standings.{standings_kept}
 
 -- ---- a timer's queued APC is withdrawn
 
@@ -163,6 +164,7 @@ retimed_sound d h o apcs sound was is len placed others = record {
       };
   blocks = sound.blocks;
   hands = sound.hands;
+  standings = standings_kept d.threads d.objects (set d.objects h o) d.table.pending d.standings (λ t below. ended t) sound.standings;
   inboxes = len ∙ sound.inboxes;
   objects = property_set IsLawfulObject d.objects h o (timer_lawful o is) sound.objects;
   own = λ t below. (subst (λ (n : ℕ). t < n) (sym (length-set d.objects h o)) (sound.own t below).0, own_kept _ _ (threads t) (gone t) (sound.own t below).1);

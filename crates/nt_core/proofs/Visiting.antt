@@ -25,7 +25,9 @@ use Rattle.nt_status.proofs.Lists.{contains_none, contains_cases}
 use Rattle.nt_core.proofs.Handling.{handles_along}
 use Rattle.nt_core.proofs.Keeping.{TakesWell, objects_taken_well, taken_timers, own_kept, idle_kept}
 use Rattle.nt_core.proofs.Marking.{marks_along, marks_ended, named_member}
-use Rattle.nt_core.proofs.Walks.{get_removed}
+use Rattle.nt_core.proofs.Walks.{get_removed, get_same, get_other}
+use Rattle.nt_core.proofs.Standings.{standings_set, standing_free}
+use Rattle.nt_core.specs.declared.standing.Standing.TheVariants.{Free}
 
 pub counted : (n : ℕ) → n + 1 < 2 ^ 64 → counted_once n ≡ n + 1
 counted n small = grind (arith, small)
@@ -72,6 +74,7 @@ looked_sound d looked sound = record {
   waits = sound.waits;
   blocks = sound.blocks;
   hands = sound.hands;
+  standings = sound.standings;
   inboxes = sound.inboxes;
   objects = sound.objects;
   own = sound.own;
@@ -136,15 +139,15 @@ only_this d t h only all sound stands told =
     ]
 
 -- after it what it named may lack its mark
-pub visit_unmarked : (old : Dispatcher) (t code : ℕ) (w : Wait) (objects : List Object) (owned : List (List ℕ)) (table : Waits) (grants : List Grant) → IsSound old → Some w ≡ map.get old.table.pending t → IsTried old.objects objects t w (Some code) → ((h : ℕ) → queue_of table h ≡ others t (queue_of old.table h)) → MarksAgreeBut w.objects (record old { objects = objects; owned = owned; table = table; handing = set old.handing t false; grants = grants })
+pub visit_unmarked : (old : Dispatcher) (t code : ℕ) (w : Wait) (objects : List Object) (owned : List (List ℕ)) (table : Waits) (grants : List Grant) → IsSound old → Some w ≡ map.get old.table.pending t → IsTried old.objects objects t w (Some code) → ((h : ℕ) → queue_of table h ≡ others t (queue_of old.table h)) → MarksAgreeBut w.objects (record old { objects = objects; owned = owned; table = table; handing = set old.handing t false; standings = set old.standings t Free; grants = grants })
 visit_unmarked old t code w objects owned table grants sound has tried queues =
     let own = sound.waits t w (sym has) in
     let well = subst (λ (os : List Object). TakesWell old.objects os t) (sym tried.2) (objects_taken_well old.objects t w own.apart (can_take old.objects t old.threads w sound.objects own) tried.0) in
-    marks_ended old (record old { objects = objects; owned = owned; table = table; handing = set old.handing t false; grants = grants }) t w sound (sym has) refl refl refl queues well.length well.gone well.ended
+    marks_ended old (record old { objects = objects; owned = owned; table = table; handing = set old.handing t false; standings = set old.standings t Free; grants = grants }) t w sound (sym has) refl refl refl queues well.length well.gone well.ended
 
-pub visit_granted : (old : Dispatcher) (t code : ℕ) (w : Wait) (objects : List Object) (owned : List (List ℕ)) (table : Waits) (grants : List Grant) (leaving : List (Option ℕ)) → IsSound old → Some w ≡ map.get old.table.pending t → IsTried old.objects objects t w (Some code) → table.pending ≡ map.remove old.table.pending t → ((h : ℕ) → queue_of table h ≡ others t (queue_of old.table h)) → table.looked ≡ old.table.looked + 1 → Agrees table.pending table.queues → grants ≡ old.grants ++ record { thread = t; status = code } ∷ [] → MarksAgreeBut [] (record old { objects = objects; owned = owned; table = table; handing = set old.handing t false; grants = grants; leaving = leaving }) → IsVisited old (record old { objects = objects; owned = owned; table = table; handing = set old.handing t false; grants = grants; leaving = leaving }) t × IsSound (record old { objects = objects; owned = owned; table = table; handing = set old.handing t false; grants = grants; leaving = leaving })
+pub visit_granted : (old : Dispatcher) (t code : ℕ) (w : Wait) (objects : List Object) (owned : List (List ℕ)) (table : Waits) (grants : List Grant) (leaving : List Bool) → IsSound old → Some w ≡ map.get old.table.pending t → IsTried old.objects objects t w (Some code) → table.pending ≡ map.remove old.table.pending t → ((h : ℕ) → queue_of table h ≡ others t (queue_of old.table h)) → table.looked ≡ old.table.looked + 1 → Agrees table.pending table.queues → grants ≡ old.grants ++ record { thread = t; status = code } ∷ [] → MarksAgreeBut [] (record old { objects = objects; owned = owned; table = table; handing = set old.handing t false; standings = set old.standings t Free; grants = grants; leaving = leaving }) → IsVisited old (record old { objects = objects; owned = owned; table = table; handing = set old.handing t false; standings = set old.standings t Free; grants = grants; leaving = leaving }) t × IsSound (record old { objects = objects; owned = owned; table = table; handing = set old.handing t false; standings = set old.standings t Free; grants = grants; leaving = leaving })
 visit_granted old t code w objects owned table grants leaving sound has tried waits queues looked agrees pushed marks =
-    let new : Dispatcher = record old { objects = objects; owned = owned; table = table; handing = set old.handing t false; grants = grants; leaving = leaving } in
+    let new : Dispatcher = record old { objects = objects; owned = owned; table = table; handing = set old.handing t false; standings = set old.standings t Free; grants = grants; leaving = leaving } in
     let own = sound.waits t w (sym has) in
     let well = subst (λ (os : List Object). TakesWell old.objects os t) (sym tried.2) (objects_taken_well old.objects t w own.apart (can_take old.objects t old.threads w sound.objects own) tried.0) in
     let longer : length grants ≡ length old.grants + 1 = ap (λ gs. length gs) pushed ∙ length-append old.grants (record { thread = t; status = code } ∷ []) in
@@ -173,6 +176,7 @@ visit_granted old t code w objects owned table grants leaving sound has tried wa
             };
         blocks = agrees;
         hands = length-set old.handing t false ∙ sound.hands;
+        standings = standings_set old.threads old.objects objects old.table.pending table.pending old.standings t Free (standing_free objects table.pending t (well.ended t ∙ own.runs) (ap (λ m. map.get m t) waits ∙ get_same old.table.pending t)) (λ u differs. well.ended u) (λ u differs. ap (λ m. map.get m u) waits ∙ get_other old.table.pending t u differs) sound.standings;
         inboxes = sound.inboxes;
         objects = well.lawful sound.objects;
         own = λ u below. (subst (λ (n : ℕ). u < n) (sym well.length) (sound.own u below).0, own_kept _ _ (well.threads u) (well.gone u) (sound.own u below).1);

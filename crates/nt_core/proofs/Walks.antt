@@ -79,10 +79,10 @@ Visits-then xs ys old mid new a b =
 
 -- ---- the map and the queues after one grant
 
-tied : (a b : ℕ) → a ≡ b → eq_by_cmp nat_cmp a b ≡ true
+pub tied : (a b : ℕ) → a ≡ b → eq_by_cmp nat_cmp a b ≡ true
 tied a b e = unsigned_tied a b ∙ (grind (arith, nat_tests, e))
 
-apart : (a b : ℕ) → a ≢ b → eq_by_cmp nat_cmp a b ≡ false
+pub apart : (a b : ℕ) → a ≢ b → eq_by_cmp nat_cmp a b ≡ false
 apart a b e = unsigned_tied a b ∙ (grind (arith, nat_tests, e))
 
 pub get_same : (m : Pending) (t : ℕ) → map.get (map.remove m t) t ≡ None

@@ -14,8 +14,7 @@ use Rattle.nt_objects.specs.declared.object.Object.{Object}
 use Rattle.nt_objects.specs.Object.{armed_with, has_ended, setter_of}
 use Rattle.nt_waits.specs.declared.wait.Wait.{Wait}
 use Rattle.nt_objects.specs.declared.object.Routine.{Routine}
-use Rattle.nt_alarms.specs.Alarms.{alarm_at}
-use Rattle.nt_alarms.specs.Marks.{AddsMarks}
+use Rattle.nt_marks.specs.Marks.{is_marked, AddsMarks}
 use Rattle.nt_apc.specs.Queues.{withdrawn, place_of}
 use Rattle.std.specs.List.{Contains}
 use Rattle.nt_calls.specs.State.{State, object_at, wait_over, pending_too}
@@ -23,7 +22,7 @@ use Rattle.nt_calls.specs.Serving.{late_status, IsChanged, sequence, sleeps, Ser
 use Rattle.nt_calls.specs.Change.{change, all_expired, exited, IsTimerDue}
 use Rattle.nt_calls.specs.Naming.{act_named, wait_named}
 use Rattle.nt_calls.specs.Rights.{act_denied, wait_denied}
-use Rattle.nt_calls.specs.Refusals.{first_of_causes, call_causes, refusal, would_pend}
+use Rattle.nt_calls.specs.Refusals.{first_of_causes, call_causes, refusal}
 use Rattle.nt_calls.specs.Steps.{Step, MomentPasses, Made, begun, wait_of}
 use Rattle.nt_core.specs.declared.waiting.Mode.{Mode}
 use Rattle.nt_core.specs.Dispatcher.{Dispatcher, state}
@@ -77,10 +76,10 @@ pub record IsPromised (old : Dispatcher) (timer : ℕ) (routine : Option Routine
   pub others : (m : ℕ) → m ≢ timer → place_of new.apcs.places m ≡ place_of old.apcs.places m
 
 -- these are the timers due at moment u of a tick to m, and have expired; of these marks whoever is to be alerted has one
-pub record IsExpiredAfter (old : Dispatcher) (m u : ℕ) (new : Dispatcher) (timers : List ℕ) (marks : List (Option ℕ)) : Type 0 where
+pub record IsExpiredAfter (old : Dispatcher) (m u : ℕ) (new : Dispatcher) (timers : List ℕ) (marks : List Bool) : Type 0 where
   pub due : AreRising (IsTimerDue (state old) u) timers
   pub expired : state new ≡ all_expired m (state old) timers
-  pub marked : (t : ℕ) → IsAlerted (state new) t → alarm_at marks t ≡ Some 0
+  pub marked : (t : ℕ) → IsAlerted (state new) t → is_marked marks t ≡ true
   pub others : (h : ℕ) → (Contains timers h → ⊥) → object_at new.objects h ≡ object_at old.objects h
   -- of the timers that are due up to m these are gone
   pub fewer : (weight : ℕ → ℕ) → due_weight weight m 0 new.objects + total_weight weight timers ≡ due_weight weight m 0 old.objects
@@ -149,7 +148,7 @@ pub record IsStoppedAfter (old : Dispatcher) (t : ℕ) (new : Dispatcher) : Type
 -- the thread has ended and exactly the objects that this changed are marked, but no wait was served yet
 pub record IsExitedAfter (old : Dispatcher) (t : ℕ) (new : Dispatcher) : Type 0 where
   pub becomes : state new ≡ exited (state old) t
-  pub changed : (h : ℕ) → (alarm_at new.marked.changed h ≡ Some 0) ↔ IsChanged old.objects new.objects h
+  pub changed : (h : ℕ) → (is_marked new.marked.changed h ≡ true) ↔ IsChanged old.objects new.objects h
   pub grants : new.grants ≡ old.grants
   pub table : new.table ≡ old.table
   pub alerted : new.marked.alerted ≡ old.marked.alerted
@@ -187,10 +186,6 @@ replied (Err refusal) = Err refusal
 -- a wait for these objects has begun, and this is its reply
 abbrev pub HasBegun : State → State → ℕ → List ℕ → Mode → Reply → Type 0
 HasBegun old new t named mode reply = (reply, new) ≡ begun old t (wait_of old.now (objects_call mode named)) mode.ms
-
--- a wait for these objects does not end at once
-abbrev pub begins_pending : State → ℕ → List ℕ → Mode → Bool
-begins_pending s t named mode = would_pend s t (wait_of s.now (objects_call mode named)) mode.ms
 
 -- the thread is known, runs, and waits for nothing
 pub record IsRunning (d : Dispatcher) (t : ℕ) : Type 0 where

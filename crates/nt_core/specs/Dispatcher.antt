@@ -1,6 +1,5 @@
 -- The dispatcher as its callers see it.
-use Rattle.std.specs.Prelude.{ℕ, Bool, List, [], ◌∷◌, ◌++◌, length, Option, Some, None}
-use Rattle.nt_waits.specs.declared.wait.Wait.{Wait}
+use Rattle.std.specs.Prelude.{ℕ, Bool, false, List, [], ◌+◌, ◌∷◌, ◌++◌, length, Option, Some, None}
 use Rattle.nt_waits.specs.Waits.{Waits, queue_of}
 use Rattle.nt_apc.specs.declared.apc.Queued.{Queued}
 use Rattle.nt_apc.specs.Queues.{Apcs}
@@ -9,13 +8,14 @@ use Rattle.nt_objects.specs.declared.handles.Opened.{Opened}
 use Rattle.nt_objects.specs.Handles.{full_access}
 use Rattle.nt_calls.specs.declared.call.Grant.{Grant}
 use Rattle.nt_calls.specs.State.{State}
+use Rattle.nt_core.specs.declared.standing.Standing.{Standing}
 
 -- what is to be served or alerted still; between two calls nothing is
 pub record Marked : Type 0 where
   -- by object number, a mark where the waits on the object are to be served
-  pub changed : List (Option ℕ)
+  pub changed : List Bool
   -- by thread number, a mark where the thread may have to be alerted
-  pub alerted : List (Option ℕ)
+  pub alerted : List Bool
 
 pub record Dispatcher : Type 0 where
   pub threads : ℕ
@@ -29,13 +29,15 @@ pub record Dispatcher : Type 0 where
   -- each thread's queued APCs, and the places promised to timers
   pub apcs : Apcs
   pub handing : List Bool
+  -- whether each thread may call
+  pub standings : List Standing
   pub now : ℕ
   -- the waits that the last call or tick ended
   pub grants : List Grant
   -- by number, the due moment of an armed timer
   pub alarms : List (Option ℕ)
   -- by object number, a mark where nothing may keep the object any more
-  pub leaving : List (Option ℕ)
+  pub leaving : List Bool
   pub marked : Marked
 
 -- the state of the machine
@@ -51,9 +53,9 @@ state d = record {
   now = d.now;
 }
 
--- the dispatcher with another prepared wait, or none
-abbrev pub with_prepared : Dispatcher → Option (ℕ × Wait) → Dispatcher
-with_prepared d prepared = record d { table = record d.table { prepared = prepared } }
+-- the table with room for waits on one object more
+abbrev pub with_queue : Waits → Waits
+with_queue table = record table { room = record table.room { objects = table.room.objects + 1 } }
 
 -- the dispatcher with other queues of APCs, and the places of timers as they were
 abbrev pub with_queues : Dispatcher → List (List Queued) → Dispatcher
@@ -70,9 +72,10 @@ with_created d o owned =
       handles = d.handles ++ Some (record { object = length d.objects; access = full_access o }) ∷ [];
       objects = d.objects ++ o ∷ [];
       owned = owned;
+      table = with_queue d.table;
       alarms = d.alarms ++ None ∷ [];
-      leaving = d.leaving ++ None ∷ [];
-      marked = record d.marked { changed = d.marked.changed ++ None ∷ [] };
+      leaving = d.leaving ++ false ∷ [];
+      marked = record d.marked { changed = d.marked.changed ++ false ∷ [] };
     }
 
 -- one object number more, last, with no handle, no alarm and no mark; the object may stand in its owner's list
@@ -81,13 +84,14 @@ with_object d o owned =
     record d {
       objects = d.objects ++ o ∷ [];
       owned = owned;
+      table = with_queue d.table;
       alarms = d.alarms ++ None ∷ [];
-      leaving = d.leaving ++ None ∷ [];
-      marked = record d.marked { changed = d.marked.changed ++ None ∷ [] };
+      leaving = d.leaving ++ false ∷ [];
+      marked = record d.marked { changed = d.marked.changed ++ false ∷ [] };
     }
 
-abbrev pub dispatcher_of : ℕ → List (Option Opened) → List Object → List (List ℕ) → Waits → Apcs → List Bool → ℕ → List Grant → List (Option ℕ) → List (Option ℕ) → List (Option ℕ) → List (Option ℕ) → Dispatcher
-dispatcher_of threads handles objects owned table apcs handing now grants alarms leaving changed alerted = record {
+abbrev pub dispatcher_of : ℕ → List (Option Opened) → List Object → List (List ℕ) → Waits → Apcs → List Bool → List Standing → ℕ → List Grant → List (Option ℕ) → List Bool → List Bool → List Bool → Dispatcher
+dispatcher_of threads handles objects owned table apcs handing standings now grants alarms leaving changed alerted = record {
   threads = threads;
   handles = handles;
   objects = objects;
@@ -95,6 +99,7 @@ dispatcher_of threads handles objects owned table apcs handing now grants alarms
   table = table;
   apcs = apcs;
   handing = handing;
+  standings = standings;
   now = now;
   grants = grants;
   alarms = alarms;

@@ -1,6 +1,6 @@
 -- What every call and tick leaves true.
 use Rattle.std.specs.declared.option.Option.{Option}
-use Rattle.std.specs.Prelude.{◌≡◌, ℕ, ◌<◌, ◌≤◌, ◌+◌, ◌⊎◌, true, false, not, ◌&&◌, List, [], length, Some, nat_eq}
+use Rattle.std.specs.Prelude.{◌≡◌, ℕ, ◌<◌, ◌≤◌, ◌+◌, ◌⊎◌, Bool, true, false, not, ◌&&◌, List, [], length, Some, is_some, nat_eq, slice_index_or, if◌then◌else◌}
 use Rattle.std.specs.FinMap as map
 use Rattle.std.specs.FinMap.{get}
 use Rattle.nt_status.specs.declared.limits.TheConstants.{MAX_HANDLES, MAX_MANY_THREADS, MAX_WAIT_OBJECTS}
@@ -13,12 +13,15 @@ use Rattle.nt_waits.specs.declared.wait.Wait.{Wait}
 use Rattle.std.specs.List.{Contains}
 use Rattle.nt_waits.specs.Waits.{Names, Agrees}
 use Rattle.std.specs.List.{IsDistinct}
-use Rattle.nt_alarms.specs.Alarms.{alarm_at, NoneAt}
+use Rattle.nt_alarms.specs.Alarms.{alarm_at}
+use Rattle.nt_marks.specs.Marks.{is_marked, NoneMarked}
 use Rattle.nt_apc.specs.Queues.{place_of}
-use Rattle.nt_calls.specs.State.{State, object_at}
+use Rattle.nt_calls.specs.State.{State, Pending, object_at}
 use Rattle.nt_calls.specs.Serving.{IsServed, IsAlerted}
 use Rattle.nt_calls.specs.Refusals.{is_at_limit}
 use Rattle.nt_calls.specs.Steps.{NothingDue}
+use Rattle.nt_core.specs.declared.standing.Standing.{Standing}
+use Rattle.nt_core.specs.declared.standing.Standing.TheVariants.{Free, Waiting, Ended}
 use Rattle.nt_core.specs.Dispatcher.{Dispatcher, Marked, state}
 use Rattle.nt_calls.specs.Living.{is_forgotten, LivesWhileKept}
 
@@ -57,14 +60,14 @@ pub record HandlesAgree (count : ℕ) (handles : List (Option Opened)) : Type 0 
 pub record MarksAgreeBut (unmarked : List ℕ) (d : Dispatcher) : Type 0 where
   pub living : (h : ℕ) (opened : Opened) → opened_at d.handles h ≡ Some opened → is_gone (object_at d.objects opened.object) ≡ false
   pub count : length d.leaving ≡ length d.objects
-  pub marked : (o : ℕ) → is_forgotten (state d) o ≡ true → (alarm_at d.leaving o ≡ Some 0) ⊎ Contains unmarked o
+  pub marked : (o : ℕ) → is_forgotten (state d) o ≡ true → (is_marked d.leaving o ≡ true) ⊎ Contains unmarked o
   pub known : (o : ℕ) → Contains unmarked o → o < length d.objects
 
 -- each of these objects that no handle names has a mark now, but for those that are left; no mark is gone
-pub record LetsGoBut (left : List ℕ) (handles : List (Option Opened)) (ended : List ℕ) (old new : List (Option ℕ)) : Type 0 where
+pub record LetsGoBut (left : List ℕ) (handles : List (Option Opened)) (ended : List ℕ) (old new : List Bool) : Type 0 where
   pub count : length new ≡ length old
-  pub marked : (o : ℕ) → Contains ended o → count_named handles o ≡ 0 → (alarm_at new o ≡ Some 0) ⊎ Contains left o
-  pub kept : (o : ℕ) → alarm_at old o ≡ Some 0 → alarm_at new o ≡ Some 0
+  pub marked : (o : ℕ) → Contains ended o → count_named handles o ≡ 0 → (is_marked new o ≡ true) ⊎ Contains left o
+  pub kept : (o : ℕ) → is_marked old o ≡ true → is_marked new o ≡ true
 
 -- there is a place for the mark of each object and of each thread
 pub record HasPlaces (threads : ℕ) (objects : List Object) (marked : Marked) : Type 0 where
@@ -73,8 +76,17 @@ pub record HasPlaces (threads : ℕ) (objects : List Object) (marked : Marked) :
 
 -- no object is to be served, and no thread to be alerted
 pub record IsUnmarked (marked : Marked) : Type 0 where
-  pub changed : NoneAt marked.changed 0
-  pub alerted : NoneAt marked.alerted 0
+  pub changed : NoneMarked marked.changed
+  pub alerted : NoneMarked marked.alerted
+
+-- whether the thread may call: it has ended, or its wait pends, or it is free to
+abbrev pub standing_of : List Object → Pending → ℕ → Standing
+standing_of objects waits t = if has_ended (object_at objects t) then Ended else if is_some (get waits t) then Waiting else Free
+
+-- what is kept of each thread says whether it may call
+pub record StandingsAgree (threads : ℕ) (objects : List Object) (waits : Pending) (standings : List Standing) : Type 0 where
+  pub count : length standings ≡ threads
+  pub each : (t : ℕ) → t < threads → slice_index_or standings t Free ≡ standing_of objects waits t
 
 -- what holds also between a change and the serving after it
 pub record IsSound (d : Dispatcher) : Type 0 where
@@ -83,6 +95,7 @@ pub record IsSound (d : Dispatcher) : Type 0 where
   -- wait blocks and pending waits name each other exactly
   pub blocks : Agrees d.table.pending d.table.queues
   pub hands : length d.handing ≡ d.threads
+  pub standings : StandingsAgree d.threads d.objects d.table.pending d.standings
   pub inboxes : length d.apcs.queues ≡ d.threads
   pub objects : (h : ℕ) → IsLawfulObject (object_at d.objects h)
   -- the first objects are the threads' own, as long as they live

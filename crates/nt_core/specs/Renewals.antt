@@ -17,6 +17,7 @@ use Rattle.nt_calls.specs.declared.call.Grant.{Grant}
 use Rattle.nt_calls.specs.Naming.{object_named, lacks}
 use Rattle.nt_calls.specs.State.{State, object_at}
 use Rattle.nt_calls.specs.Refusals.{Cause, first_of_causes, refusal}
+use Rattle.nt_core.specs.declared.standing.Standing.{Standing}
 use Rattle.nt_core.specs.Dispatcher.{Dispatcher}
 
 -- ---- which numbers may be given again
@@ -110,11 +111,12 @@ AddsVacant old (Err cause) grants new =
     (cause ≡ (if nat_lt (length old.objects) (length old.handles) then Memory else HandleLimit)) × (grants ≡ []) × (new ≡ old)
 
 -- the dispatcher with the number o given to this object, and the number h to its handle
-abbrev pub with_again : Dispatcher → ℕ → ℕ → Object → List Bool → List (List ℕ) → Dispatcher
-with_again d o h object handing owned =
+abbrev pub with_again : Dispatcher → ℕ → ℕ → Object → List Bool → List Standing → List (List ℕ) → Dispatcher
+with_again d o h object handing standings owned =
     record d {
       handles = slice_set d.handles h (Some (record { object = o; access = full_access object }));
       objects = slice_set d.objects o object;
       handing = handing;
+      standings = standings;
       owned = owned;
     }

@@ -12,6 +12,7 @@ ghost use Rattle.nt_core.specs.Lawful.{IsSound};
 ghost use Rattle.nt_core.specs.Accepts.{unmet_status, IsFresh, IsRoused, Accepts, IsActOfAny, IsRunning};
 
 use crate::machine::{Answer, Machine};
+use crate::standing::Standing;
 use nt_apc::Apc;
 use nt_calls::{Grant, Reply, late_status, running_thread};
 use nt_status::{Handle, OptionalMoment, Status, ThreadId};
@@ -57,7 +58,9 @@ impl Machine {
     {
         let ended = self.waits.end(thread);
         let status = unmet_status(alerted, ended.objects.as_slice().is_empty());
-        self.handing[thread.get() as usize] = alerted;
+        let place = thread.get() as usize;
+        self.handing[place] = alerted;
+        self.standings[place] = Standing::Free;
         self.grants.push_reserved(Grant { thread, status });
         self.let_go(ended.objects.as_slice());
     }

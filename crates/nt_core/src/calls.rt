@@ -6,34 +6,30 @@ ghost use Rattle.nt_calls.specs.Rights.{is_denied};
 ghost use Rattle.nt_calls.specs.Refusals.{refusal};
 ghost use Rattle.nt_calls.specs.declared.call.Call.{Call};
 ghost use Rattle.nt_calls.specs.Steps.{Made, Called};
-ghost use Rattle.nt_core.specs.Lawful.{IsSteady};
+ghost use Rattle.nt_core.specs.Lawful.{IsSound, IsSteady};
 ghost use Rattle.nt_calls.specs.Living.{LivesWhileKept};
 ghost use Rattle.nt_core.specs.Accepts.{IsFresh, IsFree, IsLocal, IsActMade};
 
 use crate::machine::{Answer, Machine};
+use crate::standing::Standing;
 use nt_calls::{Act, Call, Reply};
 use nt_status::{Refusal, ThreadId};
 
 impl Machine {
     /// The refusal that every call of this thread must meet, if any.
     pub(crate) fn caller_refusal(&self, who: u32) -> Option<Refusal>
+        requires sound { IsSound self.now }
         ensures refused { IfSome result
             (λ cause. (denied : Bool) (call : Call) → refusal (state self.now) who denied call ≡ Some cause) }
         ensures free { IfNone result (IsFree (state self.now) who) }
         ensures known { IfNone result (who < self.now.threads) }
     {
-        if who >= self.threads {
-            return Some(Refusal::UnknownThread);
+        match self.standings.get(who as usize) {
+            Some(Standing::Free) => None,
+            Some(Standing::Waiting) => Some(Refusal::ThreadWaiting),
+            Some(Standing::Ended) => Some(Refusal::ThreadEnded),
+            None => Some(Refusal::UnknownThread),
         }
-        if let Some(own) = self.objects.as_slice().get(who as usize) {
-            if own.has_ended() {
-                return Some(Refusal::ThreadEnded);
-            }
-        }
-        if self.waits.about(ThreadId::new(who as u16)).is_some() {
-            return Some(Refusal::ThreadWaiting);
-        }
-        None
     }
 
     /// An act, made or refused by its own causes.

@@ -27,6 +27,7 @@ impl Machine {
         let apcs = self.apcs.copy()?;
         let handles = self.handles.copy()?;
         let handing = Vec::from_slice(alloc, &self.handing)?;
+        let standings = Vec::from_slice(alloc, &self.standings)?;
         let grants = copy_grants(alloc, self.threads as usize, &self.grants)?;
         let objects = self.objects.copy()?;
         let alerted = self.alerted.copy()?;
@@ -38,6 +39,7 @@ impl Machine {
             waits: self.waits.copy()?,
             apcs,
             handing,
+            standings,
             moment: self.moment,
             grants,
             alarms,

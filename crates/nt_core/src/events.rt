@@ -28,8 +28,7 @@ impl Machine {
     pub(crate) fn raise_event(&mut self, event: ObjectNumber)
         requires fresh { IsFresh self.old }
         requires kind { IsTrue (is_event (object_at self.old.objects event)) }
-        ensures served { IsServedAfter self.old (at (state self.old) event (with_set true)) self.new }
-        ensures prepared { self.new.table.prepared ≡ self.old.table.prepared }
+        ensures { IsServedAfter self.old (at (state self.old) event (with_set true)) self.new }
     {
         if self.objects.set(event) {
             self.serve_one(event);

@@ -2,7 +2,7 @@
 ghost use Rattle.std.specs.Prelude.{◌≡◌, ◌≢◌, ◌<◌, ℕ, None, Some, true, length, slice_set};
 ghost use Rattle.nt_objects.specs.declared.object.Object.TheVariants.{Thread};
 ghost use Rattle.nt_objects.specs.Object.{is_timer, setter_of, armed_with};
-ghost use Rattle.nt_alarms.specs.Marks.{AddsMarks};
+ghost use Rattle.nt_marks.specs.Marks.{AddsMarks};
 ghost use Rattle.nt_apc.specs.Queues.{cleared};
 ghost use Rattle.nt_calls.specs.State.{object_at};
 ghost use Rattle.nt_core.specs.Dispatcher.{Dispatcher, state};
@@ -12,8 +12,10 @@ ghost use Rattle.nt_calls.specs.declared.call.Call.{Call};
 ghost use Rattle.nt_calls.specs.declared.call.Reply.{Reply};
 
 use crate::machine::Machine;
-use nt_alarms::{Alarms, Marks};
+use crate::standing::Standing;
+use nt_alarms::Alarms;
 use nt_calls::is_set_by;
+use nt_marks::Marks;
 use nt_owners::ObjectTable;
 use nt_status::{ObjectNumber, ThreadId};
 
@@ -27,7 +29,7 @@ fn stop(objects: &mut ObjectTable, alarms: &mut Alarms, changed: &mut Marks, tim
         ≡ slice_set objects.old.items timer (armed_with None (object_at objects.old.items timer)) }
     ensures owned { objects.new.owned ≡ objects.old.owned }
     ensures alarms { alarms.new ≡ slice_set alarms.old timer None }
-    ensures changed { changed.new ≡ slice_set changed.old timer (Some 0) }
+    ensures changed { changed.new ≡ slice_set changed.old timer true }
 {
     let place = timer.get() as usize;
     let mut object = objects.as_slice()[place];
@@ -89,7 +91,7 @@ impl Machine {
         ensures grants { self.new.grants ≡ self.old.grants }
         ensures table { self.new.table ≡ self.old.table }
         ensures marked { self.new.marked
-            ≡ record self.old.marked { changed = slice_set self.old.marked.changed thread (Some 0) } }
+            ≡ record self.old.marked { changed = slice_set self.old.marked.changed thread true } }
     {
         let own = ObjectNumber::new(thread.get() as u32);
         let mut object = self.object(own);
@@ -97,7 +99,9 @@ impl Machine {
         self.exchange(own, object);
         self.apcs.clear(thread);
         self.mark(own);
-        self.changed.set(thread.get() as usize);
+        let place = thread.get() as usize;
+        self.changed.set(place);
+        self.standings[place] = Standing::Ended;
     }
 
     /// The thread ends, and the objects that this changes are marked.

@@ -24,6 +24,7 @@ mod readers;
 // The parts, and the way of a call through them.
 mod calls;
 mod machine;
+mod standing;
 // Waits: how they begin, and are served.
 mod pending;
 mod serving;

@@ -9,8 +9,8 @@ ghost use Rattle.nt_core.specs.Accepts.{IsFresh, IsActOfAny, KeepsWaits};
 ghost use Rattle.nt_calls.specs.declared.call.Act.{Act};
 
 use crate::machine::{Answer, Machine};
-use nt_alarms::Marks;
 use nt_calls::{Reply, close_refusal};
+use nt_marks::Marks;
 use nt_objects::{HandleTable, Object};
 use nt_status::{Handle, ObjectNumber};
 
@@ -43,7 +43,7 @@ impl Machine {
     /// From now on nothing may keep the object any more.
     pub(crate) fn mark(&mut self, object: ObjectNumber)
         requires { object < length self.old.leaving }
-        ensures { self.new ≡ record self.old { leaving = slice_set self.old.leaving object (Some 0) } }
+        ensures { self.new ≡ record self.old { leaving = slice_set self.old.leaving object true } }
     {
         self.leaving.set(object.get() as usize);
     }
@@ -105,7 +105,7 @@ impl Machine {
         ensures becomes { state self.new ≡
             (if is_forgotten (state self.old) object then gone (state self.old) object else state self.old) }
         ensures sound { IsSound self.new }
-        ensures leaving { self.new.leaving ≡ slice_set self.old.leaving object None }
+        ensures leaving { self.new.leaving ≡ slice_set self.old.leaving object false }
         ensures kept { KeepsWaits self.old self.new }
     {
         if self.is_forgotten(object) {

@@ -6,14 +6,17 @@ ghost use Rattle.nt_core.specs.Dispatcher.{state};
 ghost use Rattle.nt_core.specs.Lawful.{IsSteady};
 ghost use Rattle.nt_calls.specs.Living.{LivesWhileKept};
 ghost use Rattle.nt_core.specs.Accepts.{IsFresh};
+ghost use Rattle.nt_core.specs.declared.standing.Standing.{Standing};
 
-use nt_alarms::{Alarms, Marks};
+use crate::standing::Standing;
+use nt_alarms::Alarms;
 use nt_apc::ApcQueues;
 use nt_calls::{Grant, Reply};
+use nt_marks::Marks;
 use nt_objects::{HandleTable, Object};
 use nt_owners::ObjectTable;
 use nt_status::{MAX_MANY_THREADS, Moment, Refusal};
-use nt_waits::{Reader, WaitTable};
+use nt_waits::{Reader, Room, WaitTable};
 use std::alloc::{AllocError, Global};
 use std::marker::Model;
 
@@ -27,6 +30,13 @@ fn none_handing(alloc: Global, count: usize) -> Result<Vec<bool>, AllocError>
     vec![in alloc; false; count]
 }
 
+/// Each of so many threads is free to call.
+fn all_free(alloc: Global, count: usize) -> Result<Vec<Standing>, AllocError>
+    ensures { IfOk result (λ standings. standings.items ≡ replicate count Standing.Free) }
+{
+    vec![in alloc; Standing::Free; count]
+}
+
 /// The parts of a dispatcher, also between a change and the serving after it.
 #[derive(Drop)]
 pub struct Machine {
@@ -36,6 +46,8 @@ pub struct Machine {
     pub(crate) waits: WaitTable,
     pub(crate) apcs: ApcQueues,
     pub(crate) handing: Vec<bool>,
+    /// For each thread whether it may call.
+    pub(crate) standings: Vec<Standing>,
     pub(crate) moment: Moment,
     pub(crate) grants: Vec<Grant>,
     pub(crate) alarms: Alarms,
@@ -59,10 +71,11 @@ impl Model for Machine {
     ghost coded = { Prim.hlevel (codes, waits_code) };
 
     ghost view = { λ m. dispatcher_of m.threads m.handles.opened m.objects.items m.objects.owned m.waits m.apcs
-        m.handing.items m.moment m.grants.items m.alarms m.leaving m.changed m.alerted };
+        m.handing.items m.standings.items m.moment m.grants.items m.alarms m.leaving m.changed m.alerted };
 
     ghost invariant = { λ m. (m.threads ≤ MAX_MANY_THREADS) × (m.threads ≤ vec_capacity m.grants)
-        × (length m.objects.owned ≡ m.threads) };
+        × (length m.objects.owned ≡ m.threads)
+        × (m.waits.room ≡ record { threads = m.threads; objects = length m.alarms }) };
 }
 
 impl Machine {
@@ -78,13 +91,18 @@ impl Machine {
     {
         let count = threads as usize;
         let handing = none_handing(alloc, count)?;
+        let standings = all_free(alloc, count)?;
         let grants = Vec::with_capacity(alloc, count)?;
         let apcs = ApcQueues::new(alloc, count)?;
         let handles = HandleTable::new(alloc, count, Object::new_thread().full_access())?;
         let objects = ObjectTable::new(alloc, count)?;
         let alerted = Marks::with_places(alloc, count)?;
         let (alarms, leaving, changed) = Alarms::with_marks(alloc, count)?;
-        let (waits, reader) = WaitTable::with_reader(alloc);
+        let room = Room {
+            threads: count,
+            objects: count,
+        };
+        let (waits, reader) = WaitTable::with_room(alloc, room)?;
         let machine = Machine {
             threads,
             handles,
@@ -92,6 +110,7 @@ impl Machine {
             waits,
             apcs,
             handing,
+            standings,
             moment: Moment::ZERO,
             grants,
             alarms,

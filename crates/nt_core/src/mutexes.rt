@@ -30,8 +30,7 @@ impl Machine {
     pub(crate) fn give_back(&mut self, thread: ThreadId, mutex: ObjectNumber)
         requires fresh { IsFresh self.old }
         requires owner { IsTrue (owned_by (object_at self.old.objects mutex) thread) }
-        ensures served { IsServedAfter self.old (at (state self.old) mutex unlocked) self.new }
-        ensures prepared { self.new.table.prepared ≡ self.old.table.prepared }
+        ensures { IsServedAfter self.old (at (state self.old) mutex unlocked) self.new }
     {
         let Ok(_released) = self.objects.unlock(mutex, thread) else {
             unreachable!()

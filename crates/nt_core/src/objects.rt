@@ -1,19 +1,47 @@
 //! The list of objects, and the creation of more.
-ghost use Rattle.std.specs.Prelude.{slice_set, ◌≡◌, ◌<◌, ℕ, true, false, Some, IfOk, IfErr, OnOk, OnErr, MatchBool, length};
+ghost use Rattle.std.specs.Prelude.{slice_set, ◌≡◌, ◌<◌, ◌++◌, ◌∷◌, [], ℕ, true, false, Some, None, IfOk, IfErr, OnOk, OnErr, MatchBool, length};
 ghost use Rattle.nt_status.specs.declared.refusal.Refusal.TheVariants.{HandleLimit, Memory};
 ghost use Rattle.nt_objects.specs.Object.{owner_of, owned_by};
 ghost use Rattle.nt_calls.specs.State.{object_at};
 ghost use Rattle.nt_calls.specs.Refusals.{is_full};
-ghost use Rattle.nt_core.specs.Dispatcher.{with_created};
+ghost use Rattle.nt_core.specs.Dispatcher.{with_created, with_queue};
 ghost use Rattle.nt_core.specs.Lawful.{HandlesAgree};
 ghost use Rattle.nt_core.specs.Accepts.{IsFresh, IsActOfAny};
 ghost use Rattle.nt_calls.specs.declared.call.Act.{Act};
 ghost use Rattle.nt_calls.specs.declared.call.Reply.{Reply};
 
 use crate::machine::{Answer, Machine};
+use nt_alarms::Alarms;
 use nt_calls::{Reply, object_to_share};
+use nt_marks::Marks;
 use nt_objects::{Object, Opened};
 use nt_status::{Access, Handle, MAX_HANDLES, ObjectNumber, Refusal};
+use nt_waits::WaitTable;
+use std::alloc::AllocError;
+
+/// Makes the places of one object more: of its alarm, with none, and of both its marks; and the room for waits on it. Where memory is refused
+/// nothing changes.
+pub(crate) fn add_places(
+    waits: &mut WaitTable,
+    alarms: &mut Alarms,
+    leaving: &mut Marks,
+    changed: &mut Marks,
+) -> Result<(), AllocError>
+    ensures waits { OnOk result (waits.new ≡ with_queue waits.old) }
+    ensures alarms { OnOk result (alarms.new ≡ alarms.old ++ None ∷ []) }
+    ensures leaving { OnOk result (leaving.new ≡ leaving.old ++ false ∷ []) }
+    ensures changed { OnOk result (changed.new ≡ changed.old ++ false ∷ []) }
+    ensures no_waits { OnErr result (waits.new ≡ waits.old) }
+    ensures no_alarms { OnErr result (alarms.new ≡ alarms.old) }
+    ensures no_marks { OnErr result ((leaving.new ≡ leaving.old) × (changed.new ≡ changed.old)) }
+{
+    waits.add_object()?;
+    if let Err(refused) = alarms.add_with(leaving, changed) {
+        waits.remove_object();
+        return Err(refused);
+    }
+    Ok(())
+}
 
 impl Machine {
     /// Adds an object with a handle that has all rights of its kind, and answers the handle, unless no handle number is left or
@@ -35,7 +63,12 @@ impl Machine {
         let access = object.full_access();
         self.objects.make_room()?;
         self.handles.make_room()?;
-        self.alarms.add_with(&mut self.leaving, &mut self.changed)?;
+        add_places(
+            &mut self.waits,
+            &mut self.alarms,
+            &mut self.leaving,
+            &mut self.changed,
+        )?;
         self.objects.add(object);
         let object = ObjectNumber::new(count as u32);
         Ok(Reply::Handle(self.handles.add(Opened { object, access })))

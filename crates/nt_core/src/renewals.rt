@@ -13,6 +13,8 @@ ghost use Rattle.nt_core.specs.Renewals.{is_closed, is_vacant, is_left, creation
 
 use crate::dispatcher::Core;
 use crate::machine::{Answer, Machine};
+use crate::objects::add_places;
+use crate::standing::Standing;
 use nt_calls::{Act, Reply};
 use nt_objects::{Object, Opened};
 use nt_status::{
@@ -121,12 +123,17 @@ impl Machine {
         self.handles.add_again(handle, opened);
     }
 
-    /// The thread may take no APCs until a wait of it ends for them.
-    fn clear_hand(&mut self, thread: u32)
-        requires { thread < length self.old.handing }
-        ensures { self.new ≡ record self.old { handing = slice_set self.old.handing thread false } }
+    /// The thread is free to call, and may take no APCs until a wait of it ends for them.
+    fn set_free(&mut self, thread: u32)
+        requires hand { thread < length self.old.handing }
+        requires standing { thread < length self.old.standings }
+        ensures { self.new ≡ record self.old {
+          handing = slice_set self.old.handing thread false;
+          standings = slice_set self.old.standings thread Standing.Free;
+        } }
     {
         self.handing[thread as usize] = false;
+        self.standings[thread as usize] = Standing::Free;
     }
 
     /// Gives the number of an object that is gone to a new one, and that of a closed handle to its handle.
@@ -136,7 +143,7 @@ impl Machine {
         requires enough { length self.old.objects ≤ length self.old.handles }
         requires few { length self.old.handles < 2 ^ 32 - 1 }
         requires owner { (t : ℕ) → owned_by new t ≡ true → t < self.old.threads }
-        ensures { self.new ≡ with_again self.old object handle new self.old.handing self.new.owned }
+        ensures { self.new ≡ with_again self.old object handle new self.old.handing self.old.standings self.new.owned }
     {
         let access = new.full_access();
         self.objects.put(object, new);
@@ -153,7 +160,12 @@ impl Machine {
     {
         let count = self.objects.as_slice().len();
         self.objects.make_room()?;
-        self.alarms.add_with(&mut self.leaving, &mut self.changed)?;
+        add_places(
+            &mut self.waits,
+            &mut self.alarms,
+            &mut self.leaving,
+            &mut self.changed,
+        )?;
         self.objects.add(Object::Gone);
         Ok(ObjectNumber::new(count as u32))
     }
@@ -258,7 +270,7 @@ impl Machine {
         if !self.may_begin(thread, handle) {
             return Err(Refusal::InvalidHandle);
         }
-        self.clear_hand(thread);
+        self.set_free(thread);
         self.give_again(ObjectNumber::new(thread), handle, Object::new_thread());
         Ok(Reply::Handle(handle))
     }

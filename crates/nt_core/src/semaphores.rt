@@ -31,7 +31,6 @@ impl Machine {
         requires positive { pos 0 <ℤ count }
         requires within { overflows count (object_at self.old.objects semaphore) ≡ false }
         ensures served { IsServedAfter self.old (at (state self.old) semaphore (released count)) self.new }
-        ensures prepared { self.new.table.prepared ≡ self.old.table.prepared }
         ensures previous { result ≡ count_of (object_at self.old.objects semaphore) }
     {
         let Ok(previous) = self.objects.release(semaphore, count) else {

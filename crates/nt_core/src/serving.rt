@@ -5,8 +5,7 @@ ghost use Rattle.std.specs.FinMap as fin;
 ghost use Rattle.std.specs.List.{Contains};
 ghost use Rattle.nt_waits.specs.Waits.{next_after, only_of};
 ghost use Rattle.nt_calls.specs.State.{pends};
-ghost use Rattle.nt_alarms.specs.Alarms.{NoneAt};
-ghost use Rattle.nt_alarms.specs.Marks.{marked_places};
+ghost use Rattle.nt_marks.specs.Marks.{marked_places, NoneMarked};
 ghost use Rattle.nt_core.specs.Dispatcher.{state, with_marked};
 ghost use Rattle.nt_calls.specs.Serving.{sequence, Serve};
 ghost use Rattle.nt_core.specs.Visits.{Visits, FitOnlyBy, FitOnlyIn, HasVisited, HasServed, uncounted};
@@ -14,6 +13,7 @@ ghost use Rattle.nt_core.specs.Lawful.{IsSound};
 
 use crate::living::let_go;
 use crate::machine::Machine;
+use crate::standing::Standing;
 use nt_calls::{Grant, is_ready, try_wait};
 use nt_status::{ObjectNumber, ThreadId};
 
@@ -35,7 +35,9 @@ impl Machine {
         };
         let_go(&self.handles, &mut self.leaving, objects);
         self.waits.end_in_place(thread);
-        self.handing[thread.get() as usize] = false;
+        let number = thread.get() as usize;
+        self.handing[number] = false;
+        self.standings[number] = Standing::Free;
         self.grants.push_reserved(Grant { thread, status });
     }
 
@@ -55,6 +57,7 @@ impl Machine {
         let next = self.waits.end_one(thread, object);
         let place = thread.get() as usize;
         self.handing[place] = false;
+        self.standings[place] = Standing::Free;
         self.grants.push_reserved(Grant { thread, status });
         next
     }
@@ -97,9 +100,8 @@ impl Machine {
             + length (sequence (state self.old) (marked_places self.old.marked.changed)) < 2 ^ 64 }
         ensures visits { Visits (sequence (state self.old) (marked_places self.old.marked.changed))
             (with_marked self.old self.new.marked) self.new }
-        ensures served { NoneAt self.new.marked.changed 0 }
+        ensures served { NoneMarked self.new.marked.changed }
         ensures alerted { self.new.marked.alerted ≡ self.old.marked.alerted }
-        ensures prepared { self.new.table.prepared ≡ self.old.table.prepared }
         ensures sound { IsSound self.new }
     {
         while let Some(place) = self.changed.first() {
@@ -140,7 +142,6 @@ impl Machine {
         requires anew { self.old.table.looked ≡ 0 }
         ensures served { Serve (sequence (state self.old) (object ∷ [])) (state self.old) self.new.grants
             (state self.new) }
-        ensures prepared { self.new.table.prepared ≡ self.old.table.prepared }
         ensures marked { self.new.marked ≡ self.old.marked }
         ensures sound { IsSound self.new }
         ensures most { self.new.table.looked ≤ length (sequence (state self.old) (object ∷ [])) }

@@ -1,7 +1,7 @@
 //! Ticks: moments pass, and the waits end whose deadlines come.
-ghost use Rattle.std.specs.Prelude.{◌≡◌, ◌≤◌, ◌<◌, ◌+◌, ◌^◌, ℕ, false, Some, length, MatchOption, OnOk, OnErr, slice_set};
-ghost use Rattle.nt_alarms.specs.Alarms.{alarm_at, NoneAt, NoneBefore};
-ghost use Rattle.nt_alarms.specs.Marks.{marked_places, with_mark};
+ghost use Rattle.std.specs.Prelude.{◌≡◌, ◌≤◌, ◌<◌, ◌+◌, ◌^◌, ℕ, true, false, Some, length, MatchOption, OnOk, OnErr, slice_set};
+ghost use Rattle.nt_alarms.specs.Alarms.{NoneBefore};
+ghost use Rattle.nt_marks.specs.Marks.{is_marked, marked_places, NoneMarked, with_mark};
 ghost use Rattle.nt_objects.specs.Object.{setter_of};
 ghost use Rattle.nt_core.specs.Due.{earlier, due_weight};
 ghost use Rattle.nt_waits.specs.Deadlines.{NoneEarlier};
@@ -44,7 +44,7 @@ impl Machine {
         requires sound { IsSound self.old }
         requires known { timer < length self.old.objects }
         ensures { self.new ≡ with_marked self.old (record {
-          changed = slice_set self.old.marked.changed timer (Some 0);
+          changed = slice_set self.old.marked.changed timer true;
           alerted = with_mark (setter_of (object_at self.old.objects timer)) self.old.marked.alerted;
         }) }
     {
@@ -75,8 +75,8 @@ impl Machine {
     /// Ends the waits of the threads with a mark that are to be alerted, by rising thread number. All that are have one.
     fn alert_all(&mut self)
         requires sound { IsSound self.old }
-        requires marked { (t : ℕ) → IsAlerted (state self.old) t → alarm_at self.old.marked.alerted t ≡ Some 0 }
-        requires served { NoneAt self.old.marked.changed 0 }
+        requires marked { (t : ℕ) → IsAlerted (state self.old) t → is_marked self.old.marked.alerted t ≡ true }
+        requires served { NoneMarked self.old.marked.changed }
         ensures alerted { IsAlertedAfter self.old self.new }
         ensures sound { IsSound self.new }
     {

@@ -1,5 +1,5 @@
 //! How a thread's own wait begins.
-ghost use Rattle.std.specs.Prelude.{ℕ, ◌≡◌, ◌≢◌, ◌&&◌, ◌<◌, [], None, false, OnOk, OnErr, IfOk, IfErr, is_some, IfSome, IfNone, IsTrue, length, slice_set};
+ghost use Rattle.std.specs.Prelude.{ℕ, ◌≡◌, ◌≢◌, ◌&&◌, ◌∷◌, ◌<◌, [], None, false, OnOk, OnErr, IfOk, IfErr, is_some, IfSome, IfNone, IsTrue, length, slice_set};
 ghost use Rattle.std.specs.Option.{OnSome};
 ghost use Rattle.nt_status.specs.declared.refusal.Refusal.TheVariants.{Memory};
 ghost use Rattle.std.specs.List.{Contains};
@@ -10,20 +10,21 @@ ghost use Rattle.nt_core.specs.Dispatcher.{state};
 ghost use Rattle.nt_calls.specs.Serving.{late_status, wait_for, fits, status, taken_by};
 ghost use Rattle.nt_calls.specs.Living.{LivesWhileKept};
 ghost use Rattle.nt_calls.specs.Naming.{call_named};
+ghost use Rattle.nt_calls.specs.Refusals.{grows};
 ghost use Rattle.nt_calls.specs.Rights.{is_denied};
 ghost use Rattle.nt_calls.specs.Steps.{Made, Called};
 ghost use Rattle.nt_calls.specs.declared.call.Call.{Call};
 ghost use Rattle.nt_calls.specs.declared.call.WaitCall.{WaitCall};
 ghost use Rattle.nt_core.specs.Lawful.{IsSound, IsSteady};
 ghost use Rattle.nt_calls.specs.declared.call.Reply.{Reply};
-ghost use Rattle.nt_core.specs.Accepts.{IsFresh, IsFree, HasBegun, reply_of, replied, begins_pending, objects_call, IsLocal, IsMade, IsWaitMade, CanBegin};
+ghost use Rattle.nt_core.specs.Accepts.{IsFresh, IsFree, HasBegun, reply_of, replied, objects_call, IsLocal, IsMade, IsWaitMade, CanBegin};
 
 use crate::machine::{Answer, Machine};
 use nt_calls::{
     NamedObjects, Reply, SYNCHRONIZE, WaitCall, late_status, name_all, objects_refusal, opened,
     try_wait,
 };
-use nt_status::{Handle, MAX_WAIT_OBJECTS, ObjectNumber, Refusal, Status, ThreadId};
+use nt_status::{Handle, Handles, MAX_WAIT_OBJECTS, ObjectNumber, Refusal, Status, ThreadId};
 use nt_waits::About;
 
 /// How a thread asks to wait.
@@ -49,10 +50,10 @@ impl Mode {
 
 /// The status with which a wait ended at once, or none where it pends. What begins a wait answers no more than that: a reply is large, and
 /// a function that may get one clears room for it at each call.
-type Begun = Result<Option<Status>, Refusal>;
+pub(crate) type Begun = Result<Option<Status>, Refusal>;
 
 /// The reply of a waiting call, from how its wait began.
-fn replied(ended: Begun) -> Answer
+pub(crate) fn replied(ended: Begun) -> Answer
     ensures { result ≡ replied ended }
 {
     match ended {
@@ -145,7 +146,8 @@ impl Machine {
         ensures steady { IsSteady self.new }
         ensures grants { self.new.grants ≡ self.old.grants }
         ensures looked { self.new.table.looked ≡ self.old.table.looked }
-        ensures grows { OnErr result (IsTrue (begins_pending (state self.old) thread objects.now mode)) }
+        ensures grows { OnErr result (IsTrue (grows (state self.old) thread
+            (Call.Wait (objects_call mode objects.now)))) }
         ensures memory { IfErr result (λ refusal. refusal ≡ Memory) }
         ensures err { OnErr result (self.new ≡ self.old) }
     {
@@ -177,18 +179,44 @@ impl Machine {
         }
     }
 
-    /// The caller's wait for the objects that these handles name, begun or refused by its own causes.
+    /// The caller's wait for the object that this handle names, begun or refused by its own causes.
+    #[inline(always)]
+    fn wait_for_one(&mut self, thread: ThreadId, handle: Handle, mode: Mode) -> Answer
+        requires fresh { IsFresh self.old }
+        requires caller { IsFree (state self.old) thread }
+        ensures { IsWaitMade self.old self.new thread (objects_call mode (handle ∷ [])) result }
+    {
+        let (object, denied) = opened(&self.handles, handle, SYNCHRONIZE);
+        replied(self.wait_for(thread, denied, &[object], mode))
+    }
+
+    /// The same for the handles of a slice.
     #[inline(always)]
     fn wait_for_objects(&mut self, thread: ThreadId, these: &[Handle], mode: Mode) -> Answer
         requires fresh { IsFresh self.old }
         requires caller { IsFree (state self.old) thread }
         ensures { IsWaitMade self.old self.new thread (objects_call mode these.now) result }
     {
-        if let [handle] = these {
-            let (object, denied) = opened(&self.handles, *handle, SYNCHRONIZE);
-            return replied(self.wait_for(thread, denied, &[object], mode));
+        match these {
+            [handle] => self.wait_for_one(thread, *handle, mode),
+            _ => replied(self.wait_for_several(thread, these, mode.all, mode.ms, mode.alertable)),
         }
-        replied(self.wait_for_several(thread, these, mode.all, mode.ms, mode.alertable))
+    }
+
+    /// The same for the handles of a list.
+    #[inline(always)]
+    fn wait_for_listed(&mut self, thread: ThreadId, these: &Handles, mode: Mode) -> Answer
+        requires fresh { IsFresh self.old }
+        requires caller { IsFree (state self.old) thread }
+        ensures { IsWaitMade self.old self.new thread (objects_call mode these.now) result }
+    {
+        match these.alone() {
+            Some(handle) => self.wait_for_one(thread, handle, mode),
+            None => {
+                let slice = these.as_slice();
+                replied(self.wait_for_several(thread, slice, mode.all, mode.ms, mode.alertable))
+            }
+        }
     }
 
     /// The same for any number of handles. It stands apart, since the list of their objects lies in its own frame, and the parts of the mode
@@ -228,11 +256,7 @@ impl Machine {
                 all,
                 ms,
                 alertable,
-            } => self.wait_for_objects(
-                thread,
-                handles.as_slice(),
-                Mode::new(*all, *ms, *alertable),
-            ),
+            } => self.wait_for_listed(thread, handles, Mode::new(*all, *ms, *alertable)),
             WaitCall::Sleep { ms, alertable } => {
                 replied(self.begin_wait(thread, &[], Mode::new(false, *ms, *alertable)))
             }

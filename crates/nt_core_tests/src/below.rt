@@ -5,6 +5,7 @@ mod apcs;
 mod devices;
 mod handles;
 mod lines;
+mod marks;
 mod objects;
 mod owners;
 mod statuses;

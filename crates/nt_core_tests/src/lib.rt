@@ -6,4 +6,6 @@
 #[cfg(test)]
 mod below;
 #[cfg(test)]
+mod expect;
+#[cfg(test)]
 mod tests;

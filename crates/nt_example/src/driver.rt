@@ -27,7 +27,7 @@ impl Driver {
             .core
             .wait_any(guest, handles, Timeout::INFINITE, false)?
         {
-            Began::Ended(status) => self.wake(guest, status),
+            Began::Ended(status) => wake(&mut self.ended, guest, status),
             Began::Pended => {}
         }
         Ok(())
@@ -42,10 +42,8 @@ impl Driver {
 
     /// Lets those guests go on whose waits the last call or tick ended. The next call or tick begins a new list.
     pub fn wake_granted(&mut self) {
-        for place in 0..self.core.grants().len() {
-            if let Some(grant) = self.core.grants().get(place).copied() {
-                self.wake(u32::from(grant.thread.get()), grant.status);
-            }
+        for grant in self.core.grants() {
+            wake(&mut self.ended, u32::from(grant.thread.get()), grant.status);
         }
     }
 
@@ -69,12 +67,6 @@ impl Driver {
         self.core.now().get() / 10_000
     }
 
-    fn wake(&mut self, guest: u32, status: Status) {
-        if (guest as usize) < GUESTS {
-            self.ended[guest as usize] = Some(status);
-        }
-    }
-
     fn take_ended(&mut self) -> Option<(u32, Status)> {
         for guest in 0..GUESTS {
             if let Some(status) = self.ended[guest].take() {
@@ -82,5 +74,12 @@ impl Driver {
             }
         }
         None
+    }
+}
+
+/// Notes that this guest may go on, and the status with which its wait ended.
+fn wake(ended: &mut [Option<Status>; GUESTS], guest: u32, status: Status) {
+    if let Some(place) = ended.get_mut(guest as usize) {
+        *place = Some(status);
     }
 }

@@ -1,81 +1,70 @@
 -- How marks are set.
-use Rattle.std.proofs.Common.{◌≡◌, ◌≢◌, ℕ, ◌+◌, ◌*◌, ◌/◌, ◌%◌, ◌^◌, ◌<◌, ◌≤◌, zero, suc, List, [], ◌∷◌, ◌++◌, length, take, replicate, get_or, bit_or, w64, Bool, true, false, eqb, eq-eqb, ne_eqb, refl, sym, ap, subst, ◌∙◌, inl, inr, arith, get_or-set_same, get_or-set_other}
-use Rattle.std.specs.Prelude.{slice_index, slice_set, min, max}
-use Rattle.std.specs.Int.{bit_at}
+use Rattle.std.proofs.Common.{◌≡◌, ℕ, zero, suc, ◌+◌, ◌<◌, ◌≤◌, Bool, true, false, ◌||◌, List, [], ◌∷◌, ◌++◌, length, take, replicate, get_or, eqb, eq-eqb, ne_eqb, refl, sym, ap, subst, ◌∙◌, inl, inr, arith, get_or-set_same, get_or-set_other}
+use Rattle.std.specs.Prelude.{slice_set, nat_lt}
 use Rattle.std.proofs.lemmas.Bool.{cases_eq}
-use Rattle.std.proofs.lemmas.Nat.Bits.{bit_at_set_same, bit_at_set_other, bit_at-lt, bit_at-zero}
-use Rattle.std.proofs.lemmas.List.{take_all, take_more}
+use Rattle.std.proofs.lemmas.Bool.Decides.{nat_tests}
+use Rattle.std.proofs.lemmas.List.{length-set, length-replicate, take_all, take_more}
 use Rattle.nt_status.specs.declared.limits.TheConstants.{MAX_THREADS}
 use Rattle.nt_calls.specs.declared.call.Grant.{Grant}
 use Rattle.nt_calls.specs.Moves.{one_if, granted_to}
-use Rattle.nt_front.specs.Marks.{mark_of, IsMarkedToo, AreMarks}
+use Rattle.nt_marks.specs.Marks.{is_marked}
+use Rattle.nt_front.specs.Marks.{IsMarkedToo, AreMarks}
 
--- the blocks with a mark for thread n
-marked : List ℕ → ℕ → List ℕ
-marked blocks n = slice_set blocks (n / 64) (bit_or (slice_index blocks (n / 64)) (1 * 2 ^ (n % 64) % 2 ^ 64))
+or_true : (b : Bool) → true ≡ (b || true)
+or_true true = refl
+or_true false = refl
 
-marks_it : (blocks : List ℕ) (n : ℕ) → n / 64 < length blocks → mark_of n (marked blocks n) ≡ 1
-unfolding marked
-marks_it blocks n inside = ap (λ x. bit_at x (n % 64)) (get_or-set_same blocks (n / 64) _ 0 inside) ∙ bit_at_set_same w64 (slice_index blocks (n / 64)) (n % 64) (omega arith)
+or_false : (b : Bool) → b ≡ (b || false)
+or_false true = refl
+or_false false = refl
 
-marks_no_other : (blocks : List ℕ) (n : ℕ) → n / 64 < length blocks → (t : ℕ) → t ≢ n → mark_of t (marked blocks n) ≡ mark_of t blocks
-unfolding marked
-marks_no_other blocks n inside t differs =
-    elim (cases_eq (t / 64) (n / 64)) [
-      | inl same ↦ rw (same, get_or-set_same blocks (n / 64) _ 0 inside) (bit_at_set_other w64 (slice_index blocks (n / 64)) (n % 64) (omega arith) (t % 64) (λ index. differs (omega arith)))
-      | inr apart ↦ ap (λ x. bit_at x (t % 64)) (get_or-set_other blocks (n / 64) (t / 64) _ 0 apart)
-    ]
-
-marked_too : (blocks : List ℕ) (n t : ℕ) → n / 64 < length blocks → mark_of t (marked blocks n) ≡ max (mark_of t blocks) (one_if (eqb n t))
-marked_too blocks n t inside =
-    elim (cases_eq t n) [
-      | inl same ↦
-          let one = ap (λ (x : ℕ). mark_of x (marked blocks n)) same ∙ marks_it blocks n inside in
-          let small = bit_at-lt (slice_index blocks (t / 64)) (t % 64) in
-          let here = ap one_if (eq-eqb n t (sym same)) in
-          omega (arith, one, small, here)
-      | inr other ↦
-          let kept = marks_no_other blocks n inside t other in
-          let none = ap one_if (ne_eqb n t (λ e. other (sym e))) in
-          omega (arith, kept, none)
-    ]
-
--- a thread that has a place among the blocks
-pub marks_thread : (blocks new : List ℕ) (n thread : ℕ) → n / 64 < length blocks → n ≡ thread → new ≡ slice_set blocks (n / 64) (bit_or (slice_index blocks (n / 64)) (1 * 2 ^ (n % 64) % 2 ^ 64)) → IsMarkedToo blocks thread new
-unfolding marked
-marks_thread blocks new n thread inside same is = record { each = λ t near. ap (mark_of t) is ∙ marked_too blocks n t inside ∙ ap (λ (x : ℕ). max (mark_of t blocks) (one_if (eqb x t))) same }
+-- a thread that has a place
+pub marked_thread : (old : List Bool) (n thread : ℕ) → n < length old → n ≡ thread → IsMarkedToo old thread (slice_set old n true)
+marked_thread old n thread inside same = record {
+  count = length-set old n true;
+  each = λ t near. elim (cases_eq t n) [
+    | inl here ↦
+        ap (λ (k : ℕ). is_marked (slice_set old n true) k) here ∙ (get_or-set_same old n true false inside
+        ∙ (or_true (is_marked old t) ∙ ap (λ (b : Bool). is_marked old t || b) (sym (eq-eqb thread t (sym same ∙ sym here)))))
+    | inr other ↦
+        get_or-set_other old n t true false other
+        ∙ (or_false (is_marked old t) ∙ ap (λ (b : Bool). is_marked old t || b) (sym (ne_eqb thread t (λ e. other (sym e ∙ sym same)))))
+  ];
+}
 
 -- a thread that has none
-pub marks_far : (blocks : List ℕ) (n : ℕ) → MAX_THREADS ≤ n → IsMarkedToo blocks n blocks
-marks_far blocks n far = record { each = λ t near. (let none = ap one_if (ne_eqb n t (λ e. absurd (omega (arith, e)))) in omega (arith, none)) }
+pub marked_far : (old : List Bool) (n thread : ℕ) → MAX_THREADS ≤ n → n ≡ thread → IsMarkedToo old thread old
+marked_far old n thread far same = record {
+  count = refl;
+  each = λ t near. or_false (is_marked old t) ∙ ap (λ (b : Bool). is_marked old t || b) (sym (ne_eqb thread t (λ e. absurd (omega (arith, e, far, same, near)))));
+}
 
-none_at : (i : ℕ) → slice_index (replicate 4 0) i ≡ 0
-none_at zero = refl
-none_at (suc zero) = refl
-none_at (suc (suc zero)) = refl
-none_at (suc (suc (suc zero))) = refl
-none_at (suc (suc (suc (suc i)))) = refl
+none_at : (n i : ℕ) → is_marked (replicate n false) i ≡ false
+none_at zero i = refl
+none_at (suc n) zero = refl
+none_at (suc n) (suc i) = none_at n i
 
 -- before the first grant
-pub marks_at_first : (gs : List Grant) → AreMarks (replicate 4 0) (take 0 gs)
-marks_at_first gs = record { each = λ t near. ap (λ x. bit_at x (t % 64)) (none_at (t / 64)) ∙ bit_at-zero (t % 64) }
+pub marks_at_first : (gs : List Grant) → AreMarks (replicate 256 false) (take 0 gs)
+marks_at_first gs = record { count = length-replicate 256 false; each = λ t near. none_at 256 t }
 
 granted_to-push : (t : ℕ) (gs : List Grant) (g : Grant) → granted_to t (gs ++ g ∷ []) ≡ granted_to t gs + one_if (eqb g.thread t)
 granted_to-push t [] g = omega arith
 granted_to-push t (x ∷ xs) g = omega (arith, granted_to-push t xs g)
 
-at_once : (a b n m : ℕ) (own : Bool) → b ≡ max a (one_if own) → a ≡ min 1 n → m ≡ n + one_if own → b ≡ min 1 m
-at_once a b n m true p q r = omega (arith, p, q, r)
-at_once a b n m false p q r = omega (arith, p, q, r)
+at_once : (a b : Bool) (n m : ℕ) (own : Bool) → b ≡ (a || own) → a ≡ nat_lt 0 n → m ≡ n + one_if own → b ≡ nat_lt 0 m
+at_once a b n m true p q r = p ∙ (sym (or_true a) ∙ (let more : 0 < m = omega (arith, r) in grind (arith, nat_tests, more)))
+at_once a b n m false p q r = p ∙ (sym (or_false a) ∙ (q ∙ ap (λ (k : ℕ). nat_lt 0 k) (let same : n ≡ m = omega (arith, r) in same)))
 
 -- after one more grant
-pub marks_next : (old new : List ℕ) (gs : List Grant) (i : ℕ) (g : Grant) → i < length gs → g ≡ get_or gs i g → AreMarks old (take i gs) → IsMarkedToo old g.thread new → AreMarks new (take (i + 1) gs)
+pub marks_next : (old new : List Bool) (gs : List Grant) (i : ℕ) (g : Grant) → i < length gs → g ≡ get_or gs i g → AreMarks old (take i gs) → IsMarkedToo old g.thread new → AreMarks new (take (i + 1) gs)
 marks_next old new gs i g inside is are too =
     let more = take_more gs i g inside ∙ ap (λ x. take i gs ++ x ∷ []) (sym is) in
     subst (AreMarks new) (sym more) (record {
-      each = λ t near. at_once (mark_of t old) (mark_of t new) (granted_to t (take i gs)) _ (eqb g.thread t) (too.each t near) (are.each t near) (granted_to-push t (take i gs) g);
+      count = too.count ∙ are.count;
+      each = λ t near. at_once (is_marked old t) (is_marked new t) (granted_to t (take i gs)) _ (eqb g.thread t) (too.each t near) (are.each t near) (granted_to-push t (take i gs) g);
     })
 
 -- after the last
-pub marks_all : (blocks : List ℕ) (gs : List Grant) (i : ℕ) → length gs ≤ i → AreMarks blocks (take i gs) → AreMarks blocks gs
-marks_all blocks gs i all are = subst (AreMarks blocks) (take_all i gs all) are
+pub marks_all : (marks : List Bool) (gs : List Grant) (i : ℕ) → length gs ≤ i → AreMarks marks (take i gs) → AreMarks marks gs
+marks_all marks gs i all are = subst (AreMarks marks) (take_all i gs all) are

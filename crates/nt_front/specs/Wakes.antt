@@ -7,7 +7,7 @@ use Rattle.nt_front.specs.Marks.{AreMarks}
 
 -- exactly the threads that have one of these grants are to be woken
 abbrev pub Wakes : ToWake → List Grant → Type 0
-Wakes to_wake grants = MatchOption to_wake.marks (grants ≡ []) (λ marks. AreMarks marks.0 grants)
+Wakes to_wake grants = MatchOption to_wake.marks (grants ≡ []) (λ marks. AreMarks marks grants)
 
 -- each bell is that of the thread whose number is its place
 abbrev pub AreNumbered : List Bell → Type 0

@@ -20,6 +20,7 @@ use nt_mail::{Entry, JoinedSeats, Mail, Opened};
 use nt_status::{MAX_THREADS, Moment, Refusal, ThreadId};
 use std::alloc::Global;
 use std::marker::{Model, PhantomData};
+use std::mem::ManuallyDrop;
 
 /// The most entries that a journal may have.
 const MOST_ENTRIES: usize = 1_048_576;
@@ -242,7 +243,7 @@ fn hand_out<N: Named>(mail: &Mail, seats: &mut JoinedSeats, threads: u16, passes
     for thread in 0..threads {
         let seat = mail.part(seats, ThreadId::new(thread));
         let hold = Hold {
-            seat,
+            seat: ManuallyDrop::new(seat),
             floor: Moment::ZERO,
             calls: 0,
             looks: LOOKS,

@@ -7,6 +7,7 @@ use crate::named::Named;
 use nt_mail::ThreadSeat;
 use nt_status::{Moment, ThreadId};
 use std::marker::{Model, PhantomData};
+use std::mem::ManuallyDrop;
 
 /// How often a thread looks for its grant before it sleeps, where looks help: longer than a thread takes to wake that sleeps.
 pub(crate) const LOOKS: u32 = 1000;
@@ -25,22 +26,11 @@ pub(crate) struct Hold<N: Named> {
     pub(crate) calls: u64,
     /// How often it looks for its next grant before it sleeps. Contracts don't see it.
     pub(crate) looks: u32,
+    /// It is let go by `into_seat` alone, so that whoever moves a pass, a sleeper or an ended thread has no drop of them to prove.
+    ///
     /// Last: it has a number of two bytes, and what stands before it is moved in whole words.
-    pub(crate) seat: ThreadSeat,
+    pub(crate) seat: ManuallyDrop<ThreadSeat>,
     pub(crate) of: PhantomData<N>,
-}
-
-/// Written by hand, so that whoever holds a pass, a sleeper or an ended thread has nothing to prove of its seat.
-impl<N: Named> Drop for Hold<N> {
-    fn drop(self) {
-        let Hold {
-            floor: _,
-            calls: _,
-            looks: _,
-            seat: _,
-            of: _,
-        } = self;
-    }
 }
 
 impl<N: Named> Model for Hold<N> {
@@ -49,9 +39,9 @@ impl<N: Named> Model for Hold<N> {
 
     ghost Value = { Knowledge };
 
-    ghost view = { λ h. h.seat.known };
+    ghost view = { λ h. h.seat.value.known };
 
-    ghost invariant = { λ h. IsHold N.front.table h.seat h.floor h.calls };
+    ghost invariant = { λ h. IsHold N.front.table h.seat.value h.floor h.calls };
 }
 
 impl<N: Named> Hold<N> {
@@ -96,7 +86,7 @@ impl<N: Named> Hold<N> {
             looks: _,
             of: _,
         } = self;
-        seat
+        ManuallyDrop::into_inner(seat)
     }
 }
 

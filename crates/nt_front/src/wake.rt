@@ -2,7 +2,7 @@
 //!
 //! Nothing can be proved of a wake-up, so types keep that none is forgotten. Whoever makes a call or tick is given a `ToWake`, which can't be
 //! let go, and which `Bells::ring` alone takes. A thread sleeps by a `Ticket` alone, which was made before the poll that found no grant.
-ghost use Rattle.std.specs.Prelude.{◌≡◌, [], IfOk, IfErr, IfSome, is_some, nat_lt};
+ghost use Rattle.std.specs.Prelude.{◌≡◌, [], length, IfOk, IfErr, IfSome, is_some, nat_lt};
 ghost use Rattle.nt_status.specs.declared.refusal.Refusal.TheVariants.{Memory};
 ghost use Rattle.nt_front.specs.Marks.{IsMarkedToo, AreMarks};
 ghost use Rattle.nt_front.specs.Polls.{IsStill};
@@ -11,6 +11,7 @@ ghost use Rattle.nt_front.specs.Wakes.{Wakes};
 use crate::hold::Sleeper;
 use crate::named::Named;
 use nt_core::Grant;
+use nt_marks::FewMarks;
 use nt_status::{MAX_THREADS, Refusal, ThreadId};
 use std::alloc::{AllocError, Global};
 use std::marker::Model;
@@ -18,42 +19,38 @@ use std::snapshot::Snapshot;
 use std::sync::{Condvar, Wait};
 use std::time::Duration;
 
-/// A mark for each thread whose wait ended, 64 threads a number.
-pub(crate) struct Marks([u64; 4]);
-
-impl Marks {
-    /// A mark for each thread that has one of these grants.
-    #[tactic(auto, using(crate::proofs::Marking::marks_at_first, crate::proofs::Marking::marks_next, crate::proofs::Marking::marks_all))]
-    #[inline(never)]
-    fn of(grants: &[Grant]) -> Marks
-        ensures { AreMarks result.0 grants.now }
-    {
-        let mut marks = Marks([0; 4]);
-        for grant in grants {
-            marks.add(grant.thread);
-        }
-        marks
+/// A mark for this thread too.
+#[tactic(auto, using(crate::proofs::Marking::marked_thread, crate::proofs::Marking::marked_far))]
+fn mark(marks: &mut FewMarks, thread: ThreadId)
+    requires { length marks.old ≡ MAX_THREADS }
+    ensures { IsMarkedToo marks.old thread marks.new }
+{
+    let number = usize::from(thread.get());
+    if number < MAX_THREADS as usize {
+        marks.set(number);
     }
+}
 
-    /// A mark for this thread too.
-    #[tactic(auto, using(crate::proofs::Marking::marks_thread, crate::proofs::Marking::marks_far))]
-    fn add(&mut self, thread: ThreadId)
-        ensures { IsMarkedToo self.old.0 thread self.new.0 }
-    {
-        let number = usize::from(thread.get());
-        if number < MAX_THREADS as usize {
-            self.0[number / 64] |= 1 << (number % 64);
-        }
+/// A mark for each thread that has one of these grants.
+#[tactic(auto, using(crate::proofs::Marking::marks_at_first, crate::proofs::Marking::marks_next, crate::proofs::Marking::marks_all))]
+#[inline(never)]
+fn mark_all(grants: &[Grant]) -> FewMarks
+    ensures { AreMarks result grants.now }
+{
+    let mut marks = FewMarks::none();
+    for grant in grants {
+        mark(&mut marks, grant.thread);
     }
+    marks
 }
 
 /// The threads that a call or tick granted, all of which are to be woken. It must be spent: `Bells::ring` wakes them.
 pub(crate) struct ToWake {
-    marks: Option<Marks>,
+    marks: Option<FewMarks>,
 }
 
 impl ToWake {
-    /// The threads of these grants. Mostly there are none.
+    /// The threads of these grants. Usually there are none.
     #[inline(always)]
     pub(crate) fn of(grants: &[Grant]) -> ToWake
         ensures { Wakes result grants.now }
@@ -61,7 +58,7 @@ impl ToWake {
         let marks = if grants.is_empty() {
             None
         } else {
-            Some(Marks::of(grants))
+            Some(mark_all(grants))
         };
         ToWake { marks }
     }
@@ -131,16 +128,10 @@ impl Bells {
 
     /// Wakes the threads that have a mark.
     #[inline(never)]
-    fn ring_all(&self, marks: Marks) {
-        let Marks(blocks) = marks;
-        for block in 0..4 {
-            let mut left = blocks[block];
-            for _ in 0..left.count_ones() {
-                let thread = block * 64 + left.trailing_zeros() as usize;
-                if let Some(bell) = self.all.get(thread) {
-                    bell.rung.notify_one();
-                }
-                left &= left.wrapping_sub(1);
+    fn ring_all(&self, mut marks: FewMarks) {
+        while let Some(thread) = marks.take_first() {
+            if let Some(bell) = self.all.get(thread) {
+                bell.rung.notify_one();
             }
         }
     }

@@ -4,7 +4,7 @@ use Rattle.std.specs.List.{starts_with}
 use Rattle.std.specs.Fmt.{decimal}
 use Rattle.nt_lines.specs.Lines.{lines_of}
 use Rattle.nt_script.specs.Progress.{Progress}
-use Rattle.nt_script.specs.Scope.{name_in}
+use Rattle.nt_grammar.specs.Scope.{name_in}
 
 abbrev pub thread_name : ℕ → List ℕ
 thread_name t = codes "t" ++ decimal t

@@ -2,9 +2,9 @@
 use Rattle.std.specs.Prelude.{◌≡◌, ℕ, ◌+◌, ◌≤◌, ◌==◌, ◌++◌, Bool, false, List, length, Option, Some, None, Result, Ok, Err}
 use Rattle.nt_lines.specs.Lines.{lines_of}
 use Rattle.nt_script.specs.Progress.{AreCounted, Progress, scope_of}
-use Rattle.nt_script.specs.Transcript.{FaultIn}
-use Rattle.nt_script.specs.declared.fault.LineFault.{LineFault}
-use Rattle.nt_script.specs.declared.fault.LineFault.TheVariants as line
+use Rattle.nt_grammar.specs.Lines.{FaultIn}
+use Rattle.nt_grammar.specs.declared.fault.LineFault.{LineFault}
+use Rattle.nt_grammar.specs.declared.fault.LineFault.TheVariants as line
 use Rattle.nt_script.specs.declared.fault.RunFault.{RunFault}
 use Rattle.nt_script.specs.declared.fault.RunFault.TheVariants.{Script, Read, Write, Memory}
 use Rattle.nt_hangs.specs.Watching.{Seen, SeesAll, StopsAt, unseen}

@@ -4,10 +4,10 @@ use Rattle.std.specs.List.{starts_with}
 use Rattle.nt_objects.specs.Handles.{opened_at}
 use Rattle.nt_calls.specs.State.{pends}
 use Rattle.nt_calls.specs.Runs.{Turn}
-use Rattle.nt_script.specs.Scope.{handle_in}
+use Rattle.nt_grammar.specs.Scope.{handle_in}
 use Rattle.nt_script.specs.Progress.{Progress, Advances, progress_of}
 use Rattle.nt_script.specs.Running.{FaultNext}
-use Rattle.nt_script.specs.declared.fault.ScriptFault.{ScriptFault}
+use Rattle.nt_grammar.specs.declared.fault.ScriptFault.{ScriptFault}
 use Rattle.nt_hangs.specs.declared.watch.Watch.{Watch}
 
 -- how far the script has come; by thread, the line on which its pending wait began, or 0; by the places of names, the numbers of the

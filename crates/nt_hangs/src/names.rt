@@ -2,7 +2,7 @@
 ghost use Rattle.std.specs.Prelude.{◌≡◌, ◌++◌, None, ◌≤◌, OnOk, drop, option_and_then, vec_len};
 ghost use Rattle.std.specs.Option.{option_copied};
 ghost use Rattle.nt_script.specs.Progress.{progress};
-ghost use Rattle.nt_script.specs.Scope.{name_in};
+ghost use Rattle.nt_grammar.specs.Scope.{name_in};
 ghost use Rattle.nt_hangs.specs.Names.{after, called_by, later, name_told, object_name, object_title, or_nothing, place_of};
 ghost use Rattle.nt_hangs.specs.Names.{thread_name, thread_title, titled};
 ghost use Rattle.nt_lines.specs.Lines.{lines_of};

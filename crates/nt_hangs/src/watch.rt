@@ -4,15 +4,16 @@ ghost use Rattle.std.specs.Prelude.{IfOk, IfErr, OnOk, MatchOption, None, Some};
 ghost use Rattle.std.specs.List.{ends_with};
 ghost use Rattle.std.specs.Option.{option_copied};
 ghost use Rattle.nt_lines.specs.declared.input.TheConstants.{MAX_LINE};
-ghost use Rattle.nt_script.specs.Scope.{handle_in};
+ghost use Rattle.nt_grammar.specs.Scope.{handle_in};
 ghost use Rattle.nt_script.specs.Progress.{AreCounted, LineAnswers, progress, progress_of};
 ghost use Rattle.nt_lines.specs.Lines.{lines_of};
 ghost use Rattle.nt_hangs.specs.Steps.{is_last, HasFault, IsFaultOf, Watches};
 ghost use Rattle.nt_hangs.specs.Watching.{is_waiting, names_of, object_named, object_of, seen_of, since_of, since_then, telling, unseen, up_to, Sees};
 
 use crate::input::first_line;
+use nt_grammar::{LineFault, ScriptFault};
 use nt_lines::MAX_LINE;
-use nt_script::{LineFault, RunFault, ScriptFault, Session, carry_out};
+use nt_script::{RunFault, Session, carry_out};
 use nt_status::Handle;
 use std::alloc::{AllocError, Global};
 

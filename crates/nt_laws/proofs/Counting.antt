@@ -17,7 +17,7 @@ use Rattle.nt_core.proofs.Accepting.{object_at-replicate}
 use Rattle.nt_core.proofs.Changing.{object_at-set_same, object_at-set_other, known_object}
 use Rattle.nt_core.proofs.SettingAside.{may_move}
 use Rattle.nt_laws.specs.Lives.{Stage, Takes, Creates, Shares, Begins, Adds, Renumbers, IsStage, Stages, Life, gives_object}
-use Rattle.nt_laws.specs.Since.{Part, since_given}
+use Rattle.nt_laws.specs.Since.{LastPart, since_given}
 use Rattle.nt_laws.proofs.Acting.{is_plain, created_at}
 use Rattle.nt_laws.proofs.GivenAgain.{moved_other, moved_there, moved_from}
 use Rattle.nt_laws.proofs.Lifelong.{may_create, may_begin}
@@ -140,7 +140,7 @@ since_begun h may holds account (stage ∷ stages) old new life fair given ends 
     first true b none either = refl
     first false b none either = absurd (false≢true (sym none ∙ either))
 
-    go : (list_any (gives_object h) stages ≡ true → holds (Thread false) (since_given h life.0 stages new life.2).start (since_given h life.0 stages new life.2).stages new (since_given h life.0 stages new life.2).life) → (b : Bool) → list_any (gives_object h) stages ≡ b → holds (Thread false) (cond {A = Part new} b (since_given h life.0 stages new life.2) (record { start = old; stages = stage ∷ stages; life = life })).start (cond {A = Part new} b (since_given h life.0 stages new life.2) (record { start = old; stages = stage ∷ stages; life = life })).stages new (cond {A = Part new} b (since_given h life.0 stages new life.2) (record { start = old; stages = stage ∷ stages; life = life })).life
+    go : (list_any (gives_object h) stages ≡ true → holds (Thread false) (since_given h life.0 stages new life.2).start (since_given h life.0 stages new life.2).stages new (since_given h life.0 stages new life.2).life) → (b : Bool) → list_any (gives_object h) stages ≡ b → holds (Thread false) (cond {A = LastPart new} b (since_given h life.0 stages new life.2) (record { start = old; stages = stage ∷ stages; life = life })).start (cond {A = LastPart new} b (since_given h life.0 stages new life.2) (record { start = old; stages = stage ∷ stages; life = life })).stages new (cond {A = LastPart new} b (since_given h life.0 stages new life.2) (record { start = old; stages = stage ∷ stages; life = life })).life
     go later true e = later e
     go later false e =
         account.begins old stage stages new life (first (gives_object h stage) (list_any (gives_object h) stages) e given)
@@ -150,7 +150,7 @@ since_begun h may holds account (stage ∷ stages) old new life fair given ends 
 pub since_all : (h : ℕ) (stages : List Stage) (old new : State) (life : Stages old stages new) → list_any (gives_object h) stages ≡ false → since_given h old stages new life ≡ record { start = old; stages = stages; life = life }
 since_all h [] old new life none = refl
 since_all h (stage ∷ stages) old new life none =
-    ap (λ b. cond {A = Part new} b (since_given h life.0 stages new life.2) (record { start = old; stages = stage ∷ stages; life = life })) (neither (gives_object h stage) (list_any (gives_object h) stages) none).1
+    ap (λ b. cond {A = LastPart new} b (since_given h life.0 stages new life.2) (record { start = old; stages = stage ∷ stages; life = life })) (neither (gives_object h stage) (list_any (gives_object h) stages) none).1
 
 -- the account of a part: from nothing, or from the object with which it begins
 pub since : (h : ℕ) (may : Object → Type 0) (holds : Object → (old : State) (stages : List Stage) (new : State) → Stages old stages new → Type 0) → IsAccount h may holds → (stages : List Stage) (old new : State) (life : Stages old stages new) → AreFair old.waits → may (object_at new.objects h) → (x : Object) × ((x ≡ Thread false) ⊎ (x ≡ object_at (since_given h old stages new life).start.objects h)) × holds x (since_given h old stages new life).start (since_given h old stages new life).stages new (since_given h old stages new life).life
@@ -159,7 +159,7 @@ since h may holds account stages old new life fair ends = go (list_any (gives_ob
     go : (b : Bool) → list_any (gives_object h) stages ≡ b → (x : Object) × ((x ≡ Thread false) ⊎ (x ≡ object_at (since_given h old stages new life).start.objects h)) × holds x (since_given h old stages new life).start (since_given h old stages new life).stages new (since_given h old stages new life).life
     go true given = (Thread false, inl refl, since_begun h may holds account stages old new life fair given ends)
     go false none =
-        subst (λ (part : Part new). (x : Object) × ((x ≡ Thread false) ⊎ (x ≡ object_at part.start.objects h)) × holds x part.start part.stages new part.life) (sym (since_all h stages old new life none))
+        subst (λ (part : LastPart new). (x : Object) × ((x ≡ Thread false) ⊎ (x ≡ object_at part.start.objects h)) × holds x part.start part.stages new part.life) (sym (since_all h stages old new life none))
         (object_at old.objects h, inr refl, unbroken h may holds account stages old new life fair none ends)
 
 -- the account of a life begins with nothing
@@ -169,5 +169,5 @@ since_opening h may holds account n stages s life ends = go (list_any (gives_obj
     go : (b : Bool) → list_any (gives_object h) stages ≡ b → holds (Thread false) (since_given h (opening n) stages s life).start (since_given h (opening n) stages s life).stages s (since_given h (opening n) stages s life).life
     go true given = since_begun h may holds account stages (opening n) s life (opening_fair n) given ends
     go false none =
-        subst (λ (part : Part s). holds (Thread false) part.start part.stages s part.life) (sym (since_all h stages (opening n) s life none))
+        subst (λ (part : LastPart s). holds (Thread false) part.start part.stages s part.life) (sym (since_all h stages (opening n) s life none))
         (subst (λ x. holds x (opening n) stages s life) (object_at-replicate n h) (unbroken h may holds account stages (opening n) s life (opening_fair n) none ends))

@@ -9,9 +9,9 @@ use Rattle.nt_calls.specs.Living.{lives}
 use Rattle.nt_calls.specs.State.{State, opening, object_at}
 use Rattle.nt_calls.specs.Runs.{Turn, Turns, Run}
 use Rattle.nt_laws.specs.Takes.{turn_took, takes, takers}
-use Rattle.nt_laws.specs.Laws.{question, given, turn_gives, owed_after, turn_owes, held_by, times_set, turn_sets, is_auto_reset, set_now, turn_closes, HasRights, IsKept}
-use Rattle.nt_laws.specs.Lives.{Stage, Takes, Stages, AsksTurn, wish, gives, closes, number_after, named_after, gives_object}
-use Rattle.nt_laws.specs.Since.{Part, since_given, stages_took, takers_in, stages_give, given_in, stages_owe, owed_in, stages_set, times_set_in}
+use Rattle.nt_laws.specs.Laws.{question, given_to, turn_gives, owed_after, turn_owes, held_by, times_set, turn_sets, is_auto_reset, set_now, turn_closes, HasRights, IsKept}
+use Rattle.nt_laws.specs.Lives.{Stage, Takes, Stages, AsksTurn, wish, gives_handle, closes, number_after, named_after, gives_object}
+use Rattle.nt_laws.specs.Since.{LastPart, since_given, stages_took, takers_in, stages_give, given_in, stages_owe, owed_in, stages_set, times_set_in}
 use Rattle.nt_laws.proofs.Choosing.{stages_same}
 use Rattle.nt_laws.proofs.Counting.{since_all}
 use Rattle.nt_laws.proofs.GivingSince.{semaphore_since}
@@ -40,7 +40,7 @@ took_same : (turns : List Turn) (old new : State) (run : Turns old turns new) �
 took_same [] old new run = refl
 took_same (turn ∷ turns) old new run = ap (λ ks. turn_took old turn ++ ks) (took_same turns run.0 new run.2)
 
-given_same : (h : ℕ) (turns : List Turn) (old new : State) (run : Turns old turns new) → stages_give h old (map Takes turns) new (as_life turns old new run) ≡ given h old turns new run
+given_same : (h : ℕ) (turns : List Turn) (old new : State) (run : Turns old turns new) → stages_give h old (map Takes turns) new (as_life turns old new run) ≡ given_to h old turns new run
 given_same h [] old new run = refl
 given_same h (turn ∷ turns) old new run = ap (λ g. turn_gives h old turn +ℤ g) (given_same h turns run.0 new run.2)
 
@@ -71,7 +71,7 @@ named_same turns None = refl
 named_same turns (Some opened) = ap (λ o. Some (record { object = o; access = opened.access })) (number_same turns opened.object)
 
 -- no handle's number is given again either
-never_opened : (h : ℕ) (turns : List Turn) → list_any (gives h) (map Takes turns) ≡ false
+never_opened : (h : ℕ) (turns : List Turn) → list_any (gives_handle h) (map Takes turns) ≡ false
 never_opened h [] = refl
 never_opened h (turn ∷ turns) = never_opened h turns
 
@@ -114,20 +114,20 @@ run_rights n before turns mid s run part o access there has = stages_rights (map
 pub run_living : (n : ℕ) (turns : List Turn) (s : State) → Run n turns s → (o : ℕ) → (lives s o ≡ true) ↔ IsKept s o
 run_living n turns s run o = life_living n (map Takes turns) s (as_life turns (opening n) s run) o
 
-pub semaphore_account : (n : ℕ) (turns : List Turn) (s : State) (run : Run n turns s) (h : ℕ) → is_semaphore (object_at s.objects h) ≡ true → (count_of (object_at s.objects h) +ℤ pos (length (takers h (takes (opening n) turns s run))) ≡ given h (opening n) turns s run) × IsLawfulObject (object_at s.objects h)
+pub semaphore_account : (n : ℕ) (turns : List Turn) (s : State) (run : Run n turns s) (h : ℕ) → is_semaphore (object_at s.objects h) ≡ true → (count_of (object_at s.objects h) +ℤ pos (length (takers h (takes (opening n) turns s run))) ≡ given_to h (opening n) turns s run) × IsLawfulObject (object_at s.objects h)
 semaphore_account n turns s run h is =
     let account = semaphore_since n (map Takes turns) s (as_life turns (opening n) s run) h is in
-    let all = subst (λ (part : Part s). count_of (object_at s.objects h) +ℤ pos (length (takers_in h s part)) ≡ given_in h s part) (all_since h turns (opening n) s run) account.0 in
+    let all = subst (λ (part : LastPart s). count_of (object_at s.objects h) +ℤ pos (length (takers_in h s part)) ≡ given_in h s part) (all_since h turns (opening n) s run) account.0 in
     (ap (λ ks. count_of (object_at s.objects h) +ℤ pos (length (takers h ks))) (sym (took_same turns (opening n) s run)) ∙ (all ∙ given_same h turns (opening n) s run), account.1)
 
 pub owed_held : (n : ℕ) (turns : List Turn) (s : State) (run : Run n turns s) (h t : ℕ) → is_mutex (object_at s.objects h) ≡ true → owed_after h t 0 (opening n) turns s run ≡ held_by t (object_at s.objects h)
 owed_held n turns s run h t is =
     sym (owed_same h t 0 turns (opening n) s run)
-    ∙ subst (λ (part : Part s). owed_in h t s part ≡ held_by t (object_at s.objects h)) (all_since h turns (opening n) s run) (owed_since n (map Takes turns) s (as_life turns (opening n) s run) h t is)
+    ∙ subst (λ (part : LastPart s). owed_in h t s part ≡ held_by t (object_at s.objects h)) (all_since h turns (opening n) s run) (owed_since n (map Takes turns) s (as_life turns (opening n) s run) h t is)
 
 pub event_account : (n : ℕ) (before turns : List Turn) (mid s : State) → Run n before mid → (part : Turns mid turns s) (h : ℕ) → is_auto_reset (object_at s.objects h) ≡ true → length (takers h (takes mid turns s part)) + set_now (object_at s.objects h) ≤ times_set h mid turns s part + set_now (object_at mid.objects h)
 event_account n before turns mid s run part h is =
-    let all = subst (λ (p : Part s). length (takers_in h s p) + set_now (object_at s.objects h) ≤ times_set_in h s p + set_now (object_at p.start.objects h)) (all_since h turns mid s part)
+    let all = subst (λ (p : LastPart s). length (takers_in h s p) + set_now (object_at s.objects h) ≤ times_set_in h s p + set_now (object_at p.start.objects h)) (all_since h turns mid s part)
     (event_since n (map Takes before) (map Takes turns) mid s (as_life before (opening n) mid run) (as_life turns mid s part) h is) in
     subst (λ ks. length (takers h ks) + set_now (object_at s.objects h) ≤ times_set h mid turns s part + set_now (object_at mid.objects h)) (took_same turns mid s part)
     (subst (λ k. length (takers h (stages_took mid (map Takes turns) s (as_life turns mid s part))) + set_now (object_at s.objects h) ≤ k + set_now (object_at mid.objects h)) (set_same h turns mid s part) all)

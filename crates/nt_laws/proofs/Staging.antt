@@ -23,7 +23,7 @@ use Rattle.nt_status.specs.Flags.{has_flag, only_known}
 use Rattle.nt_status.specs.declared.refusal.Refusal.{Refusal}
 use Rattle.nt_status.specs.declared.refusal.Refusal.TheVariants.{AccessDenied, InvalidHandle}
 use Rattle.nt_laws.specs.Laws.{HasRights}
-use Rattle.nt_laws.specs.Lives.{Stage, Takes, Creates, Shares, Begins, Adds, Renumbers, IsStage, Stages, gives, closes, gives_object, number_after, named_after}
+use Rattle.nt_laws.specs.Lives.{Stage, Takes, Creates, Shares, Begins, Adds, Renumbers, IsStage, Stages, gives_handle, closes, gives_object, number_after, named_after}
 use Rattle.nt_laws.proofs.Numbers.{AreEnough, turn_longer, turn_stays, turn_rights, opened_given, flag_along}
 
 -- the number of one handle was given again, and there are as many objects as before
@@ -80,7 +80,7 @@ still : (stage : Stage) → ((n : ℕ) → number_after (stage ∷ []) n ≡ n) 
 still stage same None = refl
 still stage same (Some opened) = ap (λ n. Some (record { object = n; access = opened.access })) (same opened.object)
 
-stage_stays : (old : State) (stage : Stage) (new : State) → AreEnough old → IsStage old stage new → (h : ℕ) → h < length old.handles → gives h stage ≡ false → opened_at new.handles h ≡ cond (closes h stage) None (named_after (stage ∷ []) (opened_at old.handles h))
+stage_stays : (old : State) (stage : Stage) (new : State) → AreEnough old → IsStage old stage new → (h : ℕ) → h < length old.handles → gives_handle h stage ≡ false → opened_at new.handles h ≡ cond (closes h stage) None (named_after (stage ∷ []) (opened_at old.handles h))
 stage_stays old (Takes turn) new enough is h below other = turn_stays old turn new enough is h below ∙ ap (λ o. cond (closes h (Takes turn)) None o) (sym (still (Takes turn) (λ n. refl) (opened_at old.handles h)))
 stage_stays old (Creates who act object handle (Ok reply) grants) new enough is h below other = given_stays old handle new h (record { opened = record { object = object; access = full_access (created_by (creation who act)) }; handles = ap (λ (s : State). s.handles) is.3; objects = ap (λ (s : State). length s.objects) is.3 ∙ length-set old.objects object (created_by (creation who act)) }) other ∙ sym (still (Creates who act object handle (Ok reply) grants) (λ n. refl) (opened_at old.handles h))
 stage_stays old (Creates who act object handle (Err cause) grants) new enough is h below other = ap (λ (s : State). opened_at s.handles h) is.2 ∙ sym (still (Creates who act object handle (Err cause) grants) (λ n. refl) (opened_at old.handles h))
@@ -112,14 +112,14 @@ pub stages_enough : (stages : List Stage) (old new : State) → AreEnough old �
 stages_enough [] old new enough life = subst AreEnough (sym life) enough
 stages_enough (stage ∷ stages) old new enough life = stages_enough stages life.0 new (stage_longer old stage life.0 enough life.1).1 life.2
 
-pub stages_stay : (stages : List Stage) (old new : State) → AreEnough old → Stages old stages new → (h : ℕ) → h < length old.handles → list_any (gives h) stages ≡ false → opened_at new.handles h ≡ cond (list_any (closes h) stages) None (named_after stages (opened_at old.handles h))
+pub stages_stay : (stages : List Stage) (old new : State) → AreEnough old → Stages old stages new → (h : ℕ) → h < length old.handles → list_any (gives_handle h) stages ≡ false → opened_at new.handles h ≡ cond (list_any (closes h) stages) None (named_after stages (opened_at old.handles h))
 stages_stay [] old new enough life h below none = ap (λ (s : State). opened_at s.handles h) life ∙ same (opened_at old.handles h)
   where
     same : (o : Option Opened) → o ≡ named_after [] o
     same None = refl
     same (Some opened) = refl
 stages_stay (stage ∷ stages) old new enough life h below none =
-    let two = neither (gives h stage) (list_any (gives h) stages) none in
+    let two = neither (gives_handle h stage) (list_any (gives_handle h) stages) none in
     let more = stage_longer old stage life.0 enough life.1 in
     let longer = more.0 in
     stages_stay stages life.0 new more.1 life.2 h (omega (arith, below, longer)) two.1

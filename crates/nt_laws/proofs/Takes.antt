@@ -12,7 +12,7 @@ use Rattle.nt_objects.specs.declared.object.Object.{Object}
 use Rattle.nt_objects.specs.Object.{signaled, taken}
 use Rattle.nt_calls.specs.declared.call.Grant.{Grant}
 use Rattle.nt_calls.specs.State.{State, Pending, object_at}
-use Rattle.nt_calls.specs.Serving.{is_ready, is_sleep, fits, least, status, status_at, has_mark, take_at, take_each, objects_taken, granted, Grants, ending, IsLate, late_status, sleeps}
+use Rattle.nt_calls.specs.Serving.{is_ready, is_sleep, fits, least, status, status_at, is_abandoned_at, take_at, take_each, objects_taken, granted, Grants, ending, IsLate, late_status, sleeps}
 use Rattle.nt_laws.specs.Takes.{Take, only_at, handles_told, takes_of, grant_took, grants_took, takers}
 use Rattle.nt_core.proofs.Listing.{same_yes, same_no}
 use Rattle.nt_calls.proofs.Tries.{object_taken_other, ready_other, differ}
@@ -114,22 +114,22 @@ wait_taken os t w h fair fit = go w.all refl fit
     go : (b : Bool) → w.all ≡ b → cond b (not (is_sleep w) && list_all (is_ready os t) w.objects) (list_any (is_ready os t) w.objects) ≡ true → TakenBy (object_at os h) (takers h (takes_of t (handles_told w (status os t w)))) (object_at (objects_taken os t w) h)
     go true all fit' =
         at_these w.objects
-        (ap (λ c. handles_told w c) (status_all all) ∙ told_all w (list_any (has_mark os) w.objects) all)
+        (ap (λ c. handles_told w c) (status_all all) ∙ told_all w (list_any (is_abandoned_at os) w.objects) all)
         (rw all refl)
         (λ i j before below. differ w.objects i j fair.1 before below)
         (list_all_at (is_ready os t) w.objects (whole (is_sleep w) fit'))
       where
-        status_all : w.all ≡ true → status os t w ≡ status_at (list_any (has_mark os) w.objects) 0
+        status_all : w.all ≡ true → status os t w ≡ status_at (list_any (is_abandoned_at os) w.objects) 0
         status_all all = rw all refl
     go false any fit' =
         let least_one = list_any_at (is_ready os t) w.objects fit' in
         at_these (slice_index w.objects (least os t w) ∷ [])
-        (ap (λ c. handles_told w c) (status_any any) ∙ told_any w (has_mark os (slice_index w.objects (least os t w))) (least os t w) any least_one.0 fair.0)
+        (ap (λ c. handles_told w c) (status_any any) ∙ told_any w (is_abandoned_at os (slice_index w.objects (least os t w))) (least os t w) any least_one.0 fair.0)
         (rw any refl)
         (λ i j before below. absurd (omega (arith, before, below)))
         (alone 0 (slice_index w.objects (least os t w)) least_one.1)
       where
-        status_any : w.all ≡ false → status os t w ≡ status_at (has_mark os (slice_index w.objects (least os t w))) (least os t w)
+        status_any : w.all ≡ false → status os t w ≡ status_at (is_abandoned_at os (slice_index w.objects (least os t w))) (least os t w)
         status_any any = rw any refl
 
 -- ---- grants

@@ -76,9 +76,9 @@ turn_gives h old (Calls who call (Ok reply) grants) = call_gives h (length old.o
 turn_gives h old _ = pos 0
 
 -- what these turns gave to the semaphore with number h
-abbrev pub given : (h : ℕ) (old : State) (turns : List Turn) (new : State) → Turns old turns new → ℤ
-given h old [] new run = pos 0
-given h old (turn ∷ turns) new run = turn_gives h old turn +ℤ given h run.0 turns new run.2
+abbrev pub given_to : (h : ℕ) (old : State) (turns : List Turn) (new : State) → Turns old turns new → ℤ
+given_to h old [] new run = pos 0
+given_to h old (turn ∷ turns) new run = turn_gives h old turn +ℤ given_to h run.0 turns new run.2
 
 -- a semaphore hands out what it was given and no more: over every run its count and the number of times that it was taken
 -- make up what it was given, by whichever handles, and its count stays between zero and its maximum
@@ -86,7 +86,7 @@ abbrev pub SemaphoresGiveWhatTheyHave : Type 0
 SemaphoresGiveWhatTheyHave =
     (n : ℕ) (turns : List Turn) (s : State) (run : Run n turns s) (h : ℕ)
     → is_semaphore (object_at s.objects h) ≡ true
-    → (count_of (object_at s.objects h) +ℤ pos (length (takers h (takes (opening n) turns s run))) ≡ given h (opening n) turns s run)
+    → (count_of (object_at s.objects h) +ℤ pos (length (takers h (takes (opening n) turns s run))) ≡ given_to h (opening n) turns s run)
     × IsLawfulObject (object_at s.objects h)
 
 -- ---- mutexes

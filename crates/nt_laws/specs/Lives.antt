@@ -54,13 +54,13 @@ is_accepted (Ok reply) = true
 is_accepted (Err cause) = false
 
 -- the stage gives this handle's number again
-abbrev pub gives : ℕ → Stage → Bool
-gives h (Takes turn) = false
-gives h (Creates who act object handle result grants) = if is_accepted result then handle == h else false
-gives h (Shares who source access handle result grants) = if is_accepted result then handle == h else false
-gives h (Begins thread handle result grants) = if is_accepted result then handle == h else false
-gives h (Adds result grants) = false
-gives h (Renumbers thread object done grants) = false
+abbrev pub gives_handle : ℕ → Stage → Bool
+gives_handle h (Takes turn) = false
+gives_handle h (Creates who act object handle result grants) = if is_accepted result then handle == h else false
+gives_handle h (Shares who source access handle result grants) = if is_accepted result then handle == h else false
+gives_handle h (Begins thread handle result grants) = if is_accepted result then handle == h else false
+gives_handle h (Adds result grants) = false
+gives_handle h (Renumbers thread object done grants) = false
 
 -- the stage closes the handle
 abbrev pub closes : ℕ → Stage → Bool
@@ -90,7 +90,7 @@ HandlesStayUntilGivenAgain =
     → Life n before mid
     → Stages mid part s
     → (h : ℕ) → h < length mid.handles
-    → list_any (gives h) part ≡ false
+    → list_any (gives_handle h) part ≡ false
     → opened_at s.handles h ≡ (if list_any (closes h) part then None else named_after part (opened_at mid.handles h))
 
 -- the stage gives this object's number again, to another object

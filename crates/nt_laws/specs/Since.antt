@@ -9,13 +9,13 @@ use Rattle.nt_laws.specs.Laws.{act_gives, turn_gives, act_owes, turn_owes, held_
 use Rattle.nt_laws.specs.Lives.{Stage, Takes, Creates, Stages, Life, gives_object}
 
 -- the end of a life: stages that lead from some state to its last
-pub record Part (last : State) : Type 0 where
+pub record LastPart (last : State) : Type 0 where
   pub start : State
   pub stages : List Stage
   pub life : Stages start stages last
 
 -- the part of these stages from the one on that gave this object's number last, that one included; all, if none did
-abbrev pub since_given : (h : ℕ) (old : State) (stages : List Stage) (new : State) → Stages old stages new → Part new
+abbrev pub since_given : (h : ℕ) (old : State) (stages : List Stage) (new : State) → Stages old stages new → LastPart new
 since_given h old [] new life = record { start = old; stages = []; life = life }
 since_given h old (stage ∷ stages) new life =
     if list_any (gives_object h) stages then since_given h life.0 stages new life.2
@@ -33,7 +33,7 @@ stages_took old [] new life = []
 stages_took old (stage ∷ stages) new life = stage_took old stage ++ stages_took life.0 stages new life.2
 
 -- who took the object in this part, in order
-abbrev pub takers_in : ℕ → (last : State) → Part last → List ℕ
+abbrev pub takers_in : ℕ → (last : State) → LastPart last → List ℕ
 takers_in h last part = takers h (stages_took part.start part.stages last part.life)
 
 -- ---- semaphores
@@ -49,12 +49,12 @@ stages_give h old [] new life = pos 0
 stages_give h old (stage ∷ stages) new life = stage_gives h old stage +ℤ stages_give h life.0 stages new life.2
 
 -- what this part gave to the semaphore with number h
-abbrev pub given_in : ℕ → (last : State) → Part last → ℤ
+abbrev pub given_in : ℕ → (last : State) → LastPart last → ℤ
 given_in h last part = stages_give h part.start part.stages last part.life
 
 -- the semaphore's count and the number of times that it was taken in this part make up what it was given in it, and its count is between
 -- zero and its maximum
-abbrev pub GivesWhatItHas : ℕ → (last : State) → Part last → Type 0
+abbrev pub GivesWhatItHas : ℕ → (last : State) → LastPart last → Type 0
 GivesWhatItHas h last part =
     (count_of (object_at last.objects h) +ℤ pos (length (takers_in h last part)) ≡ given_in h last part) × IsLawfulObject (object_at last.objects h)
 
@@ -78,11 +78,11 @@ stages_owe h t owed old [] new life = owed
 stages_owe h t owed old (stage ∷ stages) new life = stages_owe h t (stage_owes h t old stage owed) life.0 stages new life.2
 
 -- how many releases of the mutex with number h thread t owes of what it took in this part
-abbrev pub owed_in : ℕ → ℕ → (last : State) → Part last → ℕ
+abbrev pub owed_in : ℕ → ℕ → (last : State) → LastPart last → ℕ
 owed_in h t last part = stages_owe h t 0 part.start part.stages last part.life
 
 -- thread t holds the mutex as deep as it owes releases of it in this part, and if it owes one, no other thread does
-abbrev pub HasOneOwner : ℕ → ℕ → (last : State) → Part last → Type 0
+abbrev pub HasOneOwner : ℕ → ℕ → (last : State) → LastPart last → Type 0
 HasOneOwner h t last part =
     (owed_in h t last part ≡ held_by t (object_at last.objects h)) × ((u : ℕ) → 0 < owed_in h t last part → 0 < owed_in h u last part → t ≡ u)
 
@@ -106,12 +106,12 @@ stages_set h old [] new life = 0
 stages_set h old (stage ∷ stages) new life = (if stage_sets h old stage then 1 else 0) + stages_set h life.0 stages new life.2
 
 -- how many stages of this part set the event with number h
-abbrev pub times_set_in : ℕ → (last : State) → Part last → ℕ
+abbrev pub times_set_in : ℕ → (last : State) → LastPart last → ℕ
 times_set_in h last part = stages_set h part.start part.stages last part.life
 
 -- the event is taken in this part no more often than it is set, where a set that stands at the beginning counts, and one that stands at the
 -- end has ended no wait
-abbrev pub IsSetForEach : ℕ → (last : State) → Part last → Type 0
+abbrev pub IsSetForEach : ℕ → (last : State) → LastPart last → Type 0
 IsSetForEach h last part =
     length (takers_in h last part) + set_now (object_at last.objects h) ≤ times_set_in h last part + set_now (object_at part.start.objects h)
 

@@ -27,7 +27,7 @@ use Rattle.nt_core.specs.SetAside.{is_movable}
 use Rattle.nt_core.proofs.Accepting.{free_caller}
 use Rattle.nt_core.proofs.Changing.{object_at-append, reading_created}
 use Rattle.nt_core.proofs.Remaining.{both, some_handle}
-use Rattle.nt_life.specs.Lasting.{Spares, IsSpare, times, is_ready, is_creation, last_closed, last_unnamed, CreatesElse, LastsCreation, LastsDuplicate, LastsAct, LastsCall, NoHandle, NoObject, FindsNone}
+use Rattle.nt_life.specs.Lasting.{Spares, IsSpare, times, can_give_last, is_creation, last_closed, last_unnamed, CreatesElse, LastsCreation, LastsDuplicate, LastsAct, LastsCall, NoHandle, NoObject, FindsNone}
 use Rattle.nt_life.proofs.Calls.{none_vacant}
 use Rattle.nt_life.proofs.Limits.{wants_number, IsFull}
 use Rattle.nt_life.proofs.Spares.{spare_added, few_unnamed}
@@ -46,16 +46,16 @@ duplicates_spare old spare who source access result grants new some again =
 
 -- ---- a creation
 
-pub creates_else : (old : State) (spare : Spares) (who : ℕ) (act : Act) (result : Result Reply Refusal) (grants : List Grant) (new : State) → is_ready old spare ≡ false → CreatesElse old spare who act result grants new → LastsCreation old spare who act result grants new
+pub creates_else : (old : State) (spare : Spares) (who : ℕ) (act : Act) (result : Result Reply Refusal) (grants : List Grant) (new : State) → can_give_last old spare ≡ false → CreatesElse old spare who act result grants new → LastsCreation old spare who act result grants new
 creates_else old spare who act result grants new unready creates =
     subst (λ (b : Bool). MatchBool b (CreatesAgain old who act (last_unnamed spare) (last_closed spare) result grants new) (CreatesElse old spare who act result grants new)) (sym unready) creates
 
-pub creates_last : (old : State) (spare : Spares) (who : ℕ) (act : Act) (result : Result Reply Refusal) (grants : List Grant) (new : State) → is_ready old spare ≡ true → CreatesAgain old who act (last_unnamed spare) (last_closed spare) result grants new → LastsCreation old spare who act result grants new
+pub creates_last : (old : State) (spare : Spares) (who : ℕ) (act : Act) (result : Result Reply Refusal) (grants : List Grant) (new : State) → can_give_last old spare ≡ true → CreatesAgain old who act (last_unnamed spare) (last_closed spare) result grants new → LastsCreation old spare who act result grants new
 creates_last old spare who act result grants new ready creates =
     subst (λ (b : Bool). MatchBool b (CreatesAgain old who act (last_unnamed spare) (last_closed spare) result grants new) (CreatesElse old spare who act result grants new)) (sym ready) creates
 
 -- no handle is closed
-pub unready_closed : (s : State) (spare : Spares) → length spare.closed ≡ 0 → is_ready s spare ≡ false
+pub unready_closed : (s : State) (spare : Spares) → length spare.closed ≡ 0 → can_give_last s spare ≡ false
 unready_closed s spare none =
     let test : nat_lt 0 (length spare.closed) ≡ false = grind (arith, nat_tests, none) in
     ap (λ b. b && (nat_lt 0 (length spare.unnamed) && is_vacant s (last_unnamed spare))) test
@@ -67,18 +67,18 @@ some_same : (a b : ℕ) → Some a ≡ Some b → a ≡ b
 some_same a b e = (cc)
 
 -- the number that was freed last is not free
-pub unready_object : (s : State) (spare : Spares) (n : ℕ) → ((nat_lt 0 (length spare.unnamed) && is_vacant s (last_unnamed spare)) ≡ true → None ≡ Some n) → is_ready s spare ≡ false
-unready_object s spare n last = go (is_ready s spare) refl
+pub unready_object : (s : State) (spare : Spares) (n : ℕ) → ((nat_lt 0 (length spare.unnamed) && is_vacant s (last_unnamed spare)) ≡ true → None ≡ Some n) → can_give_last s spare ≡ false
+unready_object s spare n last = go (can_give_last s spare) refl
   where
-    go : (b : Bool) → is_ready s spare ≡ b → is_ready s spare ≡ false
+    go : (b : Bool) → can_give_last s spare ≡ b → can_give_last s spare ≡ false
     go false e = e
     go true e = absurd (none_not_some n (last (both (nat_lt 0 (length spare.closed)) (nat_lt 0 (length spare.unnamed) && is_vacant s (last_unnamed spare)) e).1))
 
 -- the place that was chosen is the last one, if that is free
 pub creates_at : (old : State) (spare : Spares) (who : ℕ) (act : Act) (place : ℕ) (result : Result Reply Refusal) (grants : List Grant) (new : State) → 0 < length spare.closed → is_vacant old (get_or spare.unnamed place 0) ≡ true → ((nat_lt 0 (length spare.unnamed) && is_vacant old (last_unnamed spare)) ≡ true → Some place ≡ Some (length spare.unnamed - 1)) → CreatesAgain old who act (get_or spare.unnamed place 0) (last_closed spare) result grants new → LastsCreation old spare who act result grants new
-creates_at old spare who act place result grants new some vacant last created = go (is_ready old spare) refl
+creates_at old spare who act place result grants new some vacant last created = go (can_give_last old spare) refl
   where
-    go : (b : Bool) → is_ready old spare ≡ b → LastsCreation old spare who act result grants new
+    go : (b : Bool) → can_give_last old spare ≡ b → LastsCreation old spare who act result grants new
     go true e =
         let parts = both (nat_lt 0 (length spare.closed)) (nat_lt 0 (length spare.unnamed) && is_vacant old (last_unnamed spare)) e in
         let same = some_same place (length spare.unnamed - 1) (last parts.1) in

@@ -8,6 +8,7 @@ mod Choosing
 mod Pacing
 mod Looking
 mod Stacking
+mod Whole
 mod Aside
 mod Gathering
 pub mod Once

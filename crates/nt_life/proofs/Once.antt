@@ -14,7 +14,7 @@ use Rattle.nt_calls.specs.State.{State}
 use Rattle.nt_calls.specs.Steps.{Called}
 use Rattle.nt_core.specs.Renewals.{AddsVacant, CreatesAgain, DuplicatesAgain}
 use Rattle.nt_laws.specs.Laws.{call_closes}
-use Rattle.nt_life.specs.Lasting.{Spares, MaySpare, MakesCall, FindsNone, FindsNoneFor, IsUnchanged, CreatesBeside, CreatesElse, LastsCreation, LastsDuplicate, LastsAct, IsStacked, MayStack, gives, is_numbered, is_ready, last_closed, last_unnamed, LastsCall}
+use Rattle.nt_life.specs.Lasting.{Spares, MaySpare, MakesCall, FindsNone, FindsNoneFor, IsUnchanged, CreatesBeside, CreatesElse, LastsCreation, LastsDuplicate, LastsAct, IsStacked, MayStack, gives, is_numbered, can_give_last, last_closed, last_unnamed, LastsCall}
 use Rattle.nt_life.proofs.Limits.{IsFull, refused_full, wants_number}
 use Rattle.nt_life.proofs.Calls.{call_spare}
 use Rattle.nt_life.proofs.Spares.{spare_same}
@@ -131,7 +131,7 @@ unchanged_else old spare who act result grants new (inr (inl again)) = unchanged
 unchanged_else old spare who act result grants new (inr (inr more)) = unchanged_beside more.2.0 old more.2.1 (last_closed spare) who act result grants new more.2.2 more.2.3
 
 unchanged_creation : (old : State) (spare : Spares) (who : ℕ) (act : Act) (result : Result Reply Refusal) (grants : List Grant) (new : State) → LastsCreation old spare who act result grants new → IsUnchanged old result grants new
-unchanged_creation old spare who act result grants new lasts = go (is_ready old spare) lasts
+unchanged_creation old spare who act result grants new lasts = go (can_give_last old spare) lasts
   where
     go : (b : Bool) → MatchBool b (CreatesAgain old who act (last_unnamed spare) (last_closed spare) result grants new) (CreatesElse old spare who act result grants new) → IsUnchanged old result grants new
     go true again = unchanged_again old who act (last_unnamed spare) (last_closed spare) result grants new again

@@ -28,7 +28,7 @@ use Rattle.nt_core.specs.Lawful.{HandlesAgree}
 use Rattle.nt_core.specs.Renewals.{is_closed, is_vacant, AddsVacant, CreatesAgain, DuplicatesAgain}
 use Rattle.nt_core.proofs.Accepting.{next_causes}
 use Rattle.nt_laws.proofs.CallKinds.{call_causes_none}
-use Rattle.nt_life.specs.Lasting.{Spares, is_creation, is_ready, last_closed, last_unnamed, CreatesBeside, CreatesElse, LastsCreation, LastsDuplicate, LastsCall, NoHandle, NoObject, FindsNone}
+use Rattle.nt_life.specs.Lasting.{Spares, is_creation, can_give_last, last_closed, last_unnamed, CreatesBeside, CreatesElse, LastsCreation, LastsDuplicate, LastsCall, NoHandle, NoObject, FindsNone}
 use Rattle.nt_life.proofs.Renewed.{created_free, duplicated_free}
 
 not_both : (b : Bool) → b ≡ true → b ≡ false → ⊥
@@ -102,7 +102,7 @@ else_taken old spare who act reply grants new agree creates (inr (inr more)) non
     beside_taken more.2.0 old more.2.1 who act (last_closed spare) reply grants new agree more.2.2 more.2.3 none
 
 pub creation_taken : (old : State) (spare : Spares) (who : ℕ) (act : Act) (reply : Reply) (grants : List Grant) (new : State) → HandlesAgree (length old.objects) old.handles → is_creation act ≡ true → LastsCreation old spare who act (Ok reply) grants new → NoHandle old ⊎ NoObject old → ⊥
-creation_taken old spare who act reply grants new agree creates lasts none = go (is_ready old spare) lasts
+creation_taken old spare who act reply grants new agree creates lasts none = go (can_give_last old spare) lasts
   where
     go : (b : Bool) → MatchBool b (CreatesAgain old who act (last_unnamed spare) (last_closed spare) (Ok reply) grants new) (CreatesElse old spare who act (Ok reply) grants new) → ⊥
     go true is = again_taken old who act (last_unnamed spare) (last_closed spare) reply grants new is none

@@ -1,5 +1,5 @@
 -- A dispatcher that lasts: the numbers of closed handles and of objects that are gone are given again, the last that was freed first.
-use Rattle.std.specs.Prelude.{◌≡◌, ◌≤◌, ◌<◌, ◌+◌, ◌-◌, ◌⊎◌, ℕ, Bool, true, false, not, ◌&&◌, ◌==◌, nat_le, nat_lt, List, [], ◌∷◌, ◌++◌, length, slice_index_or, if◌then◌else◌, MatchBool, OnOk, OnErr}
+use Rattle.std.specs.Prelude.{◌≡◌, ◌≤◌, ◌<◌, ◌+◌, ◌-◌, ◌⊎◌, ℕ, Bool, true, false, not, ◌&&◌, ◌==◌, nat_le, nat_lt, is_none, IfSome, List, [], ◌∷◌, ◌++◌, length, slice_index_or, if◌then◌else◌, MatchBool, OnOk, OnErr}
 use Rattle.std.specs.FinMap as map
 use Rattle.std.specs.declared.option.Option.{Option}
 use Rattle.std.specs.declared.option.Option.TheVariants.{None, Some}
@@ -7,7 +7,7 @@ use Rattle.std.specs.declared.result.Result.{Result}
 use Rattle.std.specs.declared.result.Result.TheVariants.{Ok, Err}
 use Rattle.nt_status.specs.declared.limits.TheConstants.{MAX_HANDLES}
 use Rattle.nt_status.specs.declared.refusal.Refusal.{Refusal}
-use Rattle.nt_status.specs.declared.refusal.Refusal.TheVariants.{InvalidHandle, Memory}
+use Rattle.nt_status.specs.declared.refusal.Refusal.TheVariants.{HandleLimit, InvalidHandle, Memory}
 use Rattle.nt_calls.specs.declared.call.Act.{Act}
 use Rattle.nt_calls.specs.declared.call.Call.{Call}
 use Rattle.nt_calls.specs.declared.call.Reply.{Reply}
@@ -15,11 +15,13 @@ use Rattle.nt_calls.specs.declared.call.Grant.{Grant}
 use Rattle.nt_calls.specs.State.{State}
 use Rattle.nt_calls.specs.Moves.{Moves, pended, is_wait}
 use Rattle.nt_calls.specs.Living.{is_opened}
+use Rattle.nt_calls.specs.Refusals.{refusal}
 use Rattle.nt_calls.specs.Steps.{Called}
 use Rattle.nt_core.specs.Dispatcher.{Dispatcher, state}
 use Rattle.nt_core.specs.Accepts.{IsLocal}
+use Rattle.nt_core.specs.Lawful.{IsLawful}
 use Rattle.nt_calls.specs.Naming.{call_named}
-use Rattle.nt_core.specs.Renewals.{is_closed, is_vacant, is_left, AddsVacant, CreatesAgain, DuplicatesAgain, BeginsAgain}
+use Rattle.nt_core.specs.Renewals.{is_closed, is_vacant, is_left, AddsVacant, CreatesAgain, DuplicatesAgain, BeginsAgain, creation}
 use Rattle.nt_core.specs.SetAside.{is_movable, SetsAside}
 use Rattle.nt_life.specs.declared.begun.Begun.{Begun}
 
@@ -61,7 +63,17 @@ last_closed spare = slice_index_or spare.closed (length spare.closed - 1) 0
 abbrev pub last_unnamed : Spares → ℕ
 last_unnamed spare = slice_index_or spare.unnamed (length spare.unnamed - 1) 0
 
--- the same; if no number is given again, none is spare
+-- a lawful dispatcher, and its spare numbers
+pub record HasSpare (core : Dispatcher) (numbers : Spares) : Type 0 where
+  pub lawful : IsLawful core
+  pub spare : IsSpare (state core) numbers
+
+-- a handle is closed, and this one was closed last
+pub record IsClosedLast (spare : Spares) (h : ℕ) : Type 0 where
+  pub closed : 0 < length spare.closed
+  pub handle : h ≡ last_closed spare
+
+-- the spare numbers, if there are any, are just those that may be given again
 abbrev pub MaySpare : State → Option Spares → Type 0
 MaySpare s None = Unit {0}
 MaySpare s (Some spare) = IsSpare s spare
@@ -73,12 +85,22 @@ abbrev pub is_creation : Act → Bool
 is_creation (Act.CreateEvent flags) = true
 is_creation (Act.CreateSemaphore initial maximum) = true
 is_creation (Act.CreateMutex flags) = true
+is_creation (Act.SetEvent h) = false
+is_creation (Act.ResetEvent h) = false
+is_creation (Act.PulseEvent h) = false
+is_creation (Act.ReleaseSemaphore h n) = false
+is_creation (Act.ReleaseMutex h) = false
 is_creation (Act.CreateTimer flags) = true
-is_creation act = false
+is_creation (Act.SetTimer h due period routine) = false
+is_creation (Act.CancelTimer h) = false
+is_creation (Act.QueueApc h routine arg) = false
+is_creation Act.NextApc = false
+is_creation (Act.Duplicate source access) = false
+is_creation (Act.Close h) = false
 
 -- a handle is closed, and the object whose number was freed last is gone
-abbrev pub is_ready : State → Spares → Bool
-is_ready s spare = nat_lt 0 (length spare.closed) && (nat_lt 0 (length spare.unnamed) && is_vacant s (last_unnamed spare))
+abbrev pub can_give_last : State → Spares → Bool
+can_give_last s spare = nat_lt 0 (length spare.closed) && (nat_lt 0 (length spare.unnamed) && is_vacant s (last_unnamed spare))
 
 -- the object gets the number of one that is gone, and its handle that of the handle that was closed last
 abbrev pub CreatesSpare : State → Spares → ℕ → Act → Result Reply Refusal → List Grant → State → Type 0
@@ -96,16 +118,26 @@ CreatesMore old spare who act result grants new =
     (0 < length spare.closed) × (MAX_HANDLES ≤ length old.handles)
     × ((added : Result ℕ Refusal) × (mid : State) × AddsVacant old added [] mid × CreatesBeside added old mid (last_closed spare) who act result grants new)
 
--- the numbers that were freed last can't both be given: the machine's own creation, with the next new numbers, or one of these two
+-- a creation at the limit: with the number of an object that is gone, or with one that is added
+abbrev pub CreatesAtLimit : State → Spares → ℕ → Act → Result Reply Refusal → List Grant → State → Type 0
+CreatesAtLimit old spare who act result grants new = CreatesSpare old spare who act result grants new ⊎ CreatesMore old spare who act result grants new
+
+-- each handle number was handed out, and nothing else refuses this creation
+pub record LacksOnlyNumbers (s : State) (who : ℕ) (act : Act) : Type 0 where
+  pub full : MAX_HANDLES ≤ length s.handles
+  pub caller : refusal s who false Call.Exit ≡ None
+  pub lawful_act : is_none (creation who act) ≡ false
+
+-- the numbers that were freed last can't both be given: the machine's own creation, with the next new numbers, or one at the limit
 abbrev pub CreatesElse : State → Spares → ℕ → Act → Result Reply Refusal → List Grant → State → Type 0
 CreatesElse old spare who act result grants new =
     Called old who (Call.Act act) result grants new
-    ⊎ (CreatesSpare old spare who act result grants new ⊎ CreatesMore old spare who act result grants new)
+    ⊎ CreatesAtLimit old spare who act result grants new
 
 -- a creation takes the numbers that were freed last, if both can be given
 abbrev pub LastsCreation : State → Spares → ℕ → Act → Result Reply Refusal → List Grant → State → Type 0
 LastsCreation old spare who act result grants new =
-    MatchBool (is_ready old spare)
+    MatchBool (can_give_last old spare)
     (CreatesAgain old who act (last_unnamed spare) (last_closed spare) result grants new)
     (CreatesElse old spare who act result grants new)
 
@@ -183,6 +215,11 @@ BeginsThis old spare t None grants new = ((length spare.closed ≡ 0) ⊎ (is_le
 abbrev pub MayBeginThis : State → Option Spares → ℕ → Option ℕ → List Grant → State → Type 0
 MayBeginThis old None t begun grants new = (begun ≡ None) × (new ≡ old)
 MayBeginThis old (Some spare) t begun grants new = BeginsThis old spare t begun grants new
+
+-- a thread begins with this handle in some place, of one that has ended; or nothing changes, since there is no such place
+abbrev pub BeginsSomewhere : State → ℕ → Option ℕ → List Grant → State → Type 0
+BeginsSomewhere old h (Some t) grants new = BeginsAgain old t h (Ok (Reply.Handle h)) grants new
+BeginsSomewhere old h None grants new = ((t : ℕ) → is_left old t ≡ false) × (new ≡ old)
 
 -- a thread begins so in some place; or nothing changes, since there is no such place, or no handle was closed
 abbrev pub BeginsSpare : State → Spares → Option Begun → List Grant → State → Type 0
@@ -269,3 +306,34 @@ MayPop old new = (old ≡ None) × (new ≡ None)
 abbrev pub KeepsClosed : Option Spares → Option Spares → Type 0
 KeepsClosed (Some old) (Some new) = new.closed ≡ old.closed
 KeepsClosed old new = (old ≡ None) × (new ≡ None)
+
+-- ---- a call as a whole
+
+-- a lawful dispatcher with its spare numbers, of which the last of a closed handle was taken, or none
+pub record LeavesSpare (old : Spares) (core : Dispatcher) (numbers : Spares) : Type 0 where
+  pub lawful : IsLawful core
+  pub spare : IsSpare (state core) numbers
+  pub stacked : Pops old.closed numbers.closed
+
+-- a call that takes numbers keeps the pace, looks at no waits but those that it must, and leaves the spare numbers so
+pub record TakesNumbers (old : Dispatcher) (spare : Spares) (who : ℕ) (call : Call) (result : Result Reply Refusal) (new : Dispatcher) (after : Spares) : Type 0 where
+  pub pace : KeepsPace (state old) who call result new.grants (state new)
+  pub looks : LooksAt old who call result new
+  pub leaves : LeavesSpare spare new after
+
+-- a call is refused with HandleLimit only if there is no number for it, and is never accepted then; it looks at no waits but those that it
+-- must
+pub record KeepsLimits (old : Dispatcher) (spare : Option Spares) (who : ℕ) (call : Call) (result : Result Reply Refusal) (new : Dispatcher) : Type 0 where
+  pub limit : result ≡ Err HandleLimit → FindsNoneFor (state old) spare call
+  pub taken : IfSome spare (λ numbers. FindsNone (state old) call → OnOk result ⊥)
+  pub looks : LooksAt old who call result new
+
+-- a call is made as above, within these limits; it takes or gives the numbers of closed handles in order, keeps the pace, changes nothing if
+-- it is refused, and all stays lawful
+pub record Lasts (old : Dispatcher) (spare : Option Spares) (who : ℕ) (call : Call) (result : Result Reply Refusal) (new : Dispatcher) (after : Option Spares) : Type 0 where
+  pub makes : MakesCall (state old) spare who call result new.grants (state new)
+  pub limits : KeepsLimits old spare who call result new
+  pub stacked : MayStack call result spare after
+  pub pace : KeepsPace (state old) who call result new.grants (state new)
+  pub unchanged : IsUnchanged (state old) result new.grants (state new)
+  pub lawful : IsLawful new

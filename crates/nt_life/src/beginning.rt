@@ -1,10 +1,9 @@
 //! Threads that begin in the places of those that have ended.
-ghost use Rattle.std.specs.Prelude.{◌≡◌, ℕ, true, false, Ok, MatchOption};
-ghost use Rattle.nt_calls.specs.declared.call.Reply.{Reply};
+ghost use Rattle.std.specs.Prelude.{◌≡◌, true};
 ghost use Rattle.nt_core.specs.Dispatcher.{state};
 ghost use Rattle.nt_core.specs.Lawful.{IsLawful};
-ghost use Rattle.nt_core.specs.Renewals.{is_closed, is_left, BeginsAgain};
-ghost use Rattle.nt_life.specs.Lasting.{IsSpare, MaySpare, BeginsSpare, BeginsThis, MayBegin, MayBeginThis, Pops, MayPop};
+ghost use Rattle.nt_core.specs.Renewals.{is_closed};
+ghost use Rattle.nt_life.specs.Lasting.{MaySpare, BeginsSpare, BeginsThis, MayBegin, MayBeginThis, MayPop, HasSpare, BeginsSomewhere, LeavesSpare};
 
 use crate::begun::Begun;
 use crate::spare::Spare;
@@ -15,9 +14,7 @@ use nt_status::Handle;
 fn begin_first(core: &mut Core, handle: Handle) -> Option<u32>
     requires lawful { IsLawful core.old }
     requires closed { is_closed (state core.old) handle ≡ true }
-    ensures begun { MatchOption result
-        (((t : ℕ) → is_left (state core.old) t ≡ false) × (state core.new ≡ state core.old))
-        (λ t. BeginsAgain (state core.old) t handle (Ok (Reply.Handle handle)) core.new.grants (state core.new)) }
+    ensures begun { BeginsSomewhere (state core.old) handle result core.new.grants (state core.new) }
     ensures lawful { IsLawful core.new }
 {
     let threads = core.threads();
@@ -31,12 +28,9 @@ fn begin_first(core: &mut Core, handle: Handle) -> Option<u32>
 
 /// A thread begins in the place of one that has ended, and its handle gets the number of the handle that was closed last.
 fn begin(core: &mut Core, spare: &mut Spare) -> Option<Begun>
-    requires lawful { IsLawful core.old }
-    requires spare { IsSpare (state core.old) spare.old }
+    requires { HasSpare core.old spare.old }
     ensures begun { BeginsSpare (state core.old) spare.old result core.new.grants (state core.new) }
-    ensures lawful { IsLawful core.new }
-    ensures spare { IsSpare (state core.new) spare.new }
-    ensures stacked { Pops spare.old.closed spare.new.closed }
+    ensures leaves { LeavesSpare spare.old core.new spare.new }
 {
     let handle = spare.handle()?;
     let thread = begin_first(core, handle)?;
@@ -61,12 +55,9 @@ pub(crate) fn begin_with(core: &mut Core, spare: &mut Option<Spare>) -> Option<B
 
 /// A thread begins in this place, of one that has ended, and its handle gets the number of the handle that was closed last.
 fn begin_this(core: &mut Core, spare: &mut Spare, thread: u32) -> Option<Handle>
-    requires lawful { IsLawful core.old }
-    requires spare { IsSpare (state core.old) spare.old }
+    requires { HasSpare core.old spare.old }
     ensures begun { BeginsThis (state core.old) spare.old thread result core.new.grants (state core.new) }
-    ensures lawful { IsLawful core.new }
-    ensures spare { IsSpare (state core.new) spare.new }
-    ensures stacked { Pops spare.old.closed spare.new.closed }
+    ensures leaves { LeavesSpare spare.old core.new spare.new }
 {
     let handle = spare.handle()?;
     if core.begin_again(thread, handle).is_err() {

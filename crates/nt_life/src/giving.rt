@@ -1,17 +1,13 @@
 //! Creations, duplicates and closes, and what they do to the spare numbers.
-ghost use Rattle.std.specs.Prelude.{◌≡◌, ◌<◌, ◌≤◌, ◌↔◌, ◌⊎◌, ℕ, true, length, slice_index_or, is_none, Err, Some, None, IfSome, false, ◌++◌, ◌∷◌, [], OnOk, OnErr};
-ghost use Rattle.nt_status.specs.declared.limits.TheConstants.{MAX_HANDLES};
+ghost use Rattle.std.specs.Prelude.{◌≡◌, ◌<◌, ◌↔◌, ◌⊎◌, true, length, slice_index_or, Err, Some, None, ◌++◌, ◌∷◌, [], OnOk, OnErr};
 ghost use Rattle.nt_status.specs.declared.refusal.Refusal.TheVariants.{HandleLimit};
 ghost use Rattle.nt_calls.specs.declared.call.Call.{Call};
 ghost use Rattle.nt_calls.specs.declared.call.Act.{Act};
 ghost use Rattle.nt_calls.specs.Steps.{Called};
 ghost use Rattle.nt_core.specs.Dispatcher.{state};
 ghost use Rattle.nt_core.specs.Lawful.{IsLawful};
-ghost use Rattle.nt_calls.specs.Naming.{call_named};
-ghost use Rattle.nt_calls.specs.Refusals.{refusal};
-ghost use Rattle.nt_core.specs.Accepts.{IsLocal};
-ghost use Rattle.nt_core.specs.Renewals.{CreatesAgain, creation};
-ghost use Rattle.nt_life.specs.Lasting.{IsSpare, MaySpare, MakesCall, FindsNoneFor, LastsCall, MayStack, LooksAt, IsUnchanged, gives, is_numbered, NoHandle, NoObject, CreatesSpare, CreatesMore, CreatesElse, LastsCreation, LastsDuplicate, LastsAct, FindsNone, KeepsPace, Pops, IsStacked, is_creation, is_unnamed, last_closed};
+ghost use Rattle.nt_core.specs.Renewals.{CreatesAgain};
+ghost use Rattle.nt_life.specs.Lasting.{IsSpare, MaySpare, LooksAt, gives, is_numbered, NoHandle, NoObject, CreatesElse, LastsCreation, LastsDuplicate, KeepsPace, is_creation, is_unnamed, HasSpare, IsClosedLast, LacksOnlyNumbers, CreatesAtLimit, LeavesSpare, TakesNumbers, Lasts};
 ghost use Rattle.nt_life.specs.declared.renewal.Renewal.TheVariants.{Create};
 ghost use Rattle.nt_life.specs.Renewals.{Tells};
 
@@ -37,18 +33,14 @@ fn create_at(
     place: usize,
     told: &mut Option<Renewal>,
 ) -> Result<Reply, Refusal>
-    requires lawful { IsLawful core.old }
-    requires spare { IsSpare (state core.old) spare.old }
-    requires closed { 0 < length spare.old.closed }
-    requires handle { handle ≡ last_closed spare.old }
+    requires has { HasSpare core.old spare.old }
+    requires last { IsClosedLast spare.old handle }
     requires place { place < length spare.old.unnamed }
     ensures told { told.new ≡ Some (Create act.now (slice_index_or spare.old.unnamed place 0) handle) }
     ensures created { CreatesAgain (state core.old) who act.now (slice_index_or spare.old.unnamed place 0) handle
         result core.new.grants (state core.new) }
     ensures untested { core.new.table.looked ≡ 0 }
-    ensures lawful { IsLawful core.new }
-    ensures spare { IsSpare (state core.new) spare.new }
-    ensures stacked { Pops spare.old.closed spare.new.closed }
+    ensures leaves { LeavesSpare spare.old core.new spare.new }
 {
     let object = spare.object(place);
     *told = Some(Renewal::Create {
@@ -71,21 +63,14 @@ fn create_more(
     handle: Handle,
     told: &mut Option<Renewal>,
 ) -> Result<Reply, Refusal>
-    requires lawful { IsLawful core.old }
-    requires spare { IsSpare (state core.old) spare.old }
-    requires closed { 0 < length spare.old.closed }
-    requires handle { handle ≡ last_closed spare.old }
-    requires full { MAX_HANDLES ≤ length core.old.handles }
-    requires caller { refusal (state core.old) who false Call.Exit ≡ None }
-    requires lawful_act { is_none (creation who act.now) ≡ false }
+    requires has { HasSpare core.old spare.old }
+    requires last { IsClosedLast spare.old handle }
+    requires lacks { LacksOnlyNumbers (state core.old) who act.now }
     ensures told { Tells (state core.old) who (Call.Act act.now) told.new result core.new.grants (state core.new) }
-    ensures created { CreatesSpare (state core.old) spare.old who act.now result core.new.grants (state core.new)
-        ⊎ CreatesMore (state core.old) spare.old who act.now result core.new.grants (state core.new) }
+    ensures created { CreatesAtLimit (state core.old) spare.old who act.now result core.new.grants (state core.new) }
     ensures limit { result ≡ Err HandleLimit → NoHandle (state core.old) ⊎ NoObject (state core.old) }
     ensures untested { core.new.table.looked ≡ 0 }
-    ensures lawful { IsLawful core.new }
-    ensures spare { IsSpare (state core.new) spare.new }
-    ensures stacked { Pops spare.old.closed spare.new.closed }
+    ensures leaves { LeavesSpare spare.old core.new spare.new }
 {
     if let Some(place) = spare.any_vacant(core) {
         return create_at(core, spare, who, act, handle, place, told);
@@ -116,19 +101,14 @@ fn create_new(
     call: &Call,
     told: &mut Option<Renewal>,
 ) -> Result<Reply, Refusal>
-    requires lawful { IsLawful core.old }
-    requires spare { IsSpare (state core.old) spare.old }
+    requires has { HasSpare core.old spare.old }
     requires act { call.now ≡ Call.Act act.now }
     requires creates { is_creation act.now ≡ true }
     requires untold { told.old ≡ None }
     ensures told { Tells (state core.old) who (Call.Act act.now) told.new result core.new.grants (state core.new) }
     ensures created { CreatesElse (state core.old) spare.old who act.now result core.new.grants (state core.new) }
     ensures limit { result ≡ Err HandleLimit → NoHandle (state core.old) ⊎ NoObject (state core.old) }
-    ensures pace { KeepsPace (state core.old) who (Call.Act act.now) result core.new.grants (state core.new) }
-    ensures looks { LooksAt core.old who (Call.Act act.now) result core.new }
-    ensures lawful { IsLawful core.new }
-    ensures spare { IsSpare (state core.new) spare.new }
-    ensures stacked { Pops spare.old.closed spare.new.closed }
+    ensures takes { TakesNumbers core.old spare.old who (Call.Act act.now) result core.new spare.new }
 {
     let answer = core.call(who, call);
     if !is_limit(&answer) {
@@ -149,19 +129,14 @@ fn create(
     call: &Call,
     told: &mut Option<Renewal>,
 ) -> Result<Reply, Refusal>
-    requires lawful { IsLawful core.old }
-    requires spare { IsSpare (state core.old) spare.old }
+    requires has { HasSpare core.old spare.old }
     requires act { call.now ≡ Call.Act act.now }
     requires creates { is_creation act.now ≡ true }
     requires untold { told.old ≡ None }
     ensures told { Tells (state core.old) who (Call.Act act.now) told.new result core.new.grants (state core.new) }
     ensures created { LastsCreation (state core.old) spare.old who act.now result core.new.grants (state core.new) }
     ensures limit { result ≡ Err HandleLimit → NoHandle (state core.old) ⊎ NoObject (state core.old) }
-    ensures pace { KeepsPace (state core.old) who (Call.Act act.now) result core.new.grants (state core.new) }
-    ensures looks { LooksAt core.old who (Call.Act act.now) result core.new }
-    ensures lawful { IsLawful core.new }
-    ensures spare { IsSpare (state core.new) spare.new }
-    ensures stacked { Pops spare.old.closed spare.new.closed }
+    ensures takes { TakesNumbers core.old spare.old who (Call.Act act.now) result core.new spare.new }
 {
     let Some(handle) = spare.handle() else {
         return create_new(core, spare, who, act, call, told);
@@ -182,8 +157,7 @@ fn duplicate(
     access: u32,
     told: &mut Option<Renewal>,
 ) -> Result<Reply, Refusal>
-    requires lawful { IsLawful core.old }
-    requires spare { IsSpare (state core.old) spare.old }
+    requires has { HasSpare core.old spare.old }
     requires act { call.now ≡ Call.Act (Act.Duplicate source access) }
     requires untold { told.old ≡ None }
     ensures told { Tells (state core.old) who (Call.Act (Act.Duplicate source access)) told.new
@@ -191,12 +165,8 @@ fn duplicate(
     ensures duplicated { LastsDuplicate (state core.old) spare.old who source access
         result core.new.grants (state core.new) }
     ensures limit { result ≡ Err HandleLimit → NoHandle (state core.old) }
-    ensures pace { KeepsPace (state core.old) who (Call.Act (Act.Duplicate source access))
-        result core.new.grants (state core.new) }
-    ensures looks { LooksAt core.old who (Call.Act (Act.Duplicate source access)) result core.new }
-    ensures lawful { IsLawful core.new }
-    ensures spare { IsSpare (state core.new) spare.new }
-    ensures stacked { Pops spare.old.closed spare.new.closed }
+    ensures takes { TakesNumbers core.old spare.old who (Call.Act (Act.Duplicate source access)) result
+        core.new spare.new }
 {
     let Some(handle) = spare.handle() else {
         return core.call(who, call);
@@ -227,17 +197,13 @@ fn close(
     call: &Call,
     handle: Handle,
 ) -> Result<Reply, Refusal>
-    requires lawful { IsLawful core.old }
-    requires spare { IsSpare (state core.old) spare.old }
+    requires has { HasSpare core.old spare.old }
     requires act { call.now ≡ Call.Act (Act.Close handle) }
     ensures called { Called (state core.old) who call.now result core.new.grants (state core.new) }
     ensures pace { KeepsPace (state core.old) who (Call.Act (Act.Close handle))
         result core.new.grants (state core.new) }
-    ensures local { OnOk result (IsLocal (state core.old) who
-        (call_named core.old.handles call.now) core.new.table.looked core.new.grants) }
-    ensures untested { OnErr result (core.new.table.looked ≡ 0) }
-    ensures lawful { IsLawful core.new }
-    ensures spare { IsSpare (state core.new) spare.new }
+    ensures looks { LooksAt core.old who call.now result core.new }
+    ensures has { HasSpare core.new spare.new }
     ensures stacked { OnOk result (spare.new.closed ≡ spare.old.closed ++ handle ∷ []) }
     ensures kept { OnErr result (spare.new.closed ≡ spare.old.closed) }
 {
@@ -272,18 +238,12 @@ pub(crate) fn make_act(
     call: &Call,
     told: &mut Option<Renewal>,
 ) -> Result<Reply, Refusal>
-    requires lawful { IsLawful core.old }
-    requires spare { IsSpare (state core.old) spare.old }
+    requires has { HasSpare core.old spare.old }
     requires act { call.now ≡ Call.Act act.now }
     requires untold { told.old ≡ None }
     ensures told { Tells (state core.old) who (Call.Act act.now) told.new result core.new.grants (state core.new) }
-    ensures lasts { LastsAct (state core.old) spare.old who act.now result core.new.grants (state core.new) }
-    ensures limit { result ≡ Err HandleLimit → FindsNone (state core.old) (Call.Act act.now) }
-    ensures pace { KeepsPace (state core.old) who (Call.Act act.now) result core.new.grants (state core.new) }
-    ensures looks { LooksAt core.old who (Call.Act act.now) result core.new }
-    ensures lawful { IsLawful core.new }
+    ensures lasts { Lasts core.old (Some spare.old) who (Call.Act act.now) result core.new (Some spare.new) }
     ensures spare { IsSpare (state core.new) spare.new }
-    ensures stacked { IsStacked (Call.Act act.now) result spare.old.closed spare.new.closed }
 {
     match *act {
         Act::Close(handle) => close(core, spare, who, call, handle),
@@ -319,17 +279,10 @@ fn call_giving(
     call: &Call,
     told: &mut Option<Renewal>,
 ) -> Result<Reply, Refusal>
-    requires lawful { IsLawful core.old }
-    requires spare { IsSpare (state core.old) spare.old }
+    requires has { HasSpare core.old spare.old }
     requires untold { told.old ≡ None }
     ensures told { Tells (state core.old) who call.now told.new result core.new.grants (state core.new) }
-    ensures lasts { LastsCall (state core.old) spare.old who call.now result core.new.grants (state core.new) }
-    ensures limit { result ≡ Err HandleLimit → FindsNone (state core.old) call.now }
-    ensures taken { FindsNone (state core.old) call.now → OnOk result ⊥ }
-    ensures stacked { IsStacked call.now result spare.old.closed spare.new.closed }
-    ensures pace { KeepsPace (state core.old) who call.now result core.new.grants (state core.new) }
-    ensures looks { LooksAt core.old who call.now result core.new }
-    ensures lawful { IsLawful core.new }
+    ensures lasts { Lasts core.old (Some spare.old) who call.now result core.new (Some spare.new) }
     ensures spare { IsSpare (state core.new) spare.new }
 {
     match call {
@@ -358,14 +311,7 @@ pub(crate) fn make_call(
     requires spare { MaySpare (state core.old) spare.old }
     requires untold { told.old ≡ None }
     ensures told { Tells (state core.old) who call.now told.new result core.new.grants (state core.new) }
-    ensures makes { MakesCall (state core.old) spare.old who call.now result core.new.grants (state core.new) }
-    ensures limit { result ≡ Err HandleLimit → FindsNoneFor (state core.old) spare.old call.now }
-    ensures taken { IfSome spare.old (λ spare. FindsNone (state core.old) call.now → OnOk result ⊥) }
-    ensures stacked { MayStack call.now result spare.old spare.new }
-    ensures pace { KeepsPace (state core.old) who call.now result core.new.grants (state core.new) }
-    ensures unchanged { IsUnchanged (state core.old) result core.new.grants (state core.new) }
-    ensures looks { LooksAt core.old who call.now result core.new }
-    ensures lawful { IsLawful core.new }
+    ensures lasts { Lasts core.old spare.old who call.now result core.new spare.new }
     ensures spare { MaySpare (state core.new) spare.new }
 {
     match spare {

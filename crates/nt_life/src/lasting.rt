@@ -1,18 +1,17 @@
 //! The dispatcher that lasts.
-ghost use Rattle.std.specs.Prelude.{◌≡◌, ◌≤◌, ◌+◌, ◌&&◌, ℕ, true, false, length, [], nat_le, IfOk, IfErr, OnOk, OnErr, MatchBool, Err, Some, None, IfSome};
+ghost use Rattle.std.specs.Prelude.{◌≡◌, ◌≤◌, ◌+◌, ◌&&◌, ℕ, false, length, [], nat_le, IfOk, IfErr, OnOk, OnErr, MatchBool, Some, None};
 ghost use Rattle.nt_status.specs.declared.limits.TheConstants.{MAX_MANY_THREADS, MAX_THREADS};
-ghost use Rattle.nt_status.specs.declared.refusal.Refusal.TheVariants.{HandleLimit, InvalidParameter, Memory};
+ghost use Rattle.nt_status.specs.declared.refusal.Refusal.TheVariants.{InvalidParameter, Memory};
 ghost use Rattle.nt_calls.specs.State.{opening};
 ghost use Rattle.nt_calls.specs.Steps.{Called, Ticked};
-ghost use Rattle.nt_calls.specs.Naming.{call_named};
-ghost use Rattle.nt_calls.specs.Moves.{Moves, IsMomentAfter, pended};
-ghost use Rattle.nt_core.specs.Accepts.{IsLocal, IsTickLocal};
+ghost use Rattle.nt_calls.specs.Moves.{Moves, IsMomentAfter};
+ghost use Rattle.nt_core.specs.Accepts.{IsTickLocal};
 ghost use Rattle.std.specs.FinMap as map;
 ghost use Rattle.nt_calls.specs.declared.call.Call.{Call};
 ghost use Rattle.nt_calls.specs.declared.call.WaitCall.{WaitCall};
 ghost use Rattle.nt_core.specs.Dispatcher.{state};
 ghost use Rattle.nt_core.specs.Lawful.{IsLawful};
-ghost use Rattle.nt_life.specs.Lasting.{MaySpare, MakesCall, FindsNone, FindsNoneFor, MayBegin, KeepsPace, LooksAt, IsUnchanged, KeepsClosed, GivesFromNow, gives, MayBeginThis, MayPop, MaySetAside, MayStack, no_spares};
+ghost use Rattle.nt_life.specs.Lasting.{MaySpare, MayBegin, KeepsPace, LooksAt, KeepsClosed, GivesFromNow, gives, MayBeginThis, MayPop, MaySetAside, no_spares, MakesCall, KeepsLimits, MayStack, IsUnchanged};
 ghost use Rattle.nt_life.specs.Renewals.{Tells};
 
 use crate::beginning::{begin_this_with, begin_with};
@@ -118,12 +117,10 @@ impl Lasting {
     pub fn call(&mut self, who: u32, call: &Call) -> Result<Reply, Refusal>
         ensures makes { MakesCall (state self.old.core) self.old.spare who call.now
             result self.new.core.grants (state self.new.core) }
-        ensures limit { result ≡ Err HandleLimit → FindsNoneFor (state self.old.core) self.old.spare call.now }
-        ensures taken { IfSome self.old.spare (λ spare. FindsNone (state self.old.core) call.now → OnOk result ⊥) }
+        ensures limits { KeepsLimits self.old.core self.old.spare who call.now result self.new.core }
         ensures stacked { MayStack call.now result self.old.spare self.new.spare }
         ensures pace { KeepsPace (state self.old.core) who call.now result self.new.core.grants (state self.new.core) }
         ensures unchanged { IsUnchanged (state self.old.core) result self.new.core.grants (state self.new.core) }
-        ensures looks { LooksAt self.old.core who call.now result self.new.core }
         ensures lawful { IsLawful self.new.core }
     {
         let mut told = None;
@@ -144,12 +141,10 @@ impl Lasting {
         ensures own { gives self.old.spare call.now ≡ false → told.new ≡ None }
         ensures makes { MakesCall (state self.old.core) self.old.spare who call.now
             result self.new.core.grants (state self.new.core) }
-        ensures limit { result ≡ Err HandleLimit → FindsNoneFor (state self.old.core) self.old.spare call.now }
-        ensures taken { IfSome self.old.spare (λ spare. FindsNone (state self.old.core) call.now → OnOk result ⊥) }
+        ensures limits { KeepsLimits self.old.core self.old.spare who call.now result self.new.core }
         ensures stacked { MayStack call.now result self.old.spare self.new.spare }
         ensures pace { KeepsPace (state self.old.core) who call.now result self.new.core.grants (state self.new.core) }
         ensures unchanged { IsUnchanged (state self.old.core) result self.new.core.grants (state self.new.core) }
-        ensures looks { LooksAt self.old.core who call.now result self.new.core }
         ensures lawful { IsLawful self.new.core }
     {
         *told = None;
@@ -171,15 +166,10 @@ impl Lasting {
     ) -> Result<Reply, Refusal>
         ensures called { Called (state self.old.core) who (Call.Wait (WaitCall.Objects all alertable ms handles.now))
             result self.new.core.grants (state self.new.core) }
-        ensures local { OnOk result (IsLocal (state self.old.core) who
-            (call_named self.old.core.handles (Call.Wait (WaitCall.Objects all alertable ms handles.now)))
-            self.new.core.table.looked self.new.core.grants) }
-        ensures moves { Moves (state self.old.core) who (pended result) self.new.core.grants (state self.new.core) }
-        ensures most { length self.new.core.grants ≤ map.len (state self.old.core).waits }
-        ensures few { length self.new.core.grants + map.len (state self.new.core).waits
-            ≤ map.len (state self.old.core).waits + 1 }
-        ensures moment { (state self.new.core).now ≡ (state self.old.core).now }
-        ensures untested { OnErr result (self.new.core.table.looked ≡ 0) }
+        ensures pace { KeepsPace (state self.old.core) who (Call.Wait (WaitCall.Objects all alertable ms handles.now))
+            result self.new.core.grants (state self.new.core) }
+        ensures looks { LooksAt self.old.core who (Call.Wait (WaitCall.Objects all alertable ms handles.now))
+            result self.new.core }
         ensures lawful { IsLawful self.new.core }
         ensures spare { self.new.spare ≡ self.old.spare }
     {

@@ -4,7 +4,7 @@ ghost use Rattle.nt_core.specs.Dispatcher.{state};
 ghost use Rattle.nt_core.specs.Lawful.{IsLawful};
 ghost use Rattle.nt_core.specs.Renewals.{is_vacant};
 ghost use Rattle.nt_core.specs.SetAside.{is_movable};
-ghost use Rattle.nt_life.specs.Lasting.{IsSpare, MaySpare, KeepsClosed, MovesAside, SetsAsideSpare, MaySetAside};
+ghost use Rattle.nt_life.specs.Lasting.{MaySpare, KeepsClosed, MovesAside, SetsAsideSpare, MaySetAside, HasSpare};
 
 use crate::spare::Spare;
 use nt_core::Core;
@@ -12,15 +12,13 @@ use nt_status::{ObjectNumber, Refusal};
 
 /// The thread's object gets the number at this place, which is returned.
 fn set_aside_at(core: &mut Core, spare: &mut Spare, thread: u32, place: usize) -> ObjectNumber
-    requires lawful { IsLawful core.old }
-    requires spare { IsSpare (state core.old) spare.old }
+    requires has { HasSpare core.old spare.old }
     requires place { place < length spare.old.unnamed }
     requires movable { is_movable (state core.old) thread ≡ true }
     requires vacant { is_vacant (state core.old) (slice_index_or spare.old.unnamed place 0) ≡ true }
     ensures moves { MovesAside (state core.old) thread (slice_index_or spare.old.unnamed place 0) (Ok result)
         core.new.grants (state core.new) }
-    ensures lawful { IsLawful core.new }
-    ensures spare { IsSpare (state core.new) spare.new }
+    ensures has { HasSpare core.new spare.new }
     ensures closed { spare.new.closed ≡ spare.old.closed }
 {
     let object = spare.object(place);
@@ -31,12 +29,10 @@ fn set_aside_at(core: &mut Core, spare: &mut Spare, thread: u32, place: usize) -
 
 /// The thread's object gets a spare number. An object number is added, if none can be given.
 fn set_aside(core: &mut Core, spare: &mut Spare, thread: u32) -> Result<ObjectNumber, Refusal>
-    requires lawful { IsLawful core.old }
-    requires spare { IsSpare (state core.old) spare.old }
+    requires { HasSpare core.old spare.old }
     ensures aside { SetsAsideSpare (state core.old) thread result core.new.grants (state core.new) }
     ensures unchanged { OnErr result ((state core.new ≡ state core.old) × (spare.new ≡ spare.old)) }
-    ensures lawful { IsLawful core.new }
-    ensures spare { IsSpare (state core.new) spare.new }
+    ensures has { HasSpare core.new spare.new }
     ensures closed { spare.new.closed ≡ spare.old.closed }
 {
     if !core.is_movable(thread) {

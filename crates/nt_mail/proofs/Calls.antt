@@ -11,7 +11,7 @@ use Rattle.nt_mail.specs.declared.knowledge.Got.{Got}
 use Rattle.nt_mail.specs.declared.knowledge.Asked.{Asked}
 use Rattle.nt_calls.specs.Moves.{pended}
 use Rattle.nt_mail.specs.Entries.{item, asked_of, handle_reply, last_number, given, call_at, calls_from, calls_of, grant_at, grants_from, grants_of, armed_by, armed_from, is_armed, last_from, last_of, pended_in, last_pended_from, last_pended, thread_of, AreBelow, AreMadeBelow, IsOwn, arms}
-use Rattle.nt_mail.specs.Rule.{IsCounted}
+use Rattle.nt_mail.specs.Rule.{IsCounted, WasLast}
 
 -- the entries before the rest, and the rest
 pub calls_from-append : (t n : ℕ) (xs ys : List Entry) (m : ℕ) → m ≡ n + length xs → calls_from t n (xs ++ ys) ≡ calls_from t n xs ++ calls_from t m ys
@@ -44,12 +44,20 @@ is_armed-push t log e = armed_from-append t false log (e ∷ [])
 pub last_of-push : (t : ℕ) (log : List Entry) (e : Entry) → last_of t (log ++ e ∷ []) ≡ cond (eqb (thread_of e) t) (suc (length log)) (last_of t log)
 last_of-push t log e = last_from-append t 1 0 log (e ∷ []) (suc (length log)) (omega arith)
 
+-- what was the thread's last entry at some time was so later too
+pub was_last-push : (t n : ℕ) (log : List Entry) (e : Entry) → WasLast t n log → WasLast t n (log ++ e ∷ [])
+was_last-push t n log e was = (was.0, was.1 ++ e ∷ [], ap (λ l. l ++ e ∷ []) was.2 ∙ append_assoc was.0 was.1 (e ∷ []), was.3)
+
+pub was_last-now : (t n : ℕ) (log : List Entry) → n ≡ last_of t log → WasLast t n log
+was_last-now t n log is = (log, [], sym (append-nil log), is)
+
 -- an entry of another thread changes nothing
 pub record SameOf (t : ℕ) (log now : List Entry) : Type 0 where
   pub calls : calls_of t now ≡ calls_of t log
   pub grants : grants_of t now ≡ grants_of t log
   pub armed : is_armed t now ≡ is_armed t log
   pub last : last_of t now ≡ last_of t log
+  pub was_last : (n : ℕ) → WasLast t n log → WasLast t n now
 
 no_call_at : (t n : ℕ) (e : Entry) → eqb (thread_of e) t ≡ false → call_at t n e ≡ []
 no_call_at t n (Called who call result) b = ap (λ x. cond x (item n (Asked.Call call) result ∷ []) []) b
@@ -78,6 +86,7 @@ same_push t log e ne =
       grants = grants_of-push t log e ∙ ap (λ l. grants_of t log ++ l) (no_grant_at t n e b) ∙ append-nil (grants_of t log);
       armed = is_armed-push t log e ∙ armed_as_before t (is_armed t log) e b;
       last = last_of-push t log e ∙ ap (λ x. cond x n (last_of t log)) b;
+      was_last = λ m was. was_last-push t m log e was;
     }
 
 -- a call or tick of the thread itself

@@ -8,4 +8,5 @@ pub mod Seating
 pub mod Reading
 pub mod Closing
 pub mod Looking
+pub mod Noting
 pub mod Lives

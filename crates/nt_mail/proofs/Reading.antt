@@ -17,7 +17,7 @@ use Rattle.nt_mail.specs.Entries.{Each, given, grants_of, is_armed, last_of, pen
 use Rattle.nt_mail.specs.Words.{idle_word, granted_word, grant_in}
 use Rattle.nt_mail.specs.Knowledge.{with_got, with_polled, with_moment, after_take, latest}
 use Rattle.nt_mail.specs.Views.{holder, with_parts}
-use Rattle.nt_mail.specs.Rule.{IsTaken, IsGranted, IsReplyWord, IsWordFor, IsPart, IsCounted, keeping, parts_of, IsMail}
+use Rattle.nt_mail.specs.Rule.{IsTaken, IsIdle, IsGranted, WasLast, IsReplyWord, IsWordFor, IsPart, IsCounted, keeping, parts_of, IsMail}
 use Rattle.nt_mail.specs.Seats.{known_in}
 use Rattle.nt_mail.proofs.Totals.{total-set, two_le, le_one}
 use Rattle.nt_mail.proofs.Taken.{taken-both, taken-but_last, read-push}
@@ -42,7 +42,7 @@ thread_steps s id place k after now h at same len else mine =
             let d = le_one s.words t _ (h.2.one_part t) in
             let o = one_of k in
             let f = h.2.seats j u e in
-            (f.0, parts_kept s.words now h.0 h.0 h.1 t u.parts len else (λ y ne. record { calls = refl; grants = refl; armed = refl; last = refl }) (omega arith) f.1))
+            (f.0, parts_kept s.words now h.0 h.0 h.1 t u.parts len else (λ y ne. record { calls = refl; grants = refl; armed = refl; last = refl; was_last = λ n was. was }) (omega arith) f.1))
             ((λ e. never_keeps _ e), (mine, tt));
         counted = h.2.counted;
         rising = h.2.rising;
@@ -71,7 +71,7 @@ polls slots id k held s h sizes at fits64 =
       keeps,
       tt,
       thread_steps s id 0 k (with_polled n k) (slice_set s.words (k.thread + 1) n) h at refl (ap length same) (λ y ne. ap (λ l. slice_index l y) same)
-          (subst (λ ws. IsPart ws h.0 h.1 (with_polled n k)) (sym same) (record { inside = p.inside; made = p.made; word = p.word; taken = p.taken; moments = p.moments })),
+          (subst (λ ws. IsPart ws h.0 h.1 (with_polled n k)) (sym same) (record { inside = p.inside; made = p.made; word = p.word; number = p.number; taken = p.taken; moments = p.moments })),
       (refl, (own_word s.words h.0 h.1 k (h.2.counted k.thread) p, tt)),
     )
 
@@ -84,7 +84,7 @@ reads slots id k held s h sizes at fits64 =
       keeps,
       tt,
       thread_steps s id 0 k (with_moment n k) (slice_set s.words 0 n) h at refl (ap length same) (λ y ne. ap (λ l. slice_index l y) same)
-          (subst (λ ws. IsPart ws h.0 h.1 (with_moment n k)) (sym same) (record { inside = p.inside; made = p.made; word = p.word; taken = p.taken; moments = read-push h.1 k.moments n h.2.moment p.moments })),
+          (subst (λ ws. IsPart ws h.0 h.1 (with_moment n k)) (sym same) (record { inside = p.inside; made = p.made; word = p.word; number = p.number; taken = p.taken; moments = read-push h.1 k.moments n h.2.moment p.moments })),
       (refl, ((let r = p.moments.reached in let m = h.2.moment in omega arith), tt), (let m = h.2.moment in let l = h.2.greatest in omega arith)),
     )
 
@@ -93,7 +93,7 @@ taken_word : (b : Bool) (n last e status : ℕ) (g sent : List Got) → n ≡ gr
     → IsReplyWord b (idle_word e) last (g ++ given e status ∷ []) sent × IsTaken (g ++ given e status ∷ []) sent
 taken_word true n last e status g sent is small h taken = absurd (omega arith)
 taken_word false n last e status g sent is small h taken = ⊎_elim
-    (λ (x : n ≡ idle_word last). absurd (omega arith))
+    (λ (x : IsIdle n). let y = x.1 in absurd (omega arith))
     (λ (x : IsGranted n last g sent).
     let s = x.0 in
     let less = code_small s x.1 in
@@ -104,7 +104,7 @@ taken_word false n last e status g sent is small h taken = ⊎_elim
     let named : given last s ≡ given e status = ap (λ (y : ℕ × ℕ). given y.0 y.1) (λ i. (a i, c i)) in
     let sent_is : sent ≡ before ++ given last s ∷ [] = x.3.1 in
     let old = taken-but_last g before (given last s) (subst (IsTaken g) sent_is taken) x.4 in
-    (inl (ap idle_word (sym a)), subst (λ (y : List Got × Got). IsTaken (g ++ y.1 ∷ []) y.0) (λ i. (sym sent_is i, named i)) (taken-both g before (given last s) old)))
+    (inl (e, refl), subst (λ (y : List Got × Got). IsTaken (g ++ y.1 ∷ []) y.0) (λ i. (sym sent_is i, named i)) (taken-both g before (given last s) old)))
     h
 
 pub takes : (slots id : ℕ) (k : Knowledge) (held : List (ℕ × Unit {0})) (old : ℕ) → 2 ≤ old % 1024
@@ -133,6 +133,7 @@ takes slots id k held old granted s h sizes at fits64 = found (ℕ_discrete (sli
             inside = (let i = p.inside in let l = length-set s.words (t + 1) x in omega arith);
             made = p.made;
             word = word_same (is_armed t h.0) (is_armed t h.0) x (slice_index (slice_set s.words (t + 1) x) (t + 1)) (last_of t h.0) (last_of t h.0) (k.got ++ g ∷ []) (grants_of t h.0) (grants_of t h.0) refl (set_at s.words t x p.inside) refl refl word.0;
+            number = (let set = set_at s.words t x p.inside in subst (λ (m : ℕ). WasLast t m h.0) (omega arith) p.number);
             taken = word.1;
             moments = p.moments;
           }),
@@ -148,7 +149,7 @@ takes slots id k held old granted s h sizes at fits64 = found (ℕ_discrete (sli
           keeps,
           tt,
           thread_steps s id 0 k (with_polled n k) (slice_set s.words (k.thread + 1) n) h at refl (ap length same) (λ y ne. ap (λ l. slice_index l y) same)
-              (subst (λ ws. IsPart ws h.0 h.1 (with_polled n k)) (sym same) (record { inside = p.inside; made = p.made; word = p.word; taken = p.taken; moments = p.moments })),
+              (subst (λ ws. IsPart ws h.0 h.1 (with_polled n k)) (sym same) (record { inside = p.inside; made = p.made; word = p.word; number = p.number; taken = p.taken; moments = p.moments })),
           (refl, (own_word s.words h.0 h.1 k (h.2.counted k.thread) p, tt)),
         ) in
         subst Step (sym (ne_eqb n old ne)) miss

@@ -1,5 +1,5 @@
 -- The rule holds at first, and seats part and join under it.
-use Rattle.std.proofs.Common.{◌≡◌, ◌≢◌, ℕ, zero, suc, ◌+◌, ◌-◌, ◌<◌, ◌≤◌, List, [], ◌∷◌, ◌++◌, length, set, Bool, true, false, eqb, eq-eqb, ne_eqb, refl, sym, ap, ◌∙◌, subst, ⊎_elim, arith, inl}
+use Rattle.std.proofs.Common.{◌≡◌, ◌≢◌, ℕ, zero, suc, ◌+◌, ◌-◌, ◌/◌, ◌<◌, ◌≤◌, List, [], ◌∷◌, ◌++◌, length, set, Bool, true, false, eqb, eq-eqb, ne_eqb, refl, sym, ap, ◌∙◌, subst, ⊎_elim, arith, inl}
 use Rattle.std.specs.Prelude.{slice_index, nat_lt, replicate}
 use Rattle.std.proofs.lemmas.Bool.{lt-ltb, le-ltb, ltb-true, ltb-false}
 use Rattle.std.proofs.Math.Dec.{ltb}
@@ -136,7 +136,7 @@ one_each t n m is false e = let ge = ltb-false t n e in let b : one_if (nat_lt (
 
 new_parts : (words : List ℕ) (k n : ℕ) → ((x : ℕ) → slice_index words x ≡ 0) → k + n < length words → Each (IsPart words [] []) (newcomers k n)
 new_parts words k zero none room = tt
-new_parts words k (suc n) none room = (record { inside = omega arith; made = refl; word = inl (none (k + 1)); taken = refl; moments = record { rising = tt; reached = omega arith; each = tt } }, new_parts words (suc k) n none (omega arith))
+new_parts words k (suc n) none room = (record { inside = omega arith; made = refl; word = inl (0, none (k + 1)); number = ([], [], refl, ap (λ (x : ℕ). x / 1024) (none (k + 1))); taken = refl; moments = record { rising = tt; reached = omega arith; each = tt } }, new_parts words (suc k) n none (omega arith))
 
 -- the mail at first
 pub begins : (words : List ℕ) (n : ℕ) → ((x : ℕ) → slice_index words x ≡ 0) → length words ≡ n + 1 → IsMail (opening words [] (first_view n))

@@ -1,7 +1,9 @@
 -- The dispatcher's steps keep the rule.
-use Rattle.std.proofs.Common.{◌≡◌, ℕ, suc, ◌+◌, ◌≤◌, List, [], ◌∷◌, ◌++◌, length, Bool, true, false, refl, sym, ap, ◌∙◌, subst, arith, inl, inr, get_or-set_same, length-set}
+use Rattle.std.proofs.Common.{◌≡◌, ◌≢◌, ℕ, suc, ◌+◌, ◌/◌, ◌≤◌, List, [], ◌∷◌, ◌++◌, length, Bool, true, false, refl, sym, ap, ◌∙◌, subst, arith, inl, inr, get_or-set_same, length-set}
 use Rattle.std.specs.Prelude.{slice_index, slice_set, nat_lt}
 use native.Mathlib.Decide.{ℕ_discrete}
+use mathlib.Core.Option.{some}
+use lib.ListN.{get_elem?}
 use Rattle.atomic_table.specs.Table.{Me, keeps, Allows}
 use Rattle.nt_status.specs.Status.{is_status_code}
 use Rattle.nt_status.specs.declared.limits.TheConstants.{MAX_MOMENT}
@@ -15,24 +17,78 @@ use Rattle.nt_mail.specs.Entries.{Each, given, call_at, grants_of, is_armed, las
 use Rattle.nt_mail.specs.Words.{granted_word, called_word}
 use Rattle.nt_mail.specs.Knowledge.{latest, IsEarlier}
 use Rattle.nt_mail.specs.Views.{keeper, with_entry, with_published}
-use Rattle.nt_mail.specs.Rule.{IsTaken, IsReplyWord, IsPart, keeping, parts_of, IsMailOf, IsMail}
+use Rattle.nt_mail.specs.Rule.{IsTaken, IsReplyWord, IsPart, WasLast, keeping, parts_of, IsMailOf, IsMail}
 use Rattle.nt_mail.specs.Seats.{known_in}
 use Rattle.nt_mail.proofs.Totals.{total-set, two_le, le_one}
-use Rattle.nt_mail.proofs.Calls.{own_thread, AfterGrant, same_push, after_call, after_grant, one_or, AreCounted, counted_call, counted_grant, calls_of-push}
+use Rattle.nt_mail.proofs.Calls.{was_last-now, own_thread, AfterGrant, same_push, after_call, after_grant, one_or, AreCounted, counted_call, counted_grant, calls_of-push}
 use Rattle.nt_mail.proofs.Taken.{taken-sent, taken-below, latest-push, rising-push, read-published}
-use Rattle.nt_mail.proofs.Parts.{fits_set, word_same, part_kept, fits_kept, one_of, set_at, set_else}
+use Rattle.nt_mail.proofs.Words.{code_small}
+use Rattle.nt_mail.proofs.Parts.{fits_set, word_same, number_same, part_kept, fits_kept, one_of, set_at, set_else}
 
 word_called : (b : Bool) (n : ℕ) (g s : List Got) → IsReplyWord b (called_word b n) n g s
 word_called true n g s = refl
-word_called false n g s = inl refl
+word_called false n g s = inl (n, refl)
+
+number_called : (b : Bool) (n : ℕ) → called_word b n / 1024 ≡ n
+number_called true n = omega arith
+number_called false n = omega arith
 
 -- what is known of the entries of one thread is below the next number
-earlier : (words : List ℕ) (log : List Entry) (ms : List ℕ) (k : Knowledge) → AreCounted log → IsPart words log ms k → IsEarlier (suc (length log)) k
+pub earlier : (words : List ℕ) (log : List Entry) (ms : List ℕ) (k : Knowledge) → AreCounted log → IsPart words log ms k → IsEarlier (suc (length log)) k
 earlier words log ms k counted p =
     let c = counted k.thread in
     record {
       made = subst (λ l. AreMadeBelow (suc (length log)) l) (sym p.made) c.calls;
       got = taken-below (suc (length log)) k.got (grants_of k.thread log) p.taken c.grants;
+    }
+
+-- a call or tick is written: of the words at most the caller's changes, and it is right
+pub written_call : (words now : List ℕ) (views : List View) (id : ℕ) (log : List Entry) (ms : List ℕ) (k : Knowledge) (e : Entry) (armed : Bool) → IsOwn k.thread e → one_if (is_armed k.thread log) + one_if (arms e) ≡ one_if armed
+    → get_elem? views id ≡ some (keeper log ms (k ∷ [])) → IsMailOf words views log ms → length now ≡ length words → ((x : ℕ) → x ≢ k.thread + 1 → slice_index now x ≡ slice_index words x)
+    → IsReplyWord armed (slice_index now (k.thread + 1)) (suc (length log)) k.got (grants_of k.thread log) → WasLast k.thread (slice_index now (k.thread + 1) / 1024) (log ++ e ∷ [])
+    → IsMailOf now (slice_set views id (with_entry e (keeper log ms (k ∷ [])))) (log ++ e ∷ []) ms
+written_call words now views id log ms k e armed own counts at kept len else right number =
+    let v = keeper log ms (k ∷ []) in
+    let t = k.thread in
+    let n = suc (length log) in
+    let w = with_entry e v in
+    let next = log ++ e ∷ [] in
+    let p = (kept.seats id v at).1.0 in
+    let a = after_call t log e own in
+    record {
+      seats = fits_set now next ms views id w
+          (λ j u apart e'.
+          let a = two_le keeping views id j v u at e' apart in
+          let b = two_le (λ x. parts_of t x.parts) views id j v u at e' apart in
+          let c = kept.one_keeper in
+          let d = le_one words t _ (kept.one_part t) in
+          let o = one_of k in
+          fits_kept words now log next ms t u len else (λ x ne. same_push x log e (λ is. ne (sym (own_thread t e own) ∙ is))) (omega arith) (omega arith) (kept.seats j u e')) (
+            (λ _. (refl, refl)),
+            (
+              record {
+                inside = (let i = p.inside in omega arith);
+                made = ap (λ l. l ++ call_at t n e) p.made ∙ sym (calls_of-push t log e);
+                word = word_same armed (is_armed t next) (slice_index now (t + 1)) (slice_index now (t + 1)) n (last_of t next) k.got (grants_of t log) (grants_of t next)
+                    (a.armed ∙ one_or (is_armed t log) (arms e) armed counts)
+                    refl
+                    a.last
+                    a.grants
+                    right;
+                number = number;
+                taken = subst (IsTaken k.got) (sym a.grants) p.taken;
+                moments = p.moments;
+              },
+              tt,
+            ),
+          );
+      counted = counted_call t log e armed own kept.counted counts;
+      rising = kept.rising;
+      greatest = kept.greatest;
+      moment = else 0 (λ z. absurd (omega arith)) ∙ kept.moment;
+      enough = (let i = kept.enough in omega arith);
+      one_keeper = (let a = total-set keeping views id v w at in let c = kept.one_keeper in omega arith);
+      one_part = λ t'. (let a = total-set (λ x. parts_of t' x.parts) views id v w at in let c = kept.one_part t' in let l = ap (λ (x : ℕ). one_if (nat_lt (t' + 1) x)) len in omega arith);
     }
 
 pub calls : (slots id : ℕ) (log : List Entry) (ms : List ℕ) (k : Knowledge) (held : List (ℕ × Unit {0})) (e : Entry) (armed : Bool) → IsOwn k.thread e → one_if (is_armed k.thread log) + one_if (arms e) ≡ one_if armed
@@ -42,7 +98,6 @@ calls slots id log ms k held e armed own counts s h sizes at fits64 =
     let v = keeper log ms (k ∷ []) in
     let t = k.thread in
     let n = suc (length log) in
-    let w = with_entry e v in
     let next = log ++ e ∷ [] in
     let word = called_word armed n in
     let now = slice_set s.words (t + 1) word in
@@ -50,47 +105,18 @@ calls slots id log ms k held e armed own counts s h sizes at fits64 =
     let kept = subst (λ (x : List Entry × List ℕ). IsMailOf s.words s.views x.0 x.1) (λ i. (sym same.0 i, sym same.1 i)) h.2 in
     let p = (kept.seats id v at).1.0 in
     let a = after_call t log e own in
-    let len : length now ≡ length s.words = length-set s.words (t + 1) word in (
-      w,
+    let is = set_at s.words t word p.inside in (
+      with_entry e v,
       keeps,
       tt,
       (
         next,
         ms,
-        record {
-          seats = fits_set now next ms s.views id w
-              (λ j u apart e'.
-              let a = two_le keeping s.views id j v u at e' apart in
-              let b = two_le (λ x. parts_of t x.parts) s.views id j v u at e' apart in
-              let c = kept.one_keeper in
-              let d = le_one s.words t _ (kept.one_part t) in
-              let o = one_of k in
-              fits_kept s.words now log next ms t u len (λ x ne. set_else s.words (t + 1) word x ne) (λ x ne. same_push x log e (λ is. ne (sym (own_thread t e own) ∙ is))) (omega arith) (omega arith) (kept.seats j u e')) (
-                (λ _. (refl, refl)),
-                (
-                  record {
-                    inside = (let i = p.inside in omega arith);
-                    made = ap (λ l. l ++ call_at t n e) p.made ∙ sym (calls_of-push t log e);
-                    word = word_same armed (is_armed t next) word (slice_index now (t + 1)) n (last_of t next) k.got (grants_of t log) (grants_of t next)
-                        (a.armed ∙ one_or (is_armed t log) (arms e) armed counts)
-                        (set_at s.words t word p.inside)
-                        a.last
-                        a.grants
-                        (word_called armed n k.got (grants_of t log));
-                    taken = subst (IsTaken k.got) (sym a.grants) p.taken;
-                    moments = p.moments;
-                  },
-                  tt,
-                ),
-              );
-          counted = counted_call t log e armed own kept.counted counts;
-          rising = kept.rising;
-          greatest = kept.greatest;
-          moment = set_else s.words (t + 1) word 0 (λ z. absurd (omega arith)) ∙ kept.moment;
-          enough = (let i = kept.enough in omega arith);
-          one_keeper = (let a = total-set keeping s.views id v w at in let c = kept.one_keeper in omega arith);
-          one_part = λ t'. (let a = total-set (λ x. parts_of t' x.parts) s.views id v w at in let c = kept.one_part t' in let l = ap (λ (x : ℕ). one_if (nat_lt (t' + 1) x)) len in omega arith);
-        },
+        written_call s.words now s.views id log ms k e armed own counts at kept
+            (length-set s.words (t + 1) word)
+            (λ x ne. set_else s.words (t + 1) word x ne)
+            (word_same armed armed word (slice_index now (t + 1)) n n k.got (grants_of t log) (grants_of t log) refl is refl refl (word_called armed n k.got (grants_of t log)))
+            (was_last-now t (slice_index now (t + 1) / 1024) next (ap (λ (x : ℕ). x / 1024) is ∙ number_called armed n ∙ sym a.last)),
       ),
       (refl, (earlier s.words log ms k kept.counted p, tt)),
     )
@@ -107,15 +133,18 @@ part_granted words now log ms t status k known is counted (yes same) p =
     let g = given n status in
     let a = subst (λ x. after u log status x) same (after_grant u log status) in
     let len : length now ≡ length words = ap length is ∙ length-set words (t + 1) (granted_word n status) in
+    let word_is : slice_index now (u + 1) ≡ granted_word n status =
+    ap (λ l. slice_index l (u + 1)) is ∙ ap (λ (x : ℕ). slice_index (slice_set words (x + 1) (granted_word n status)) (u + 1)) (sym same) ∙ set_at words u (granted_word n status) p.inside in
     record {
       inside = (let i = p.inside in omega arith);
       made = p.made ∙ sym a.calls;
       word = word_same false (is_armed u (log ++ Granted t status ∷ [])) (granted_word n status) (slice_index now (u + 1)) n (last_of u (log ++ Granted t status ∷ [])) k.got (grants_of u log ++ g ∷ []) (grants_of u (log ++ Granted t status ∷ []))
           a.armed
-          (ap (λ l. slice_index l (u + 1)) is ∙ ap (λ (x : ℕ). slice_index (slice_set words (x + 1) (granted_word n status)) (u + 1)) (sym same) ∙ set_at words u (granted_word n status) p.inside)
+          word_is
           a.last
           a.grants
           (inr (status, known, refl, (grants_of u log, refl), taken-below n k.got (grants_of u log) p.taken (counted u).grants));
+      number = was_last-now u (slice_index now (u + 1) / 1024) (log ++ Granted t status ∷ []) (let last = a.last in let small = code_small status known in omega arith);
       taken = subst (IsTaken k.got) (sym a.grants) (taken-sent k.got (grants_of u log) g p.taken);
       moments = p.moments;
     }
@@ -176,6 +205,7 @@ parts_published words log ms m (k ∷ ks) le are =
         inside = (let i = p.inside in let l = length-set words 0 m in omega arith);
         made = p.made;
         word = word_same _ _ _ _ _ _ k.got _ _ refl (set_else words 0 m (k.thread + 1) (λ z. absurd (omega arith))) refl refl p.word;
+        number = number_same _ _ _ log (set_else words 0 m (k.thread + 1) (λ z. absurd (omega arith))) p.number;
         taken = p.taken;
         moments = read-published ms k.moments m le p.moments;
       },

@@ -1,5 +1,5 @@
 -- The rule of the mail: what holds of words, entries and views between any two steps.
-use Rattle.std.specs.Prelude.{◌≡◌, ◌==◌, ◌⊎◌, ℕ, suc, ◌+◌, ◌<◌, ◌≤◌, slice_index, List, [], ◌∷◌, ◌++◌, length, Bool, true, false, nat_lt}
+use Rattle.std.specs.Prelude.{◌≡◌, ◌==◌, ◌⊎◌, ℕ, suc, ◌+◌, ◌/◌, ◌<◌, ◌≤◌, slice_index, List, [], ◌∷◌, ◌++◌, length, Bool, true, false, nat_lt}
 use mathlib.Core.Option.{some}
 use lib.ListN.{get_elem?}
 use Rattle.atomic_table.specs.Table.{State}
@@ -23,10 +23,18 @@ IsTaken got (g ∷ sent) = IsTaken got sent ⊎ ((rest : List Got) × (got ≡ g
 abbrev pub IsGranted : ℕ → ℕ → List Got → List Got → Type 0
 IsGranted word last got sent = (status : ℕ) × (is_status_code status ≡ true) × (word ≡ granted_word last status) × ((before : List Got) × (sent ≡ before ++ given last status ∷ [])) × AreBelow last got
 
--- the word of a thread has its last entry's number: it is armed where the thread is, and else idle or granted
+-- the word is idle, with some number
+abbrev pub IsIdle : ℕ → Type 0
+IsIdle word = (n : ℕ) × (word ≡ idle_word n)
+
+-- the word of a thread is armed where the thread is, with its last entry's number; else it is idle, or granted with that number
 abbrev pub IsReplyWord : Bool → ℕ → ℕ → List Got → List Got → Type 0
 IsReplyWord true word last got sent = word ≡ armed_word last
-IsReplyWord false word last got sent = (word ≡ idle_word last) ⊎ IsGranted word last got sent
+IsReplyWord false word last got sent = IsIdle word ⊎ IsGranted word last got sent
+
+-- n is the number of an entry of thread t, which was its last when it was written, or 0, as before its first
+abbrev pub WasLast : ℕ → ℕ → List Entry → Type 0
+WasLast t n log = (before : List Entry) × (after : List Entry) × (log ≡ before ++ after) × (n ≡ last_of t before)
 
 -- the word may be the thread's, by what the thread knows: of some grants that were sent it took a part, one more of its calls pended where it is armed, and the word tells of the last
 pub record IsWordFor (k : Knowledge) (word : ℕ) : Type 0 where
@@ -63,6 +71,7 @@ pub record IsPart (words : List ℕ) (log : List Entry) (published : List ℕ) (
   pub made : k.made ≡ calls_of k.thread log
   pub taken : IsTaken k.got (grants_of k.thread log)
   pub word : IsReplyWord (is_armed k.thread log) (slice_index words (k.thread + 1)) (last_of k.thread log) k.got (grants_of k.thread log)
+  pub number : WasLast k.thread (slice_index words (k.thread + 1) / 1024) log
   pub moments : AreReadFrom published k.moments
 
 -- what a seat knows is true: the dispatcher's has all entries written and all moments published, and each part is true

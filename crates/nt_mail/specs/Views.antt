@@ -1,5 +1,5 @@
 -- What seats know, and how their views are cut and joined.
-use Rattle.std.specs.Prelude.{ℕ, suc, List, [], ◌∷◌, ◌++◌, map, length, true, false}
+use Rattle.std.specs.Prelude.{ℕ, suc, ◌%◌, ◌==◌, List, [], ◌∷◌, ◌++◌, map, length, true, false, if◌then◌else◌}
 use Rattle.nt_mail.specs.declared.entry.Entry.{Entry}
 use Rattle.nt_mail.specs.declared.knowledge.Knowledge.{Knowledge}
 use Rattle.nt_mail.specs.declared.knowledge.View.{View}
@@ -46,6 +46,10 @@ together v w = record { keeps = v.keeps; written = v.written; published = v.publ
 -- the dispatcher wrote this entry, and the part that is joined to it gained its call
 abbrev pub with_entry : Entry → View → View
 with_entry e v = record { keeps = v.keeps; written = v.written ++ e ∷ []; published = v.published; parts = map (with_call (suc (length v.written)) e) v.parts }
+
+-- the dispatcher wrote this entry where the word that it found is idle, and else nothing
+abbrev pub with_entry_if_idle : ℕ → Entry → View → View
+with_entry_if_idle found e v = if found % 1024 == 0 then with_entry e v else v
 
 -- the dispatcher published this moment
 abbrev pub with_published : ℕ → View → View

@@ -1,4 +1,4 @@
--- The reply words: the number of the thread's last entry in the high 54 bits, and in the low 10 how its wait stands.
+-- The reply words: the number of an entry of the thread in the high 54 bits, and in the low 10 how its wait stands.
 use Rattle.std.specs.Prelude.{◌≡◌, ◌<◌, ◌+◌, ◌-◌, ◌*◌, ◌/◌, ◌%◌, ◌^◌, ℕ, Bool, true, false}
 use Rattle.nt_status.specs.Status.{is_status_code}
 use Rattle.nt_calls.specs.declared.call.Reply.{Reply}

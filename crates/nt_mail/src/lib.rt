@@ -3,12 +3,13 @@
 //! The dispatcher works under one lock and writes what happens into a journal: an entry for each call, each tick and each grant,
 //! numbered from 1. A thread whose wait is pending must be able to ask whether its grant has come without taking that lock. So
 //! each thread has a *word*, 64 bits that change in single atomic steps, and one more word holds the present moment. A thread's
-//! word tells two things: in its high 54 bits the number of the thread's last entry, and in its low 10 how the thread's wait stands.
+//! word tells two things: in its low 10 bits how the thread's wait stands, and in its high 54 the number of an entry of the thread:
+//! of its last, if the word is armed or granted, and of its last at some time before, if it is idle.
 //!
 //! ```text
 //!        63                                  10 9         0
 //!       +--------------------------------------+-----------+     0      idle: no wait, or its grant is taken
-//!       |     number of the last entry         |   state   |     1      armed: its wait is pending
+//!       |     number of an entry               |   state   |     1      armed: its wait is pending
 //!       +--------------------------------------+-----------+     2 + s  granted with status s, not yet taken
 //!
 //!                      arm                       grant
@@ -20,7 +21,8 @@
 //!
 //! **Who may write.** The dispatcher alone makes a word idle, armed or granted as it writes an entry; it is the only one that
 //! writes the moment. A thread writes its own word in one case: the grant that it read there becomes idle, and is taken. Nothing
-//! is ever tried again, and nobody waits.
+//! is ever tried again, and nobody waits. A word that is idle and stays so is read and not written: so most calls make no write
+//! that other processors have to see at once.
 //!
 //! **What each one knows.** Who steps has a *seat*, a value without bytes that one owner holds. The dispatcher's seat knows all
 //! entries written and all moments published. A thread's seat knows what the thread saw for itself: its calls and ticks with their
@@ -31,7 +33,8 @@
 //!
 //! - a thread's calls are exactly those written, and as many of them pended as grants were sent to it, and one more where it is
 //!   armed;
-//! - its word has the number of its last entry, and is armed exactly where the thread is;
+//! - its word is armed exactly where the thread is; armed or granted it has the number of the thread's last entry, and idle the
+//!   number of one that was its last, or 0;
 //! - the grants that it took are a part of those sent to it, in order, and a grant in its word is the last sent and above all taken;
 //! - published moments never fall, and no thread has read one that is above the moment word, or that was never published.
 //!
@@ -39,7 +42,7 @@
 //!
 //! | Step | By | Word | After it |
 //! |---|---|---|---|
-//! | `note` | dispatcher | the caller's | idle: a call or tick was written, and no wait of the caller is pending |
+//! | `note` | dispatcher | the caller's | idle, as before if it was: a call or tick was written, and no wait of the caller is pending |
 //! | `arm` | dispatcher | the caller's | armed: a call or tick was written, and a wait of the caller is pending |
 //! | `grant` | dispatcher | the thread's | granted: a grant to the thread was written |
 //! | `publish_moment` | dispatcher | the moment's | this moment, never below the last |

@@ -48,6 +48,22 @@ impl<W: Writing> Play<(), View> for Writes<W> {
         × Each (IsEarlier (suc (length before.0.written))) before.0.parts };
 }
 
+/// The dispatcher reads the word of the thread that is joined to it, and leaves it as it is. Where the word is idle, it writes an entry
+/// as `Writes` does.
+pub(crate) struct WritesIfIdle<W> {
+    of: PhantomData<W>,
+}
+
+impl<W: Writing> Play<(), View> for WritesIfIdle<W> {
+    ghost use Rattle.std.specs.Prelude.{◌≡◌, suc, length};
+    ghost use Rattle.nt_mail.specs.Entries.{Each};
+    ghost use Rattle.nt_mail.specs.Knowledge.{IsEarlier};
+    ghost use Rattle.nt_mail.specs.Views.{with_entry_if_idle};
+
+    ghost then = { λ step before found after. (after ≡ (with_entry_if_idle found W.entry before.0, before.1))
+        × Each (IsEarlier (suc (length before.0.written))) before.0.parts };
+}
+
 /// A thread reads its word.
 pub(crate) struct Polls;
 

@@ -1,5 +1,6 @@
-//! The eight steps. Each is one atomic operation on one word: a store, a load or an exchange.
-ghost use Rattle.std.specs.Prelude.{◌≡◌, ◌≢◌, ◌<◌, ◌≤◌, ◌+◌, ◌^◌, ◌%◌, ◌++◌, ◌∷◌, [], length, true, false, IfErr, OnOk};
+//! The eight steps. Each is one atomic operation on one word: a store, a load or an exchange. `note` alone stores after its load,
+//! unless the word is idle.
+ghost use Rattle.std.specs.Prelude.{◌≡◌, ◌≢◌, ◌<◌, ◌≤◌, ◌+◌, ◌^◌, ◌%◌, ◌++◌, ◌∷◌, [], suc, length, true, false, IfErr, OnOk, if◌then◌else◌};
 ghost use Rattle.nt_calls.specs.Moves.{one_if};
 ghost use Rattle.nt_mail.specs.declared.entry.Entry.TheVariants.{Granted};
 ghost use Rattle.nt_mail.specs.Entries.{IsOwn, arms, is_armed};
@@ -12,7 +13,8 @@ ghost use Rattle.nt_mail.specs.Seats.{seated, known_in};
 use crate::entry::Entry;
 use crate::mail::Mail;
 use crate::rule::{
-    Apart, Letters, Looks, Place, Polls, Publishes, Reads, Spare, Takes, Together, Writes, Writing,
+    Apart, Letters, Looks, Place, Polls, Publishes, Reads, Spare, Takes, Together, Writes,
+    WritesIfIdle, Writing,
 };
 use crate::seat::{DispatcherSeat, ThreadSeat};
 use crate::word::{Word, idle_of};
@@ -21,7 +23,8 @@ use std::marker::Brand;
 use std::mem;
 
 impl Mail {
-    /// Writes a call or tick of the thread after which no wait of it is pending: its word becomes idle.
+    /// Writes a call or tick of the thread after which no wait of it is pending: its word becomes idle, or stays as it is if it is
+    /// idle already.
     #[inline(always)]
     pub fn note(
         &self,
@@ -88,7 +91,7 @@ impl Mail {
         let spare = shared.split_seat::<Spare>(&mut dispatcher.seat);
         let seat = mem::replace(&mut caller.seat, spare);
         shared.join_seat::<Together>(&mut dispatcher.seat, seat);
-        store_call::<Brand>(
+        store_unless_idle::<Brand>(
             &self.table,
             &mut dispatcher.seat,
             caller.thread,
@@ -183,6 +186,59 @@ impl Mail {
         };
         moment
     }
+}
+
+// Writes the call or tick that `W` names: by a store, or, where no wait is pending and the word is idle, by a load, which leaves it.
+#[inline(always)]
+fn store_unless_idle<W: Writing>(
+    table: &Letters,
+    seat: &mut Place,
+    thread: usize,
+    entry: &Entry,
+    number: u64,
+    armed: bool,
+)
+    requires table { (seat.old.table_id ≡ table.now.shared.table_id) × (thread + 1 < seat.old.table_id.words) }
+    requires thread { thread < 2 ^ 16 }
+    requires entry { (entry.now ≡ W.entry) × IsOwn thread entry.now }
+    requires view { seat.old.me ≡ (
+      keeper seat.old.me.0.written seat.old.me.0.published
+          (known_in seat.old.me.0 ∷ []),
+      [],
+    ) }
+    requires caller { (known_in seat.old.me.0).thread ≡ thread }
+    requires armed { one_if (is_armed thread seat.old.me.0.written) + one_if (arms entry.now) ≡ one_if armed }
+    requires number { (number ≡ length seat.old.me.0.written + 1) × (number < 2 ^ 54) }
+    ensures table { (seat.new.table_id ≡ seat.old.table_id) × (seat.new.id ≡ seat.old.id) }
+    ensures view { seat.new.me ≡ (with_entry entry.now seat.old.me.0, []) }
+    ensures earlier { IsEarlier number (known_in seat.old.me.0) }
+{
+    if armed {
+        store_call::<W>(table, seat, thread, entry, number, true);
+    } else if !note_if_idle::<W>(table, seat, thread, entry) {
+        store_call::<W>(table, seat, thread, entry, number, false);
+    }
+}
+
+// One load. Where the word is idle, that writes the call or tick that `W` names, and the word stays. Answers whether it is.
+#[inline(always)]
+fn note_if_idle<W: Writing>(table: &Letters, seat: &mut Place, thread: usize, entry: &Entry) -> bool
+    requires table { (seat.old.table_id ≡ table.now.shared.table_id) × (thread + 1 < seat.old.table_id.words) }
+    requires thread { thread < 2 ^ 16 }
+    requires entry { (entry.now ≡ W.entry) × IsOwn thread entry.now }
+    requires view { seat.old.me ≡ (
+      keeper seat.old.me.0.written seat.old.me.0.published
+          (known_in seat.old.me.0 ∷ []),
+      [],
+    ) }
+    requires caller { (known_in seat.old.me.0).thread ≡ thread }
+    requires unarmed { one_if (is_armed thread seat.old.me.0.written) + one_if (arms entry.now) ≡ 0 }
+    ensures table { (seat.new.table_id ≡ seat.old.table_id) × (seat.new.id ≡ seat.old.id) }
+    ensures view { seat.new.me ≡ (if result then with_entry entry.now seat.old.me.0 else seat.old.me.0, []) }
+    ensures earlier { IsEarlier (suc (length seat.old.me.0.written)) (known_in seat.old.me.0) }
+{
+    let word = table.shared.load::<WritesIfIdle<W>>(seat, word_of(thread));
+    word % 1024 == 0
 }
 
 // One store, which writes the call or tick that `W` names.

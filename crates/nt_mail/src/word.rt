@@ -6,12 +6,13 @@ ghost use Rattle.nt_mail.specs.Words.{IsLawfulWord, TellsGrant, bits_of, granted
 use nt_core::Reply;
 use nt_status::Status;
 
-/// A thread's reply word: the number of the thread's last entry, and how its wait stands.
+/// A thread's reply word: the number of an entry of the thread, and how its wait stands.
 #[derive(Clone, Copy, PartialEq, Eq, Debug)]
 pub enum Word {
-    /// No wait of the thread is pending, and it has taken each grant. The number is 0 where the thread has no entry.
+    /// No wait of the thread is pending, and it has taken each grant. The number is that of an entry which was the thread's last, or
+    /// 0.
     Idle(u64),
-    /// The thread's wait is pending.
+    /// The thread's wait is pending. The number is that of the thread's last entry.
     Armed(u64),
     /// The thread's wait was granted with this status, and the grant is not taken yet. The number is that of the grant's entry.
     Granted(u64, Status),

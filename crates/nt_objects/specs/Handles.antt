@@ -5,6 +5,21 @@ use Rattle.nt_objects.specs.declared.object.Object.TheVariants.{Event, Semaphore
 use Rattle.nt_objects.specs.declared.handles.Opened.{Opened}
 use Rattle.nt_status.specs.Access.{synchronize, modify_state, set_context}
 
+-- what a row of the table says: one above the number of an object, with rights to it, or 0 for nothing
+abbrev pub opened_in_row : ℕ → ℕ → Option Opened
+opened_in_row zero access = None
+opened_in_row (suc object) access = Some (record { object = object; access = access })
+
+-- one above the number of the object, and 0 for none
+abbrev pub above_of : Option Opened → ℕ
+above_of None = 0
+above_of (Some opened) = opened.object + 1
+
+-- the rights to it, and no right to nothing
+abbrev pub rights_of : Option Opened → ℕ
+rights_of None = 0
+rights_of (Some opened) = opened.access
+
 -- by handle number, what the handle names, or none once it is closed; and how many handles there is room for
 pub record Handles : Type 0 where
   pub opened : List (Option Opened)

@@ -15,13 +15,66 @@ pub struct Opened {
     pub access: Access,
 }
 
+/// What a handle names, or nothing once it is closed, in eight bytes. (An `Option<Opened>` takes twelve.)
+#[derive(Clone, Copy)]
+struct Row {
+    /// One above the number of the object, and 0 where it names nothing.
+    above: u32,
+    access: Access,
+}
+
+impl Model for Row {
+    ghost use Rattle.std.specs.Prelude.{◌≡◌, Option};
+    ghost use Rattle.nt_objects.specs.declared.handles.Opened.{Opened};
+    ghost use Rattle.nt_objects.specs.Handles.{opened_in_row, above_of, rights_of};
+
+    ghost Value = { Option Opened };
+
+    ghost view = { λ r. opened_in_row r.above r.access };
+
+    ghost invariant = { λ r. r.above ≡ 0 → r.access ≡ 0 };
+
+    ghost inverse = { λ opened. record { above = above_of opened; access = rights_of opened } };
+}
+
+impl Row {
+    /// It names nothing, and has no right.
+    const CLOSED: Row = Row {
+        above: 0,
+        access: Access::NONE,
+    };
+
+    fn new(opened: Opened) -> Self
+        requires { opened.object < 2 ^ 32 - 1 }
+        ensures { result ≡ Some opened }
+    {
+        Row {
+            above: opened.object.get() + 1,
+            access: opened.access,
+        }
+    }
+
+    /// What it names, and with which rights.
+    fn get(self) -> Option<Opened>
+        ensures { result ≡ self }
+    {
+        if self.above == 0 {
+            return None;
+        }
+        Some(Opened {
+            object: ObjectNumber::new(self.above - 1),
+            access: self.access,
+        })
+    }
+}
+
 /// What a handle names; none where it is closed, or was never handed out.
-fn opened_in(handles: &[Option<Opened>], handle: Handle) -> Option<Opened>
+fn opened_in(handles: &[Row], handle: Handle) -> Option<Opened>
     ensures { result ≡ opened_at handles.now handle }
 {
     let at = handle.get() as usize;
     if at < handles.len() {
-        handles[at]
+        handles[at].get()
     } else {
         None
     }
@@ -46,7 +99,7 @@ fn count_less(counts: &mut [u32], object: ObjectNumber)
 }
 
 /// Adds a handle, last, and counts it.
-fn open(handles: &mut Vec<Option<Opened>>, counts: &mut Vec<u32>, opened: Opened)
+fn open(handles: &mut Vec<Row>, counts: &mut Vec<u32>, opened: Opened)
     requires counted { IsCounted handles.old.items counts.old.items }
     requires handle_room { vec_len handles.old < vec_capacity handles.old }
     requires count_room { vec_len counts.old < vec_capacity counts.old }
@@ -57,11 +110,11 @@ fn open(handles: &mut Vec<Option<Opened>>, counts: &mut Vec<u32>, opened: Opened
 {
     counts.push_reserved(0);
     count_more(counts, opened.object);
-    handles.push_reserved(Some(opened));
+    handles.push_reserved(Row::new(opened));
 }
 
 /// Opens a handle that was closed, and counts it.
-fn open_again(handles: &mut [Option<Opened>], counts: &mut Vec<u32>, handle: Handle, opened: Opened)
+fn open_again(handles: &mut [Row], counts: &mut Vec<u32>, handle: Handle, opened: Opened)
     requires counted { IsCounted handles.old counts.old.items }
     requires there { handle < length handles.old }
     requires closed { opened_at handles.old handle ≡ None }
@@ -71,11 +124,11 @@ fn open_again(handles: &mut [Option<Opened>], counts: &mut Vec<u32>, handle: Han
     ensures counted { IsCounted handles.new counts.new.items }
 {
     count_more(counts, opened.object);
-    handles[handle.get() as usize] = Some(opened);
+    handles[handle.get() as usize] = Row::new(opened);
 }
 
 /// Takes an open handle away, and counts it no more.
-fn close(handles: &mut [Option<Opened>], counts: &mut [u32], handle: Handle) -> ObjectNumber
+fn close(handles: &mut [Row], counts: &mut [u32], handle: Handle) -> ObjectNumber
     requires counted { IsCounted handles.old counts.old }
     requires open { IsSome (opened_at handles.old handle) }
     ensures object { ForSome (opened_at handles.old handle) (λ opened. result ≡ opened.object) }
@@ -85,7 +138,7 @@ fn close(handles: &mut [Option<Opened>], counts: &mut [u32], handle: Handle) -> 
     let Some(opened) = opened_in(handles, handle) else {
         unreachable!()
     };
-    handles[handle.get() as usize] = None;
+    handles[handle.get() as usize] = Row::CLOSED;
     count_less(counts, opened.object);
     opened.object
 }
@@ -98,14 +151,14 @@ fn is_like(opened: Option<Opened>, other: Option<Opened>) -> bool
 }
 
 /// Whether the same numbers name the same objects, with the same rights.
-fn are_like(handles: &[Option<Opened>], others: &[Option<Opened>]) -> bool
+fn are_like(handles: &[Row], others: &[Row]) -> bool
     ensures { (result ≡ true) ↔ (handles.now ≡ others.now) }
 {
     if handles.len() != others.len() {
         return false;
     }
     for i in 0..handles.len() {
-        if !is_like(handles[i], others[i]) {
+        if !is_like(handles[i].get(), others[i].get()) {
             return false;
         }
     }
@@ -117,7 +170,7 @@ fn are_like(handles: &[Option<Opened>], others: &[Option<Opened>]) -> bool
 /// A number that was handed out names the same object until it is closed, and nothing from then on, unless it is given again.
 #[derive(Drop)]
 pub struct HandleTable {
-    handles: Vec<Option<Opened>>,
+    handles: Vec<Row>,
     counts: Vec<u32>,
 }
 

@@ -5,9 +5,9 @@ use Rattle.nt_core.specs.Dispatcher.{state}
 use Rattle.nt_lines.specs.Lines.{lines_of}
 use Rattle.nt_look.specs.Orders.{Plan}
 use Rattle.nt_script.specs.Progress.{Progress, progress}
-use Rattle.nt_script.specs.Transcript.{IsLine}
-use Rattle.nt_script.specs.declared.parser.Statement.{Statement}
-use Rattle.nt_script.specs.declared.fault.LineFault.TheVariants as line
+use Rattle.nt_grammar.specs.Lines.{IsLine}
+use Rattle.nt_grammar.specs.declared.parser.Statement.{Statement}
+use Rattle.nt_grammar.specs.declared.fault.LineFault.TheVariants as line
 use Rattle.nt_script.specs.declared.session.Session.{Session}
 use Rattle.nt_hangs.specs.Watching.{Seen}
 use Rattle.nt_orders.specs.declared.lanes.LaneFault.{LaneFault}

@@ -2,8 +2,8 @@
 use Rattle.std.proofs.Common.{◌≡◌, ℕ, ◌+◌, ◌<◌, List, [], ◌∷◌, ◌++◌, length, refl, sym, ap, subst, ◌∙◌, arith, append_assoc, length-append}
 use Rattle.nt_lines.specs.Lines.{lines_of}
 use Rattle.nt_script.specs.Progress.{AreCounted, scope_of}
-use Rattle.nt_script.specs.Transcript.{FaultIn}
-use Rattle.nt_script.specs.declared.fault.ScriptFault.{ScriptFault}
+use Rattle.nt_grammar.specs.Lines.{FaultIn}
+use Rattle.nt_grammar.specs.declared.fault.ScriptFault.{ScriptFault}
 use Rattle.nt_hangs.specs.Watching.{Seen, Sees, unseen}
 use Rattle.nt_orders.specs.Plans.{EndsHead, IsOfHead, IsOfLane, ReadsHead, SeesHead, StopsInHead}
 use Rattle.nt_orders.specs.Reading.{HeadSoFar}

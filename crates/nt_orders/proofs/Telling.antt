@@ -7,9 +7,9 @@ use Rattle.nt_lines.specs.Lines.{lines_of}
 use Rattle.nt_look.specs.Orders.{Plan}
 use Rattle.nt_script.specs.Progress.{Progress, progress}
 use Rattle.nt_script.specs.declared.session.Session.{Session}
-use Rattle.nt_script.specs.declared.fault.ScriptFault.TheVariants.{ThreadsExpected}
-use Rattle.nt_script.specs.declared.fault.LineFault.{LineFault}
-use Rattle.nt_script.specs.declared.fault.LineFault.TheVariants as line
+use Rattle.nt_grammar.specs.declared.fault.ScriptFault.TheVariants.{ThreadsExpected}
+use Rattle.nt_grammar.specs.declared.fault.LineFault.{LineFault}
+use Rattle.nt_grammar.specs.declared.fault.LineFault.TheVariants as line
 use Rattle.nt_script.specs.declared.fault.RunFault.{RunFault}
 use Rattle.nt_script.specs.declared.fault.RunFault.TheVariants.{Script, Read, Write, Memory}
 use Rattle.nt_devices.specs.Device.{Says, Writing}

@@ -9,7 +9,7 @@ use Rattle.nt_explore.specs.declared.explored.Verdict.{Verdict}
 use Rattle.nt_explore.specs.declared.explored.Verdict.TheVariants as verdict
 use Rattle.nt_script.specs.Running.{Has}
 use Rattle.nt_script.specs.declared.fault.RunFault.TheVariants.{Script, Read, Write, Memory}
-use Rattle.nt_script.specs.declared.fault.ScriptFault.TheVariants.{ThreadsExpected}
+use Rattle.nt_grammar.specs.declared.fault.ScriptFault.TheVariants.{ThreadsExpected}
 use Rattle.nt_hangs.specs.declared.reports.Report.{Report}
 use Rattle.nt_hangs.specs.Ending.{SaysMemory, Shows}
 use Rattle.nt_hangs.specs.Watching.{before_zero}

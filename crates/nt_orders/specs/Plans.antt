@@ -4,12 +4,12 @@ use Rattle.nt_calls.specs.State.{State}
 use Rattle.nt_look.specs.Orders.{Ask, Calls, Passes, Plan, asks}
 use Rattle.nt_lines.specs.Lines.{lines_of}
 use Rattle.nt_script.specs.Progress.{Progress, scope_of}
-use Rattle.nt_script.specs.Transcript.{FaultIn, IsLine}
-use Rattle.nt_script.specs.declared.fault.ScriptFault.{ScriptFault}
+use Rattle.nt_grammar.specs.Lines.{FaultIn, IsLine}
+use Rattle.nt_grammar.specs.declared.fault.ScriptFault.{ScriptFault}
 use Rattle.nt_script.specs.declared.fault.RunFault.{RunFault}
 use Rattle.nt_script.specs.declared.fault.RunFault.TheVariants.{Script, Read, Write, Memory}
-use Rattle.nt_script.specs.declared.parser.Statement.{Statement}
-use Rattle.nt_script.specs.declared.parser.Statement.TheVariants.{Blank, Create, Perform, Tick}
+use Rattle.nt_grammar.specs.declared.parser.Statement.{Statement}
+use Rattle.nt_grammar.specs.declared.parser.Statement.TheVariants.{Blank, Create, Perform, Tick}
 use Rattle.nt_hangs.specs.Watching.{Seen, Sees, unseen}
 use Rattle.nt_orders.specs.declared.fault.OrdersFault.{OrdersFault}
 use Rattle.nt_orders.specs.declared.fault.OrdersFault.TheVariants as orders

@@ -4,14 +4,14 @@ use Rattle.std.specs.declared.option.Option.{Option}
 use Rattle.std.specs.Prelude.{None, Some}
 use Rattle.nt_lines.specs.Lines.{lines_of}
 use Rattle.nt_script.specs.Progress.{AreCounted, Progress}
-use Rattle.nt_script.specs.declared.fault.LineFault.{LineFault}
-use Rattle.nt_script.specs.declared.fault.LineFault.TheVariants as line
+use Rattle.nt_grammar.specs.declared.fault.LineFault.{LineFault}
+use Rattle.nt_grammar.specs.declared.fault.LineFault.TheVariants as line
 use Rattle.nt_script.specs.declared.fault.RunFault.{RunFault}
 use Rattle.nt_script.specs.declared.fault.RunFault.TheVariants.{Script, Memory}
 use Rattle.nt_hangs.specs.Steps.{HasFault}
 use Rattle.nt_hangs.specs.Watching.{Seen, unseen}
-use Rattle.nt_script.specs.Transcript.{IsLine}
-use Rattle.nt_script.specs.declared.parser.Statement.{Statement}
+use Rattle.nt_grammar.specs.Lines.{IsLine}
+use Rattle.nt_grammar.specs.declared.parser.Statement.{Statement}
 use Rattle.nt_look.specs.Orders.{Plan}
 use Rattle.nt_explore.specs.Search.{asked}
 use Rattle.nt_explore.specs.declared.plan.Ask.{Ask}

@@ -5,9 +5,10 @@ ghost use Rattle.nt_hangs.specs.Watching.{seen_of, unseen};
 ghost use Rattle.nt_orders.specs.Plans.{is_of_head, IsHeadFault, ReadsHead};
 ghost use Rattle.nt_orders.specs.Reading.{IsEnd, IsFaultAt};
 
+use nt_grammar::{LineFault, ScriptFault, Statement};
 use nt_hangs::{Watch, first_line};
 use nt_lines::MAX_LINE;
-use nt_script::{LineFault, RunFault, ScriptFault, Statement};
+use nt_script::RunFault;
 use std::alloc::Global;
 
 /// Why the line with this number can't be carried out.

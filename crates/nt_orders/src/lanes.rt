@@ -3,11 +3,11 @@ ghost use Rattle.std.specs.Prelude.{◌≡◌, ◌⊎◌, ◌+◌, ◌^◌, ◌<
 ghost use Rattle.nt_core.specs.Dispatcher.{state};
 ghost use Rattle.nt_lines.specs.Lines.{lines_of};
 ghost use Rattle.nt_script.specs.Progress.{progress};
-ghost use Rattle.nt_script.specs.declared.parser.Statement.TheVariants as statement;
+ghost use Rattle.nt_grammar.specs.declared.parser.Statement.TheVariants as statement;
 ghost use Rattle.nt_hangs.specs.Watching.{seen_of};
 ghost use Rattle.nt_explore.specs.Search.{asked};
 ghost use Rattle.nt_script.specs.declared.fault.RunFault.TheVariants as run;
-ghost use Rattle.nt_script.specs.declared.fault.ScriptFault.TheVariants.{ThreadsExpected};
+ghost use Rattle.nt_grammar.specs.declared.fault.ScriptFault.TheVariants.{ThreadsExpected};
 ghost use Rattle.nt_orders.specs.declared.fault.OrdersFault.TheVariants as orders;
 ghost use Rattle.nt_orders.specs.Ending.{IsFirstFault};
 ghost use Rattle.nt_orders.specs.Plans.{IsPlanOf, ReadsLanes, StopsInLanes, with_ask};
@@ -17,9 +17,10 @@ use crate::fault::OrdersFault;
 use crate::head::{fault_at, see_head};
 use nt_calls::Call;
 use nt_explore::{Ask, Plan};
+use nt_grammar::{LineFault, ScriptFault, Statement};
 use nt_hangs::{Watch, first_line};
 use nt_lines::{MAX_LINE, first_word, text_of};
-use nt_script::{LineFault, RunFault, ScriptFault, Session, Statement};
+use nt_script::{RunFault, Session};
 use std::alloc::{AllocError, Global};
 
 /// A line of a lane.

@@ -1,13 +1,12 @@
 -- A thread's mutexes are abandoned and marked, one after another.
-use Rattle.std.proofs.Common.{◌≡◌, ◌≢◌, ◌<◌, ◌⊎◌, ℕ, set, zero, suc, false, List, [], ◌∷◌, length, map, Option, refl, sym, ap, ◌∙◌, subst, inl, inr, arith, Some, None, Contains}
+use Rattle.std.proofs.Common.{◌≡◌, ◌≢◌, ◌<◌, ◌⊎◌, ℕ, set, zero, suc, false, List, [], ◌∷◌, length, map, Bool, true, refl, sym, ap, ◌∙◌, subst, inl, inr, arith, Some, None, Contains}
 use Rattle.std.specs.Prelude.{◌↔◌, IsTrue}
 use Rattle.std.proofs.lemmas.Bool.{cases_eq}
 use Rattle.std.proofs.lemmas.List.{length-set, length-map, get_or-set_same, get_or-set_other}
 use Rattle.nt_objects.specs.declared.object.Object.{Object}
 use Rattle.nt_objects.specs.declared.object.Object.TheVariants.{Event, Semaphore, Mutex, Timer, Thread, Gone}
 use Rattle.nt_objects.specs.Object.{owned_by, abandoned_by}
-use Rattle.nt_alarms.specs.Alarms.{alarm_at}
-use Rattle.nt_alarms.specs.Marks.{AddsMarks}
+use Rattle.nt_marks.specs.Marks.{is_marked, AddsMarks}
 use Rattle.nt_status.proofs.Lists.{contains_none}
 use Rattle.nt_owners.specs.Owned.{list_of}
 use Rattle.nt_owners.specs.Objects.{object_at, OwnersAgree}
@@ -21,11 +20,11 @@ abbrev pub Owns : List Object → ℕ → ℕ → Type 0
 Owns objects t m = IsTrue (owned_by (object_at objects m) t)
 
 -- those that it owned and owns no more have a mark, besides those that were marked at first
-pub record MarkedSoFar (old now : List Object) (t : ℕ) (start marks : List (Option ℕ)) : Type 0 where
+pub record MarkedSoFar (old now : List Object) (t : ℕ) (start marks : List Bool) : Type 0 where
   pub count : length marks ≡ length start
-  pub exactly : (m : ℕ) → ((alarm_at marks m ≡ Some 0) ⊎ Owns now t m) ↔ ((alarm_at start m ≡ Some 0) ⊎ Owns old t m)
+  pub exactly : (m : ℕ) → ((is_marked marks m ≡ true) ⊎ Owns now t m) ↔ ((is_marked start m ≡ true) ⊎ Owns old t m)
 
-pub none_marked : (objects : List Object) (t : ℕ) (start : List (Option ℕ)) → MarkedSoFar objects objects t start start
+pub none_marked : (objects : List Object) (t : ℕ) (start : List Bool) → MarkedSoFar objects objects t start start
 none_marked objects t start = record { count = refl; exactly = λ m. (λ has. has, λ has. has) }
 
 abbrev pub abandoned_at : List Object → ℕ → ℕ → List Object
@@ -34,24 +33,24 @@ abandoned_at objects t m = set objects m (abandoned_by t (object_at objects m))
 owns_elsewhere : (objects : List Object) (t m k : ℕ) → k ≢ m → object_at (abandoned_at objects t m) k ≡ object_at objects k
 owns_elsewhere objects t m k differs = get_or-set_other objects m k (abandoned_by t (object_at objects m)) (Thread false) differs
 
-pub one_marked : (old now : List Object) (t m : ℕ) (start marks : List (Option ℕ)) → MarkedSoFar old now t start marks → Owns now t m → m < length marks → MarkedSoFar old (abandoned_at now t m) t start (set marks m (Some 0))
+pub one_marked : (old now : List Object) (t m : ℕ) (start marks : List Bool) → MarkedSoFar old now t start marks → Owns now t m → m < length marks → MarkedSoFar old (abandoned_at now t m) t start (set marks m true)
 one_marked old now t m start marks so_far owns below = record {
-  count = length-set marks m (Some 0) ∙ so_far.count;
+  count = length-set marks m true ∙ so_far.count;
   exactly = λ k. ((λ has. (so_far.exactly k).0 (before k has (cases_eq k m))), λ was. after k was (cases_eq k m));
 }
   where
     owned_before : (k : ℕ) → k ≢ m → Owns (abandoned_at now t m) t k → Owns now t k
     owned_before k differs still = subst (λ (o : Object). IsTrue (owned_by o t)) (owns_elsewhere now t m k differs) still
 
-    before : (k : ℕ) → (alarm_at (set marks m (Some 0)) k ≡ Some 0) ⊎ Owns (abandoned_at now t m) t k → (k ≡ m) ⊎ (k ≢ m) → (alarm_at marks k ≡ Some 0) ⊎ Owns now t k
+    before : (k : ℕ) → (is_marked (set marks m true) k ≡ true) ⊎ Owns (abandoned_at now t m) t k → (k ≡ m) ⊎ (k ≢ m) → (is_marked marks k ≡ true) ⊎ Owns now t k
     before k has (inl same) = inr (subst (λ (n : ℕ). Owns now t n) (sym same) owns)
-    before k (inl mark) (inr differs) = inl (sym (get_or-set_other marks m k (Some 0) None differs) ∙ mark)
+    before k (inl mark) (inr differs) = inl (sym (get_or-set_other marks m k true false differs) ∙ mark)
     before k (inr still) (inr differs) = inr (owned_before k differs still)
 
-    after : (k : ℕ) → (alarm_at start k ≡ Some 0) ⊎ Owns old t k → (k ≡ m) ⊎ (k ≢ m) → (alarm_at (set marks m (Some 0)) k ≡ Some 0) ⊎ Owns (abandoned_at now t m) t k
-    after k was (inl same) = inl (ap (λ (n : ℕ). alarm_at (set marks m (Some 0)) n) same ∙ get_or-set_same marks m (Some 0) None below)
+    after : (k : ℕ) → (is_marked start k ≡ true) ⊎ Owns old t k → (k ≡ m) ⊎ (k ≢ m) → (is_marked (set marks m true) k ≡ true) ⊎ Owns (abandoned_at now t m) t k
+    after k was (inl same) = inl (ap (λ (n : ℕ). is_marked (set marks m true) n) same ∙ get_or-set_same marks m true false below)
     after k was (inr differs) = elim ((so_far.exactly k).1 was) [
-      | inl mark ↦ inl (get_or-set_other marks m k (Some 0) None differs ∙ mark)
+      | inl mark ↦ inl (get_or-set_other marks m k true false differs ∙ mark)
       | inr owned ↦ inr (subst (λ (o : Object). IsTrue (owned_by o t)) (sym (owns_elsewhere now t m k differs)) owned)
     ]
 
@@ -64,7 +63,7 @@ owned_there old now t m all owns =
     let b = length-map old (abandoned_by t) in
     omega (arith, below, same, a, b)
 
-pub all_marked : (old now : List Object) (t : ℕ) (start marks : List (Option ℕ)) → MarkedSoFar old now t start marks → ((m : ℕ) → Owns now t m → ⊥) → AddsMarks (λ m. IsTrue (owned_by (object_at old m) t)) start marks
+pub all_marked : (old now : List Object) (t : ℕ) (start marks : List Bool) → MarkedSoFar old now t start marks → ((m : ℕ) → Owns now t m → ⊥) → AddsMarks (λ m. IsTrue (owned_by (object_at old m) t)) start marks
 all_marked old now t start marks so_far none = record {
   count = so_far.count;
   exactly = λ m. (

@@ -7,12 +7,12 @@ ghost use Rattle.std.specs.Result.{result_err};
 ghost use Rattle.nt_objects.specs.Object.{is_event, is_semaphore, is_mutex, count_of, owner_of, owned_by, abandoned_by};
 ghost use Rattle.nt_objects.specs.Object.{signaled, taken, has_room, TellsAbandoned};
 ghost use Rattle.nt_objects.specs.Object.{with_set, released, release_refusal, unlocked, TellsOwner};
-ghost use Rattle.nt_alarms.specs.Marks.{AddsMarks};
+ghost use Rattle.nt_marks.specs.Marks.{AddsMarks};
 ghost use Rattle.nt_owners.specs.Owned.{list_of, IsUnowned};
 ghost use Rattle.nt_owners.specs.Objects.{object_at, OwnersAgree, IsPassed};
 
 use crate::owners::Owners;
-use nt_alarms::Marks;
+use nt_marks::Marks;
 use nt_objects::{Armed, Object, Released, Routine, Taken};
 use nt_status::{ObjectNumber, Refusal, ThreadId};
 use std::alloc::{AllocError, Global};

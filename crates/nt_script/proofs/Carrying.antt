@@ -6,7 +6,7 @@ use Rattle.nt_calls.specs.State.{opening}
 use Rattle.nt_calls.specs.Runs.{Turn, Turns}
 use Rattle.nt_core.proofs.Runs.{turns-append}
 use Rattle.nt_script.specs.declared.tally.Tally.{Tally}
-use Rattle.nt_script.specs.Scope.{Scope}
+use Rattle.nt_grammar.specs.Scope.{Scope}
 use Rattle.nt_script.specs.Transcript.{Transcript, LineGives}
 use Rattle.nt_script.specs.Progress.{Progress, Goes, Ran, Advances, CarriedOut, scope_of, tally_of, add_tally, is_refused, granted_by}
 

@@ -7,10 +7,12 @@ use Rattle.nt_calls.specs.declared.call.Reply.{Reply}
 use Rattle.nt_calls.specs.declared.call.Grant.{Grant}
 use Rattle.nt_calls.specs.Steps.{Called, Ticked}
 use Rattle.nt_calls.specs.Runs.{Calls, Ticks}
-use Rattle.nt_script.specs.declared.parser.Statement.TheVariants.{Blank, Create, Perform, Tick}
-use Rattle.nt_script.specs.Scope.{Scope}
+use Rattle.nt_grammar.specs.declared.parser.Statement.TheVariants.{Blank, Create, Perform, Tick}
+use Rattle.nt_grammar.specs.Scope.{Scope}
 use Rattle.nt_script.specs.declared.tally.Tally.{Tally}
-use Rattle.nt_script.specs.Transcript.{turn_text, binds, handle_of, IsLine}
+use Rattle.nt_script.specs.Transcript.{turn_text, binds}
+use Rattle.nt_grammar.specs.Naming.{handle_of}
+use Rattle.nt_grammar.specs.Lines.{IsLine}
 use Rattle.nt_script.specs.Progress.{Progress, Advances, IsCounted, add_tally, tally_of}
 
 binds-threads : (name : List ℕ) (handle : Option ℕ) (scope : Scope) → (binds name handle scope).threads ≡ scope.threads

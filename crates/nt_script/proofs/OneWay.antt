@@ -10,15 +10,17 @@ use Rattle.nt_calls.specs.State.{State, opening}
 use Rattle.nt_calls.specs.Runs.{Turn, Calls, Ticks, Turns, Run}
 use Rattle.nt_laws.specs.Laws.{RunsOneWay, AsksCall, wants_memory, question}
 use Rattle.nt_lines.specs.Lines.{lines_of}
-use Rattle.nt_script.specs.Scope.{Scope}
-use Rattle.nt_script.specs.Transcript.{Transcript, LineGives, IsCarriedOut, opened_scope, turn_text, binds, handle_of, end_text}
+use Rattle.nt_grammar.specs.Scope.{Scope}
+use Rattle.nt_script.specs.Transcript.{Transcript, LineGives, IsCarriedOut, turn_text, binds, end_text}
+use Rattle.nt_grammar.specs.Lines.{opened_scope}
+use Rattle.nt_grammar.specs.Naming.{handle_of}
 use Rattle.nt_script.specs.Progress.{Progress}
 use Rattle.nt_script.specs.Running.{end_of, summary_of}
 use Rattle.nt_script.specs.Laws.{is_want, HadMemory, OutputIsAFunctionOfTheInput}
-use Rattle.nt_script.specs.declared.parser.Statement.{Statement}
-use Rattle.nt_script.specs.declared.parser.Statement.TheVariants.{Blank, Create, Perform, Tick}
+use Rattle.nt_grammar.specs.declared.parser.Statement.{Statement}
+use Rattle.nt_grammar.specs.declared.parser.Statement.TheVariants.{Blank, Create, Perform, Tick}
 use Rattle.nt_core.proofs.Runs.{turns-append}
-use Rattle.nt_script.proofs.Recognizing.{one_statement, one_opening, blank_opens_none}
+use Rattle.nt_grammar.proofs.Recognizing.{one_statement, one_opening, blank_opens_none}
 
 abbrev Texts : Type 0
 Texts = List (List ℕ)

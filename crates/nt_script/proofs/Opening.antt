@@ -7,8 +7,8 @@ use Rattle.nt_calls.specs.State.{State}
 use Rattle.nt_calls.specs.Runs.{Turn}
 use Rattle.nt_script.specs.declared.session.Session.{Session}
 use Rattle.nt_script.specs.declared.tally.Tally.{Tally}
-use Rattle.nt_script.specs.declared.fault.LineFault.{LineFault}
-use Rattle.nt_script.specs.declared.fault.LineFault.TheVariants.{Memory, Script}
+use Rattle.nt_grammar.specs.declared.fault.LineFault.{LineFault}
+use Rattle.nt_grammar.specs.declared.fault.LineFault.TheVariants.{Memory, Script}
 use Rattle.nt_script.specs.Progress.{Progress, IsFresh, IsCounted, AreCounted, Advances, LineAnswers, Opens, progress, progress_of}
 
 fresh_counted : (number : ℕ) (now : Progress) → IsFresh now → IsCounted (number + 1) now

@@ -7,11 +7,11 @@ use Rattle.std.proofs.lemmas.Bool.{lt-leb}
 use Rattle.std.proofs.KnownBytes.{Consumes-trans, Appends-trans, Appends-nil, Appends-kept, Consumes-kept, prepend_known-nil}
 use Rattle.nt_lines.specs.Lines.{is_feed, HasNoFeed, lines_of, without_empty_last, to_come}
 use Rattle.nt_calls.specs.Runs.{Turn}
-use Rattle.nt_script.specs.Transcript.{FaultIn}
+use Rattle.nt_grammar.specs.Lines.{FaultIn}
 use Rattle.nt_script.specs.Progress.{Progress, Advances, CarriedOut, scope_of, progress_of}
 use Rattle.nt_script.specs.Running.{Has, end_of, summary_at, Stops, FaultNext, AnyCause, ReadsPart, Breaks, Answers, with_feeds, TakesLine, FindsFault, FailsIn, TakesNext, NothingAhead, SoFar, Whole, Ends, WritesLine}
-use Rattle.nt_script.specs.declared.fault.ScriptFault.{ScriptFault}
-use Rattle.nt_script.specs.declared.fault.ScriptFault.TheVariants.{LineTooLong}
+use Rattle.nt_grammar.specs.declared.fault.ScriptFault.{ScriptFault}
+use Rattle.nt_grammar.specs.declared.fault.ScriptFault.TheVariants.{LineTooLong}
 use Rattle.nt_script.specs.declared.fault.RunFault.{RunFault}
 use Rattle.nt_script.specs.declared.fault.RunFault.TheVariants.{Script, Read, Write, Memory}
 use Rattle.nt_script.specs.declared.runner.Taken.TheVariants.{Line, LastLine, Nothing}

@@ -4,9 +4,6 @@ use Rattle.std.specs.Fmt.{decimal, digit_glyph}
 use Rattle.std.proofs.lemmas.Fmt.{length-decimal-le}
 use Rattle.nt_script.specs.Transcript.{hex_digits, or_none}
 
-pub length_most : (n : ℕ) → n < 2 ^ 64 → length (decimal n) ≤ 20
-length_most n h = length-decimal-le 20 n (omega arith) (omega arith) h
-
 pub hex_more : (old : List ℕ) (count n : ℕ) → 0 < count → (old ++ hex_digits (count - 1) (n / 16)) ++ digit_glyph true (n % 16) ∷ [] ≡ old ++ hex_digits count n
 hex_more old zero n h = absurd (omega arith)
 hex_more old (suc count) n h =

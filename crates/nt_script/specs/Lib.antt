@@ -1,15 +1,5 @@
-pub mod Plain
-pub mod Scope
-pub mod Naming
-pub mod Keywords
-pub mod Places
-pub mod Grammar
-pub mod Spelling
-pub mod Reading
 pub mod Transcript
 pub mod Progress
 pub mod Running
 pub mod Laws
 pub mod Message
-pub mod Written
-pub mod Writing

@@ -1,23 +1,9 @@
 -- The words of a run's faults.
 use Rattle.std.specs.Prelude.{ℕ, List, ◌++◌, codes}
 use Rattle.std.specs.Fmt.{decimal}
-use Rattle.nt_script.specs.declared.fault.ScriptFault.{ScriptFault}
-use Rattle.nt_script.specs.declared.fault.ScriptFault.TheVariants.{LineTooLong, BadByte, ThreadsExpected, UnknownWord, MissingWord, BadNumber, BadName, NameTaken, UnknownName, ExtraWord}
+use Rattle.nt_grammar.specs.Message.{fault_words}
 use Rattle.nt_script.specs.declared.fault.RunFault.{RunFault}
 use Rattle.nt_script.specs.declared.fault.RunFault.TheVariants.{Script, Read, Write, Memory}
-
--- the words of a script's fault
-abbrev pub fault_words : ScriptFault → List ℕ
-fault_words LineTooLong = codes "line too long"
-fault_words BadByte = codes "bad byte"
-fault_words ThreadsExpected = codes "threads expected"
-fault_words UnknownWord = codes "unknown word"
-fault_words MissingWord = codes "missing word"
-fault_words BadNumber = codes "bad number"
-fault_words BadName = codes "bad name"
-fault_words NameTaken = codes "name taken"
-fault_words UnknownName = codes "unknown name"
-fault_words ExtraWord = codes "extra word"
 
 -- the number of the line at which a run ended
 abbrev pub line_number : RunFault → ℕ

@@ -5,12 +5,13 @@ use Rattle.std.specs.FinMap.{len}
 use Rattle.nt_calls.specs.State.{State, opening}
 use Rattle.nt_core.specs.Dispatcher.{state}
 use Rattle.nt_calls.specs.Runs.{Turn, Turns, Calls, Ticks}
-use Rattle.nt_script.specs.declared.fault.LineFault.{LineFault}
-use Rattle.nt_script.specs.declared.fault.LineFault.TheVariants as fault
+use Rattle.nt_grammar.specs.declared.fault.LineFault.{LineFault}
+use Rattle.nt_grammar.specs.declared.fault.LineFault.TheVariants as fault
 use Rattle.nt_script.specs.declared.session.Session.{Session}
 use Rattle.nt_script.specs.declared.tally.Tally.{Tally}
-use Rattle.nt_script.specs.Scope.{Scope}
-use Rattle.nt_script.specs.Transcript.{Transcript, LineGives, FaultIn, IsBlankLine, IsOpeningLine, opened_scope}
+use Rattle.nt_grammar.specs.Scope.{Scope}
+use Rattle.nt_script.specs.Transcript.{Transcript, LineGives}
+use Rattle.nt_grammar.specs.Lines.{FaultIn, IsBlankLine, IsOpeningLine, opened_scope}
 
 -- after the `threads` line: what is bound, the machine's state, and what was counted
 pub record Progress : Type 0 where

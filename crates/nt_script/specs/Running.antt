@@ -7,10 +7,11 @@ use Rattle.nt_lines.specs.declared.input.TheConstants.{MAX_LINE}
 use Rattle.nt_devices.specs.Device.{AppendsPart, Reading, Writing, one_more}
 use Rattle.nt_lines.specs.Lines.{HasNoFeed, lines_of, to_come}
 use Rattle.nt_calls.specs.Runs.{Turn}
-use Rattle.nt_script.specs.Transcript.{FaultIn, end_text}
+use Rattle.nt_grammar.specs.Lines.{FaultIn}
+use Rattle.nt_script.specs.Transcript.{end_text}
 use Rattle.nt_script.specs.Progress.{Progress, progress_of, Advances, AreCounted, CarriedOut, scope_of, is_refused, granted_by}
-use Rattle.nt_script.specs.declared.fault.ScriptFault.{ScriptFault}
-use Rattle.nt_script.specs.declared.fault.ScriptFault.TheVariants.{LineTooLong, ThreadsExpected}
+use Rattle.nt_grammar.specs.declared.fault.ScriptFault.{ScriptFault}
+use Rattle.nt_grammar.specs.declared.fault.ScriptFault.TheVariants.{LineTooLong, ThreadsExpected}
 use Rattle.nt_script.specs.declared.fault.RunFault.{RunFault}
 use Rattle.nt_script.specs.declared.fault.RunFault.TheVariants.{Script, Read, Write, Memory}
 use Rattle.nt_script.specs.declared.runner.Runner.{Runner}

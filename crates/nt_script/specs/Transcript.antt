@@ -9,14 +9,11 @@ use Rattle.nt_calls.specs.declared.call.Reply.{Reply}
 use Rattle.nt_calls.specs.declared.call.Grant.{Grant}
 use Rattle.nt_calls.specs.State.{State, pends}
 use Rattle.nt_calls.specs.Runs.{Turn, Calls, Ticks}
-use Rattle.nt_script.specs.declared.fault.ScriptFault.{ScriptFault}
-use Rattle.nt_script.specs.declared.parser.Statement.{Statement}
-use Rattle.nt_script.specs.declared.parser.Statement.TheVariants.{Blank, Create, Perform, Tick}
-use Rattle.nt_script.specs.declared.fault.LineFault.{LineFault}
-use Rattle.nt_script.specs.declared.fault.LineFault.TheVariants as fault
-use Rattle.nt_lines.specs.Words.{words_of, text_of}
-use Rattle.nt_script.specs.Scope.{Scope}
-use Rattle.nt_script.specs.Grammar.{IsPlainLine, IsStatement, IsOpening, line_fault, words_fault, opening_fault}
+use Rattle.nt_grammar.specs.declared.parser.Statement.{Statement}
+use Rattle.nt_grammar.specs.declared.parser.Statement.TheVariants.{Blank, Create, Perform, Tick}
+use Rattle.nt_grammar.specs.Scope.{Scope}
+use Rattle.nt_grammar.specs.Naming.{handle_of}
+use Rattle.nt_grammar.specs.Lines.{opened_scope, IsLine, IsOpeningLine, IsBlankLine}
 
 -- ---- the text of a turn
 
@@ -75,11 +72,6 @@ end_text threads s = codes "end: pending" ++ or_none (waiting_text s threads) ++
 
 -- ---- one line
 
--- the handle that a creation answered
-abbrev pub handle_of : Result Reply Refusal → Option ℕ
-handle_of (Ok (Reply.Handle handle)) = Some handle
-handle_of _ = None
-
 -- a creation's name stands for the handle that it answered
 abbrev pub binds : List ℕ → Option ℕ → Scope → Scope
 binds name None scope = scope
@@ -105,44 +97,12 @@ IsCarriedOut line (Perform who call) scope turns text after =
 IsCarriedOut line (Tick moment) scope turns text after =
     (result : Result Reply Refusal) × (grants : List Grant) × Passes line moment result grants turns text × (after ≡ scope)
 
-abbrev pub opened_scope : ℕ → Scope
-opened_scope threads = record { threads = threads; names = [] }
-
--- The line is this statement.
-abbrev pub IsLine : Scope → Statement → List ℕ → Type 0
-IsLine scope statement bytes = IsPlainLine bytes × IsStatement scope statement (words_of (text_of bytes))
-
--- The line opens so many threads.
-abbrev pub IsOpeningLine : ℕ → List ℕ → Type 0
-IsOpeningLine threads bytes = IsPlainLine bytes × IsOpening threads (words_of (text_of bytes))
-
-abbrev pub IsBlankLine : List ℕ → Type 0
-IsBlankLine bytes = IsPlainLine bytes × (words_of (text_of bytes) ≡ [])
-
 -- This line is carried out by these turns, with this output. Before the `threads` line there is no scope.
 abbrev pub LineGives : ℕ → List ℕ → Option Scope → List Turn → List ℕ → Option Scope → Type 0
 LineGives line bytes None turns text None = IsBlankLine bytes × (turns ≡ []) × (text ≡ [])
 LineGives line bytes None turns text (Some after) = IsOpeningLine after.threads bytes × (turns ≡ []) × (text ≡ []) × (after ≡ opened_scope after.threads)
 LineGives line bytes (Some scope) turns text None = ⊥
 LineGives line bytes (Some scope) turns text (Some after) = (statement : Statement) × IsLine scope statement bytes × IsCarriedOut line statement scope turns text after
-
--- the first fault of a line
-abbrev pub FaultIn : Option Scope → List ℕ → ScriptFault → Type 0
-FaultIn None bytes fault = line_fault opening_fault bytes ≡ Some fault
-FaultIn (Some scope) bytes fault = line_fault (words_fault scope) bytes ≡ Some fault
-
--- A line before `threads` opens so many threads, or says nothing, or has this first fault.
-abbrev pub ReadsOpening : List ℕ → Result (Option ℕ) LineFault → Type 0
-ReadsOpening bytes (Ok None) = IsBlankLine bytes
-ReadsOpening bytes (Ok (Some threads)) = IsOpeningLine threads bytes
-ReadsOpening bytes (Err (fault.Script script)) = FaultIn None bytes script
-ReadsOpening bytes (Err fault.Memory) = Unit {0}
-
--- A line after `threads` is this statement, or has this first fault.
-abbrev pub ReadsStatement : Scope → List ℕ → Result Statement LineFault → Type 0
-ReadsStatement scope bytes (Ok statement) = IsLine scope statement bytes
-ReadsStatement scope bytes (Err (fault.Script script)) = FaultIn (Some scope) bytes script
-ReadsStatement scope bytes (Err fault.Memory) = Unit {0}
 
 -- ---- all lines
 

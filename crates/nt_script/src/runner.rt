@@ -5,10 +5,11 @@ ghost use Rattle.nt_lines.specs.declared.input.TheConstants.{MAX_LINE};
 ghost use Rattle.nt_script.specs.Progress.{AreCounted, progress_of};
 ghost use Rattle.nt_script.specs.Running.{Answers, CountsFailures, CountsFaults, NothingAhead, RunnerTakesNext, WritesLine, WritesOutput, Ends};
 
-use crate::fault::{LineFault, RunFault, ScriptFault};
+use crate::fault::RunFault;
 use crate::session::{Session, carry_out};
 use crate::summary::Summary;
 use nt_devices::{Sink, Source, WriteFailed, write_whole};
+use nt_grammar::{LineFault, ScriptFault};
 use nt_lines::{Ending, Input, MAX_LINE, ReadFault};
 use std::alloc::{AllocError, Global};
 

@@ -5,22 +5,22 @@ ghost use Rattle.std.specs.FinMap.{len};
 ghost use Rattle.nt_lines.specs.declared.input.TheConstants.{MAX_LINE};
 ghost use Rattle.nt_core.specs.Dispatcher.{state};
 ghost use Rattle.nt_calls.specs.Steps.{Called, Ticked};
-ghost use Rattle.nt_script.specs.Reading.{Gives, statement_of, opening_of};
-ghost use Rattle.nt_script.specs.Naming.{NamesFree};
-ghost use Rattle.nt_script.specs.Scope.{bound_in, handle_in, name_in};
+ghost use Rattle.nt_grammar.specs.Reading.{Gives, statement_of, opening_of};
+ghost use Rattle.nt_grammar.specs.Naming.{NamesFree};
+ghost use Rattle.nt_grammar.specs.Scope.{bound_in, handle_in, name_in};
 ghost use Rattle.std.specs.Option.{option_copied};
-ghost use Rattle.nt_script.specs.Transcript.{turn_text, handle_of, binds, ReadsOpening, ReadsStatement, opened_scope};
+ghost use Rattle.nt_script.specs.Transcript.{turn_text, binds};
+ghost use Rattle.nt_grammar.specs.Naming.{handle_of};
+ghost use Rattle.nt_grammar.specs.Lines.{ReadsOpening, ReadsStatement, opened_scope};
 ghost use Rattle.nt_script.specs.Progress.{Opens, AreCounted, LineAnswers, progress_of};
 
-use crate::fault::{LineFault, ScriptFault};
-use crate::parser::{Name, Statement, parse_opening, parse_statement};
-use crate::scope::Bindings;
 use crate::summary::Summary;
 use crate::tally::Tally;
-use crate::text::put_number;
 use crate::transcript::{MOST_BYTES, put_turn};
-use crate::words::{Words, plain_text};
 use nt_core::{Act, Call, Core, Reply};
+use nt_grammar::{
+    Bindings, LineFault, Name, Statement, handle_of, put_number, read_opening, read_statement,
+};
 use nt_lines::put;
 use nt_status::{Handle, MAX_THREADS, Moment, Refusal};
 use std::alloc::{AllocError, Global};
@@ -35,37 +35,6 @@ pub struct Session {
     pub(crate) core: Core,
     pub(crate) bindings: Bindings,
     pub(crate) tally: Tally,
-}
-
-/// The handle that a creation answered.
-pub(crate) fn handle_of(answer: &Result<Reply, Refusal>) -> Option<Handle>
-    ensures { result ≡ handle_of answer.now }
-{
-    match answer {
-        Ok(Reply::Handle(handle)) => Some(*handle),
-        _ => None,
-    }
-}
-
-/// Parses a line before `threads`, which tells the number of threads or says nothing.
-fn parse_opening_line(line: &[u8]) -> Result<Option<u32>, ScriptFault>
-    requires { length line.now ≤ MAX_LINE }
-    ensures exact { result ≡ opening_of line.now }
-    ensures range { IfOk result (λ threads. IfSome threads (λ n. (0 < n) × (n ≤ MAX_THREADS))) }
-{
-    parse_opening(Words::new(plain_text(line)?))
-}
-
-/// Reads a line before `threads`.
-fn read_opening(line: &[u8]) -> Result<Option<u32>, LineFault>
-    requires { length line.now ≤ MAX_LINE }
-    ensures reads { ReadsOpening line.now result }
-    ensures range { IfOk result (λ threads. IfSome threads (λ n. (0 < n) × (n ≤ MAX_THREADS))) }
-{
-    match parse_opening_line(line) {
-        Ok(threads) => Ok(threads),
-        Err(fault) => Err(LineFault::Script(fault)),
-    }
 }
 
 /// Carries out a line before `threads`. The core is opened by the `threads` line.
@@ -99,22 +68,13 @@ impl Session {
         }
     }
 
-    /// Parses a line after `threads`.
-    fn parse(&self, alloc: Global, line: &[u8]) -> Result<Statement, LineFault>
-        requires { length line.now ≤ MAX_LINE }
-        ensures { Gives (λ statement. statement) result (statement_of self.now.bindings.scope line.now) }
-    {
-        let words = Words::new(plain_text(line)?);
-        parse_statement(alloc, &self.bindings, words)
-    }
-
     /// What a line after `threads` says. Nothing is carried out.
     pub fn read(&self, alloc: Global, line: &[u8]) -> Result<Statement, LineFault>
         requires { length line.now ≤ MAX_LINE }
         ensures reads { ReadsStatement self.now.bindings.scope line.now result }
         ensures free { IfOk result (NamesFree self.now.bindings.scope) }
     {
-        self.parse(alloc, line)
+        read_statement(alloc, &self.bindings, line)
     }
 
     /// Makes room for a turn's text, and for a name.
@@ -336,6 +296,13 @@ impl Session {
         ensures { result.now ≡ self.now.core }
     {
         &self.core
+    }
+
+    /// What the lines so far bound.
+    pub fn bindings(&self) -> &Bindings
+        ensures { result.now ≡ self.now.bindings }
+    {
+        &self.bindings
     }
 
     /// How many names are bound.

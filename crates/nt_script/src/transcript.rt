@@ -3,9 +3,10 @@
 ghost use Rattle.std.specs.Prelude.{◌≡◌, ◌+◌, ◌*◌, ◌≤◌, ◌++◌, length, vec_len, vec_capacity, codes, decimal};
 ghost use Rattle.nt_script.specs.Transcript.{turn_text, moment_text, output_line, answer_text, grant_text, status_text, line_start};
 
-use crate::text::{put_hex, put_number, put_signed};
+use crate::text::put_hex;
 use nt_apc::Apc;
 use nt_core::{Grant, Reply};
+use nt_grammar::{put_number, put_signed};
 use nt_lines::put;
 use nt_status::{Refusal, Status};
 

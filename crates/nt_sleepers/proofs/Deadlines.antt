@@ -7,7 +7,7 @@ use Rattle.nt_alarms.specs.Alarms.{alarm_at}
 use Rattle.nt_waits.specs.declared.wait.Wait.{Wait}
 use Rattle.nt_calls.specs.declared.call.Grant.{Grant}
 use Rattle.nt_calls.specs.State.{State}
-use Rattle.nt_sleepers.specs.Sleepers.{IsBack, IsInTime, IsWatched, MeetsDeadlines, NoneUpTo, SleepsTo, SleepsUpTo, deadline_of, set_if, with_called, without_woken}
+use Rattle.nt_sleepers.specs.Sleepers.{IsBack, IsInTime, IsWatched, MeetsDeadlines, NoneUpTo, SleepsTo, SleepsUpTo, time_out_of, set_if, with_called, without_woken}
 use Rattle.nt_sleepers.proofs.Staying.{StayedOrBegan}
 
 -- what is put at a place stands there, or nothing does past the last
@@ -56,30 +56,30 @@ back_called (Some c) alarms t u back = back_set alarms c t u (Some 0) (λ same. 
 
 -- ---- a deadline is a pending wait's
 
-pending_of : (o : Option Wait) (u : ℕ) → deadline_of o ≡ Some u → (w : Wait) × (o ≡ Some w) × (w.deadline ≡ Some u)
+pending_of : (o : Option Wait) (u : ℕ) → time_out_of o ≡ Some u → (w : Wait) × (o ≡ Some w) × (w.deadline ≡ Some u)
 pending_of None u is = absurd (cc (is))
 pending_of (Some w) u is = (w, refl, is)
 
 -- ---- after a call or tick
 
-pub deadlines_after : (old new : State) (who : ℕ) (began : Bool) (gs : List Grant) (own called : Option ℕ) (alarms alarms' : List (Option ℕ)) → StayedOrBegan old who began new → (began ≡ true → own ≡ deadline_of (get new.waits who)) → MeetsDeadlines old alarms → alarms' ≡ with_called called (set_if began who own (without_woken gs alarms)) → MeetsDeadlines new alarms'
+pub deadlines_after : (old new : State) (who : ℕ) (began : Bool) (gs : List Grant) (own called : Option ℕ) (alarms alarms' : List (Option ℕ)) → StayedOrBegan old who began new → (began ≡ true → own ≡ time_out_of (get new.waits who)) → MeetsDeadlines old alarms → alarms' ≡ with_called called (set_if began who own (without_woken gs alarms)) → MeetsDeadlines new alarms'
 deadlines_after old new who began gs own called alarms alarms' stayed own-is meets alarms-are t u due =
     subst (λ (xs : List (Option ℕ)). IsBack xs t u) (sym alarms-are)
     (back_called called (set_if began who own (without_woken gs alarms)) t u
     (back_set_if began who own (without_woken gs alarms) t u
-    (λ both. inr (u, own-is both.0 ∙ ap (λ (k : ℕ). deadline_of (get new.waits k)) (sym both.1) ∙ due, omega arith))
+    (λ both. inr (u, own-is both.0 ∙ ap (λ (k : ℕ). time_out_of (get new.waits k)) (sym both.1) ∙ due, omega arith))
     (λ not. (let pending = pending_of (get new.waits t) u due in elim (stayed t pending.0 pending.1) [
       | inl both ↦ absurd (not (both.1, both.0))
-      | inr was ↦ back_woken gs alarms t u (meets t u (ap deadline_of was ∙ pending.2))
+      | inr was ↦ back_woken gs alarms t u (meets t u (ap time_out_of was ∙ pending.2))
     ]))))
 
 -- ---- a watcher more, and a sleeper less
 
-pub deadlines_watch : (s : State) (alarms alarms' : List (Option ℕ)) (t : ℕ) (moment : Option ℕ) → SleepsTo s (deadline_of (get s.waits t)) moment → MeetsDeadlines s alarms → alarms' ≡ slice_set alarms t moment → MeetsDeadlines s alarms'
+pub deadlines_watch : (s : State) (alarms alarms' : List (Option ℕ)) (t : ℕ) (moment : Option ℕ) → SleepsTo s (time_out_of (get s.waits t)) moment → MeetsDeadlines s alarms → alarms' ≡ slice_set alarms t moment → MeetsDeadlines s alarms'
 deadlines_watch s alarms alarms' t moment sleeps meets alarms-are o u due =
     subst (λ (xs : List (Option ℕ)). IsBack xs o u) (sym alarms-are)
     (back_set alarms t o u moment
-    (λ same. (let own = ap (λ (k : ℕ). deadline_of (get s.waits k)) (sym same) ∙ due in let pending = pending_of (get s.waits t) u own in elim sleeps [
+    (λ same. (let own = ap (λ (k : ℕ). time_out_of (get s.waits k)) (sym same) ∙ due in let pending = pending_of (get s.waits t) u own in elim sleeps [
       | inl is ↦ inr (u, is ∙ own, omega arith)
       | inr next ↦ (let soon = next.2.2 u (inr (t, pending.0, pending.1, pending.2)) in inr (next.0, next.1, soon))
     ]))

@@ -16,7 +16,7 @@ use Rattle.nt_calls.specs.declared.call.Call.{Call}
 use Rattle.nt_calls.specs.Steps.{IsNextMoment, NothingDue, Called, Ticked}
 use Rattle.nt_calls.specs.Moves.{Moves, pended, one_if, granted_to}
 use Rattle.nt_life.specs.Lasting.{IsUnchanged}
-use Rattle.nt_sleepers.specs.Sleepers.{Sleeping, Woke, Watches, TimeIsKept, CalledWaits, IsWatched, MeetsDeadlines, IsShortEnough, IsCalled, SleepsUpTo, NoneUpTo, OnlyWaiting, without_woken, set_if, with_called, settled, deadline_of, SleepsTo}
+use Rattle.nt_sleepers.specs.Sleepers.{Sleeping, Woke, Watches, TimeIsKept, CalledWaits, IsWatched, MeetsDeadlines, IsShortEnough, IsCalledToLook, SleepsUpTo, NoneUpTo, OnlyWaiting, without_woken, set_if, with_called, settled, time_out_of, SleepsTo}
 use Rattle.nt_sleepers.proofs.Staying.{StayedOrBegan}
 use Rattle.nt_sleepers.proofs.Deadlines.{deadlines_after, deadlines_watch, deadlines_stop, in_time, watched}
 use Rattle.nt_sleepers.proofs.Counts.{other_stands, woken_length, set_if_length, called_length, begun_waits, woken_waiting, set_waiting, set_if_waiting}
@@ -96,12 +96,12 @@ kept_first s count alarms watchers few all alarms-are watchers-are =
     subst (λ (xs : List (Option ℕ)). TimeIsKept s xs watchers) (sym alarms-are)
     (subst (λ (xs : List (Option ℕ)). TimeIsKept s (replicate count None) xs) (sym watchers-are) (kept_at_first s count few all))
 
-called_waiting : (s : State) (settled alarms watchers : List (Option ℕ)) (called : Option ℕ) → OnlyWaiting s watchers → IsCalled s settled watchers called → OnlyWaiting s alarms → OnlyWaiting s (with_called called alarms)
+called_waiting : (s : State) (settled alarms watchers : List (Option ℕ)) (called : Option ℕ) → OnlyWaiting s watchers → IsCalledToLook s settled watchers called → OnlyWaiting s alarms → OnlyWaiting s (with_called called alarms)
 called_waiting s settled alarms watchers None watching is before = before
 called_waiting s settled alarms watchers (Some t) watching is before = set_waiting s t (Some 0) alarms (watching t is.0 is.2) before
 
 -- after a call or tick; the caller's alarm is this where its wait began
-pub kept_after : (old new : State) (who : ℕ) (began : Bool) (gs : List Grant) (own called : Option ℕ) (alarms watchers alarms' watchers' : List (Option ℕ)) → Moves old who began gs new → StayedOrBegan old who began new → (began ≡ true → own ≡ deadline_of (map.get new.waits who)) → TimeIsKept old alarms watchers → alarms' ≡ with_called called (set_if began who own (without_woken gs alarms)) → watchers' ≡ without_woken gs watchers → IsCalled new (set_if began who own (without_woken gs alarms)) watchers' called → IsWatched new alarms' watchers' → TimeIsKept new alarms' watchers'
+pub kept_after : (old new : State) (who : ℕ) (began : Bool) (gs : List Grant) (own called : Option ℕ) (alarms watchers alarms' watchers' : List (Option ℕ)) → Moves old who began gs new → StayedOrBegan old who began new → (began ≡ true → own ≡ time_out_of (map.get new.waits who)) → TimeIsKept old alarms watchers → alarms' ≡ with_called called (set_if began who own (without_woken gs alarms)) → watchers' ≡ without_woken gs watchers → IsCalledToLook new (set_if began who own (without_woken gs alarms)) watchers' called → IsWatched new alarms' watchers' → TimeIsKept new alarms' watchers'
 kept_after old new who began gs own called alarms watchers alarms' watchers' moves stayed own-is kept alarms-are watchers-are is watched =
     let settled = set_if began who own (without_woken gs alarms) in
     let watching : OnlyWaiting new watchers' = subst (OnlyWaiting new) (sym watchers-are) (woken_waiting old new who began gs watchers moves kept.watching) in
@@ -120,7 +120,7 @@ kept_after old new who began gs own called alarms watchers alarms' watchers' mov
     }
 
 -- a watcher more
-pub kept_watch : (s : State) (alarms watchers alarms' watchers' : List (Option ℕ)) (t : ℕ) (moment : Option ℕ) → pends s t ≡ true → t < length alarms → TimeIsKept s alarms watchers → SleepsTo s (deadline_of (map.get s.waits t)) moment → alarms' ≡ slice_set alarms t moment → watchers' ≡ slice_set watchers t (Some 0) → IsShortEnough s (slice_set alarms t None) moment → TimeIsKept s alarms' watchers'
+pub kept_watch : (s : State) (alarms watchers alarms' watchers' : List (Option ℕ)) (t : ℕ) (moment : Option ℕ) → pends s t ≡ true → t < length alarms → TimeIsKept s alarms watchers → SleepsTo s (time_out_of (map.get s.waits t)) moment → alarms' ≡ slice_set alarms t moment → watchers' ≡ slice_set watchers t (Some 0) → IsShortEnough s (slice_set alarms t None) moment → TimeIsKept s alarms' watchers'
 kept_watch s alarms watchers alarms' watchers' t moment waits near kept sleeps alarms-are watchers-are short = record {
   few = (let as_many = ap length alarms-are ∙ length-set alarms t moment in let enough = kept.few in omega (arith, as_many, enough));
   places = ap length alarms-are ∙ length-set alarms t moment ∙ kept.places;
@@ -138,7 +138,7 @@ still_waiting : (s : State) (places : List (Option ℕ)) (t : ℕ) → OnlyWaiti
 still_waiting s places t before o m is = before o m (other_stands places t o m is).1
 
 -- a sleeper less
-pub kept_stop : (s : State) (alarms watchers alarms' watchers' : List (Option ℕ)) (t : ℕ) (called : Option ℕ) → TimeIsKept s alarms watchers → alarms' ≡ with_called called (slice_set alarms t None) → watchers' ≡ slice_set watchers t None → IsCalled s (slice_set alarms t None) watchers' called → IsWatched s alarms' watchers' → TimeIsKept s alarms' watchers'
+pub kept_stop : (s : State) (alarms watchers alarms' watchers' : List (Option ℕ)) (t : ℕ) (called : Option ℕ) → TimeIsKept s alarms watchers → alarms' ≡ with_called called (slice_set alarms t None) → watchers' ≡ slice_set watchers t None → IsCalledToLook s (slice_set alarms t None) watchers' called → IsWatched s alarms' watchers' → TimeIsKept s alarms' watchers'
 kept_stop s alarms watchers alarms' watchers' t called kept alarms-are watchers-are is watched =
     let watching : OnlyWaiting s watchers' = subst (OnlyWaiting s) (sym watchers-are) (still_waiting s watchers t kept.watching) in
     let as_many = ap length alarms-are ∙ called_length called (slice_set alarms t None) ∙ length-set alarms t None in
@@ -187,21 +187,21 @@ pub idle : (s : State) (gs : List Grant) (watchers : List (Option ℕ)) (called 
 idle s gs watchers called none few waiting waits = (no_grants gs (omega (arith, none, few)), idle_quiet s watchers none waiting, idle_called s called none waits)
 
 -- who is called watches, and so waits
-pub called_waits : (s : State) (settled watchers : List (Option ℕ)) (called : Option ℕ) → OnlyWaiting s watchers → IsCalled s settled watchers called → CalledWaits s called
+pub called_waits : (s : State) (settled watchers : List (Option ℕ)) (called : Option ℕ) → OnlyWaiting s watchers → IsCalledToLook s settled watchers called → CalledWaits s called
 called_waits s settled watchers None watching is = tt
 called_waits s settled watchers (Some t) watching is = watching t is.0 is.2
 
 -- no wait ended, and none began
 pub idle_alarms : (alarms : List (Option ℕ)) (who : ℕ) (began : Bool) (d : Dispatcher) → began ≡ false → d.grants ≡ [] → alarms ≡ settled alarms who began d
 idle_alarms alarms who began d not none =
-    sym (ap (λ (b : Bool). set_if b who (deadline_of (map.get (state d).waits who)) (without_woken d.grants alarms)) not ∙ ap (λ gs. without_woken gs alarms) none)
+    sym (ap (λ (b : Bool). set_if b who (time_out_of (map.get (state d).waits who)) (without_woken d.grants alarms)) not ∙ ap (λ gs. without_woken gs alarms) none)
 
 pub idle_watchers : (watchers : List (Option ℕ)) (gs : List Grant) → gs ≡ [] → watchers ≡ without_woken gs watchers
 idle_watchers watchers gs none = sym (ap (λ xs. without_woken xs watchers) none)
 
 -- ---- a refused call calls nobody
 
-not_called : (s : State) (alarms watchers : List (Option ℕ)) (called : Option ℕ) → IsWatched s alarms watchers → IsCalled s alarms watchers called → called ≡ None
+not_called : (s : State) (alarms watchers : List (Option ℕ)) (called : Option ℕ) → IsWatched s alarms watchers → IsCalledToLook s alarms watchers called → called ≡ None
 not_called s alarms watchers None in_time is = refl
 not_called s alarms watchers (Some t) in_time (mark, u, here, low, awaited, none) =
     elim (in_time u low awaited) [
@@ -210,29 +210,29 @@ not_called s alarms watchers (Some t) in_time (mark, u, here, low, awaited, none
     ]
 
 -- nothing has changed but that, and nobody is called
-nobody_called : (new : State) (who : ℕ) (began : Bool) (gs : List Grant) (own called : Option ℕ) (alarms watchers watchers' : List (Option ℕ)) → gs ≡ [] → began ≡ false → TimeIsKept new alarms watchers → watchers' ≡ without_woken gs watchers → IsCalled new (set_if began who own (without_woken gs alarms)) watchers' called → called ≡ None
+nobody_called : (new : State) (who : ℕ) (began : Bool) (gs : List Grant) (own called : Option ℕ) (alarms watchers watchers' : List (Option ℕ)) → gs ≡ [] → began ≡ false → TimeIsKept new alarms watchers → watchers' ≡ without_woken gs watchers → IsCalledToLook new (set_if began who own (without_woken gs alarms)) watchers' called → called ≡ None
 nobody_called new who began gs own called alarms watchers watchers' none not kept watchers-are is =
     let alarms-are : set_if began who own (without_woken gs alarms) ≡ alarms = ap (λ (b : Bool). set_if b who own (without_woken gs alarms)) not ∙ ap (λ xs. without_woken xs alarms) none in
     let as_before : watchers' ≡ watchers = watchers-are ∙ ap (λ xs. without_woken xs watchers) none in
     not_called new alarms watchers called (watched new alarms watchers kept.in_time)
-    (subst (λ (xs : List (Option ℕ)). IsCalled new alarms xs called) as_before
-    (subst (λ (xs : List (Option ℕ)). IsCalled new xs watchers' called) alarms-are is))
+    (subst (λ (xs : List (Option ℕ)). IsCalledToLook new alarms xs called) as_before
+    (subst (λ (xs : List (Option ℕ)). IsCalledToLook new xs watchers' called) alarms-are is))
 
 pub kept_same : (old new : State) (alarms watchers : List (Option ℕ)) → new ≡ old → TimeIsKept old alarms watchers → TimeIsKept new alarms watchers
 kept_same old new alarms watchers same kept = subst (λ (s : State). TimeIsKept s alarms watchers) (sym same) kept
 
-pub nobody_by_call : (old new : State) (who : ℕ) (call : Call) (result : Result Reply Refusal) (began : Bool) (gs : List Grant) (own called : Option ℕ) (alarms watchers watchers' : List (Option ℕ)) → Called old who call result gs new → began ≡ pended result → TimeIsKept old alarms watchers → watchers' ≡ without_woken gs watchers → IsCalled new (set_if began who own (without_woken gs alarms)) watchers' called → OnErr result (called ≡ None)
+pub nobody_by_call : (old new : State) (who : ℕ) (call : Call) (result : Result Reply Refusal) (began : Bool) (gs : List Grant) (own called : Option ℕ) (alarms watchers watchers' : List (Option ℕ)) → Called old who call result gs new → began ≡ pended result → TimeIsKept old alarms watchers → watchers' ≡ without_woken gs watchers → IsCalledToLook new (set_if began who own (without_woken gs alarms)) watchers' called → OnErr result (called ≡ None)
 nobody_by_call old new who call (Ok reply) began gs own called alarms watchers watchers' made b kept watchers-are is = tt
 nobody_by_call old new who call (Err r) began gs own called alarms watchers watchers' made b kept watchers-are is =
     nobody_called new who began gs own called alarms watchers watchers' made.1 b (kept_same old new alarms watchers made.2 kept) watchers-are is
 
 -- the same where numbers may be given again
-pub nobody_by_renewal : (old new : State) (who : ℕ) (result : Result Reply Refusal) (began : Bool) (gs : List Grant) (own called : Option ℕ) (alarms watchers watchers' : List (Option ℕ)) → IsUnchanged old result gs new → began ≡ pended result → TimeIsKept old alarms watchers → watchers' ≡ without_woken gs watchers → IsCalled new (set_if began who own (without_woken gs alarms)) watchers' called → OnErr result (called ≡ None)
+pub nobody_by_renewal : (old new : State) (who : ℕ) (result : Result Reply Refusal) (began : Bool) (gs : List Grant) (own called : Option ℕ) (alarms watchers watchers' : List (Option ℕ)) → IsUnchanged old result gs new → began ≡ pended result → TimeIsKept old alarms watchers → watchers' ≡ without_woken gs watchers → IsCalledToLook new (set_if began who own (without_woken gs alarms)) watchers' called → OnErr result (called ≡ None)
 nobody_by_renewal old new who (Ok reply) began gs own called alarms watchers watchers' made b kept watchers-are is = tt
 nobody_by_renewal old new who (Err r) began gs own called alarms watchers watchers' made b kept watchers-are is =
     nobody_called new who began gs own called alarms watchers watchers' made.0 b (kept_same old new alarms watchers made.1 kept) watchers-are is
 
-pub nobody_by_tick : (old new : State) (m : ℕ) (result : Result Reply Refusal) (gs : List Grant) (own called : Option ℕ) (alarms watchers watchers' : List (Option ℕ)) → Ticked old m result gs new → TimeIsKept old alarms watchers → watchers' ≡ without_woken gs watchers → IsCalled new (without_woken gs alarms) watchers' called → OnErr result (called ≡ None)
+pub nobody_by_tick : (old new : State) (m : ℕ) (result : Result Reply Refusal) (gs : List Grant) (own called : Option ℕ) (alarms watchers watchers' : List (Option ℕ)) → Ticked old m result gs new → TimeIsKept old alarms watchers → watchers' ≡ without_woken gs watchers → IsCalledToLook new (without_woken gs alarms) watchers' called → OnErr result (called ≡ None)
 nobody_by_tick old new m (Ok reply) gs own called alarms watchers watchers' ticked kept watchers-are is = tt
 nobody_by_tick old new m (Err r) gs own called alarms watchers watchers' ticked kept watchers-are is =
     nobody_called new 0 false gs own called alarms watchers watchers' ticked.2 refl (kept_same old new alarms watchers ticked.3 kept) watchers-are is
@@ -251,7 +251,7 @@ pub woke_still : (old new : Sleeping) (who : ℕ) (began : Bool) → began ≡ f
 woke_still old new who began not none alarms-are watchers-are nobody = record {
   alarms = alarms-are ∙ idle_alarms old.alarms who began new.core not none ∙ ap (λ (c : Option ℕ). with_called c (settled old.alarms who began new.core)) (sym nobody);
   watchers = watchers-are ∙ idle_watchers old.watchers new.core.grants none;
-  called = subst (λ (c : Option ℕ). IsCalled (state new.core) (settled old.alarms who began new.core) new.watchers c) (sym nobody) tt;
+  called = subst (λ (c : Option ℕ). IsCalledToLook (state new.core) (settled old.alarms who began new.core) new.watchers c) (sym nobody) tt;
 }
 
 -- a refused call has changed nothing
@@ -280,7 +280,7 @@ nobody_before old new who began gs (Some t) moves none left waits = (let not = n
 idle_back : (s : State) (alarms : List (Option ℕ)) → map.len s.waits ≡ 0 → MeetsDeadlines s alarms
 idle_back s alarms none t u due =
     let empty = ap (λ (p : Pending). map.get p t) (map.empty_of_len s.waits none) ∙ map.get-empty nat_cmp t in
-    let not = ap deadline_of empty in
+    let not = ap time_out_of empty in
     absurd (cc (not, due))
 
 -- no wait pends, and none has ended: so none pended

@@ -22,16 +22,16 @@ use Rattle.nt_core.specs.Renewals.{AddsVacant, CreatesAgain, DuplicatesAgain, Re
 use Rattle.nt_core.specs.SetAside.{is_movable, set_aside}
 use Rattle.nt_core.proofs.Changing.{reading_created, reading_set}
 use Rattle.nt_core.proofs.SettingAside.{MayMove, may_move, read_aside}
-use Rattle.nt_life.specs.Lasting.{Spares, AsideBeside, FindsNumber, MaySetAside, MovesAside, CreatesBeside, CreatesElse, LastsAct, LastsCreation, LastsDuplicate, MakesCall, MayBegin, is_ready, last_closed, last_unnamed}
+use Rattle.nt_life.specs.Lasting.{Spares, AsideBeside, FindsNumber, MaySetAside, MovesAside, CreatesBeside, CreatesElse, LastsAct, LastsCreation, LastsDuplicate, MakesCall, MayBegin, can_give_last, last_closed, last_unnamed}
 use Rattle.nt_life.specs.declared.begun.Begun.{Begun}
-use Rattle.nt_sleepers.specs.Sleepers.{TimeIsKept, deadline_of}
+use Rattle.nt_sleepers.specs.Sleepers.{TimeIsKept, time_out_of}
 use Rattle.nt_sleepers.proofs.Staying.{StayedOrBegan, call_stayed, same_stayed}
 
 -- ---- the same waits, and no object with a moment that had none
 
 keeps_time : (old new : State) (alarms watchers : List (Option ℕ)) → new.waits ≡ old.waits → new.threads ≡ old.threads → ((u : ℕ) → IsAwaited new u → IsAwaited old u) → TimeIsKept old alarms watchers → TimeIsKept new alarms watchers
 keeps_time old new alarms watchers waits threads fewer kept =
-    let due : (t : ℕ) → deadline_of (map.get old.waits t) ≡ deadline_of (map.get new.waits t) = λ t. ap (λ (p : Pending). deadline_of (map.get p t)) (sym waits) in
+    let due : (t : ℕ) → time_out_of (map.get old.waits t) ≡ time_out_of (map.get new.waits t) = λ t. ap (λ (p : Pending). time_out_of (map.get p t)) (sym waits) in
     record {
       few = kept.few;
       places = kept.places ∙ sym threads;
@@ -127,7 +127,7 @@ else_stayed old spare who act result gs new (inr (inl again)) = created_stayed o
 else_stayed old spare who act result gs new (inr (inr more)) = beside_stayed more.2.0 old more.2.1 (last_closed spare) who act result gs new more.2.2 more.2.3
 
 creation_stayed : (old : State) (spare : Spares) (who : ℕ) (act : Act) (result : Result Reply Refusal) (gs : List Grant) (new : State) → LastsCreation old spare who act result gs new → StayedOrBegan old who (pended result) new
-creation_stayed old spare who act result gs new lasts = go (is_ready old spare) lasts
+creation_stayed old spare who act result gs new lasts = go (can_give_last old spare) lasts
   where
     go : (b : Bool) → MatchBool b (CreatesAgain old who act (last_unnamed spare) (last_closed spare) result gs new) (CreatesElse old spare who act result gs new) → StayedOrBegan old who (pended result) new
     go true again = created_stayed old old who act (last_unnamed spare) (last_closed spare) result gs new refl again

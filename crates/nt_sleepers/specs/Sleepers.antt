@@ -35,9 +35,9 @@ abbrev pub IsWatched : State → List (Option ℕ) → List (Option ℕ) → Typ
 IsWatched s alarms watchers = (u : ℕ) → u ≤ MAX_MOMENT → IsAwaited s u → IsQuiet watchers ⊎ SleepsUpTo alarms u
 
 -- when a wait times out
-abbrev pub deadline_of : Option Wait → Option ℕ
-deadline_of None = None
-deadline_of (Some w) = w.deadline
+abbrev pub time_out_of : Option Wait → Option ℕ
+time_out_of None = None
+time_out_of (Some w) = w.deadline
 
 -- this thread sleeps by itself no longer than to this moment, or was stopped, and has no alarm
 abbrev pub IsBack : List (Option ℕ) → ℕ → ℕ → Type 0
@@ -45,14 +45,14 @@ IsBack alarms t u = (alarm_at alarms t ≡ None) ⊎ ((m : ℕ) × (alarm_at ala
 
 -- each thread whose wait times out is back by then
 abbrev pub MeetsDeadlines : State → List (Option ℕ) → Type 0
-MeetsDeadlines s alarms = (t u : ℕ) → deadline_of (get s.waits t) ≡ Some u → IsBack alarms t u
+MeetsDeadlines s alarms = (t u : ℕ) → time_out_of (get s.waits t) ≡ Some u → IsBack alarms t u
 
 -- whatever is awaited, some thread sleeps no longer than to that moment; or no thread watches, and only waits of threads that were stopped
 -- time out then. (No thread watches: of each whose wait pends it was said that no timer may end it, or nothing yet.)
 abbrev pub IsInTime : State → List (Option ℕ) → List (Option ℕ) → Type 0
 IsInTime s alarms watchers =
     (u : ℕ) → u ≤ MAX_MOMENT → IsAwaited s u →
-    SleepsUpTo alarms u ⊎ (IsQuiet watchers × ((t : ℕ) → deadline_of (get s.waits t) ≡ Some u → alarm_at alarms t ≡ None))
+    SleepsUpTo alarms u ⊎ (IsQuiet watchers × ((t : ℕ) → time_out_of (get s.waits t) ≡ Some u → alarm_at alarms t ≡ None))
 
 -- only threads whose waits pend have an alarm, or a mark
 abbrev pub OnlyWaiting : State → List (Option ℕ) → Type 0
@@ -91,20 +91,20 @@ with_called None alarms = alarms
 with_called (Some t) alarms = slice_set alarms t (Some 0)
 
 -- who is called watches, and something is awaited before any thread wakes by itself
-abbrev pub IsCalled : State → List (Option ℕ) → List (Option ℕ) → Option ℕ → Type 0
-IsCalled s alarms watchers None = Unit {0}
-IsCalled s alarms watchers (Some t) =
+abbrev pub IsCalledToLook : State → List (Option ℕ) → List (Option ℕ) → Option ℕ → Type 0
+IsCalledToLook s alarms watchers None = Unit {0}
+IsCalledToLook s alarms watchers (Some t) =
     (mark u : ℕ) × (alarm_at watchers t ≡ Some mark) × (u ≤ MAX_MOMENT) × IsAwaited s u × NoneUpTo alarms u
 
 -- the alarms before anybody is called: whom the grants woke no longer sleeps, and whose wait began sleeps to its deadline
 abbrev pub settled : List (Option ℕ) → ℕ → Bool → Dispatcher → List (Option ℕ)
-settled alarms who began new = set_if began who (deadline_of (get (state new).waits who)) (without_woken new.grants alarms)
+settled alarms who began new = set_if began who (time_out_of (get (state new).waits who)) (without_woken new.grants alarms)
 
 -- after a call of thread `who`, whose wait began or did not, or after a tick
 pub record Woke (old : Sleeping) (who : ℕ) (began : Bool) (new : Sleeping) : Type 0 where
   pub alarms : new.alarms ≡ with_called new.called (settled old.alarms who began new.core)
   pub watchers : new.watchers ≡ without_woken new.core.grants old.watchers
-  pub called : IsCalled (state new.core) (settled old.alarms who began new.core) new.watchers new.called
+  pub called : IsCalledToLook (state new.core) (settled old.alarms who began new.core) new.watchers new.called
 
 -- whom the last call or tick told: each wait that ended with its status, in their order, and then who is to look at the time
 abbrev pub told_of : List Grant → Option ℕ → List Told
@@ -127,17 +127,17 @@ pub record Watches (old : Sleeping) (t : ℕ) (moment : Option ℕ) (new : Sleep
   pub core : new.core ≡ old.core
   pub spare : new.spare ≡ old.spare
   pub called : new.called ≡ old.called
-  pub sleeps : SleepsTo (state old.core) (deadline_of (get (state old.core).waits t)) moment
+  pub sleeps : SleepsTo (state old.core) (time_out_of (get (state old.core).waits t)) moment
   pub alarms : new.alarms ≡ set_if (pends (state old.core) t) t moment old.alarms
   pub watchers : new.watchers ≡ set_if (pends (state old.core) t) t (Some 0) old.watchers
 
 -- thread t sleeps and watches no more, though its wait may pend, and a watcher may be called in its place
-pub record Stops (old : Sleeping) (t : ℕ) (new : Sleeping) : Type 0 where
+pub record StopsSleeping (old : Sleeping) (t : ℕ) (new : Sleeping) : Type 0 where
   pub core : new.core ≡ old.core
   pub spare : new.spare ≡ old.spare
   pub alarms : new.alarms ≡ with_called new.called (slice_set old.alarms t None)
   pub watchers : new.watchers ≡ slice_set old.watchers t None
-  pub called : IsCalled (state old.core) (slice_set old.alarms t None) new.watchers new.called
+  pub called : IsCalledToLook (state old.core) (slice_set old.alarms t None) new.watchers new.called
 
 -- ---- a thread that begins
 

@@ -5,7 +5,7 @@ ghost use Rattle.nt_status.specs.declared.limits.TheConstants.{MAX_MANY_THREADS}
 ghost use Rattle.nt_alarms.specs.Alarms.{IsQuiet};
 ghost use Rattle.nt_calls.specs.State.{pends};
 ghost use Rattle.nt_core.specs.Dispatcher.{state};
-ghost use Rattle.nt_sleepers.specs.Sleepers.{IsCalled, IsShortEnough, IsWatched, NoneUpTo, SleepsTo, SleepsUpTo, TimeIsKept, deadline_of, set_if, settled, with_called, without_woken};
+ghost use Rattle.nt_sleepers.specs.Sleepers.{IsCalledToLook, IsShortEnough, IsWatched, NoneUpTo, SleepsTo, SleepsUpTo, TimeIsKept, time_out_of, set_if, settled, with_called, without_woken};
 
 use nt_alarms::Alarms;
 use nt_core::{Core, Grant};
@@ -45,14 +45,14 @@ fn clear_all(places: &mut Alarms, grants: &[Grant])
 
 /// When the pending wait of this thread times out.
 fn deadline(core: &Core, who: u32) -> Option<u64>
-    ensures { result ≡ deadline_of (map.get (state core.now).waits who) }
+    ensures { result ≡ time_out_of (map.get (state core.now).waits who) }
 {
     core.waits_for(who)?.deadline
 }
 
 /// Whose wait began sleeps to its deadline.
 fn begin(core: &Core, alarms: &mut Alarms, who: u32, began: bool)
-    ensures { alarms.new ≡ set_if began who (deadline_of (map.get (state core.now).waits who)) alarms.old }
+    ensures { alarms.new ≡ set_if began who (time_out_of (map.get (state core.now).waits who)) alarms.old }
 {
     if began {
         put(alarms, who as usize, deadline(core, who));
@@ -77,7 +77,7 @@ fn call_one(core: &Core, alarms: &mut Alarms, watchers: &Alarms) -> Option<u32>
     requires few { length alarms.old ≤ MAX_MANY_THREADS }
     ensures in_time { IsWatched (state core.now) alarms.new watchers.now }
     ensures alarms { alarms.new ≡ with_called result alarms.old }
-    ensures called { IsCalled (state core.now) alarms.old watchers.now result }
+    ensures called { IsCalledToLook (state core.now) alarms.old watchers.now result }
 {
     let mark = watchers.earliest()?;
     let due = core.due(Moment::new(MAX_MOMENT)?)?;
@@ -112,7 +112,7 @@ fn settle_each(
     ensures in_time { IsWatched (state core.now) alarms.new watchers.new }
     ensures alarms { alarms.new ≡ with_called result (settled alarms.old who began core.now) }
     ensures watchers { watchers.new ≡ without_woken core.now.grants watchers.old }
-    ensures called { IsCalled (state core.now) (settled alarms.old who began core.now) watchers.new result }
+    ensures called { IsCalledToLook (state core.now) (settled alarms.old who began core.now) watchers.new result }
 {
     clear_all(alarms, core.grants());
     clear_all(watchers, core.grants());
@@ -134,7 +134,7 @@ pub(crate) fn settle_all(
     ensures in_time { IsWatched (state core.now) alarms.new watchers.new }
     ensures alarms { alarms.new ≡ with_called result (settled alarms.old who began core.now) }
     ensures watchers { watchers.new ≡ without_woken core.now.grants watchers.old }
-    ensures called { IsCalled (state core.now) (settled alarms.old who began core.now) watchers.new result }
+    ensures called { IsCalledToLook (state core.now) (settled alarms.old who began core.now) watchers.new result }
 {
     if is_quiet(core, watchers, began) {
         return None;
@@ -159,7 +159,7 @@ pub(crate) fn settle(
     ensures in_time { IsWatched (state core.now) alarms.new watchers.new }
     ensures alarms { alarms.new ≡ with_called called.new (settled alarms.old who began core.now) }
     ensures watchers { watchers.new ≡ without_woken core.now.grants watchers.old }
-    ensures called { IsCalled (state core.now) (settled alarms.old who began core.now) watchers.new called.new }
+    ensures called { IsCalledToLook (state core.now) (settled alarms.old who began core.now) watchers.new called.new }
 {
     if was_idle {
         if !began {
@@ -196,7 +196,7 @@ pub(crate) fn watch(
 ) -> Option<u64>
     requires kept { TimeIsKept (state core.now) alarms.old watchers.old }
     ensures kept { TimeIsKept (state core.now) alarms.new watchers.new }
-    ensures sleeps { SleepsTo (state core.now) (deadline_of (map.get (state core.now).waits who)) result }
+    ensures sleeps { SleepsTo (state core.now) (time_out_of (map.get (state core.now).waits who)) result }
     ensures alarms { alarms.new ≡ set_if (pends (state core.now) who) who result alarms.old }
     ensures watchers { watchers.new ≡ set_if (pends (state core.now) who) who (Some 0) watchers.old }
 {
@@ -219,7 +219,7 @@ pub(crate) fn stop(core: &Core, alarms: &mut Alarms, watchers: &mut Alarms, who:
     ensures kept { TimeIsKept (state core.now) alarms.new watchers.new }
     ensures alarms { alarms.new ≡ with_called result (slice_set alarms.old who None) }
     ensures watchers { watchers.new ≡ slice_set watchers.old who None }
-    ensures called { IsCalled (state core.now) (slice_set alarms.old who None) watchers.new result }
+    ensures called { IsCalledToLook (state core.now) (slice_set alarms.old who None) watchers.new result }
 {
     clear(alarms, who as usize);
     clear(watchers, who as usize);

@@ -5,7 +5,7 @@ ghost use Rattle.nt_status.specs.declared.limits.TheConstants.{MAX_MANY_THREADS}
 ghost use Rattle.nt_alarms.specs.Alarms.{IsQuiet};
 ghost use Rattle.nt_calls.specs.State.{pends};
 ghost use Rattle.nt_core.specs.Dispatcher.{state};
-ghost use Rattle.nt_sleepers.specs.Sleepers.{IsCalled, IsWatched, SleepsTo, TimeIsKept, deadline_of, set_if, settled, with_called, without_woken};
+ghost use Rattle.nt_sleepers.specs.Sleepers.{IsCalledToLook, IsWatched, SleepsTo, TimeIsKept, time_out_of, set_if, settled, with_called, without_woken};
 
 use crate::keeping;
 use nt_alarms::Alarms;
@@ -42,7 +42,7 @@ pub(crate) fn settle_all(
     ensures in_time { IsWatched (state life.now.core) alarms.new watchers.new }
     ensures alarms { alarms.new ≡ with_called result (settled alarms.old who began life.now.core) }
     ensures watchers { watchers.new ≡ without_woken life.now.core.grants watchers.old }
-    ensures called { IsCalled (state life.now.core) (settled alarms.old who began life.now.core) watchers.new result }
+    ensures called { IsCalledToLook (state life.now.core) (settled alarms.old who began life.now.core) watchers.new result }
 {
     keeping::settle_all(life.core(), alarms, watchers, who, began)
 }
@@ -64,7 +64,7 @@ pub(crate) fn settle(
     ensures in_time { IsWatched (state life.now.core) alarms.new watchers.new }
     ensures alarms { alarms.new ≡ with_called called.new (settled alarms.old who began life.now.core) }
     ensures watchers { watchers.new ≡ without_woken life.now.core.grants watchers.old }
-    ensures called { IsCalled (state life.now.core) (settled alarms.old who began life.now.core) watchers.new called.new }
+    ensures called { IsCalledToLook (state life.now.core) (settled alarms.old who began life.now.core) watchers.new called.new }
 {
     keeping::settle(life.core(), alarms, watchers, called, who, began, was_idle);
 }
@@ -78,7 +78,7 @@ pub(crate) fn watch(
 ) -> Option<u64>
     requires kept { TimeIsKept (state life.now.core) alarms.old watchers.old }
     ensures kept { TimeIsKept (state life.now.core) alarms.new watchers.new }
-    ensures sleeps { SleepsTo (state life.now.core) (deadline_of (map.get (state life.now.core).waits who)) result }
+    ensures sleeps { SleepsTo (state life.now.core) (time_out_of (map.get (state life.now.core).waits who)) result }
     ensures alarms { alarms.new ≡ set_if (pends (state life.now.core) who) who result alarms.old }
     ensures watchers { watchers.new ≡ set_if (pends (state life.now.core) who) who (Some 0) watchers.old }
 {
@@ -96,7 +96,7 @@ pub(crate) fn stop(
     ensures kept { TimeIsKept (state life.now.core) alarms.new watchers.new }
     ensures alarms { alarms.new ≡ with_called result (slice_set alarms.old who None) }
     ensures watchers { watchers.new ≡ slice_set watchers.old who None }
-    ensures called { IsCalled (state life.now.core) (slice_set alarms.old who None) watchers.new result }
+    ensures called { IsCalledToLook (state life.now.core) (slice_set alarms.old who None) watchers.new result }
 {
     keeping::stop(life.core(), alarms, watchers, who)
 }

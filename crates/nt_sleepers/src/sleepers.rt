@@ -1,19 +1,17 @@
 //! The dispatcher with those who sleep.
 ghost use Rattle.std.specs.Prelude.{◌≡◌, ◌≤◌, [], replicate, slice_get, true, false, None, Some, Err, IfOk, IfErr, OnOk, OnErr, MatchBool, nat_le, ◌&&◌};
-ghost use Rattle.std.specs.FinMap as map;
 ghost use Rattle.nt_status.specs.declared.refusal.Refusal.{Refusal};
 ghost use Rattle.nt_status.specs.declared.refusal.Refusal.TheVariants.{InvalidParameter, Memory, HandleLimit};
 ghost use Rattle.nt_alarms.specs.Alarms.{alarm_at};
 ghost use Rattle.nt_calls.specs.declared.call.WaitCall.{WaitCall};
 ghost use Rattle.nt_calls.specs.Moves.{pended};
-ghost use Rattle.nt_calls.specs.Naming.{call_named};
 ghost use Rattle.nt_calls.specs.State.{opening};
 ghost use Rattle.nt_calls.specs.Steps.{Called, Ticked};
-ghost use Rattle.nt_core.specs.Accepts.{IsLocal, IsTickLocal};
+ghost use Rattle.nt_core.specs.Accepts.{IsTickLocal};
 ghost use Rattle.nt_life.specs.Lasting.{MakesCall, FindsNoneFor, IsUnchanged, LooksAt, MayBegin, MaySetAside, GivesFromNow, no_spares};
 ghost use Rattle.nt_core.specs.Dispatcher.{state};
 ghost use Rattle.nt_core.specs.Lawful.{IsLawful};
-ghost use Rattle.nt_sleepers.specs.Sleepers.{LetsSleep, Stops, Watches, Woke, told_of};
+ghost use Rattle.nt_sleepers.specs.Sleepers.{LetsSleep, StopsSleeping, Watches, Woke, told_of};
 
 use crate::life::{is_idle, is_still, settle, settle_all, stop, watch};
 use crate::told::Told;
@@ -162,10 +160,8 @@ impl Sleepers {
         ensures called { Called (state self.old.core) who (Call.Wait (WaitCall.Objects all alertable ms handles.now))
             result self.new.core.grants (state self.new.core) }
         ensures lawful { IsLawful self.new.core }
-        ensures local { OnOk result (IsLocal (state self.old.core) who
-            (call_named self.old.core.handles (Call.Wait (WaitCall.Objects all alertable ms handles.now)))
-            self.new.core.table.looked self.new.core.grants) }
-        ensures untested { OnErr result (self.new.core.table.looked ≡ 0) }
+        ensures looks { LooksAt self.old.core who (Call.Wait (WaitCall.Objects all alertable ms handles.now))
+            result self.new.core }
         ensures woke { Woke self.old who (pended result) self.new }
         ensures nobody { OnErr result (self.new.called ≡ None) }
         ensures spare { self.new.spare ≡ self.old.spare }
@@ -255,7 +251,7 @@ impl Sleepers {
 
     /// This thread sleeps and watches no more, though its wait may pend: it is gone, or looks for itself. A watcher may be called in its place.
     pub fn stop(&mut self, who: u32)
-        ensures { Stops self.old who self.new }
+        ensures { StopsSleeping self.old who self.new }
     {
         self.called = stop(&self.life, &mut self.alarms, &mut self.watchers, who);
     }

@@ -1,4 +1,4 @@
-ghost use Rattle.std.specs.Prelude.{◌≡◌, ◌<◌, ◌++◌, ◌∷◌, [], length, IfOk, OnOk, OnErr};
+ghost use Rattle.std.specs.Prelude.{◌≡◌, ◌≢◌, ◌<◌, ◌++◌, ◌∷◌, [], length, IfOk, OnOk, OnErr, MatchOption};
 
 use crate::limits::MAX_INLINE_HANDLES;
 use smallvec::SmallVec;
@@ -35,17 +35,27 @@ impl Handle {
 }
 
 /// The handles that a wait names, in order. Up to `MAX_INLINE_HANDLES` take no memory.
-#[derive(Drop)]
+///
+/// One handle alone stands in a field of its own: most waits name one, and find it there without a look at the list.
 pub struct Handles {
+    /// The one handle, if it was put here. The others are left over then.
+    one: Option<[Handle; 1]>,
     items: SmallVec<Handle, MAX_INLINE_HANDLES>,
 }
 
+/// Written by hand, so that whoever lets a list go has one function to call, and nothing to prove of its parts.
+impl Drop for Handles {
+    fn drop(self) {
+        let Handles { one: _, items: _ } = self;
+    }
+}
+
 impl Model for Handles {
-    ghost use Rattle.std.specs.Prelude.{List, ℕ};
+    ghost use Rattle.std.specs.Prelude.{List, ℕ, unwrap_or};
 
     ghost Value = { List ℕ };
 
-    ghost view = { λ h. h.items.items };
+    ghost view = { λ h. unwrap_or h.one h.items.items };
 }
 
 impl Handles {
@@ -54,6 +64,7 @@ impl Handles {
         ensures { result ≡ [] }
     {
         Handles {
+            one: None,
             items: SmallVec::new(alloc),
         }
     }
@@ -63,6 +74,7 @@ impl Handles {
         ensures { IfOk result (λ these. these ≡ []) }
     {
         Ok(Handles {
+            one: None,
             items: SmallVec::with_capacity(alloc, count)?,
         })
     }
@@ -85,9 +97,10 @@ impl Handles {
     pub fn from_one(alloc: Global, handle: Handle) -> Self
         ensures { result ≡ handle ∷ [] }
     {
-        let mut items = SmallVec::new(alloc);
-        items.push_reserved(handle);
-        Handles { items }
+        Handles {
+            one: Some([handle]),
+            items: SmallVec::new(alloc),
+        }
     }
 
     /// The same as `from_slice`, for any number of handles.
@@ -97,6 +110,7 @@ impl Handles {
         ensures err { OnErr result (MAX_INLINE_HANDLES < length handles.now) }
     {
         Ok(Handles {
+            one: None,
             items: SmallVec::from_slice(alloc, handles)?,
         })
     }
@@ -106,6 +120,17 @@ impl Handles {
         ensures ok { OnOk result (self.new ≡ self.old ++ handle ∷ []) }
         ensures err { OnErr result (self.new ≡ self.old) }
     {
+        if let Some(first) = self.one {
+            self.items.clear();
+            self.items.push(first[0])?;
+            self.items.push(handle)?;
+            self.one = None;
+            return Ok(());
+        }
+        if self.items.is_empty() {
+            self.one = Some([handle]);
+            return Ok(());
+        }
         self.items.push(handle)?;
         Ok(())
     }
@@ -114,14 +139,33 @@ impl Handles {
     pub fn clear(&mut self)
         ensures { self.new ≡ [] }
     {
-        self.items.clear();
+        let Handles { one, items } = self;
+        *one = None;
+        items.clear();
     }
 
     /// The handles, in order.
     pub fn as_slice(&self) -> &[Handle]
         ensures { result.now ≡ self.now }
     {
-        self.items.as_slice()
+        match &self.one {
+            Some(one) => one,
+            None => self.items.as_slice(),
+        }
+    }
+
+    /// The handle, if there is one alone.
+    #[inline(always)]
+    pub fn alone(&self) -> Option<Handle>
+        ensures { MatchOption result (length self.now ≢ 1) (λ handle. self.now ≡ handle ∷ []) }
+    {
+        if let Some(one) = self.one {
+            return Some(one[0]);
+        }
+        match self.items.as_slice() {
+            [handle] => Some(*handle),
+            _ => None,
+        }
     }
 }
 
@@ -132,12 +176,12 @@ impl Clone for Handles {
     ghost is_clone = { λ handles copied. copied ≡ handles };
 
     fn clone(&self) -> Result<Self, AllocError> {
-        Handles::from_slice(*self.items.allocator(), self.items.as_slice())
+        Handles::from_slice(*self.items.allocator(), self.as_slice())
     }
 }
 
 impl Debug for Handles {
     fn fmt<W: Write>(&self, formatter: &mut Formatter<W>) -> Result<(), Error> {
-        self.items.fmt(formatter)
+        self.as_slice().fmt(formatter)
     }
 }

@@ -34,17 +34,21 @@ impl ObjectNumber {
 }
 
 /// The objects that a pending wait names, in order. Up to four take no memory.
+///
+/// One object alone stands in a field of its own, as one handle does in `Handles`.
 #[derive(Drop)]
 pub struct ObjectNumbers {
+    /// The one object, if it was put here. The others are left over then.
+    one: Option<[ObjectNumber; 1]>,
     items: SmallVec<ObjectNumber, 4>,
 }
 
 impl Model for ObjectNumbers {
-    ghost use Rattle.std.specs.Prelude.{List, ℕ};
+    ghost use Rattle.std.specs.Prelude.{List, ℕ, unwrap_or};
 
     ghost Value = { List ℕ };
 
-    ghost view = { λ o. o.items.items };
+    ghost view = { λ o. unwrap_or o.one o.items.items };
 }
 
 impl ObjectNumbers {
@@ -53,6 +57,7 @@ impl ObjectNumbers {
         ensures { result ≡ [] }
     {
         ObjectNumbers {
+            one: None,
             items: SmallVec::new(alloc),
         }
     }
@@ -64,14 +69,15 @@ impl ObjectNumbers {
         ensures ok { OnOk result (self.new ≡ objects.now) }
         ensures err { OnErr result (self.new ≡ self.old) }
     {
+        if let [object] = objects {
+            self.put_one(*object);
+            return Ok(());
+        }
         if self.items.len() != objects.len() {
             return self.replace(objects);
         }
-        // Most lists have one, which is written here, without a call.
-        match objects {
-            [object] => self.items.as_mut_slice()[0] = *object,
-            _ => self.items.as_mut_slice().copy_from_slice(objects),
-        }
+        self.items.as_mut_slice().copy_from_slice(objects);
+        self.one = None;
         Ok(())
     }
 
@@ -80,13 +86,7 @@ impl ObjectNumbers {
     pub fn put_one(&mut self, object: ObjectNumber)
         ensures { self.new ≡ object ∷ [] }
     {
-        if self.items.len() == 1 {
-            self.items.as_mut_slice()[0] = object;
-        } else {
-            let mut items = SmallVec::new(*self.items.allocator());
-            items.push_reserved(object);
-            self.items = items;
-        }
+        self.one = Some([object]);
     }
 
     /// A new list of these objects in the place of its own. It stands apart, since mostly there are as many as before.
@@ -95,7 +95,9 @@ impl ObjectNumbers {
         ensures ok { OnOk result (self.new ≡ objects.now) }
         ensures err { OnErr result (self.new ≡ self.old) }
     {
-        self.items = SmallVec::from_slice(*self.items.allocator(), objects)?;
+        let ObjectNumbers { one, items } = self;
+        *items = SmallVec::from_slice(*items.allocator(), objects)?;
+        *one = None;
         Ok(())
     }
 
@@ -103,15 +105,18 @@ impl ObjectNumbers {
     pub fn copy(&self) -> Result<Self, AllocError>
         ensures { IfOk result (λ copied. copied ≡ self.now) }
     {
-        Ok(ObjectNumbers {
-            items: SmallVec::from_slice(*self.items.allocator(), self.items.as_slice())?,
-        })
+        let mut copied = ObjectNumbers::new(*self.items.allocator());
+        copied.copy_from(self.as_slice())?;
+        Ok(copied)
     }
 
     /// The numbers, in order.
     pub fn as_slice(&self) -> &[ObjectNumber]
         ensures { result.now ≡ self.now }
     {
-        self.items.as_slice()
+        match &self.one {
+            Some(one) => one,
+            None => self.items.as_slice(),
+        }
     }
 }

@@ -7,8 +7,9 @@ ghost use Rattle.nt_hangs.specs.Watching.{seen_of, unseen, Sees};
 
 use crate::kept::Kept;
 use crate::labels::Words;
+use nt_grammar::ScriptFault;
 use nt_hangs::{Watch, first_line};
-use nt_script::{RunFault, ScriptFault};
+use nt_script::RunFault;
 use std::alloc::{AllocError, Global};
 
 /// A script that is run, and what is kept of it.

@@ -1,11 +1,11 @@
 -- What a table shows once a wait has begun.
-use Rattle.std.proofs.Common.{◌≡◌, ◌≢◌, ◌<◌, ◌≤◌, inl, inr, get_or, set, arith, subst, ◌+◌, ◌∷◌, ◌++◌, [], ℕ, List, length, map, Option, Some, None, refl, ap, sym, ◌∙◌}
+use Rattle.std.proofs.Common.{◌≡◌, ◌≢◌, ◌<◌, ◌≤◌, inl, inr, get_or, set, subst, ◌+◌, ◌∷◌, ◌++◌, [], ℕ, List, length, map, Option, None, refl, ap, sym, ◌∙◌}
 use Rattle.nt_status.specs.declared.limits.TheConstants.{MAX_WAIT_OBJECTS}
 use Rattle.nt_waits.specs.declared.wait.Wait.{Wait}
 use Rattle.nt_waits.specs.declared.pending.Pending.{Pending}
-use Rattle.nt_waits.specs.declared.prepared.Prepared.{Prepared}
+use Rattle.nt_waits.specs.declared.room.Room.{Room}
 use Rattle.nt_waits.specs.Queues.{Lists, OnlyGrows, list_at}
-use Rattle.nt_waits.specs.Prepared.{IsReady}
+use Rattle.nt_waits.specs.Room.{HasRoom}
 use Rattle.nt_waits.specs.Link.{Link, AreNumbersOnce}
 use Rattle.nt_waits.specs.Begun.{IsBegun}
 use Rattle.nt_waits.specs.Slot.{IsFilled}
@@ -14,54 +14,54 @@ use Rattle.std.proofs.lemmas.List.{get_or-set_same, get_or-set_other, map-append
 use Rattle.std.specs.Prelude.{nat_eq, Result, Ok, Err, OnErr}
 use Rattle.std.specs.List.{IsDistinct}
 use Rattle.nt_waits.proofs.BeginLemmas.{table_same, table_begun}
-use Rattle.std.proofs.lemmas.Option.{same_Some}
 use Rattle.nt_waits.specs.Table.{slot_at, threads, waits_of, IsTable, IsWhole}
 use Rattle.nt_waits.specs.Waits.{Waits, wait_of, Names, Begins}
 use Rattle.nt_waits.proofs.ViewLemmas.{get-waits, waits-inserted, get_or-threads, None-mapped}
 use Rattle.nt_waits.proofs.DeadlineLemmas.{alarmed_begun}
 use Rattle.nt_waits.proofs.CountLemmas.{len-begun}
-use Rattle.nt_waits.proofs.PreparedLemmas.{none_ready, ready_kept}
+use Rattle.nt_waits.proofs.RoomLemmas.{room_kept}
 use Rattle.nt_alarms.specs.Alarms.{alarm_at}
 use Rattle.std.specs.Cmp.{nat_cmp_total}
 use Rattle.std.specs.FinMap as finmap
 use Rattle.std.specs.Option.{option_map}
 
 -- what these queues and places show
-abbrev pub view_of : Lists → List (Option Pending) → ℕ → Option (ℕ × Wait) → Waits
-view_of queues slots looked prepared = record { pending = waits_of slots; queues = map threads queues.lists; looked = looked; touched = queues.touched; prepared = prepared }
+abbrev pub view_of : Lists → List (Option Pending) → ℕ → Room → Waits
+view_of queues slots looked room = record { pending = waits_of slots; queues = map threads queues.lists; looked = looked; touched = queues.touched; room = room }
 
 -- the place of a thread that does not wait is empty
-pub slot_free : (queues : Lists) (slots : List (Option Pending)) (looked : ℕ) (prepared : Option (ℕ × Wait)) (shown : Waits) (t : ℕ) → view_of queues slots looked prepared ≡ shown → wait_of shown t ≡ None → slot_at slots t ≡ None
-slot_free queues slots looked prepared shown t is free = None-mapped (slot_at slots t) (sym (get-waits slots t) ∙ ap (λ v. wait_of v t) is ∙ free)
+pub slot_free : (queues : Lists) (slots : List (Option Pending)) (looked : ℕ) (room : Room) (shown : Waits) (t : ℕ) → view_of queues slots looked room ≡ shown → wait_of shown t ≡ None → slot_at slots t ≡ None
+slot_free queues slots looked room shown t is free = None-mapped (slot_at slots t) (sym (get-waits slots t) ∙ ap (λ v. wait_of v t) is ∙ free)
 
 module _ (queues queues' : Lists) (slots slots' : List (Option Pending)) (t : ℕ) (wait : Wait) (begun : IsBegun queues slots queues' slots' t wait) where
   pending_begun : waits_of slots' ≡ finmap.insert (waits_of slots) t wait
   pending_begun = let placed = begun.placed in waits-inserted slots slots' t wait placed.0 placed.1 placed.2 begun.others
 
-  pub begins : (looked : ℕ) (prepared : Option (ℕ × Wait)) → queues'.touched ≡ queues.touched
-      → Begins (view_of queues slots looked prepared) (view_of queues' slots' looked None) t wait
-  begins looked prepared touched = record {
+  pub begins : (looked : ℕ) (room : Room) → queues'.touched ≡ queues.touched
+      → Begins (view_of queues slots looked room) (view_of queues' slots' looked room) t wait
+  begins looked room touched = record {
     pending = pending_begun;
     joined = λ h named. get_or-threads queues'.lists h ∙ begun.joined h named ∙ ap (λ (q : List ℕ). q ++ t ∷ []) (sym (get_or-threads queues.lists h));
     queues_kept = λ h outside. get_or-threads queues'.lists h ∙ ap threads (begun.kept h outside) ∙ sym (get_or-threads queues.lists h);
     looked = refl;
     touched = touched;
-    prepared = refl;
+    room = refl;
   }
 
-  pub whole_begun : (count : ℕ) (before mid after : List (Option ℕ)) (prepared : Option Prepared)
-      → IsWhole queues slots before count prepared
+  pub whole_begun : (count : ℕ) (before mid after : List (Option ℕ)) (room : Room)
+      → IsWhole queues slots before count room
       → finmap.get (waits_of slots) t ≡ None
       → IsTable queues' slots'
       → ((u : ℕ) → alarm_at mid u ≡ alarm_at before u)
       → alarm_at after t ≡ wait.deadline
       → ((u : ℕ) → u ≢ t → alarm_at after u ≡ alarm_at mid u)
-      → IsWhole queues' slots' after (count + 1) None
-  whole_begun count before mid after prepared whole free table reserved here elsewhere = record {
+      → HasRoom queues' slots' (length after) room
+      → IsWhole queues' slots' after (count + 1) room
+  whole_begun count before mid after room whole free table reserved here elsewhere roomy = record {
     table = table;
     counted = rw (pending_begun, len-begun (waits_of slots) t wait free) (ap (λ (n : ℕ). n + 1) whole.counted);
     alarmed = let placed = begun.placed in alarmed_begun mid after slots slots' t wait placed.0 (λ u. reserved u ∙ whole.alarmed u) placed.1 placed.2 begun.others here elsewhere;
-    ready = none_ready queues' (length slots') (length after);
+    roomy = roomy;
   }
 
 -- a wait stands last in the queue of each object that it names, and the other queues are as they were
@@ -106,31 +106,20 @@ pub waits_same : (slots slots' : List (Option Pending)) → ((u : ℕ) → slot_
 waits_same slots slots' same = finmap.same_map nat_cmp_total finmap.nat_cmp-IsAntisymmetric _ _ (λ q. get-waits slots' q ∙ ap (option_map (λ (p : Pending). p.wait)) (same q) ∙ sym (get-waits slots q))
 
 -- only room was made: the table shows what it showed
-pub view_same : (queues queues' : Lists) (slots slots' : List (Option Pending)) (looked : ℕ) (prepared : Option (ℕ × Wait)) → OnlyGrows queues queues' → ((u : ℕ) → slot_at slots' u ≡ slot_at slots u) → view_of queues' slots' looked prepared ≡ view_of queues slots looked prepared
-view_same queues queues' slots slots' looked prepared grows same = rw (waits_same slots slots' same, grows.lists, grows.touched) refl
+pub view_same : (queues queues' : Lists) (slots slots' : List (Option Pending)) (looked : ℕ) (room : Room) → OnlyGrows queues queues' → ((u : ℕ) → slot_at slots' u ≡ slot_at slots u) → view_of queues' slots' looked room ≡ view_of queues slots looked room
+view_same queues queues' slots slots' looked room grows same = rw (waits_same slots slots' same, grows.lists, grows.touched) refl
 
 -- only room was made: the table is whole
-pub whole_reserved : (queues queues' : Lists) (slots slots' : List (Option Pending)) (alarms alarms' : List (Option ℕ)) (count : ℕ) (prepared : Option Prepared)
+pub whole_reserved : (queues queues' : Lists) (slots slots' : List (Option Pending)) (alarms alarms' : List (Option ℕ)) (count : ℕ) (room : Room)
     → OnlyGrows queues queues' → ((u : ℕ) → slot_at slots' u ≡ slot_at slots u) → length slots ≤ length slots' → (length slots ≤ 65536 → length slots' ≤ 65536)
     → ((u : ℕ) → alarm_at alarms' u ≡ alarm_at alarms u) → length alarms ≤ length alarms'
-    → IsWhole queues slots alarms count prepared
-    → IsWhole queues' slots' alarms' count prepared
-whole_reserved queues queues' slots slots' alarms alarms' count prepared grows same more small kept longer whole = record {
+    → IsWhole queues slots alarms count room
+    → IsWhole queues' slots' alarms' count room
+whole_reserved queues queues' slots slots' alarms alarms' count room grows same more small kept longer whole = record {
   table = table_same queues queues' slots slots' (λ h. rw grows.lists refl) same (small whole.table.small) whole.table;
   counted = rw (waits_same slots slots' same) whole.counted;
   alarmed = λ u. rw (same u) (kept u ∙ whole.alarmed u);
-  ready = let used = grows.used in ready_kept queues queues' (length slots) (length slots') (length alarms) (length alarms') (omega (arith, used)) grows.capacity grows.object_room more longer prepared whole.ready;
-}
-
--- a wait is prepared once its room is made
-pub whole_prepared : (queues : Lists) (slots : List (Option Pending)) (alarms : List (Option ℕ)) (count : ℕ) (before : Option Prepared) (prepared : Prepared)
-    → IsWhole queues slots alarms count before → IsReady queues (length slots) (length alarms) prepared
-    → IsWhole queues slots alarms count (Some prepared)
-whole_prepared queues slots alarms count before prepared whole ready = record {
-  table = whole.table;
-  counted = whole.counted;
-  alarmed = whole.alarmed;
-  ready = λ p is. subst (IsReady queues (length slots) (length alarms)) (same_Some prepared p is) ready;
+  roomy = room_kept queues queues' slots slots' (length alarms) (length alarms') room grows same more longer whole.roomy;
 }
 
 -- what holds, holds where a result is an error

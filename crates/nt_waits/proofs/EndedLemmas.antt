@@ -1,11 +1,11 @@
 -- The table once a thread's wait has ended.
-use Rattle.std.proofs.Common.{◌≡◌, ◌≢◌, ◌≤◌, ◌-◌, ℕ, Bool, true, false, List, length, set, Option, Some, None, refl, ap, arith, length-set}
+use Rattle.std.proofs.Common.{◌≡◌, ◌≢◌, ◌-◌, ℕ, Bool, true, false, List, length, set, Option, Some, None, refl, ap}
 use Rattle.std.proofs.lemmas.Bool.{false≢true}
 use Rattle.std.specs.Prelude.{IsSome}
 use Rattle.std.specs.FinMap as finmap
 use Rattle.nt_alarms.specs.Alarms.{alarm_at}
 use Rattle.nt_waits.specs.declared.pending.Pending.{Pending}
-use Rattle.nt_waits.specs.declared.prepared.Prepared.{Prepared}
+use Rattle.nt_waits.specs.declared.room.Room.{Room}
 use Rattle.nt_waits.specs.Ended.{IsEnded}
 use Rattle.nt_waits.specs.Slot.{IsUnlinked, kept_where}
 use Rattle.nt_waits.specs.Queues.{Lists}
@@ -15,7 +15,7 @@ use Rattle.nt_waits.proofs.TableLemmas.{slot_within, unlinked_from, table_ended,
 use Rattle.nt_waits.proofs.ViewLemmas.{waits-removed}
 use Rattle.nt_waits.proofs.DeadlineLemmas.{alarmed_ended}
 use Rattle.nt_waits.proofs.CountLemmas.{len-ended}
-use Rattle.nt_waits.proofs.PreparedLemmas.{ready_kept}
+use Rattle.nt_waits.proofs.RoomLemmas.{room_ended}
 
 -- where a place shows a wait, it is the one that lies there
 pub pending_kept : (pends : Bool) (p : Pending) → IsSome (kept_where pends p) → kept_where pends p ≡ Some p
@@ -49,7 +49,7 @@ module _ (old mid new : Lists) (slots : List (Option Pending)) (t : ℕ) (p : Pe
         table = table_ended old new slots t p table place left unlinked.distinct;
         emptied = refl;
         queues = threads_ended old new slots t p table place left unlinked.distinct;
-        used = rw anew at unlinked.used;
+        used = rw place (rw anew at unlinked.used);
         capacity = rw anew at unlinked.capacity;
         object_room = rw anew at unlinked.object_room;
       }
@@ -63,19 +63,18 @@ module _ (queues queues' : Lists) (slots slots' : List (Option Pending)) (t : �
   pub pending_ended : waits_of slots' ≡ finmap.remove (waits_of slots) t
   pending_ended = rw over.emptied (waits-removed slots t (slot_within slots t there))
 
-  pub whole_ended : (count : ℕ) (before after : List (Option ℕ)) (prepared : Option Prepared)
-      → IsWhole queues slots before count prepared
+  pub whole_ended : (count : ℕ) (before after : List (Option ℕ)) (room : Room)
+      → IsWhole queues slots before count room
       → IsSome (finmap.get (waits_of slots) t)
       → alarm_at after t ≡ None
       → ((u : ℕ) → u ≢ t → alarm_at after u ≡ alarm_at before u)
       → length after ≡ length before
-      → IsWhole queues' slots' after (count - 1) prepared
-  whole_ended count before after prepared whole pends here elsewhere long =
+      → IsWhole queues' slots' after (count - 1) room
+  whole_ended count before after room whole pends here elsewhere long =
       let within = slot_within slots t there in
-      let places : length slots ≤ length slots' = rw over.emptied (omega (arith, length-set slots t None)) in
       record {
         table = over.table;
         counted = rw (pending_ended, len-ended (waits_of slots) t pends) (ap (λ (n : ℕ). n - 1) whole.counted);
         alarmed = rw over.emptied (alarmed_ended before after slots t whole.alarmed within here elsewhere);
-        ready = ready_kept queues queues' (length slots) (length slots') (length before) (length after) over.used (omega (arith, over.capacity)) (omega (arith, over.object_room)) places (omega (arith, long)) prepared whole.ready;
+        roomy = room_ended queues queues' slots slots' (length before) (length after) room t over there long whole.roomy;
       }

@@ -8,7 +8,7 @@ use Rattle.std.specs.Prelude.{drop}
 use Rattle.std.specs.List.{IsDistinct, refill}
 use Rattle.std.proofs.lemmas.List.{get_or-set_same, get_or-set_other}
 use Rattle.nt_waits.specs.Link.{HasNumber, AreNumbersOnce, without}
-use Rattle.nt_waits.specs.Queues.{Lists, list_at}
+use Rattle.nt_waits.specs.Queues.{Lists, list_at, TakesRoom}
 use Rattle.nt_waits.specs.Steps.{IsOutside, AreUnlinked, AreLinked}
 use Rattle.nt_waits.proofs.SoundLemmas.{listed_within}
 
@@ -21,7 +21,7 @@ pub record UnlinkedSoFar (old new : Lists) (objects numbers : List ℕ) (count :
   pub distinct : (h : ℕ) → AreNumbersOnce (list_at new h)
   pub at_least : count ≤ new.touched
   pub at_most : new.touched ≤ 3 * count
-  pub used : new.used ≤ old.used
+  pub used : new.used + count ≡ old.used
   pub capacity : new.capacity ≡ old.capacity
   pub object_room : new.object_room ≡ old.object_room
 
@@ -59,8 +59,7 @@ pub record LinkedSoFar (old new : Lists) (thread : ℕ) (objects numbers : List 
   pub distinct : (h : ℕ) → AreNumbersOnce (list_at new h)
   pub numbered : length numbers ≡ length objects
   pub same_objects : length new.lists ≡ length old.lists
-  pub used : new.used ≡ old.used + count
-  pub capacity : new.capacity ≡ old.capacity
+  pub takes : TakesRoom old new count
   pub touched : new.touched ≡ old.touched
 
 module _ (old now new : Lists) (thread : ℕ) (objects numbers : List ℕ) (i number : ℕ)

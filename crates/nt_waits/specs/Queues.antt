@@ -22,6 +22,12 @@ pub record OnlyGrows (old new : Lists) : Type 0 where
   pub capacity : old.capacity ≤ new.capacity
   pub object_room : old.object_room ≤ new.object_room
 
+-- so many blocks more are linked, and no room is lost
+pub record TakesRoom (old new : Lists) (count : ℕ) : Type 0 where
+  pub used : new.used ≡ old.used + count
+  pub capacity : new.capacity ≡ old.capacity
+  pub object_room : new.object_room ≡ old.object_room
+
 -- so many blocks fit with no allocation
 abbrev pub HasRoomFor : Lists → ℕ → Type 0
 HasRoomFor queues more = queues.used + more ≤ queues.capacity

@@ -1,5 +1,5 @@
 -- The place of one thread's wait. No public clause cites this module.
-use Rattle.std.specs.Prelude.{◌≡◌, ℕ, ◌≤◌, ◌*◌, Bool, true, false, Option, Some, None, IsSomeAnd, length}
+use Rattle.std.specs.Prelude.{◌≡◌, ℕ, ◌+◌, ◌≤◌, ◌*◌, Bool, true, false, Option, Some, None, IsSomeAnd, length}
 use Rattle.nt_waits.specs.declared.wait.Wait.{Wait}
 use Rattle.nt_waits.specs.declared.pending.Pending.{Pending}
 use Rattle.nt_waits.specs.Link.{AreNumbersOnce}
@@ -30,7 +30,7 @@ IsFilled old new thread wait slot =
 pub record IsUnlinked (old new : Lists) (p : Pending) : Type 0 where
   pub unlinked : AreUnlinked old new p.wait.objects p.numbers.items (length p.wait.objects)
   pub distinct : (object : ℕ) → AreNumbersOnce (list_at new object)
-  pub used : new.used ≤ old.used
+  pub used : new.used + length p.wait.objects ≡ old.used
   pub capacity : new.capacity ≡ old.capacity
   pub object_room : new.object_room ≡ old.object_room
   pub at_least : length p.wait.objects ≤ new.touched

@@ -6,11 +6,11 @@ use Rattle.nt_status.specs.declared.limits.TheConstants.{MAX_WAIT_OBJECTS}
 use Rattle.nt_waits.specs.declared.wait.Wait.{Wait}
 use Rattle.nt_waits.specs.declared.pending.Pending.{Pending}
 use Rattle.nt_waits.specs.Link.{Link, AreNumbersOnce}
-use Rattle.nt_waits.specs.declared.prepared.Prepared.{Prepared}
+use Rattle.nt_waits.specs.declared.room.Room.{Room}
 use Rattle.nt_waits.specs.Queues.{Lists, list_at}
-use Rattle.nt_waits.specs.Prepared.{IsReady}
+use Rattle.nt_waits.specs.Room.{HasRoom}
 use Rattle.std.specs.List.{IsDistinct}
-use Rattle.std.specs.Option.{option_map, ForSome}
+use Rattle.std.specs.Option.{option_map}
 use Rattle.nt_alarms.specs.Alarms.{alarm_at}
 use Rattle.nt_waits.specs.Deadlines.{deadline_in}
 use Rattle.nt_waits.specs.Waits.{Names}
@@ -53,9 +53,9 @@ pub record IsTable (queues : Lists) (slots : List (Option Pending)) : Type 0 whe
   pub once : (object : ℕ) → IsDistinct nat_eq (threads (list_at queues object))
   pub small : length slots ≤ 65536
 
--- blocks and waits name each other, the waits are counted, the alarm of each thread is the deadline of its wait, and a prepared wait has its room
-pub record IsWhole (queues : Lists) (slots : List (Option Pending)) (deadlines : List (Option ℕ)) (count : ℕ) (prepared : Option Prepared) : Type 0 where
+-- blocks and waits name each other, the waits are counted, the alarm of each thread is the deadline of its wait, and the room that was made is there
+pub record IsWhole (queues : Lists) (slots : List (Option Pending)) (deadlines : List (Option ℕ)) (count : ℕ) (room : Room) : Type 0 where
   pub table : IsTable queues slots
   pub counted : count ≡ map.len (waits_of slots)
   pub alarmed : (thread : ℕ) → alarm_at deadlines thread ≡ deadline_in (option_map (λ pending. pending.wait) (slot_at slots thread))
-  pub ready : ForSome prepared (IsReady queues (length slots) (length deadlines))
+  pub roomy : HasRoom queues slots (length deadlines) room

@@ -4,16 +4,17 @@ use Rattle.std.specs.Ordering.{nat_cmp}
 use Rattle.std.specs.FinMap as map
 use Rattle.std.specs.Coded.{Coded, code_by, coded×, coded_ℕ, coded_bool, coded_list, coded_option}
 use Rattle.std.specs.List.{IsDistinct}
+use Rattle.nt_waits.specs.declared.room.Room.{Room}
 use Rattle.nt_waits.specs.declared.wait.About.{About}
 use Rattle.nt_waits.specs.declared.wait.Wait.{Wait}
 
--- the pending waits by thread; by object number the threads that wait on it, in the order in which their waits began; the looks since the count was last set to 0; the blocks that the last end reached; the wait that is prepared, with its thread
+-- the pending waits by thread; by object number the threads that wait on it, in the order in which their waits began; the looks since the count was last set to 0; the blocks that the last end reached; for how many threads and objects there is room
 pub record Waits : Type 0 where
   pub pending : map.FinMap nat_cmp Wait
   pub queues : List (List ℕ)
   pub looked : ℕ
   pub touched : ℕ
-  pub prepared : Option (ℕ × Wait)
+  pub room : Room
 
 -- a wait is stored as the tuple of its fields
 abbrev pub wait_code : Coded Wait
@@ -27,10 +28,10 @@ wait_code =
 -- a table is stored as the tuple of its fields
 abbrev pub waits_code : Coded Waits
 waits_code =
-    code_by (map.FinMap nat_cmp Wait × (List (List ℕ) × (ℕ × (ℕ × Option (ℕ × Wait)))))
-    (coded× (map.code coded_ℕ wait_code) (coded× (coded_list (coded_list coded_ℕ)) (coded× coded_ℕ (coded× coded_ℕ (coded_option (coded× coded_ℕ wait_code))))))
-    (λ w. (w.pending, (w.queues, (w.looked, (w.touched, w.prepared)))))
-    (λ p. record { pending = p.0; queues = p.1.0; looked = p.1.1.0; touched = p.1.1.1.0; prepared = p.1.1.1.1 })
+    code_by (map.FinMap nat_cmp Wait × (List (List ℕ) × (ℕ × (ℕ × (ℕ × ℕ)))))
+    (coded× (map.code coded_ℕ wait_code) (coded× (coded_list (coded_list coded_ℕ)) (coded× coded_ℕ (coded× coded_ℕ (coded× coded_ℕ coded_ℕ)))))
+    (λ w. (w.pending, (w.queues, (w.looked, (w.touched, (w.room.threads, w.room.objects))))))
+    (λ p. record { pending = p.0; queues = p.1.0; looked = p.1.1.0; touched = p.1.1.1.0; room = record { threads = p.1.1.1.1.0; objects = p.1.1.1.1.1 } })
     (λ _. refl)
 
 -- the pending wait of a thread
@@ -61,14 +62,14 @@ pub record Agrees (pending : map.FinMap nat_cmp Wait) (queues : List (List ℕ))
   pub named : (thread object : ℕ) → Contains (slice_index_or queues object []) thread → (wait : Wait) × (map.get pending thread ≡ Some wait) × Names wait object
   pub once : (object : ℕ) → IsDistinct nat_eq (slice_index_or queues object [])
 
--- the thread's wait pends from now on, last in the queue of each object that it names, and no wait is prepared any more
+-- the thread's wait pends from now on, last in the queue of each object that it names
 pub record Begins (old new : Waits) (thread : ℕ) (wait : Wait) : Type 0 where
   pub pending : new.pending ≡ map.insert old.pending thread wait
   pub joined : (object : ℕ) → Names wait object → queue_of new object ≡ queue_of old object ++ thread ∷ []
   pub queues_kept : (object : ℕ) → (Names wait object → ⊥) → queue_of new object ≡ queue_of old object
   pub looked : new.looked ≡ old.looked
   pub touched : new.touched ≡ old.touched
-  pub prepared : new.prepared ≡ None
+  pub room : new.room ≡ old.room
 
 -- the wait for these objects, for all of them or for one, with what is told of it without a look
 abbrev pub wait_for : List ℕ → Bool → About → Wait

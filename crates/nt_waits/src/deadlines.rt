@@ -30,6 +30,7 @@ pub fn set_alarm(alarms: &mut Alarms, t: ThreadId, deadline: Option<u64>)
     requires quiet { alarm_at alarms.old t ≡ None }
     ensures here { alarm_at alarms.new t ≡ deadline }
     ensures others { (u : ℕ) → u ≢ t → alarm_at alarms.new u ≡ alarm_at alarms.old u }
+    ensures places { length alarms.new ≡ length alarms.old }
 {
     if let Some(moment) = deadline {
         alarms.set(t.get() as usize, moment);

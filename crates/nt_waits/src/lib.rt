@@ -14,7 +14,8 @@
 //!
 //! Down the columns are the queues, in the order in which the waits began; along the rows are the blocks of one wait. To begin or end a wait
 //! for n objects takes n steps, however many others pend, since each block knows its neighbours in its queue. All memory is taken before a
-//! wait begins, so to end one can't fail. Deadlines stand beside, by thread, with the earliest at hand.
+//! wait begins, so to end one can't fail. For a wait for one object it is taken as early as its thread and its object are made ([`Room`]), so
+//! it can't fail to begin either. Deadlines stand beside, by thread, with the earliest at hand.
 //!
 //! Whether a wait is satisfied is not known here: whoever serves waits looks at them one by one, and each look is counted. So it can be promised
 //! of every call how many waits it looked at ([`WaitTable::looked`]).
@@ -27,12 +28,13 @@ mod deadlines;
 mod links;
 mod pending;
 mod place;
-mod prepared;
 mod queues;
+mod room;
 mod slot;
 mod table;
 mod take;
 mod wait;
 
+pub use room::Room;
 pub use table::{Reader, WaitTable};
 pub use wait::{About, Wait};

@@ -43,6 +43,7 @@ impl Queues {
     pub fn new(alloc: Global) -> Self
         ensures lists { result.lists ≡ [] }
         ensures touched { result.touched ≡ 0 }
+        ensures used { result.used ≡ 0 }
     {
         Queues {
             blocks: Slab::new(alloc),
@@ -81,6 +82,7 @@ impl Queues {
             (list_at self.old object ++ record { number = result; thread = thread } ∷ []) }
         ensures used { self.new.used ≡ self.old.used + 1 }
         ensures capacity { self.new.capacity ≡ self.old.capacity }
+        ensures object_room { self.new.object_room ≡ self.old.object_room }
         ensures touched { self.new.touched ≡ self.old.touched }
         ensures distinct { (h : ℕ) → AreNumbersOnce (list_at self.new h) }
     {
@@ -158,6 +160,7 @@ impl Queues {
         ensures kept { (h : ℕ) → list_at self.new h ≡ list_at self.old h }
         ensures used { self.new.used ≡ self.old.used }
         ensures capacity { self.new.capacity ≡ self.old.capacity }
+        ensures object_room { self.new.object_room ≡ self.old.object_room }
         ensures touched { self.new.touched ≡ self.old.touched }
     {
         add_ends(&mut self.ends, count);

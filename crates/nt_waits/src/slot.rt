@@ -1,9 +1,9 @@
 //! The place of one thread's wait, which is filled and emptied where it lies.
-ghost use Rattle.std.specs.Prelude.{nat_eq, ◌≡◌, ℕ, ◌+◌, ◌<◌, ◌≤◌, ◌^◌, ◌∷◌, [], false, IsSome, None, Some, OnOk, OnErr, length, slice_index};
+ghost use Rattle.std.specs.Prelude.{nat_eq, ◌≡◌, ℕ, ◌+◌, ◌<◌, ◌≤◌, ◌^◌, ◌∷◌, [], IsSome, None, Some, OnOk, OnErr, length, slice_index};
 ghost use Rattle.std.specs.List.{IsDistinct};
 ghost use Rattle.std.specs.Option.{option_copied, option_map, ForSome};
 ghost use Rattle.nt_waits.specs.Link.{AreNumbersOnce, thread_after};
-ghost use Rattle.nt_waits.specs.Queues.{list_at, HasRoomFor};
+ghost use Rattle.nt_waits.specs.Queues.{list_at, HasRoomFor, TakesRoom};
 ghost use Rattle.nt_waits.specs.Slot.{IsFilled, IsUnlinked};
 ghost use Rattle.nt_waits.specs.Table.{IsLinked};
 ghost use Rattle.nt_waits.specs.Waits.{wait_for};
@@ -113,6 +113,7 @@ fn link(
     ensures filled { IsFilled queues.old queues.new t (wait_for objects.now all about) (Some pending.new) }
     ensures distinct { (h : ℕ) → AreNumbersOnce (list_at queues.new h) }
     ensures touched { queues.new.touched ≡ queues.old.touched }
+    ensures takes { TakesRoom queues.old queues.new (length objects.now) }
 {
     queues.add_objects(count);
     link_all(queues, t, objects, pending.numbers.as_mut_slice());
@@ -178,6 +179,7 @@ impl Slot {
         ensures filled { OnOk result (IsFilled queues.old queues.new t (wait_for objects.now all about) self.new) }
         ensures distinct { OnOk result ((h : ℕ) → AreNumbersOnce (list_at queues.new h)) }
         ensures touched { queues.new.touched ≡ queues.old.touched }
+        ensures takes { OnOk result (TakesRoom queues.old queues.new (length objects.now)) }
         ensures queues { OnErr result (queues.new ≡ queues.old) }
         ensures err { OnErr result (self.new ≡ None) }
     {
@@ -190,15 +192,23 @@ impl Slot {
 
     /// The thread's wait for this object stands here from now on, with a block at the end of its queue. It takes no memory.
     #[inline(always)]
-    pub fn fill_one(&mut self, queues: &mut Queues, t: ThreadId, object: ObjectNumber, about: About)
+    pub fn fill_one(
+        &mut self,
+        queues: &mut Queues,
+        t: ThreadId,
+        object: ObjectNumber,
+        all: bool,
+        about: About,
+    )
         requires free { self.old ≡ None }
         requires room { HasRoomFor queues.old 1 }
         requires object_room { object + 1 ≤ queues.old.object_room }
         requires numbers { (h : ℕ) → AreNumbersOnce (list_at queues.old h) }
         requires countable { (h : ℕ) → length (list_at queues.old h) < 2 ^ 32 }
-        ensures filled { IsFilled queues.old queues.new t (wait_for (object ∷ []) false about) self.new }
+        ensures filled { IsFilled queues.old queues.new t (wait_for (object ∷ []) all about) self.new }
         ensures distinct { (h : ℕ) → AreNumbersOnce (list_at queues.new h) }
         ensures touched { queues.new.touched ≡ queues.old.touched }
+        ensures takes { TakesRoom queues.old queues.new 1 }
     {
         self.pending.wait.objects.put_one(object);
         make_one_number(&mut self.pending.numbers);
@@ -207,7 +217,7 @@ impl Slot {
             queues,
             t,
             &[object],
-            false,
+            all,
             about,
             object.get() as usize + 1,
         );

@@ -1,14 +1,14 @@
 //! The pending waits of all threads.
-ghost use Rattle.std.specs.Prelude.{nat_eq, ◌≡◌, ℕ, ◌+◌, ◌<◌, ◌≤◌, ◌*◌, ◌^◌, ◌∷◌, [], false, length, slice_get, IsSome, Some, None, IfOk, OnOk, OnErr, IfErr, MatchOption, Contains};
+ghost use Rattle.std.specs.Prelude.{nat_eq, ◌≡◌, ℕ, ◌+◌, ◌-◌, ◌<◌, ◌≤◌, ◌*◌, ◌^◌, ◌∷◌, [], length, slice_get, IsSome, Some, None, IfOk, OnOk, OnErr, IfErr, MatchOption, Contains};
 ghost use Rattle.std.specs.List.{IsDistinct};
 ghost use Rattle.std.specs.FinMap as map;
 ghost use Rattle.std.specs.Option.{option_copied, option_map, ForSome};
 ghost use Rattle.std.specs.Borrow.{sem};
 
-use crate::begin::{begin_ready, begin_wait, make_room};
+use crate::begin::{begin_ready, begin_wait};
 use crate::deadlines::{clear_alarm, reserve_alarm, set_alarm};
-use crate::prepared::{Preparation, Prepared};
 use crate::queues::Queues;
+use crate::room::{Room, empty_places, with_room};
 use crate::slot::Slot;
 use crate::take::{end_one_wait, end_wait, next_in, only_in, take_wait, wait_in};
 use crate::wait::{About, Wait, tell};
@@ -22,7 +22,7 @@ use std::marker::Model;
 /// A wait stands in the queue of each object that it names, with a block of its own there. To begin
 /// or end a wait on n objects takes n steps, whatever else is pending, and with a deadline some more,
 /// in the logarithm of the number of threads. `next_on` takes at most n, and every other call but
-/// `copy` a few. Only `begin`, `prepare` and `copy` take memory.
+/// `copy` a few. Only `begin`, `add_object` and `copy` take memory: `begin_one` has its room.
 #[derive(Drop)]
 pub struct WaitTable {
     queues: Queues,
@@ -30,7 +30,7 @@ pub struct WaitTable {
     deadlines: Alarms,
     count: usize,
     looked: u64,
-    prepared: Preparation,
+    room: Room,
 }
 
 /// Whoever has it may see a pending wait without a look (`WaitTable::peek`). It has no bytes, and comes with a table: whoever serves waits is not
@@ -49,17 +49,16 @@ impl Model for WaitTable {
     ghost coded = { waits_code };
 
     ghost use Rattle.nt_waits.specs.Table.{threads, waits_of, IsWhole};
-    ghost use Rattle.nt_waits.specs.Prepared.{shown};
 
     ghost view = { λ t. record {
       pending = waits_of t.waits.items;
       queues = list_map threads t.queues.lists;
       looked = t.looked;
       touched = t.queues.touched;
-      prepared = shown t.prepared;
+      room = t.room;
     } };
 
-    ghost invariant = { λ t. IsWhole t.queues t.waits.items t.deadlines t.count t.prepared };
+    ghost invariant = { λ t. IsWhole t.queues t.waits.items t.deadlines t.count t.room };
 }
 
 impl WaitTable {
@@ -67,13 +66,13 @@ impl WaitTable {
     ghost use Rattle.nt_waits.specs.Deadlines.{NoDeadline, NoneEarlier, IsEarliestDeadline, NoneWithDeadline, IsFirstWithDeadline};
     ghost use Rattle.nt_waits.specs.Waits.{Begins, wait_of, wait_for, queue_of, about_of, one_for, only_of, others, Agrees, IsTouched, next_after};
 
-    /// A table with no wait.
+    /// A table with no wait, and no room yet.
     pub fn new(alloc: Global) -> Self
         ensures pending { result.pending ≡ map.empty }
         ensures queues { result.queues ≡ [] }
         ensures looked { result.looked ≡ 0 }
         ensures touched { result.touched ≡ 0 }
-        ensures prepared { result.prepared ≡ None }
+        ensures room { result.room ≡ record { threads = 0; objects = 0 } }
         ensures agrees { Agrees result.pending result.queues }
     {
         WaitTable {
@@ -82,53 +81,82 @@ impl WaitTable {
             deadlines: Alarms::new(alloc),
             count: 0,
             looked: 0,
-            prepared: Preparation::none(),
+            room: Room {
+                threads: 0,
+                objects: 0,
+            },
         }
     }
 
-    /// The same, and its reader.
-    pub fn with_reader(alloc: Global) -> (Self, Reader)
-        ensures pending { result.0.pending ≡ map.empty }
-        ensures queues { result.0.queues ≡ [] }
-        ensures looked { result.0.looked ≡ 0 }
-        ensures touched { result.0.touched ≡ 0 }
-        ensures prepared { result.0.prepared ≡ None }
-        ensures agrees { Agrees result.0.pending result.0.queues }
+    /// A table with no wait that has this much room, and its reader.
+    pub fn with_room(alloc: Global, room: Room) -> Result<(Self, Reader), AllocError>
+        requires { room.threads ≤ 65536 }
+        ensures pending { IfOk result (λ r. r.0.pending ≡ map.empty) }
+        ensures queues { IfOk result (λ r. r.0.queues ≡ []) }
+        ensures looked { IfOk result (λ r. r.0.looked ≡ 0) }
+        ensures touched { IfOk result (λ r. r.0.touched ≡ 0) }
+        ensures room { IfOk result (λ r. r.0.room ≡ room) }
+        ensures agrees { IfOk result (λ r. Agrees r.0.pending r.0.queues) }
     {
-        (WaitTable::new(alloc), Reader { of: () })
+        let table = WaitTable {
+            queues: with_room(Queues::new(alloc), room)?,
+            waits: empty_places(alloc, room.threads)?,
+            deadlines: Alarms::with_places(alloc, room.threads)?,
+            count: 0,
+            looked: 0,
+            room,
+        };
+        Ok((table, Reader { of: () }))
     }
 
-    /// An equal table, but that no wait is prepared.
-    fn copy_begun(&self) -> Result<Self, AllocError>
-        ensures { IfOk result (λ copied. copied ≡ record self.now { prepared = None }) }
-    {
-        Ok(WaitTable {
-            queues: self.queues.copy()?,
-            waits: self.waits.clone()?,
-            deadlines: self.deadlines.copy()?,
-            count: self.count,
-            looked: self.looked,
-            prepared: Preparation::none(),
-        })
-    }
-
-    /// An equal table in memory of its own.
+    /// An equal table in memory of its own, with as much room.
     pub fn copy(&self) -> Result<Self, Refusal>
         ensures value { IfOk result (λ copied. copied ≡ self.now) }
         ensures agrees { IfOk result (λ copied. Agrees copied.pending copied.queues) }
         ensures memory { IfErr result (λ refusal. refusal ≡ Refusal.Memory) }
     {
-        let mut copied = self.copy_begun()?;
-        let Some(prepared) = self.prepared.get() else {
-            return Ok(copied);
-        };
-        // Room is not copied: the copy makes its own.
-        copied.prepare(prepared.thread, prepared.object, prepared.about)?;
-        Ok(copied)
+        Ok(WaitTable {
+            queues: with_room(self.queues.copy()?, self.room)?,
+            waits: self.waits.clone()?,
+            deadlines: self.deadlines.copy()?,
+            count: self.count,
+            looked: self.looked,
+            room: self.room,
+        })
     }
 
-    /// Begins the thread's wait, last in the queue of each object that it names, and forgets the prepared wait. Refused only where
-    /// memory is, and then nothing changes.
+    /// For how many threads and objects there is room.
+    pub fn room(&self) -> Room
+        ensures { result ≡ self.now.room }
+    {
+        self.room
+    }
+
+    /// Makes room for waits on one object more. Refused only where memory is, and then nothing changes.
+    pub fn add_object(&mut self) -> Result<(), AllocError>
+        ensures ok { OnOk result (self.new ≡ record self.old {
+          room = record self.old.room { objects = self.old.room.objects + 1 };
+        }) }
+        ensures err { OnErr result (self.new ≡ self.old) }
+    {
+        let Some(objects) = self.room.objects.checked_add(1) else {
+            return Err(AllocError);
+        };
+        self.queues.reserve_objects(objects)?;
+        self.room.objects = objects;
+        Ok(())
+    }
+
+    /// Takes back the room for waits on the last object.
+    pub fn remove_object(&mut self)
+        requires { 0 < self.old.room.objects }
+        ensures { self.new ≡ record self.old { room = record self.old.room { objects = self.old.room.objects - 1 } } }
+    {
+        self.room.objects -= 1;
+    }
+
+    /// Begins the thread's wait, last in the queue of each object that it names. Refused only where memory
+    /// is, and then nothing changes.
     #[inline(always)]
     pub fn begin(&mut self, t: ThreadId, wait: Wait) -> Result<(), Refusal>
         requires free { wait_of self.old t ≡ None }
@@ -160,71 +188,33 @@ impl WaitTable {
         ensures err { OnErr result (self.new ≡ self.old) }
     {
         reserve_alarm(&mut self.deadlines, t, about.deadline)?;
-        begin_wait(&mut self.queues, &mut self.waits, t, objects, all, about)?;
+        begin_wait(
+            &mut self.queues,
+            &mut self.waits,
+            t,
+            objects,
+            all,
+            about,
+            self.room.threads,
+        )?;
         set_alarm(&mut self.deadlines, t, about.deadline);
         self.count += 1;
-        self.prepared.forget();
         Ok(())
     }
 
-    /// Makes all the room that the thread's wait for this object needs, and keeps in mind which it is. Until it begins waits may end,
-    /// and the room stays. Refused only where memory is, and then nothing changes.
-    pub fn prepare(
-        &mut self,
-        thread: ThreadId,
-        object: ObjectNumber,
-        about: About,
-    ) -> Result<(), Refusal>
-        ensures ok { OnOk result
-            (self.new ≡ record self.old { prepared = Some (thread, wait_for (object ∷ []) false about) }) }
-        ensures memory { IfErr result (λ refusal. refusal ≡ Refusal.Memory) }
-        ensures err { OnErr result (self.new ≡ self.old) }
-    {
-        reserve_alarm(&mut self.deadlines, thread, about.deadline)?;
-        make_room(
-            &mut self.queues,
-            &mut self.waits,
-            thread,
-            1,
-            object.get() as usize + 1,
-        )?;
-        self.prepared.put(Prepared {
-            thread,
-            object,
-            about,
-        });
-        Ok(())
-    }
-
-    /// Begins the prepared wait. It has its room, so nothing is refused.
-    pub fn begin_prepared(&mut self)
-        requires there { IsSome self.old.prepared }
-        requires free { ForSome self.old.prepared (λ p. wait_of self.old p.0 ≡ None) }
-        ensures begins { ForSome self.old.prepared (λ p. Begins self.old self.new p.0 p.1) }
+    /// Begins the thread's wait for this object alone, as `begin` does. There is room for it, so it takes no memory, and nothing is refused.
+    #[inline(always)]
+    pub fn begin_one(&mut self, t: ThreadId, object: ObjectNumber, all: bool, about: About)
+        requires free { wait_of self.old t ≡ None }
+        requires place { t < self.old.room.threads }
+        requires queue { object < self.old.room.objects }
+        ensures begins { Begins self.old self.new t (wait_for (object ∷ []) all about) }
         ensures agrees { Agrees self.new.pending self.new.queues }
     {
-        let Some(prepared) = self.prepared.get() else {
-            unreachable!()
-        };
-        self.prepared.forget();
-        let Prepared { thread, about, .. } = prepared;
         let pending = self.count + 1;
-        begin_ready(
-            &mut self.queues,
-            &mut self.waits,
-            thread,
-            prepared.object,
-            about,
-        );
-        set_alarm(&mut self.deadlines, thread, about.deadline);
+        begin_ready(&mut self.queues, &mut self.waits, t, object, all, about);
+        set_alarm(&mut self.deadlines, t, about.deadline);
         self.count = pending;
-    }
-
-    /// Forgets the prepared wait, if there is one.
-    pub fn forget_prepared(&mut self)
-        ensures { self.new ≡ record self.old { prepared = None } }
-    {
-        self.prepared.forget();
     }
 
     /// Ends the thread's wait where it lies. The other threads keep their order in every queue.
@@ -234,7 +224,7 @@ impl WaitTable {
         ensures pending { self.new.pending ≡ map.remove self.old.pending t }
         ensures queues { (h : ℕ) → queue_of self.new h ≡ others t (queue_of self.old h) }
         ensures looked { self.new.looked ≡ self.old.looked }
-        ensures prepared { self.new.prepared ≡ self.old.prepared }
+        ensures room { self.new.room ≡ self.old.room }
         ensures touched { ForSome (wait_of self.old t) (λ wait. IsTouched wait self.new.touched) }
         ensures agrees { Agrees self.new.pending self.new.queues }
     {
@@ -254,7 +244,7 @@ impl WaitTable {
         ensures pending { self.new.pending ≡ map.remove self.old.pending t }
         ensures queues { (h : ℕ) → queue_of self.new h ≡ others t (queue_of self.old h) }
         ensures looked { self.new.looked ≡ self.old.looked }
-        ensures prepared { self.new.prepared ≡ self.old.prepared }
+        ensures room { self.new.room ≡ self.old.room }
         ensures touched { ForSome (wait_of self.old t) (λ wait. IsTouched wait self.new.touched) }
         ensures agrees { Agrees self.new.pending self.new.queues }
     {
@@ -272,7 +262,7 @@ impl WaitTable {
         ensures pending { self.new.pending ≡ map.remove self.old.pending t }
         ensures queues { (h : ℕ) → queue_of self.new h ≡ others t (queue_of self.old h) }
         ensures looked { self.new.looked ≡ self.old.looked }
-        ensures prepared { self.new.prepared ≡ self.old.prepared }
+        ensures room { self.new.room ≡ self.old.room }
         ensures at_least { length result.objects ≤ self.new.touched }
         ensures at_most { self.new.touched ≤ 3 * length result.objects }
         ensures agrees { Agrees self.new.pending self.new.queues }

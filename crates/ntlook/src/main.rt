@@ -2,7 +2,8 @@
 #![tactic(auto)]
 
 use nt_devices::{Counted, Sink};
-use nt_look_commands::{carry_out, lacks_memory};
+use nt_faults::{Told, explain, told_by};
+use nt_look_commands::{Look, carry_out, lacks_memory, look_of};
 use std::alloc::AllocError;
 use std::env::{self, Env};
 use std::io::Print;
@@ -18,11 +19,32 @@ fn words<R: AllocGlobal + Env>(rt: &R) -> Result<Vec<String>, AllocError> {
     Ok(words)
 }
 
+/// The words of the command line, and the fault of which more is asked for.
+fn asked<R: AllocGlobal + Env>(rt: &R) -> Result<(Vec<String>, Option<Told>), AllocError> {
+    Ok((words(rt)?, told_by(rt)?))
+}
+
+/// Says all about a fault that was told before of the script that the words ask for, and answers its exit status.
+fn explain_fault<F: AllocGlobal + Files, E: Sink>(
+    files: &F,
+    words: &[String],
+    told: &Told,
+    errors: &mut E,
+) -> u8 {
+    match look_of(words) {
+        Ok(Look::Why { file, .. } | Look::Timeline { file, .. } | Look::Explore { file, .. }) =>
+            explain(files, file, told, errors),
+        Err(_) => {}
+    }
+    2
+}
+
 /// Does what the words ask for, and answers the exit status.
 fn start<R: AllocGlobal + Env + Files + Print, E: Sink>(rt: &R, errors: &mut E) -> u8 {
-    match words(rt) {
-        Ok(words) => carry_out(rt, words.as_slice(), errors),
-        Err(_) => lacks_memory(errors),
+    match asked(rt) {
+        Ok((words, Some(told))) => explain_fault(rt, words.as_slice(), &told, errors),
+        Ok((words, None)) => carry_out(rt, words.as_slice(), errors),
+        Err(AllocError) => lacks_memory(errors),
     }
 }
 

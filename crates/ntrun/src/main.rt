@@ -1,8 +1,9 @@
 //! `ntrun script FILE` runs a script to standard output, and `ntrun threads N ROUNDS` runs real threads and tells of them.
 #![tactic(auto)]
 
-use nt_commands::{PlanFault, carry_out, plan_of};
+use nt_commands::{Plan, PlanFault, carry_out, plan_of};
 use nt_devices::{Counted, Sink};
+use nt_faults::{Told, explain, told_by};
 use std::alloc::AllocError;
 use std::env::{self, Env};
 use std::io::Print;
@@ -20,14 +21,33 @@ fn words<R: AllocGlobal + Env>(rt: &R) -> Result<Vec<String>, AllocError> {
     Ok(words)
 }
 
+/// The words of the command line, and the fault of which more is asked for.
+fn asked<R: AllocGlobal + Env>(rt: &R) -> Result<(Vec<String>, Option<Told>), AllocError> {
+    Ok((words(rt)?, told_by(rt)?))
+}
+
+/// Says all about a fault that was told before of the script that the words ask for, and answers its exit status.
+fn explain_fault<R: AllocGlobal + Files, E: Sink>(
+    rt: &R,
+    words: &[String],
+    told: &Told,
+    errors: &mut E,
+) -> u8 {
+    if let Ok(Plan::Script(path)) = plan_of(rt.alloc(), words) {
+        explain(rt, path.as_str(), told, errors);
+    }
+    2
+}
+
 /// Does what the words ask for, and answers the exit status.
 fn start<R, E: Sink>(rt: &R, errors: &mut E) -> u8
 where
     R: AllocGlobal + Env + Files + Print + Threads + Wait + Sync,
 {
-    match words(rt) {
-        Ok(words) => carry_out(rt, plan_of(rt.alloc(), words.as_slice()), errors),
-        Err(_) => carry_out(rt, Err(PlanFault::Memory), errors),
+    match asked(rt) {
+        Ok((words, Some(told))) => explain_fault(rt, words.as_slice(), &told, errors),
+        Ok((words, None)) => carry_out(rt, plan_of(rt.alloc(), words.as_slice()), errors),
+        Err(AllocError) => carry_out(rt, Err(PlanFault::Memory), errors),
     }
 }
 

@@ -2,7 +2,8 @@
 
 use crate::refused::{Host, tell_refused};
 use crate::scripts::outcome_of;
-use nt_script::{RunFault, ScriptFault};
+use nt_grammar::ScriptFault;
+use nt_script::RunFault;
 use std::alloc::{AllocError, Global};
 use std::test::Fail;
 

@@ -2,8 +2,8 @@
 
 use crate::refused::{Host, tell_refused};
 use nt_core::{Act, Call, Reply, WaitCall};
-use nt_script::{Unwritten, write_line};
 use nt_status::{Handle, Handles, Refusal, ThreadId};
+use nt_written::{Unwritten, write_line};
 use std::alloc::{AllocError, Global};
 
 /// INFINITE, a timeout that never passes.

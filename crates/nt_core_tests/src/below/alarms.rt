@@ -2,6 +2,7 @@
 
 ghost use Rattle.std.specs.Prelude.{◌<◌};
 
+use crate::expect::{expect, expect_equal, expect_step};
 use crate::tests::memory::{Host, tell_refused};
 use nt_alarms::Alarms;
 use std::alloc::AllocError;
@@ -82,7 +83,7 @@ fn take_step(rt: &impl Host, alarms: &mut Alarms, step: Step) -> Result<bool, Al
 
 fn take_steps(rt: &impl Host, alarms: &mut Alarms, steps: &[Step]) -> Result<(), Fail> {
     for (at, step) in steps.iter().enumerate() {
-        assert!(rt; take_step(rt, alarms, *step)?, "step {at}");
+        expect_step(rt, take_step(rt, alarms, *step)?, at);
     }
     Ok(())
 }
@@ -138,7 +139,7 @@ fn add_with_alarm(rt: &impl Host, alarms: &mut Alarms, place: usize) -> Result<b
 /// Adds 100 places, each with a moment of its own from 1 to 100.
 fn add_many(rt: &impl Host, alarms: &mut Alarms) -> Result<(), Fail> {
     for place in 0..100usize {
-        assert!(rt; add_with_alarm(rt, alarms, place)?);
+        expect(rt, add_with_alarm(rt, alarms, place)?, "a place is added");
     }
     Ok(())
 }
@@ -157,16 +158,17 @@ fn clear_first(alarms: &mut Alarms, moment: u64) -> bool {
 /// Clears the 100 alarms, the earliest first.
 fn clear_many(rt: &impl Host, alarms: &mut Alarms) {
     for moment in 1..=100 {
-        assert!(rt; clear_first(alarms, moment), "the alarm {moment}");
+        let cleared = (moment, clear_first(alarms, moment));
+        expect_equal(rt, cleared, (moment, true), "the first alarm");
     }
-    assert!(rt; first(alarms).is_none());
+    expect(rt, first(alarms).is_none(), "no alarm is left");
 }
 
 /// Clears a copy, which leaves the alarms as they are.
 fn clear_a_copy(rt: &impl Host, alarms: &mut Alarms) -> Result<(), Fail> {
     add_many(rt, alarms)?;
     clear_many(rt, &mut copy_at_last(rt, alarms)?);
-    assert_eq!(rt; alarms.earliest(), Some(1));
+    expect_equal(rt, alarms.earliest(), Some(1), "the earliest alarm");
     Ok(())
 }
 

@@ -1,5 +1,6 @@
 //! Queues of APCs, and the places that they keep for timers.
 
+use crate::expect::{expect, expect_equal, expect_step};
 use crate::tests::memory::{Host, tell_refused};
 use nt_apc::{Apc, ApcQueues};
 use nt_status::{Moment, ObjectNumber, OptionalMoment, ThreadId};
@@ -11,6 +12,11 @@ const X: u32 = 5;
 
 /// Another timer.
 const Y: u32 = 9;
+
+/// What tests say where a row names a thread, and where a refused call is told.
+const A_THREAD: &str = "a thread of the queues";
+
+const UNCHANGED: &str = "what a refused call leaves";
 
 /// What is done to the queues, or seen of them. Threads and timers stand as numbers, an APC as its routine.
 #[derive(Clone, Copy)]
@@ -87,7 +93,7 @@ struct Seen {
 
 fn look(rt: &impl Host, apcs: &ApcQueues, t: u16) -> Seen {
     let thread = ThreadId::new(t);
-    assert!(rt; (t as usize) < apcs.threads());
+    expect(rt, (t as usize) < apcs.threads(), A_THREAD);
     Seen {
         is_empty: apcs.is_empty(thread),
         timers: apcs.timers_of(thread).len(),
@@ -101,7 +107,7 @@ fn place(apcs: &ApcQueues, timer: u32) -> Option<u16> {
 }
 
 fn try_push(rt: &impl Host, apcs: &mut ApcQueues, t: u16, routine: u64) -> Result<(), AllocError> {
-    assert!(rt; (t as usize) < apcs.threads());
+    expect(rt, (t as usize) < apcs.threads(), A_THREAD);
     apcs.push(ThreadId::new(t), apc(routine))
 }
 
@@ -112,14 +118,14 @@ fn push(rt: &impl Host, apcs: &mut ApcQueues, t: u16, routine: u64) -> Result<()
         Ok(()) => Ok(()),
         Err(_) => {
             tell_refused(rt, "an APC");
-            assert_eq!(rt; look(rt, apcs, t), before);
+            expect_equal(rt, look(rt, apcs, t), before, UNCHANGED);
             try_push(rt, apcs, t, routine)
         }
     }
 }
 
 fn try_promise(rt: &impl Host, apcs: &mut ApcQueues, t: u16, timer: u32) -> Result<(), AllocError> {
-    assert!(rt; (t as usize) < apcs.threads());
+    expect(rt, (t as usize) < apcs.threads(), A_THREAD);
     apcs.promise(ThreadId::new(t), ObjectNumber::new(timer))
 }
 
@@ -131,8 +137,8 @@ fn promise(rt: &impl Host, apcs: &mut ApcQueues, t: u16, timer: u32) -> Result<(
         Ok(()) => Ok(()),
         Err(_) => {
             tell_refused(rt, "a timer's place");
-            assert_eq!(rt; look(rt, apcs, t), before);
-            assert_eq!(rt; place(apcs, timer), stood);
+            expect_equal(rt, look(rt, apcs, t), before, UNCHANGED);
+            expect_equal(rt, place(apcs, timer), stood, UNCHANGED);
             try_promise(rt, apcs, t, timer)
         }
     }
@@ -152,12 +158,12 @@ fn expire(apcs: &mut ApcQueues, timer: u32, apc: Apc) -> bool {
 }
 
 fn clear(rt: &impl Host, apcs: &mut ApcQueues, t: u16) {
-    assert!(rt; (t as usize) < apcs.threads());
+    expect(rt, (t as usize) < apcs.threads(), A_THREAD);
     apcs.clear(ThreadId::new(t));
 }
 
 fn next(rt: &impl Host, apcs: &mut ApcQueues, t: u16) -> Option<Apc> {
-    assert!(rt; (t as usize) < apcs.threads());
+    expect(rt, (t as usize) < apcs.threads(), A_THREAD);
     apcs.next(ThreadId::new(t))
 }
 
@@ -213,7 +219,7 @@ fn take_step(rt: &impl Host, apcs: &mut ApcQueues, step: Step) -> Result<bool, A
 
 fn take_steps(rt: &impl Host, apcs: &mut ApcQueues, steps: &[Step]) -> Result<(), Fail> {
     for (at, step) in steps.iter().enumerate() {
-        assert!(rt; take_step(rt, apcs, *step)?, "step {at}");
+        expect_step(rt, take_step(rt, apcs, *step)?, at);
     }
     Ok(())
 }
@@ -221,7 +227,7 @@ fn take_steps(rt: &impl Host, apcs: &mut ApcQueues, steps: &[Step]) -> Result<()
 /// Takes the steps in turn from empty queues on.
 fn play(rt: &impl Host, threads: usize, steps: &[Step]) -> Result<(), Fail> {
     let mut apcs = empty(rt, threads)?;
-    assert_eq!(rt; apcs.threads(), threads);
+    expect_equal(rt, apcs.threads(), threads, "threads");
     take_steps(rt, &mut apcs, steps)
 }
 

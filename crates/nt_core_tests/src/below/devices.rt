@@ -1,5 +1,6 @@
 //! Devices that fail, and what is counted of it.
 
+use crate::expect::{expect, expect_equal, expect_step};
 use crate::tests::memory::Host;
 use nt_devices::{Counted, Sink, Source, WriteFailed, write_whole};
 use std::io::{self, ErrorKind, Read, Write};
@@ -101,7 +102,7 @@ fn write_step(writer: &mut Counted<Failing>, step: Step) -> bool {
 
 fn play_writer(rt: &impl Host, writer: &mut Counted<Failing>, steps: &[Step]) {
     for (at, step) in steps.iter().enumerate() {
-        assert!(rt; write_step(writer, *step), "step {at}");
+        expect_step(rt, write_step(writer, *step), at);
     }
 }
 
@@ -117,9 +118,9 @@ fn each_failed_read_is_counted(rt: HostRuntime) {
         Step::Read(Some(3)),
         Step::Failures(2),
     ] {
-        assert!(rt; read_step(&mut reader, &mut bytes, step));
+        expect(&rt, read_step(&mut reader, &mut bytes, step), "a read");
     }
-    assert_eq!(rt; bytes, [0, 0, 0, 1]);
+    expect_equal(&rt, bytes, [0, 0, 0, 1], "the bytes read");
 }
 
 #[test]
@@ -165,10 +166,10 @@ fn call_counted(device: &mut Failing, call: &str) -> bool {
 fn each_counted_call_is_one_call_of_the_device(rt: HostRuntime) {
     for call in ["read", "write", "flush"] {
         let mut device = Failing::new(1, 3);
-        assert!(rt; !call_counted(&mut device, call), "{call}");
-        assert_eq!(rt; device.calls, 1, "{call}");
-        assert!(rt; call_counted(&mut device, call), "{call}");
-        assert_eq!(rt; device.calls, 2, "{call}");
+        expect(&rt, !call_counted(&mut device, call), call);
+        expect_equal(&rt, device.calls, 1, call);
+        expect(&rt, call_counted(&mut device, call), call);
+        expect_equal(&rt, device.calls, 2, call);
     }
 }
 
@@ -181,8 +182,12 @@ fn a_failed_write_ends_the_writing_of_a_whole(rt: HostRuntime) {
     ] {
         let mut device = Failing::new(times, at_once);
         let mut writer = Counted::new(&mut device);
-        assert_eq!(rt; write_whole(&mut writer, b"of nine b"), outcome);
-        assert_eq!(rt; Sink::failures(&writer), times);
-        assert_eq!(rt; device.calls, calls);
+        expect(
+            &rt,
+            write_whole(&mut writer, b"of nine b") == outcome,
+            "how a write ends",
+        );
+        expect_equal(&rt, Sink::failures(&writer), times, "failures");
+        expect_equal(&rt, device.calls, calls, "calls");
     }
 }

@@ -2,6 +2,7 @@
 
 ghost use Rattle.std.specs.Prelude.{◌≡◌, ◌<◌, length, OnOk};
 
+use crate::expect::{expect_equal, expect_step};
 use crate::tests::memory::{Host, tell_refused};
 use nt_objects::{HandleTable, Object, Opened};
 use nt_status::{Access, EventFlags, Handle, MutexFlags, ObjectNumber, ThreadId, TimerFlags};
@@ -83,7 +84,7 @@ fn take_step(rt: &impl Host, table: &mut HandleTable, step: Step) -> Result<bool
 /// Takes the steps in turn.
 fn play(rt: &impl Host, table: &mut HandleTable, steps: &[Step]) -> Result<(), Fail> {
     for (at, step) in steps.iter().enumerate() {
-        assert!(rt; take_step(rt, table, *step)?, "step {at}");
+        expect_step(rt, take_step(rt, table, *step)?, at);
     }
     Ok(())
 }
@@ -184,7 +185,7 @@ fn an_object_is_created_with_all_rights_of_its_kind(rt: HostRuntime) -> Result<(
         (Object::new_thread(), 0x00100010),
         (Object::Gone, 0),
     ] {
-        assert_eq!(rt; object.full_access().bits(), wanted);
+        expect_equal(&rt, object.full_access().bits(), wanted, "all rights");
     }
     Ok(())
 }

@@ -2,6 +2,7 @@
 
 ghost use Rattle.std.specs.Prelude.{◌≤◌, IfOk, vec_capacity};
 
+use crate::expect::{expect, expect_equal};
 use crate::tests::memory::{Host, tell_refused};
 use nt_devices::Counted;
 use nt_lines::{
@@ -62,8 +63,9 @@ fn check_line(
     requires { 4097 ≤ vec_capacity line.old }
     ensures { 4097 ≤ vec_capacity line.new }
 {
-    assert_eq!(rt; input.read_line(reader, line), Ok(wanted.1));
-    assert_eq!(rt; line.as_slice(), wanted.0);
+    let read = input.read_line(reader, line);
+    expect(rt, read == Ok(wanted.1), "how a line ends");
+    expect_equal(rt, line.as_slice(), wanted.0, "a line");
 }
 
 fn check_lines(rt: &impl Host, input: &mut Input, line: &mut Vec<u8>)
@@ -77,7 +79,7 @@ fn check_lines(rt: &impl Host, input: &mut Input, line: &mut Vec<u8>)
     check_line(rt, input, &mut reader, line, (b"last", Ending::EndOfInput));
     line.clear();
     put(line, b"more");
-    assert_eq!(rt; line.as_slice(), b"more".as_slice());
+    expect_equal(rt, line.as_slice(), b"more".as_slice(), "the last line");
 }
 
 #[test]
@@ -100,13 +102,18 @@ const TEXTS: &[(&[u8], Option<&[u8]>)] = &[
     (b"t0\x7f", None),
 ];
 
+/// Fails the test, and tells the text, unless it was read as it is to be.
+fn expect_read(rt: &impl Host, text: &[u8], is_right: bool) {
+    assert!(rt; is_right, "{text:?}");
+}
+
 #[test]
 fn words_are_parted_by_spaces_and_tabs(rt: HostRuntime) {
     for (text, wanted) in FIRST_WORDS {
-        assert!(rt; first_word(text) == *wanted, "{text:?}");
+        expect_read(&rt, text, first_word(text) == *wanted);
     }
     for (line, wanted) in TEXTS {
-        assert!(rt; text_of(line) == *wanted, "{line:?}");
+        expect_read(&rt, line, text_of(line) == *wanted);
     }
 }
 
@@ -123,14 +130,14 @@ const NAMES: &[(&[u8], Option<&str>)] = &[(b"_a1", Some("_a1")), (b"t1", None)];
 
 #[test]
 fn numbers_callers_and_names(rt: HostRuntime) {
-    assert!(rt; are_digits(b"007"));
+    expect_read(&rt, b"007", are_digits(b"007"));
     for (word, digits, wanted) in NUMBERS {
-        assert!(rt; number_of(word, *digits) == *wanted, "{word:?}");
+        expect_read(&rt, word, number_of(word, *digits) == *wanted);
     }
     for (word, wanted) in CALLERS {
-        assert!(rt; caller_of(word) == *wanted, "{word:?}");
+        expect_read(&rt, word, caller_of(word) == *wanted);
     }
     for (word, wanted) in NAMES {
-        assert!(rt; name_of(word) == *wanted, "{word:?}");
+        expect_read(&rt, word, name_of(word) == *wanted);
     }
 }

@@ -1,5 +1,6 @@
 //! The five kinds of object, each from its creation on, and what is gone.
 
+use crate::expect::{expect, expect_equal, expect_step};
 use crate::tests::memory::Host;
 use nt_objects::{Armed, Object, Released, Routine, Taken};
 use nt_status::{EventFlags, Moment, MutexFlags, Refusal, ThreadId, TimerFlags};
@@ -153,7 +154,7 @@ fn expires(timer: &mut Object, now: u64, wanted: Option<Sent>) -> bool {
 /// Takes the steps in turn.
 fn play(rt: &impl Host, mut object: Object, steps: &[Step]) {
     for (at, step) in steps.iter().enumerate() {
-        assert!(rt; take_step(&mut object, *step), "step {at}");
+        expect_step(rt, take_step(&mut object, *step), at);
     }
 }
 
@@ -191,10 +192,12 @@ fn a_manual_reset_event_stays_set_until_reset(rt: HostRuntime) {
 #[test]
 fn semaphores_count_between_zero_and_their_maximum(rt: HostRuntime) {
     for (initial, maximum) in [(0, 0), (0, -1), (-1, 1), (2, 1)] {
-        match Object::new_semaphore(initial, maximum) {
-            Ok(_) => assert!(rt; false, "{initial} of {maximum}"),
-            Err(refusal) => assert_eq!(rt; refusal.number(), 87),
-        }
+        let refused = match Object::new_semaphore(initial, maximum) {
+            Ok(_) => None,
+            Err(refusal) => Some(refusal.number()),
+        };
+        let (found, wanted) = ((initial, maximum, refused), (initial, maximum, Some(87)));
+        expect_equal(&rt, found, wanted, "counts that are refused");
     }
 }
 
@@ -215,7 +218,7 @@ fn a_release_past_the_maximum_changes_nothing(rt: HostRuntime) {
     ];
     match Object::new_semaphore(1, 3) {
         Ok(semaphore) => play(&rt, semaphore, &steps),
-        Err(_) => assert!(rt; false, "1 of 3"),
+        Err(_) => expect(&rt, false, "1 of 3"),
     }
 }
 
@@ -351,7 +354,12 @@ fn the_greatest_moments_and_periods_fit(rt: HostRuntime) -> Result<(), Fail> {
     };
     let now = Moment::new(4611686018427387904).ok_or("2^62 is a moment")?;
     // 107374 periods of 42949672950000 reach just below 2^62, and one more just above.
-    assert_eq!(rt; armed.next_due(now), 4611721133006250000);
+    expect_equal(
+        &rt,
+        armed.next_due(now),
+        4611721133006250000,
+        "the next due moment",
+    );
     Ok(())
 }
 

@@ -1,9 +1,10 @@
 //! Mutexes and their owners' lists.
 
-ghost use Rattle.std.specs.Prelude.{◌≡◌, ◌<◌, None, length, replicate, IfOk, OnOk};
+ghost use Rattle.std.specs.Prelude.{◌≡◌, ◌<◌, false, length, replicate, IfOk, OnOk};
 
+use crate::expect::expect;
 use crate::tests::memory::{Host, tell_refused};
-use nt_alarms::Marks;
+use nt_marks::Marks;
 use nt_objects::Object;
 use nt_owners::{ObjectTable, Owners};
 use nt_status::{MutexFlags, ThreadId};
@@ -36,7 +37,11 @@ fn check_nobody_owns(rt: &impl Host, owners: &mut Owners) -> Result<(), Fail> {
     make_room(rt, owners, 8)?;
     make_room(rt, owners, 3)?;
     for number in [0, 1, 2] {
-        assert_eq!(rt; owners.first(ThreadId::new(number)), None);
+        expect(
+            rt,
+            owners.first(ThreadId::new(number)).is_none(),
+            "nobody owns",
+        );
     }
     Ok(())
 }
@@ -77,7 +82,7 @@ fn make_object_room(rt: &impl Host, table: &mut ObjectTable) -> Result<(), Alloc
 
 /// A place for each of three objects, none of which is marked. Where memory is refused, a second try goes on.
 fn no_marks(rt: &impl Host) -> Result<Marks, AllocError>
-    ensures { IfOk result (λ marks. marks ≡ replicate 3 None) }
+    ensures { IfOk result (λ marks. marks ≡ replicate 3 false) }
 {
     match Marks::with_places(rt.alloc(), 3) {
         Ok(marks) => Ok(marks),
@@ -121,7 +126,11 @@ fn check_left_mutex(rt: &impl Host, table: &mut ObjectTable) -> Result<(), Fail>
 {
     let mut marks = no_marks(rt)?;
     let was_owned = leave_mutex(rt, table, &mut marks)?;
-    assert!(rt; was_owned && is_left(table, &marks));
+    expect(
+        rt,
+        was_owned && is_left(table, &marks),
+        "a mutex that was left",
+    );
     Ok(())
 }
 

@@ -1,5 +1,6 @@
 //! The numbers of refusals, statuses, flags and moments, and lists of handles.
 
+use crate::expect::{expect, expect_equal};
 use crate::tests::memory::{Host, tell_refused};
 use nt_status::{
     Access, EventFlags, Handle, Handles, Moment, MutexFlags, ObjectNumber, ObjectNumbers, Refusal,
@@ -26,7 +27,7 @@ fn refusals_have_their_numbers(rt: HostRuntime) {
         (Refusal::JournalFull, 536870918),
         (Refusal::HandleLimit, 536870919),
     ] {
-        assert_eq!(rt; refusal.number(), number);
+        expect_equal(&rt, refusal.number(), number, "the number of a refusal");
     }
 }
 
@@ -40,15 +41,20 @@ fn statuses_have_their_codes(rt: HostRuntime) {
         (Status::IO_COMPLETION, 0x0000_00C0),
         (Status::TIMEOUT, 0x0000_0102),
     ] {
-        assert_eq!(rt; status.code(), code);
-        assert_eq!(rt; Status::from_code(code), Some(status));
+        expect_equal(&rt, status.code(), code, "the code of a status");
+        expect_equal(
+            &rt,
+            Status::from_code(code),
+            Some(status),
+            "the status of a code",
+        );
     }
 }
 
 #[test]
 fn other_codes_are_no_statuses(rt: HostRuntime) {
     for code in [0x40, 0x7F, 0xC1, 0x101, 0x103, 0xFFFF_FFFF] {
-        assert_eq!(rt; Status::from_code(code), None);
+        expect_equal(&rt, Status::from_code(code), None, "a code of no status");
     }
 }
 
@@ -73,7 +79,12 @@ fn are_flags(bits: u32) -> (bool, bool, bool) {
 #[test]
 fn unknown_bits_are_no_flags(rt: HostRuntime) {
     for (bits, wanted) in FLAGS {
-        assert!(rt; are_flags(*bits) == *wanted, "{bits}");
+        expect_equal(
+            &rt,
+            (*bits, are_flags(*bits)),
+            (*bits, *wanted),
+            "bits that are flags",
+        );
     }
 }
 
@@ -108,25 +119,34 @@ fn rights_join() -> bool {
 
 #[test]
 fn flags_join(rt: HostRuntime) {
-    assert!(rt; event_flags_join());
-    assert!(rt; mutex_flag_joins_itself());
-    assert!(rt; timer_flag_joins_itself());
-    assert!(rt; rights_join());
+    expect(&rt, event_flags_join(), "flags of events");
+    expect(&rt, mutex_flag_joins_itself(), "the flag of mutexes");
+    expect(&rt, timer_flag_joins_itself(), "the flag of timers");
+    expect(&rt, rights_join(), "rights");
 }
 
 #[test]
 fn moments_have_a_greatest(rt: HostRuntime) -> Result<(), Fail> {
     let greatest = Moment::new(4611686018427387904).ok_or("2^62 is a moment")?;
-    assert_eq!(rt; greatest.get(), 4611686018427387904);
-    assert!(rt; Moment::new(4611686018427387905).is_none());
+    expect_equal(
+        &rt,
+        greatest.get(),
+        4611686018427387904,
+        "the greatest moment",
+    );
+    expect(
+        &rt,
+        Moment::new(4611686018427387905).is_none(),
+        "none is greater",
+    );
     Ok(())
 }
 
 #[test]
 fn numbers_come_back(rt: HostRuntime) {
-    assert_eq!(rt; ThreadId::new(255).get(), 255);
-    assert_eq!(rt; Handle::new(65535).get(), 65535);
-    assert_eq!(rt; ObjectNumber::new(65535).get(), 65535);
+    expect_equal(&rt, ThreadId::new(255).get(), 255, "a thread");
+    expect_equal(&rt, Handle::new(65535).get(), 65535, "a handle");
+    expect_equal(&rt, ObjectNumber::new(65535).get(), 65535, "an object");
 }
 
 /// Adds a handle, last. Where memory is refused nothing changes, and a second try goes on.
@@ -136,7 +156,12 @@ fn push(rt: &impl Host, handles: &mut Handles, number: u32) -> Result<(), AllocE
         return Ok(());
     }
     tell_refused(rt, "a handle");
-    assert_eq!(rt; handles.as_slice().len(), have);
+    expect_equal(
+        rt,
+        handles.as_slice().len(),
+        have,
+        "what a refused push leaves",
+    );
     handles.push(Handle::new(number))
 }
 
@@ -172,7 +197,11 @@ fn check_nine(rt: &impl Host, handles: &mut Handles) -> Result<(), Fail> {
     for number in NINE {
         push(rt, handles, *number)?;
     }
-    assert!(rt; are(handles, NINE) && remade_is(rt, handles, NINE)?);
+    expect(
+        rt,
+        are(handles, NINE) && remade_is(rt, handles, NINE)?,
+        "nine handles",
+    );
     Ok(())
 }
 
@@ -192,7 +221,12 @@ fn take_over(
         return Ok(());
     }
     tell_refused(rt, "the objects of a list");
-    assert_eq!(rt; list.as_slice().len(), have);
+    expect_equal(
+        rt,
+        list.as_slice().len(),
+        have,
+        "what a refused list leaves",
+    );
     list.copy_from(objects)
 }
 
@@ -214,8 +248,12 @@ fn check_objects(
     objects: &[ObjectNumber],
 ) -> Result<(), Fail> {
     take_over(rt, list, objects)?;
-    assert!(rt; list.as_slice() == objects);
-    assert!(rt; copy_of(rt, list)?.as_slice() == objects);
+    expect(rt, list.as_slice() == objects, "the objects of a list");
+    expect(
+        rt,
+        copy_of(rt, list)?.as_slice() == objects,
+        "the objects of its copy",
+    );
     Ok(())
 }
 
@@ -228,7 +266,11 @@ fn objects_in_turn(rt: &impl Host, list: &mut ObjectNumbers) -> Result<(), Fail>
     check_objects(rt, list, &five[1..])?;
     check_objects(rt, list, five)?;
     list.put_one(ObjectNumber::new(3));
-    assert!(rt; list.as_slice() == [ObjectNumber::new(3)].as_slice());
+    expect(
+        rt,
+        list.as_slice() == [ObjectNumber::new(3)].as_slice(),
+        "one object",
+    );
     check_objects(rt, list, &five[..1])?;
     check_objects(rt, list, &[])
 }

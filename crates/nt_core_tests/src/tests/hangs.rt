@@ -1,5 +1,6 @@
 //! Why threads wait: scenarios of three threads, with what a reader of the definitions would say of each.
-use crate::tests::memory::{Host, NOT_ENOUGH_MEMORY, tell_refused};
+use crate::expect::expect;
+use crate::tests::memory::{Host, tell_refusal};
 use nt_apc::Apc;
 use nt_core::{Act, Call, Core, WaitCall};
 use nt_look::why;
@@ -258,8 +259,7 @@ fn is_told_at_last(
     due: bool,
 ) -> Result<bool, Refusal> {
     is_told(rt.alloc(), steps, stuck, knot, due).or_else(|refusal| {
-        assert_eq!(rt; refusal.number(), NOT_ENOUGH_MEMORY);
-        tell_refused(rt, "why threads wait");
+        tell_refusal(rt, refusal, "why threads wait");
         is_told(rt.alloc(), steps, stuck, knot, due)
     })
 }
@@ -268,6 +268,6 @@ fn is_told_at_last(
 fn each_hang_is_told(rt: HostRuntime) {
     for (name, steps, stuck, knot, due) in ROWS {
         let told = is_told_at_last(&rt, steps, *stuck, knot, *due);
-        assert!(rt; matches!(told, Ok(true)), "{name}");
+        expect(&rt, matches!(told, Ok(true)), name);
     }
 }

@@ -1,6 +1,7 @@
 //! A dispatcher that gives numbers again by itself: calls, each with the number that it is answered.
+use crate::expect::{expect, expect_equal};
 use crate::tests::calls::{answer_of, call_of};
-use crate::tests::memory::{Host, NOT_ENOUGH_MEMORY, tell_refused};
+use crate::tests::memory::{Host, NOT_ENOUGH_MEMORY, tell_refusal};
 use crate::tests::script::Answer::{Done, Handle, Pended, Status};
 use crate::tests::script::Ask::{Any, Close, Duplicate, Event, Exit, Mutex, Set};
 use crate::tests::script::{ACCESS_DENIED, Answer, Ask, HANDLE_LIMIT, INFINITE, TIMEOUT};
@@ -250,8 +251,7 @@ fn play(alloc: Global, threads: u32, steps: &[Does]) -> Result<Option<usize>, Re
 /// The same, with a second try where memory is refused.
 fn play_at_last(rt: &impl Host, threads: u32, steps: &[Does]) -> Result<Option<usize>, Refusal> {
     play(rt.alloc(), threads, steps).or_else(|refusal| {
-        assert_eq!(rt; refusal.number(), NOT_ENOUGH_MEMORY);
-        tell_refused(rt, "a dispatcher that lasts");
+        tell_refusal(rt, refusal, "a dispatcher that lasts");
         play(rt.alloc(), threads, steps)
     })
 }
@@ -260,7 +260,7 @@ fn play_at_last(rt: &impl Host, threads: u32, steps: &[Does]) -> Result<Option<u
 fn numbers_come_back_by_themselves(rt: HostRuntime) {
     for (name, threads, steps) in ROWS {
         let wrong = play_at_last(&rt, *threads, steps);
-        assert!(rt; wrong.is_ok(), "{name}");
-        assert_eq!(rt; wrong.unwrap_or(None), None, "{name}, step");
+        expect(&rt, wrong.is_ok(), name);
+        expect_equal(&rt, wrong.unwrap_or(None), None, name);
     }
 }

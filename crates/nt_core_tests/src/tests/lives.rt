@@ -5,12 +5,15 @@ mod turns;
 use crate::tests::calls::{answer_of, are_ended};
 use crate::tests::lasting::{let_go, made};
 use crate::tests::lives::turns::{THREADS, Turn, draw_turn};
-use crate::tests::memory::{Host, NOT_ENOUGH_MEMORY, call_of_at_last, rounds, tell_refused};
+use crate::tests::memory::{
+    Host, NOT_ENOUGH_MEMORY, call_of_at_last, rounds, tell_refusal, tell_refused,
+};
 use crate::tests::plain::life::{PlainLife, Shown};
 use crate::tests::script::{Answer, Ask};
 use nt_life::{Begun, Lasting};
 use nt_status::{Handle, Moment, ObjectNumber, Refusal};
 use std::alloc::AllocError;
+use std::fmt::Debug;
 use std::test::Fail;
 
 /// More than the objects, and the APCs that are queued at once, of a whole life.
@@ -136,6 +139,16 @@ fn tells_grants(turn: Turn, shown: Shown) -> bool {
     matches!(turn, Turn::Asks(_, _, _) | Turn::Ticks(_)) || shown.number.is_some()
 }
 
+/// Fails the test, and tells the turn, unless the dispatcher shows what the reference shows.
+fn expect_alike<T: Copy + PartialEq + Debug>(
+    rt: &impl Host,
+    found: T,
+    expected: T,
+    (seed, turn): (u64, u16),
+) {
+    assert_eq!(rt; found, expected, "life {seed}, turn {turn}");
+}
+
 /// Looks whether both ended the same waits, and have as many that pend, as many objects that live, and the same moment.
 fn expect_same(rt: &impl Host, life: &Lasting, plain: &PlainLife, tells: bool, place: (u64, u16)) {
     let (seed, turn) = place;
@@ -146,12 +159,8 @@ fn expect_same(rt: &impl Host, life: &Lasting, plain: &PlainLife, tells: bool, p
         "life {seed}, turn {turn}: these ended: {grants:?}"
     );
     let found = (core.pending(), core.living());
-    assert_eq!(rt;
-        found,
-        plain.counts(),
-        "life {seed}, turn {turn}: waits, objects"
-    );
-    assert_eq!(rt; core.now().get(), plain.now(), "life {seed}, turn {turn}");
+    expect_alike(rt, found, plain.counts(), place);
+    expect_alike(rt, core.now().get(), plain.now(), place);
 }
 
 /// Takes one turn in both, and answers whether a number of a handle was given again.
@@ -162,11 +171,10 @@ fn take_turn(
     turn: Turn,
     place: (u64, u16),
 ) -> Result<bool, AllocError> {
-    let (seed, at) = place;
     let handles = plain.handles();
     let found = shown_by_life(rt, life, turn);
     let expected = shown_by_plain(plain, turn, found.number)?;
-    assert_eq!(rt; found, expected, "life {seed}, turn {at}");
+    expect_alike(rt, found, expected, place);
     expect_same(rt, life, plain, tells_grants(turn, expected), place);
     Ok(match expected.answer {
         Some(Answer::Handle(handle)) => handle < handles,
@@ -225,8 +233,7 @@ fn open_life(rt: &impl Host) -> Result<Lasting, Refusal> {
     match Lasting::new(rt.alloc(), u32::from(THREADS)) {
         Ok(life) => Ok(life),
         Err(refusal) => {
-            assert_eq!(rt; refusal.number(), NOT_ENOUGH_MEMORY);
-            tell_refused(rt, "an opening");
+            tell_refusal(rt, refusal, "an opening");
             Lasting::new(rt.alloc(), u32::from(THREADS))
         }
     }

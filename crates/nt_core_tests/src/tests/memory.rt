@@ -1,4 +1,5 @@
 //! Second tries where a growth is refused, each told.
+use crate::expect::{expect, expect_equal};
 use crate::tests::calls::{answer_of, call_of};
 use crate::tests::script::{Answer, Ask};
 use nt_core::{Call, Core, Reply, WaitCall};
@@ -29,6 +30,12 @@ pub fn tell_refused(rt: &impl Host, whose: &str) {
     assert!(rt; println!(rt; "refused: {whose}").is_ok());
 }
 
+/// The same of a call that was refused: for memory alone.
+pub fn tell_refusal(rt: &impl Host, refusal: Refusal, whose: &str) {
+    expect_equal(rt, refusal.number(), NOT_ENOUGH_MEMORY, whose);
+    tell_refused(rt, whose);
+}
+
 /// How often a long test goes round: seldom where growths are refused, since each growth is then one more run.
 pub fn rounds(rt: &impl Host, often: u16, seldom: u16) -> u16 {
     if is_refusing(rt) { seldom } else { often }
@@ -48,8 +55,7 @@ pub fn open(rt: &impl Host, threads: u32) -> Result<Core, Refusal> {
     match opened(rt.alloc(), threads) {
         Ok(core) => Ok(core),
         Err(refusal) => {
-            assert_eq!(rt; refusal.number(), NOT_ENOUGH_MEMORY);
-            tell_refused(rt, "an opening");
+            tell_refusal(rt, refusal, "an opening");
             opened(rt.alloc(), threads)
         }
     }
@@ -61,8 +67,7 @@ pub fn let_go(_core: Core) {}
 /// An equal dispatcher, with a second try where memory is refused.
 pub fn copy_at_last(rt: &impl Host, core: &Core) -> Result<Core, Refusal> {
     core.copy().or_else(|refusal| {
-        assert_eq!(rt; refusal.number(), NOT_ENOUGH_MEMORY);
-        tell_refused(rt, "a copy");
+        tell_refusal(rt, refusal, "a copy");
         core.copy()
     })
 }
@@ -80,10 +85,7 @@ fn call_at_last(rt: &impl Host, core: &mut Core, who: u32, call: &Call) -> Answe
         return answer;
     }
     tell_refused(rt, "a call");
-    assert!(rt;
-        is_unmoved(core, pending),
-        "a refused call changed something"
-    );
+    expect(rt, is_unmoved(core, pending), "what a refused call leaves");
     answer_of(core.call(who, call))
 }
 

@@ -1,4 +1,5 @@
 //! Openings: a dispatcher has 1 to 256 threads, or 4,096 at the most if it is opened for many.
+use crate::expect::expect_equal;
 use crate::tests::memory::{Host, let_go};
 use crate::tests::play::play_all;
 use crate::tests::script::Answer::{Done, Handle, Pended};
@@ -52,20 +53,22 @@ fn answer(opened: Result<Core, Refusal>) -> Answer {
 
 fn refuse_openings(rt: &impl Host) {
     for threads in TOO_FEW_OR_MANY {
-        assert_eq!(rt;
-            answer(Core::new(rt.alloc(), *threads)),
-            INVALID_PARAMETER,
-            "{threads} threads"
-        );
+        let found = (*threads, answer(Core::new(rt.alloc(), *threads)));
+        expect_equal(rt, found, (*threads, INVALID_PARAMETER), "too few or many");
     }
 }
 
 fn refuse_openings_for_many(rt: &impl Host) {
     for threads in TOO_FEW_OR_TOO_MANY {
-        assert_eq!(rt;
+        let found = (
+            *threads,
             answer(Core::with_many_threads(rt.alloc(), *threads)),
-            INVALID_PARAMETER,
-            "{threads} of many threads"
+        );
+        expect_equal(
+            rt,
+            found,
+            (*threads, INVALID_PARAMETER),
+            "too few or too many",
         );
     }
 }

@@ -1,6 +1,7 @@
 //! Every order of the calls that threads make: locks that are crossed, and forks that philosophers take. The counts, orders
 //! and losses are those of a search in Python over a machine of its own.
-use crate::tests::memory::{Host, NOT_ENOUGH_MEMORY, tell_refused};
+use crate::expect::expect;
+use crate::tests::memory::{Host, tell_refusal};
 use nt_apc::Apc;
 use nt_core::{Act, Call, Core, WaitCall};
 use nt_explore::{Ask, Explored, Loss, Plan, Verdict, Watcher, explore};
@@ -196,8 +197,7 @@ fn is_row(alloc: Global, row: &Row) -> Result<bool, Refusal> {
 /// The same, with a second try where memory is refused.
 fn is_row_at_last(rt: &impl Host, row: &Row) -> Result<bool, Refusal> {
     is_row(rt.alloc(), row).or_else(|refusal| {
-        assert_eq!(rt; refusal.number(), NOT_ENOUGH_MEMORY);
-        tell_refused(rt, "every order");
+        tell_refusal(rt, refusal, "every order");
         is_row(rt.alloc(), row)
     })
 }
@@ -206,6 +206,6 @@ fn is_row_at_last(rt: &impl Host, row: &Row) -> Result<bool, Refusal> {
 fn each_search_tells_just_this(rt: HostRuntime) {
     for row in ROWS {
         let told = is_row_at_last(&rt, row);
-        assert!(rt; matches!(told, Ok(true)), "{}", row.name);
+        expect(&rt, matches!(told, Ok(true)), row.name);
     }
 }

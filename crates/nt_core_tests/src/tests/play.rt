@@ -7,6 +7,7 @@ use crate::tests::renewing::{expect_closed, expect_vacant, renewed};
 use crate::tests::script::{Answer, Ask, Ended, Scenario, Step};
 use nt_core::Core;
 use nt_status::{Moment, Refusal};
+use std::fmt::Debug;
 use std::test::Fail;
 
 /// Which step of which scenario.
@@ -16,7 +17,8 @@ struct Place {
     step: usize,
 }
 
-fn expect_answer(rt: &impl Host, found: Answer, expected: Answer, place: Place) {
+/// Fails the test, and tells the step, unless what is found there is what is expected.
+fn expect_there<T: Copy + PartialEq + Debug>(rt: &impl Host, found: T, expected: T, place: Place) {
     let Place { shows, step } = place;
     assert_eq!(rt; found, expected, "{shows}, step {step}");
 }
@@ -31,20 +33,11 @@ fn expect_ended(rt: &impl Host, core: &Core, ended: &[Ended], place: Place) {
     );
 }
 
-fn expect_number(rt: &impl Host, found: u64, expected: u64, place: Place) {
-    let Place { shows, step } = place;
-    assert_eq!(rt; found, expected, "{shows}, step {step}");
-}
-
 /// Looks whether each of these threads waits, or none.
 fn expect_waiting(rt: &impl Host, core: &Core, threads: &[u32], waits: bool, place: Place) {
-    let Place { shows, step } = place;
     for thread in threads {
-        assert_eq!(rt;
-            core.is_waiting(*thread),
-            waits,
-            "{shows}, step {step}: thread {thread}"
-        );
+        let found = (*thread, core.is_waiting(*thread));
+        expect_there(rt, found, (*thread, waits), place);
     }
 }
 
@@ -52,7 +45,7 @@ fn expect_waiting(rt: &impl Host, core: &Core, threads: &[u32], waits: bool, pla
 fn create_events(rt: &impl Host, core: &mut Core, who: u32, first: u32, last: u32, place: Place) {
     for handle in first..=last {
         let found = answer_to(rt, core, who, Ask::Event(0), &[]);
-        expect_answer(rt, found, Answer::Handle(handle), place);
+        expect_there(rt, found, Answer::Handle(handle), place);
     }
 }
 
@@ -67,13 +60,13 @@ fn close_one(
     place: Place,
 ) {
     let created = answer_to(rt, core, who, create, &[]);
-    expect_answer(rt, created, Answer::Handle(handle), place);
+    expect_there(rt, created, Answer::Handle(handle), place);
     for ask in asks {
         let found = answer_to(rt, core, who, *ask, &[handle]);
-        expect_answer(rt, found, Answer::Done, place);
+        expect_there(rt, found, Answer::Done, place);
     }
     let closed = answer_at_once(rt, core, who, Ask::Close, &[handle]);
-    expect_answer(rt, closed, Answer::Done, place);
+    expect_there(rt, closed, Answer::Done, place);
 }
 
 /// The next moment up to this one at which something is due.
@@ -83,8 +76,7 @@ fn due(core: &Core, up_to: u64) -> Option<u64> {
 }
 
 fn expect_due(rt: &impl Host, core: &Core, up_to: u64, expected: Option<u64>, place: Place) {
-    let Place { shows, step } = place;
-    assert_eq!(rt; due(core, up_to), expected, "{shows}, step {step}");
+    expect_there(rt, due(core, up_to), expected, place);
 }
 
 /// Lets all moments up to this one pass.
@@ -128,11 +120,11 @@ fn look(rt: &impl Host, core: &mut Core, step: Step, place: Place) {
         Step::Vacant(objects, may) => expect_vacant(rt, core, objects, may),
         Step::Closed(handles, may) => expect_closed(rt, core, handles, may),
         Step::Due(up_to, moment) => expect_due(rt, core, up_to, moment, place),
-        Step::Tested(count) => expect_number(rt, core.tested(), count, place),
-        Step::Now(moment) => expect_number(rt, core.now().get(), moment, place),
-        Step::Living(count) => expect_number(rt, core.living() as u64, count, place),
+        Step::Tested(count) => expect_there(rt, core.tested(), count, place),
+        Step::Now(moment) => expect_there(rt, core.now().get(), moment, place),
+        Step::Living(count) => expect_there(rt, core.living() as u64, count, place),
         Step::Waiting(threads) => {
-            expect_number(rt, core.pending() as u64, threads.len() as u64, place);
+            expect_there(rt, core.pending() as u64, threads.len() as u64, place);
             expect_waiting(rt, core, threads, true, place);
         }
         Step::Idle(threads) => expect_waiting(rt, core, threads, false, place),
@@ -143,7 +135,7 @@ fn look(rt: &impl Host, core: &mut Core, step: Step, place: Place) {
 fn take_step(rt: &impl Host, core: &mut Core, step: Step, place: Place) {
     match answered(rt, core, step) {
         Some((found, expected, ended)) => {
-            expect_answer(rt, found, expected, place);
+            expect_there(rt, found, expected, place);
             expect_ended(rt, core, ended, place);
         }
         None => look(rt, core, step, place),

@@ -1,4 +1,5 @@
 //! The steps of a scenario that give numbers again.
+use crate::expect::expect_equal;
 use crate::tests::calls::{answer_of, call_of};
 use crate::tests::memory::{Host, NOT_ENOUGH_MEMORY, tell_refused};
 use crate::tests::script::{Answer, Ask, Ended, Step};
@@ -84,21 +85,15 @@ pub fn renewed(
 /// Looks whether the number of each of these objects may be given again, or of none.
 pub fn expect_vacant(rt: &impl Host, core: &Core, objects: &[u32], may: bool) {
     for object in objects {
-        assert_eq!(rt;
-            core.is_vacant(ObjectNumber::new(*object)),
-            may,
-            "object {object}"
-        );
+        let found = (*object, core.is_vacant(ObjectNumber::new(*object)));
+        expect_equal(rt, found, (*object, may), "an object that is vacant");
     }
 }
 
 /// Looks whether the number of each of these handles may be given again, or of none.
 pub fn expect_closed(rt: &impl Host, core: &Core, handles: &[u32], may: bool) {
     for handle in handles {
-        assert_eq!(rt;
-            core.is_closed(Handle::new(*handle)),
-            may,
-            "handle {handle}"
-        );
+        let found = (*handle, core.is_closed(Handle::new(*handle)));
+        expect_equal(rt, found, (*handle, may), "a handle that is closed");
     }
 }

@@ -74,8 +74,12 @@ fn check<R: Host + Threads + Wait + Sync>(rt: &R, workers: u32, rounds: u32, lin
     assert!(rt; told.is(lines, "", 0), "{workers} {rounds}");
 }
 
+/// Not made where growths are refused: whether the first thread's wait for both pends, and so grows, is a matter of when they end.
 #[test]
 fn two_workers_make_three_rounds(rt: HostRuntime) {
+    if is_refusing(&rt) {
+        return;
+    }
     let lines = "threads 2\nrounds 3\nacquired 6\nreleased 6\nsemaphore 6\nabandoned 0\n";
     check(&rt, 2, 3, lines);
 }

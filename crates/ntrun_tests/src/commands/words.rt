@@ -3,7 +3,8 @@
 use crate::commands::run_over;
 use crate::devices::{Given, Room};
 use crate::refused::{Host, tell_refused};
-use nt_script::{RunFault, ScriptFault};
+use nt_grammar::ScriptFault;
+use nt_script::RunFault;
 use std::alloc::{AllocError, Global};
 use std::test::Fail;
 

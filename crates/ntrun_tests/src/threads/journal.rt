@@ -2,9 +2,10 @@
 use crate::refused::is_refusing;
 use nt_core::Reply;
 use nt_mail::Entry;
-use nt_script::{Counted, Summary, Unwritten, run, write_line};
+use nt_script::{Counted, Summary, run};
 use nt_status::Refusal;
 use nt_threads::history_of;
+use nt_written::{Unwritten, write_line};
 use std::alloc::{AllocError, Global};
 use std::process::Abort;
 use std::test::Fail;

@@ -3,13 +3,13 @@ use Rattle.std.proofs.Common.{sym, subst, refl, ◌∙◌, inl}
 use Rattle.std.specs.Prelude.{Option, Some}
 use Rattle.nt_sleepers.specs.Sleepers.{Sleeping}
 use Rattle.nt_life.specs.Lasting.{no_spares}
-use Rattle.nt_c.specs.Asks.{Opens}
+use Rattle.nt_c.specs.Asks.{OpensHandle}
 use Rattle.nt_c.proofs.Fitting.{none_of}
 use Rattle.nt_c.proofs.life.nt_open_lasting.Goals as goal
 
 pub returns-in-Ok-clause-opens : goal.returns-in-Ok-clause-opens
 returns-in-Ok-clause-opens c =
-    subst (λ (x : Option Sleeping). Opens MAX_MANY_THREADS (Some no_spares) x c.args.threads 0 c.put.new.self.held) (sym (none_of c.args.nt.now.cell.held (sym c.requires.fit ∙ c.if-nt.false)))
+    subst (λ (x : Option Sleeping). OpensHandle MAX_MANY_THREADS (Some no_spares) x c.args.threads 0 c.put.new.self.held) (sym (none_of c.args.nt.now.cell.held (sym c.requires.fit ∙ c.if-nt.false)))
     (inl (
       c.in-Ok.sleepers,
       c.put.ensures,

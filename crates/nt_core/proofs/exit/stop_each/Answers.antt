@@ -1,4 +1,4 @@
-use Rattle.std.proofs.Common.{◌≡◌, ◌<◌, ◌+◌, ℕ, List, [], ◌∷◌, ◌++◌, Option, Some, None, length, take, set, sym, ap, ◌∙◌, subst, arith}
+use Rattle.std.proofs.Common.{◌≡◌, ◌<◌, ◌+◌, ℕ, List, [], ◌∷◌, ◌++◌, Option, None, length, take, set, sym, ap, ◌∙◌, subst, arith, Bool, true}
 use Rattle.std.proofs.lemmas.Bool.{false≢true}
 use Rattle.nt_objects.specs.declared.object.Object.{Object}
 use Rattle.nt_objects.specs.Object.{armed_with}
@@ -26,16 +26,16 @@ loop-timer-preserved c =
           let sets : IsSetBy now t h = subst (λ (os : List Object). IsSetBy os t h) c.as_slice.ensures (c.is_set_by.ensures.0 w.if-is_set_by.true) in
           let objects : c.if-is_set_by.objects.items ≡ set now h (armed_with None (object_at now h)) = ap (λ (o : Objects). o.items) w.objects-is ∙ w.stop.ensures.objects in
           let alarms : c.if-is_set_by.alarms ≡ set c.loop-timer.alarms h None = w.alarms-is ∙ w.stop.ensures.alarms in
-          let changed : c.if-is_set_by.changed ≡ set c.loop-timer.changed h (Some 0) = w.changed-is ∙ w.stop.ensures.changed in
+          let changed : c.if-is_set_by.changed ≡ set c.loop-timer.changed h true = w.changed-is ∙ w.stop.ensures.changed in
           let place : h < length c.loop-timer.changed = let known = set_timer_known now t h sets in let a = far.marked.count in let b = far.stopped.count in let e = c.requires.places in omega (arith, known, a, b, e) in
-          let next : StoppedSoFar t (timers ++ h ∷ []) old (set now h (armed_with None (object_at now h))) olda (set c.loop-timer.alarms h None) oldc (set c.loop-timer.changed h (Some 0)) =
+          let next : StoppedSoFar t (timers ++ h ∷ []) old (set now h (armed_with None (object_at now h))) olda (set c.loop-timer.alarms h None) oldc (set c.loop-timer.changed h true) =
           stopped_next t timers h old now olda c.loop-timer.alarms oldc c.loop-timer.changed sets place far in
           record {
             so_far =
                 subst (λ (ts : List ℕ). StoppedSoFar t ts old c.if-is_set_by.objects.items olda c.if-is_set_by.alarms oldc c.if-is_set_by.changed) (sym more)
                 (subst (λ (os : List Object). StoppedSoFar t (timers ++ h ∷ []) old os olda c.if-is_set_by.alarms oldc c.if-is_set_by.changed) (sym objects)
                 (subst (λ (clocks : List (Option ℕ)). StoppedSoFar t (timers ++ h ∷ []) old (set now h (armed_with None (object_at now h))) olda clocks oldc c.if-is_set_by.changed) (sym alarms)
-                (subst (λ (marks : List (Option ℕ)). StoppedSoFar t (timers ++ h ∷ []) old (set now h (armed_with None (object_at now h))) olda (set c.loop-timer.alarms h None) oldc marks) (sym changed) next)));
+                (subst (λ (marks : List Bool). StoppedSoFar t (timers ++ h ∷ []) old (set now h (armed_with None (object_at now h))) olda (set c.loop-timer.alarms h None) oldc marks) (sym changed) next)));
             owned = ap (λ (o : Objects). o.owned) w.objects-is ∙ (w.stop.ensures.owned ∙ c.loop-timer.invariant.owned);
           }
       | else-is_set_by w ↦
@@ -46,7 +46,7 @@ loop-timer-preserved c =
                 subst (λ (ts : List ℕ). StoppedSoFar t ts old c.if-is_set_by.objects.items olda c.if-is_set_by.alarms oldc c.if-is_set_by.changed) (sym more)
                 (subst (λ (os : List Object). StoppedSoFar t (timers ++ h ∷ []) old os olda c.if-is_set_by.alarms oldc c.if-is_set_by.changed) (sym (ap (λ (o : Objects). o.items) w.objects-is))
                 (subst (λ (clocks : List (Option ℕ)). StoppedSoFar t (timers ++ h ∷ []) old now olda clocks oldc c.if-is_set_by.changed) (sym w.alarms-is)
-                (subst (λ (marks : List (Option ℕ)). StoppedSoFar t (timers ++ h ∷ []) old now olda c.loop-timer.alarms oldc marks) (sym w.changed-is) next)));
+                (subst (λ (marks : List Bool). StoppedSoFar t (timers ++ h ∷ []) old now olda c.loop-timer.alarms oldc marks) (sym w.changed-is) next)));
             owned = ap (λ (o : Objects). o.owned) w.objects-is ∙ c.loop-timer.invariant.owned;
           }
     ]

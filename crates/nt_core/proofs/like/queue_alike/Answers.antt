@@ -1,4 +1,4 @@
-use Rattle.std.proofs.Common.{arith, refl, ◌≡◌, sym, ◌∙◌, below_more, length}
+use Rattle.std.proofs.Common.{arith, refl, ◌≡◌, sym, ◌∙◌, below_more}
 use Rattle.std.proofs.lemmas.Bool.Decides.{nat_tests}
 use Rattle.std.proofs.lemmas.Grind.{same_number_lists}
 use Rattle.nt_waits.specs.Waits.{queue_of}

@@ -1,4 +1,4 @@
-use Rattle.std.proofs.Common.{◌≡◌, ◌∷◌, ◌+◌, ℕ, true, List, Option, Some, set, sym, ap, ◌∙◌, subst, arith}
+use Rattle.std.proofs.Common.{◌≡◌, ◌∷◌, ◌+◌, ℕ, true, List, set, sym, ap, ◌∙◌, subst, arith, Bool}
 use Rattle.std.specs.Prelude.{drop, nat_lt}
 use Rattle.std.proofs.lemmas.Bool.Decides.{nat_tests}
 use Rattle.std.proofs.lemmas.List.{at_drop_more}
@@ -31,11 +31,11 @@ loop-object-preserved c =
     elim c.if-count-eq0.branch [
       | then-count-eq0 w ↦
           let known = c.requires h (dropped_member i ended h left split) in
-          let is : c.if-count-eq0.leaving ≡ set c.loop-object.leaving h (Some 0) = w.leaving-is ∙ (w.set.ensures ∙ ap (λ (k : ℕ). set c.loop-object.leaving k (Some 0)) w.get.ensures) in
-          subst (λ (marks : List (Option ℕ)). LetsGoBut left opened ended old marks) (sym is) (let_go_marked opened ended old c.loop-object.leaving h left far known)
+          let is : c.if-count-eq0.leaving ≡ set c.loop-object.leaving h true = w.leaving-is ∙ (w.set.ensures ∙ ap (λ (k : ℕ). set c.loop-object.leaving k true) w.get.ensures) in
+          subst (λ (marks : List Bool). LetsGoBut left opened ended old marks) (sym is) (let_go_marked opened ended old c.loop-object.leaving h left far known)
       | else-count-eq0 w ↦
           let test = w.if-count-eq0.false in
           let count = c.count.ensures in
           let some : nat_lt 0 (count_named opened h) ≡ true = grind (arith, nat_tests, test, count) in
-          subst (λ (marks : List (Option ℕ)). LetsGoBut left opened ended old marks) (sym w.leaving-is) (let_go_named opened ended old c.loop-object.leaving h left far some)
+          subst (λ (marks : List Bool). LetsGoBut left opened ended old marks) (sym w.leaving-is) (let_go_named opened ended old c.loop-object.leaving h left far some)
     ]

@@ -1,6 +1,7 @@
 //! Many threads, each in a wait-any on the same 64 objects.
 
 use crate::below::waits::masks::{are_queues, begin, end, wait_at_last};
+use crate::expect::expect;
 use crate::tests::memory::{Host, rounds, tell_refused};
 use nt_status::{Refusal, ThreadId};
 use nt_waits::WaitTable;
@@ -32,7 +33,11 @@ fn join(
         Ok(began) => Ok(began),
         Err(refusal) => {
             tell_refused(rt, "a wait");
-            assert!(rt; refusal.number() == 8 && are_queues(table, before));
+            expect(
+                rt,
+                refusal.number() == 8 && are_queues(table, before),
+                "a refused wait",
+            );
             begin(table, t, wait_at_last(rt, u64::MAX, None)?)
         }
     }
@@ -40,9 +45,13 @@ fn join(
 
 fn join_all(rt: &impl Host, table: &mut WaitTable, threads: &[u16]) -> Result<(), Refusal> {
     for i in 0..threads.len() {
-        assert!(rt; join(rt, table, threads[i], &threads[..i])?);
+        expect(
+            rt,
+            join(rt, table, threads[i], &threads[..i])?,
+            "one more waits",
+        );
     }
-    assert!(rt; are_queues(table, threads));
+    expect(rt, are_queues(table, threads), "all wait");
     Ok(())
 }
 
@@ -59,7 +68,11 @@ fn end_last_first(rt: &impl Host, table: &mut WaitTable) -> Result<(), Fail> {
     let threads = numbers(rt, rounds(rt, 256, 8))?;
     join_all(rt, table, &threads)?;
     for i in (0..threads.len()).rev() {
-        assert!(rt; end_one(table, threads[i], &threads[..i]));
+        expect(
+            rt,
+            end_one(table, threads[i], &threads[..i]),
+            "the last ends",
+        );
     }
     Ok(())
 }
@@ -73,7 +86,11 @@ fn end_first_first(rt: &impl Host, table: &mut WaitTable) -> Result<(), Fail> {
     let threads = numbers(rt, rounds(rt, 256, 8))?;
     join_all(rt, table, &threads)?;
     for i in 0..threads.len() {
-        assert!(rt; end_one(table, threads[i], &threads[i + 1..]));
+        expect(
+            rt,
+            end_one(table, threads[i], &threads[i + 1..]),
+            "the first ends",
+        );
     }
     Ok(())
 }

@@ -3,6 +3,7 @@ ghost use Rattle.std.specs.Prelude.{◌≡◌, ◌<◌, IfOk};
 
 use crate::below::waits::masks::{begin, earliest, end, is_queue, is_same, wait_at_last};
 use crate::below::waits::plain::PlainTable;
+use crate::expect::{expect, expect_equal};
 use crate::tests::memory::{Host, rounds, tell_refused};
 use nt_status::{ObjectNumber, Refusal, ThreadId};
 use nt_waits::{About, WaitTable};
@@ -60,7 +61,11 @@ fn begin_linked(
         Ok(began) => Ok(began),
         Err(refusal) => {
             tell_refused(rt, "a wait");
-            assert!(rt; refusal.number() == 8 && show_same(table, plain));
+            expect(
+                rt,
+                refusal.number() == 8 && show_same(table, plain),
+                "a refused wait",
+            );
             begin(table, t, wait_at_last(rt, wait.0, wait.1)?)
         }
     }
@@ -136,7 +141,7 @@ fn take_steps(
     let mut numbers = Numbers(1);
     for _ in 0..count {
         let went = step(rt, &mut numbers, table, plain)?;
-        assert!(rt; went && show_same(table, plain));
+        expect(rt, went && show_same(table, plain), "both show the same");
     }
     Ok(())
 }
@@ -160,7 +165,7 @@ pub fn copy_at_last(rt: &impl Host, table: &WaitTable) -> Result<WaitTable, Refu
         Ok(copied) => Ok(copied),
         Err(refusal) => {
             tell_refused(rt, "a copy");
-            assert_eq!(rt; refusal.number(), 8);
+            expect_equal(rt, refusal.number(), 8, "a refused copy");
             table.copy()
         }
     }
@@ -172,7 +177,11 @@ fn copy_shows_same(rt: &impl Host, table: &WaitTable, plain: &PlainTable) -> Res
 
 fn walk(rt: &impl Host, table: &mut WaitTable, plain: &mut PlainTable) -> Result<(), Fail> {
     take_steps(rt, rounds(rt, 5000, 50), table, plain)?;
-    assert!(rt; copy_shows_same(rt, table, plain)?);
+    expect(
+        rt,
+        copy_shows_same(rt, table, plain)?,
+        "a copy shows the same",
+    );
     Ok(())
 }
 

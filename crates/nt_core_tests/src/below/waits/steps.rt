@@ -1,14 +1,14 @@
-//! Waits that begin, are prepared and end, step by step.
-ghost use Rattle.std.specs.Prelude.{◌≡◌, IsSome, OnOk};
-ghost use Rattle.std.specs.Option.{ForSome};
+//! Waits that begin and end, step by step.
+ghost use Rattle.std.specs.Prelude.{◌≤◌};
 
 use crate::below::waits::masks::{
     are_queues, begin, earliest, end, is_queue, is_same, wait_at_last,
 };
 use crate::below::waits::sequences::copy_at_last;
+use crate::expect::{expect, expect_step};
 use crate::tests::memory::{Host, tell_refused};
 use nt_status::{ObjectNumber, Refusal, ThreadId};
-use nt_waits::{About, WaitTable};
+use nt_waits::{About, Room, WaitTable};
 use std::test::Fail;
 
 /// All 64 objects.
@@ -24,24 +24,22 @@ struct Waiting {
     before: &'static [u16],
 }
 
-/// A wait for one object, alertable where that is object 0, with its deadline; and the threads that wait before it is prepared, each
-/// on all 64 objects with the deadline 7.
+/// A wait for one object, alertable where that is object 0, with its deadline.
 #[derive(Clone, Copy)]
-struct Prepared {
+struct Single {
     thread: u16,
     object: u32,
     deadline: Option<u64>,
-    before: &'static [u16],
 }
 
 /// What is done to a table, or seen of it. Threads and objects stand as numbers.
 #[derive(Clone, Copy)]
 enum Step {
     Begin(Waiting),
-    Prepare(Prepared),
-    /// The wait is prepared, this other thread's wait ends, and then it begins.
-    BeginAfterEnd(Prepared, u16),
-    ForgetPrepared,
+    BeginOne(Single),
+    AddObject,
+    /// There is room for so many threads and objects.
+    HasRoom(usize, usize),
     End(u16),
     /// Exactly these threads wait on the object, in this order.
     Queue(u32, &'static [u16]),
@@ -77,7 +75,11 @@ fn shows_all(table: &WaitTable, waiting: &[u16]) -> bool {
 fn check_refused(rt: &impl Host, table: &WaitTable, thread: u16, before: &[u16], refusal: Refusal) {
     tell_refused(rt, "a wait");
     let same = shows_all(table, before) && table.about(ThreadId::new(thread)).is_none();
-    assert!(rt; same && refusal.number() == 8);
+    expect(
+        rt,
+        same && refusal.number() == 8,
+        "what a refused wait leaves",
+    );
 }
 
 /// Begins the wait, a second time where memory is refused. Answers whether its thread had none.
@@ -92,44 +94,33 @@ fn begin_at_last(rt: &impl Host, table: &mut WaitTable, wait: Waiting) -> Result
     }
 }
 
-/// Prepares the wait, a second time where memory is refused.
-fn prepare_at_last(rt: &impl Host, table: &mut WaitTable, wait: Prepared) -> Result<(), Refusal>
-    ensures there { OnOk result (IsSome table.new.prepared) }
-    ensures thread { OnOk result (ForSome table.new.prepared (λ p. p.0 ≡ wait.thread)) }
-    ensures pending { table.new.pending ≡ table.old.pending }
-{
+/// Begins the wait, for which no memory is wanted. Answers whether its thread had none, and it had room.
+fn begin_one(table: &mut WaitTable, wait: Single) -> bool {
     let thread = ThreadId::new(wait.thread);
     let object = ObjectNumber::new(wait.object);
     let about = About {
         alertable: wait.object == 0,
         deadline: wait.deadline,
     };
-    match table.prepare(thread, object, about) {
-        Ok(()) => Ok(()),
-        Err(refusal) => {
-            check_refused(rt, table, wait.thread, wait.before, refusal);
-            table.prepare(thread, object, about)
-        }
+    let room = table.room();
+    let has_room = (wait.thread as usize) < room.threads && (wait.object as usize) < room.objects;
+    if !has_room || table.about(thread).is_some() {
+        return false;
     }
+    table.begin_one(thread, object, false, about);
+    true
 }
 
-/// Prepares the wait, lets the wait of another thread end, and begins it. Answers whether all three were to be done.
-fn begin_after_end(
-    rt: &impl Host,
-    table: &mut WaitTable,
-    wait: Prepared,
-    other: u16,
-) -> Result<bool, Refusal> {
-    prepare_at_last(rt, table, wait)?;
-    if table.about(ThreadId::new(other)).is_none() {
-        return Ok(false);
+/// Makes room for waits on one object more, a second time where memory is refused.
+fn add_at_last(rt: &impl Host, table: &mut WaitTable) -> Result<(), Refusal> {
+    let before = table.room().objects;
+    if table.add_object().is_ok() {
+        return Ok(());
     }
-    let _ended = table.end(ThreadId::new(other));
-    if table.about(ThreadId::new(wait.thread)).is_some() {
-        return Ok(false);
-    }
-    table.begin_prepared();
-    Ok(true)
+    tell_refused(rt, "room");
+    assert!(rt; table.room().objects == before);
+    table.add_object()?;
+    Ok(())
 }
 
 /// Whether the thread's wait has this mask and deadline, or is none. This is a look.
@@ -159,6 +150,9 @@ fn shows(table: &WaitTable, step: Step) -> bool {
             earliest(table) == wanted && table.first_with_deadline(0).is_none()
         }
         Step::Pending(wanted) => table.pending() == wanted,
+        Step::HasRoom(threads, objects) => {
+            table.room().threads == threads && table.room().objects == objects
+        }
         Step::NoWait(thread) => table.about(ThreadId::new(thread)).is_none(),
         Step::About(thread, alertable, deadline) => {
             table.about(ThreadId::new(thread))
@@ -181,13 +175,9 @@ fn copy_shows_all(rt: &impl Host, table: &WaitTable, waiting: &[u16]) -> Result<
 fn take_step(rt: &impl Host, table: &mut WaitTable, step: Step) -> Result<bool, Refusal> {
     match step {
         Step::Begin(wait) => begin_at_last(rt, table, wait),
-        Step::Prepare(wait) => {
-            prepare_at_last(rt, table, wait)?;
-            Ok(true)
-        }
-        Step::BeginAfterEnd(wait, other) => begin_after_end(rt, table, wait, other),
-        Step::ForgetPrepared => {
-            table.forget_prepared();
+        Step::BeginOne(wait) => Ok(begin_one(table, wait)),
+        Step::AddObject => {
+            add_at_last(rt, table)?;
             Ok(true)
         }
         Step::End(thread) => Ok(end(table, ThreadId::new(thread)).is_some()),
@@ -204,7 +194,7 @@ fn take_step(rt: &impl Host, table: &mut WaitTable, step: Step) -> Result<bool, 
 /// Takes the steps in turn.
 fn play(rt: &impl Host, table: &mut WaitTable, steps: &[Step]) -> Result<(), Fail> {
     for (at, step) in steps.iter().enumerate() {
-        assert!(rt; take_step(rt, table, *step)?, "step {at}");
+        expect_step(rt, take_step(rt, table, *step)?, at);
     }
     Ok(())
 }
@@ -229,19 +219,25 @@ const fn narrow(thread: u16, mask: u64, deadline: Option<u64>, before: &'static 
     }
 }
 
-/// A wait for one object, after waits on all 64 objects.
-const fn single(
-    thread: u16,
-    object: u32,
-    deadline: Option<u64>,
-    before: &'static [u16],
-) -> Prepared {
-    Prepared {
+const fn wait_for_one(thread: u16, object: u32, deadline: Option<u64>) -> Single {
+    Single {
         thread,
         object,
         deadline,
-        before,
     }
+}
+
+/// A table with this much room, tried a second time where memory is refused.
+fn table_at_last(rt: &impl Host, threads: usize, objects: usize) -> Result<WaitTable, Refusal>
+    requires { threads ≤ 65536 }
+{
+    let room = Room { threads, objects };
+    if let Ok((table, _reader)) = WaitTable::with_room(rt.alloc(), room) {
+        return Ok(table);
+    }
+    tell_refused(rt, "a table");
+    let (table, _reader) = WaitTable::with_room(rt.alloc(), room)?;
+    Ok(table)
 }
 
 #[test]
@@ -293,11 +289,12 @@ fn sleep_stands_in_no_queue(rt: HostRuntime) -> Result<(), Fail> {
 }
 
 #[test]
-fn prepared_wait_stands_last(rt: HostRuntime) -> Result<(), Fail> {
+fn wait_for_one_stands_last(rt: HostRuntime) -> Result<(), Fail> {
     let steps = [
         Step::Begin(wide(4, &[])),
         Step::Begin(wide(0, &[4])),
-        Step::BeginAfterEnd(single(9, 1, Some(5), &[4, 0]), 4),
+        Step::BeginOne(wait_for_one(9, 1, Some(5))),
+        Step::End(4),
         Step::Queue(0, &[0]),
         Step::Queue(1, &[0, 9]),
         Step::Queue(2, &[0]),
@@ -306,57 +303,36 @@ fn prepared_wait_stands_last(rt: HostRuntime) -> Result<(), Fail> {
         Step::Looked(0),
         Step::Get(9, Some((0b10, Some(5)))),
     ];
-    play(&rt, &mut WaitTable::new(rt.alloc()), &steps)
+    play(&rt, &mut table_at_last(&rt, 10, 2)?, &steps)
 }
 
+/// However many blocks others have, each thread has its own.
 #[test]
-fn forgotten_wait_never_begins(rt: HostRuntime) -> Result<(), Fail> {
+fn waits_for_one_need_no_memory(rt: HostRuntime) -> Result<(), Fail> {
     let steps = [
-        Step::Prepare(single(3, 0, Some(5), &[])),
-        Step::Queues(&[]),
-        Step::Pending(0),
-        Step::Earliest(None),
-        Step::ForgetPrepared,
-        Step::NoWait(3),
-        Step::Begin(wide(3, &[])),
-        Step::Queues(&[3]),
-    ];
-    play(&rt, &mut WaitTable::new(rt.alloc()), &steps)
-}
-
-#[test]
-fn refused_preparation_changes_nothing(rt: HostRuntime) -> Result<(), Fail> {
-    let steps = [
+        Step::AddObject,
+        Step::HasRoom(4, 1),
         Step::Begin(wide(2, &[])),
-        Step::BeginAfterEnd(single(300, 63, Some(7), &[2]), 2),
-        Step::Queue(62, &[]),
-        Step::Queue(63, &[300]),
-        Step::Earliest(Some((300, 7))),
+        Step::Begin(wide(3, &[2])),
+        Step::BeginOne(wait_for_one(0, 0, None)),
+        Step::BeginOne(wait_for_one(1, 0, Some(7))),
+        Step::Queue(0, &[2, 3, 0, 1]),
+        Step::End(2),
+        Step::NoWait(2),
+        Step::BeginOne(wait_for_one(2, 0, None)),
+        Step::Queue(0, &[3, 0, 1, 2]),
+        Step::Earliest(Some((1, 7))),
+        Step::Pending(4),
     ];
-    play(&rt, &mut WaitTable::new(rt.alloc()), &steps)
-}
-
-/// The prepared wait begins in the copy, and not in the table, which forgets it.
-fn begin_in_the_copy(rt: &impl Host, table: &mut WaitTable, copied: &mut WaitTable, t: ThreadId)
-    requires there { IsSome copied.old.prepared }
-    requires thread { ForSome copied.old.prepared (λ p. p.0 ≡ t) }
-{
-    table.forget_prepared();
-    assert!(rt; copied.about(t).is_none());
-    copied.begin_prepared();
-    assert!(rt; is_queue(copied, ObjectNumber::new(700), &[t.get()]));
-    assert!(rt; is_queue(table, ObjectNumber::new(700), &[]));
-}
-
-fn copy_the_prepared(rt: &impl Host, table: &mut WaitTable) -> Result<(), Fail> {
-    let wait = single(1, 700, Some(7), &[]);
-    prepare_at_last(rt, table, wait)?;
-    let mut copied = copy_at_last(rt, table)?;
-    begin_in_the_copy(rt, table, &mut copied, ThreadId::new(wait.thread));
-    Ok(())
+    play(&rt, &mut table_at_last(&rt, 4, 0)?, &steps)
 }
 
 #[test]
 fn copy_has_room_of_its_own(rt: HostRuntime) -> Result<(), Fail> {
-    copy_the_prepared(&rt, &mut WaitTable::new(rt.alloc()))
+    let table = table_at_last(&rt, 2, 701)?;
+    let mut copied = copy_at_last(&rt, &table)?;
+    assert!(rt; begin_one(&mut copied, wait_for_one(1, 700, Some(7))));
+    assert!(rt; is_queue(&copied, ObjectNumber::new(700), &[1]));
+    assert!(rt; is_queue(&table, ObjectNumber::new(700), &[]));
+    Ok(())
 }

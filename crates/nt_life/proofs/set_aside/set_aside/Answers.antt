@@ -41,11 +41,6 @@ set_aside_at-requires-2-clause-vacant c =
     let at = added_at c.args.spare.now c.add_object-place.new.self c.in-Ok.object c.add_object-place.result c.add_object-place.ensures.place c.add_object-place.ensures.unnamed in
     ap (λ (o : ℕ). is_vacant (state c.add_vacant.new.self) o) at ∙ c.in-Ok.ensures.vacant
 
-pub set_aside_at-requires-2-clause-spare : goal.set_aside_at-requires-2-clause-spare
-set_aside_at-requires-2-clause-spare c =
-    added_spare c.args.core.now c.args.spare.now c.add_object-place.new.self c.in-Ok.object c.add_vacant.new.self.grants (state c.add_vacant.new.self) c.requires.lawful c.requires.spare c.in-Ok.ensures.added
-    c.add_object-place.ensures.closed c.add_object-place.ensures.unnamed
-
 pub returns-clause-aside : goal.returns-clause-aside
 returns-clause-aside c =
     let adds = c.in-Ok.ensures.added in
@@ -64,3 +59,10 @@ returns-clause-aside c =
 
 pub returns-in-Err-clause-unchanged : goal.returns-in-Err-clause-unchanged
 returns-in-Err-clause-unchanged c = (c.in-Err.ensures.added.2, refl)
+
+pub set_aside_at-requires-2-clause-has : goal.set_aside_at-requires-2-clause-has
+set_aside_at-requires-2-clause-has c = record {
+  lawful = c.add_vacant.ensures.lawful;
+  spare = added_spare c.args.core.now c.args.spare.now c.add_object-place.new.self c.in-Ok.object c.add_vacant.new.self.grants (state c.add_vacant.new.self) c.requires.lawful c.requires.spare c.in-Ok.ensures.added
+      c.add_object-place.ensures.closed c.add_object-place.ensures.unnamed;
+}

@@ -19,14 +19,17 @@ done c =
 sets : (c : goal.After-take_object) → SetsAside (state c.args.core.now) c.args.thread c.object-object.result true c.set_aside-done.new.self.grants (state c.set_aside-done.new.self)
 sets c = subst (λ (b : Bool). SetsAside (state c.args.core.now) c.args.thread c.object-object.result b c.set_aside-done.new.self.grants (state c.set_aside-done.new.self)) (done c) c.set_aside-done.ensures.aside
 
-pub returns-clause-spare : goal.returns-clause-spare
-returns-clause-spare c =
-    let spare = c.args.spare.now in
-    aside_spare c.args.core.now c.args.thread c.object-object.result spare c.take_object.new.self c.set_aside-done.new.self.grants (state c.set_aside-done.new.self) c.requires.lawful c.requires.spare (sets c) c.take_object.ensures.closed
-    (λ n. ap (λ ns. times n ns + weight (c.object-object.result == n)) c.take_object.ensures.unnamed
-    ∙ (ap (λ (o : ℕ). times n (swap_remove spare.unnamed c.args.place 0) + weight (o == n)) c.object-object.ensures
-    ∙ times_taken n spare.unnamed c.args.place c.requires.place))
-
 pub returns-clause-moves : goal.returns-clause-moves
 returns-clause-moves c =
     subst (λ (o : ℕ). MovesAside (state c.args.core.now) c.args.thread o (Ok c.object-object.result) c.set_aside-done.new.self.grants (state c.set_aside-done.new.self)) c.object-object.ensures (refl, sets c)
+
+pub returns-clause-has : goal.returns-clause-has
+returns-clause-has c =
+    let spare = c.args.spare.now in
+    record {
+      lawful = c.set_aside-done.ensures.lawful;
+      spare = aside_spare c.args.core.now c.args.thread c.object-object.result spare c.take_object.new.self c.set_aside-done.new.self.grants (state c.set_aside-done.new.self) c.requires.has.lawful c.requires.has.spare (sets c) c.take_object.ensures.closed
+          (λ n. ap (λ ns. times n ns + weight (c.object-object.result == n)) c.take_object.ensures.unnamed
+          ∙ (ap (λ (o : ℕ). times n (swap_remove spare.unnamed c.args.place 0) + weight (o == n)) c.object-object.ensures
+          ∙ times_taken n spare.unnamed c.args.place c.requires.place));
+    }

@@ -3,7 +3,7 @@ use Rattle.nt_objects.proofs.handles.open_again.Goals as goal
 
 pub returns-clause-counted : goal.returns-clause-counted
 returns-clause-counted c =
-    rw (c.count_more.ensures, c.get.ensures)
+    rw (c.new.ensures, c.count_more.ensures, c.get.ensures)
     (again_counted c.args.handles.now c.args.counts.now.items c.args.handle c.args.opened c.requires.counted c.requires.there c.requires.closed c.requires.known)
 
 pub count_more-requires-clause-known : goal.count_more-requires-clause-known

@@ -1,4 +1,4 @@
-use Rattle.std.proofs.Common.{ℕ, List, Option, map, refl, sym, ap, ◌∙◌, subst, arith, set, Some}
+use Rattle.std.proofs.Common.{ℕ, List, Bool, true, map, refl, sym, ap, ◌∙◌, subst, arith, set}
 use Rattle.nt_objects.specs.declared.object.Object.{Object}
 use Rattle.nt_objects.specs.Object.{abandoned_by}
 use Rattle.nt_owners.proofs.AbandonLemmas.{MarkedSoFar, abandoned_at, none_marked, one_marked, all_marked, all_the_same, none_abandoned, none_owned, owned_there}
@@ -33,7 +33,7 @@ loop-mutex-preserved c =
       all = ap (λ (os : List Object). map (abandoned_by c.args.thread) os) c.in-Some.ensures.free ∙ (all_the_same now c.args.thread c.in-Some.mutex ∙ c.loop-mutex.invariant.all);
       so_far =
           subst (λ (os : List Object). MarkedSoFar c.args.objects.now os c.args.thread c.args.changed.now c.set.new.self) (sym c.in-Some.ensures.free)
-          (subst (λ (marks : List (Option ℕ)). MarkedSoFar c.args.objects.now (abandoned_at now c.args.thread c.in-Some.mutex) c.args.thread c.args.changed.now marks) (sym (c.set.ensures ∙ ap (λ (k : ℕ). set c.loop-mutex.changed k (Some 0)) c.get.ensures)) so_far);
+          (subst (λ (marks : List Bool). MarkedSoFar c.args.objects.now (abandoned_at now c.args.thread c.in-Some.mutex) c.args.thread c.args.changed.now marks) (sym (c.set.ensures ∙ ap (λ (k : ℕ). set c.loop-mutex.changed k true) c.get.ensures)) so_far);
       room = c.abandon_first.ensures.room ∙ c.loop-mutex.invariant.room;
       threads = c.abandon_first.ensures.threads ∙ c.loop-mutex.invariant.threads;
     }

@@ -1,6 +1,6 @@
 use Rattle.std.proofs.Common.{ℕ, List, Option, ap, ◌∙◌, subst}
 use Rattle.nt_core.specs.Dispatcher.{state}
-use Rattle.nt_sleepers.specs.Sleepers.{IsCalled, with_called}
+use Rattle.nt_sleepers.specs.Sleepers.{IsCalledToLook, with_called}
 use Rattle.nt_sleepers.proofs.Kept.{kept_stop}
 use Rattle.nt_sleepers.proofs.keeping.stop.Goals as goal
 
@@ -10,5 +10,5 @@ returns-clause-kept c =
     kept_stop s c.args.alarms.now c.args.watchers.now c.call_one.new.alarms c.clear-2.new.places c.args.who called c.requires.kept
     (c.call_one.ensures.alarms ∙ ap (with_called called) c.clear.ensures)
     c.clear-2.ensures
-    (subst (λ (xs : List (Option ℕ)). IsCalled s xs c.clear-2.new.places called) c.clear.ensures c.call_one.ensures.called)
+    (subst (λ (xs : List (Option ℕ)). IsCalledToLook s xs c.clear-2.new.places called) c.clear.ensures c.call_one.ensures.called)
     c.call_one.ensures.in_time

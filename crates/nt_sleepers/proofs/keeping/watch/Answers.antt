@@ -5,7 +5,7 @@ use Rattle.std.specs.Prelude.{is_some}
 use Rattle.std.specs.Option.{option_copied}
 use Rattle.nt_calls.specs.State.{pends}
 use Rattle.nt_core.specs.Dispatcher.{state}
-use Rattle.nt_sleepers.specs.Sleepers.{IsShortEnough, SleepsTo, deadline_of, set_if}
+use Rattle.nt_sleepers.specs.Sleepers.{IsShortEnough, SleepsTo, time_out_of, set_if}
 use Rattle.nt_sleepers.proofs.Kept.{kept_watch}
 use Rattle.nt_sleepers.proofs.keeping.watch.Goals as goal
 
@@ -14,7 +14,7 @@ returns-clause-kept c =
     let s = state c.args.core.now in let moment = c.moment_beside-moment.result in
     let waits : pends s c.args.who ≡ true = ap is_some (sym c.waits_for.ensures) ∙ ap (λ o. is_some (option_copied o)) c.in_ok-own.was in
     let near : c.args.who < length c.args.alarms.now = grind (arith, nat_tests, c.if-place-len.false, c.len.ensures) in
-    let own = ap deadline_of (sym c.waits_for.ensures) ∙ ap (λ o. deadline_of (option_copied o)) c.in_ok-own.was in
+    let own = ap time_out_of (sym c.waits_for.ensures) ∙ ap (λ o. time_out_of (option_copied o)) c.in_ok-own.was in
     kept_watch s c.args.alarms.now c.args.watchers.now c.put.new.places c.set.new.self c.args.who moment waits near c.requires.kept (subst (λ (o : Option ℕ). SleepsTo s o moment) (sym own) c.moment_beside-moment.ensures.sleeps)
     (c.put.ensures ∙ ap (λ xs. slice_set xs c.args.who moment) c.clear.ensures ∙ set-set c.args.alarms.now c.args.who None moment)
     c.set.ensures

@@ -1,4 +1,4 @@
-use Rattle.std.proofs.Common.{None, [], ◌∷◌, false, ◌∙◌, arith}
+use Rattle.std.proofs.Common.{None, [], ◌∷◌, ◌∙◌, arith, length-set}
 use Rattle.std.proofs.lemmas.List.{get_or_read}
 use Rattle.nt_waits.specs.Waits.{wait_for}
 use Rattle.nt_waits.proofs.BeginLemmas.{length-list, one_once}
@@ -15,9 +15,12 @@ fill_one-requires-clause-countable c h = length-list c.args.queues.now c.args.wa
 
 pub returns-clause-table : goal.returns-clause-table
 returns-clause-table c =
-    rw c.get.ensures (filled_table c.args.queues.now c.fill_one.new.queues c.args.t (wait_for (c.args.object ∷ []) false c.args.about) c.fill_one.new.self c.fill_one.ensures.filled c.args.waits.now.items
+    rw c.get.ensures (filled_table c.args.queues.now c.fill_one.new.queues c.args.t (wait_for (c.args.object ∷ []) c.args.all c.args.about) c.fill_one.new.self c.fill_one.ensures.filled c.args.waits.now.items
     c.requires.table c.requires.free c.requires.place (omega arith) (one_once c.args.object) c.fill_one.ensures.distinct)
 
 pub returns-clause-begun : goal.returns-clause-begun
 returns-clause-begun c =
-    rw c.get.ensures (filled_begun c.args.queues.now c.fill_one.new.queues c.args.t (wait_for (c.args.object ∷ []) false c.args.about) c.fill_one.new.self c.fill_one.ensures.filled c.args.waits.now.items c.requires.place)
+    rw c.get.ensures (filled_begun c.args.queues.now c.fill_one.new.queues c.args.t (wait_for (c.args.object ∷ []) c.args.all c.args.about) c.fill_one.new.self c.fill_one.ensures.filled c.args.waits.now.items c.requires.place)
+
+pub returns-clause-places : goal.returns-clause-places
+returns-clause-places c = rw c.get.ensures (length-set c.args.waits.now.items c.args.t c.fill_one.new.self)

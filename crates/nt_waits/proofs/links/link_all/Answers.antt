@@ -18,7 +18,10 @@ loop-i-preserved c =
       distinct = c.link.ensures.distinct;
       numbered = length-set numbers i number ∙ so_far.numbered;
       same_objects = rw (c.link.ensures.lists, length-set c.loop-i.queues.lists c.index-objects-i.result _) so_far.same_objects;
-      used = omega (arith, c.link.ensures.used, so_far.used);
-      capacity = c.link.ensures.capacity ∙ so_far.capacity;
+      takes = record {
+        used = let used = so_far.takes.used in omega (arith, c.link.ensures.used, used);
+        capacity = c.link.ensures.capacity ∙ so_far.takes.capacity;
+        object_room = c.link.ensures.object_room ∙ so_far.takes.object_room;
+      };
       touched = c.link.ensures.touched ∙ so_far.touched;
     }

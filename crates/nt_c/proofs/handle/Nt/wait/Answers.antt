@@ -13,5 +13,5 @@ returns-clause-asked c =
       c.wait_objects.new.self,
       refl,
       wait_made c.held_mut.result.now c.wait_objects.new.self c.args.who (WaitCall.Objects c.args.all c.args.alertable c.args.ms c.args.these.now) c.wait_objects.result
-          c.wait_objects.ensures.called c.wait_objects.ensures.lawful c.wait_objects.ensures.local c.wait_objects.ensures.untested c.wait_objects.ensures.woke c.wait_objects.ensures.nobody,
+          c.wait_objects.ensures.called c.wait_objects.ensures.lawful c.wait_objects.ensures.looks c.wait_objects.ensures.woke c.wait_objects.ensures.nobody,
     )

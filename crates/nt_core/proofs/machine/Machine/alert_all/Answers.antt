@@ -1,10 +1,10 @@
-use Rattle.std.proofs.Common.{◌≡◌, ◌<◌, ℕ, List, None, set, sym, ap, ◌∙◌, subst}
-use Rattle.std.specs.Prelude.{Option}
-use Rattle.nt_alarms.specs.Alarms.{NoneAt, IsLowestAt}
+use Rattle.std.proofs.Common.{◌≡◌, ◌<◌, ℕ, List, set, sym, ap, ◌∙◌, subst, Bool, false}
+use Rattle.nt_marks.specs.Marks.{NoneMarked, IsFirstMarked}
 use Rattle.nt_core.specs.Dispatcher.{Dispatcher, with_marked}
 use Rattle.nt_core.specs.Accepts.{IsRoused}
 use Rattle.nt_core.specs.contracts.machine.Machine.{the_view}
-use Rattle.nt_core.proofs.Rousing.{AlertedSoFar, alerted_none, alerted_next, alerted_end, alerted_left, marks_left, marks_less, taken_sound}
+use Rattle.nt_marks.proofs.Counting.{marks_left, marks_less}
+use Rattle.nt_core.proofs.Rousing.{AlertedSoFar, alerted_none, alerted_next, alerted_end, alerted_left, taken_sound}
 use Rattle.nt_core.proofs.machine.Machine.alert_all.Goals as goal
 
 pub loop-place-init : goal.loop-place-init
@@ -14,36 +14,36 @@ pub rouse-requires : goal.rouse-requires
 rouse-requires c =
     let now = c.loop-place.self in
     let place = c.in-Some.place in
-    let lowest : IsLowestAt now.marked.alerted 0 place = subst (λ (d : Dispatcher). IsLowestAt d.marked.alerted 0 place) c.self.view_is c.in-Some.ensures in
+    let lowest : IsFirstMarked now.marked.alerted place = subst (λ (d : Dispatcher). IsFirstMarked d.marked.alerted place) c.self.view_is c.in-Some.ensures in
     let mid : Dispatcher = record (the_view c.self.inside) { marked = record (the_view c.self.inside).marked { alerted = c.clear.new.self } } in
-    let taken : mid ≡ with_marked now (record now.marked { alerted = set now.marked.alerted place None }) = ap (λ (xs : List (Option ℕ)). record (the_view c.self.inside) { marked = record (the_view c.self.inside).marked { alerted = xs } }) c.clear.ensures ∙ ap (λ (d : Dispatcher). with_marked d (record d.marked { alerted = set d.marked.alerted place None })) c.self.view_is in
+    let taken : mid ≡ with_marked now (record now.marked { alerted = set now.marked.alerted place false }) = ap (λ (xs : List Bool). record (the_view c.self.inside) { marked = record (the_view c.self.inside).marked { alerted = xs } }) c.clear.ensures ∙ ap (λ (d : Dispatcher). with_marked d (record d.marked { alerted = set d.marked.alerted place false })) c.self.view_is in
     record { sound = taken_sound now mid place c.loop-place.invariant.sound taken }
 
 pub loop-place-smaller : goal.loop-place-smaller
 loop-place-smaller c =
     let now = c.loop-place.self in
     let place = c.in-Some.place in
-    let lowest : IsLowestAt now.marked.alerted 0 place = subst (λ (d : Dispatcher). IsLowestAt d.marked.alerted 0 place) c.self.view_is c.in-Some.ensures in
+    let lowest : IsFirstMarked now.marked.alerted place = subst (λ (d : Dispatcher). IsFirstMarked d.marked.alerted place) c.self.view_is c.in-Some.ensures in
     let mid : Dispatcher = record (the_view c.self.inside) { marked = record (the_view c.self.inside).marked { alerted = c.clear.new.self } } in
-    let taken : mid ≡ with_marked now (record now.marked { alerted = set now.marked.alerted place None }) = ap (λ (xs : List (Option ℕ)). record (the_view c.self.inside) { marked = record (the_view c.self.inside).marked { alerted = xs } }) c.clear.ensures ∙ ap (λ (d : Dispatcher). with_marked d (record d.marked { alerted = set d.marked.alerted place None })) c.self.view_is in
+    let taken : mid ≡ with_marked now (record now.marked { alerted = set now.marked.alerted place false }) = ap (λ (xs : List Bool). record (the_view c.self.inside) { marked = record (the_view c.self.inside).marked { alerted = xs } }) c.clear.ensures ∙ ap (λ (d : Dispatcher). with_marked d (record d.marked { alerted = set d.marked.alerted place false })) c.self.view_is in
     let marks = alerted_left now mid c.rouse.new.self place taken (subst (λ (k : ℕ). IsRoused mid c.rouse.new.self k) c.new.ensures c.rouse.ensures.roused) in
-    let less : marks_left c.rouse.new.self.marked.alerted < marks_left now.marked.alerted = subst (λ (m : List (Option ℕ)). marks_left m < marks_left now.marked.alerted) (sym marks) (marks_less now.marked.alerted place 0 lowest.here) in
+    let less : marks_left c.rouse.new.self.marked.alerted < marks_left now.marked.alerted = subst (λ (m : List Bool). marks_left m < marks_left now.marked.alerted) (sym marks) (marks_less now.marked.alerted place lowest.here) in
     less
 
 pub loop-place-preserved : goal.loop-place-preserved
 loop-place-preserved c =
     let now = c.loop-place.self in
     let place = c.in-Some.place in
-    let lowest : IsLowestAt now.marked.alerted 0 place = subst (λ (d : Dispatcher). IsLowestAt d.marked.alerted 0 place) c.self.view_is c.in-Some.ensures in
+    let lowest : IsFirstMarked now.marked.alerted place = subst (λ (d : Dispatcher). IsFirstMarked d.marked.alerted place) c.self.view_is c.in-Some.ensures in
     let mid : Dispatcher = record (the_view c.self.inside) { marked = record (the_view c.self.inside).marked { alerted = c.clear.new.self } } in
-    let taken : mid ≡ with_marked now (record now.marked { alerted = set now.marked.alerted place None }) = ap (λ (xs : List (Option ℕ)). record (the_view c.self.inside) { marked = record (the_view c.self.inside).marked { alerted = xs } }) c.clear.ensures ∙ ap (λ (d : Dispatcher). with_marked d (record d.marked { alerted = set d.marked.alerted place None })) c.self.view_is in
+    let taken : mid ≡ with_marked now (record now.marked { alerted = set now.marked.alerted place false }) = ap (λ (xs : List Bool). record (the_view c.self.inside) { marked = record (the_view c.self.inside).marked { alerted = xs } }) c.clear.ensures ∙ ap (λ (d : Dispatcher). with_marked d (record d.marked { alerted = set d.marked.alerted place false })) c.self.view_is in
     let roused = (subst (λ (k : ℕ). IsRoused mid c.rouse.new.self k) c.new.ensures c.rouse.ensures.roused) in
     let marks = alerted_left now mid c.rouse.new.self place taken roused in
-    subst (λ (m : List (Option ℕ)). AlertedSoFar c.args.self.now c.rouse.new.self m) (sym marks)
+    subst (λ (m : List Bool). AlertedSoFar c.args.self.now c.rouse.new.self m) (sym marks)
     (alerted_next c.args.self.now now c.rouse.new.self now.marked.alerted place c.loop-place.invariant lowest
     (subst (λ (d : Dispatcher). IsRoused d c.rouse.new.self place) taken roused) c.rouse.ensures.sound)
 
 pub returns : goal.returns
 returns c =
-    let none : NoneAt c.loop-place.self.marked.alerted 0 = subst (λ (d : Dispatcher). NoneAt d.marked.alerted 0) c.self.view_is c.in_default.ensures in
+    let none : NoneMarked c.loop-place.self.marked.alerted = subst (λ (d : Dispatcher). NoneMarked d.marked.alerted) c.self.view_is c.in_default.ensures in
     record { alerted = alerted_end c.args.self.now c.loop-place.self c.loop-place.self.marked.alerted c.loop-place.invariant none c.requires.served; sound = c.loop-place.invariant.sound }

@@ -1,4 +1,5 @@
-use Rattle.nt_core.proofs.Rousing.{AlertedSoFar, marks_left}
+use Rattle.nt_marks.proofs.Counting.{marks_left}
+use Rattle.nt_core.proofs.Rousing.{AlertedSoFar}
 use Rattle.nt_core.proofs.machine.Machine.alert_all.Given as goal
 
 abbrev pub invariant-loop-place : goal.invariant-loop-place

@@ -4,6 +4,7 @@ use Rattle.nt_objects.specs.declared.object.Object.{Object}
 use Rattle.nt_objects.specs.declared.object.Object.TheVariants.{Thread}
 use Rattle.nt_calls.specs.State.{State}
 use Rattle.nt_calls.specs.Living.{LivesWhileKept}
+use Rattle.nt_core.specs.declared.standing.Standing.TheVariants.{Free}
 use Rattle.nt_core.specs.Dispatcher.{Dispatcher, state}
 use Rattle.nt_core.specs.Lawful.{IsSteady}
 use Rattle.nt_core.specs.Renewals.{thread_refusal, begun_again, is_left, is_closed, with_again}
@@ -14,12 +15,12 @@ refused : (old mid : State) → mid ≡ old → LivesWhileKept old → LivesWhil
 refused old mid same living = subst (λ (s : State). LivesWhileKept s) (sym same) living
 
 -- what the machine is then
-given : (c : goal.After-give_again) → c.give_again.new.self ≡ with_again c.tell_anew.new.self c.args.thread c.args.handle (Thread false) (set c.tell_anew.new.self.handing c.args.thread false) c.give_again.new.self.owned
+given : (c : goal.After-give_again) → c.give_again.new.self ≡ with_again c.tell_anew.new.self c.args.thread c.args.handle (Thread false) (set c.tell_anew.new.self.handing c.args.thread false) (set c.tell_anew.new.self.standings c.args.thread Free) c.give_again.new.self.owned
 given c =
     c.give_again.ensures
-    ∙ (ap (λ (d : Dispatcher). with_again d c.new.result c.args.handle c.new_thread.result d.handing c.give_again.new.self.owned) c.clear_hand.ensures
-    ∙ (ap (λ (o : ℕ). with_again c.tell_anew.new.self o c.args.handle c.new_thread.result (set c.tell_anew.new.self.handing c.args.thread false) c.give_again.new.self.owned) c.new.ensures
-    ∙ ap (λ (x : Object). with_again c.tell_anew.new.self c.args.thread c.args.handle x (set c.tell_anew.new.self.handing c.args.thread false) c.give_again.new.self.owned) c.new_thread.ensures))
+    ∙ (ap (λ (d : Dispatcher). with_again d c.new.result c.args.handle c.new_thread.result d.handing d.standings c.give_again.new.self.owned) c.set_free.ensures
+    ∙ (ap (λ (o : ℕ). with_again c.tell_anew.new.self o c.args.handle c.new_thread.result (set c.tell_anew.new.self.handing c.args.thread false) (set c.tell_anew.new.self.standings c.args.thread Free) c.give_again.new.self.owned) c.new.ensures
+    ∙ ap (λ (x : Object). with_again c.tell_anew.new.self c.args.thread c.args.handle x (set c.tell_anew.new.self.handing c.args.thread false) (set c.tell_anew.new.self.standings c.args.thread Free) c.give_again.new.self.owned) c.new_thread.ensures))
 
 pub returns-then-not-may_begin-clause-begun : goal.returns-then-not-may_begin-clause-begun
 returns-then-not-may_begin-clause-begun c =
@@ -52,7 +53,7 @@ returns-clause-steady c =
     let fresh = c.tell_anew.ensures.fresh in
     let free : (is_left (state d) c.args.thread && is_closed (state d) c.args.handle) ≡ true = sym c.may_begin.ensures ∙ c.if-not-may_begin.false in
     subst IsSteady (sym (given c))
-    (steady_again d c.args.thread c.args.handle (Thread false) (set d.handing c.args.thread false) c.give_again.new.self.owned fresh.steady (refused (state c.args.self.now) (state d) c.tell_anew.ensures.state c.requires.living) (may_begin_again d c.args.thread c.args.handle fresh.steady.sound free))
+    (steady_again d c.args.thread c.args.handle (Thread false) (set d.handing c.args.thread false) (set d.standings c.args.thread Free) c.give_again.new.self.owned fresh.steady (refused (state c.args.self.now) (state d) c.tell_anew.ensures.state c.requires.living) (may_begin_again d c.args.thread c.args.handle fresh.steady.sound free))
 
 pub returns-clause-living : goal.returns-clause-living
 returns-clause-living c =
@@ -60,4 +61,4 @@ returns-clause-living c =
     let fresh = c.tell_anew.ensures.fresh in
     let free : (is_left (state d) c.args.thread && is_closed (state d) c.args.handle) ≡ true = sym c.may_begin.ensures ∙ c.if-not-may_begin.false in
     subst (λ (new : Dispatcher). LivesWhileKept (state new)) (sym (given c))
-    (living_again d c.args.thread c.args.handle (Thread false) (set d.handing c.args.thread false) c.give_again.new.self.owned (refused (state c.args.self.now) (state d) c.tell_anew.ensures.state c.requires.living) (may_begin_again d c.args.thread c.args.handle fresh.steady.sound free))
+    (living_again d c.args.thread c.args.handle (Thread false) (set d.handing c.args.thread false) (set d.standings c.args.thread Free) c.give_again.new.self.owned (refused (state c.args.self.now) (state d) c.tell_anew.ensures.state c.requires.living) (may_begin_again d c.args.thread c.args.handle fresh.steady.sound free))

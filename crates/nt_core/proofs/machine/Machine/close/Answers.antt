@@ -1,4 +1,4 @@
-use Rattle.std.proofs.Common.{◌≡◌, ◌<◌, ℕ, false, Some, length, set, sym, ap, ◌∙◌, arith, List, Option, None, subst}
+use Rattle.std.proofs.Common.{◌≡◌, ◌<◌, ℕ, false, length, set, sym, ap, ◌∙◌, arith, List, Option, None, subst, true}
 use Rattle.nt_objects.specs.Handles.{opened_at}
 use Rattle.nt_calls.specs.declared.call.Act.{Act}
 use Rattle.nt_calls.specs.declared.call.Call.{Call}
@@ -39,4 +39,4 @@ returns c t free =
     let object : c.close-object.result ≡ there.0.object = c.close-object.ensures.object there.0 (ap (λ (x : Dispatcher). opened_at x.handles c.args.handle) c.self.view_is ∙ there.1) in
     accepted_made old c.mark.new.self t false (Call.Act (Act.Close c.args.handle)) Reply.Done free none
     (closed_accepted old c.mark.new.self t c.args.handle there.0 c.requires.fresh there.1
-    (c.mark.ensures ∙ (ap (λ (k : ℕ). record (record (the_view c.self.inside) { handles = c.close-object.new.self.opened }) { leaving = set (the_view c.self.inside).leaving k (Some 0) }) object ∙ ap (λ (d : Dispatcher). record d { leaving = set d.leaving there.0.object (Some 0) }) (ap (λ (hs : List (Option Opened)). record (the_view c.self.inside) { handles = hs }) c.close-object.ensures.opened ∙ ap (λ (x : Dispatcher). record x { handles = set x.handles c.args.handle None }) c.self.view_is))))
+    (c.mark.ensures ∙ (ap (λ (k : ℕ). record (record (the_view c.self.inside) { handles = c.close-object.new.self.opened }) { leaving = set (the_view c.self.inside).leaving k true }) object ∙ ap (λ (d : Dispatcher). record d { leaving = set d.leaving there.0.object true }) (ap (λ (hs : List (Option Opened)). record (the_view c.self.inside) { handles = hs }) c.close-object.ensures.opened ∙ ap (λ (x : Dispatcher). record x { handles = set x.handles c.args.handle None }) c.self.view_is))))

@@ -73,9 +73,9 @@ returns-clause-steady c =
     let made : creation c.args.who c.args.act.now ≡ Some x = ap (λ (t : ℕ). creation t c.args.act.now) (sym c.new.ensures) ∙ (sym c.creation.ensures.value ∙ c.in-Some-creation.is) in
     let free : (is_vacant (state d) c.args.object && is_closed (state d) c.args.handle) ≡ true = sym c.may_create.ensures ∙ c.if-not-may_create.false in
     let fresh = c.tell_anew.ensures.fresh in
-    let may = may_renew d c.args.who c.args.act.now c.args.object c.args.handle x free made c.in-Some-creation.ensures.lawful fresh.steady.sound.hands in
+    let may = may_renew d c.args.who c.args.act.now c.args.object c.args.handle x free made c.in-Some-creation.ensures.lawful fresh.steady.sound in
     subst IsSteady (sym c.give_again.ensures)
-    (steady_again d c.args.object c.args.handle x d.handing c.give_again.new.self.owned fresh.steady (refused (state c.args.self.now) (state d) c.tell_anew.ensures.state c.requires.living) may)
+    (steady_again d c.args.object c.args.handle x d.handing d.standings c.give_again.new.self.owned fresh.steady (refused (state c.args.self.now) (state d) c.tell_anew.ensures.state c.requires.living) may)
 
 pub returns-clause-living : goal.returns-clause-living
 returns-clause-living c =
@@ -84,6 +84,6 @@ returns-clause-living c =
     let made : creation c.args.who c.args.act.now ≡ Some x = ap (λ (t : ℕ). creation t c.args.act.now) (sym c.new.ensures) ∙ (sym c.creation.ensures.value ∙ c.in-Some-creation.is) in
     let free : (is_vacant (state d) c.args.object && is_closed (state d) c.args.handle) ≡ true = sym c.may_create.ensures ∙ c.if-not-may_create.false in
     let fresh = c.tell_anew.ensures.fresh in
-    let may = may_renew d c.args.who c.args.act.now c.args.object c.args.handle x free made c.in-Some-creation.ensures.lawful fresh.steady.sound.hands in
+    let may = may_renew d c.args.who c.args.act.now c.args.object c.args.handle x free made c.in-Some-creation.ensures.lawful fresh.steady.sound in
     subst (λ (new : Dispatcher). LivesWhileKept (state new)) (sym c.give_again.ensures)
-    (living_again d c.args.object c.args.handle x d.handing c.give_again.new.self.owned (refused (state c.args.self.now) (state d) c.tell_anew.ensures.state c.requires.living) may)
+    (living_again d c.args.object c.args.handle x d.handing d.standings c.give_again.new.self.owned (refused (state c.args.self.now) (state d) c.tell_anew.ensures.state c.requires.living) may)

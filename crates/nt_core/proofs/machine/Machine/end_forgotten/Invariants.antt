@@ -1,5 +1,5 @@
 use Rattle.nt_core.proofs.Gone.{GoneSoFar}
-use Rattle.nt_core.proofs.Rousing.{marks_left}
+use Rattle.nt_marks.proofs.Counting.{marks_left}
 use Rattle.nt_core.proofs.machine.Machine.end_forgotten.Given as goal
 
 abbrev pub invariant-loop-place : goal.invariant-loop-place

@@ -1,6 +1,5 @@
 use Rattle.std.proofs.Common.{◌≡◌, ◌<◌, ◌^◌, length, sym, ap, ◌∙◌, subst, arith}
-use Rattle.nt_alarms.specs.Alarms.{NoneAt}
-use Rattle.nt_alarms.specs.Marks.{marked_places}
+use Rattle.nt_marks.specs.Marks.{marked_places, NoneMarked}
 use Rattle.nt_waits.specs.Waits.{Waits}
 use Rattle.nt_calls.specs.State.{State}
 use Rattle.nt_calls.specs.Rising.{AreRising}
@@ -38,4 +37,4 @@ returns c =
     let fit : FitOnlyIn (sequence (state mid) numbers) (state mid) = subst (λ (s : State). FitOnlyIn (sequence s numbers) s) (sym left.becomes) (exited_fit old t numbers c.requires.fresh.steady c.requires.running.known c.requires.running.runs changed) in
     let whole = serving_whole (sequence (state mid) numbers) (with_marked mid new.marked) new (left.grants ∙ c.requires.fresh.no_grants) (ap (λ (w : Waits). w.looked) left.table ∙ c.requires.fresh.untested) fit c.serve_marked.ensures.visits in
     exited_accepted old mid new t numbers c.requires.fresh left changed whole.0 c.serve_marked.ensures.sound whole.1 whole.2
-    (record { changed = c.serve_marked.ensures.served; alerted = subst (λ marks. NoneAt marks 0) (sym (c.serve_marked.ensures.alerted ∙ left.alerted)) c.requires.fresh.steady.unmarked.alerted })
+    (record { changed = c.serve_marked.ensures.served; alerted = subst (λ marks. NoneMarked marks) (sym (c.serve_marked.ensures.alerted ∙ left.alerted)) c.requires.fresh.steady.unmarked.alerted })

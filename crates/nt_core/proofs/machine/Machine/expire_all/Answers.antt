@@ -2,7 +2,7 @@ use Rattle.std.proofs.Common.{◌≡◌, ◌<◌, ◌≤◌, ◌-◌, ℕ, List,
 use Rattle.std.specs.Prelude.{IsSomeAnd}
 use Rattle.nt_objects.specs.Object.{due_of}
 use Rattle.nt_alarms.specs.Alarms.{IsLowestAt, NoneAt}
-use Rattle.nt_alarms.specs.Marks.{marked_places}
+use Rattle.nt_marks.specs.Marks.{marked_places}
 use Rattle.nt_calls.specs.State.{State, object_at}
 use Rattle.nt_core.specs.Dispatcher.{Dispatcher, state}
 use Rattle.nt_calls.specs.Change.{expired}

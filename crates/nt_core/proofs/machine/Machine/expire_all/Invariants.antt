@@ -1,5 +1,5 @@
 use Rattle.std.proofs.Common.{◌-◌, length}
-use Rattle.nt_alarms.specs.Marks.{marked_places}
+use Rattle.nt_marks.specs.Marks.{marked_places}
 use Rattle.nt_core.proofs.Passing.{ExpiredSoFar}
 use Rattle.nt_core.proofs.machine.Machine.expire_all.Given as goal
 

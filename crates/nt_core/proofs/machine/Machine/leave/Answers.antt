@@ -1,10 +1,9 @@
-use Rattle.std.proofs.Common.{◌≡◌, List, Some, map, sym, ap, ◌∙◌, subst, arith, true}
+use Rattle.std.proofs.Common.{◌≡◌, List, map, sym, ap, ◌∙◌, subst, arith, true}
 use Rattle.nt_objects.specs.declared.object.Object.{Object}
 use Rattle.nt_objects.specs.Object.{has_ended, abandoned_by, owned_by}
 use Rattle.std.specs.FinMap as fin
 use Rattle.std.specs.Prelude.{◌↔◌}
-use Rattle.nt_alarms.specs.Alarms.{alarm_at}
-use Rattle.nt_alarms.specs.Marks.{AddsMarks}
+use Rattle.nt_marks.specs.Marks.{is_marked, AddsMarks}
 use Rattle.nt_calls.specs.State.{State, object_at}
 use Rattle.nt_calls.specs.Serving.{IsChanged}
 use Rattle.nt_calls.specs.Change.{exited}
@@ -52,7 +51,7 @@ returns-clause-left c =
     let marks : AreMarked old t mid.marked.changed stopped.marked.changed new.marked.changed = record { none = c.requires.unmarked.changed; mutexes = (subst (λ (d : Dispatcher). AddsMarks (λ m. owned_by (object_at d.objects m) c.args.thread ≡ true) d.marked.changed c.abandon_all.new.changed) c.self.view_is c.abandon_all.ensures.marked); timers = timers; own = ap (λ (m : Marked). m.changed) c.end_own.ensures.marked } in
     record {
       becomes = becomes;
-      changed = λ h. subst (λ (os : List Object). (alarm_at new.marked.changed h ≡ Some 0) ↔ IsChanged old.objects os h) (sym objects) (marked_changed old t mid.marked.changed stopped.marked.changed new.marked.changed c.requires.sound c.requires.running.known c.requires.running.runs marks h);
+      changed = λ h. subst (λ (os : List Object). (is_marked new.marked.changed h ≡ true) ↔ IsChanged old.objects os h) (sym objects) (marked_changed old t mid.marked.changed stopped.marked.changed new.marked.changed c.requires.sound c.requires.running.known c.requires.running.runs marks h);
       grants = c.end_own.ensures.grants ∙ (ap (λ (d : Dispatcher). d.grants) stops.rest ∙ ap (λ (d : Dispatcher). d.grants) (freed_in (the_view c.self.inside) c.args.self.now c.args.thread c.abandon_all.new.self.items c.abandon_all.new.self.owned c.abandon_all.new.changed c.self.view_is c.abandon_all.ensures.items));
       table = c.end_own.ensures.table ∙ (ap (λ (d : Dispatcher). d.table) stops.rest ∙ ap (λ (d : Dispatcher). d.table) (freed_in (the_view c.self.inside) c.args.self.now c.args.thread c.abandon_all.new.self.items c.abandon_all.new.self.owned c.abandon_all.new.changed c.self.view_is c.abandon_all.ensures.items));
       alerted = ap (λ (m : Marked). m.alerted) c.end_own.ensures.marked ∙ (ap (λ (d : Dispatcher). d.marked.alerted) stops.rest ∙ ap (λ (d : Dispatcher). d.marked.alerted) (freed_in (the_view c.self.inside) c.args.self.now c.args.thread c.abandon_all.new.self.items c.abandon_all.new.self.owned c.abandon_all.new.changed c.self.view_is c.abandon_all.ensures.items));

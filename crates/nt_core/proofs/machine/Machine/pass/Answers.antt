@@ -1,6 +1,5 @@
 use Rattle.std.proofs.Common.{inl, sym, ap, ◌∙◌}
-use Rattle.nt_alarms.specs.Alarms.{alarm_at}
-use Rattle.nt_alarms.specs.Marks.{marked_places}
+use Rattle.nt_marks.specs.Marks.{is_marked, marked_places}
 use Rattle.nt_core.specs.Dispatcher.{state, with_marked}
 use Rattle.nt_calls.specs.Serving.{sequence}
 use Rattle.nt_core.proofs.Moments.{Grants_alerted, expired_fit, expired_remarked, expired_countable, passed_whole, none_earlier_left}
@@ -18,7 +17,7 @@ pub alert_all-requires-clause-marked : goal.alert_all-requires-clause-marked
 alert_all-requires-clause-marked c = λ t alerted.
     let d = c.expire_all.new.self in
     let visits = c.serve_marked.ensures.visits in
-    ap (λ marks. alarm_at marks t) c.serve_marked.ensures.alerted ∙ (c.expire_all.ensures.expired).marked t (Grants_alerted (sequence (state d) (marked_places d.marked.changed)) (state d) (state c.serve_marked.new.self) visits.ended visits.granted t alerted)
+    ap (λ marks. is_marked marks t) c.serve_marked.ensures.alerted ∙ (c.expire_all.ensures.expired).marked t (Grants_alerted (sequence (state d) (marked_places d.marked.changed)) (state d) (state c.serve_marked.new.self) visits.ended visits.granted t alerted)
 
 pub time_out_all-requires-clause-earliest : goal.time_out_all-requires-clause-earliest
 time_out_all-requires-clause-earliest c =

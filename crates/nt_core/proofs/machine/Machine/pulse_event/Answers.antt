@@ -30,13 +30,13 @@ reset-requires-clause-known c =
     let old = c.args.self.now in
     let event = c.in_ok-event.event in
     let kind = kind_free is_event old.objects (act_denied old.handles (Act.PulseEvent c.args.handle)) event (subst (λ (x : Dispatcher). IsJudged x.handles c.args.handle modify_state (kind_causes is_event x.objects) (Ok c.in_ok-event.event)) c.self.view_is c.in_ok-event.ensures).1 in
-    known_event c.self-2.inside.objects.items event (subst (λ (x : Dispatcher). is_event (object_at x.objects event) ≡ true) (sym c.self-2.view_is) (still_event old c.raise_event.new.self event kind c.raise_event.ensures.served))
+    known_event c.self-2.inside.objects.items event (subst (λ (x : Dispatcher). is_event (object_at x.objects event) ≡ true) (sym c.self-2.view_is) (still_event old c.raise_event.new.self event kind c.raise_event.ensures))
 
 pub reset-requires-clause-kind : goal.reset-requires-clause-kind
 reset-requires-clause-kind c =
     let old = c.args.self.now in
     let event = c.in_ok-event.event in
-    subst (λ (x : Dispatcher). is_event (object_at x.objects event) ≡ true) (sym c.self-2.view_is) (still_event old c.raise_event.new.self event (kind_free is_event old.objects (act_denied old.handles (Act.PulseEvent c.args.handle)) event (subst (λ (x : Dispatcher). IsJudged x.handles c.args.handle modify_state (kind_causes is_event x.objects) (Ok c.in_ok-event.event)) c.self.view_is c.in_ok-event.ensures).1) c.raise_event.ensures.served)
+    subst (λ (x : Dispatcher). is_event (object_at x.objects event) ≡ true) (sym c.self-2.view_is) (still_event old c.raise_event.new.self event (kind_free is_event old.objects (act_denied old.handles (Act.PulseEvent c.args.handle)) event (subst (λ (x : Dispatcher). IsJudged x.handles c.args.handle modify_state (kind_causes is_event x.objects) (Ok c.in_ok-event.event)) c.self.view_is c.in_ok-event.ensures).1) c.raise_event.ensures)
 
 pub returns : goal.returns
 returns c t free =
@@ -46,6 +46,6 @@ returns c t free =
     let event = c.in_ok-event.event in
     let judged = (subst (λ (x : Dispatcher). IsJudged x.handles c.args.handle modify_state (kind_causes is_event x.objects) (Ok c.in_ok-event.event)) c.self.view_is c.in_ok-event.ensures) in
     let accepted = subst (λ (d : Dispatcher). Accepts old d t (Call.Act (Act.PulseEvent event)) Reply.Done) (sym (exchanged_whole (the_view c.self-2.inside) c.raise_event.new.self event (with_set false) c.reset.new.self.items c.reset.new.self.owned c.self-2.view_is c.reset.ensures.items c.reset.ensures.owned))
-    (pulse_accepted old c.raise_event.new.self t event c.requires.fresh (kind_free is_event old.objects (act_denied old.handles (Act.PulseEvent c.args.handle)) event judged.1) c.raise_event.ensures.served) in
+    (pulse_accepted old c.raise_event.new.self t event c.requires.fresh (kind_free is_event old.objects (act_denied old.handles (Act.PulseEvent c.args.handle)) event judged.1) c.raise_event.ensures) in
     subst (λ (h : ℕ). IsMade old new t (act_denied old.handles act) (Call.Act (Act.PulseEvent h)) (Ok Reply.Done)) judged.0
     (accepted_made old new t (act_denied old.handles act) (Call.Act (Act.PulseEvent event)) Reply.Done free judged.1 accepted)

@@ -3,7 +3,7 @@ use Rattle.std.proofs.lemmas.Int.{to_z-of_z}
 use Rattle.nt_objects.specs.Object.{released, is_semaphore}
 use Rattle.nt_calls.specs.State.{object_at}
 use Rattle.nt_core.proofs.Replacing.{known_semaphore, released_differs}
-use Rattle.nt_core.proofs.Exchanging.{may_count_more, exchanged_in, exchanged_sound, exchanged_fit, exchanged_needed, exchanged_served, exchanged_prepared}
+use Rattle.nt_core.proofs.Exchanging.{may_count_more, exchanged_in, exchanged_sound, exchanged_fit, exchanged_needed, exchanged_served}
 use Rattle.nt_core.specs.contracts.machine.Machine.{the_view}
 use Rattle.nt_core.specs.Dispatcher.{Dispatcher}
 use Rattle.nt_core.proofs.machine.Machine.raise_count.Goals as goal
@@ -25,6 +25,3 @@ pub returns-clause-served : goal.returns-clause-served
 returns-clause-served c =
     exchanged_served c.args.self.now (record (the_view c.self.inside) { objects = c.release.new.self.items; owned = c.release.new.self.owned }) c.serve_one.new.self c.args.semaphore (released c.args.count (object_at c.args.self.now.objects c.args.semaphore)) c.requires.fresh (known_semaphore c.args.self.now.objects c.args.semaphore c.requires.kind) (released_differs c.args.count (object_at c.args.self.now.objects c.args.semaphore) c.requires.kind c.requires.positive) (exchanged_in (the_view c.self.inside) c.args.self.now c.args.semaphore (released c.args.count) c.release.new.self.items c.release.new.self.owned c.self.view_is (rw (to_z-of_z w32 c.args.count c.ranges.count) at c.in-Ok.ensures.items))
     c.serve_one.ensures.served c.serve_one.ensures.sound c.serve_one.ensures.most c.serve_one.ensures.least c.serve_one.ensures.marked
-
-pub returns-clause-prepared : goal.returns-clause-prepared
-returns-clause-prepared c = exchanged_prepared c.args.self.now (record (the_view c.self.inside) { objects = c.release.new.self.items; owned = c.release.new.self.owned }) c.serve_one.new.self c.args.semaphore (released c.args.count (object_at c.args.self.now.objects c.args.semaphore)) (exchanged_in (the_view c.self.inside) c.args.self.now c.args.semaphore (released c.args.count) c.release.new.self.items c.release.new.self.owned c.self.view_is (rw (to_z-of_z w32 c.args.count c.ranges.count) at c.in-Ok.ensures.items)) c.serve_one.ensures.prepared

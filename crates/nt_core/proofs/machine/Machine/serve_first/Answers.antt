@@ -1,4 +1,4 @@
-use Rattle.std.proofs.Common.{ℕ, ◌<◌, ◌+◌, ◌-◌, length, arith, subst, sym, ap, ◌∙◌, refl, Option, Some, ◌≡◌, false, List}
+use Rattle.std.proofs.Common.{ℕ, ◌<◌, ◌+◌, ◌-◌, length, arith, subst, sym, ap, ◌∙◌, Option, Some, ◌≡◌, false, List}
 use Rattle.nt_core.specs.Dispatcher.{Dispatcher, state}
 use Rattle.nt_calls.specs.Serving.{is_ready}
 use Rattle.nt_objects.specs.declared.object.Object.{Object}
@@ -14,7 +14,6 @@ here c = subst (λ (at : Option ℕ). IsAt c.args.object c.args.self.now c.loop-
 pub loop-next-init : goal.loop-next-init
 loop-next-init c = (
   at_first c.args.object c.args.self.now (Some c.args.first) c.requires.sound (sym c.requires.first),
-  refl,
   c.requires.needed,
 )
 
@@ -33,8 +32,7 @@ loop-next-preserved c = (
       c.visit-next.ensures.visited.visited
       c.visit-next.ensures.visited.sound
       c.visit-next.ensures.next,
-  c.visit-next.ensures.visited.prepared ∙ c.loop-next.invariant.1,
-  by_visited c.args.object c.loop-next.self c.visit-next.new.self c.in-Some.thread c.visit-next.ensures.visited.visited c.loop-next.invariant.2,
+  by_visited c.args.object c.loop-next.self c.visit-next.new.self c.in-Some.thread c.visit-next.ensures.visited.visited c.loop-next.invariant.1,
 )
 
 pub loop-next-preserved-else-not-is_ready : goal.loop-next-preserved-else-not-is_ready
@@ -44,8 +42,7 @@ loop-next-preserved-else-not-is_ready c = (
       c.visit-next.ensures.visited.visited
       c.visit-next.ensures.visited.sound
       c.visit-next.ensures.next),
-  c.visit-next.ensures.visited.prepared ∙ c.loop-next.invariant.1,
-  by_visited c.args.object c.loop-next.self c.visit-next.new.self c.in-Some.thread c.visit-next.ensures.visited.visited c.loop-next.invariant.2,
+  by_visited c.args.object c.loop-next.self c.visit-next.new.self c.in-Some.thread c.visit-next.ensures.visited.visited c.loop-next.invariant.1,
 )
 
 pub loop-next-smaller : goal.loop-next-smaller
@@ -58,7 +55,7 @@ loop-next-smaller c =
 pub returns : goal.returns
 returns c =
     let end = subst (λ (at : Option ℕ). IsAt c.args.object c.args.self.now c.loop-next.self at) c.in_default.is c.loop-next.invariant.0 in
-    record { visits = at_end c.args.object c.args.self.now c.loop-next.self end; prepared = c.loop-next.invariant.1; sound = end.sound }
+    record { visits = at_end c.args.object c.args.self.now c.loop-next.self end; sound = end.sound }
 
 -- nothing that is left fits
 pub returns-then-not-is_ready : goal.returns-then-not-is_ready
@@ -71,9 +68,8 @@ returns-then-not-is_ready c =
     c.visit-next.ensures.visited.visited
     c.visit-next.ensures.visited.sound
     c.visit-next.ensures.next in
-    let by = by_visited c.args.object c.loop-next.self c.visit-next.new.self c.in-Some.thread c.visit-next.ensures.visited.visited c.loop-next.invariant.2 in
+    let by = by_visited c.args.object c.loop-next.self c.visit-next.new.self c.in-Some.thread c.visit-next.ensures.visited.visited c.loop-next.invariant.1 in
     record {
       visits = at_stop c.args.object c.args.self.now c.visit-next.new.self c.visit-next.result at (by_none c.args.object (state c.visit-next.new.self) c.in-Some-next.after by unready);
-      prepared = c.visit-next.ensures.visited.prepared ∙ c.loop-next.invariant.1;
       sound = c.visit-next.ensures.visited.sound;
     }

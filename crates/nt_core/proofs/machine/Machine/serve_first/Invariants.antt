@@ -1,11 +1,11 @@
-use Rattle.std.proofs.Common.{◌≡◌, ◌+◌, ◌-◌, length}
+use Rattle.std.proofs.Common.{◌+◌, ◌-◌, length}
 use Rattle.nt_core.specs.Dispatcher.{state}
 use Rattle.nt_core.specs.Visits.{FitOnlyBy}
 use Rattle.nt_core.proofs.Walks.{IsAt}
 use Rattle.nt_core.proofs.machine.Machine.serve_first.Given as goal
 
 abbrev pub invariant-loop-next : goal.invariant-loop-next
-invariant-loop-next l = IsAt l.object l.initial.self l.self l.next × (l.self.table.prepared ≡ l.initial.self.table.prepared) × FitOnlyBy l.object (state l.self)
+invariant-loop-next l = IsAt l.object l.initial.self l.self l.next × FitOnlyBy l.object (state l.self)
 
 -- looks that are left
 abbrev pub decreases-loop-next : goal.decreases-loop-next

@@ -1,11 +1,10 @@
-use Rattle.std.proofs.Common.{◌≡◌, ◌<◌, ◌+◌, ◌^◌, ℕ, List, None, length, set, sym, ap, ◌∙◌, subst}
-use Rattle.std.specs.Prelude.{Option}
-use Rattle.nt_alarms.specs.Alarms.{NoneAt, IsLowestAt}
+use Rattle.std.proofs.Common.{◌≡◌, ◌<◌, ◌+◌, ◌^◌, ℕ, List, length, set, sym, ap, ◌∙◌, subst, Bool, false}
+use Rattle.nt_marks.specs.Marks.{NoneMarked, IsFirstMarked}
 use Rattle.nt_core.specs.Dispatcher.{Dispatcher, Marked, state}
 use Rattle.nt_core.specs.Visits.{Visits}
 use Rattle.nt_core.specs.contracts.machine.Machine.{the_view}
 use Rattle.nt_core.proofs.Places.{ServedSoFar, without_mark, served_none, served_next, served_countable, served_end, changed_sound}
-use Rattle.nt_core.proofs.Rousing.{marks_left, marks_less}
+use Rattle.nt_marks.proofs.Counting.{marks_left, marks_less}
 use Rattle.nt_core.proofs.machine.Machine.serve_marked.Goals as goal
 
 pub loop-place-init : goal.loop-place-init
@@ -15,9 +14,9 @@ pub serve_on-requires : goal.serve_on-requires
 serve_on-requires c =
     let now = c.loop-place.self in
     let place = c.in-Some.place in
-    let lowest : IsLowestAt now.marked.changed 0 place = subst (λ (d : Dispatcher). IsLowestAt d.marked.changed 0 place) c.self.view_is c.in-Some.ensures in
+    let lowest : IsFirstMarked now.marked.changed place = subst (λ (d : Dispatcher). IsFirstMarked d.marked.changed place) c.self.view_is c.in-Some.ensures in
     let mid : Dispatcher = record (the_view c.self.inside) { marked = record (the_view c.self.inside).marked { changed = c.clear.new.self } } in
-    let taken : mid ≡ without_mark now place = ap (λ (xs : List (Option ℕ)). record (the_view c.self.inside) { marked = record (the_view c.self.inside).marked { changed = xs } }) c.clear.ensures ∙ ap (λ (d : Dispatcher). without_mark d place) c.self.view_is in
+    let taken : mid ≡ without_mark now place = ap (λ (xs : List Bool). record (the_view c.self.inside) { marked = record (the_view c.self.inside).marked { changed = xs } }) c.clear.ensures ∙ ap (λ (d : Dispatcher). without_mark d place) c.self.view_is in
     record {
       sound = changed_sound now mid place c.loop-place.invariant.sound taken;
       countable = subst (λ (k : ℕ). mid.table.looked + length ((state mid).queues k) < 2 ^ 64) (sym c.new.ensures) (served_countable c.args.self.now now mid place c.loop-place.invariant lowest taken c.requires.countable);
@@ -27,24 +26,24 @@ pub loop-place-smaller : goal.loop-place-smaller
 loop-place-smaller c =
     let now = c.loop-place.self in
     let place = c.in-Some.place in
-    let lowest : IsLowestAt now.marked.changed 0 place = subst (λ (d : Dispatcher). IsLowestAt d.marked.changed 0 place) c.self.view_is c.in-Some.ensures in
+    let lowest : IsFirstMarked now.marked.changed place = subst (λ (d : Dispatcher). IsFirstMarked d.marked.changed place) c.self.view_is c.in-Some.ensures in
     let mid : Dispatcher = record (the_view c.self.inside) { marked = record (the_view c.self.inside).marked { changed = c.clear.new.self } } in
-    let taken : mid ≡ without_mark now place = ap (λ (xs : List (Option ℕ)). record (the_view c.self.inside) { marked = record (the_view c.self.inside).marked { changed = xs } }) c.clear.ensures ∙ ap (λ (d : Dispatcher). without_mark d place) c.self.view_is in
-    let marks : c.serve_on.new.self.marked.changed ≡ set now.marked.changed place None = ap (λ (m : Marked). m.changed) c.serve_on.ensures.visits.marked ∙ ap (λ (d : Dispatcher). d.marked.changed) taken in
-    let less : marks_left c.serve_on.new.self.marked.changed < marks_left now.marked.changed = subst (λ (m : List (Option ℕ)). marks_left m < marks_left now.marked.changed) (sym marks) (marks_less now.marked.changed place 0 lowest.here) in
+    let taken : mid ≡ without_mark now place = ap (λ (xs : List Bool). record (the_view c.self.inside) { marked = record (the_view c.self.inside).marked { changed = xs } }) c.clear.ensures ∙ ap (λ (d : Dispatcher). without_mark d place) c.self.view_is in
+    let marks : c.serve_on.new.self.marked.changed ≡ set now.marked.changed place false = ap (λ (m : Marked). m.changed) c.serve_on.ensures.visits.marked ∙ ap (λ (d : Dispatcher). d.marked.changed) taken in
+    let less : marks_left c.serve_on.new.self.marked.changed < marks_left now.marked.changed = subst (λ (m : List Bool). marks_left m < marks_left now.marked.changed) (sym marks) (marks_less now.marked.changed place lowest.here) in
     less
 
 pub loop-place-preserved : goal.loop-place-preserved
 loop-place-preserved c =
     let now = c.loop-place.self in
     let place = c.in-Some.place in
-    let lowest : IsLowestAt now.marked.changed 0 place = subst (λ (d : Dispatcher). IsLowestAt d.marked.changed 0 place) c.self.view_is c.in-Some.ensures in
+    let lowest : IsFirstMarked now.marked.changed place = subst (λ (d : Dispatcher). IsFirstMarked d.marked.changed place) c.self.view_is c.in-Some.ensures in
     let mid : Dispatcher = record (the_view c.self.inside) { marked = record (the_view c.self.inside).marked { changed = c.clear.new.self } } in
-    let taken : mid ≡ without_mark now place = ap (λ (xs : List (Option ℕ)). record (the_view c.self.inside) { marked = record (the_view c.self.inside).marked { changed = xs } }) c.clear.ensures ∙ ap (λ (d : Dispatcher). without_mark d place) c.self.view_is in
-    served_next c.args.self.now now mid c.serve_on.new.self place c.loop-place.invariant lowest taken (subst (λ (k : ℕ). Visits ((state mid).queues k) mid c.serve_on.new.self) c.new.ensures c.serve_on.ensures.visits) c.serve_on.ensures.prepared c.serve_on.ensures.sound
+    let taken : mid ≡ without_mark now place = ap (λ (xs : List Bool). record (the_view c.self.inside) { marked = record (the_view c.self.inside).marked { changed = xs } }) c.clear.ensures ∙ ap (λ (d : Dispatcher). without_mark d place) c.self.view_is in
+    served_next c.args.self.now now mid c.serve_on.new.self place c.loop-place.invariant lowest taken (subst (λ (k : ℕ). Visits ((state mid).queues k) mid c.serve_on.new.self) c.new.ensures c.serve_on.ensures.visits) c.serve_on.ensures.sound
 
 pub returns : goal.returns
 returns c =
     let far : ServedSoFar c.args.self.now c.loop-place.self = c.loop-place.invariant in
-    let none : NoneAt c.loop-place.self.marked.changed 0 = subst (λ (d : Dispatcher). NoneAt d.marked.changed 0) c.self.view_is c.in_default.ensures in
-    record { visits = served_end c.args.self.now c.loop-place.self far none; served = none; alerted = far.alerted; prepared = far.prepared; sound = far.sound }
+    let none : NoneMarked c.loop-place.self.marked.changed = subst (λ (d : Dispatcher). NoneMarked d.marked.changed) c.self.view_is c.in_default.ensures in
+    record { visits = served_end c.args.self.now c.loop-place.self far none; served = none; alerted = far.alerted; sound = far.sound }

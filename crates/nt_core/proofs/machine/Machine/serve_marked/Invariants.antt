@@ -1,5 +1,5 @@
 use Rattle.nt_core.proofs.Places.{ServedSoFar}
-use Rattle.nt_core.proofs.Rousing.{marks_left}
+use Rattle.nt_marks.proofs.Counting.{marks_left}
 use Rattle.nt_core.proofs.machine.Machine.serve_marked.Given as goal
 
 abbrev pub invariant-loop-place : goal.invariant-loop-place

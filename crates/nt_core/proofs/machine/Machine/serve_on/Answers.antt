@@ -1,4 +1,4 @@
-use Rattle.std.proofs.Common.{ℕ, ◌<◌, ◌+◌, ◌-◌, length, arith, subst, ap, ◌∙◌, refl, Option, Some}
+use Rattle.std.proofs.Common.{ℕ, ◌<◌, ◌+◌, ◌-◌, length, arith, subst, ap, ◌∙◌, Option, Some}
 use Rattle.std.specs.Prelude.{slice_get}
 use Rattle.nt_core.specs.Dispatcher.{Dispatcher, state}
 use Rattle.nt_core.proofs.Walks.{IsAt, at_first, at_next, at_end, at_member, at_countable, looked_visited}
@@ -7,14 +7,12 @@ use Rattle.nt_core.proofs.machine.Machine.serve_on.Goals.{In-Some}
 
 -- the walk comes to this thread
 here : (c : In-Some) → IsAt c.args.object c.args.self.now c.loop-at.self (Some c.in-Some.thread)
-here c = subst (λ (at : Option ℕ). IsAt c.args.object c.args.self.now c.loop-at.self at) c.in-Some.is c.loop-at.invariant.0
+here c = subst (λ (at : Option ℕ). IsAt c.args.object c.args.self.now c.loop-at.self at) c.in-Some.is c.loop-at.invariant
 
 pub loop-at-init : goal.loop-at-init
-loop-at-init c = (
-  at_first c.args.object c.args.self.now c.first_on-at.result c.requires.sound
-      (c.first_on-at.ensures.first ∙ ap (λ (d : Dispatcher). slice_get ((state d).queues c.args.object) 0) c.self.view_is),
-  refl,
-)
+loop-at-init c =
+    at_first c.args.object c.args.self.now c.first_on-at.result c.requires.sound
+    (c.first_on-at.ensures.first ∙ ap (λ (d : Dispatcher). slice_get ((state d).queues c.args.object) 0) c.self.view_is)
 
 pub visit-at-requires-clause-waits : goal.visit-at-requires-clause-waits
 visit-at-requires-clause-waits c = at_member c.args.object c.args.self.now c.loop-at.self c.in-Some.thread (here (goal.at.visit-at-requires-clause-waits c).In-Some)
@@ -25,14 +23,12 @@ visit-at-requires-clause-countable c =
     omega (arith, more, c.requires.countable)
 
 pub loop-at-preserved : goal.loop-at-preserved
-loop-at-preserved c = (
-  at_next c.args.object c.args.self.now c.loop-at.self c.visit-at.new.self c.in-Some.thread c.visit-at.result
-      (here (goal.at.loop-at-preserved c).In-Some)
-      c.visit-at.ensures.visited.visited
-      c.visit-at.ensures.visited.sound
-      c.visit-at.ensures.next,
-  c.visit-at.ensures.visited.prepared ∙ c.loop-at.invariant.1,
-)
+loop-at-preserved c =
+    at_next c.args.object c.args.self.now c.loop-at.self c.visit-at.new.self c.in-Some.thread c.visit-at.result
+    (here (goal.at.loop-at-preserved c).In-Some)
+    c.visit-at.ensures.visited.visited
+    c.visit-at.ensures.visited.sound
+    c.visit-at.ensures.next
 
 pub loop-at-smaller : goal.loop-at-smaller
 loop-at-smaller c =
@@ -43,5 +39,5 @@ loop-at-smaller c =
 
 pub returns : goal.returns
 returns c =
-    let end = subst (λ (at : Option ℕ). IsAt c.args.object c.args.self.now c.loop-at.self at) c.in_default.is c.loop-at.invariant.0 in
-    record { visits = at_end c.args.object c.args.self.now c.loop-at.self end; prepared = c.loop-at.invariant.1; sound = c.loop-at.invariant.0.sound }
+    let end = subst (λ (at : Option ℕ). IsAt c.args.object c.args.self.now c.loop-at.self at) c.in_default.is c.loop-at.invariant in
+    record { visits = at_end c.args.object c.args.self.now c.loop-at.self end; sound = c.loop-at.invariant.sound }

@@ -1,10 +1,10 @@
-use Rattle.std.proofs.Common.{◌≡◌, ◌+◌, ◌-◌, length}
+use Rattle.std.proofs.Common.{◌+◌, ◌-◌, length}
 use Rattle.nt_core.specs.Dispatcher.{state}
 use Rattle.nt_core.proofs.Walks.{IsAt}
 use Rattle.nt_core.proofs.machine.Machine.serve_on.Given as goal
 
 abbrev pub invariant-loop-at : goal.invariant-loop-at
-invariant-loop-at l = IsAt l.object l.initial.self l.self l.at × (l.self.table.prepared ≡ l.initial.self.table.prepared)
+invariant-loop-at l = IsAt l.object l.initial.self l.self l.at
 
 -- looks that are left
 abbrev pub decreases-loop-at : goal.decreases-loop-at

@@ -27,6 +27,6 @@ returns c t free =
     let act = Act.SetEvent c.args.handle in
     let event = c.in_ok-event.event in
     let judged = (subst (λ (x : Dispatcher). IsJudged x.handles c.args.handle modify_state (kind_causes is_event x.objects) (Ok c.in_ok-event.event)) c.self.view_is c.in_ok-event.ensures) in
-    let accepted = set_accepted old new t event c.requires.fresh (kind_free is_event old.objects (act_denied old.handles (Act.SetEvent c.args.handle)) event judged.1) c.raise_event.ensures.served in
+    let accepted = set_accepted old new t event c.requires.fresh (kind_free is_event old.objects (act_denied old.handles (Act.SetEvent c.args.handle)) event judged.1) c.raise_event.ensures in
     subst (λ (h : ℕ). IsMade old new t (act_denied old.handles act) (Call.Act (Act.SetEvent h)) (Ok Reply.Done)) judged.0
     (accepted_made old new t (act_denied old.handles act) (Call.Act (Act.SetEvent event)) Reply.Done free judged.1 accepted)

@@ -5,16 +5,16 @@ use Rattle.nt_calls.specs.declared.call.Call.{Call}
 use Rattle.nt_calls.specs.declared.call.WaitCall.{WaitCall}
 use Rattle.nt_calls.specs.declared.call.Reply.{Reply}
 use Rattle.nt_status.specs.declared.refusal.Refusal.{Refusal}
-use Rattle.std.specs.Prelude.{Result, Err}
+use Rattle.std.specs.Prelude.{Result, Ok, Err}
 use Rattle.nt_calls.specs.State.{object_at}
 use Rattle.nt_calls.specs.Naming.{object_named, lacks}
 use Rattle.nt_calls.specs.Rights.{signal_denied}
 use Rattle.nt_calls.specs.Refusals.{first_of_causes, swap_causes}
 use Rattle.nt_core.specs.Dispatcher.{Dispatcher, state}
-use Rattle.nt_core.specs.Accepts.{IsMade}
+use Rattle.nt_core.specs.Accepts.{IsMade, reply_of}
 use Rattle.nt_core.proofs.Closing.{named_living}
 use Rattle.nt_core.proofs.Judging.{undenied}
-use Rattle.nt_core.proofs.Making.{refused_made, tried_made}
+use Rattle.nt_core.proofs.Making.{refused_made, accepted_made}
 use Rattle.nt_core.proofs.machine.Machine.signal_and_wait.Goals as goal
 
 -- the numbers, the rights and the objects as they were found are those of the dispatcher
@@ -61,8 +61,8 @@ returns-in-None c =
     let t = c.args.thread in
     let call = Call.Wait (WaitCall.Swap c.opened-signaled.result.0 c.opened-awaited.result.0 c.args.mode.ms c.args.mode.alertable) in
     let judged = c.swap_refusal.ensures ∙ (ap (λ (os : List Object). first_of_causes (swap_causes os t c.is_swap_denied-denied.result c.opened-signaled.result.0 c.opened-awaited.result.0)) c.as_slice-objects.ensures ∙ ap (λ (x : Dispatcher). first_of_causes (swap_causes x.objects t c.is_swap_denied-denied.result c.opened-signaled.result.0 c.opened-awaited.result.0)) c.self.view_is) in
-    made_as old new t c.is_swap_denied-denied.result _ c.opened-signaled.result.0 _ c.opened-awaited.result.0 _ c.args.mode.ms c.args.mode.alertable c.swap.result
+    rw c.replied.ensures (made_as old new t c.is_swap_denied-denied.result _ c.opened-signaled.result.0 _ c.opened-awaited.result.0 _ c.args.mode.ms c.args.mode.alertable (Ok (reply_of c.swap.result))
     (denied_as old _ c.args.signal c.args.object c.opened-signaled.result.0 c.as_slice-objects.result.now c.opened-signaled.result.1 c.opened-awaited.result.1 c.is_swap_denied-denied.result c.self.view_is c.as_slice-objects.ensures c.opened-signaled.ensures.object c.opened-signaled.ensures.denied c.opened-awaited.ensures.denied c.is_swap_denied-denied.ensures)
     (c.opened-signaled.ensures.object ∙ ap (λ (x : Dispatcher). object_named x.handles c.args.signal) c.self.view_is)
     (c.opened-awaited.ensures.object ∙ ap (λ (x : Dispatcher). object_named x.handles c.args.object) c.self.view_is)
-    (tried_made old new t c.is_swap_denied-denied.result call c.swap.result c.requires.fresh c.requires.caller (sym judged ∙ c.in-None.is) c.swap.ensures.ok c.swap.ensures.grows c.swap.ensures.memory c.swap.ensures.err)
+    (accepted_made old new t c.is_swap_denied-denied.result call (reply_of c.swap.result) c.requires.caller (sym judged ∙ c.in-None.is) c.swap.ensures))

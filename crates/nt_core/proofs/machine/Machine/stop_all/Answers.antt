@@ -1,5 +1,5 @@
 use Rattle.std.proofs.Common.{◌≡◌, ℕ, List, sym, ap, ◌∙◌, subst}
-use Rattle.nt_alarms.specs.Marks.{AddsMarks}
+use Rattle.nt_marks.specs.Marks.{AddsMarks}
 use Rattle.nt_core.specs.Dispatcher.{Dispatcher}
 use Rattle.nt_core.specs.Lawful.{IsSound}
 use Rattle.nt_core.specs.Accepts.{IsSetBy, IsSetAmong, AreStopped, IsStoppedAfter}

@@ -8,7 +8,7 @@ use Rattle.nt_core.proofs.machine.Machine.take_now.Goals as goal
 
 pub returns-clause-steady : goal.returns-clause-steady
 returns-clause-steady c =
-    let d = dispatcher_of c.self.inside.threads c.self.inside.handles.opened c.self.inside.objects.items c.self.inside.objects.owned c.self.inside.waits c.self.inside.apcs c.self.inside.handing.items c.self.inside.moment c.self.inside.grants.items c.self.inside.alarms c.self.inside.leaving c.self.inside.changed c.self.inside.alerted in
+    let d = dispatcher_of c.self.inside.threads c.self.inside.handles.opened c.self.inside.objects.items c.self.inside.objects.owned c.self.inside.waits c.self.inside.apcs c.self.inside.handing.items c.self.inside.standings.items c.self.inside.moment c.self.inside.grants.items c.self.inside.alarms c.self.inside.leaving c.self.inside.changed c.self.inside.alerted in
     let steady : IsSteady d = subst IsSteady (sym c.self.view_is) c.requires.steady in
     let w = wait_for c.args.objects.now c.args.all in
     let able : IsSoundWait d.threads d.objects c.args.thread w = subst (λ (x : Dispatcher). IsSoundWait x.threads x.objects c.args.thread w) (sym c.self.view_is) c.requires.can.able in

@@ -22,12 +22,12 @@ visit_one-requires-clause-only c =
 
 pub visit_one-requires-clause-sound : goal.visit_one-requires-clause-sound
 visit_one-requires-clause-sound c =
-    subst (λ (w : Waits). IsSound (dispatcher_of c.self.inside.threads c.self.inside.handles.opened c.self.inside.objects.items c.self.inside.objects.owned w c.self.inside.apcs c.self.inside.handing.items c.self.inside.moment c.self.inside.grants.items c.self.inside.alarms c.self.inside.leaving c.self.inside.changed c.self.inside.alerted)) (sym c.in-Some.ensures.counted)
-    (looked_sound (dispatcher_of c.self.inside.threads c.self.inside.handles.opened c.self.inside.objects.items c.self.inside.objects.owned c.self.inside.waits c.self.inside.apcs c.self.inside.handing.items c.self.inside.moment c.self.inside.grants.items c.self.inside.alarms c.self.inside.leaving c.self.inside.changed c.self.inside.alerted) (c.self.inside.waits.looked + 1) (subst IsSound (sym c.self.view_is) c.requires.sound))
+    subst (λ (w : Waits). IsSound (dispatcher_of c.self.inside.threads c.self.inside.handles.opened c.self.inside.objects.items c.self.inside.objects.owned w c.self.inside.apcs c.self.inside.handing.items c.self.inside.standings.items c.self.inside.moment c.self.inside.grants.items c.self.inside.alarms c.self.inside.leaving c.self.inside.changed c.self.inside.alerted)) (sym c.in-Some.ensures.counted)
+    (looked_sound (dispatcher_of c.self.inside.threads c.self.inside.handles.opened c.self.inside.objects.items c.self.inside.objects.owned c.self.inside.waits c.self.inside.apcs c.self.inside.handing.items c.self.inside.standings.items c.self.inside.moment c.self.inside.grants.items c.self.inside.alarms c.self.inside.leaving c.self.inside.changed c.self.inside.alerted) (c.self.inside.waits.looked + 1) (subst IsSound (sym c.self.view_is) c.requires.sound))
 
 pub returns-in-Some-clause-visited : goal.returns-in-Some-clause-visited
 returns-in-Some-clause-visited c =
-    let at = λ (w : Waits). dispatcher_of c.self.inside.threads c.self.inside.handles.opened c.self.inside.objects.items c.self.inside.objects.owned w c.self.inside.apcs c.self.inside.handing.items c.self.inside.moment c.self.inside.grants.items c.self.inside.alarms c.self.inside.leaving c.self.inside.changed c.self.inside.alerted in
+    let at = λ (w : Waits). dispatcher_of c.self.inside.threads c.self.inside.handles.opened c.self.inside.objects.items c.self.inside.objects.owned w c.self.inside.apcs c.self.inside.handing.items c.self.inside.standings.items c.self.inside.moment c.self.inside.grants.items c.self.inside.alarms c.self.inside.leaving c.self.inside.changed c.self.inside.alerted in
     let back : c.self.inside.waits.looked + 1 - 1 ≡ c.self.inside.waits.looked = omega arith in
     let before : uncounted (at c.look.new.self) ≡ c.args.self.now =
     ap (λ (w : Waits). uncounted (at w)) c.in-Some.ensures.counted ∙ (ap (λ (n : ℕ). at (record c.self.inside.waits { looked = n })) back ∙ c.self.view_is) in
@@ -35,5 +35,14 @@ returns-in-Some-clause-visited c =
 
 pub visit_any-requires-clause-sound : goal.visit_any-requires-clause-sound
 visit_any-requires-clause-sound c =
-    subst (λ (w : Waits). IsSound (dispatcher_of c.self.inside.threads c.self.inside.handles.opened c.self.inside.objects.items c.self.inside.objects.owned w c.self.inside.apcs c.self.inside.handing.items c.self.inside.moment c.self.inside.grants.items c.self.inside.alarms c.self.inside.leaving c.self.inside.changed c.self.inside.alerted)) (sym c.look.ensures.counted)
-    (looked_sound (dispatcher_of c.self.inside.threads c.self.inside.handles.opened c.self.inside.objects.items c.self.inside.objects.owned c.self.inside.waits c.self.inside.apcs c.self.inside.handing.items c.self.inside.moment c.self.inside.grants.items c.self.inside.alarms c.self.inside.leaving c.self.inside.changed c.self.inside.alerted) (c.self.inside.waits.looked + one_for c.look.result) (subst IsSound (sym c.self.view_is) c.requires.sound))
+    subst (λ (w : Waits). IsSound (dispatcher_of c.self.inside.threads c.self.inside.handles.opened c.self.inside.objects.items c.self.inside.objects.owned w c.self.inside.apcs c.self.inside.handing.items c.self.inside.standings.items c.self.inside.moment c.self.inside.grants.items c.self.inside.alarms c.self.inside.leaving c.self.inside.changed c.self.inside.alerted)) (sym c.look.ensures.counted)
+    (looked_sound (dispatcher_of c.self.inside.threads c.self.inside.handles.opened c.self.inside.objects.items c.self.inside.objects.owned c.self.inside.waits c.self.inside.apcs c.self.inside.handing.items c.self.inside.standings.items c.self.inside.moment c.self.inside.grants.items c.self.inside.alarms c.self.inside.leaving c.self.inside.changed c.self.inside.alerted) (c.self.inside.waits.looked + one_for c.look.result) (subst IsSound (sym c.self.view_is) c.requires.sound))
+
+pub returns-clause-visited : goal.returns-clause-visited
+returns-clause-visited c =
+    let at = λ (w : Waits). dispatcher_of c.self.inside.threads c.self.inside.handles.opened c.self.inside.objects.items c.self.inside.objects.owned w c.self.inside.apcs c.self.inside.handing.items c.self.inside.standings.items c.self.inside.moment c.self.inside.grants.items c.self.inside.alarms c.self.inside.leaving c.self.inside.changed c.self.inside.alerted in
+    let none : one_for c.look.result ≡ 0 = ap one_for c.in_default.is in
+    let same : c.self.inside.waits.looked + one_for c.look.result ≡ c.self.inside.waits.looked = omega (arith, none) in
+    let before : at c.look.new.self ≡ c.args.self.now =
+    ap at c.look.ensures.counted ∙ (ap (λ (n : ℕ). at (record c.self.inside.waits { looked = n })) same ∙ c.self.view_is) in
+    subst (λ (x : Dispatcher). HasVisited x c.visit_any.new.self c.args.thread) before c.visit_any.ensures

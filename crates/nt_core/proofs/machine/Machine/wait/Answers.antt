@@ -3,9 +3,10 @@ use Rattle.nt_calls.specs.declared.call.Call.{Call}
 use Rattle.nt_calls.specs.declared.call.WaitCall.{WaitCall}
 use Rattle.nt_calls.specs.State.{deadline_after}
 use Rattle.nt_core.specs.Dispatcher.{state}
+use Rattle.nt_calls.specs.Refusals.{grows}
 use Rattle.nt_calls.specs.Serving.{wait_for}
 use Rattle.nt_calls.specs.Steps.{begun}
-use Rattle.nt_core.specs.Accepts.{Accepts, CanBegin, HasBegun, IsWaitMade, begins_pending, reply_of, replied}
+use Rattle.nt_core.specs.Accepts.{Accepts, CanBegin, HasBegun, IsWaitMade, objects_call, reply_of, replied}
 use Rattle.nt_core.specs.declared.waiting.Mode.{Mode}
 use Rattle.nt_core.proofs.Accepting.{ok_then, sound_sleep, wait_accepted}
 use Rattle.nt_core.proofs.Running.{free_runs, free_can}
@@ -33,4 +34,4 @@ returns-in-Sleep c =
     (λ ended. Accepts old new t (Call.Wait asked) (reply_of ended))
     (λ ended begins. wait_accepted old new t asked (reply_of ended) c.requires.fresh began.grants began.looked began.steady refl begins)
     c.begin_wait.result (subst (λ (m : Mode). IfOk c.begin_wait.result (λ ended. HasBegun (state old) (state new) t [] m (reply_of ended))) is began.begun))
-    (subst (λ (m : Mode). OnErr c.begin_wait.result (IsTrue (begins_pending (state old) t [] m))) is began.grows) began.memory began.err))
+    (subst (λ (m : Mode). OnErr c.begin_wait.result (IsTrue (grows (state old) t (Call.Wait (objects_call m []))))) is began.grows) began.memory began.err))

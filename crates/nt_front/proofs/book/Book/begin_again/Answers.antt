@@ -12,6 +12,7 @@ use Rattle.nt_mail.specs.declared.entry.Entry.TheVariants.{Renewed}
 use Rattle.nt_mail.specs.declared.knowledge.Asked.{Asked}
 use Rattle.nt_mail.specs.declared.knowledge.Knowledge.{Knowledge}
 use Rattle.nt_mail.specs.Entries.{accepted}
+use Rattle.nt_mail.specs.Knowledge.{IsEarlier, with_call as entry_known}
 use Rattle.nt_mail.specs.Rule.{IsTold}
 use Rattle.nt_mail.specs.Seats.{Dispatcher, Seated}
 use Rattle.nt_front.specs.Books.{Ledger, ledger, Writes}
@@ -30,6 +31,7 @@ returns-in_default-clause-unbegun g c =
     let grants = c.begin_this.new.self.core.grants in
     let new = state c.begin_this.new.self.core in
     let none = begun_none old life.spare c.from-number.result grants new (subst (λ (r : Option ℕ). MayBeginThis old life.spare c.from-number.result r grants new) c.in_default.is c.begin_this.ensures.begun) in
+    let known = ap (λ (s : Seated). s.known) c.deref_mut.ensures.value ∙ c.caller.view_is in
     let published = ap (λ (d : Dispatcher). d.published) kept.seat in record {
       book = ledger life c.self.inside.base c.self.inside.dispatcher.written c.self.inside.first c.self.inside.journal.items c.self.inside.room;
       stands = kept.stands;
@@ -37,12 +39,15 @@ returns-in_default-clause-unbegun g c =
       room = kept.room;
       lasts = kept.lasts;
       taken = subst (λ (t : ℕ). MatchOption life.spare (Unit {0}) (λ spare. (length spare.closed ≡ 0) ⊎ (is_left old t ≡ false))) (c.from-number.ensures ∙ (c.get.ensures ∙ c.thread-who.ensures)) none.1;
-      told = subst (λ (x : List ℕ × Knowledge). IsTold c.self.inside.dispatcher.written x.0 x.1) (λ i. (published i, c.caller.view_is i)) c.look.ensures.told;
+      told = subst (λ (x : List ℕ × Knowledge). IsTold c.self.inside.dispatcher.written x.0 x.1) (λ i. (published i, known i)) c.look.ensures.told;
     }
 
 pub overflow_add-caller : goal.overflow_add-caller
 overflow_add-caller g c =
-    let fewer = fewer_calls c.caller.inside.seat.known (c.self.inside.first + c.len-place.result) c.caller.invariant.numbered (omega arith) c.tell.ensures.earlier in
+    let known = c.caller.inside.seat.value.known in
+    let number = c.self.inside.first + c.len-place.result in
+    let earlier = subst (IsEarlier number) (ap (λ (s : Seated). s.known) c.deref_mut-2.ensures.value) c.tell.ensures.earlier in
+    let fewer = fewer_calls known number c.caller.invariant.numbered (omega arith) earlier in
     let count = c.caller.invariant.calls in
     let place = c.len-place.ensures in
     let room = c.self.invariant.numbers in
@@ -95,20 +100,22 @@ invariant_of-self-2 g c =
 
 pub invariant_of-caller-2 : goal.invariant_of-caller-2
 invariant_of-caller-2 g c =
-    let known = c.caller.inside.seat.known in
+    let known = c.caller.inside.seat.value.known in
     let number = c.self.inside.first + c.len-place.result in
+    let same = ap (λ (s : Seated). s.known) c.deref_mut-2.ensures.value in
+    let earlier = subst (IsEarlier number) same c.tell.ensures.earlier in
     let h = c.in-Some.handle in
     let t = c.thread-who.result in
     let es = c.self.inside.journal.items in
     let here : c.len-place.result ≡ length es = search rules in
     let entry = last_is es (Renewed t (Begin h) (Ok h)) c.push_reserved.new.self.items c.len-place.result c.index.result.now c.index.ensures c.push_reserved.ensures.items here in
     let becomes : c.tell.new.caller.known ≡ with_made known number Asked.Begin (Ok (Reply.Handle h)) =
-    ap (λ (s : Seated). s.known) c.tell.ensures.made ∙ made_again known number c.index.result.now t h entry (c.thread-who.ensures ∙ ap (λ (k : Knowledge). k.thread) (sym c.caller.view_is)) in
+    ap (λ (s : Seated). s.known) c.tell.ensures.made ∙ (ap (entry_known number c.index.result.now) same ∙ made_again known number c.index.result.now t h entry (c.thread-who.ensures ∙ ap (λ (k : Knowledge). k.thread) (sym c.caller.view_is))) in
     let count = c.caller.invariant.calls in record {
       table = ap (λ (s : Seated). s.table) c.tell.ensures.made ∙ c.requires.mail;
       floor = c.caller.invariant.floor ∙ (sym (floor_made known number Asked.Begin (Ok (Reply.Handle h)) refl) ∙ sym (ap floor_of becomes));
       calls = (let a = calls_made known number Asked.Begin (Ok (Reply.Handle h)) in let b = ap (λ (k : Knowledge). length k.made) becomes in omega (arith, a, b, count));
-      numbered = subst (λ (k : Knowledge). AreNumbered k.made) (sym becomes) (numbered_made known number Asked.Begin (Ok (Reply.Handle h)) c.caller.invariant.numbered (omega arith) c.tell.ensures.earlier);
+      numbered = subst (λ (k : Knowledge). AreNumbered k.made) (sym becomes) (numbered_made known number Asked.Begin (Ok (Reply.Handle h)) c.caller.invariant.numbered (omega arith) earlier);
     }
 
 pub returns-clause-book : goal.returns-clause-book

@@ -11,7 +11,7 @@ use Rattle.nt_mail.specs.declared.entry.Entry.{Entry}
 use Rattle.nt_mail.specs.declared.knowledge.Asked.{Asked}
 use Rattle.nt_mail.specs.declared.knowledge.Knowledge.{Knowledge}
 use Rattle.nt_mail.specs.Entries.{accepted, arms, is_armed, IsOwn}
-use Rattle.nt_mail.specs.Knowledge.{with_call as entry_known}
+use Rattle.nt_mail.specs.Knowledge.{IsEarlier, with_call as entry_known}
 use Rattle.nt_mail.specs.Seats.{Dispatcher, Seated}
 use Rattle.nt_front.specs.Books.{Ledger, ledger, WritesCall}
 use Rattle.nt_front.specs.Runs.{Agree, AreArmed, granted}
@@ -22,7 +22,10 @@ use Rattle.nt_front.proofs.book.Book.call.Goals as goal
 
 pub overflow_add-caller : goal.overflow_add-caller
 overflow_add-caller g c =
-    let fewer = fewer_calls c.caller.inside.seat.known (c.self.inside.first + c.len-place.result) c.caller.invariant.numbered (omega arith) c.tell.ensures.earlier in
+    let known = c.caller.inside.seat.value.known in
+    let number = c.self.inside.first + c.len-place.result in
+    let earlier = subst (IsEarlier number) (ap (λ (s : Seated). s.known) c.deref_mut.ensures.value) c.tell.ensures.earlier in
+    let fewer = fewer_calls known number c.caller.invariant.numbered (omega arith) earlier in
     let count = c.caller.invariant.calls in
     let place = c.len-place.ensures in
     let room = c.self.invariant.numbers in
@@ -34,8 +37,8 @@ tell-requires-clause-entry g c =
     let held = c.self.inside.journal.items in
     let here : c.len-place.result ≡ length held = search rules in
     let entry = last_is held out.0 c.write_call-result.new.journal.items c.len-place.result c.index.result.now c.index.ensures out.1 here in
-    let own = c.thread-who.ensures ∙ ap (λ (k : Knowledge). k.thread) (sym c.caller.view_is) in
-    subst (λ (x : ℕ × Entry). IsOwn x.0 x.1) {x = (c.thread-who.result, out.0)} {y = (c.caller.inside.seat.known.thread, c.index.result.now)} (λ i. (own i, sym entry i))
+    let own = c.thread-who.ensures ∙ ap (λ (k : Knowledge). k.thread) (sym (ap (λ (s : Seated). s.known) c.deref_mut.ensures.value ∙ c.caller.view_is)) in
+    subst (λ (x : ℕ × Entry). IsOwn x.0 x.1) {x = (c.thread-who.result, out.0)} {y = (c.deref_mut.result.now.known.thread, c.index.result.now)} (λ i. (own i, sym entry i))
     (own_of c.thread-who.result c.args.call c.write_call-result.result out.0 out.2.of)
 
 pub tell-requires-clause-armed : goal.tell-requires-clause-armed
@@ -50,8 +53,8 @@ tell-requires-clause-armed g c =
     let waited = c.waited_before-waited.ensures ∙ (ap (λ (d : Core). is_err result && pends (state d) c.thread-who.result) c.core-2.ensures ∙ done.free) in
     let here : c.len-place.result ≡ length held = search rules in
     let entry = last_is held out.0 c.write_call-result.new.journal.items c.len-place.result c.index.result.now c.index.ensures out.1 here in
-    let own = c.thread-who.ensures ∙ ap (λ (k : Knowledge). k.thread) (sym c.caller.view_is) in
-    subst (λ (x : ℕ × Entry × Bool). one_if (is_armed x.0 es) + one_if (arms x.1) ≡ one_if (c.waited_before-waited.result || x.2)) {x = (c.thread-who.result, out.0, pended result)} {y = (c.caller.inside.seat.known.thread, c.index.result.now, c.has_pended.result)} (λ i. (own i, sym entry i, sym c.has_pended.ensures i))
+    let own = c.thread-who.ensures ∙ ap (λ (k : Knowledge). k.thread) (sym (ap (λ (s : Seated). s.known) c.deref_mut.ensures.value ∙ c.caller.view_is)) in
+    subst (λ (x : ℕ × Entry × Bool). one_if (is_armed x.0 es) + one_if (arms x.1) ≡ one_if (c.waited_before-waited.result || x.2)) {x = (c.thread-who.result, out.0, pended result)} {y = (c.deref_mut.result.now.known.thread, c.index.result.now, c.has_pended.result)} (λ i. (own i, sym entry i, sym c.has_pended.ensures i))
     (call_arms c.self.inside.threads es old c.thread-who.result result out.0 after.grants (state after) c.waited_before-waited.result c.self.invariant.agree done.moves waited (arms_of c.thread-who.result c.args.call result out.0 done.of))
 
 pub send-requires-clause-room : goal.send-requires-clause-room
@@ -137,19 +140,21 @@ invariant_of-self g c =
 pub invariant_of-caller : goal.invariant_of-caller
 invariant_of-caller g c =
     let out = c.write_call-result.ensures.carried_out in
-    let known = c.caller.inside.seat.known in
+    let known = c.caller.inside.seat.value.known in
     let result = c.write_call-result.result in
     let es = c.self.inside.journal.items in
     let here : c.len-place.result ≡ length es = search rules in
     let entry = last_is es out.0 c.write_call-result.new.journal.items c.len-place.result c.index.result.now c.index.ensures out.1 here in
     let number = c.self.inside.first + c.len-place.result in
+    let same = ap (λ (s : Seated). s.known) c.deref_mut.ensures.value in
+    let earlier = subst (IsEarlier number) same c.tell.ensures.earlier in
     let becomes : c.tell.new.caller.known ≡ with_call known number c.args.call result =
-    ap (λ (s : Seated). s.known) c.tell.ensures.made ∙ (ap (λ (x : Entry). entry_known number x known) entry ∙ made_call known number out.0 c.thread-who.result c.args.call result out.2.of (c.thread-who.ensures ∙ ap (λ (k : Knowledge). k.thread) (sym c.caller.view_is))) in
+    ap (λ (s : Seated). s.known) c.tell.ensures.made ∙ (ap (entry_known number c.index.result.now) same ∙ ap (λ (x : Entry). entry_known number x known) entry ∙ made_call known number out.0 c.thread-who.result c.args.call result out.2.of (c.thread-who.ensures ∙ ap (λ (k : Knowledge). k.thread) (sym c.caller.view_is))) in
     let count = c.caller.invariant.calls in record {
       table = ap (λ (s : Seated). s.table) c.tell.ensures.made ∙ c.requires.mail;
       floor = c.caller.invariant.floor ∙ (sym (floor_calls known number c.args.call result) ∙ sym (ap floor_of becomes));
       calls = (let a = calls_made known number (Asked.Call c.args.call) result in let b = ap (λ (k : Knowledge). length k.made) becomes in omega (arith, a, b, count));
-      numbered = subst (λ (k : Knowledge). AreNumbered k.made) (sym becomes) (numbered_made known number (Asked.Call c.args.call) result c.caller.invariant.numbered (omega arith) c.tell.ensures.earlier);
+      numbered = subst (λ (k : Knowledge). AreNumbered k.made) (sym becomes) (numbered_made known number (Asked.Call c.args.call) result c.caller.invariant.numbered (omega arith) earlier);
     }
 
 pub returns-clause-answer : goal.returns-clause-answer

@@ -10,6 +10,7 @@ use Rattle.nt_mail.specs.declared.entry.Entry.TheVariants.{Ticked}
 use Rattle.nt_mail.specs.declared.knowledge.Asked.{Asked}
 use Rattle.nt_mail.specs.declared.knowledge.Knowledge.{Knowledge}
 use Rattle.nt_mail.specs.Entries.{accepted, accepted_if}
+use Rattle.nt_mail.specs.Knowledge.{IsEarlier, with_call as entry_known}
 use Rattle.nt_mail.specs.Seats.{Dispatcher, Seated}
 use Rattle.nt_front.specs.Runs.{Agree, AreArmed, granted}
 use Rattle.nt_front.specs.Books.{Ledger, ledger, Writes}
@@ -22,7 +23,10 @@ use Rattle.nt_front.proofs.book.Book.tick.Goals as goal
 
 pub overflow_add-caller : goal.overflow_add-caller
 overflow_add-caller g c =
-    let fewer = fewer_calls c.caller.inside.seat.known (c.self.inside.first + c.len-place.result) c.caller.invariant.numbered (omega arith) c.tell.ensures.earlier in
+    let known = c.caller.inside.seat.value.known in
+    let number = c.self.inside.first + c.len-place.result in
+    let earlier = subst (IsEarlier number) (ap (λ (s : Seated). s.known) c.deref_mut.ensures.value) c.tell.ensures.earlier in
+    let fewer = fewer_calls known number c.caller.invariant.numbered (omega arith) earlier in
     let count = c.caller.invariant.calls in
     omega (arith, fewer, count)
 
@@ -100,20 +104,22 @@ invariant_of-self g c =
 
 pub invariant_of-caller : goal.invariant_of-caller
 invariant_of-caller g c =
-    let known = c.caller.inside.seat.known in
+    let known = c.caller.inside.seat.value.known in
     let number = c.self.inside.first + c.len-place.result in
+    let same = ap (λ (s : Seated). s.known) c.deref_mut.ensures.value in
+    let earlier = subst (IsEarlier number) same c.tell.ensures.earlier in
     let moment = c.args.moment in
     let result = c.tick-result.result in
     let es = c.self.inside.journal.items in
     let here : c.len-place.result ≡ length es = search rules in
     let entry = last_is es (Ticked c.thread-by.result moment result) c.push_reserved.new.self.items c.len-place.result c.index.result.now c.index.ensures c.push_reserved.ensures.items here in
     let becomes : c.tell.new.caller.known ≡ with_tick known number moment result =
-    ap (λ (s : Seated). s.known) c.tell.ensures.made ∙ made_tick known number c.index.result.now c.thread-by.result moment result entry (c.thread-by.ensures ∙ ap (λ (k : Knowledge). k.thread) (sym c.caller.view_is)) in
+    ap (λ (s : Seated). s.known) c.tell.ensures.made ∙ (ap (entry_known number c.index.result.now) same ∙ made_tick known number c.index.result.now c.thread-by.result moment result entry (c.thread-by.ensures ∙ ap (λ (k : Knowledge). k.thread) (sym c.caller.view_is))) in
     let count = c.caller.invariant.calls in record {
       table = ap (λ (s : Seated). s.table) c.tell.ensures.made ∙ c.requires.mail;
       floor = c.floor_after-caller-inside.ensures ∙ (ap (λ (floor : ℕ). max floor (moment_if (Asked.Tick moment) result)) c.caller.invariant.floor ∙ (sym (floor_ticks known number moment result) ∙ sym (ap floor_of becomes)));
       calls = (let a = calls_made known number (Asked.Tick moment) result in let b = ap (λ (k : Knowledge). length k.made) becomes in omega (arith, a, b, count));
-      numbered = subst (λ (k : Knowledge). AreNumbered k.made) (sym becomes) (numbered_made known number (Asked.Tick moment) result c.caller.invariant.numbered (omega arith) c.tell.ensures.earlier);
+      numbered = subst (λ (k : Knowledge). AreNumbered k.made) (sym becomes) (numbered_made known number (Asked.Tick moment) result c.caller.invariant.numbered (omega arith) earlier);
     }
 
 pub returns-clause-answer : goal.returns-clause-answer

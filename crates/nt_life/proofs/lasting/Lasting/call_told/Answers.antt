@@ -1,8 +1,6 @@
-use Rattle.std.proofs.Common.{◌≡◌, sym, subst}
-use Rattle.std.specs.Prelude.{IfSome, OnOk, Err}
-use Rattle.nt_status.specs.declared.refusal.Refusal.TheVariants.{HandleLimit}
+use Rattle.std.proofs.Common.{sym, subst}
 use Rattle.nt_core.specs.Dispatcher.{state}
-use Rattle.nt_life.specs.Lasting.{WithSpare, FindsNone, FindsNoneFor}
+use Rattle.nt_life.specs.Lasting.{WithSpare, KeepsLimits}
 use Rattle.nt_life.proofs.Once.{own_call}
 use Rattle.nt_life.proofs.lasting.Lasting.call_told.Goals as goal
 
@@ -11,12 +9,11 @@ invariant_of-self c =
     let own = own_call (state c.self.inside.core) c.self.inside.spare c.args.who c.args.call.now c.call.result c.call.new.self.grants (state c.call.new.self) (sym c.if-not-gives.ensures) c.self.invariant.0.steady.sound.handles.enough c.call.ensures.moves.threads c.self.invariant.1 c.call.ensures.called in
     (c.call.ensures.lawful, own.spare_is)
 
-pub returns-then-not-gives-clause-limit : goal.returns-then-not-gives-clause-limit
-returns-then-not-gives-clause-limit c =
-    let own = own_call (state c.self.inside.core) c.self.inside.spare c.args.who c.args.call.now c.call.result c.call.new.self.grants (state c.call.new.self) (sym c.if-not-gives.ensures) c.self.invariant.0.steady.sound.handles.enough c.call.ensures.moves.threads c.self.invariant.1 c.call.ensures.called in
-    subst (λ (life : WithSpare). c.call.result ≡ Err HandleLimit → FindsNoneFor (state life.core) life.spare c.args.call.now) c.self.view_is own.limit
-
-pub returns-then-not-gives-clause-taken : goal.returns-then-not-gives-clause-taken
-returns-then-not-gives-clause-taken c =
-    let own = own_call (state c.self.inside.core) c.self.inside.spare c.args.who c.args.call.now c.call.result c.call.new.self.grants (state c.call.new.self) (sym c.if-not-gives.ensures) c.self.invariant.0.steady.sound.handles.enough c.call.ensures.moves.threads c.self.invariant.1 c.call.ensures.called in
-    subst (λ (life : WithSpare). IfSome life.spare (λ spare. FindsNone (state life.core) c.args.call.now → OnOk c.call.result ⊥)) c.self.view_is own.taken
+pub returns-then-not-gives-clause-limits : goal.returns-then-not-gives-clause-limits
+returns-then-not-gives-clause-limits c =
+    let old = state c.self.inside.core in
+    let new = state c.call.new.self in
+    let made = c.call.ensures in
+    let own = own_call old c.self.inside.spare c.args.who c.args.call.now c.call.result c.call.new.self.grants new (sym c.if-not-gives.ensures) c.self.invariant.0.steady.sound.handles.enough made.moves.threads c.self.invariant.1 made.called in
+    subst (λ (life : WithSpare). KeepsLimits life.core life.spare c.args.who c.args.call.now c.call.result c.call.new.self) c.self.view_is
+    (record { limit = own.limit; taken = own.taken; looks = record { local = made.local; untested = made.untested } })

@@ -2,7 +2,7 @@ use Rattle.std.proofs.Common.{[], ◌∷◌, ap}
 use Rattle.nt_calls.specs.declared.call.Call.{Call}
 use Rattle.nt_calls.specs.Runs.{Calls, Ticks}
 use Rattle.nt_script.specs.Progress.{progress}
-use Rattle.nt_script.specs.Scope.{Bound}
+use Rattle.nt_grammar.specs.Scope.{Bound}
 use Rattle.nt_script.proofs.Lines.{perform_line, create_line, tick_line, blank_line, counted_on}
 use Rattle.nt_script.proofs.session.Session.carry_out.Goals as goal
 

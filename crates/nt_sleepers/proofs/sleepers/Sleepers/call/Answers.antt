@@ -2,7 +2,7 @@ use Rattle.std.proofs.Common.{refl, ℕ, Bool, Option, ap, sym, subst}
 use Rattle.nt_calls.specs.Moves.{Moves, pended}
 use Rattle.nt_core.specs.Dispatcher.{state}
 use Rattle.std.specs.FinMap.{get}
-use Rattle.nt_sleepers.specs.Sleepers.{Sleeping, CalledWaits, deadline_of, settled}
+use Rattle.nt_sleepers.specs.Sleepers.{Sleeping, CalledWaits, time_out_of, settled}
 use Rattle.nt_sleepers.proofs.Staying.{StayedOrBegan}
 use Rattle.nt_sleepers.proofs.Renewing.{makes_stayed}
 use Rattle.nt_sleepers.proofs.Kept.{kept_same, refused, still, woke_still, on_err, kept_after, called_waits, nobody_by_renewal, woke_as}
@@ -12,7 +12,7 @@ pub invariant_of-self-2 : goal.invariant_of-self-2
 invariant_of-self-2 c =
     let moves = subst (λ (b : Bool). Moves (state c.self.inside.life.core) c.args.who b c.call-result.new.self.core.grants (state c.call-result.new.self.core)) (sym c.has_pended-began.ensures) c.call-result.ensures.pace.moves in
     let stayed = subst (λ (b : Bool). StayedOrBegan (state c.self.inside.life.core) c.args.who b (state c.call-result.new.self.core)) (sym c.has_pended-began.ensures) (makes_stayed (state c.self.inside.life.core) c.self.inside.life.spare c.args.who c.args.call.now c.call-result.result c.call-result.new.self.core.grants (state c.call-result.new.self.core) c.call-result.ensures.makes) in
-    let kept = kept_after (state c.self.inside.life.core) (state c.call-result.new.self.core) c.args.who c.has_pended-began.result c.call-result.new.self.core.grants (deadline_of (get (state c.call-result.new.self.core).waits c.args.who)) c.settle_all-self-inside.result c.self.inside.alarms c.self.inside.watchers c.settle_all-self-inside.new.alarms c.settle_all-self-inside.new.watchers moves stayed (λ began. refl) c.self.invariant.0
+    let kept = kept_after (state c.self.inside.life.core) (state c.call-result.new.self.core) c.args.who c.has_pended-began.result c.call-result.new.self.core.grants (time_out_of (get (state c.call-result.new.self.core).waits c.args.who)) c.settle_all-self-inside.result c.self.inside.alarms c.self.inside.watchers c.settle_all-self-inside.new.alarms c.settle_all-self-inside.new.watchers moves stayed (λ began. refl) c.self.invariant.0
     c.settle_all-self-inside.ensures.alarms c.settle_all-self-inside.ensures.watchers c.settle_all-self-inside.ensures.called c.settle_all-self-inside.ensures.in_time in
     (kept, called_waits (state c.call-result.new.self.core) (settled c.self.inside.alarms c.args.who c.has_pended-began.result c.call-result.new.self.core) c.settle_all-self-inside.new.watchers c.settle_all-self-inside.result kept.watching c.settle_all-self-inside.ensures.called)
 
@@ -23,7 +23,7 @@ returns-clause-woke c =
 
 pub returns-clause-nobody : goal.returns-clause-nobody
 returns-clause-nobody c =
-    nobody_by_renewal (state c.self.inside.life.core) (state c.call-result.new.self.core) c.args.who c.call-result.result c.has_pended-began.result c.call-result.new.self.core.grants (deadline_of (get (state c.call-result.new.self.core).waits c.args.who)) c.settle_all-self-inside.result c.self.inside.alarms c.self.inside.watchers _
+    nobody_by_renewal (state c.self.inside.life.core) (state c.call-result.new.self.core) c.args.who c.call-result.result c.has_pended-began.result c.call-result.new.self.core.grants (time_out_of (get (state c.call-result.new.self.core).waits c.args.who)) c.settle_all-self-inside.result c.self.inside.alarms c.self.inside.watchers _
     c.call-result.ensures.unchanged c.has_pended-began.ensures c.self.invariant.0 c.settle_all-self-inside.ensures.watchers c.settle_all-self-inside.ensures.called
 
 pub invariant_of-self : goal.invariant_of-self

@@ -58,7 +58,7 @@ returns-clause-unlinked c p is =
     record {
       unlinked = subst (λ (n : ℕ). AreUnlinked old new p.wait.objects p.numbers.items n) (sym many) first;
       distinct = end.distinct;
-      used = omega (arith, end.used);
+      used = omega (arith, many, end.used);
       capacity = end.capacity;
       object_room = end.object_room;
       at_least = omega (arith, many, end.counts_up);

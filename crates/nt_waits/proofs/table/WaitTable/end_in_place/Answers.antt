@@ -38,7 +38,7 @@ invariant_of-self c =
     let shown = ap (λ v. wait_of v c.args.t) (sym c.self.view_is) ∙ get-waits items c.args.t in
     let there = subst (λ (v : Waits). IsSome (wait_of v c.args.t)) (sym c.self.view_is) c.requires in
     whole_ended c.self.inside.queues c.end_wait.new.queues items c.end_wait.new.waits.items c.args.t c.end_wait.ensures.ended (IsSome-mapped (slot_at items c.args.t) (rw shown at c.requires))
-    c.self.inside.count c.self.inside.deadlines c.clear_alarm.new.alarms c.self.inside.prepared c.self.invariant there c.clear_alarm.ensures.here c.clear_alarm.ensures.others c.clear_alarm.ensures.places
+    c.self.inside.count c.self.inside.deadlines c.clear_alarm.new.alarms c.self.inside.room c.self.invariant there c.clear_alarm.ensures.here c.clear_alarm.ensures.others c.clear_alarm.ensures.places
 
 pub returns-clause-agrees : goal.returns-clause-agrees
 returns-clause-agrees c = agrees c.end_wait.new.queues c.end_wait.new.waits.items c.end_wait.ensures.ended.table

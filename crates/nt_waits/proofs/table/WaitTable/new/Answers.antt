@@ -1,7 +1,8 @@
 use Rattle.nt_waits.proofs.AgreeLemmas.{agrees, table_none}
 use Rattle.nt_waits.proofs.DeadlineLemmas.{alarmed_none}
 use Rattle.nt_waits.proofs.CountLemmas.{len-none}
-use Rattle.nt_waits.proofs.PreparedLemmas.{none_ready}
+use Rattle.std.proofs.Common.{arith}
+use Rattle.nt_waits.proofs.RoomLemmas.{room_left}
 use Rattle.nt_waits.proofs.table.WaitTable.new.Goals as goal
 
 pub invariant_of-result : goal.invariant_of-result
@@ -9,7 +10,7 @@ invariant_of-result c = record {
   table = table_none c.new.result c.new-2.result.items c.new.ensures.lists c.new-2.ensures.items;
   counted = len-none c.new-2.result.items c.new-2.ensures.items;
   alarmed = alarmed_none c.new-3.result c.new-2.result.items c.new-3.ensures c.new-2.ensures.items;
-  ready = rw c.none.ensures (none_ready c.new.result _ _);
+  roomy = room_left c.new.result c.new-2.result.items _ _ (omega (arith, c.new.ensures.used)) (omega arith) (omega arith) (omega arith);
 }
 
 pub returns-clause-agrees : goal.returns-clause-agrees

@@ -1,0 +1,13 @@
+pub mod Digits
+pub mod Names
+pub mod Values
+pub mod Parsing
+pub mod Faults
+pub mod Forms
+pub mod Parsed
+pub mod Plain
+pub mod Joining
+pub mod Recognizing
+pub mod Spelling
+pub mod Saying
+pub mod Naming

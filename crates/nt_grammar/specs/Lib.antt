@@ -1,0 +1,11 @@
+pub mod Plain
+pub mod Scope
+pub mod Naming
+pub mod Keywords
+pub mod Places
+pub mod Grammar
+pub mod Spelling
+pub mod Reading
+pub mod Lines
+pub mod Laws
+pub mod Message

@@ -1,0 +1,4 @@
+pub mod BitLemmas
+pub mod LevelLemmas
+pub mod FewLemmas
+pub mod Counting
