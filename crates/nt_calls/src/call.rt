@@ -1,6 +1,9 @@
 //! The calls, and their answers.
+ghost use Rattle.std.specs.Prelude.{◌≡◌};
+ghost use Rattle.nt_calls.specs.declared.call.Act.{Act};
+
 use nt_apc::Apc;
-use nt_status::{Handle, Handles, Status, ThreadId};
+use nt_status::{Access, EventFlags, Handle, Handles, MutexFlags, Status, ThreadId, TimerFlags};
 use std::alloc::AllocError;
 
 /// A call that never pends.
@@ -51,6 +54,40 @@ pub enum Act {
     Close(Handle),
     /// Takes the caller's oldest APC, where its last ended wait ended for its APCs and it has not found none since.
     NextApc,
+}
+
+/// Calls of flags and rights that are known. (An act keeps the bits, since the core judges those that are not.)
+impl Act {
+    /// CreateEvent.
+    pub fn create_event(flags: EventFlags) -> Self
+        ensures { result ≡ Act.CreateEvent flags }
+    {
+        Act::CreateEvent(flags.bits())
+    }
+
+    /// CreateMutex.
+    pub fn create_mutex(flags: MutexFlags) -> Self
+        ensures { result ≡ Act.CreateMutex flags }
+    {
+        Act::CreateMutex(flags.bits())
+    }
+
+    /// CreateWaitableTimer.
+    pub fn create_timer(flags: TimerFlags) -> Self
+        ensures { result ≡ Act.CreateTimer flags }
+    {
+        Act::CreateTimer(flags.bits())
+    }
+
+    /// DuplicateHandle: one handle more for what this one names, with these rights.
+    pub fn duplicate(handle: Handle, access: Access) -> Self
+        ensures { result ≡ Act.Duplicate handle access }
+    {
+        Act::Duplicate {
+            handle,
+            access: access.bits(),
+        }
+    }
 }
 
 /// A call that may pend. Timeouts are in milliseconds; `INFINITE` has no deadline.

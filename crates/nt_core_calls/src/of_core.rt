@@ -11,7 +11,7 @@ impl Calls for Core {
     ghost dispatcher = { λ core. core };
 
     fn create_event(&mut self, who: u32, flags: EventFlags) -> Result<Handle, Refusal> {
-        make_handle(self, who, Act::CreateEvent(flags.bits()))
+        make_handle(self, who, Act::create_event(flags))
     }
 
     fn create_semaphore(
@@ -24,11 +24,11 @@ impl Calls for Core {
     }
 
     fn create_mutex(&mut self, who: u32, flags: MutexFlags) -> Result<Handle, Refusal> {
-        make_handle(self, who, Act::CreateMutex(flags.bits()))
+        make_handle(self, who, Act::create_mutex(flags))
     }
 
     fn create_timer(&mut self, who: u32, flags: TimerFlags) -> Result<Handle, Refusal> {
-        make_handle(self, who, Act::CreateTimer(flags.bits()))
+        make_handle(self, who, Act::create_timer(flags))
     }
 
     fn set_event(&mut self, who: u32, event: Handle) -> Result<(), Refusal> {
@@ -97,8 +97,7 @@ impl Calls for Core {
     }
 
     fn duplicate(&mut self, who: u32, handle: Handle, access: Access) -> Result<Handle, Refusal> {
-        let access = access.bits();
-        make_handle(self, who, Act::Duplicate { handle, access })
+        make_handle(self, who, Act::duplicate(handle, access))
     }
 
     fn close(&mut self, who: u32, handle: Handle) -> Result<(), Refusal> {

@@ -35,7 +35,7 @@ impl<'f, 'r, N: Named, R: Wait> Calls<'f, 'r, N, R> {
     ) -> Result<Told<Handle>, Refused>
         ensures { IsTold Reply.Handle N.front pass.old (Call.Act (Act.CreateEvent flags)) result pass.new }
     {
-        self.make_handle(pass, Act::CreateEvent(flags.bits()))
+        self.make_handle(pass, Act::create_event(flags))
     }
 
     /// CreateSemaphore. Answers the semaphore's handle.
@@ -58,7 +58,7 @@ impl<'f, 'r, N: Named, R: Wait> Calls<'f, 'r, N, R> {
     ) -> Result<Told<Handle>, Refused>
         ensures { IsTold Reply.Handle N.front pass.old (Call.Act (Act.CreateMutex flags)) result pass.new }
     {
-        self.make_handle(pass, Act::CreateMutex(flags.bits()))
+        self.make_handle(pass, Act::create_mutex(flags))
     }
 
     /// CreateWaitableTimer, with the flags of CreateWaitableTimerEx. Answers the timer's handle.
@@ -69,7 +69,7 @@ impl<'f, 'r, N: Named, R: Wait> Calls<'f, 'r, N, R> {
     ) -> Result<Told<Handle>, Refused>
         ensures { IsTold Reply.Handle N.front pass.old (Call.Act (Act.CreateTimer flags)) result pass.new }
     {
-        self.make_handle(pass, Act::CreateTimer(flags.bits()))
+        self.make_handle(pass, Act::create_timer(flags))
     }
 
     /// SetEvent.
@@ -175,8 +175,7 @@ impl<'f, 'r, N: Named, R: Wait> Calls<'f, 'r, N, R> {
     ) -> Result<Told<Handle>, Refused>
         ensures { IsTold Reply.Handle N.front pass.old (Call.Act (Act.Duplicate handle access)) result pass.new }
     {
-        let access = access.bits();
-        self.make_handle(pass, Act::Duplicate { handle, access })
+        self.make_handle(pass, Act::duplicate(handle, access))
     }
 
     /// CloseHandle: the handle names nothing any more, and no other gets its number unless the front lasts.

@@ -6,13 +6,10 @@ ghost use Rattle.nt_threads.specs.Plans.{creations, lead_of, rounds_of, round_of
 
 use crate::door::Door;
 use nt_core::{Act, Reply, WaitCall};
-use nt_status::{Handle, Handles, INFINITE, Refusal};
+use nt_status::{EventFlags, Handle, Handles, INFINITE, MutexFlags, Refusal};
 use std::alloc::{AllocError, Global};
 use std::sync::Wait;
 use std::sync::atomic::{AtomicBool, Ordering};
-
-/// CREATE_EVENT_MANUAL_RESET.
-const MANUAL_RESET: u32 = 1;
 
 /// The objects that the threads of the plan share.
 #[derive(Clone, Copy)]
@@ -62,7 +59,7 @@ pub(crate) fn create_all<D: Door, R: Wait>(
     ensures thread { D.thread_of door.new ≡ D.thread_of door.old }
     ensures made { OnOk result (D.made_of door.new ≡ D.made_of door.old ++ creations most) }
 {
-    let mutex = create(rt, door, Act::CreateMutex(0))?;
+    let mutex = create(rt, door, Act::create_mutex(MutexFlags::NONE))?;
     let semaphore = create(
         rt,
         door,
@@ -71,7 +68,7 @@ pub(crate) fn create_all<D: Door, R: Wait>(
             maximum: most as i32,
         },
     )?;
-    let start = create(rt, door, Act::CreateEvent(MANUAL_RESET))?;
+    let start = create(rt, door, Act::create_event(EventFlags::MANUAL_RESET))?;
     Ok(Objects {
         mutex,
         semaphore,
