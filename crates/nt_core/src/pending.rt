@@ -56,7 +56,7 @@ impl Machine {
             alertable,
             deadline: deadline_after(self.moment, ms),
         };
-        self.waits.begin_in_place(thread, objects, all, about)?;
+        self.waits.begin(thread, objects, all, about)?;
         self.standings[thread.get() as usize] = Standing::Waiting;
         Ok(())
     }

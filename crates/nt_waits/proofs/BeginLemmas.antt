@@ -8,7 +8,7 @@ use Rattle.std.specs.List.{IsDistinct}
 use Rattle.nt_status.specs.declared.limits.TheConstants.{MAX_WAIT_OBJECTS}
 use Rattle.nt_waits.specs.declared.pending.Pending.{Pending}
 use Rattle.nt_waits.specs.Link.{Link, AreNumbersOnce}
-use Rattle.nt_waits.specs.Queues.{Lists, list_at}
+use Rattle.nt_waits.specs.Queues.{Lists, list_at, AreOrderly}
 use Rattle.nt_waits.specs.Steps.{AreLinked}
 use Rattle.nt_waits.specs.Table.{HasLink, threads, slot_at, IsLinked, IsTable}
 use Rattle.nt_status.proofs.Lists.{distinct_push, few_below}
@@ -31,7 +31,7 @@ HasLink-cases (first ∷ ls) last link (inl here) = inl (inl here)
 HasLink-cases (first ∷ ls) last link (inr later) = elim (HasLink-cases ls last link later) [ inl before ↦ inl (inr before) | inr here ↦ inr here ]
 
 -- no queue has more threads than there are places
-pub length-list : (queues : Lists) (slots : List (Option Pending)) → IsTable queues slots → (h : ℕ) → length (list_at queues h) < 2 ^ 32
+length-list : (queues : Lists) (slots : List (Option Pending)) → IsTable queues slots → (h : ℕ) → length (list_at queues h) < 2 ^ 32
 length-list queues slots table h =
     let below : (x : ℕ) → Contains (threads (list_at queues h)) x → x < length slots = λ x member.
     let link = link_of_member (list_at queues h) x member in
@@ -42,6 +42,9 @@ length-list queues slots table h =
     let same = length-map (list_at queues h) (λ (l : Link). l.thread) in
     let small = table.small in
     omega (arith, few, same, small)
+
+pub orderly : (queues : Lists) (slots : List (Option Pending)) → IsTable queues slots → AreOrderly queues
+orderly queues slots table = record { distinct = table.distinct; short = length-list queues slots table }
 
 module _ (old new : Lists) (slots : List (Option Pending)) (thread : ℕ) (pending : Pending)
     (table : IsTable old slots)

@@ -1,12 +1,12 @@
 -- What a table shows once a wait has begun.
-use Rattle.std.proofs.Common.{◌≡◌, ◌≢◌, ◌<◌, ◌≤◌, inl, inr, get_or, set, subst, ◌+◌, ◌∷◌, ◌++◌, [], ℕ, List, length, map, Option, None, refl, ap, sym, ◌∙◌}
+use Rattle.std.proofs.Common.{◌≡◌, ◌≢◌, ◌<◌, ◌≤◌, inl, inr, get_or, set, subst, ◌+◌, ◌∷◌, ◌++◌, [], ℕ, List, length, map, Option, None, refl, ap, sym, ◌∙◌, arith, length-set}
 use Rattle.nt_status.specs.declared.limits.TheConstants.{MAX_WAIT_OBJECTS}
 use Rattle.nt_waits.specs.declared.wait.Wait.{Wait}
 use Rattle.nt_waits.specs.declared.pending.Pending.{Pending}
 use Rattle.nt_waits.specs.declared.room.Room.{Room}
 use Rattle.nt_waits.specs.Queues.{Lists, OnlyGrows, list_at}
 use Rattle.nt_waits.specs.Room.{HasRoom}
-use Rattle.nt_waits.specs.Link.{Link, AreNumbersOnce}
+use Rattle.nt_waits.specs.Link.{Link}
 use Rattle.nt_waits.specs.Begun.{IsBegun}
 use Rattle.nt_waits.specs.Slot.{IsFilled}
 use Rattle.std.proofs.lemmas.Bool.{cases_eq}
@@ -37,28 +37,26 @@ module _ (queues queues' : Lists) (slots slots' : List (Option Pending)) (t : �
   pending_begun : waits_of slots' ≡ finmap.insert (waits_of slots) t wait
   pending_begun = let placed = begun.placed in waits-inserted slots slots' t wait placed.0 placed.1 placed.2 begun.others
 
-  pub begins : (looked : ℕ) (room : Room) → queues'.touched ≡ queues.touched
-      → Begins (view_of queues slots looked room) (view_of queues' slots' looked room) t wait
-  begins looked room touched = record {
+  pub begins : (looked : ℕ) (room : Room) → Begins (view_of queues slots looked room) (view_of queues' slots' looked room) t wait
+  begins looked room = record {
     pending = pending_begun;
     joined = λ h named. get_or-threads queues'.lists h ∙ begun.joined h named ∙ ap (λ (q : List ℕ). q ++ t ∷ []) (sym (get_or-threads queues.lists h));
     queues_kept = λ h outside. get_or-threads queues'.lists h ∙ ap threads (begun.kept h outside) ∙ sym (get_or-threads queues.lists h);
     looked = refl;
-    touched = touched;
+    touched = begun.touched;
     room = refl;
   }
 
   pub whole_begun : (count : ℕ) (before mid after : List (Option ℕ)) (room : Room)
       → IsWhole queues slots before count room
       → finmap.get (waits_of slots) t ≡ None
-      → IsTable queues' slots'
       → ((u : ℕ) → alarm_at mid u ≡ alarm_at before u)
       → alarm_at after t ≡ wait.deadline
       → ((u : ℕ) → u ≢ t → alarm_at after u ≡ alarm_at mid u)
       → HasRoom queues' slots' (length after) room
       → IsWhole queues' slots' after (count + 1) room
-  whole_begun count before mid after room whole free table reserved here elsewhere roomy = record {
-    table = table;
+  whole_begun count before mid after room whole free reserved here elsewhere roomy = record {
+    table = begun.table;
     counted = rw (pending_begun, len-begun (waits_of slots) t wait free) (ap (λ (n : ℕ). n + 1) whole.counted);
     alarmed = let placed = begun.placed in alarmed_begun mid after slots slots' t wait placed.0 (λ u. reserved u ∙ whole.alarmed u) placed.1 placed.2 begun.others here elsewhere;
     roomy = roomy;
@@ -67,31 +65,40 @@ module _ (queues queues' : Lists) (slots slots' : List (Option Pending)) (t : �
 -- a wait stands last in the queue of each object that it names, and the other queues are as they were
 module _ (old new : Lists) (t : ℕ) (wait : Wait) (slot : Option Pending) (filled : IsFilled old new t wait slot) where
   filled_joined : (h : ℕ) → Names wait h → threads (list_at new h) ≡ threads (list_at old h) ++ t ∷ []
-  filled_joined h named = subst (λ (x : ℕ). threads (list_at new x) ≡ threads (list_at old x) ++ t ∷ []) named.2 (rw (filled.4.done named.0 named.1, map-append (λ (l : Link). l.thread) (list_at old (get_or wait.objects named.0 0)) _) refl)
+  filled_joined h named = subst (λ (x : ℕ). threads (list_at new x) ≡ threads (list_at old x) ++ t ∷ []) named.2 (rw (filled.3.linked.done named.0 named.1, map-append (λ (l : Link). l.thread) (list_at old (get_or wait.objects named.0 0)) _) refl)
 
   filled_kept : (h : ℕ) → (Names wait h → ⊥) → list_at new h ≡ list_at old h
-  filled_kept h outside = filled.4.others h (λ j below same. outside (j, below, same))
+  filled_kept h outside = filled.3.linked.others h (λ j below same. outside (j, below, same))
 
-  pub filled_table : (slots : List (Option Pending)) → IsTable old slots → slot_at slots t ≡ None → t < length slots → length wait.objects ≤ MAX_WAIT_OBJECTS → IsDistinct nat_eq wait.objects → ((h : ℕ) → AreNumbersOnce (list_at new h)) → IsTable new (set slots t slot)
-  filled_table slots table free within few apart distinct =
+  pub filled_begun : (slots : List (Option Pending)) → IsTable old slots → slot_at slots t ≡ None → t < length slots → length wait.objects ≤ MAX_WAIT_OBJECTS → IsDistinct nat_eq wait.objects → IsBegun old slots new (set slots t slot) t wait
+  filled_begun slots table free within few apart =
       let is = filled.2 in
-      rw filled.1 (table_begun old new slots t filled.0 table free within (rw is filled.3) (rw is few) (rw is apart) (rw is filled.4) distinct)
-
-  pub filled_begun : (slots : List (Option Pending)) → t < length slots → IsBegun old slots new (set slots t slot) t wait
-  filled_begun slots within = record {
-    placed = (filled.0, get_or-set_same slots t slot None within ∙ filled.1, filled.2);
-    others = λ u differs. get_or-set_other slots t u slot None differs;
-    joined = filled_joined;
-    kept = filled_kept;
-  }
+      let joined = filled.3 in
+      let room = joined.takes.object_room in
+      record {
+        table = rw filled.1 (table_begun old new slots t filled.0 table free within (rw is joined.numbered) (rw is few) (rw is apart) (rw is joined.linked) joined.distinct);
+        placed = (filled.0, get_or-set_same slots t slot None within ∙ filled.1, is);
+        others = λ u differs. get_or-set_other slots t u slot None differs;
+        joined = filled_joined;
+        kept = filled_kept;
+        used = joined.takes.used;
+        touched = joined.takes.touched;
+        object_room = omega (arith, room);
+        places = let same = length-set slots t slot in omega (arith, same);
+      }
 
 -- room that is made before a wait begins is no change
-pub begun_before : (old mid new : Lists) (slots slots' after : List (Option Pending)) (t : ℕ) (wait : Wait) → OnlyGrows old mid → ((u : ℕ) → slot_at slots' u ≡ slot_at slots u) → IsBegun mid slots' new after t wait → IsBegun old slots new after t wait
-begun_before old mid new slots slots' after t wait grows same begun = record {
+pub begun_before : (old mid new : Lists) (slots slots' after : List (Option Pending)) (t : ℕ) (wait : Wait) → OnlyGrows old mid → ((u : ℕ) → slot_at slots' u ≡ slot_at slots u) → length slots ≤ length slots' → IsBegun mid slots' new after t wait → IsBegun old slots new after t wait
+begun_before old mid new slots slots' after t wait grows same more begun = record {
+  table = begun.table;
   placed = begun.placed;
   others = λ u differs. begun.others u differs ∙ same u;
   joined = rw grows.lists at begun.joined;
   kept = rw grows.lists at begun.kept;
+  used = rw grows.used at begun.used;
+  touched = begun.touched ∙ grows.touched;
+  object_room = let first = grows.object_room in let then = begun.object_room in omega (arith, first, then);
+  places = let then = begun.places in omega (arith, more, then);
 }
 
 -- an empty place that is written anew

@@ -108,14 +108,14 @@ room_ended old new slots slots' alarms alarms' room t over there long has =
     record {
       blocks =
           let blocks = has.blocks in
-          let used = over.used in
-          let capacity = over.capacity in
+          let used = over.gives.used in
+          let capacity = over.gives.capacity in
           let after = ap idle_in empty in
           elim (cases_lt t room.threads) [
             | inl known ↦ let changed = idle_changed slots slots' room.threads t known others in omega (arith, blocks, changed, after, used, capacity)
             | inr past ↦ let same = idle_past slots slots' room.threads t (omega (arith, past)) others in omega (arith, blocks, same, used, capacity)
           ];
-      objects = let objects = has.objects in let object_room = over.object_room in omega (arith, objects, object_room);
+      objects = let objects = has.objects in let object_room = over.gives.object_room in omega (arith, objects, object_room);
       places = let before = has.places in omega (arith, before, places);
       alarms = let before = has.alarms in omega (arith, before, long);
     }

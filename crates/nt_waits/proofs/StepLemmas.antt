@@ -1,5 +1,5 @@
 -- One object more is linked or unlinked.
-use Rattle.std.proofs.Common.{◌≡◌, ◌≢◌, ◌∙◌, ◌<◌, ◌≤◌, ◌+◌, ◌*◌, ℕ, List, [], ◌∷◌, ◌++◌, length, get_or, set, refl, sym, inl, inr, arith}
+use Rattle.std.proofs.Common.{◌≡◌, ◌≢◌, ◌∙◌, ◌<◌, ◌+◌, ℕ, List, [], ◌∷◌, ◌++◌, length, get_or, set, refl, sym, inl, inr, arith}
 use Rattle.std.proofs.lemmas.Bool.{cases_eq, eq-eqb, false≢true}
 use Rattle.std.proofs.lemmas.Map.Keys.{apart_from_distinct}
 use Rattle.std.specs.Prelude.{nat_eq}
@@ -7,23 +7,14 @@ use Rattle.std.proofs.Math.Seq.{take-append_seam}
 use Rattle.std.specs.Prelude.{drop}
 use Rattle.std.specs.List.{IsDistinct, refill}
 use Rattle.std.proofs.lemmas.List.{get_or-set_same, get_or-set_other}
-use Rattle.nt_waits.specs.Link.{HasNumber, AreNumbersOnce, without}
+use Rattle.nt_waits.specs.Link.{HasNumber, without}
 use Rattle.nt_waits.specs.Queues.{Lists, list_at, TakesRoom}
-use Rattle.nt_waits.specs.Steps.{IsOutside, AreUnlinked, AreLinked}
+use Rattle.nt_waits.specs.Steps.{IsOutside, AreUnlinked, AreLinked, IsJoined}
 use Rattle.nt_waits.proofs.SoundLemmas.{listed_within}
 
 -- distinct objects differ at any two places
 differ : (objects : List ℕ) (i j : ℕ) → IsDistinct nat_eq objects → i < j → j < length objects → get_or objects i 0 ≢ get_or objects j 0
 differ objects i j distinct before within same = false≢true (sym (apart_from_distinct nat_eq objects i j 0 distinct before within) ∙ eq-eqb _ _ same)
-
-pub record UnlinkedSoFar (old new : Lists) (objects numbers : List ℕ) (count : ℕ) : Type 0 where
-  pub unlinked : AreUnlinked old new objects numbers count
-  pub distinct : (h : ℕ) → AreNumbersOnce (list_at new h)
-  pub at_least : count ≤ new.touched
-  pub at_most : new.touched ≤ 3 * count
-  pub used : new.used + count ≡ old.used
-  pub capacity : new.capacity ≡ old.capacity
-  pub object_room : new.object_room ≡ old.object_room
 
 module _ (old now new : Lists) (objects numbers : List ℕ) (i : ℕ)
     (apart : IsDistinct nat_eq objects)
@@ -54,13 +45,30 @@ module _ (old now new : Lists) (objects numbers : List ℕ) (i : ℕ)
   pub next_linked : AreUnlinked old now objects numbers i → HasNumber (list_at old (get_or objects i 0)) (get_or numbers i 0) → HasNumber (list_at now (get_or objects i 0)) (get_or numbers i 0)
   next_linked before has = rw (before.others (get_or objects i 0) outside_yet) has
 
-pub record LinkedSoFar (old new : Lists) (thread : ℕ) (objects numbers : List ℕ) (count : ℕ) : Type 0 where
-  pub linked : AreLinked old new thread objects numbers count
-  pub distinct : (h : ℕ) → AreNumbersOnce (list_at new h)
-  pub numbered : length numbers ≡ length objects
+-- the links so far, and each object still has its queue
+pub record JoinedSoFar (old new : Lists) (thread : ℕ) (objects numbers : List ℕ) (count : ℕ) : Type 0 where
+  pub joined : IsJoined old new thread objects numbers count
   pub same_objects : length new.lists ≡ length old.lists
-  pub takes : TakesRoom old new count
-  pub touched : new.touched ≡ old.touched
+
+-- queues that were made before the blocks were linked are no change
+pub joined_from : (old mid new : Lists) (thread : ℕ) (objects numbers : List ℕ) (count : ℕ) → ((h : ℕ) → list_at mid h ≡ list_at old h) → TakesRoom old mid 0 → IsJoined mid new thread objects numbers count → IsJoined old new thread objects numbers count
+joined_from old mid new thread objects numbers count same before joined =
+    let linked = joined.linked in
+    let takes = joined.takes in
+    record {
+      linked = record {
+        done = λ j below. rw (← same (get_or objects j 0)) (linked.done j below);
+        others = λ h outside. linked.others h outside ∙ same h;
+      };
+      distinct = joined.distinct;
+      takes = record {
+        used = let first = before.used in let then = takes.used in omega (arith, first, then);
+        capacity = takes.capacity ∙ before.capacity;
+        object_room = takes.object_room ∙ before.object_room;
+        touched = takes.touched ∙ before.touched;
+      };
+      numbered = joined.numbered;
+    }
 
 module _ (old now new : Lists) (thread : ℕ) (objects numbers : List ℕ) (i number : ℕ)
     (apart : IsDistinct nat_eq objects)

@@ -1,6 +1,6 @@
 -- What the private struct `Queues` shows. No public clause cites this module.
-use Rattle.std.specs.Prelude.{◌≡◌, ℕ, ◌+◌, ◌≤◌, List, [], slice_index_or}
-use Rattle.nt_waits.specs.Link.{Link}
+use Rattle.std.specs.Prelude.{◌≡◌, ℕ, ◌+◌, ◌^◌, ◌<◌, ◌≤◌, List, [], length, slice_index_or}
+use Rattle.nt_waits.specs.Link.{Link, AreNumbersOnce}
 
 -- the links of each object, how many blocks there are and fit, for how many objects there is room, and how many blocks were reached
 pub record Lists : Type 0 where
@@ -22,11 +22,27 @@ pub record OnlyGrows (old new : Lists) : Type 0 where
   pub capacity : old.capacity ≤ new.capacity
   pub object_room : old.object_room ≤ new.object_room
 
--- so many blocks more are linked, and no room is lost
+-- so many blocks more are linked, no room is lost, and none was reached
 pub record TakesRoom (old new : Lists) (count : ℕ) : Type 0 where
   pub used : new.used ≡ old.used + count
   pub capacity : new.capacity ≡ old.capacity
   pub object_room : new.object_room ≡ old.object_room
+  pub touched : new.touched ≡ old.touched
+
+-- so many blocks fewer are linked, and no room is lost
+pub record GivesRoom (old new : Lists) (count : ℕ) : Type 0 where
+  pub used : new.used + count ≡ old.used
+  pub capacity : new.capacity ≡ old.capacity
+  pub object_room : new.object_room ≡ old.object_room
+
+-- so many blocks more were reached
+abbrev pub ReachesMore : ℕ → ℕ → ℕ → ℕ → Type 0
+ReachesMore least most old new = (old + least ≤ new) × (new ≤ old + most)
+
+-- no number stands twice in a queue, and a queue has fewer than 2 ^ 32 blocks
+pub record AreOrderly (queues : Lists) : Type 0 where
+  pub distinct : (object : ℕ) → AreNumbersOnce (list_at queues object)
+  pub short : (object : ℕ) → length (list_at queues object) < 2 ^ 32
 
 -- so many blocks fit with no allocation
 abbrev pub HasRoomFor : Lists → ℕ → Type 0

@@ -1,11 +1,10 @@
 -- The place of one thread's wait. No public clause cites this module.
-use Rattle.std.specs.Prelude.{◌≡◌, ℕ, ◌+◌, ◌≤◌, ◌*◌, Bool, true, false, Option, Some, None, IsSomeAnd, length}
+use Rattle.std.specs.Prelude.{◌≡◌, ℕ, Bool, true, false, Option, Some, None, IsSomeAnd, length}
 use Rattle.nt_waits.specs.declared.wait.Wait.{Wait}
 use Rattle.nt_waits.specs.declared.pending.Pending.{Pending}
-use Rattle.nt_waits.specs.Link.{AreNumbersOnce}
 use Rattle.nt_waits.specs.Pending.{IsCopy}
-use Rattle.nt_waits.specs.Queues.{Lists, list_at}
-use Rattle.nt_waits.specs.Steps.{AreLinked, AreUnlinked}
+use Rattle.nt_waits.specs.Queues.{Lists}
+use Rattle.nt_waits.specs.Steps.{IsJoined, IsUnlinked}
 
 -- this wait, where it pends
 abbrev pub kept_where : Bool → Pending → Option Pending
@@ -23,15 +22,8 @@ IsFilled old new thread wait slot =
     (p : Pending)
     × (slot ≡ Some p)
     × (p.wait ≡ wait)
-    × (length p.numbers.items ≡ length wait.objects)
-    × AreLinked old new thread wait.objects p.numbers.items (length wait.objects)
+    × IsJoined old new thread wait.objects p.numbers.items (length wait.objects)
 
 -- the blocks of this wait have left their queues
-pub record IsUnlinked (old new : Lists) (p : Pending) : Type 0 where
-  pub unlinked : AreUnlinked old new p.wait.objects p.numbers.items (length p.wait.objects)
-  pub distinct : (object : ℕ) → AreNumbersOnce (list_at new object)
-  pub used : new.used + length p.wait.objects ≡ old.used
-  pub capacity : new.capacity ≡ old.capacity
-  pub object_room : new.object_room ≡ old.object_room
-  pub at_least : length p.wait.objects ≤ new.touched
-  pub at_most : new.touched ≤ 3 * length p.wait.objects
+abbrev pub HasLeft : Lists → Lists → Pending → Type 0
+HasLeft old new pending = IsUnlinked old new pending.wait.objects pending.numbers.items (length pending.wait.objects)

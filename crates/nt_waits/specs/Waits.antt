@@ -4,6 +4,7 @@ use Rattle.std.specs.Ordering.{nat_cmp}
 use Rattle.std.specs.FinMap as map
 use Rattle.std.specs.Coded.{Coded, code_by, coded×, coded_ℕ, coded_bool, coded_list, coded_option}
 use Rattle.std.specs.List.{IsDistinct}
+use Rattle.std.specs.Option.{ForSome}
 use Rattle.nt_waits.specs.declared.room.Room.{Room}
 use Rattle.nt_waits.specs.declared.wait.About.{About}
 use Rattle.nt_waits.specs.declared.wait.Wait.{Wait}
@@ -71,6 +72,19 @@ pub record Begins (old new : Waits) (thread : ℕ) (wait : Wait) : Type 0 where
   pub touched : new.touched ≡ old.touched
   pub room : new.room ≡ old.room
 
+-- an end of this wait reaches its own blocks, and at most two beside each of them
+pub record IsTouched (wait : Wait) (touched : ℕ) : Type 0 where
+  pub at_least : length wait.objects ≤ touched
+  pub at_most : touched ≤ 3 * length wait.objects
+
+-- the thread waits for nothing from now on, and stands in no queue; the other waits, and the order of each queue, are as they were
+pub record EndsWait (old new : Waits) (thread : ℕ) : Type 0 where
+  pub pending : new.pending ≡ map.remove old.pending thread
+  pub queues : (object : ℕ) → queue_of new object ≡ others thread (queue_of old object)
+  pub looked : new.looked ≡ old.looked
+  pub touched : ForSome (wait_of old thread) (λ wait. IsTouched wait new.touched)
+  pub room : new.room ≡ old.room
+
 -- the wait for these objects, for all of them or for one, with what is told of it without a look
 abbrev pub wait_for : List ℕ → Bool → About → Wait
 wait_for objects all about = record { objects = objects; all = all; alertable = about.alertable; deadline = about.deadline }
@@ -92,11 +106,6 @@ only_of wait = only_among wait.objects wait.all
 abbrev pub one_for : Option (ℕ × Bool) → ℕ
 one_for None = 0
 one_for (Some only) = 1
-
--- an end of this wait reaches its own blocks, and at most two beside each of them
-pub record IsTouched (wait : Wait) (touched : ℕ) : Type 0 where
-  pub at_least : length wait.objects ≤ touched
-  pub at_most : touched ≤ 3 * length wait.objects
 
 -- one more, but the count stops at the greatest u64
 abbrev pub counted_once : ℕ → ℕ

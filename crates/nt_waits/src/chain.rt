@@ -3,7 +3,9 @@ ghost use Rattle.std.specs.Prelude.{◌≡◌, ◌≢◌, ℕ, ◌+◌, ◌<◌,
 ghost use Rattle.nt_waits.specs.Sound.{ends_at};
 ghost use Rattle.std.specs.Option.{ForSome, option_map};
 ghost use Rattle.slab.specs.Slab.{get, ContainsKey, Updates, slab_len, HasRoomFor};
-ghost use Rattle.nt_waits.specs.Queue.{changed, removed_by, next_of, next_at, previous_at, owner_at, thread_of, links, IsQueue};
+ghost use Rattle.nt_waits.specs.Chain.{IsRelinked};
+ghost use Rattle.nt_waits.specs.Queue.{changed, removed_by, next_of, next_at, previous_at, owner_at, thread_of, links, IsQueue, IsRewritten, KeepsOthers};
+ghost use Rattle.nt_waits.specs.Queues.{ReachesMore};
 ghost use Rattle.nt_waits.specs.Link.{HasNumber, without};
 
 use crate::block::{Block, BlockNumber, Change, Ends, OptionalBlock};
@@ -49,16 +51,11 @@ fn set_next(
 )
     requires there { ForSome at (ContainsKey blocks.old) }
     requires countable { touched.old + 1 < 2 ^ 64 }
-    ensures written { next_at blocks.new ends.new at ≡ to }
-    ensures others { (x : Option ℕ) → x ≢ at → next_at blocks.new ends.new x ≡ next_at blocks.old ends.old x }
+    ensures forward { IsRelinked (next_at blocks.old ends.old) (next_at blocks.new ends.new) at to }
     ensures backward { (x : Option ℕ) → previous_at blocks.new ends.new x ≡ previous_at blocks.old ends.old x }
-    ensures owners { (k : ℕ) → owner_at blocks.new k ≡ owner_at blocks.old k }
-    ensures elsewhere { (k : ℕ) → Some k ≢ at → get blocks.new k ≡ get blocks.old k }
-    ensures len { slab_len blocks.new ≡ slab_len blocks.old }
-    ensures capacity { blocks.new.capacity ≡ blocks.old.capacity }
+    ensures blocks { IsRewritten blocks.old blocks.new at }
     ensures count { ends.new.count ≡ ends.old.count }
-    ensures counted { touched.new ≤ touched.old + 1 }
-    ensures counts_up { touched.old ≤ touched.new }
+    ensures reached { ReachesMore 0 1 touched.old touched.new }
 {
     if at.is_none() {
         ends.first = to;
@@ -77,16 +74,11 @@ fn set_previous(
 ) -> Option<ThreadId>
     requires there { ForSome at (ContainsKey blocks.old) }
     requires countable { touched.old + 1 < 2 ^ 64 }
-    ensures written { previous_at blocks.new ends.new at ≡ to }
-    ensures others { (x : Option ℕ) → x ≢ at → previous_at blocks.new ends.new x ≡ previous_at blocks.old ends.old x }
+    ensures backward { IsRelinked (previous_at blocks.old ends.old) (previous_at blocks.new ends.new) at to }
     ensures forward { (x : Option ℕ) → next_at blocks.new ends.new x ≡ next_at blocks.old ends.old x }
-    ensures owners { (k : ℕ) → owner_at blocks.new k ≡ owner_at blocks.old k }
-    ensures elsewhere { (k : ℕ) → Some k ≢ at → get blocks.new k ≡ get blocks.old k }
-    ensures len { slab_len blocks.new ≡ slab_len blocks.old }
-    ensures capacity { blocks.new.capacity ≡ blocks.old.capacity }
+    ensures blocks { IsRewritten blocks.old blocks.new at }
     ensures count { ends.new.count ≡ ends.old.count }
-    ensures counted { touched.new ≤ touched.old + 1 }
-    ensures counts_up { touched.old ≤ touched.new }
+    ensures reached { ReachesMore 0 1 touched.old touched.new }
     ensures thread { result ≡ option_map (λ k. thread_of (get blocks.old k)) at }
 {
     if at.is_none() {
@@ -109,12 +101,9 @@ pub fn detach(
     requires linked { HasNumber (links blocks.old ends.old) number }
     requires countable { touched.old + 3 < 2 ^ 64 }
     ensures queue { IsQueue blocks.new ends.new object (without number (links blocks.old ends.old)) }
-    ensures elsewhere { (k : ℕ) → ((thread : ℕ) → owner_at blocks.old k ≢ Some (thread, object))
-        → get blocks.new k ≡ get blocks.old k }
+    ensures others { KeepsOthers blocks.old blocks.new object }
     ensures len { slab_len blocks.new + 1 ≡ slab_len blocks.old }
-    ensures capacity { blocks.new.capacity ≡ blocks.old.capacity }
-    ensures counted { touched.new ≤ touched.old + 3 }
-    ensures counts_up { touched.old + 1 ≤ touched.new }
+    ensures reached { ReachesMore 1 3 touched.old touched.new }
     ensures next { result ≡ option_map (λ k. thread_of (get blocks.old k)) (next_of (get blocks.old number)) }
 {
     let block = reach(blocks, touched, number, Change::Remove);

@@ -38,7 +38,7 @@ impl Model for Queues {
 
 impl Queues {
     ghost use Rattle.nt_waits.specs.Link.{HasNumber, AreNumbersOnce, without, first_thread, thread_after};
-    ghost use Rattle.nt_waits.specs.Queues.{Lists, list_at, HasRoomFor};
+    ghost use Rattle.nt_waits.specs.Queues.{Lists, list_at, HasRoomFor, TakesRoom, GivesRoom, ReachesMore};
 
     pub fn new(alloc: Global) -> Self
         ensures lists { result.lists ≡ [] }
@@ -80,10 +80,7 @@ impl Queues {
         requires countable { length (list_at self.old object) + 1 < 2 ^ 64 }
         ensures lists { self.new.lists ≡ slice_set self.old.lists object
             (list_at self.old object ++ record { number = result; thread = thread } ∷ []) }
-        ensures used { self.new.used ≡ self.old.used + 1 }
-        ensures capacity { self.new.capacity ≡ self.old.capacity }
-        ensures object_room { self.new.object_room ≡ self.old.object_room }
-        ensures touched { self.new.touched ≡ self.old.touched }
+        ensures takes { TakesRoom self.old self.new 1 }
         ensures distinct { (h : ℕ) → AreNumbersOnce (list_at self.new h) }
     {
         let at = object.get() as usize;
@@ -95,11 +92,8 @@ impl Queues {
         requires linked { HasNumber (list_at self.old object) number }
         requires countable { self.old.touched + 3 < 2 ^ 64 }
         ensures lists { self.new.lists ≡ slice_set self.old.lists object (without number (list_at self.old object)) }
-        ensures used { self.new.used + 1 ≡ self.old.used }
-        ensures capacity { self.new.capacity ≡ self.old.capacity }
-        ensures object_room { self.new.object_room ≡ self.old.object_room }
-        ensures counted { self.new.touched ≤ self.old.touched + 3 }
-        ensures counts_up { self.old.touched + 1 ≤ self.new.touched }
+        ensures gives { GivesRoom self.old self.new 1 }
+        ensures reached { ReachesMore 1 3 self.old.touched self.new.touched }
         ensures next { result ≡ thread_after (list_at self.old object) number }
         ensures distinct { (h : ℕ) → AreNumbersOnce (list_at self.new h) }
     {
@@ -158,10 +152,7 @@ impl Queues {
         requires { count ≤ self.old.object_room }
         ensures there { count ≤ length self.new.lists }
         ensures kept { (h : ℕ) → list_at self.new h ≡ list_at self.old h }
-        ensures used { self.new.used ≡ self.old.used }
-        ensures capacity { self.new.capacity ≡ self.old.capacity }
-        ensures object_room { self.new.object_room ≡ self.old.object_room }
-        ensures touched { self.new.touched ≡ self.old.touched }
+        ensures takes { TakesRoom self.old self.new 0 }
     {
         add_ends(&mut self.ends, count);
     }

@@ -1,10 +1,10 @@
 //! The place of one thread's wait, which is filled and emptied where it lies.
-ghost use Rattle.std.specs.Prelude.{nat_eq, ◌≡◌, ℕ, ◌+◌, ◌<◌, ◌≤◌, ◌^◌, ◌∷◌, [], IsSome, None, Some, OnOk, OnErr, length, slice_index};
+ghost use Rattle.std.specs.Prelude.{nat_eq, ◌≡◌, ℕ, ◌+◌, ◌<◌, ◌≤◌, ◌∷◌, [], IsSome, None, Some, OnOk, OnErr, length, slice_index};
 ghost use Rattle.std.specs.List.{IsDistinct};
 ghost use Rattle.std.specs.Option.{option_copied, option_map, ForSome};
 ghost use Rattle.nt_waits.specs.Link.{AreNumbersOnce, thread_after};
-ghost use Rattle.nt_waits.specs.Queues.{list_at, HasRoomFor, TakesRoom};
-ghost use Rattle.nt_waits.specs.Slot.{IsFilled, IsUnlinked};
+ghost use Rattle.nt_waits.specs.Queues.{list_at, HasRoomFor, AreOrderly};
+ghost use Rattle.nt_waits.specs.Slot.{IsFilled, HasLeft};
 ghost use Rattle.nt_waits.specs.Table.{IsLinked};
 ghost use Rattle.nt_waits.specs.Waits.{wait_for};
 
@@ -108,12 +108,8 @@ fn link(
     requires below { (j : ℕ) → j < length objects.now → slice_index objects.now j < count }
     requires room { HasRoomFor queues.old (length objects.now) }
     requires object_room { count ≤ queues.old.object_room }
-    requires numbers { (h : ℕ) → AreNumbersOnce (list_at queues.old h) }
-    requires countable { (h : ℕ) → length (list_at queues.old h) < 2 ^ 32 }
-    ensures filled { IsFilled queues.old queues.new t (wait_for objects.now all about) (Some pending.new) }
-    ensures distinct { (h : ℕ) → AreNumbersOnce (list_at queues.new h) }
-    ensures touched { queues.new.touched ≡ queues.old.touched }
-    ensures takes { TakesRoom queues.old queues.new (length objects.now) }
+    requires orderly { AreOrderly queues.old }
+    ensures { IsFilled queues.old queues.new t (wait_for objects.now all about) (Some pending.new) }
 {
     queues.add_objects(count);
     link_all(queues, t, objects, pending.numbers.as_mut_slice());
@@ -174,14 +170,9 @@ impl Slot {
         requires below { (j : ℕ) → j < length objects.now → slice_index objects.now j < count }
         requires room { HasRoomFor queues.old (length objects.now) }
         requires object_room { count ≤ queues.old.object_room }
-        requires numbers { (h : ℕ) → AreNumbersOnce (list_at queues.old h) }
-        requires countable { (h : ℕ) → length (list_at queues.old h) < 2 ^ 32 }
+        requires orderly { AreOrderly queues.old }
         ensures filled { OnOk result (IsFilled queues.old queues.new t (wait_for objects.now all about) self.new) }
-        ensures distinct { OnOk result ((h : ℕ) → AreNumbersOnce (list_at queues.new h)) }
-        ensures touched { queues.new.touched ≡ queues.old.touched }
-        ensures takes { OnOk result (TakesRoom queues.old queues.new (length objects.now)) }
-        ensures queues { OnErr result (queues.new ≡ queues.old) }
-        ensures err { OnErr result (self.new ≡ None) }
+        ensures err { OnErr result ((queues.new ≡ queues.old) × (self.new ≡ None)) }
     {
         self.pending.wait.objects.copy_from(objects)?;
         make_numbers(&mut self.pending.numbers, objects.len())?;
@@ -203,12 +194,8 @@ impl Slot {
         requires free { self.old ≡ None }
         requires room { HasRoomFor queues.old 1 }
         requires object_room { object + 1 ≤ queues.old.object_room }
-        requires numbers { (h : ℕ) → AreNumbersOnce (list_at queues.old h) }
-        requires countable { (h : ℕ) → length (list_at queues.old h) < 2 ^ 32 }
-        ensures filled { IsFilled queues.old queues.new t (wait_for (object ∷ []) all about) self.new }
-        ensures distinct { (h : ℕ) → AreNumbersOnce (list_at queues.new h) }
-        ensures touched { queues.new.touched ≡ queues.old.touched }
-        ensures takes { TakesRoom queues.old queues.new 1 }
+        requires orderly { AreOrderly queues.old }
+        ensures { IsFilled queues.old queues.new t (wait_for (object ∷ []) all about) self.new }
     {
         self.pending.wait.objects.put_one(object);
         make_one_number(&mut self.pending.numbers);
@@ -232,7 +219,7 @@ impl Slot {
         requires numbers { (h : ℕ) → AreNumbersOnce (list_at queues.old h) }
         requires countable { queues.old.touched ≡ 0 }
         ensures empty { self.new ≡ None }
-        ensures unlinked { ForSome self.old (λ p. IsUnlinked queues.old queues.new p) }
+        ensures unlinked { ForSome self.old (HasLeft queues.old queues.new) }
     {
         unlink_all(
             queues,
@@ -251,7 +238,7 @@ impl Slot {
         requires numbers { (h : ℕ) → AreNumbersOnce (list_at queues.old h) }
         requires countable { queues.old.touched ≡ 0 }
         ensures empty { self.new ≡ None }
-        ensures unlinked { ForSome self.old (λ p. IsUnlinked queues.old queues.new p) }
+        ensures unlinked { ForSome self.old (HasLeft queues.old queues.new) }
         ensures next { ForSome self.old (λ p.
             result ≡ thread_after (list_at queues.old object) (slice_index p.numbers.items 0)) }
     {
@@ -269,7 +256,7 @@ impl Slot {
         requires countable { queues.old.touched ≡ 0 }
         ensures wait { option_map (λ p. p.wait) self.old ≡ Some result }
         ensures empty { self.new ≡ None }
-        ensures unlinked { ForSome self.old (λ p. IsUnlinked queues.old queues.new p) }
+        ensures unlinked { ForSome self.old (HasLeft queues.old queues.new) }
     {
         unlink_all(
             queues,

@@ -64,7 +64,7 @@ impl Model for WaitTable {
 impl WaitTable {
     ghost use Rattle.nt_waits.specs.Looking.{LeavesLooked};
     ghost use Rattle.nt_waits.specs.Deadlines.{NoDeadline, NoneEarlier, IsEarliestDeadline, NoneWithDeadline, IsFirstWithDeadline};
-    ghost use Rattle.nt_waits.specs.Waits.{Begins, wait_of, wait_for, queue_of, about_of, one_for, only_of, others, Agrees, IsTouched, next_after};
+    ghost use Rattle.nt_waits.specs.Waits.{Begins, EndsWait, wait_of, wait_for, queue_of, about_of, one_for, only_of, Agrees, next_after};
 
     /// A table with no wait, and no room yet.
     pub fn new(alloc: Global) -> Self
@@ -155,24 +155,10 @@ impl WaitTable {
         self.room.objects -= 1;
     }
 
-    /// Begins the thread's wait, last in the queue of each object that it names. Refused only where memory
+    /// Begins the thread's wait for these objects, last in the queue of each. It is written where it will lie. Refused only where memory
     /// is, and then nothing changes.
     #[inline(always)]
-    pub fn begin(&mut self, t: ThreadId, wait: Wait) -> Result<(), Refusal>
-        requires free { wait_of self.old t ≡ None }
-        requires few { length wait.objects ≤ MAX_WAIT_OBJECTS }
-        requires distinct { IsDistinct nat_eq wait.objects }
-        ensures begins { OnOk result (Begins self.old self.new t wait) }
-        ensures agrees { Agrees self.new.pending self.new.queues }
-        ensures memory { IfErr result (λ refusal. refusal ≡ Refusal.Memory) }
-        ensures err { OnErr result (self.new ≡ self.old) }
-    {
-        self.begin_in_place(t, wait.objects.as_slice(), wait.all, tell(&wait))
-    }
-
-    /// Begins the thread's wait for these objects, as `begin` does, and moves no wait: it is written where it will lie.
-    #[inline(always)]
-    pub fn begin_in_place(
+    pub fn begin(
         &mut self,
         t: ThreadId,
         objects: &[ObjectNumber],
@@ -221,11 +207,7 @@ impl WaitTable {
     #[inline(always)]
     pub fn end_in_place(&mut self, t: ThreadId)
         requires { IsSome (wait_of self.old t) }
-        ensures pending { self.new.pending ≡ map.remove self.old.pending t }
-        ensures queues { (h : ℕ) → queue_of self.new h ≡ others t (queue_of self.old h) }
-        ensures looked { self.new.looked ≡ self.old.looked }
-        ensures room { self.new.room ≡ self.old.room }
-        ensures touched { ForSome (wait_of self.old t) (λ wait. IsTouched wait self.new.touched) }
+        ensures ended { EndsWait self.old self.new t }
         ensures agrees { Agrees self.new.pending self.new.queues }
     {
         let left = self.count - 1;
@@ -241,11 +223,7 @@ impl WaitTable {
         requires there { IsSome (wait_of self.old t) }
         requires one { ForSome (wait_of self.old t) (λ wait. wait.objects ≡ object ∷ []) }
         ensures next { result ≡ next_after t (queue_of self.old object) }
-        ensures pending { self.new.pending ≡ map.remove self.old.pending t }
-        ensures queues { (h : ℕ) → queue_of self.new h ≡ others t (queue_of self.old h) }
-        ensures looked { self.new.looked ≡ self.old.looked }
-        ensures room { self.new.room ≡ self.old.room }
-        ensures touched { ForSome (wait_of self.old t) (λ wait. IsTouched wait self.new.touched) }
+        ensures ended { EndsWait self.old self.new t }
         ensures agrees { Agrees self.new.pending self.new.queues }
     {
         let others = self.count - 1;
@@ -259,12 +237,7 @@ impl WaitTable {
     pub fn end(&mut self, t: ThreadId) -> Wait
         requires { IsSome (wait_of self.old t) }
         ensures wait { wait_of self.old t ≡ Some result }
-        ensures pending { self.new.pending ≡ map.remove self.old.pending t }
-        ensures queues { (h : ℕ) → queue_of self.new h ≡ others t (queue_of self.old h) }
-        ensures looked { self.new.looked ≡ self.old.looked }
-        ensures room { self.new.room ≡ self.old.room }
-        ensures at_least { length result.objects ≤ self.new.touched }
-        ensures at_most { self.new.touched ≤ 3 * length result.objects }
+        ensures ended { EndsWait self.old self.new t }
         ensures agrees { Agrees self.new.pending self.new.queues }
     {
         self.count -= 1;

@@ -51,7 +51,7 @@ pub fn take_wait(queues: &mut Queues, waits: &mut Vec<Slot>, t: ThreadId) -> Wai
     requires there { IsSome (slot_at waits.old.items t) }
     ensures wait { option_map (λ p. p.wait) (slot_at waits.old.items t) ≡ Some result }
     ensures ended { IsEnded queues.old waits.old.items queues.new waits.new.items t }
-    ensures touched { IsTouched result queues.new.touched }
+    ensures touched { ForSome (slot_at waits.old.items t) (λ p. IsTouched p.wait queues.new.touched) }
 {
     queues.touch_anew();
     waits[t.get() as usize].take(queues)

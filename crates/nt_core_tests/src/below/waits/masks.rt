@@ -4,7 +4,7 @@ ghost use Rattle.std.specs.List.{IsDistinct};
 
 use crate::tests::memory::{Host, tell_refused};
 use nt_status::{ObjectNumber, ObjectNumbers, Refusal, ThreadId};
-use nt_waits::{Wait, WaitTable};
+use nt_waits::{About, Wait, WaitTable};
 use std::alloc::{AllocError, Global};
 
 /// The objects whose bits are set, by rising number.
@@ -58,7 +58,11 @@ pub fn begin(table: &mut WaitTable, t: ThreadId, wait: Wait) -> Result<bool, Ref
     if table.about(t).is_some() {
         return Ok(false);
     }
-    table.begin(t, wait)?;
+    let about = About {
+        alertable: wait.alertable,
+        deadline: wait.deadline,
+    };
+    table.begin(t, wait.objects.as_slice(), wait.all, about)?;
     Ok(true)
 }
 

@@ -13,11 +13,11 @@ returns-clause-queue c =
     let mid = c.set_next.new.ends in
     queue_attached c.args.blocks.now c.insert_reserved-key.new.self c.args.ends.now c.args.object c.args.thread _ c.new-number.result c.requires.queue (rw same c.insert_reserved-key.ensures.was_vacant) (rw same c.insert_reserved-key.ensures.updates)
     c.set_next.new.blocks mid (record { first = mid.first; last = c.some-this.result; count = mid.count + 1 })
-    (c.set_next.ensures.written ∙ c.some-this.ensures) c.set_next.ensures.others c.set_next.ensures.backward c.set_next.ensures.owners
+    (c.set_next.ensures.forward.written ∙ c.some-this.ensures) c.set_next.ensures.forward.others c.set_next.ensures.backward c.set_next.ensures.blocks.owners
     refl c.some-this.ensures (omega (arith, c.set_next.ensures.count))
 
 pub returns-clause-elsewhere : goal.returns-clause-elsewhere
 returns-clause-elsewhere c =
     let same = c.new-number.ensures in
     attached_elsewhere c.args.blocks.now c.insert_reserved-key.new.self c.args.ends.now c.args.object c.args.thread _ c.new-number.result c.requires.queue (rw same c.insert_reserved-key.ensures.was_vacant) (rw same c.insert_reserved-key.ensures.updates)
-    c.set_next.new.blocks c.set_next.ensures.elsewhere
+    c.set_next.new.blocks c.set_next.ensures.blocks.elsewhere

@@ -13,15 +13,18 @@ loop-i-preserved c =
     let within : i < length objects = c.loop-i-test.true in
     let object_is = get_or_read objects i c.index-objects-i.result within c.index-objects-i.is 0 in
     let there : get_or objects i 0 < length c.loop-i.queues.lists = omega (arith, c.requires.there i within, so_far.same_objects) in
+    let before = so_far.joined in
     record {
-      linked = linked_more c.args.queues.now c.loop-i.queues c.link.new.self c.args.thread objects numbers i number c.requires.apart within so_far.numbered there so_far.linked (rw object_is at c.link.ensures.lists);
-      distinct = c.link.ensures.distinct;
-      numbered = length-set numbers i number ∙ so_far.numbered;
-      same_objects = rw (c.link.ensures.lists, length-set c.loop-i.queues.lists c.index-objects-i.result _) so_far.same_objects;
-      takes = record {
-        used = let used = so_far.takes.used in omega (arith, c.link.ensures.used, used);
-        capacity = c.link.ensures.capacity ∙ so_far.takes.capacity;
-        object_room = c.link.ensures.object_room ∙ so_far.takes.object_room;
+      joined = record {
+        linked = linked_more c.args.queues.now c.loop-i.queues c.link.new.self c.args.thread objects numbers i number c.requires.apart within before.numbered there before.linked (rw object_is at c.link.ensures.lists);
+        distinct = c.link.ensures.distinct;
+        takes = record {
+          used = let used = before.takes.used in omega (arith, c.link.ensures.takes.used, used);
+          capacity = c.link.ensures.takes.capacity ∙ before.takes.capacity;
+          object_room = c.link.ensures.takes.object_room ∙ before.takes.object_room;
+          touched = c.link.ensures.takes.touched ∙ before.takes.touched;
+        };
+        numbered = length-set numbers i number ∙ before.numbered;
       };
-      touched = c.link.ensures.touched ∙ so_far.touched;
+      same_objects = rw (c.link.ensures.lists, length-set c.loop-i.queues.lists c.index-objects-i.result _) so_far.same_objects;
     }

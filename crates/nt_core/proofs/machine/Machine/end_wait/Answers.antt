@@ -44,7 +44,7 @@ let_go-requires c =
     let ended = c.end-ended.ensures in
     subst (λ (k : ℕ). MarksAgreeBut c.as_slice-2.result.now (record d { table = c.end-ended.new.self; handing = set d.handing k c.args.alerted; standings = set d.standings k Free; grants = c.push_reserved.new.self.items })) (sym c.get-place.ensures)
     (subst (λ (hs : List ℕ). MarksAgreeBut hs (record d { table = c.end-ended.new.self; handing = set d.handing c.args.thread c.args.alerted; standings = set d.standings c.args.thread Free; grants = c.push_reserved.new.self.items })) (sym c.as_slice-2.ensures)
-    (ended_unmarked d c.end-ended.new.self c.args.thread c.args.alerted c.end-ended.result c.push_reserved.new.self.items sound (sym ended.wait) ended.queues))
+    (ended_unmarked d c.end-ended.new.self c.args.thread c.args.alerted c.end-ended.result c.push_reserved.new.self.items sound (sym ended.wait) ended.ended.queues))
 
 pub returns-clause-over : goal.returns-clause-over
 returns-clause-over c =
@@ -54,7 +54,7 @@ returns-clause-over c =
     let is : c.let_go.new.self ≡ record d { table = c.end-ended.new.self; handing = set d.handing c.args.thread c.args.alerted; standings = set d.standings c.args.thread Free; grants = c.push_reserved.new.self.items; leaving = leaving } =
     c.let_go.ensures.rest ∙ ap (λ (k : ℕ). record d { table = c.end-ended.new.self; handing = set d.handing k c.args.alerted; standings = set d.standings k Free; grants = c.push_reserved.new.self.items; leaving = leaving }) c.get-place.ensures in
     subst (λ (x : Dispatcher). state c.let_go.new.self ≡ wait_over (state x) c.args.thread c.args.alerted) c.self.view_is
-    (ap (λ (x : Dispatcher). state x) is ∙ ended_over d c.end-ended.new.self c.args.thread c.args.alerted c.push_reserved.new.self.items ended.pending ended.queues)
+    (ap (λ (x : Dispatcher). state x) is ∙ ended_over d c.end-ended.new.self c.args.thread c.args.alerted c.push_reserved.new.self.items ended.ended.pending ended.ended.queues)
 
 pub returns-clause-sound : goal.returns-clause-sound
 returns-clause-sound c =
@@ -65,5 +65,5 @@ returns-clause-sound c =
     let is : c.let_go.new.self ≡ record d { table = c.end-ended.new.self; handing = set d.handing c.args.thread c.args.alerted; standings = set d.standings c.args.thread Free; grants = c.push_reserved.new.self.items; leaving = leaving } =
     c.let_go.ensures.rest ∙ ap (λ (k : ℕ). record d { table = c.end-ended.new.self; handing = set d.handing k c.args.alerted; standings = set d.standings k Free; grants = c.push_reserved.new.self.items; leaving = leaving }) c.get-place.ensures in
     subst IsSound (sym is)
-    (ended_sound d c.end-ended.new.self c.args.thread c.unmet_status-status.result c.args.alerted c.end-ended.result c.push_reserved.new.self.items leaving sound (sym ended.wait) ended.pending ended.agrees c.push_reserved.ensures.items
+    (ended_sound d c.end-ended.new.self c.args.thread c.unmet_status-status.result c.args.alerted c.end-ended.result c.push_reserved.new.self.items leaving sound (sym ended.wait) ended.ended.pending ended.agrees c.push_reserved.ensures.items
     (subst (λ (x : Dispatcher). MarksAgreeBut [] x) is c.let_go.ensures.marks))

@@ -29,13 +29,13 @@ returns c =
     record { known = same.known; runs = same.runs; few = same.few; apart = same.apart; named = same.named; living = same.living } in
     let idle : fin.get d.table.pending c.args.thread ≡ None = subst (λ (x : Dispatcher). fin.get x.table.pending c.args.thread ≡ None) (sym c.self.view_is) c.requires.can.idle in
     let room : length d.grants + fin.len d.table.pending < d.threads = subst (λ (x : Dispatcher). length x.grants + fin.len x.table.pending < x.threads) (sym c.self.view_is) c.requires.can.room in
-    let done : Begins d.table c.begin_in_place.new.self c.args.thread w =
-    subst (λ (o : Option ℕ). Begins d.table c.begin_in_place.new.self c.args.thread (record { objects = c.args.objects.now; all = c.args.all; alertable = c.args.alertable; deadline = o })) c.deadline_after.ensures c.in_ok-begin_in_place.ensures.begins in
-    subst (λ (k : ℕ). HasPended c.args.self.now (record d { table = c.begin_in_place.new.self; standings = set d.standings k Waiting }) c.args.thread c.args.objects.now (record { all = c.args.all; alertable = c.args.alertable; ms = c.args.ms }) (Ok tt)) (sym c.get.ensures)
-    (subst (λ (x : Dispatcher). HasPended x (record d { table = c.begin_in_place.new.self; standings = set d.standings c.args.thread Waiting }) c.args.thread c.args.objects.now (record { all = c.args.all; alertable = c.args.alertable; ms = c.args.ms }) (Ok tt)) c.self.view_is
+    let done : Begins d.table c.begin.new.self c.args.thread w =
+    subst (λ (o : Option ℕ). Begins d.table c.begin.new.self c.args.thread (record { objects = c.args.objects.now; all = c.args.all; alertable = c.args.alertable; deadline = o })) c.deadline_after.ensures c.in_ok-begin.ensures.begins in
+    subst (λ (k : ℕ). HasPended c.args.self.now (record d { table = c.begin.new.self; standings = set d.standings k Waiting }) c.args.thread c.args.objects.now (record { all = c.args.all; alertable = c.args.alertable; ms = c.args.ms }) (Ok tt)) (sym c.get.ensures)
+    (subst (λ (x : Dispatcher). HasPended x (record d { table = c.begin.new.self; standings = set d.standings c.args.thread Waiting }) c.args.thread c.args.objects.now (record { all = c.args.all; alertable = c.args.alertable; ms = c.args.ms }) (Ok tt)) c.self.view_is
     (record {
-      state = pends_too d c.begin_in_place.new.self c.args.thread w done.pending done.joined done.queues_kept;
-      sound = sound_begun d c.begin_in_place.new.self c.args.thread w sound able idle room done.pending c.in_ok-begin_in_place.ensures.agrees (queues_longer d.table c.begin_in_place.new.self c.args.thread w done.joined done.queues_kept);
+      state = pends_too d c.begin.new.self c.args.thread w done.pending done.joined done.queues_kept;
+      sound = sound_begun d c.begin.new.self c.args.thread w sound able idle room done.pending c.in_ok-begin.ensures.agrees (queues_longer d.table c.begin.new.self c.args.thread w done.joined done.queues_kept);
       grants = refl;
       looked = done.looked;
       marked = refl;

@@ -111,16 +111,16 @@ returns c =
     let left = c.get.follows.holds-at-none in
     let tried : IsTried c.self.inside.objects.items objects c.args.thread wait (Some c.in-Some-try_wait.status) =
     subst (λ (hs : List ℕ). IsTried c.self.inside.objects.items objects c.args.thread (wait_for hs wait.all) (Some c.in-Some-try_wait.status)) c.as_slice-objects.ensures c.in-Some-try_wait.ensures.tried in
-    let queues : (h : ℕ) → queue_of table h ≡ others c.args.thread (queue_of d.table h) = λ h. c.end_in_place.ensures.queues h ∙ ap (λ (v : Waits). others c.args.thread (queue_of v h)) left in
+    let queues : (h : ℕ) → queue_of table h ≡ others c.args.thread (queue_of d.table h) = λ h. c.end_in_place.ensures.ended.queues h ∙ ap (λ (v : Waits). others c.args.thread (queue_of v h)) left in
     let unmarked : MarksAgreeBut wait.objects (record d { objects = objects; owned = owned; table = table; handing = set d.handing c.args.thread false; standings = set d.standings c.args.thread Free; grants = grants }) =
     visit_unmarked d c.args.thread c.in-Some-try_wait.status wait objects owned table grants sound c.in-Some.ensures.value tried queues in
     let lets : LetsGoBut [] d.handles wait.objects d.leaving leaving = subst (λ (hs : List ℕ). LetsGoBut [] d.handles hs d.leaving leaving) c.as_slice-objects.ensures c.let_go.ensures in
     let new : Dispatcher = record d { objects = objects; owned = owned; table = table; handing = set d.handing c.args.thread false; standings = set d.standings c.args.thread Free; grants = grants; leaving = leaving } in
     let result : IsVisited d new c.args.thread × IsSound new = visit_granted d c.args.thread c.in-Some-try_wait.status wait objects owned table grants leaving sound c.in-Some.ensures.value
     tried
-    (c.end_in_place.ensures.pending ∙ ap (λ (v : Waits). map.remove v.pending c.args.thread) left)
+    (c.end_in_place.ensures.ended.pending ∙ ap (λ (v : Waits). map.remove v.pending c.args.thread) left)
     queues
-    (c.end_in_place.ensures.looked ∙ (ap (λ (v : Waits). v.looked) left ∙ counted d.table.looked small))
+    (c.end_in_place.ensures.ended.looked ∙ (ap (λ (v : Waits). v.looked) left ∙ counted d.table.looked small))
     c.end_in_place.ensures.agrees
     c.push_reserved.ensures.items
     (let_go_agree (record d { objects = objects; owned = owned; table = table; handing = set d.handing c.args.thread false; standings = set d.standings c.args.thread Free; grants = grants }) wait.objects leaving unmarked lets) in

@@ -118,16 +118,16 @@ returns-clause-visited c =
     let leaving = c.let_go.new.leaving in
     let tried : IsTried c.self.inside.objects.items c.try_wait.new.objects.items c.args.thread w.0 (Some c.in-Some.status) =
     subst (λ (p : List ℕ × Bool). IsTried c.self.inside.objects.items c.try_wait.new.objects.items c.args.thread (wait_for p.0 p.1) (Some c.in-Some.status)) (sym w.2) c.in-Some.ensures.tried in
-    let queues : (h : ℕ) → queue_of table h ≡ others c.args.thread (queue_of d.table h) = c.end_one-next.ensures.queues in
+    let queues : (h : ℕ) → queue_of table h ≡ others c.args.thread (queue_of d.table h) = c.end_one-next.ensures.ended.queues in
     let unmarked : MarksAgreeBut w.0.objects (record d { objects = objects; owned = owned; table = table; handing = set d.handing c.args.thread false; standings = set d.standings c.args.thread Free; grants = grants }) =
     visit_unmarked d c.args.thread c.in-Some.status w.0 objects owned table grants sound w.1 tried queues in
     let lets : LetsGoBut [] d.handles w.0.objects d.leaving leaving = subst (λ (p : List ℕ × Bool). LetsGoBut [] d.handles p.0 d.leaving leaving) (sym w.2) c.let_go.ensures in
     let new : Dispatcher = record d { objects = objects; owned = owned; table = table; handing = set d.handing c.args.thread false; standings = set d.standings c.args.thread Free; grants = grants; leaving = leaving } in
     let result : IsVisited d new c.args.thread × IsSound new = visit_granted d c.args.thread c.in-Some.status w.0 objects owned table grants leaving sound w.1
     tried
-    c.end_one-next.ensures.pending
+    c.end_one-next.ensures.ended.pending
     queues
-    (c.end_one-next.ensures.looked ∙ one_more)
+    (c.end_one-next.ensures.ended.looked ∙ one_more)
     c.end_one-next.ensures.agrees
     c.push_reserved.ensures.items
     (let_go_agree (record d { objects = objects; owned = owned; table = table; handing = set d.handing c.args.thread false; standings = set d.standings c.args.thread Free; grants = grants }) w.0.objects leaving unmarked lets) in

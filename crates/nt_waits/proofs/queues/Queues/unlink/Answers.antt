@@ -10,7 +10,7 @@ detach-requires-clause-queue c =
 pub invariant_of-self : goal.invariant_of-self
 invariant_of-self c =
     sound_after c.self.inside.blocks c.self.inside.ends.items c.args.self.now.lists c.args.object c.get-at.result c.index_mut.result.now (ap (λ v. v.lists) c.self.view_is) c.self.invariant c.get-at.ensures (listed_within c.args.self.now.lists c.args.object c.args.number c.requires.linked) c.index_mut.ensures.value
-    c.detach.new.blocks c.detach.new.ends _ c.detach.ensures.queue (λ k there. c.detach.ensures.elsewhere k)
+    c.detach.new.blocks c.detach.new.ends _ c.detach.ensures.queue (λ k there. c.detach.ensures.others.elsewhere k)
 
 pub returns-clause-lists : goal.returns-clause-lists
 returns-clause-lists c =
@@ -18,12 +18,12 @@ returns-clause-lists c =
     let within = listed_within c.args.self.now.lists c.args.object c.args.number c.requires.linked in
     let here = list_here c.self.inside.blocks c.self.inside.ends.items c.args.self.now.lists c.args.object c.get-at.result c.index_mut.result.now view c.self.invariant c.get-at.ensures within c.index_mut.ensures.value in
     rw (← here) (lists_after c.self.inside.blocks c.self.inside.ends.items c.args.self.now.lists c.args.object c.get-at.result c.index_mut.result.now view c.self.invariant c.get-at.ensures within c.index_mut.ensures.value
-    c.detach.new.blocks c.detach.new.ends _ c.detach.ensures.queue (λ k there. c.detach.ensures.elsewhere k))
+    c.detach.new.blocks c.detach.new.ends _ c.detach.ensures.queue (λ k there. c.detach.ensures.others.elsewhere k))
 
 pub returns-clause-distinct : goal.returns-clause-distinct
 returns-clause-distinct c h =
     let sound = sound_after c.self.inside.blocks c.self.inside.ends.items c.args.self.now.lists c.args.object c.get-at.result c.index_mut.result.now (ap (λ v. v.lists) c.self.view_is) c.self.invariant c.get-at.ensures (listed_within c.args.self.now.lists c.args.object c.args.number c.requires.linked) c.index_mut.ensures.value
-    c.detach.new.blocks c.detach.new.ends _ c.detach.ensures.queue (λ k there. c.detach.ensures.elsewhere k) in
+    c.detach.new.blocks c.detach.new.ends _ c.detach.ensures.queue (λ k there. c.detach.ensures.others.elsewhere k) in
     (queue_is_list c.detach.new.blocks _ _ h refl sound).distinct
 
 pub returns-clause-next : goal.returns-clause-next

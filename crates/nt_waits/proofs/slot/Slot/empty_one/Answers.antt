@@ -58,11 +58,13 @@ returns-clause-unlinked c p is =
     record {
       unlinked = subst (λ (n : ℕ). AreUnlinked old new p.wait.objects p.numbers.items n) (sym many) first;
       distinct = end.distinct;
-      used = omega (arith, many, end.used);
-      capacity = end.capacity;
-      object_room = end.object_room;
-      at_least = omega (arith, many, end.counts_up);
-      at_most = omega (arith, many, none, end.counted);
+      gives = record {
+        used = let used = end.gives.used in omega (arith, many, used);
+        capacity = end.gives.capacity;
+        object_room = end.gives.object_room;
+      };
+      at_least = let reached = end.reached in omega (arith, many, reached.0);
+      at_most = let reached = end.reached in omega (arith, many, none, reached.1);
     }
 
 pub returns-clause-next : goal.returns-clause-next

@@ -52,7 +52,7 @@ invariant_of-self c =
     let room = ap (λ v. v.room.threads) c.self.view_is in
     whole_begun c.self.inside.queues c.begin_ready.new.queues items c.begin_ready.new.waits.items c.args.t (wait_for (c.args.object ∷ []) c.args.all c.args.about) done.begun
     c.self.inside.count c.self.inside.deadlines c.self.inside.deadlines c.set_alarm.new.alarms c.self.inside.room c.self.invariant
-    (ap (λ v. wait_of v c.args.t) c.self.view_is ∙ c.requires.free) done.table (λ u. refl) c.set_alarm.ensures.here c.set_alarm.ensures.others
+    (ap (λ v. wait_of v c.args.t) c.self.view_is ∙ c.requires.free) (λ u. refl) c.set_alarm.ensures.here c.set_alarm.ensures.others
     (room_one c.self.inside.queues c.begin_ready.new.queues items c.begin_ready.new.waits.items _ _ c.self.inside.room c.args.t placed.0 (rw room c.requires.place) free placed.1 (ap (λ wait. length wait.objects) placed.2)
     done.begun.others done.takes done.places c.set_alarm.ensures.places c.self.invariant.roomy)
 
@@ -61,7 +61,7 @@ returns-clause-begins c =
     let done = c.begin_ready.ensures in
     let mine = wait_for (c.args.object ∷ []) c.args.all c.args.about in
     subst (λ (v : Waits). Begins v (view_of c.begin_ready.new.queues c.begin_ready.new.waits.items c.self.inside.looked c.self.inside.room) c.args.t mine) c.self.view_is
-    (begins c.self.inside.queues c.begin_ready.new.queues c.self.inside.waits.items c.begin_ready.new.waits.items c.args.t mine done.begun _ _ done.touched)
+    (begins c.self.inside.queues c.begin_ready.new.queues c.self.inside.waits.items c.begin_ready.new.waits.items c.args.t mine done.begun _ _)
 
 pub returns-clause-agrees : goal.returns-clause-agrees
-returns-clause-agrees c = agrees c.begin_ready.new.queues c.begin_ready.new.waits.items c.begin_ready.ensures.table
+returns-clause-agrees c = agrees c.begin_ready.new.queues c.begin_ready.new.waits.items c.begin_ready.ensures.begun.table

@@ -3,10 +3,10 @@ use Rattle.std.specs.Prelude.{IsSome}
 use Rattle.std.specs.Option.{option_map}
 use Rattle.nt_waits.specs.declared.pending.Pending.{Pending}
 use Rattle.nt_waits.specs.Table.{slot_at, waits_of}
-use Rattle.nt_waits.specs.Waits.{Waits, wait_of, queue_of, others}
-use Rattle.nt_waits.proofs.ViewLemmas.{get-waits, get_or-threads, IsSome-mapped}
-use Rattle.nt_waits.proofs.EndedLemmas.{pending_ended, whole_ended}
-use Rattle.nt_waits.proofs.AgreeLemmas.{agrees, shown_in}
+use Rattle.nt_waits.specs.Waits.{Waits, wait_of}
+use Rattle.nt_waits.proofs.ViewLemmas.{get-waits, IsSome-mapped}
+use Rattle.nt_waits.proofs.EndedLemmas.{ends_wait, whole_ended}
+use Rattle.nt_waits.proofs.AgreeLemmas.{agrees}
 use Rattle.nt_waits.proofs.CountLemmas.{len-some}
 use Rattle.nt_waits.proofs.table.WaitTable.end_one.Goals as goal
 
@@ -22,17 +22,12 @@ end_one_wait-requires-clause-one c p is =
     let shown = ap (λ v. wait_of v c.args.t) (sym c.self.view_is) ∙ get-waits items c.args.t in
     c.requires.one p.wait (shown ∙ ap (option_map (λ (q : Pending). q.wait)) is)
 
-pub returns-clause-pending : goal.returns-clause-pending
-returns-clause-pending c =
+pub returns-clause-ended : goal.returns-clause-ended
+returns-clause-ended c =
     let items = c.self.inside.waits.items in
     let shown = ap (λ v. wait_of v c.args.t) (sym c.self.view_is) ∙ get-waits items c.args.t in
-    rw (← c.self.view_is) (pending_ended c.self.inside.queues c.end_one_wait.new.queues items c.end_one_wait.new.waits.items c.args.t c.end_one_wait.ensures.ended (IsSome-mapped (slot_at items c.args.t) (rw shown at c.requires.there)))
-
-pub returns-clause-queues : goal.returns-clause-queues
-returns-clause-queues c h =
-    get_or-threads c.end_one_wait.new.queues.lists h
-    ∙ c.end_one_wait.ensures.ended.queues h
-    ∙ ap (others c.args.t) (sym (get_or-threads c.self.inside.queues.lists h) ∙ ap (λ v. queue_of v h) c.self.view_is)
+    let there = IsSome-mapped (slot_at items c.args.t) (rw shown at c.requires.there) in
+    ends_wait c.self.inside.queues c.end_one_wait.new.queues items c.end_one_wait.new.waits.items c.args.t c.end_one_wait.ensures.ended there c.self.inside.looked c.self.inside.room c.args.self.now c.self.view_is c.end_one_wait.ensures.touched
 
 pub overflow_sub-others : goal.overflow_sub-others
 overflow_sub-others c =
@@ -50,10 +45,3 @@ invariant_of-self c =
 
 pub returns-clause-agrees : goal.returns-clause-agrees
 returns-clause-agrees c = agrees c.end_one_wait.new.queues c.end_one_wait.new.waits.items c.end_one_wait.ensures.ended.table
-
-pub returns-clause-touched : goal.returns-clause-touched
-returns-clause-touched c wait is =
-    let items = c.self.inside.waits.items in
-    let shown = ap (λ v. wait_of v c.args.t) (sym c.self.view_is) ∙ get-waits items c.args.t in
-    let p = shown_in (slot_at items c.args.t) wait (sym shown ∙ is) in
-    rw (← p.2) (c.end_one_wait.ensures.touched p.0 p.1)
