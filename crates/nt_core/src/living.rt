@@ -35,7 +35,7 @@ impl Machine {
             return false;
         };
         let opened = 0 < self.handles.count(object);
-        let awaited = 0 < self.waits.blocks_on(object);
+        let awaited = self.waits.is_awaited(object);
         let runs = object.get() < self.threads && !there.has_ended();
         !there.is_gone() && !(opened || (awaited || runs))
     }

@@ -56,7 +56,7 @@ impl Machine {
         let Some(own) = self.objects.as_slice().get(thread as usize) else {
             return false;
         };
-        let awaited = 0 < self.waits.blocks_on(ObjectNumber::new(thread));
+        let awaited = self.waits.is_awaited(ObjectNumber::new(thread));
         let quiet = self.apcs.is_empty(ThreadId::new(thread as u16));
         own.has_ended() && (!own.is_gone() && (!awaited && quiet))
     }

@@ -1,19 +1,19 @@
 -- The table after one thread's blocks were linked.
 use Rattle.std.proofs.Common.{◌≡◌, ◌≢◌, ◌<◌, ◌≤◌, ◌⊎◌, ℕ, List, [], ◌∷◌, ◌++◌, length, get_or, set, Option, Some, None, refl, sym, ap, ◌∙◌, inl, inr, arith, length-set, Contains}
 use Rattle.std.proofs.lemmas.Bool.{cases_eq}
-use Rattle.std.proofs.lemmas.List.{get_or-set_same, get_or-set_other, map-append, length-map}
+use Rattle.std.proofs.lemmas.List.{get_or-set_same, get_or-set_other, map-append}
 use Rattle.std.proofs.lemmas.Option.{same_Some, none-some}
-use Rattle.std.specs.Prelude.{◌^◌, IsSome, nat_eq}
+use Rattle.std.specs.Prelude.{nat_eq}
 use Rattle.std.specs.List.{IsDistinct}
 use Rattle.nt_status.specs.declared.limits.TheConstants.{MAX_WAIT_OBJECTS}
 use Rattle.nt_waits.specs.declared.pending.Pending.{Pending}
 use Rattle.nt_waits.specs.Link.{Link, AreNumbersOnce}
-use Rattle.nt_waits.specs.Queues.{Lists, list_at, AreOrderly}
+use Rattle.nt_waits.specs.Queues.{Lists, list_at}
 use Rattle.nt_waits.specs.Steps.{AreLinked}
 use Rattle.nt_waits.specs.Table.{HasLink, threads, slot_at, IsLinked, IsTable}
-use Rattle.nt_status.proofs.Lists.{distinct_push, few_below}
+use Rattle.nt_status.proofs.Lists.{distinct_push}
 use Rattle.nt_waits.specs.Waits.{Names}
-use Rattle.nt_waits.proofs.TableLemmas.{link_of_member, find_place, slot_within}
+use Rattle.nt_waits.proofs.TableLemmas.{link_of_member, find_place}
 
 HasLink-before : (ls more : List Link) (link : Link) → HasLink ls link → HasLink (ls ++ more) link
 HasLink-before [] more link has = absurd has
@@ -29,22 +29,6 @@ HasLink-cases [] last link (inl here) = inr here
 HasLink-cases [] last link (inr later) = absurd later
 HasLink-cases (first ∷ ls) last link (inl here) = inl (inl here)
 HasLink-cases (first ∷ ls) last link (inr later) = elim (HasLink-cases ls last link later) [ inl before ↦ inl (inr before) | inr here ↦ inr here ]
-
--- no queue has more threads than there are places
-length-list : (queues : Lists) (slots : List (Option Pending)) → IsTable queues slots → (h : ℕ) → length (list_at queues h) < 2 ^ 32
-length-list queues slots table h =
-    let below : (x : ℕ) → Contains (threads (list_at queues h)) x → x < length slots = λ x member.
-    let link = link_of_member (list_at queues h) x member in
-    let owner = table.owned h link.0 link.1 in
-    let there : IsSome (slot_at slots x) = rw (← link.2, owner.1) refl in
-    slot_within slots x there in
-    let few = few_below (length slots) (threads (list_at queues h)) (table.once h) below in
-    let same = length-map (list_at queues h) (λ (l : Link). l.thread) in
-    let small = table.small in
-    omega (arith, few, same, small)
-
-pub orderly : (queues : Lists) (slots : List (Option Pending)) → IsTable queues slots → AreOrderly queues
-orderly queues slots table = record { distinct = table.distinct; short = length-list queues slots table }
 
 module _ (old new : Lists) (slots : List (Option Pending)) (thread : ℕ) (pending : Pending)
     (table : IsTable old slots)

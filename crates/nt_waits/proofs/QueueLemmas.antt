@@ -1,7 +1,10 @@
 -- The queue of one object after a block is added or taken out.
-use Rattle.std.proofs.Common.{◌≡◌, ◌≢◌, ◌⊎◌, ◌+◌, ◌-◌, ◌≤◌, ℕ, List, [], ◌∷◌, ◌++◌, length, Option, Some, None, true, false, cond, eqb, refl, sym, ap, ◌∙◌, inl, inr, arith, length-append}
-use Rattle.std.proofs.lemmas.Bool.{cases_eq, false≢true}
-use Rattle.std.proofs.lemmas.Option.{none-some, some_pair_parts}
+use Rattle.std.proofs.Common.{◌≡◌, ◌≢◌, ◌⊎◌, ◌<◌, ◌≤◌, ℕ, zero, suc, List, [], ◌∷◌, ◌++◌, length, map, Option, Some, None, true, false, cond, eqb, refl, sym, ap, ◌∙◌, inl, inr, arith, Contains, nat_eq}
+use Rattle.std.proofs.lemmas.Bool.{cases_lt, false≢true}
+use Rattle.std.proofs.lemmas.List.{get_or_past, length-map}
+use Rattle.std.specs.List.{IsDistinct}
+use Rattle.nt_status.proofs.Lists.{contains_none, contains_cases, distinct_none, distinct_cons, few_below}
+use Rattle.std.proofs.lemmas.Option.{none-some, same_Some, some_pair_parts}
 use Rattle.std.specs.Prelude.{IsSome}
 use Rattle.std.specs.Option.{option_map}
 use Rattle.slab.specs.Slab.{Slab, get, ContainsKey, Updates}
@@ -10,26 +13,21 @@ use Rattle.nt_waits.specs.declared.block.Ends.{Ends}
 use Rattle.nt_waits.specs.Link.{Link, HasNumber, AreNumbersOnce, without}
 use Rattle.nt_waits.specs.Chain.{IsChain}
 use Rattle.nt_waits.specs.Queue.{next_of, previous_of, owner_of, thread_of, next_at, previous_at, owner_at, links_from, links, IsQueue}
-use Rattle.nt_waits.proofs.ChainLemmas.{chain_owner, chain_previous, chain_next, chain_last_in, chain_kept, chain_unlinked, chain_linked, same_test, other_test, other_has}
+use Rattle.nt_waits.proofs.ChainLemmas.{chain_owner, chain_previous, chain_next, chain_last_in, chain_kept, chain_unlinked, chain_linked}
 
--- what is walked from the front is the chain
-links_from-chain : (next previous : Option ℕ → Option ℕ) (owner : ℕ → Option (ℕ × ℕ)) (thread : ℕ → ℕ) (object : ℕ) → ((k t : ℕ) → owner k ≡ Some (t, object) → thread k ≡ t) → (at : Option ℕ) (ls : List Link) → IsChain next previous owner object at ls → links_from next thread (length ls) at ≡ ls
-links_from-chain next previous owner thread object owned at [] chain = refl
-links_from-chain next previous owner thread object owned at (link ∷ ls) chain =
-    let rest = links_from-chain next previous owner thread object owned (Some link.number) ls chain.3 in
+-- what is walked from the front, for long enough, is the chain
+links_from-chain : (next previous : Option ℕ → Option ℕ) (owner : ℕ → Option (ℕ × ℕ)) (thread : ℕ → ℕ) (object : ℕ) → ((k t : ℕ) → owner k ≡ Some (t, object) → thread k ≡ t) → (n : ℕ) (at : Option ℕ) (ls : List Link) → length ls ≤ n → IsChain next previous owner object at ls → links_from next thread n at ≡ ls
+links_from-chain next previous owner thread object owned zero at [] few chain = refl
+links_from-chain next previous owner thread object owned (suc n) at [] few chain = rw chain.0 refl
+links_from-chain next previous owner thread object owned zero at (link ∷ ls) few chain = absurd (omega (arith, few))
+links_from-chain next previous owner thread object owned (suc n) at (link ∷ ls) few chain =
+    let rest = links_from-chain next previous owner thread object owned n (Some link.number) ls (omega (arith, few)) chain.3 in
     let whose = owned link.number link.thread chain.2 in
     rw (chain.0, rest, whose)
 
 pub owner_of-thread : (block : Option Block) (t object : ℕ) → owner_of block ≡ Some (t, object) → thread_of block ≡ t
 owner_of-thread None t object e = absurd (cc)
 owner_of-thread (Some block) t object e = (some_pair_parts block.thread t block.object object e).0
-
-length-without : (number : ℕ) (ls : List Link) → HasNumber ls number → length (without number ls) + 1 ≡ length ls
-length-without number [] has = absurd has
-length-without number (link ∷ ls) has = elim (cases_eq link.number number) [
-  | inl same ↦ rw (same_test link.number number same) (omega arith)
-  | inr differs ↦ rw (other_test link.number number differs) (omega (arith, length-without number ls (other_has link ls number differs has)))
-]
 
 pub HasNumber-without : (number : ℕ) (ls : List Link) (k : ℕ) → HasNumber (without number ls) k → HasNumber ls k
 HasNumber-without number [] k = λ has. has
@@ -45,13 +43,7 @@ AreNumbersOnce-without number (link ∷ ls) distinct = elim (eqb link.number num
   | false ↦ (λ has. distinct.0 (HasNumber-without number ls link.number has), AreNumbersOnce-without number ls distinct.1)
 ]
 
--- the walk from the first block gives the queue
-pub links_queue : (blocks : Slab Block) (ends : Ends) (object : ℕ) (ls : List Link) → IsQueue blocks ends object ls → links blocks ends ≡ ls
-links_queue blocks ends object ls queue =
-    let counted = queue.counted in
-    rw (← counted) (links_from-chain (next_at blocks ends) (previous_at blocks ends) (owner_at blocks) (λ number. thread_of (get blocks number)) object (λ k t. owner_of-thread (get blocks k) t object) None ls queue.chain)
-
-owner_of-present : (block : Option Block) (p : ℕ × ℕ) → owner_of block ≡ Some p → IsSome block
+pub owner_of-present : (block : Option Block) (p : ℕ × ℕ) → owner_of block ≡ Some p → IsSome block
 owner_of-present None p e = absurd (cc)
 owner_of-present (Some block) p e = refl
 
@@ -64,9 +56,19 @@ thread_by_owner (Some block) block' same = owner_of-thread block' block.thread b
 thread_by_owner None None same = refl
 thread_by_owner None (Some block') same = absurd (cc)
 
-not_empty : (ls : List Link) (k : ℕ) → HasNumber ls k → 1 ≤ length ls
-not_empty [] k has = absurd has
-not_empty (link ∷ ls) k has = omega arith
+numbers_contain : (ls : List Link) (k : ℕ) → Contains (map (λ (l : Link). l.number) ls) k → HasNumber ls k
+numbers_contain [] k member = absurd (contains_none k member)
+numbers_contain (link ∷ ls) k member = elim (contains_cases link.number (map (λ (l : Link). l.number) ls) k member) [ inl here ↦ inl here | inr later ↦ inr (numbers_contain ls k later) ]
+
+numbers_distinct : (ls : List Link) → AreNumbersOnce ls → IsDistinct nat_eq (map (λ (l : Link). l.number) ls)
+numbers_distinct [] once = distinct_none
+numbers_distinct (link ∷ ls) once = distinct_cons link.number (map (λ (l : Link). l.number) ls) (λ member. once.0 (numbers_contain ls link.number member)) (numbers_distinct ls once.1)
+
+key_within : (blocks : Slab Block) (k : ℕ) → ContainsKey blocks k → k < length blocks.slots
+key_within blocks k there = elim (cases_lt k (length blocks.slots)) [
+  | inl below ↦ below
+  | inr past ↦ let gone : IsSome {T = Block} None = rw (get_or_past blocks.slots k None past) at there in absurd (false≢true gone)
+]
 
 module _ (blocks : Slab Block) (ends : Ends) (object : ℕ) (ls : List Link) (queue : IsQueue blocks ends object ls) where
   -- a block of the queue is of its object
@@ -75,6 +77,17 @@ module _ (blocks : Slab Block) (ends : Ends) (object : ℕ) (ls : List Link) (qu
 
   pub queue_present : (k : ℕ) → HasNumber ls k → ContainsKey blocks k
   queue_present k has = let whose = queue_owner k has in owner_of-present (get blocks k) (whose.0, object) whose.1
+
+  -- a queue has no more blocks than there are numbers
+  pub queue_fits : length ls ≤ length blocks.slots
+  queue_fits =
+      let few = few_below (length blocks.slots) (map (λ (l : Link). l.number) ls) (numbers_distinct ls queue.distinct) (λ k member. key_within blocks k (queue_present k (numbers_contain ls k member))) in
+      let same = length-map ls (λ (l : Link). l.number) in
+      omega (arith, few, same)
+
+  -- the walk from the first block gives the queue
+  pub links_queue : links blocks ends ≡ ls
+  links_queue = links_from-chain (next_at blocks ends) (previous_at blocks ends) (owner_at blocks) (λ number. thread_of (get blocks number)) object (λ k t. owner_of-thread (get blocks k) t object) (length blocks.slots) None ls queue_fits queue.chain
 
   pub queue_previous : (number x : ℕ) → HasNumber ls number → previous_at blocks ends (Some number) ≡ Some x → HasNumber ls x × (x ≢ number)
   queue_previous number x has e =
@@ -95,7 +108,6 @@ module _ (blocks : Slab Block) (ends : Ends) (object : ℕ) (ls : List Link) (qu
   queue_kept blocks' same = record {
     chain = chain_kept (next_at blocks ends) (previous_at blocks ends) (owner_at blocks) (next_at blocks' ends) (previous_at blocks' ends) (owner_at blocks') object None ls refl refl (λ k has. (ap next_of (same k has), ap previous_of (same k has), ap owner_of (same k has))) queue.chain;
     distinct = queue.distinct;
-    counted = queue.counted;
   }
 
 -- a change of one block leaves what stands after and before the others
@@ -157,8 +169,7 @@ module _ (old gone : Slab Block) (ends : Ends) (object : ℕ) (ls : List Link) (
       (forward : (x : Option ℕ) → next_at new ends_new x ≡ next_at mid ends_mid x)
       (owners_again : (k : ℕ) → owner_at new k ≡ owner_at mid k)
       (first_kept : ends_last.first ≡ ends_new.first)
-      (last_kept : ends_last.last ≡ ends_new.last)
-      (counted : ends_last.count ≡ ends.count - 1) where
+      (last_kept : ends_last.last ≡ ends_new.last) where
     pub queue_detached : IsQueue new ends_last object (without number ls)
     queue_detached =
         let next_is = next_at-ends new ends_new ends_last first_kept in
@@ -172,7 +183,6 @@ module _ (old gone : Slab Block) (ends : Ends) (object : ℕ) (ls : List Link) (
               (λ k differs. owners_again k ∙ owners k ∙ ap owner_of (removed.others k differs))
               None ls has (λ e. none-some number e) (λ k _ e. none-some k e) queue.distinct queue.chain;
           distinct = AreNumbersOnce-without number ls queue.distinct;
-          counted = let shorter = length-without number ls has in let long = queue.counted in let some = not_empty ls number has in omega (arith, shorter, long, some, counted);
         }
 
   -- a block of another object is none of those that were reached
@@ -214,8 +224,7 @@ module _ (old put : Slab Block) (ends : Ends) (object thread : ℕ) (ls : List L
       (backward : (x : Option ℕ) → previous_at mid ends_mid x ≡ previous_at put ends x)
       (owners : (k : ℕ) → owner_at mid k ≡ owner_at put k)
       (first_kept : ends_last.first ≡ ends_mid.first)
-      (last_is : ends_last.last ≡ Some number)
-      (counted : ends_last.count ≡ ends.count + 1) where
+      (last_is : ends_last.last ≡ Some number) where
     pub queue_attached : IsQueue mid ends_last object (ls ++ record { number = number; thread = thread } ∷ [])
     queue_attached =
         let next_is = next_at-ends mid ends_mid ends_last first_kept in
@@ -231,10 +240,29 @@ module _ (old put : Slab Block) (ends : Ends) (object thread : ℕ) (ls : List L
               (λ k differs. owners k ∙ ap owner_of (stored.others k differs))
               None ls (λ e. none-some number e) fresh_number queue.chain;
           distinct = AreNumbersOnce-push ls (record { number = number; thread = thread }) fresh_number queue.distinct;
-          counted = let long = queue.counted in let pushed = length-append ls (record { number = number; thread = thread } ∷ []) in omega (arith, long, pushed, counted);
         }
 
   pub attached_elsewhere : (mid : Slab Block) → ((k : ℕ) → Some k ≢ ends.last → get mid k ≡ get put k) → (k : ℕ) → k ≢ number → ((t : ℕ) → owner_at old k ≢ Some (t, object)) → get mid k ≡ get old k
   attached_elsewhere mid kept k differs foreign =
       kept k (λ e. let whose = queue_owner old ends object ls queue k (queue_last old ends object ls queue k (sym e)) in foreign whose.0 whose.1)
       ∙ stored.others k differs
+
+-- the last block is one of those after the first, if there are such
+later_last : (next previous : Option ℕ → Option ℕ) (owner : ℕ → Option (ℕ × ℕ)) (object : ℕ) (at : Option ℕ) (second : Link) (ls : List Link) (x : ℕ) → IsChain next previous owner object at (second ∷ ls) → previous None ≡ Some x → HasNumber (second ∷ ls) x
+later_last next previous owner object at second ls x chain e = elim (chain_last_in next previous owner object (Some second.number) ls x chain.3 e) [
+  | inl start ↦ inl (same_Some second.number x start)
+  | inr within ↦ inr within
+]
+
+-- one block alone, or none, is the first and the last
+pub ends_same : (blocks : Slab Block) (ends : Ends) (object : ℕ) (ls : List Link) → IsQueue blocks ends object ls → length ls ≤ 1 → ends.first ≡ ends.last
+ends_same blocks ends object [] queue few = queue.chain.0 ∙ sym queue.chain.1
+ends_same blocks ends object (only ∷ []) queue few = queue.chain.0 ∙ sym queue.chain.3.1
+ends_same blocks ends object (first ∷ second ∷ ls) queue few = absurd (omega (arith, few))
+
+-- of two blocks or more the first is not the last
+pub ends_differ : (blocks : Slab Block) (ends : Ends) (object : ℕ) (ls : List Link) → IsQueue blocks ends object ls → 2 ≤ length ls → ends.first ≢ ends.last
+ends_differ blocks ends object [] queue many same = omega (arith, many)
+ends_differ blocks ends object (only ∷ []) queue many same = omega (arith, many)
+ends_differ blocks ends object (first ∷ second ∷ ls) queue many same =
+    queue.distinct.0 (later_last (next_at blocks ends) (previous_at blocks ends) (owner_at blocks) object (Some first.number) second ls first.number queue.chain.3 (sym same ∙ queue.chain.0))

@@ -8,16 +8,24 @@ use Rattle.slab.specs.Slab.{Slab, get, ContainsKey}
 use Rattle.nt_waits.specs.declared.block.Block.{Block}
 use Rattle.nt_waits.specs.declared.block.Ends.{Ends}
 use Rattle.nt_waits.specs.Link.{Link, HasNumber, AreNumbersOnce, first_thread, thread_after}
-use Rattle.nt_waits.specs.Queue.{links, owner_at, next_at, previous_at, next_of, thread_of, IsQueue}
+use Rattle.nt_waits.specs.Queue.{links, links_from, owner_at, next_at, previous_at, next_of, thread_of, IsQueue}
 use Rattle.nt_waits.specs.Sound.{no_ends, ends_at, IsSound}
 use Rattle.nt_waits.proofs.QueueLemmas.{links_queue, queue_kept, queue_owner, queue_present, queue_next, owner_of-thread}
 use Rattle.nt_waits.proofs.ChainLemmas.{same_test, other_test, other_has}
 use Rattle.nt_waits.specs.Chain.{IsChain}
 use Rattle.std.specs.Option.{option_map}
 
+-- between no ends there are no links
+links_none : (blocks : Slab Block) → links blocks no_ends ≡ []
+links_none blocks = go (length blocks.slots)
+  where
+    go : (n : ℕ) → links_from (next_at blocks no_ends) (λ number. thread_of (get blocks number)) n None ≡ []
+    go zero = refl
+    go (suc n) = refl
+
 -- the list of an object in the view is the walk between its ends
 pub list_at-view : (blocks : Slab Block) (ends : List Ends) (object : ℕ) → get_or (map (links blocks) ends) object [] ≡ links blocks (ends_at ends object)
-list_at-view blocks [] object = refl
+list_at-view blocks [] object = sym (links_none blocks)
 list_at-view blocks (e ∷ ends) zero = refl
 list_at-view blocks (e ∷ ends) (suc object) = list_at-view blocks ends object
 

@@ -1,5 +1,5 @@
 -- What the private struct `Queues` shows. No public clause cites this module.
-use Rattle.std.specs.Prelude.{◌≡◌, ℕ, ◌+◌, ◌^◌, ◌<◌, ◌≤◌, List, [], length, slice_index_or}
+use Rattle.std.specs.Prelude.{◌≡◌, ℕ, ◌+◌, ◌≤◌, List, [], slice_index_or}
 use Rattle.nt_waits.specs.Link.{Link, AreNumbersOnce}
 
 -- the links of each object, how many blocks there are and fit, for how many objects there is room, and how many blocks were reached
@@ -39,10 +39,9 @@ pub record GivesRoom (old new : Lists) (count : ℕ) : Type 0 where
 abbrev pub ReachesMore : ℕ → ℕ → ℕ → ℕ → Type 0
 ReachesMore least most old new = (old + least ≤ new) × (new ≤ old + most)
 
--- no number stands twice in a queue, and a queue has fewer than 2 ^ 32 blocks
-pub record AreOrderly (queues : Lists) : Type 0 where
-  pub distinct : (object : ℕ) → AreNumbersOnce (list_at queues object)
-  pub short : (object : ℕ) → length (list_at queues object) < 2 ^ 32
+-- no number stands twice in a queue
+abbrev pub AreOrderly : Lists → Type 0
+AreOrderly queues = (object : ℕ) → AreNumbersOnce (list_at queues object)
 
 -- so many blocks fit with no allocation
 abbrev pub HasRoomFor : Lists → ℕ → Type 0

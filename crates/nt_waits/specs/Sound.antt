@@ -7,7 +7,7 @@ use Rattle.nt_waits.specs.declared.block.Ends.{Ends}
 
 -- the ends of an empty queue
 abbrev pub no_ends : Ends
-no_ends = record { first = None; last = None; count = 0 }
+no_ends = record { first = None; last = None }
 
 -- the ends of an object; those of an empty queue past the last object
 abbrev pub ends_at : List Ends → ℕ → Ends

@@ -1,7 +1,7 @@
 -- What becomes of the queues where one thread's blocks are linked or unlinked. No public clause cites this module.
 use Rattle.std.specs.Prelude.{◌≡◌, ◌≢◌, ℕ, ◌<◌, ◌≤◌, ◌*◌, List, [], ◌∷◌, ◌++◌, length, slice_index}
-use Rattle.nt_waits.specs.Link.{AreNumbersOnce, without}
-use Rattle.nt_waits.specs.Queues.{Lists, list_at, TakesRoom, GivesRoom}
+use Rattle.nt_waits.specs.Link.{without}
+use Rattle.nt_waits.specs.Queues.{Lists, list_at, AreOrderly, TakesRoom, GivesRoom}
 
 -- none of the first `count` objects is this one
 abbrev pub IsOutside : List ℕ → ℕ → ℕ → Type 0
@@ -15,7 +15,7 @@ pub record AreUnlinked (old new : Lists) (objects numbers : List ℕ) (count : �
 -- the first `count` of these blocks have left their queues, and one to three were reached for each
 pub record IsUnlinked (old new : Lists) (objects numbers : List ℕ) (count : ℕ) : Type 0 where
   pub unlinked : AreUnlinked old new objects numbers count
-  pub distinct : (object : ℕ) → AreNumbersOnce (list_at new object)
+  pub distinct : AreOrderly new
   pub gives : GivesRoom old new count
   pub at_least : count ≤ new.touched
   pub at_most : new.touched ≤ 3 * count
@@ -28,6 +28,6 @@ pub record AreLinked (old new : Lists) (thread : ℕ) (objects numbers : List �
 -- the first `count` objects have a block of the thread more, under these numbers, and each number stands once
 pub record IsJoined (old new : Lists) (thread : ℕ) (objects numbers : List ℕ) (count : ℕ) : Type 0 where
   pub linked : AreLinked old new thread objects numbers count
-  pub distinct : (object : ℕ) → AreNumbersOnce (list_at new object)
+  pub distinct : AreOrderly new
   pub takes : TakesRoom old new count
   pub numbered : length numbers ≡ length objects

@@ -5,9 +5,9 @@ use Rattle.std.specs.FinMap as map
 use Rattle.nt_status.specs.declared.limits.TheConstants.{MAX_WAIT_OBJECTS}
 use Rattle.nt_waits.specs.declared.wait.Wait.{Wait}
 use Rattle.nt_waits.specs.declared.pending.Pending.{Pending}
-use Rattle.nt_waits.specs.Link.{Link, AreNumbersOnce}
+use Rattle.nt_waits.specs.Link.{Link}
 use Rattle.nt_waits.specs.declared.room.Room.{Room}
-use Rattle.nt_waits.specs.Queues.{Lists, list_at}
+use Rattle.nt_waits.specs.Queues.{Lists, list_at, AreOrderly}
 use Rattle.nt_waits.specs.Room.{HasRoom}
 use Rattle.std.specs.List.{IsDistinct}
 use Rattle.std.specs.Option.{option_map}
@@ -49,7 +49,7 @@ pub record IsLinked (queues : Lists) (thread : ℕ) (pending : Pending) : Type 0
 pub record IsTable (queues : Lists) (slots : List (Option Pending)) : Type 0 where
   pub linked : (thread : ℕ) (pending : Pending) → slot_at slots thread ≡ Some pending → IsLinked queues thread pending
   pub owned : (object : ℕ) (link : Link) → HasLink (list_at queues object) link → (pending : Pending) × (slot_at slots link.thread ≡ Some pending) × Names pending.wait object
-  pub distinct : (object : ℕ) → AreNumbersOnce (list_at queues object)
+  pub distinct : AreOrderly queues
   pub once : (object : ℕ) → IsDistinct nat_eq (threads (list_at queues object))
   pub small : length slots ≤ 65536
 

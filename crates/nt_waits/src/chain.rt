@@ -1,5 +1,5 @@
 //! The queue of one object: a chain of blocks.
-ghost use Rattle.std.specs.Prelude.{◌≡◌, ◌≢◌, ℕ, ◌+◌, ◌<◌, ◌≤◌, ◌^◌, ◌++◌, ◌∷◌, [], Option, Some, None, vec_len, vec_capacity};
+ghost use Rattle.std.specs.Prelude.{◌≡◌, ◌≢◌, ℕ, ◌+◌, ◌<◌, ◌≤◌, ◌^◌, ◌++◌, ◌∷◌, [], length, Option, Some, None, vec_len, vec_capacity};
 ghost use Rattle.nt_waits.specs.Sound.{ends_at};
 ghost use Rattle.std.specs.Option.{ForSome, option_map};
 ghost use Rattle.slab.specs.Slab.{get, ContainsKey, Updates, slab_len, HasRoomFor};
@@ -54,7 +54,6 @@ fn set_next(
     ensures forward { IsRelinked (next_at blocks.old ends.old) (next_at blocks.new ends.new) at to }
     ensures backward { (x : Option ℕ) → previous_at blocks.new ends.new x ≡ previous_at blocks.old ends.old x }
     ensures blocks { IsRewritten blocks.old blocks.new at }
-    ensures count { ends.new.count ≡ ends.old.count }
     ensures reached { ReachesMore 0 1 touched.old touched.new }
 {
     if at.is_none() {
@@ -77,7 +76,6 @@ fn set_previous(
     ensures backward { IsRelinked (previous_at blocks.old ends.old) (previous_at blocks.new ends.new) at to }
     ensures forward { (x : Option ℕ) → next_at blocks.new ends.new x ≡ next_at blocks.old ends.old x }
     ensures blocks { IsRewritten blocks.old blocks.new at }
-    ensures count { ends.new.count ≡ ends.old.count }
     ensures reached { ReachesMore 0 1 touched.old touched.new }
     ensures thread { result ≡ option_map (λ k. thread_of (get blocks.old k)) at }
 {
@@ -108,9 +106,7 @@ pub fn detach(
 {
     let block = reach(blocks, touched, number, Change::Remove);
     set_next(blocks, ends, touched, block.previous, block.next);
-    let next = set_previous(blocks, ends, touched, block.next, block.previous);
-    ends.count -= 1;
-    next
+    set_previous(blocks, ends, touched, block.next, block.previous)
 }
 
 /// Puts a block for the thread at the end of the queue of the object. Answers its number.
@@ -122,7 +118,6 @@ pub fn attach(
 ) -> BlockNumber
     requires queue { IsQueue blocks.old ends.old object (links blocks.old ends.old) }
     requires room { HasRoomFor blocks.old 1 }
-    requires countable { ends.old.count + 1 < 2 ^ 64 }
     ensures queue { IsQueue blocks.new ends.new object
         (links blocks.old ends.old ++ record { number = result; thread = thread } ∷ []) }
     ensures elsewhere { (k : ℕ) → k ≢ result → ((thread : ℕ) → owner_at blocks.old k ≢ Some (thread, object))
@@ -146,7 +141,6 @@ pub fn attach(
     let last = ends.last;
     set_next(blocks, ends, &mut touched, last, this);
     ends.last = this;
-    ends.count += 1;
     number
 }
 
@@ -162,6 +156,22 @@ pub fn thread_in(blocks: &Slab<Block>, number: OptionalBlock) -> Option<ThreadId
     }
 }
 
+/// How many blocks the queue has.
+pub fn count_blocks(blocks: &Slab<Block>, ends: &Ends) -> usize
+    requires { (object : ℕ) × IsQueue blocks.now ends.now object (links blocks.now ends.now) }
+    ensures { result ≡ length (links blocks.now ends.now) }
+{
+    // No more blocks lie there than fit.
+    let _room = blocks.capacity();
+    let mut count = 0;
+    let mut at = ends.first;
+    while !at.is_none() {
+        count += 1;
+        at = blocks[at.number().get()].next;
+    }
+    count
+}
+
 /// Makes ends, of no blocks, for each object below `count`.
 pub fn add_ends(ends: &mut Vec<Ends>, count: usize)
     requires { count ≤ vec_capacity ends.old }
@@ -173,7 +183,6 @@ pub fn add_ends(ends: &mut Vec<Ends>, count: usize)
         ends.push_reserved(Ends {
             first: OptionalBlock::NONE,
             last: OptionalBlock::NONE,
-            count: 0,
         });
     }
 }

@@ -1,8 +1,8 @@
 //! The queues of all objects, over blocks in a slab.
-ghost use Rattle.std.specs.Prelude.{◌≡◌, ℕ, ◌+◌, ◌<◌, ◌≤◌, ◌^◌, ◌++◌, ◌∷◌, [], length, slice_set, IfOk, OnOk};
+ghost use Rattle.std.specs.Prelude.{◌≡◌, ℕ, ◌+◌, ◌<◌, ◌≤◌, ◌^◌, ◌++◌, ◌∷◌, [], length, nat_lt, slice_set, IfOk, OnOk};
 
 use crate::block::{Block, BlockNumber, Ends};
-use crate::chain::{add_ends, attach, detach, thread_in};
+use crate::chain::{add_ends, attach, count_blocks, detach, thread_in};
 use nt_status::{ObjectNumber, ThreadId};
 use slab::Slab;
 use std::alloc::{AllocError, Global};
@@ -37,8 +37,8 @@ impl Model for Queues {
 }
 
 impl Queues {
-    ghost use Rattle.nt_waits.specs.Link.{HasNumber, AreNumbersOnce, without, first_thread, thread_after};
-    ghost use Rattle.nt_waits.specs.Queues.{Lists, list_at, HasRoomFor, TakesRoom, GivesRoom, ReachesMore};
+    ghost use Rattle.nt_waits.specs.Link.{HasNumber, without, first_thread, thread_after};
+    ghost use Rattle.nt_waits.specs.Queues.{Lists, list_at, AreOrderly, HasRoomFor, TakesRoom, GivesRoom, ReachesMore};
 
     pub fn new(alloc: Global) -> Self
         ensures lists { result.lists ≡ [] }
@@ -77,11 +77,10 @@ impl Queues {
     pub fn link(&mut self, thread: ThreadId, object: ObjectNumber) -> BlockNumber
         requires there { object < length self.old.lists }
         requires room { HasRoomFor self.old 1 }
-        requires countable { length (list_at self.old object) + 1 < 2 ^ 64 }
         ensures lists { self.new.lists ≡ slice_set self.old.lists object
             (list_at self.old object ++ record { number = result; thread = thread } ∷ []) }
         ensures takes { TakesRoom self.old self.new 1 }
-        ensures distinct { (h : ℕ) → AreNumbersOnce (list_at self.new h) }
+        ensures distinct { AreOrderly self.new }
     {
         let at = object.get() as usize;
         attach(&mut self.blocks, &mut self.ends[at], thread, object)
@@ -95,7 +94,7 @@ impl Queues {
         ensures gives { GivesRoom self.old self.new 1 }
         ensures reached { ReachesMore 1 3 self.old.touched self.new.touched }
         ensures next { result ≡ thread_after (list_at self.old object) number }
-        ensures distinct { (h : ℕ) → AreNumbersOnce (list_at self.new h) }
+        ensures distinct { AreOrderly self.new }
     {
         let at = object.get() as usize;
         detach(
@@ -129,8 +128,28 @@ impl Queues {
         ensures { result ≡ length (list_at self.now object) }
     {
         match self.ends.get(object.get() as usize) {
-            Some(ends) => ends.count,
+            Some(ends) => count_blocks(&self.blocks, ends),
             None => 0,
+        }
+    }
+
+    /// Whether the object has a block.
+    pub fn has_some(&self, object: ObjectNumber) -> bool
+        ensures { result ≡ nat_lt 0 (length (list_at self.now object)) }
+    {
+        match self.ends.get(object.get() as usize) {
+            Some(ends) => !ends.first.is_none(),
+            None => false,
+        }
+    }
+
+    /// Whether the object has two blocks or more.
+    pub fn has_two(&self, object: ObjectNumber) -> bool
+        ensures { result ≡ nat_lt 1 (length (list_at self.now object)) }
+    {
+        match self.ends.get(object.get() as usize) {
+            Some(ends) => !ends.first.is(ends.last),
+            None => false,
         }
     }
 

@@ -2,7 +2,7 @@
 ghost use Rattle.std.specs.Prelude.{nat_eq, ◌≡◌, ℕ, ◌+◌, ◌<◌, ◌≤◌, ◌∷◌, [], IsSome, None, Some, OnOk, OnErr, length, slice_index};
 ghost use Rattle.std.specs.List.{IsDistinct};
 ghost use Rattle.std.specs.Option.{option_copied, option_map, ForSome};
-ghost use Rattle.nt_waits.specs.Link.{AreNumbersOnce, thread_after};
+ghost use Rattle.nt_waits.specs.Link.{thread_after};
 ghost use Rattle.nt_waits.specs.Queues.{list_at, HasRoomFor, AreOrderly};
 ghost use Rattle.nt_waits.specs.Slot.{IsFilled, HasLeft};
 ghost use Rattle.nt_waits.specs.Table.{IsLinked};
@@ -108,7 +108,7 @@ fn link(
     requires below { (j : ℕ) → j < length objects.now → slice_index objects.now j < count }
     requires room { HasRoomFor queues.old (length objects.now) }
     requires object_room { count ≤ queues.old.object_room }
-    requires orderly { AreOrderly queues.old }
+    requires numbers { AreOrderly queues.old }
     ensures { IsFilled queues.old queues.new t (wait_for objects.now all about) (Some pending.new) }
 {
     queues.add_objects(count);
@@ -170,7 +170,7 @@ impl Slot {
         requires below { (j : ℕ) → j < length objects.now → slice_index objects.now j < count }
         requires room { HasRoomFor queues.old (length objects.now) }
         requires object_room { count ≤ queues.old.object_room }
-        requires orderly { AreOrderly queues.old }
+        requires numbers { AreOrderly queues.old }
         ensures filled { OnOk result (IsFilled queues.old queues.new t (wait_for objects.now all about) self.new) }
         ensures err { OnErr result ((queues.new ≡ queues.old) × (self.new ≡ None)) }
     {
@@ -194,7 +194,7 @@ impl Slot {
         requires free { self.old ≡ None }
         requires room { HasRoomFor queues.old 1 }
         requires object_room { object + 1 ≤ queues.old.object_room }
-        requires orderly { AreOrderly queues.old }
+        requires numbers { AreOrderly queues.old }
         ensures { IsFilled queues.old queues.new t (wait_for (object ∷ []) all about) self.new }
     {
         self.pending.wait.objects.put_one(object);
@@ -216,7 +216,7 @@ impl Slot {
     pub fn empty(&mut self, queues: &mut Queues)
         requires there { IsSome self.old }
         requires linked { ForSome self.old (λ p. (t : ℕ) × IsLinked queues.old t p) }
-        requires numbers { (h : ℕ) → AreNumbersOnce (list_at queues.old h) }
+        requires numbers { AreOrderly queues.old }
         requires countable { queues.old.touched ≡ 0 }
         ensures empty { self.new ≡ None }
         ensures unlinked { ForSome self.old (HasLeft queues.old queues.new) }
@@ -235,7 +235,7 @@ impl Slot {
         requires there { IsSome self.old }
         requires one { ForSome self.old (λ p. p.wait.objects ≡ object ∷ []) }
         requires linked { ForSome self.old (λ p. (t : ℕ) × IsLinked queues.old t p) }
-        requires numbers { (h : ℕ) → AreNumbersOnce (list_at queues.old h) }
+        requires numbers { AreOrderly queues.old }
         requires countable { queues.old.touched ≡ 0 }
         ensures empty { self.new ≡ None }
         ensures unlinked { ForSome self.old (HasLeft queues.old queues.new) }
@@ -252,7 +252,7 @@ impl Slot {
     pub fn take(&mut self, queues: &mut Queues) -> Wait
         requires there { IsSome self.old }
         requires linked { ForSome self.old (λ p. (t : ℕ) × IsLinked queues.old t p) }
-        requires numbers { (h : ℕ) → AreNumbersOnce (list_at queues.old h) }
+        requires numbers { AreOrderly queues.old }
         requires countable { queues.old.touched ≡ 0 }
         ensures wait { option_map (λ p. p.wait) self.old ≡ Some result }
         ensures empty { self.new ≡ None }

@@ -1,5 +1,5 @@
 //! The pending waits of all threads.
-ghost use Rattle.std.specs.Prelude.{nat_eq, ◌≡◌, ℕ, ◌+◌, ◌-◌, ◌<◌, ◌≤◌, ◌*◌, ◌^◌, ◌∷◌, [], length, slice_get, IsSome, Some, None, IfOk, OnOk, OnErr, IfErr, MatchOption, Contains};
+ghost use Rattle.std.specs.Prelude.{nat_eq, ◌≡◌, ℕ, ◌+◌, ◌-◌, ◌<◌, ◌≤◌, ◌*◌, ◌^◌, ◌∷◌, [], length, nat_lt, slice_get, IsSome, Some, None, IfOk, OnOk, OnErr, IfErr, MatchOption, Contains};
 ghost use Rattle.std.specs.List.{IsDistinct};
 ghost use Rattle.std.specs.FinMap as map;
 ghost use Rattle.std.specs.Option.{option_copied, option_map, ForSome};
@@ -21,8 +21,8 @@ use std::marker::Model;
 ///
 /// A wait stands in the queue of each object that it names, with a block of its own there. To begin
 /// or end a wait on n objects takes n steps, whatever else is pending, and with a deadline some more,
-/// in the logarithm of the number of threads. `next_on` takes at most n, and every other call but
-/// `copy` a few. Only `begin`, `add_object` and `copy` take memory: `begin_one` has its room.
+/// in the logarithm of the number of threads. `next_on` takes at most n, `blocks_on` as many as threads
+/// wait on the object, and every other call but `copy` a few. Only `begin`, `add_object` and `copy` take memory: `begin_one` has its room.
 #[derive(Drop)]
 pub struct WaitTable {
     queues: Queues,
@@ -340,13 +340,20 @@ impl WaitTable {
         ensures { result ≡ next_after t (queue_of self.now object) }
     {
         // Mostly one thread waits on it, and then its place among the objects of its wait need not be found.
-        if self.queues.count(object) == 1 {
+        if !self.queues.has_two(object) {
             return None;
         }
         next_in(&self.queues, &self.waits, object, t)
     }
 
-    /// How many threads wait on the object.
+    /// Whether a thread waits on the object.
+    pub fn is_awaited(&self, object: ObjectNumber) -> bool
+        ensures { result ≡ nat_lt 0 (length (queue_of self.now object)) }
+    {
+        self.queues.has_some(object)
+    }
+
+    /// How many threads wait on the object. `is_awaited` counts none of them.
     pub fn blocks_on(&self, object: ObjectNumber) -> usize
         ensures count { result ≡ length (queue_of self.now object) }
         ensures agrees { Agrees self.now.pending self.now.queues }

@@ -1,7 +1,7 @@
 use Rattle.std.proofs.Common.{None, [], ◌∷◌, ◌∙◌, arith, length-set}
 use Rattle.std.proofs.lemmas.List.{get_or_read}
 use Rattle.nt_waits.specs.Waits.{wait_for}
-use Rattle.nt_waits.proofs.BeginLemmas.{orderly, one_once}
+use Rattle.nt_waits.proofs.BeginLemmas.{one_once}
 use Rattle.nt_waits.proofs.BegunLemmas.{filled_begun}
 use Rattle.nt_waits.proofs.begin.begin_ready.Goals as goal
 
@@ -9,9 +9,6 @@ use Rattle.nt_waits.proofs.begin.begin_ready.Goals as goal
 pub fill_one-requires-clause-free : goal.fill_one-requires-clause-free
 fill_one-requires-clause-free c =
     get_or_read c.args.waits.now.items c.args.t c.index_mut.result.now c.requires.place (rw c.get.ensures at c.index_mut.ensures.value) None ∙ c.requires.free
-
-pub fill_one-requires-clause-orderly : goal.fill_one-requires-clause-orderly
-fill_one-requires-clause-orderly c = orderly c.args.queues.now c.args.waits.now.items c.requires.table
 
 pub returns-clause-begun : goal.returns-clause-begun
 returns-clause-begun c =

@@ -2,7 +2,7 @@ use Rattle.std.proofs.Common.{◌≡◌, ◌≤◌, None, length, set, refl, ◌
 use Rattle.std.proofs.lemmas.List.{get_or_read}
 use Rattle.nt_waits.specs.Table.{IsTable}
 use Rattle.nt_waits.specs.Waits.{wait_for}
-use Rattle.nt_waits.proofs.BeginLemmas.{orderly, table_same}
+use Rattle.nt_waits.proofs.BeginLemmas.{table_same}
 use Rattle.nt_waits.proofs.BegunLemmas.{begun_before, filled_begun, set_empty, on_err}
 use Rattle.nt_waits.proofs.begin.begin_wait.Goals as goal
 use Rattle.nt_waits.proofs.begin.begin_wait.Goals.{After-make_room, After-index_mut}
@@ -22,8 +22,8 @@ free c =
 pub fill-requires-clause-free : goal.fill-requires-clause-free
 fill-requires-clause-free c = free (goal.at.fill-requires-clause-free c).After-index_mut
 
-pub fill-requires-clause-orderly : goal.fill-requires-clause-orderly
-fill-requires-clause-orderly c = orderly c.make_room.new.queues c.make_room.new.waits.items (roomy (goal.at.fill-requires-clause-orderly c).After-make_room)
+pub fill-requires-clause-numbers : goal.fill-requires-clause-numbers
+fill-requires-clause-numbers c = (roomy (goal.at.fill-requires-clause-numbers c).After-make_room).distinct
 
 pub returns-in_err-make_room-clause-err : goal.returns-in_err-make_room-clause-err
 returns-in_err-make_room-clause-err c =

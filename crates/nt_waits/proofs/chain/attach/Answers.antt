@@ -1,5 +1,5 @@
 -- The queue before the call is `links` of the blocks and the ends.
-use Rattle.std.proofs.Common.{arith, refl, ◌+◌, ◌∙◌}
+use Rattle.std.proofs.Common.{refl, ◌∙◌}
 use Rattle.nt_waits.proofs.QueueLemmas.{last_there, queue_attached, attached_elsewhere}
 use Rattle.nt_waits.proofs.chain.attach.Goals as goal
 
@@ -12,9 +12,9 @@ returns-clause-queue c =
     let same = c.new-number.ensures in
     let mid = c.set_next.new.ends in
     queue_attached c.args.blocks.now c.insert_reserved-key.new.self c.args.ends.now c.args.object c.args.thread _ c.new-number.result c.requires.queue (rw same c.insert_reserved-key.ensures.was_vacant) (rw same c.insert_reserved-key.ensures.updates)
-    c.set_next.new.blocks mid (record { first = mid.first; last = c.some-this.result; count = mid.count + 1 })
+    c.set_next.new.blocks mid (record { first = mid.first; last = c.some-this.result })
     (c.set_next.ensures.forward.written ∙ c.some-this.ensures) c.set_next.ensures.forward.others c.set_next.ensures.backward c.set_next.ensures.blocks.owners
-    refl c.some-this.ensures (omega (arith, c.set_next.ensures.count))
+    refl c.some-this.ensures
 
 pub returns-clause-elsewhere : goal.returns-clause-elsewhere
 returns-clause-elsewhere c =

@@ -6,13 +6,6 @@ pub attach-requires-clause-queue : goal.attach-requires-clause-queue
 attach-requires-clause-queue c =
     queue_here c.self.inside.blocks c.self.inside.ends.items c.args.self.now.lists c.args.object c.get-at.result c.index_mut.result.now (ap (λ v. v.lists) c.self.view_is) c.self.invariant c.get-at.ensures c.requires.there c.index_mut.ensures.value
 
-pub attach-requires-clause-countable : goal.attach-requires-clause-countable
-attach-requires-clause-countable c =
-    let view = ap (λ v. v.lists) c.self.view_is in
-    let here = list_here c.self.inside.blocks c.self.inside.ends.items c.args.self.now.lists c.args.object c.get-at.result c.index_mut.result.now view c.self.invariant c.get-at.ensures c.requires.there c.index_mut.ensures.value in
-    let queue = queue_here c.self.inside.blocks c.self.inside.ends.items c.args.self.now.lists c.args.object c.get-at.result c.index_mut.result.now view c.self.invariant c.get-at.ensures c.requires.there c.index_mut.ensures.value in
-    rw (← queue.counted, here) c.requires.countable
-
 pub invariant_of-self : goal.invariant_of-self
 invariant_of-self c =
     sound_after c.self.inside.blocks c.self.inside.ends.items c.args.self.now.lists c.args.object c.get-at.result c.index_mut.result.now (ap (λ v. v.lists) c.self.view_is) c.self.invariant c.get-at.ensures c.requires.there c.index_mut.ensures.value
