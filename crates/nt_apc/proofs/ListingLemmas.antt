@@ -7,7 +7,7 @@ use Rattle.std.proofs.lemmas.Option.{slice_get_within}
 use Rattle.nt_apc.specs.declared.place.Place.{Place}
 use Rattle.nt_apc.specs.Queues.{has_from, given_up}
 use Rattle.nt_apc.specs.Inbox.{Contents, GivesUp}
-use Rattle.nt_apc.specs.Place.{inbox_at, timer_at, place_at, thread_of, index_at, IsSound, reindexed, moved_to, vacated, all_vacated}
+use Rattle.nt_apc.specs.Place.{inbox_at, timer_at, place_at, thread_of, index_at, AreApcsSound, reindexed, moved_to, vacated, all_vacated}
 use Rattle.nt_apc.proofs.SoundLemmas.{timer_known, place_of_thread, some_same, inbox_set_at, inbox_set_other}
 
 abbrev pub place_with : ℕ → ℕ → Bool → Place
@@ -41,12 +41,12 @@ vacated_other places m k other = get_or-set_other places m k None None other
 
 -- the inboxes once t's timer has given up its place
 pub sound_unlisted : (inboxes : List Contents) (places places' : List (Option Place)) (t timer index : ℕ) (inbox : Contents) →
-    IsSound inboxes places → index_at t (place_at places timer) ≡ Some index → has_from timer (inbox_at inboxes t).queue ≡ false →
+    AreApcsSound inboxes places → index_at t (place_at places timer) ≡ Some index → has_from timer (inbox_at inboxes t).queue ≡ false →
     inbox.queue ≡ (inbox_at inboxes t).queue → GivesUp (inbox_at inboxes t).timers inbox.timers index →
     place_at places' timer ≡ None →
     ((m : ℕ) → m ≢ timer → slice_get inbox.timers index ≡ Some m → place_at places' m ≡ reindexed index (place_at places m)) →
     ((m : ℕ) → m ≢ timer → slice_get inbox.timers index ≢ Some m → place_at places' m ≡ place_at places m) →
-    IsSound (slice_set inboxes t inbox) places'
+    AreApcsSound (slice_set inboxes t inbox) places'
 sound_unlisted inboxes places places' t timer index inbox sound at none queue gives gone moved others = record {
   at_place = λ u m has.
       let before : has_from m (inbox_at inboxes u).queue ≡ true = ap (has_from m) (sym (queue_same u)) ∙ has in
@@ -170,11 +170,11 @@ sound_unlisted inboxes places places' t timer index inbox sound at none queue gi
 
 -- the inboxes once t's has one more timer
 pub sound_listed : (inboxes : List Contents) (places places' : List (Option Place)) (t timer : ℕ) (inbox : Contents) →
-    IsSound inboxes places → t < length inboxes → place_at places timer ≡ None →
+    AreApcsSound inboxes places → t < length inboxes → place_at places timer ≡ None →
     inbox.queue ≡ (inbox_at inboxes t).queue → inbox.timers ≡ (inbox_at inboxes t).timers ++ timer ∷ [] →
     place_at places' timer ≡ Some (place_with t (length (inbox_at inboxes t).timers) false) →
     ((m : ℕ) → m ≢ timer → place_at places' m ≡ place_at places m) →
-    IsSound (slice_set inboxes t inbox) places'
+    AreApcsSound (slice_set inboxes t inbox) places'
 sound_listed inboxes places places' t timer inbox sound in_range none queue timers here others = record {
   at_place = λ u m has.
       let before : has_from m (inbox_at inboxes u).queue ≡ true = ap (has_from m) (sym (queue_same u)) ∙ has in
@@ -248,10 +248,10 @@ sound_listed inboxes places places' t timer inbox sound in_range none queue time
 
 -- the inboxes once t's is empty
 pub sound_cleared : (inboxes : List Contents) (places places' : List (Option Place)) (t : ℕ) (inbox : Contents) →
-    IsSound inboxes places → t < length inboxes → inbox.queue ≡ [] → inbox.timers ≡ [] →
+    AreApcsSound inboxes places → t < length inboxes → inbox.queue ≡ [] → inbox.timers ≡ [] →
     ((m : ℕ) → thread_of (place_at places m) ≡ Some t → place_at places' m ≡ None) →
     ((m : ℕ) → thread_of (place_at places m) ≢ Some t → place_at places' m ≡ place_at places m) →
-    IsSound (slice_set inboxes t inbox) places'
+    AreApcsSound (slice_set inboxes t inbox) places'
 sound_cleared inboxes places places' t inbox sound in_range queue timers gone others = record {
   at_place = λ u m has. elim (cases_eq u t) [
     | inl same ↦ absurd (let no : has_from m (inbox_at (slice_set inboxes t inbox) u).queue ≡ false = ap (has_from m) (ap (λ (held : Contents). held.queue) (inbox_set_at inboxes t u inbox in_range same) ∙ queue) in cc)
@@ -299,7 +299,7 @@ all_vacated_other places (timer ∷ timers) m not =
     all_vacated_other (vacated places timer) timers m (λ k. not (suc k)) ∙ vacated_other places timer m (λ e. not 0 (ap Some (sym e)))
 
 -- where an inbox names a timer
-pub index_known : (inboxes : List Contents) (places : List (Option Place)) → IsSound inboxes places → (t timer index : ℕ) → index_at t (place_at places timer) ≡ Some index →
+pub index_known : (inboxes : List Contents) (places : List (Option Place)) → AreApcsSound inboxes places → (t timer index : ℕ) → index_at t (place_at places timer) ≡ Some index →
     (t < length inboxes) × (index < length (inbox_at inboxes t).timers)
 index_known inboxes places sound t timer index at =
     let found : (place : Place) × (place_at places timer ≡ Some place) × (place.thread ≡ t) × (place.index ≡ index) = index_at-is t index (place_at places timer) at in
@@ -320,9 +320,9 @@ moved_to_other places m index k other = get_or-set_other places m k (reindexed i
 
 -- t's timer gives up its place, and the last timer is moved
 pub sound_unlisted_moved : (inboxes : List Contents) (places : List (Option Place)) (t timer index moved : ℕ) (inbox : Contents) →
-    IsSound inboxes places → index_at t (place_at places timer) ≡ Some index → has_from timer (inbox_at inboxes t).queue ≡ false →
+    AreApcsSound inboxes places → index_at t (place_at places timer) ≡ Some index → has_from timer (inbox_at inboxes t).queue ≡ false →
     inbox.queue ≡ (inbox_at inboxes t).queue → GivesUp (inbox_at inboxes t).timers inbox.timers index → Some moved ≡ slice_get inbox.timers index →
-    IsSound (slice_set inboxes t inbox) (moved_to (vacated places timer) moved index)
+    AreApcsSound (slice_set inboxes t inbox) (moved_to (vacated places timer) moved index)
 sound_unlisted_moved inboxes places t timer index moved inbox sound at none queue gives took =
     sound_unlisted inboxes places (moved_to (vacated places timer) moved index) t timer index inbox sound at none queue gives
     (elim (cases_eq timer moved) [
@@ -338,9 +338,9 @@ sound_unlisted_moved inboxes places t timer index moved inbox sound at none queu
 
 -- t's timer gives up its place, and was the last
 pub sound_unlisted_last : (inboxes : List Contents) (places : List (Option Place)) (t timer index : ℕ) (inbox : Contents) →
-    IsSound inboxes places → index_at t (place_at places timer) ≡ Some index → has_from timer (inbox_at inboxes t).queue ≡ false →
+    AreApcsSound inboxes places → index_at t (place_at places timer) ≡ Some index → has_from timer (inbox_at inboxes t).queue ≡ false →
     inbox.queue ≡ (inbox_at inboxes t).queue → GivesUp (inbox_at inboxes t).timers inbox.timers index → None ≡ slice_get inbox.timers index →
-    IsSound (slice_set inboxes t inbox) (vacated places timer)
+    AreApcsSound (slice_set inboxes t inbox) (vacated places timer)
 sound_unlisted_last inboxes places t timer index inbox sound at none queue gives last =
     sound_unlisted inboxes places (vacated places timer) t timer index inbox sound at none queue gives
     (vacated_same places timer)
@@ -349,14 +349,14 @@ sound_unlisted_last inboxes places t timer index inbox sound at none queue gives
 
 -- ---- the places of t's timers are taken away
 
-pub cleared_gone : (inboxes : List Contents) (places : List (Option Place)) → IsSound inboxes places → (t m : ℕ) →
+pub cleared_gone : (inboxes : List Contents) (places : List (Option Place)) → AreApcsSound inboxes places → (t m : ℕ) →
     thread_of (place_at places m) ≡ Some t → place_at (all_vacated places (inbox_at inboxes t).timers) m ≡ None
 cleared_gone inboxes places sound t m at =
     let found : (place : Place) × (place_at places m ≡ Some place) × (place.thread ≡ t) = place_of_thread (place_at places m) t at in
     all_vacated_gone places (inbox_at inboxes t).timers found.0.index m
     (ap (λ u. timer_at inboxes u found.0.index) (sym found.2) ∙ sound.to_timer m found.0 found.1)
 
-pub cleared_other : (inboxes : List Contents) (places : List (Option Place)) → IsSound inboxes places → (t m : ℕ) →
+pub cleared_other : (inboxes : List Contents) (places : List (Option Place)) → AreApcsSound inboxes places → (t m : ℕ) →
     thread_of (place_at places m) ≢ Some t → place_at (all_vacated places (inbox_at inboxes t).timers) m ≡ place_at places m
 cleared_other inboxes places sound t m elsewhere =
     all_vacated_other places (inbox_at inboxes t).timers m (λ k is. elsewhere (ap thread_of (sound.to_place t k m is)))
@@ -369,7 +369,7 @@ given_up-elsewhere : (t : ℕ) (o : Option ℕ) → o ≢ Some t → given_up t 
 given_up-elsewhere t None other = refl
 given_up-elsewhere t (Some thread) other = rw (ne_eqb thread t (λ e. other (ap Some e))) refl
 
-pub cleared_threads : (inboxes : List Contents) (places : List (Option Place)) → IsSound inboxes places → (t m : ℕ) →
+pub cleared_threads : (inboxes : List Contents) (places : List (Option Place)) → AreApcsSound inboxes places → (t m : ℕ) →
     thread_of (place_at (all_vacated places (inbox_at inboxes t).timers) m) ≡ given_up t (thread_of (place_at places m))
 cleared_threads inboxes places sound t m = elim (cases_some (thread_of (place_at places m)) t) [
   | inl here ↦ ap thread_of (cleared_gone inboxes places sound t m here) ∙ sym (given_up-at t (thread_of (place_at places m)) here)

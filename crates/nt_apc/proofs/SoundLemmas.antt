@@ -12,7 +12,7 @@ use Rattle.nt_apc.specs.declared.apc.Queued.{Queued}
 use Rattle.nt_apc.specs.declared.place.Place.{Place}
 use Rattle.nt_apc.specs.Queues.{is_from, has_from, count_from, without_from, oldest, without_oldest}
 use Rattle.nt_apc.specs.Inbox.{Contents, timed_count}
-use Rattle.nt_apc.specs.Place.{inbox_at, timer_at, place_at, thread_of, IsSound, flagged, stands_at, marked}
+use Rattle.nt_apc.specs.Place.{inbox_at, timer_at, place_at, thread_of, AreApcsSound, flagged, stands_at, marked}
 use Rattle.nt_apc.proofs.QueueLemmas.{timed_count-le, has_from-push, count_from-push, is_from-same, is_from-other, has_from-without_from, has_from-without_from_other, count_from-without_from, has_from-oldest, count_from-oldest}
 use Rattle.nt_apc.proofs.ListLemmas.{one_if, count_by-none, list_any-from_count}
 
@@ -32,7 +32,7 @@ flag_of : (place place' : Place) → Some place ≡ Some place' → place.queued
 flag_of place place' e = let same : place ≡ place' = cc in ap (λ (p : Place). p.queued) same
 
 -- a place has the index and the flag that its inbox says
-pub place_whole : (inboxes : List Contents) (places : List (Option Place)) → IsSound inboxes places → (m : ℕ) (place : Place) → place_at places m ≡ Some place →
+pub place_whole : (inboxes : List Contents) (places : List (Option Place)) → AreApcsSound inboxes places → (m : ℕ) (place : Place) → place_at places m ≡ Some place →
     place_at places m ≡ Some (record { thread = place.thread; index = place.index; queued = has_from m (inbox_at inboxes place.thread).queue })
 place_whole inboxes places sound m place is = sound.to_place place.thread place.index m (sound.to_timer m place is)
 
@@ -50,7 +50,7 @@ pub place_of_thread : (o : Option Place) (t : ℕ) → thread_of o ≡ Some t �
 place_of_thread None t is = absurd (cc)
 place_of_thread (Some place) t is = (place, refl, (cc))
 
-pub place_known : (inboxes : List Contents) (places : List (Option Place)) → IsSound inboxes places → (m t : ℕ) → thread_of (place_at places m) ≡ Some t → t < length inboxes
+pub place_known : (inboxes : List Contents) (places : List (Option Place)) → AreApcsSound inboxes places → (m t : ℕ) → thread_of (place_at places m) ≡ Some t → t < length inboxes
 place_known inboxes places sound m t is =
     let found : (place : Place) × (place_at places m ≡ Some place) × (place.thread ≡ t) = place_of_thread (place_at places m) t is in
     subst (λ (u : ℕ). u < length inboxes) found.2 (timer_known inboxes found.0.thread found.0.index m (sound.to_timer m found.0 found.1))
@@ -67,7 +67,7 @@ pub record IsRequeued (inboxes : List Contents) (places places' : List (Option P
   pub nowhere : (m : ℕ) → place_at places m ≡ None → place_at places' m ≡ None
 
 pub sound_requeued : (inboxes : List Contents) (places places' : List (Option Place)) (t : ℕ) (inbox : Contents) →
-    IsSound inboxes places → IsRequeued inboxes places places' t inbox → IsSound (slice_set inboxes t inbox) places'
+    AreApcsSound inboxes places → IsRequeued inboxes places places' t inbox → AreApcsSound (slice_set inboxes t inbox) places'
 sound_requeued inboxes places places' t inbox sound requeued = record {
   at_place = λ u m has. elim (cases_eq u t) [
     | inl same ↦ thread_same m ∙ requeued.at_place m (rw (same, here) at has) ∙ ap Some (sym same)
@@ -136,12 +136,12 @@ place_below places m place is = elim (cases_lt m (length places)) [
 
 -- the APC of one timer is queued in t's queue, or leaves it
 pub sound_marked : (inboxes : List Contents) (places : List (Option Place)) (t timer : ℕ) (inbox : Contents) (queued : Bool) →
-    IsSound inboxes places → thread_of (place_at places timer) ≡ Some t →
+    AreApcsSound inboxes places → thread_of (place_at places timer) ≡ Some t →
     inbox.timers ≡ (inbox_at inboxes t).timers →
     ((m : ℕ) → m ≢ timer → has_from m inbox.queue ≡ has_from m (inbox_at inboxes t).queue) →
     has_from timer inbox.queue ≡ queued →
     ((m : ℕ) → count_from m inbox.queue ≤ 1) →
-    IsSound (slice_set inboxes t inbox) (marked places timer queued)
+    AreApcsSound (slice_set inboxes t inbox) (marked places timer queued)
 sound_marked inboxes places t timer inbox queued sound placed timers others flag once =
     sound_requeued inboxes places (marked places timer queued) t inbox sound (record {
       in_range = place_known inboxes places sound timer t placed;
@@ -178,11 +178,11 @@ sound_marked inboxes places t timer inbox queued sound placed timers others flag
 
 -- the queue changes by an APC that is no timer's
 pub sound_kept : (inboxes : List Contents) (places : List (Option Place)) (t : ℕ) (inbox : Contents) →
-    IsSound inboxes places → t < length inboxes →
+    AreApcsSound inboxes places → t < length inboxes →
     inbox.timers ≡ (inbox_at inboxes t).timers →
     ((m : ℕ) → has_from m inbox.queue ≡ has_from m (inbox_at inboxes t).queue) →
     ((m : ℕ) → count_from m inbox.queue ≤ 1) →
-    IsSound (slice_set inboxes t inbox) places
+    AreApcsSound (slice_set inboxes t inbox) places
 sound_kept inboxes places t inbox sound below timers all once =
     sound_requeued inboxes places places t inbox sound (record {
       in_range = below;
@@ -203,7 +203,7 @@ pub sound_same : (inboxes inboxes' : List Contents) (places places' : List (Opti
     ((t : ℕ) → (inbox_at inboxes' t).queue ≡ (inbox_at inboxes t).queue) →
     ((t : ℕ) → (inbox_at inboxes' t).timers ≡ (inbox_at inboxes t).timers) →
     ((m : ℕ) → place_at places' m ≡ place_at places m) →
-    IsSound inboxes places → IsSound inboxes' places'
+    AreApcsSound inboxes places → AreApcsSound inboxes' places'
 sound_same inboxes inboxes' places places' queues timers same sound = record {
   at_place = λ t m has. ap thread_of (same m) ∙ sound.at_place t m (rw (queues t) at has);
   once = λ t m. rw (queues t) (sound.once t m);
@@ -217,7 +217,7 @@ sound_same inboxes inboxes' places places' queues timers same sound = record {
     place_with t k b = record { thread = t; index = k; queued = b }
 
 -- a flag says whether the APC stands in the queue
-pub stands_at-is : (inboxes : List Contents) (places : List (Option Place)) → IsSound inboxes places → (t m : ℕ) →
+pub stands_at-is : (inboxes : List Contents) (places : List (Option Place)) → AreApcsSound inboxes places → (t m : ℕ) →
     stands_at t (place_at places m) ≡ has_from m (inbox_at inboxes t).queue
 stands_at-is inboxes places sound t m = cases (place_at places m) refl
   where
@@ -245,17 +245,17 @@ or-true : (b : Bool) → (b || true) ≡ true
 or-true true = refl
 or-true false = refl
 
-with_room_sound : (inboxes : List Contents) (places : List (Option Place)) (t : ℕ) (inbox : Contents) → IsSound inboxes places → t < length inboxes →
-    inbox.queue ≡ (inbox_at inboxes t).queue → inbox.timers ≡ (inbox_at inboxes t).timers → IsSound (slice_set inboxes t inbox) places
+with_room_sound : (inboxes : List Contents) (places : List (Option Place)) (t : ℕ) (inbox : Contents) → AreApcsSound inboxes places → t < length inboxes →
+    inbox.queue ≡ (inbox_at inboxes t).queue → inbox.timers ≡ (inbox_at inboxes t).timers → AreApcsSound (slice_set inboxes t inbox) places
 with_room_sound inboxes places t inbox sound below queue timers =
     sound_kept inboxes places t inbox sound below timers (λ m. ap (has_from m) queue) (λ m. rw queue (sound.once t m))
 
-pub room_sound : (inboxes : List Contents) (places : List (Option Place)) (t : ℕ) (inbox : Contents) → IsSound inboxes places → t < length inboxes →
-    inbox.queue ≡ (inbox_at inboxes t).queue → inbox.timers ≡ (inbox_at inboxes t).timers → IsSound (slice_set inboxes t inbox) places
+pub room_sound : (inboxes : List Contents) (places : List (Option Place)) (t : ℕ) (inbox : Contents) → AreApcsSound inboxes places → t < length inboxes →
+    inbox.queue ≡ (inbox_at inboxes t).queue → inbox.timers ≡ (inbox_at inboxes t).timers → AreApcsSound (slice_set inboxes t inbox) places
 room_sound = with_room_sound
 
-pub push_sound : (inboxes : List Contents) (places : List (Option Place)) (t : ℕ) (inbox : Contents) (q : Queued) → q.timer ≡ None → IsSound inboxes places → t < length inboxes →
-    inbox.queue ≡ (inbox_at inboxes t).queue ++ q ∷ [] → inbox.timers ≡ (inbox_at inboxes t).timers → IsSound (slice_set inboxes t inbox) places
+pub push_sound : (inboxes : List Contents) (places : List (Option Place)) (t : ℕ) (inbox : Contents) (q : Queued) → q.timer ≡ None → AreApcsSound inboxes places → t < length inboxes →
+    inbox.queue ≡ (inbox_at inboxes t).queue ++ q ∷ [] → inbox.timers ≡ (inbox_at inboxes t).timers → AreApcsSound (slice_set inboxes t inbox) places
 push_sound inboxes places t inbox q plain sound below queue timers =
     sound_kept inboxes places t inbox sound below timers
     (λ m. ap (has_from m) queue ∙ has_from-push m (inbox_at inboxes t).queue q ∙ rw plain (or-false (has_from m (inbox_at inboxes t).queue)))
@@ -265,9 +265,9 @@ push_sound inboxes places t inbox q plain sound below queue timers =
     let before : count_from m (inbox_at inboxes t).queue ≤ 1 = sound.once t m in
     omega arith)
 
-pub push_promised_sound : (inboxes : List Contents) (places : List (Option Place)) (t timer : ℕ) (inbox : Contents) (q : Queued) → q.timer ≡ Some timer → IsSound inboxes places →
+pub push_promised_sound : (inboxes : List Contents) (places : List (Option Place)) (t timer : ℕ) (inbox : Contents) (q : Queued) → q.timer ≡ Some timer → AreApcsSound inboxes places →
     thread_of (place_at places timer) ≡ Some t → has_from timer (inbox_at inboxes t).queue ≡ false →
-    inbox.queue ≡ (inbox_at inboxes t).queue ++ q ∷ [] → inbox.timers ≡ (inbox_at inboxes t).timers → IsSound (slice_set inboxes t inbox) (marked places timer true)
+    inbox.queue ≡ (inbox_at inboxes t).queue ++ q ∷ [] → inbox.timers ≡ (inbox_at inboxes t).timers → AreApcsSound (slice_set inboxes t inbox) (marked places timer true)
 push_promised_sound inboxes places t timer inbox q timed sound placed none queue timers =
     sound_marked inboxes places t timer inbox true sound placed timers
     (λ m other. ap (has_from m) queue ∙ has_from-push m (inbox_at inboxes t).queue q ∙ rw (timed, is_from-other m timer other) (or-false (has_from m (inbox_at inboxes t).queue)))
@@ -285,9 +285,9 @@ push_promised_sound inboxes places t timer inbox q timed sound placed none queue
           omega arith
     ])
 
-pub withdraw_sound : (inboxes : List Contents) (places : List (Option Place)) (t timer : ℕ) (inbox : Contents) → IsSound inboxes places →
+pub withdraw_sound : (inboxes : List Contents) (places : List (Option Place)) (t timer : ℕ) (inbox : Contents) → AreApcsSound inboxes places →
     thread_of (place_at places timer) ≡ Some t →
-    inbox.queue ≡ without_from timer (inbox_at inboxes t).queue → inbox.timers ≡ (inbox_at inboxes t).timers → IsSound (slice_set inboxes t inbox) (marked places timer false)
+    inbox.queue ≡ without_from timer (inbox_at inboxes t).queue → inbox.timers ≡ (inbox_at inboxes t).timers → AreApcsSound (slice_set inboxes t inbox) (marked places timer false)
 withdraw_sound inboxes places t timer inbox sound placed queue timers =
     sound_marked inboxes places t timer inbox false sound placed timers
     (λ m other. ap (has_from m) queue ∙ has_from-without_from_other m timer (inbox_at inboxes t).queue other)
@@ -297,9 +297,9 @@ withdraw_sound inboxes places t timer inbox sound placed queue timers =
     let before : count_from m (inbox_at inboxes t).queue ≤ 1 = sound.once t m in
     rw queue (omega arith))
 
-pub next_timed_sound : (inboxes : List Contents) (places : List (Option Place)) (t timer : ℕ) (inbox : Contents) (q : Queued) → q.timer ≡ Some timer → IsSound inboxes places →
+pub next_timed_sound : (inboxes : List Contents) (places : List (Option Place)) (t timer : ℕ) (inbox : Contents) (q : Queued) → q.timer ≡ Some timer → AreApcsSound inboxes places →
     oldest (inbox_at inboxes t).queue ≡ Some q →
-    inbox.queue ≡ without_oldest (inbox_at inboxes t).queue → inbox.timers ≡ (inbox_at inboxes t).timers → IsSound (slice_set inboxes t inbox) (marked places timer false)
+    inbox.queue ≡ without_oldest (inbox_at inboxes t).queue → inbox.timers ≡ (inbox_at inboxes t).timers → AreApcsSound (slice_set inboxes t inbox) (marked places timer false)
 next_timed_sound inboxes places t timer inbox q timed sound first queue timers =
     let here : is_from timer q.timer ≡ true = rw timed (is_from-same timer) in
     let has : has_from timer (inbox_at inboxes t).queue ≡ true = has_from-oldest timer (inbox_at inboxes t).queue q first ∙ rw here refl in
@@ -312,16 +312,16 @@ next_timed_sound inboxes places t timer inbox q timed sound first queue timers =
     omega arith))
     (λ m. next_once inboxes places t inbox q sound first queue m)
   where
-    next_once : (inboxes : List Contents) (places : List (Option Place)) (t : ℕ) (inbox : Contents) (q : Queued) → IsSound inboxes places →
+    next_once : (inboxes : List Contents) (places : List (Option Place)) (t : ℕ) (inbox : Contents) (q : Queued) → AreApcsSound inboxes places →
         oldest (inbox_at inboxes t).queue ≡ Some q → inbox.queue ≡ without_oldest (inbox_at inboxes t).queue → (m : ℕ) → count_from m inbox.queue ≤ 1
     next_once inboxes places t inbox q sound first queue m =
         let whole : count_from m (inbox_at inboxes t).queue ≡ one_if (is_from m q.timer) + count_from m (without_oldest (inbox_at inboxes t).queue) = count_from-oldest m (inbox_at inboxes t).queue q first in
         let once : count_from m (inbox_at inboxes t).queue ≤ 1 = sound.once t m in
         rw queue (omega arith)
 
-pub next_plain_sound : (inboxes : List Contents) (places : List (Option Place)) (t : ℕ) (inbox : Contents) (q : Queued) → q.timer ≡ None → IsSound inboxes places → t < length inboxes →
+pub next_plain_sound : (inboxes : List Contents) (places : List (Option Place)) (t : ℕ) (inbox : Contents) (q : Queued) → q.timer ≡ None → AreApcsSound inboxes places → t < length inboxes →
     oldest (inbox_at inboxes t).queue ≡ Some q →
-    inbox.queue ≡ without_oldest (inbox_at inboxes t).queue → inbox.timers ≡ (inbox_at inboxes t).timers → IsSound (slice_set inboxes t inbox) places
+    inbox.queue ≡ without_oldest (inbox_at inboxes t).queue → inbox.timers ≡ (inbox_at inboxes t).timers → AreApcsSound (slice_set inboxes t inbox) places
 next_plain_sound inboxes places t inbox q plain sound below first queue timers =
     sound_kept inboxes places t inbox sound below timers
     (λ m. ap (has_from m) queue ∙ sym (has_from-oldest m (inbox_at inboxes t).queue q first ∙ rw plain refl))
@@ -330,9 +330,9 @@ next_plain_sound inboxes places t inbox q plain sound below first queue timers =
     let once : count_from m (inbox_at inboxes t).queue ≤ 1 = sound.once t m in
     rw queue (omega arith))
 
-pub next_none_sound : (inboxes : List Contents) (places : List (Option Place)) (t : ℕ) (inbox : Contents) → IsSound inboxes places → t < length inboxes →
+pub next_none_sound : (inboxes : List Contents) (places : List (Option Place)) (t : ℕ) (inbox : Contents) → AreApcsSound inboxes places → t < length inboxes →
     oldest (inbox_at inboxes t).queue ≡ None →
-    inbox.queue ≡ without_oldest (inbox_at inboxes t).queue → inbox.timers ≡ (inbox_at inboxes t).timers → IsSound (slice_set inboxes t inbox) places
+    inbox.queue ≡ without_oldest (inbox_at inboxes t).queue → inbox.timers ≡ (inbox_at inboxes t).timers → AreApcsSound (slice_set inboxes t inbox) places
 next_none_sound inboxes places t inbox sound below none queue timers =
     with_room_sound inboxes places t inbox sound below (queue ∙ without_none (inbox_at inboxes t).queue none) timers
   where
@@ -341,7 +341,7 @@ next_none_sound inboxes places t inbox sound below none queue timers =
     without_none (q ∷ queue) none = absurd (cc)
 
 -- where a place was promised and is not filled, there is room
-pub place_room : (inboxes : List Contents) (places : List (Option Place)) (t timer : ℕ) → IsSound inboxes places →
+pub place_room : (inboxes : List Contents) (places : List (Option Place)) (t timer : ℕ) → AreApcsSound inboxes places →
     thread_of (place_at places timer) ≡ Some t → has_from timer (inbox_at inboxes t).queue ≡ false → timed_count (inbox_at inboxes t).queue < length (inbox_at inboxes t).timers
 place_room inboxes places t timer sound placed none =
     let q : Queued = record { apc = record { routine = 0; arg = 0; at = None }; timer = Some timer } in
@@ -375,6 +375,6 @@ place_room inboxes places t timer sound placed none =
         list_any_at (λ x. x == m) (inbox_at inboxes t).timers found.0.index 0 below (eq-eqb _ m value)
 
 -- an APC that stands in t's queue has its place there
-pub standing_placed : (inboxes : List Contents) (places : List (Option Place)) → IsSound inboxes places → (t m : ℕ) →
+pub standing_placed : (inboxes : List Contents) (places : List (Option Place)) → AreApcsSound inboxes places → (t m : ℕ) →
     stands_at t (place_at places m) ≡ true → thread_of (place_at places m) ≡ Some t
 standing_placed inboxes places sound t m stands = sound.at_place t m (sym (stands_at-is inboxes places sound t m) ∙ stands)

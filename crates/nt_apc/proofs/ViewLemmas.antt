@@ -13,7 +13,7 @@ use Rattle.nt_apc.specs.Queues.{KeepsPlaces, queue_of, place_of, has_from, is_qu
 use Rattle.nt_apc.proofs.SoundLemmas.{place_known, place_of_thread, some_same, sound_same}
 use Rattle.nt_apc.proofs.QueueLemmas.{without_from-none}
 use Rattle.nt_apc.specs.Inbox.{Contents}
-use Rattle.nt_apc.specs.Place.{inbox_at, timer_at, place_at, thread_of, queues_in, threads_in, IsSound, timers_in, KeepsSound}
+use Rattle.nt_apc.specs.Place.{inbox_at, timer_at, place_at, thread_of, queues_in, threads_in, AreApcsSound, timers_in, KeepsSound}
 
 pub queue_of-queues_in : (inboxes : List Contents) (t : ℕ) → queue_of (queues_in inboxes) t ≡ (inbox_at inboxes t).queue
 queue_of-queues_in inboxes t = get_or-map (λ (inbox : Contents). inbox.queue) inboxes t (record { queue = []; timers = []; room = 0 })
@@ -47,7 +47,7 @@ queues_in-without_none inboxes t timer none =
     ∙ set-get_or (queues_in inboxes) t [])
 
 -- what callers may rely on
-pub sound_keeps : (inboxes : List Contents) (places : List (Option Place)) → IsSound inboxes places → KeepsPlaces (record { queues = queues_in inboxes; places = threads_in places })
+pub sound_keeps : (inboxes : List Contents) (places : List (Option Place)) → AreApcsSound inboxes places → KeepsPlaces (record { queues = queues_in inboxes; places = threads_in places })
 sound_keeps inboxes places sound = record {
   at_place = λ t m has. place_of-threads_in places m ∙ sound.at_place t m (sym (ap (has_from m) (queue_of-queues_in inboxes t)) ∙ has);
   once = λ t m. rw (queue_of-queues_in inboxes t) (sound.once t m);
@@ -55,7 +55,7 @@ sound_keeps inboxes places sound = record {
 }
 
 -- a timer's APC is not in another queue than its place is
-elsewhere_none : (inboxes : List Contents) (places : List (Option Place)) → IsSound inboxes places → (u t m : ℕ) → thread_of (place_at places m) ≡ Some t → u ≢ t →
+elsewhere_none : (inboxes : List Contents) (places : List (Option Place)) → AreApcsSound inboxes places → (u t m : ℕ) → thread_of (place_at places m) ≡ Some t → u ≢ t →
     has_from m (inbox_at inboxes u).queue ≡ false
 elsewhere_none inboxes places sound u t m placed other = elim (cases_Bool (has_from m (inbox_at inboxes u).queue)) [
   | inl has ↦ let at : thread_of (place_at places m) ≡ Some u = sound.at_place u m has in absurd (other (cc))
@@ -63,7 +63,7 @@ elsewhere_none inboxes places sound u t m placed other = elim (cases_Bool (has_f
 ]
 
 -- whether any queue has the timer's APC, where its place is known
-pub queued_anywhere : (inboxes : List Contents) (places : List (Option Place)) → IsSound inboxes places → (t m : ℕ) → thread_of (place_at places m) ≡ Some t →
+pub queued_anywhere : (inboxes : List Contents) (places : List (Option Place)) → AreApcsSound inboxes places → (t m : ℕ) → thread_of (place_at places m) ≡ Some t →
     has_from m (inbox_at inboxes t).queue ≡ is_queued (queues_in inboxes) m
 queued_anywhere inboxes places sound t m placed = elim (cases_Bool (has_from m (inbox_at inboxes t).queue)) [
   | inl has ↦ has ∙ sym (list_any_at (has_from m) (queues_in inboxes) t []
@@ -81,7 +81,7 @@ queued_anywhere inboxes places sound t m placed = elim (cases_Bool (has_from m (
           | inr other ↦ there ∙ elsewhere_none inboxes places sound k t m placed other
         ]
 
-pub withdrawn_anywhere : (inboxes : List Contents) (places : List (Option Place)) → IsSound inboxes places → (t m : ℕ) → thread_of (place_at places m) ≡ Some t →
+pub withdrawn_anywhere : (inboxes : List Contents) (places : List (Option Place)) → AreApcsSound inboxes places → (t m : ℕ) → thread_of (place_at places m) ≡ Some t →
     withdrawn_at (queues_in inboxes) t m ≡ withdrawn (queues_in inboxes) m
 withdrawn_anywhere inboxes places sound t m placed =
     same_lists (withdrawn_at (queues_in inboxes) t m) (withdrawn (queues_in inboxes) m)
@@ -112,7 +112,7 @@ replicate_empty (suc n) (suc i) xs = replicate_empty n i xs
 
 -- nobody has an APC or a promise
 pub empty_sound : (inboxes : List Contents) (n : ℕ) → map (λ (inbox : Contents). inbox.queue) inboxes ≡ replicate n [] → map (λ (inbox : Contents). inbox.timers) inboxes ≡ replicate n [] →
-    IsSound inboxes []
+    AreApcsSound inboxes []
 empty_sound inboxes n queues timers = record {
   at_place = λ t m has. absurd (let none : has_from m (inbox_at inboxes t).queue ≡ false = ap (has_from m) (no_queue t) in cc);
   once = λ t m. rw (no_queue t) (omega arith);
@@ -127,13 +127,13 @@ empty_sound inboxes n queues timers = record {
     no_timer t = sym (get_or-map (λ (inbox : Contents). inbox.timers) inboxes t (record { queue = []; timers = []; room = 0 })) ∙ ap (λ ts. slice_index_or ts t []) timers ∙ replicate_empty n t []
 
 -- the timers of an inbox are those whose place is there
-pub listed : (inboxes : List Contents) (places : List (Option Place)) → IsSound inboxes places → (t m : ℕ) →
+pub listed : (inboxes : List Contents) (places : List (Option Place)) → AreApcsSound inboxes places → (t m : ℕ) →
     Contains (inbox_at inboxes t).timers m → place_of (threads_in places) m ≡ Some t
 listed inboxes places sound t m at =
     place_of-threads_in places m
     ∙ ap thread_of (sound.to_place t at.0 m (slice_get-get_or (inbox_at inboxes t).timers at.0 m at.1 ∙ ap Some at.2))
 
-pub listed_all : (inboxes : List Contents) (places : List (Option Place)) → IsSound inboxes places → (t m : ℕ) →
+pub listed_all : (inboxes : List Contents) (places : List (Option Place)) → AreApcsSound inboxes places → (t m : ℕ) →
     place_of (threads_in places) m ≡ Some t → Contains (inbox_at inboxes t).timers m
 listed_all inboxes places sound t m at =
     let found : (place : Place) × (place_at places m ≡ Some place) × (place.thread ≡ t) = place_of_thread (place_at places m) t (sym (place_of-threads_in places m) ∙ at) in
@@ -141,7 +141,7 @@ listed_all inboxes places sound t m at =
     let below : found.0.index < length (inbox_at inboxes t).timers = slice_get_within (inbox_at inboxes t).timers found.0.index m got in
     (found.0.index, below, some_same (sym (slice_get-get_or (inbox_at inboxes t).timers found.0.index m below) ∙ got))
 
-pub listed_once : (inboxes : List Contents) (places : List (Option Place)) → IsSound inboxes places → (t : ℕ) → AllPairs (λ a b. a ≢ b) (inbox_at inboxes t).timers
+pub listed_once : (inboxes : List Contents) (places : List (Option Place)) → AreApcsSound inboxes places → (t : ℕ) → AllPairs (λ a b. a ≢ b) (inbox_at inboxes t).timers
 listed_once inboxes places sound t i j d less below same =
     let first = sound.to_place t i _ (slice_get-get_or (inbox_at inboxes t).timers i d (omega arith)) in
     let second = sound.to_place t j _ (slice_get-get_or (inbox_at inboxes t).timers j d below) in
@@ -161,7 +161,7 @@ pub has_inbox : (inboxes : List Contents) (t : ℕ) → t < length (queues_in in
 has_inbox inboxes t below = subst (λ n. t < n) (length-map inboxes (λ (inbox : Contents). inbox.queue)) below
 
 -- a timer with no place has no APC in any queue
-pub withdrawn_nowhere : (inboxes : List Contents) (places : List (Option Place)) → IsSound inboxes places → (m : ℕ) → place_at places m ≡ None →
+pub withdrawn_nowhere : (inboxes : List Contents) (places : List (Option Place)) → AreApcsSound inboxes places → (m : ℕ) → place_at places m ≡ None →
     withdrawn (queues_in inboxes) m ≡ queues_in inboxes
 withdrawn_nowhere inboxes places sound m nowhere =
     same_lists (withdrawn (queues_in inboxes) m) (queues_in inboxes) (length-map (queues_in inboxes) (without_from m))

@@ -1,5 +1,5 @@
 -- The inboxes of all threads, and where each timer has its place. No public clause cites this.
-use Rattle.std.specs.Prelude.{ℕ, ◌≡◌, ◌≤◌, Bool, true, false, ◌&&◌, ◌==◌, List, [], ◌∷◌, if◌then◌else◌, map, slice_index_or, slice_set, slice_get, Option, Some, None}
+use Rattle.std.specs.Prelude.{ℕ, ◌≡◌, ◌<◌, ◌≤◌, Bool, true, false, ◌&&◌, ◌==◌, List, [], ◌∷◌, if◌then◌else◌, length, map, slice_index_or, slice_set, slice_get, Option, Some, None}
 use Rattle.nt_apc.specs.declared.apc.Queued.{Queued}
 use Rattle.nt_apc.specs.declared.place.Place.{Place}
 use Rattle.nt_apc.specs.Queues.{has_from, count_from}
@@ -30,7 +30,7 @@ abbrev pub threads_in : List (Option Place) → List (Option ℕ)
 threads_in places = map thread_of places
 
 -- places and inboxes name each other, and a timer's APC stands where its place is, once
-pub record IsSound (inboxes : List Contents) (places : List (Option Place)) : Type 0 where
+pub record AreApcsSound (inboxes : List Contents) (places : List (Option Place)) : Type 0 where
   pub at_place : (t m : ℕ) → has_from m (inbox_at inboxes t).queue ≡ true → thread_of (place_at places m) ≡ Some t
   pub once : (t m : ℕ) → count_from m (inbox_at inboxes t).queue ≤ 1
   pub to_timer : (m : ℕ) (place : Place) → place_at places m ≡ Some place → timer_at inboxes place.thread place.index ≡ Some m
@@ -39,7 +39,13 @@ pub record IsSound (inboxes : List Contents) (places : List (Option Place)) : Ty
 
 -- whatever the places, what was sound stays so
 abbrev pub KeepsSound : List Contents → List Contents → Type 0
-KeepsSound old new = (places : List (Option Place)) → IsSound old places → IsSound new places
+KeepsSound old new = (places : List (Option Place)) → AreApcsSound old places → AreApcsSound new places
+
+-- a new place of this timer in t's inbox needs no memory
+pub record HasRoomFor (inboxes : List Contents) (places : List (Option Place)) (t timer : ℕ) : Type 0 where
+  pub thread : t < length inboxes
+  pub known : timer < length places
+  pub room : 0 < (inbox_at inboxes t).room
 
 -- ---- writes to a timer's place
 

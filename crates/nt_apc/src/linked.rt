@@ -1,7 +1,7 @@
 //! The inboxes of all threads and the places of all timers, which name each other.
 ghost use Rattle.std.specs.Prelude.{◌≡◌, ◌↔◌, true, ◌≢◌, ◌<◌, ℕ, Some, None, OnOk, OnErr, IfOk, length, false, vec_capacity};
 ghost use Rattle.nt_apc.specs.Queues.{pushed, taken, cleared, withdrawn, withdrawn_at, given_up, has_from, oldest, queue_of, place_of, is_at};
-ghost use Rattle.nt_apc.specs.Place.{inbox_at, place_at, index_at, thread_of, queues_in, threads_in, IsSound, KeepsSound};
+ghost use Rattle.nt_apc.specs.Place.{inbox_at, place_at, index_at, thread_of, queues_in, threads_in, AreApcsSound, KeepsSound, HasRoomFor};
 
 use crate::apc::{Apc, Queued};
 use crate::inbox::Inbox;
@@ -31,10 +31,10 @@ pub fn push_promised(
     timer: ObjectNumber,
     apc: Apc,
 )
-    requires sound { IsSound inboxes.old places.old }
+    requires sound { AreApcsSound inboxes.old places.old }
     requires placed { thread_of (place_at places.old timer) ≡ Some t }
     requires none { has_from timer (inbox_at inboxes.old t).queue ≡ false }
-    ensures sound { IsSound inboxes.new places.new }
+    ensures sound { AreApcsSound inboxes.new places.new }
     ensures queues { queues_in inboxes.new
         ≡ pushed (queues_in inboxes.old) t (record { apc = apc; timer = Some timer }) }
     ensures threads { threads_in places.new ≡ threads_in places.old }
@@ -50,8 +50,8 @@ pub fn withdraw(
     t: ThreadId,
     timer: ObjectNumber,
 )
-    requires { IsSound inboxes.old places.old }
-    ensures sound { IsSound inboxes.new places.new }
+    requires { AreApcsSound inboxes.old places.old }
+    ensures sound { AreApcsSound inboxes.new places.new }
     ensures queues { queues_in inboxes.new ≡ withdrawn_at (queues_in inboxes.old) t timer }
     ensures inboxes { (u : ℕ) → u ≢ t → inbox_at inboxes.new u ≡ inbox_at inboxes.old u }
     ensures none { has_from timer (inbox_at inboxes.new t).queue ≡ false }
@@ -66,9 +66,9 @@ pub fn withdraw(
 
 /// Takes the oldest APC of t. A timer's place stays.
 pub fn next(inboxes: &mut [Inbox], places: &mut [Option<Place>], t: ThreadId) -> Option<Queued>
-    requires sound { IsSound inboxes.old places.old }
+    requires sound { AreApcsSound inboxes.old places.old }
     requires thread { t < length inboxes.old }
-    ensures sound { IsSound inboxes.new places.new }
+    ensures sound { AreApcsSound inboxes.new places.new }
     ensures oldest { result ≡ oldest (queue_of (queues_in inboxes.old) t) }
     ensures queues { queues_in inboxes.new ≡ taken (queues_in inboxes.old) t }
     ensures threads { threads_in places.new ≡ threads_in places.old }
@@ -91,10 +91,10 @@ fn unlist(
     timer: ObjectNumber,
     index: usize,
 )
-    requires sound { IsSound inboxes.old places.old }
+    requires sound { AreApcsSound inboxes.old places.old }
     requires index { index_at t (place_at places.old timer) ≡ Some index }
     requires none { has_from timer (inbox_at inboxes.old t).queue ≡ false }
-    ensures sound { IsSound inboxes.new places.new }
+    ensures sound { AreApcsSound inboxes.new places.new }
     ensures queues { queues_in inboxes.new ≡ queues_in inboxes.old }
     ensures inboxes { (u : ℕ) → u ≢ t → inbox_at inboxes.new u ≡ inbox_at inboxes.old u }
     ensures gone { place_of (threads_in places.new) timer ≡ None }
@@ -109,8 +109,8 @@ fn unlist(
 
 /// Gives up the timer's place in t's queue, and removes its APC there.
 pub fn forget(inboxes: &mut [Inbox], places: &mut [Option<Place>], t: ThreadId, timer: ObjectNumber)
-    requires { IsSound inboxes.old places.old }
-    ensures sound { IsSound inboxes.new places.new }
+    requires { AreApcsSound inboxes.old places.old }
+    ensures sound { AreApcsSound inboxes.new places.new }
     ensures queues { queues_in inboxes.new ≡ withdrawn_at (queues_in inboxes.old) t timer }
     ensures inboxes { (u : ℕ) → u ≢ t → inbox_at inboxes.new u ≡ inbox_at inboxes.old u }
     ensures gone { place_of (threads_in places.new) timer ≡ given_up t (place_of (threads_in places.old) timer) }
@@ -125,12 +125,10 @@ pub fn forget(inboxes: &mut [Inbox], places: &mut [Option<Place>], t: ThreadId, 
 
 /// Notes a new place of the timer in t's inbox, for which there is room.
 fn list(inboxes: &mut [Inbox], places: &mut [Option<Place>], t: ThreadId, timer: ObjectNumber)
-    requires sound { IsSound inboxes.old places.old }
-    requires thread { t < length inboxes.old }
-    requires there { timer < length places.old }
+    requires sound { AreApcsSound inboxes.old places.old }
+    requires room { HasRoomFor inboxes.old places.old t timer }
     requires none { place_at places.old timer ≡ None }
-    requires room { 0 < (inbox_at inboxes.old t).room }
-    ensures sound { IsSound inboxes.new places.new }
+    ensures sound { AreApcsSound inboxes.new places.new }
     ensures queues { queues_in inboxes.new ≡ queues_in inboxes.old }
     ensures here { place_of (threads_in places.new) timer ≡ Some t }
     ensures others { (m : ℕ) → m ≢ timer → place_of (threads_in places.new) m ≡ place_of (threads_in places.old) m }
@@ -146,9 +144,9 @@ fn list(inboxes: &mut [Inbox], places: &mut [Option<Place>], t: ThreadId, timer:
 
 /// Removes all APCs of t, and takes all places in its inbox away.
 pub fn clear(inboxes: &mut [Inbox], places: &mut [Option<Place>], t: ThreadId)
-    requires sound { IsSound inboxes.old places.old }
+    requires sound { AreApcsSound inboxes.old places.old }
     requires thread { t < length inboxes.old }
-    ensures sound { IsSound inboxes.new places.new }
+    ensures sound { AreApcsSound inboxes.new places.new }
     ensures queues { queues_in inboxes.new ≡ cleared (queues_in inboxes.old) t }
     ensures places { (m : ℕ) → place_of (threads_in places.new) m ≡ given_up t (place_of (threads_in places.old) m) }
 {
@@ -159,8 +157,8 @@ pub fn clear(inboxes: &mut [Inbox], places: &mut [Option<Place>], t: ThreadId)
 
 /// Gives up the timer's place, in whose queue it may be, and removes its APC there.
 fn give_up(inboxes: &mut [Inbox], places: &mut [Option<Place>], timer: ObjectNumber)
-    requires { IsSound inboxes.old places.old }
-    ensures sound { IsSound inboxes.new places.new }
+    requires { AreApcsSound inboxes.old places.old }
+    ensures sound { AreApcsSound inboxes.new places.new }
     ensures queues { queues_in inboxes.new ≡ withdrawn (queues_in inboxes.old) timer }
     ensures inboxes { (u : ℕ) → is_at u (place_of (threads_in places.old) timer) ≡ false
         → inbox_at inboxes.new u ≡ inbox_at inboxes.old u }
@@ -193,12 +191,10 @@ fn make_room(
 
 /// Moves the timer's place to t's inbox, for which there is room.
 fn move_place(inboxes: &mut [Inbox], places: &mut [Option<Place>], t: ThreadId, timer: ObjectNumber)
-    requires sound { IsSound inboxes.old places.old }
-    requires thread { t < length inboxes.old }
-    requires there { timer < length places.old }
-    requires room { 0 < (inbox_at inboxes.old t).room }
+    requires sound { AreApcsSound inboxes.old places.old }
+    requires room { HasRoomFor inboxes.old places.old t timer }
     requires elsewhere { is_at t (place_of (threads_in places.old) timer) ≡ false }
-    ensures sound { IsSound inboxes.new places.new }
+    ensures sound { AreApcsSound inboxes.new places.new }
     ensures queues { queues_in inboxes.new ≡ withdrawn (queues_in inboxes.old) timer }
     ensures here { place_of (threads_in places.new) timer ≡ Some t }
     ensures others { (m : ℕ) → m ≢ timer → place_of (threads_in places.new) m ≡ place_of (threads_in places.old) m }
@@ -215,10 +211,10 @@ pub fn promise(
     t: ThreadId,
     timer: ObjectNumber,
 ) -> Result<(), AllocError>
-    requires sound { IsSound inboxes.old places.old.items }
+    requires sound { AreApcsSound inboxes.old places.old.items }
     requires thread { t < length inboxes.old }
     requires elsewhere { is_at t (place_of (threads_in places.old.items) timer) ≡ false }
-    ensures sound { IsSound inboxes.new places.new.items }
+    ensures sound { AreApcsSound inboxes.new places.new.items }
     ensures queues { OnOk result (queues_in inboxes.new ≡ withdrawn (queues_in inboxes.old) timer) }
     ensures here { OnOk result (place_of (threads_in places.new.items) timer ≡ Some t) }
     ensures others { OnOk result ((m : ℕ) → m ≢ timer

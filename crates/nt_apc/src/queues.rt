@@ -24,11 +24,11 @@ impl Model for ApcQueues {
 
     ghost Value = { Apcs };
 
-    ghost use Rattle.nt_apc.specs.Place.{queues_in, threads_in, IsSound};
+    ghost use Rattle.nt_apc.specs.Place.{queues_in, threads_in, AreApcsSound};
 
     ghost view = { λ a. record { queues = queues_in a.inboxes.items; places = threads_in a.places.items } };
 
-    ghost invariant = { λ a. IsSound a.inboxes.items a.places.items };
+    ghost invariant = { λ a. AreApcsSound a.inboxes.items a.places.items };
 }
 
 impl ApcQueues {

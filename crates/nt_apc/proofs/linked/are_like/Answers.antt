@@ -1,4 +1,4 @@
-use Rattle.std.proofs.Common.{arith, refl, length, ◌≡◌, ◌<◌, below_more, sym, ◌∙◌}
+use Rattle.std.proofs.Common.{arith, refl, length, ◌<◌, below_more, sym, ◌∙◌}
 use Rattle.std.proofs.lemmas.List.{same_lists, length-map}
 use Rattle.nt_apc.specs.Inbox.{Contents}
 use Rattle.nt_apc.specs.Place.{queues_in}
