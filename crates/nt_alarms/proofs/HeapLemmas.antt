@@ -6,7 +6,7 @@ use Rattle.std.proofs.lemmas.Bool.Decides.{nat_tests}
 use Rattle.std.specs.Prelude.{slice_index, slice_index_or, nat_lt}
 use Rattle.nt_alarms.specs.declared.heap.Alarm.{Alarm}
 use Rattle.nt_alarms.specs.Alarms.{alarm_at, IsQuiet, IsEarliest, NoneBefore, NoneAt, IsLowestAt}
-use Rattle.nt_alarms.specs.Heap.{own_alarm, alarms_of, LeadsBack, AreRanked, AreSwapped, alarm_ranked, Precedes, above, IsHeap, IsHeapBut, IsHeapButAbove, IsHeapButBelow, IsFirstBelow, IsTable}
+use Rattle.nt_alarms.specs.Heap.{own_alarm, alarms_of, LeadsBack, AreRanked, AreSwapped, alarm_ranked, Precedes, above, IsHeap, IsHeapBut, IsHeapButAbove, IsHeapButBelow, IsFirstBelow, IsAlarmTable}
 
 pub Precedes-refl : (a : Alarm) → Precedes a a
 Precedes-refl a = record { moment = omega arith; place = λ _. omega arith }
@@ -425,7 +425,7 @@ ranked_anew moments moments' ranks places are same = record {
 -- WHAT THE FIRST RANK SAYS OF ALL
 
 -- an alarm that is set has a rank
-rank_of : (armed : ℕ) (moments ranks places : List ℕ) (place m : ℕ) → IsTable armed moments ranks places → alarm_at (alarms_of armed moments ranks) place ≡ Some m →
+rank_of : (armed : ℕ) (moments ranks places : List ℕ) (place m : ℕ) → IsAlarmTable armed moments ranks places → alarm_at (alarms_of armed moments ranks) place ≡ Some m →
     (rank : ℕ) × (rank < armed) × (alarm_ranked moments places rank ≡ (let made : Alarm = record { moment = m; place = place } in made))
 rank_of armed moments ranks places place m table set = elim (cases_lt place (length moments)) [
   | inr past ↦
@@ -446,14 +446,14 @@ rank_of armed moments ranks places place m table set = elim (cases_lt place (len
     made p same same' = rw same (ap (λ (n : ℕ). let one : Alarm = record { moment = n; place = place } in one) same')
 
 -- the first alarm comes before each that is set
-first_of_all : (armed : ℕ) (moments ranks places : List ℕ) (a : Alarm) (place m : ℕ) → IsTable armed moments ranks places → a ≡ alarm_ranked moments places 0 →
+first_of_all : (armed : ℕ) (moments ranks places : List ℕ) (a : Alarm) (place m : ℕ) → IsAlarmTable armed moments ranks places → a ≡ alarm_ranked moments places 0 →
     alarm_at (alarms_of armed moments ranks) place ≡ Some m → Precedes a (let made : Alarm = record { moment = m; place = place } in made)
 first_of_all armed moments ranks places a place m table is set =
     let found = rank_of armed moments ranks places place m table set in
     by_same _ _ _ _ (root_first armed (alarm_ranked moments places) table.heap found.0 found.0 (omega arith) found.1) is (sym found.2)
 
 -- it is set
-first_is_set : (armed : ℕ) (moments ranks places : List ℕ) (a : Alarm) → IsTable armed moments ranks places → (a ≡ alarm_ranked moments places 0) × (0 < armed) →
+first_is_set : (armed : ℕ) (moments ranks places : List ℕ) (a : Alarm) → IsAlarmTable armed moments ranks places → (a ≡ alarm_ranked moments places 0) × (0 < armed) →
     alarm_at (alarms_of armed moments ranks) a.place ≡ Some a.moment
 first_is_set armed moments ranks places a table is =
     let few = table.few in
@@ -466,14 +466,14 @@ first_is_set armed moments ranks places a table is =
     let rank : slice_index ranks (slice_index places 0) < armed = (let zero_is = back.1 in omega (arith, is.1)) in
     rw (here, moment) (is_armed armed moments ranks (slice_index places 0) count in_range rank)
 
-pub first_earliest : (armed : ℕ) (moments ranks places : List ℕ) (a : Alarm) → IsTable armed moments ranks places →
+pub first_earliest : (armed : ℕ) (moments ranks places : List ℕ) (a : Alarm) → IsAlarmTable armed moments ranks places →
     (a ≡ alarm_ranked moments places 0) × (0 < armed) → IsEarliest (alarms_of armed moments ranks) a.moment
 first_earliest armed moments ranks places a table is = record {
   set = (a.place, first_is_set armed moments ranks places a table is);
   least = λ place other set. (first_of_all armed moments ranks places a place other table is.0 set).moment;
 }
 
-pub first_lowest : (armed : ℕ) (moments ranks places : List ℕ) (a : Alarm) (moment : ℕ) → IsTable armed moments ranks places →
+pub first_lowest : (armed : ℕ) (moments ranks places : List ℕ) (a : Alarm) (moment : ℕ) → IsAlarmTable armed moments ranks places →
     (a ≡ alarm_ranked moments places 0) × (0 < armed) → a.moment ≡ moment → IsLowestAt (alarms_of armed moments ranks) moment a.place
 first_lowest armed moments ranks places a moment table is same = record {
   here = first_is_set armed moments ranks places a table is ∙ ap (λ m. Some m) same;
@@ -483,14 +483,14 @@ first_lowest armed moments ranks places a moment table is same = record {
       omega arith;
 }
 
-pub first_none_at : (armed : ℕ) (moments ranks places : List ℕ) (a : Alarm) (moment : ℕ) → IsTable armed moments ranks places →
+pub first_none_at : (armed : ℕ) (moments ranks places : List ℕ) (a : Alarm) (moment : ℕ) → IsAlarmTable armed moments ranks places →
     (a ≡ alarm_ranked moments places 0) × (0 < armed) → a.moment ≢ moment → NoneBefore (alarms_of armed moments ranks) moment → NoneAt (alarms_of armed moments ranks) moment
 first_none_at armed moments ranks places a moment table is other before place set =
     let first : a.moment ≤ moment = (first_of_all armed moments ranks places a place moment table is.0 set).moment in
     let own : moment ≤ a.moment = before a.place a.moment (first_is_set armed moments ranks places a table is) in
     other (omega arith)
 
-pub all_quiet : (armed : ℕ) (moments ranks places : List ℕ) → IsTable armed moments ranks places → armed ≡ 0 → IsQuiet (alarms_of armed moments ranks)
+pub all_quiet : (armed : ℕ) (moments ranks places : List ℕ) → IsAlarmTable armed moments ranks places → armed ≡ 0 → IsQuiet (alarms_of armed moments ranks)
 all_quiet armed moments ranks places table none place = quiet (alarm_at (alarms_of armed moments ranks) place) refl
   where
     quiet : (o : Option ℕ) → alarm_at (alarms_of armed moments ranks) place ≡ o → o ≡ None
@@ -526,8 +526,8 @@ leads_added xs ys n leads is is' i lt =
     get_or_append_last [] v = refl
     get_or_append_last (z ∷ zs) v = get_or_append_last zs v
 
-pub table_added : (armed : ℕ) (moments ranks places : List ℕ) (n : ℕ) → IsTable armed moments ranks places → n ≡ length moments → length moments + 1 < 2 ^ 31 →
-    IsTable armed (moments ++ 0 ∷ []) (ranks ++ n ∷ []) (places ++ n ∷ [])
+pub table_added : (armed : ℕ) (moments ranks places : List ℕ) (n : ℕ) → IsAlarmTable armed moments ranks places → n ≡ length moments → length moments + 1 < 2 ^ 31 →
+    IsAlarmTable armed (moments ++ 0 ∷ []) (ranks ++ n ∷ []) (places ++ n ∷ [])
 table_added armed moments ranks places n table is few =
     let few' = table.few in
     let ranks_too = table.sound.ranks_too in
@@ -571,7 +571,7 @@ alarms_added armed [] (r ∷ ranks) n same past = absurd (omega arith)
 alarms_added armed (m ∷ moments) [] n same past = absurd (omega arith)
 alarms_added armed (m ∷ moments) (r ∷ ranks) n same past = ap (λ alarms. own_alarm armed m r ∷ alarms) (alarms_added armed moments ranks n (omega arith) past)
 
-pub no_places : IsTable 0 [] [] []
+pub no_places : IsAlarmTable 0 [] [] []
 no_places = record {
   sound = record { few = omega arith; ranks_too = refl; places_too = refl; of_place = λ i lt. absurd (omega arith); of_rank = λ i lt. absurd (omega arith) };
   few = omega arith;

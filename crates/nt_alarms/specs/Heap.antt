@@ -70,7 +70,7 @@ pub record IsFirstBelow (armed : ℕ) (alarm : ℕ → Alarm) (at below : ℕ) :
   pub first : (rank : ℕ) → rank < armed → above rank ≡ at → rank ≢ 0 → Precedes (alarm below) (alarm rank)
 
 -- places with ranks, of which the first are those whose alarms are set, as a heap
-pub record IsTable (armed : ℕ) (moments ranks places : List ℕ) : Type 0 where
+pub record IsAlarmTable (armed : ℕ) (moments ranks places : List ℕ) : Type 0 where
   pub sound : AreRanked moments ranks places
   pub few : armed ≤ length moments
   pub heap : IsHeap armed (alarm_ranked moments places)

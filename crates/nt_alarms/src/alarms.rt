@@ -1,5 +1,5 @@
 ghost use Rattle.std.specs.Prelude.{◌≡◌, ◌+◌, ◌<◌, ◌^◌, ◌++◌, ◌∷◌, ◌==◌, [], false, length, replicate, slice_set, Some, None, OnOk, OnErr, IfOk, MatchOption, vec_len, vec_capacity};
-ghost use Rattle.nt_alarms.specs.Heap.{alarms_of, IsTable};
+ghost use Rattle.nt_alarms.specs.Heap.{alarms_of, IsAlarmTable};
 
 use crate::heap::{arm, disarm, first, moment_of};
 use nt_marks::Marks;
@@ -37,8 +37,8 @@ fn add_place(moments: &mut Vec<u64>, ranks: &mut Vec<u32>, places: &mut Vec<u32>
     requires room { vec_len moments.old < vec_capacity moments.old }
     requires rank_room { vec_len ranks.old < vec_capacity ranks.old }
     requires place_room { vec_len places.old < vec_capacity places.old }
-    requires table { IsTable armed moments.old.items ranks.old.items places.old.items }
-    ensures table { IsTable armed moments.new.items ranks.new.items places.new.items }
+    requires table { IsAlarmTable armed moments.old.items ranks.old.items places.old.items }
+    ensures table { IsAlarmTable armed moments.new.items ranks.new.items places.new.items }
     ensures added { alarms_of armed moments.new.items ranks.new.items
         ≡ alarms_of armed moments.old.items ranks.old.items ++ None ∷ [] }
 {
@@ -69,11 +69,11 @@ impl Model for Alarms {
 
     ghost Value = { List (Option ℕ) };
 
-    ghost use Rattle.nt_alarms.specs.Heap.{alarms_of, IsTable};
+    ghost use Rattle.nt_alarms.specs.Heap.{alarms_of, IsAlarmTable};
 
     ghost view = { λ a. alarms_of a.armed a.moments.items a.ranks.items };
 
-    ghost invariant = { λ a. IsTable a.armed a.moments.items a.ranks.items a.places.items };
+    ghost invariant = { λ a. IsAlarmTable a.armed a.moments.items a.ranks.items a.places.items };
 }
 
 impl Alarms {

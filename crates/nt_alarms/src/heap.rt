@@ -4,7 +4,7 @@
 //! to set or clear an alarm is to let two places change their ranks, and takes no memory.
 ghost use Rattle.std.specs.Prelude.{◌≡◌, ◌<◌, ◌≤◌, ◌+◌, ◌*◌, true, false, length, slice_index, slice_set, Some, None, MatchOption, EachIndex, ◌^◌};
 ghost use Rattle.nt_alarms.specs.Alarms.{alarm_at};
-ghost use Rattle.nt_alarms.specs.Heap.{alarms_of, alarm_ranked, above, Precedes, AreRanked, AreSwapped, IsHeap, IsHeapBut, IsHeapButAbove, IsHeapButBelow, IsFirstBelow, IsTable};
+ghost use Rattle.nt_alarms.specs.Heap.{alarms_of, alarm_ranked, above, Precedes, AreRanked, AreSwapped, IsHeap, IsHeapBut, IsHeapButAbove, IsHeapButBelow, IsFirstBelow, IsAlarmTable};
 
 /// An alarm and its place.
 #[derive(Clone, Copy)]
@@ -149,10 +149,10 @@ pub fn arm(
     place: usize,
     moment: u64,
 )
-    requires table { IsTable armed moments.old ranks.old places.old }
+    requires table { IsAlarmTable armed moments.old ranks.old places.old }
     requires in_range { place < length moments.old }
     requires clear { armed ≤ slice_index ranks.old place }
-    ensures table { IsTable (armed + 1) moments.new ranks.new places.new }
+    ensures table { IsAlarmTable (armed + 1) moments.new ranks.new places.new }
     ensures set { alarms_of (armed + 1) moments.new ranks.new
         ≡ slice_set (alarms_of armed moments.old ranks.old) place (Some moment) }
 {
@@ -164,10 +164,10 @@ pub fn arm(
 
 /// Clears the alarm of a place that has one, where `left` alarms stay.
 pub fn disarm(moments: &[u64], ranks: &mut [u32], places: &mut [u32], left: usize, place: usize)
-    requires table { IsTable (left + 1) moments.now ranks.old places.old }
+    requires table { IsAlarmTable (left + 1) moments.now ranks.old places.old }
     requires in_range { place < length moments.now }
     requires set { slice_index ranks.old place ≤ left }
-    ensures table { IsTable left moments.now ranks.new places.new }
+    ensures table { IsAlarmTable left moments.now ranks.new places.new }
     ensures cleared { alarms_of left moments.now ranks.new
         ≡ slice_set (alarms_of (left + 1) moments.now ranks.old) place None }
 {

@@ -9,7 +9,7 @@ use Rattle.nt_calls.specs.declared.call.Call.{Call}
 use Rattle.nt_calls.specs.declared.call.Reply.{Reply}
 use Rattle.nt_calls.specs.declared.call.Grant.{Grant}
 use Rattle.nt_calls.specs.Naming.{act_named, call_named, wait_named}
-use Rattle.nt_calls.specs.Calls.{wait_of, timeout_of}
+use Rattle.nt_calls.specs.Calls.{asked_wait, timeout_of}
 use Rattle.nt_calls.specs.Change.{act_reply}
 use Rattle.nt_calls.specs.Serving.{fits, status, taken_by, late_status, is_sleep}
 use Rattle.nt_calls.specs.State.{State, with_handing, pending_too}
@@ -54,7 +54,7 @@ call_told old new who (Call.Act act) (Ok reply) grants made =
 call_told old new who (Call.Wait wait) (Ok reply) grants made =
     let is = reply_is old who (Call.Wait wait) reply grants new made in
     let named = wait_named old.handles wait in
-    subst (λ (r : Reply). IsTrue (is_began (Ok r))) (sym is.1) (begun_tells is.0 who (wait_of is.0.now named) (timeout_of named))
+    subst (λ (r : Reply). IsTrue (is_began (Ok r))) (sym is.1) (begun_tells is.0 who (asked_wait is.0.now named) (timeout_of named))
 call_told old new who Call.Exit (Ok reply) grants made =
     let is = reply_is old who Call.Exit reply grants new made in
     subst (λ (r : Reply). IsTrue (is_answer Call.Exit (Ok r))) (sym is.1) refl

@@ -7,7 +7,7 @@ use Rattle.std.proofs.lemmas.Option.{slice_get_within}
 use Rattle.nt_apc.specs.declared.place.Place.{Place}
 use Rattle.nt_apc.specs.Queues.{has_from, given_up}
 use Rattle.nt_apc.specs.Inbox.{Contents, GivesUp}
-use Rattle.nt_apc.specs.Place.{inbox_at, timer_at, place_at, thread_of, index_at, AreApcsSound, reindexed, moved_to, vacated, all_vacated}
+use Rattle.nt_apc.specs.Place.{inbox_at, timer_at, place_at, thread_of_place, index_at, AreApcsSound, reindexed, moved_to, vacated, all_vacated}
 use Rattle.nt_apc.proofs.SoundLemmas.{timer_known, place_of_thread, some_same, inbox_set_at, inbox_set_other}
 
 abbrev pub place_with : ℕ → ℕ → Bool → Place
@@ -100,8 +100,8 @@ sound_unlisted inboxes places places' t timer index inbox sound at none queue gi
 
     not_timer : (u : ℕ) → has_from timer (inbox_at inboxes u).queue ≡ true → ⊥
     not_timer u has =
-        let there : thread_of (place_at places timer) ≡ Some u = sound.at_place u timer has in
-        let here : thread_of (place_at places timer) ≡ Some t = ap thread_of found.1 ∙ ap Some found.2 in
+        let there : thread_of_place (place_at places timer) ≡ Some u = sound.at_place u timer has in
+        let here : thread_of_place (place_at places timer) ≡ Some t = ap thread_of_place found.1 ∙ ap Some found.2 in
         let same : u ≡ t = some_same (sym there ∙ here) in
         let no : has_from timer (inbox_at inboxes u).queue ≡ false = ap (λ v. has_from timer (inbox_at inboxes v).queue) same ∙ none in
         cc
@@ -121,10 +121,10 @@ sound_unlisted inboxes places places' t timer index inbox sound at none queue gi
         let below : index < length inbox.timers = slice_get_within inbox.timers index m took in
         omega (arith, gives.one_less, at_end, below))
 
-    thread_same : (m : ℕ) → m ≢ timer → thread_of (place_at places' m) ≡ thread_of (place_at places m)
+    thread_same : (m : ℕ) → m ≢ timer → thread_of_place (place_at places' m) ≡ thread_of_place (place_at places m)
     thread_same m other = elim (cases_some (slice_get inbox.timers index) m) [
-      | inl took ↦ ap thread_of (moved m (took_other m took) took ∙ ap (reindexed index) (last_place m took)) ∙ sym (ap thread_of (last_place m took))
-      | inr not_took ↦ ap thread_of (others m other not_took)
+      | inl took ↦ ap thread_of_place (moved m (took_other m took) took ∙ ap (reindexed index) (last_place m took)) ∙ sym (ap thread_of_place (last_place m took))
+      | inr not_took ↦ ap thread_of_place (others m other not_took)
     ]
 
     placed : (u k m : ℕ) → u ≡ t → k ≡ index →
@@ -179,8 +179,8 @@ sound_listed inboxes places places' t timer inbox sound in_range none queue time
   at_place = λ u m has.
       let before : has_from m (inbox_at inboxes u).queue ≡ true = ap (has_from m) (sym (queue_same u)) ∙ has in
       elim (cases_eq m timer) [
-        | inl same ↦ absurd (let there : thread_of (place_at places m) ≡ Some u = sound.at_place u m before in let no : thread_of (place_at places m) ≡ None = ap (λ n. thread_of (place_at places n)) same ∙ ap thread_of none in cc)
-        | inr other ↦ ap thread_of (others m other) ∙ sound.at_place u m before
+        | inl same ↦ absurd (let there : thread_of_place (place_at places m) ≡ Some u = sound.at_place u m before in let no : thread_of_place (place_at places m) ≡ None = ap (λ n. thread_of_place (place_at places n)) same ∙ ap thread_of_place none in cc)
+        | inr other ↦ ap thread_of_place (others m other) ∙ sound.at_place u m before
       ];
   once = λ u m. rw (queue_same u) (sound.once u m);
   to_timer = λ m place is. elim (cases_eq m timer) [
@@ -230,7 +230,7 @@ sound_listed inboxes places places' t timer inbox sound in_range none queue time
 
     none_queued : has_from timer (inbox_at inboxes t).queue ≡ false
     none_queued = elim (cases_Bool (has_from timer (inbox_at inboxes t).queue)) [
-      | inl has ↦ absurd (let there : thread_of (place_at places timer) ≡ Some t = sound.at_place t timer has in let no : thread_of (place_at places timer) ≡ None = ap thread_of none in cc)
+      | inl has ↦ absurd (let there : thread_of_place (place_at places timer) ≡ Some t = sound.at_place t timer has in let no : thread_of_place (place_at places timer) ≡ None = ap thread_of_place none in cc)
       | inr fails ↦ fails
     ]
 
@@ -249,32 +249,32 @@ sound_listed inboxes places places' t timer inbox sound in_range none queue time
 -- the inboxes once t's is empty
 pub sound_cleared : (inboxes : List Contents) (places places' : List (Option Place)) (t : ℕ) (inbox : Contents) →
     AreApcsSound inboxes places → t < length inboxes → inbox.queue ≡ [] → inbox.timers ≡ [] →
-    ((m : ℕ) → thread_of (place_at places m) ≡ Some t → place_at places' m ≡ None) →
-    ((m : ℕ) → thread_of (place_at places m) ≢ Some t → place_at places' m ≡ place_at places m) →
+    ((m : ℕ) → thread_of_place (place_at places m) ≡ Some t → place_at places' m ≡ None) →
+    ((m : ℕ) → thread_of_place (place_at places m) ≢ Some t → place_at places' m ≡ place_at places m) →
     AreApcsSound (slice_set inboxes t inbox) places'
 sound_cleared inboxes places places' t inbox sound in_range queue timers gone others = record {
   at_place = λ u m has. elim (cases_eq u t) [
     | inl same ↦ absurd (let no : has_from m (inbox_at (slice_set inboxes t inbox) u).queue ≡ false = ap (has_from m) (ap (λ (held : Contents). held.queue) (inbox_set_at inboxes t u inbox in_range same) ∙ queue) in cc)
     | inr other ↦
-        let there : thread_of (place_at places m) ≡ Some u = sound.at_place u m (rw (inbox_set_other inboxes t u inbox other) at has) in
-        ap thread_of (others m (λ e. other (some_same (sym there ∙ e)))) ∙ there
+        let there : thread_of_place (place_at places m) ≡ Some u = sound.at_place u m (rw (inbox_set_other inboxes t u inbox other) at has) in
+        ap thread_of_place (others m (λ e. other (some_same (sym there ∙ e)))) ∙ there
   ];
   once = λ u m. elim (cases_eq u t) [
     | inl same ↦ rw (inbox_set_at inboxes t u inbox in_range same, queue) (omega arith)
     | inr other ↦ rw (inbox_set_other inboxes t u inbox other) (sound.once u m)
   ];
-  to_timer = λ m place is. elim (cases_some (thread_of (place_at places m)) t) [
+  to_timer = λ m place is. elim (cases_some (thread_of_place (place_at places m)) t) [
     | inl here ↦ absurd (let no : place_at places' m ≡ None = gone m here in cc)
     | inr elsewhere ↦
         let before : place_at places m ≡ Some place = sym (others m elsewhere) ∙ is in
-        let other : place.thread ≢ t = λ e. elsewhere (ap thread_of before ∙ ap Some e) in
+        let other : place.thread ≢ t = λ e. elsewhere (ap thread_of_place before ∙ ap Some e) in
         rw (inbox_set_other inboxes t place.thread inbox other) (sound.to_timer m place before)
   ];
   to_place = λ u k m is. elim (cases_eq u t) [
     | inl same ↦ absurd (let no : timer_at (slice_set inboxes t inbox) u k ≡ None = ap (λ ts. slice_get ts k) (ap (λ (held : Contents). held.timers) (inbox_set_at inboxes t u inbox in_range same) ∙ timers) in cc)
     | inr other ↦
         let whole : place_at places m ≡ Some (place_with u k (has_from m (inbox_at inboxes u).queue)) = sound.to_place u k m (rw (inbox_set_other inboxes t u inbox other) at is) in
-        others m (λ e. other (some_same (sym (ap thread_of whole) ∙ e))) ∙ whole
+        others m (λ e. other (some_same (sym (ap thread_of_place whole) ∙ e))) ∙ whole
         ∙ ap (λ (held : Contents). Some (place_with u k (has_from m held.queue))) (sym (inbox_set_other inboxes t u inbox other))
   ];
 }
@@ -350,16 +350,16 @@ sound_unlisted_last inboxes places t timer index inbox sound at none queue gives
 -- ---- the places of t's timers are taken away
 
 pub cleared_gone : (inboxes : List Contents) (places : List (Option Place)) → AreApcsSound inboxes places → (t m : ℕ) →
-    thread_of (place_at places m) ≡ Some t → place_at (all_vacated places (inbox_at inboxes t).timers) m ≡ None
+    thread_of_place (place_at places m) ≡ Some t → place_at (all_vacated places (inbox_at inboxes t).timers) m ≡ None
 cleared_gone inboxes places sound t m at =
     let found : (place : Place) × (place_at places m ≡ Some place) × (place.thread ≡ t) = place_of_thread (place_at places m) t at in
     all_vacated_gone places (inbox_at inboxes t).timers found.0.index m
     (ap (λ u. timer_at inboxes u found.0.index) (sym found.2) ∙ sound.to_timer m found.0 found.1)
 
 pub cleared_other : (inboxes : List Contents) (places : List (Option Place)) → AreApcsSound inboxes places → (t m : ℕ) →
-    thread_of (place_at places m) ≢ Some t → place_at (all_vacated places (inbox_at inboxes t).timers) m ≡ place_at places m
+    thread_of_place (place_at places m) ≢ Some t → place_at (all_vacated places (inbox_at inboxes t).timers) m ≡ place_at places m
 cleared_other inboxes places sound t m elsewhere =
-    all_vacated_other places (inbox_at inboxes t).timers m (λ k is. elsewhere (ap thread_of (sound.to_place t k m is)))
+    all_vacated_other places (inbox_at inboxes t).timers m (λ k is. elsewhere (ap thread_of_place (sound.to_place t k m is)))
 
 given_up-at : (t : ℕ) (o : Option ℕ) → o ≡ Some t → given_up t o ≡ None
 given_up-at t None is = refl
@@ -370,8 +370,8 @@ given_up-elsewhere t None other = refl
 given_up-elsewhere t (Some thread) other = rw (ne_eqb thread t (λ e. other (ap Some e))) refl
 
 pub cleared_threads : (inboxes : List Contents) (places : List (Option Place)) → AreApcsSound inboxes places → (t m : ℕ) →
-    thread_of (place_at (all_vacated places (inbox_at inboxes t).timers) m) ≡ given_up t (thread_of (place_at places m))
-cleared_threads inboxes places sound t m = elim (cases_some (thread_of (place_at places m)) t) [
-  | inl here ↦ ap thread_of (cleared_gone inboxes places sound t m here) ∙ sym (given_up-at t (thread_of (place_at places m)) here)
-  | inr other ↦ ap thread_of (cleared_other inboxes places sound t m other) ∙ sym (given_up-elsewhere t (thread_of (place_at places m)) other)
+    thread_of_place (place_at (all_vacated places (inbox_at inboxes t).timers) m) ≡ given_up t (thread_of_place (place_at places m))
+cleared_threads inboxes places sound t m = elim (cases_some (thread_of_place (place_at places m)) t) [
+  | inl here ↦ ap thread_of_place (cleared_gone inboxes places sound t m here) ∙ sym (given_up-at t (thread_of_place (place_at places m)) here)
+  | inr other ↦ ap thread_of_place (cleared_other inboxes places sound t m other) ∙ sym (given_up-elsewhere t (thread_of_place (place_at places m)) other)
 ]

@@ -12,7 +12,7 @@ use Rattle.nt_apc.specs.declared.apc.Queued.{Queued}
 use Rattle.nt_apc.specs.declared.place.Place.{Place}
 use Rattle.nt_apc.specs.Queues.{is_from, has_from, count_from, without_from, oldest, without_oldest}
 use Rattle.nt_apc.specs.Inbox.{Contents, timed_count}
-use Rattle.nt_apc.specs.Place.{inbox_at, timer_at, place_at, thread_of, AreApcsSound, flagged, stands_at, marked}
+use Rattle.nt_apc.specs.Place.{inbox_at, timer_at, place_at, thread_of_place, AreApcsSound, flagged, stands_at, place_marked}
 use Rattle.nt_apc.proofs.QueueLemmas.{timed_count-le, has_from-push, count_from-push, is_from-same, is_from-other, has_from-without_from, has_from-without_from_other, count_from-without_from, has_from-oldest, count_from-oldest}
 use Rattle.nt_apc.proofs.ListLemmas.{one_if, count_by-none, list_any-from_count}
 
@@ -46,11 +46,11 @@ timer_known inboxes t k m is = elim (cases_lt t (length inboxes)) [
       absurd (cc)
 ]
 
-pub place_of_thread : (o : Option Place) (t : ℕ) → thread_of o ≡ Some t → (place : Place) × (o ≡ Some place) × (place.thread ≡ t)
+pub place_of_thread : (o : Option Place) (t : ℕ) → thread_of_place o ≡ Some t → (place : Place) × (o ≡ Some place) × (place.thread ≡ t)
 place_of_thread None t is = absurd (cc)
 place_of_thread (Some place) t is = (place, refl, (cc))
 
-pub place_known : (inboxes : List Contents) (places : List (Option Place)) → AreApcsSound inboxes places → (m t : ℕ) → thread_of (place_at places m) ≡ Some t → t < length inboxes
+pub place_known : (inboxes : List Contents) (places : List (Option Place)) → AreApcsSound inboxes places → (m t : ℕ) → thread_of_place (place_at places m) ≡ Some t → t < length inboxes
 place_known inboxes places sound m t is =
     let found : (place : Place) × (place_at places m ≡ Some place) × (place.thread ≡ t) = place_of_thread (place_at places m) t is in
     subst (λ (u : ℕ). u < length inboxes) found.2 (timer_known inboxes found.0.thread found.0.index m (sound.to_timer m found.0 found.1))
@@ -59,7 +59,7 @@ place_known inboxes places sound m t is =
 pub record IsRequeued (inboxes : List Contents) (places places' : List (Option Place)) (t : ℕ) (inbox : Contents) : Type 0 where
   pub in_range : t < length inboxes
   pub timers : inbox.timers ≡ (inbox_at inboxes t).timers
-  pub at_place : (m : ℕ) → has_from m inbox.queue ≡ true → thread_of (place_at places m) ≡ Some t
+  pub at_place : (m : ℕ) → has_from m inbox.queue ≡ true → thread_of_place (place_at places m) ≡ Some t
   pub once : (m : ℕ) → count_from m inbox.queue ≤ 1
   pub here : (m : ℕ) (place : Place) → place_at places m ≡ Some place → place.thread ≡ t →
       place_at places' m ≡ Some (record { thread = place.thread; index = place.index; queued = has_from m inbox.queue })
@@ -102,14 +102,14 @@ sound_requeued inboxes places places' t inbox sound requeued = record {
       | inr other ↦ ap (λ (held : Contents). held.timers) (inbox_set_other inboxes t u inbox other)
     ]
 
-    thread_cases : (m : ℕ) (o : Option Place) → place_at places m ≡ o → thread_of (place_at places' m) ≡ thread_of (place_at places m)
-    thread_cases m None was = ap thread_of (requeued.nowhere m was ∙ sym was)
+    thread_cases : (m : ℕ) (o : Option Place) → place_at places m ≡ o → thread_of_place (place_at places' m) ≡ thread_of_place (place_at places m)
+    thread_cases m None was = ap thread_of_place (requeued.nowhere m was ∙ sym was)
     thread_cases m (Some place) was = elim (cases_eq place.thread t) [
-      | inl same ↦ ap thread_of (requeued.here m place was same) ∙ sym (ap thread_of was)
-      | inr other ↦ ap thread_of (requeued.elsewhere m place was other ∙ sym was)
+      | inl same ↦ ap thread_of_place (requeued.here m place was same) ∙ sym (ap thread_of_place was)
+      | inr other ↦ ap thread_of_place (requeued.elsewhere m place was other ∙ sym was)
     ]
 
-    thread_same : (m : ℕ) → thread_of (place_at places' m) ≡ thread_of (place_at places m)
+    thread_same : (m : ℕ) → thread_of_place (place_at places' m) ≡ thread_of_place (place_at places m)
     thread_same m = thread_cases m (place_at places m) refl
 
     at_same : (m : ℕ) (place place' : Place) → place_at places m ≡ Some place → place'.thread ≡ place.thread → place'.index ≡ place.index →
@@ -136,14 +136,14 @@ place_below places m place is = elim (cases_lt m (length places)) [
 
 -- the APC of one timer is queued in t's queue, or leaves it
 pub sound_marked : (inboxes : List Contents) (places : List (Option Place)) (t timer : ℕ) (inbox : Contents) (queued : Bool) →
-    AreApcsSound inboxes places → thread_of (place_at places timer) ≡ Some t →
+    AreApcsSound inboxes places → thread_of_place (place_at places timer) ≡ Some t →
     inbox.timers ≡ (inbox_at inboxes t).timers →
     ((m : ℕ) → m ≢ timer → has_from m inbox.queue ≡ has_from m (inbox_at inboxes t).queue) →
     has_from timer inbox.queue ≡ queued →
     ((m : ℕ) → count_from m inbox.queue ≤ 1) →
-    AreApcsSound (slice_set inboxes t inbox) (marked places timer queued)
+    AreApcsSound (slice_set inboxes t inbox) (place_marked places timer queued)
 sound_marked inboxes places t timer inbox queued sound placed timers others flag once =
-    sound_requeued inboxes places (marked places timer queued) t inbox sound (record {
+    sound_requeued inboxes places (place_marked places timer queued) t inbox sound (record {
       in_range = place_known inboxes places sound timer t placed;
       timers = timers;
       at_place = λ m has. elim (cases_eq m timer) [
@@ -157,11 +157,11 @@ sound_marked inboxes places t timer inbox queued sound placed timers others flag
             ∙ ap (λ b. Some (place_with place b)) (ap (λ u. has_from m (inbox_at inboxes u).queue) thread ∙ sym (others m other))
       ];
       elsewhere = λ m place is thread. elim (cases_eq m timer) [
-        | inl same ↦ let at : thread_of (place_at places m) ≡ Some t = rw same placed in absurd (thread (some_same (sym (ap thread_of is) ∙ at)))
+        | inl same ↦ let at : thread_of_place (place_at places m) ≡ Some t = rw same placed in absurd (thread (some_same (sym (ap thread_of_place is) ∙ at)))
         | inr other ↦ get_or-set_other places timer m _ None other ∙ is
       ];
       nowhere = λ m is. elim (cases_eq m timer) [
-        | inl same ↦ let at : thread_of (place_at places m) ≡ Some t = rw same placed in let none : thread_of (place_at places m) ≡ None = ap thread_of is in absurd (cc)
+        | inl same ↦ let at : thread_of_place (place_at places m) ≡ Some t = rw same placed in let none : thread_of_place (place_at places m) ≡ None = ap thread_of_place is in absurd (cc)
         | inr other ↦ get_or-set_other places timer m _ None other ∙ is
       ];
     })
@@ -169,10 +169,10 @@ sound_marked inboxes places t timer inbox queued sound placed timers others flag
     place_with : Place → Bool → Place
     place_with place b = record { thread = place.thread; index = place.index; queued = b }
 
-    written_here : (m : ℕ) (place : Place) → place_at places m ≡ Some place → m ≡ timer → place_at (marked places timer queued) m ≡ Some (place_with place queued)
+    written_here : (m : ℕ) (place : Place) → place_at places m ≡ Some place → m ≡ timer → place_at (place_marked places timer queued) m ≡ Some (place_with place queued)
     written_here m place is same =
         let here : place_at places timer ≡ Some place = ap (place_at places) (sym same) ∙ is in
-        ap (place_at (marked places timer queued)) same
+        ap (place_at (place_marked places timer queued)) same
         ∙ get_or-set_same places timer (flagged queued (place_at places timer)) None (place_below places timer place here)
         ∙ ap (flagged queued) here
 
@@ -205,7 +205,7 @@ pub sound_same : (inboxes inboxes' : List Contents) (places places' : List (Opti
     ((m : ℕ) → place_at places' m ≡ place_at places m) →
     AreApcsSound inboxes places → AreApcsSound inboxes' places'
 sound_same inboxes inboxes' places places' queues timers same sound = record {
-  at_place = λ t m has. ap thread_of (same m) ∙ sound.at_place t m (rw (queues t) at has);
+  at_place = λ t m has. ap thread_of_place (same m) ∙ sound.at_place t m (rw (queues t) at has);
   once = λ t m. rw (queues t) (sound.once t m);
   to_timer = λ m place is. ap (λ ts. slice_get ts place.index) (timers place.thread) ∙ sound.to_timer m place (sym (same m) ∙ is);
   to_place = λ t k m is.
@@ -221,21 +221,21 @@ pub stands_at-is : (inboxes : List Contents) (places : List (Option Place)) → 
     stands_at t (place_at places m) ≡ has_from m (inbox_at inboxes t).queue
 stands_at-is inboxes places sound t m = cases (place_at places m) refl
   where
-    nothing : thread_of (place_at places m) ≢ Some t → has_from m (inbox_at inboxes t).queue ≡ false
+    nothing : thread_of_place (place_at places m) ≢ Some t → has_from m (inbox_at inboxes t).queue ≡ false
     nothing elsewhere = elim (cases_Bool (has_from m (inbox_at inboxes t).queue)) [
       | inl has ↦ absurd (elsewhere (sound.at_place t m has))
       | inr none ↦ none
     ]
 
     cases : (o : Option Place) → place_at places m ≡ o → stands_at t o ≡ has_from m (inbox_at inboxes t).queue
-    cases None is = sym (nothing (λ at. let none : thread_of (place_at places m) ≡ None = ap thread_of is in cc))
+    cases None is = sym (nothing (λ at. let none : thread_of_place (place_at places m) ≡ None = ap thread_of_place is in cc))
     cases (Some place) is = elim (cases_eq place.thread t) [
       | inl same ↦
           let whole : place_at places m ≡ Some (record { thread = place.thread; index = place.index; queued = has_from m (inbox_at inboxes place.thread).queue }) = place_whole inboxes places sound m place is in
           let flag : place.queued ≡ has_from m (inbox_at inboxes place.thread).queue = flag_of place _ (sym is ∙ whole) in
           rw (eq-eqb place.thread t same) (flag ∙ ap (λ u. has_from m (inbox_at inboxes u).queue) same)
       | inr other ↦
-          let none : has_from m (inbox_at inboxes t).queue ≡ false = nothing (λ at. other (some_same (sym (ap thread_of is) ∙ at))) in
+          let none : has_from m (inbox_at inboxes t).queue ≡ false = nothing (λ at. other (some_same (sym (ap thread_of_place is) ∙ at))) in
           rw (ne_eqb place.thread t other) (sym none)
     ]
 
@@ -266,8 +266,8 @@ push_sound inboxes places t inbox q plain sound below queue timers =
     omega arith)
 
 pub push_promised_sound : (inboxes : List Contents) (places : List (Option Place)) (t timer : ℕ) (inbox : Contents) (q : Queued) → q.timer ≡ Some timer → AreApcsSound inboxes places →
-    thread_of (place_at places timer) ≡ Some t → has_from timer (inbox_at inboxes t).queue ≡ false →
-    inbox.queue ≡ (inbox_at inboxes t).queue ++ q ∷ [] → inbox.timers ≡ (inbox_at inboxes t).timers → AreApcsSound (slice_set inboxes t inbox) (marked places timer true)
+    thread_of_place (place_at places timer) ≡ Some t → has_from timer (inbox_at inboxes t).queue ≡ false →
+    inbox.queue ≡ (inbox_at inboxes t).queue ++ q ∷ [] → inbox.timers ≡ (inbox_at inboxes t).timers → AreApcsSound (slice_set inboxes t inbox) (place_marked places timer true)
 push_promised_sound inboxes places t timer inbox q timed sound placed none queue timers =
     sound_marked inboxes places t timer inbox true sound placed timers
     (λ m other. ap (has_from m) queue ∙ has_from-push m (inbox_at inboxes t).queue q ∙ rw (timed, is_from-other m timer other) (or-false (has_from m (inbox_at inboxes t).queue)))
@@ -286,8 +286,8 @@ push_promised_sound inboxes places t timer inbox q timed sound placed none queue
     ])
 
 pub withdraw_sound : (inboxes : List Contents) (places : List (Option Place)) (t timer : ℕ) (inbox : Contents) → AreApcsSound inboxes places →
-    thread_of (place_at places timer) ≡ Some t →
-    inbox.queue ≡ without_from timer (inbox_at inboxes t).queue → inbox.timers ≡ (inbox_at inboxes t).timers → AreApcsSound (slice_set inboxes t inbox) (marked places timer false)
+    thread_of_place (place_at places timer) ≡ Some t →
+    inbox.queue ≡ without_from timer (inbox_at inboxes t).queue → inbox.timers ≡ (inbox_at inboxes t).timers → AreApcsSound (slice_set inboxes t inbox) (place_marked places timer false)
 withdraw_sound inboxes places t timer inbox sound placed queue timers =
     sound_marked inboxes places t timer inbox false sound placed timers
     (λ m other. ap (has_from m) queue ∙ has_from-without_from_other m timer (inbox_at inboxes t).queue other)
@@ -299,7 +299,7 @@ withdraw_sound inboxes places t timer inbox sound placed queue timers =
 
 pub next_timed_sound : (inboxes : List Contents) (places : List (Option Place)) (t timer : ℕ) (inbox : Contents) (q : Queued) → q.timer ≡ Some timer → AreApcsSound inboxes places →
     oldest (inbox_at inboxes t).queue ≡ Some q →
-    inbox.queue ≡ without_oldest (inbox_at inboxes t).queue → inbox.timers ≡ (inbox_at inboxes t).timers → AreApcsSound (slice_set inboxes t inbox) (marked places timer false)
+    inbox.queue ≡ without_oldest (inbox_at inboxes t).queue → inbox.timers ≡ (inbox_at inboxes t).timers → AreApcsSound (slice_set inboxes t inbox) (place_marked places timer false)
 next_timed_sound inboxes places t timer inbox q timed sound first queue timers =
     let here : is_from timer q.timer ≡ true = rw timed (is_from-same timer) in
     let has : has_from timer (inbox_at inboxes t).queue ≡ true = has_from-oldest timer (inbox_at inboxes t).queue q first ∙ rw here refl in
@@ -342,7 +342,7 @@ next_none_sound inboxes places t inbox sound below none queue timers =
 
 -- where a place was promised and is not filled, there is room
 pub place_room : (inboxes : List Contents) (places : List (Option Place)) (t timer : ℕ) → AreApcsSound inboxes places →
-    thread_of (place_at places timer) ≡ Some t → has_from timer (inbox_at inboxes t).queue ≡ false → timed_count (inbox_at inboxes t).queue < length (inbox_at inboxes t).timers
+    thread_of_place (place_at places timer) ≡ Some t → has_from timer (inbox_at inboxes t).queue ≡ false → timed_count (inbox_at inboxes t).queue < length (inbox_at inboxes t).timers
 place_room inboxes places t timer sound placed none =
     let q : Queued = record { apc = record { routine = 0; arg = 0; at = None }; timer = Some timer } in
     let filled : timed_count ((inbox_at inboxes t).queue ++ q ∷ []) ≤ length (inbox_at inboxes t).timers =
@@ -366,7 +366,7 @@ place_room inboxes places t timer sound placed none =
     let more : timed_count ((inbox_at inboxes t).queue ++ q ∷ []) ≡ timed_count (inbox_at inboxes t).queue + 1 = sum_by-append (λ q. one_if (is_some q.timer)) (inbox_at inboxes t).queue (q ∷ []) in
     omega arith
   where
-    listed : (m : ℕ) → thread_of (place_at places m) ≡ Some t → list_any (λ x. x == m) (inbox_at inboxes t).timers ≡ true
+    listed : (m : ℕ) → thread_of_place (place_at places m) ≡ Some t → list_any (λ x. x == m) (inbox_at inboxes t).timers ≡ true
     listed m at =
         let found : (place : Place) × (place_at places m ≡ Some place) × (place.thread ≡ t) = place_of_thread (place_at places m) t at in
         let got : timer_at inboxes t found.0.index ≡ Some m = ap (λ u. timer_at inboxes u found.0.index) (sym found.2) ∙ sound.to_timer m found.0 found.1 in
@@ -376,5 +376,5 @@ place_room inboxes places t timer sound placed none =
 
 -- an APC that stands in t's queue has its place there
 pub standing_placed : (inboxes : List Contents) (places : List (Option Place)) → AreApcsSound inboxes places → (t m : ℕ) →
-    stands_at t (place_at places m) ≡ true → thread_of (place_at places m) ≡ Some t
+    stands_at t (place_at places m) ≡ true → thread_of_place (place_at places m) ≡ Some t
 standing_placed inboxes places sound t m stands = sound.at_place t m (sym (stands_at-is inboxes places sound t m) ∙ stands)

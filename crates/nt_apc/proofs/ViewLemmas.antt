@@ -9,24 +9,24 @@ use Rattle.std.specs.List.{list_any}
 use Rattle.std.proofs.lemmas.Option.{slice_get_within, slice_get-get_or}
 use Rattle.nt_apc.specs.declared.apc.Queued.{Queued}
 use Rattle.nt_apc.specs.declared.place.Place.{Place}
-use Rattle.nt_apc.specs.Queues.{KeepsPlaces, queue_of, place_of, has_from, is_queued, without_from, withdrawn, withdrawn_at}
+use Rattle.nt_apc.specs.Queues.{KeepsPlaces, apc_queue_of, place_of, has_from, is_queued, without_from, withdrawn, withdrawn_at}
 use Rattle.nt_apc.proofs.SoundLemmas.{place_known, place_of_thread, some_same, sound_same}
 use Rattle.nt_apc.proofs.QueueLemmas.{without_from-none}
 use Rattle.nt_apc.specs.Inbox.{Contents}
-use Rattle.nt_apc.specs.Place.{inbox_at, timer_at, place_at, thread_of, queues_in, threads_in, AreApcsSound, timers_in, KeepsSound}
+use Rattle.nt_apc.specs.Place.{inbox_at, timer_at, place_at, thread_of_place, queues_in, threads_in, AreApcsSound, timers_in, KeepsSound}
 
-pub queue_of-queues_in : (inboxes : List Contents) (t : ℕ) → queue_of (queues_in inboxes) t ≡ (inbox_at inboxes t).queue
+pub queue_of-queues_in : (inboxes : List Contents) (t : ℕ) → apc_queue_of (queues_in inboxes) t ≡ (inbox_at inboxes t).queue
 queue_of-queues_in inboxes t = get_or-map (λ (inbox : Contents). inbox.queue) inboxes t (record { queue = []; timers = []; room = 0 })
 
-pub place_of-threads_in : (places : List (Option Place)) (m : ℕ) → place_of (threads_in places) m ≡ thread_of (place_at places m)
-place_of-threads_in places m = get_or-map thread_of places m None
+pub place_of-threads_in : (places : List (Option Place)) (m : ℕ) → place_of (threads_in places) m ≡ thread_of_place (place_at places m)
+place_of-threads_in places m = get_or-map thread_of_place places m None
 
 pub queues_in-set : (inboxes : List Contents) (t : ℕ) (inbox : Contents) → queues_in (slice_set inboxes t inbox) ≡ slice_set (queues_in inboxes) t inbox.queue
 queues_in-set inboxes t inbox = map-set (λ (inbox : Contents). inbox.queue) inboxes t inbox
 
 -- one inbox gets another queue, made from its old one
 pub queues_in-set_by : (inboxes : List Contents) (t : ℕ) (inbox : Contents) (f : List Queued → List Queued) → inbox.queue ≡ f (inbox_at inboxes t).queue →
-    queues_in (slice_set inboxes t inbox) ≡ slice_set (queues_in inboxes) t (f (queue_of (queues_in inboxes) t))
+    queues_in (slice_set inboxes t inbox) ≡ slice_set (queues_in inboxes) t (f (apc_queue_of (queues_in inboxes) t))
 queues_in-set_by inboxes t inbox f is =
     queues_in-set inboxes t inbox ∙ ap (slice_set (queues_in inboxes) t) (is ∙ ap f (sym (queue_of-queues_in inboxes t)))
 
@@ -43,7 +43,7 @@ pub queues_in-without_none : (inboxes : List Contents) (t timer : ℕ) → has_f
     queues_in inboxes ≡ withdrawn_at (queues_in inboxes) t timer
 queues_in-without_none inboxes t timer none =
     sym (ap (slice_set (queues_in inboxes) t)
-    (without_from-none timer (queue_of (queues_in inboxes) t) (ap (has_from timer) (queue_of-queues_in inboxes t) ∙ none))
+    (without_from-none timer (apc_queue_of (queues_in inboxes) t) (ap (has_from timer) (queue_of-queues_in inboxes t) ∙ none))
     ∙ set-get_or (queues_in inboxes) t [])
 
 -- what callers may rely on
@@ -55,15 +55,15 @@ sound_keeps inboxes places sound = record {
 }
 
 -- a timer's APC is not in another queue than its place is
-elsewhere_none : (inboxes : List Contents) (places : List (Option Place)) → AreApcsSound inboxes places → (u t m : ℕ) → thread_of (place_at places m) ≡ Some t → u ≢ t →
+elsewhere_none : (inboxes : List Contents) (places : List (Option Place)) → AreApcsSound inboxes places → (u t m : ℕ) → thread_of_place (place_at places m) ≡ Some t → u ≢ t →
     has_from m (inbox_at inboxes u).queue ≡ false
 elsewhere_none inboxes places sound u t m placed other = elim (cases_Bool (has_from m (inbox_at inboxes u).queue)) [
-  | inl has ↦ let at : thread_of (place_at places m) ≡ Some u = sound.at_place u m has in absurd (other (cc))
+  | inl has ↦ let at : thread_of_place (place_at places m) ≡ Some u = sound.at_place u m has in absurd (other (cc))
   | inr none ↦ none
 ]
 
 -- whether any queue has the timer's APC, where its place is known
-pub queued_anywhere : (inboxes : List Contents) (places : List (Option Place)) → AreApcsSound inboxes places → (t m : ℕ) → thread_of (place_at places m) ≡ Some t →
+pub queued_anywhere : (inboxes : List Contents) (places : List (Option Place)) → AreApcsSound inboxes places → (t m : ℕ) → thread_of_place (place_at places m) ≡ Some t →
     has_from m (inbox_at inboxes t).queue ≡ is_queued (queues_in inboxes) m
 queued_anywhere inboxes places sound t m placed = elim (cases_Bool (has_from m (inbox_at inboxes t).queue)) [
   | inl has ↦ has ∙ sym (list_any_at (has_from m) (queues_in inboxes) t []
@@ -81,26 +81,26 @@ queued_anywhere inboxes places sound t m placed = elim (cases_Bool (has_from m (
           | inr other ↦ there ∙ elsewhere_none inboxes places sound k t m placed other
         ]
 
-pub withdrawn_anywhere : (inboxes : List Contents) (places : List (Option Place)) → AreApcsSound inboxes places → (t m : ℕ) → thread_of (place_at places m) ≡ Some t →
+pub withdrawn_anywhere : (inboxes : List Contents) (places : List (Option Place)) → AreApcsSound inboxes places → (t m : ℕ) → thread_of_place (place_at places m) ≡ Some t →
     withdrawn_at (queues_in inboxes) t m ≡ withdrawn (queues_in inboxes) m
 withdrawn_anywhere inboxes places sound t m placed =
     same_lists (withdrawn_at (queues_in inboxes) t m) (withdrawn (queues_in inboxes) m)
-    (length-set (queues_in inboxes) t (without_from m (queue_of (queues_in inboxes) t)) ∙ sym (length-map (queues_in inboxes) (without_from m)))
-    (λ k d below. at k d (subst (λ n. k < n) (length-set (queues_in inboxes) t (without_from m (queue_of (queues_in inboxes) t))) below))
+    (length-set (queues_in inboxes) t (without_from m (apc_queue_of (queues_in inboxes) t)) ∙ sym (length-map (queues_in inboxes) (without_from m)))
+    (λ k d below. at k d (subst (λ n. k < n) (length-set (queues_in inboxes) t (without_from m (apc_queue_of (queues_in inboxes) t))) below))
   where
     at : (k : ℕ) (d : List Queued) → k < length (queues_in inboxes) → slice_index_or (withdrawn_at (queues_in inboxes) t m) k d ≡ slice_index_or (withdrawn (queues_in inboxes) m) k d
     at k d below =
-        let right : slice_index_or (withdrawn (queues_in inboxes) m) k d ≡ without_from m (queue_of (queues_in inboxes) k) = get_or-map_within (without_from m) (queues_in inboxes) k [] d below in
+        let right : slice_index_or (withdrawn (queues_in inboxes) m) k d ≡ without_from m (apc_queue_of (queues_in inboxes) k) = get_or-map_within (without_from m) (queues_in inboxes) k [] d below in
         elim (cases_eq k t) [
           | inl same ↦
               let known : t < length (queues_in inboxes) = subst (λ u. u < length (queues_in inboxes)) same below in
               ap (λ u. slice_index_or (withdrawn_at (queues_in inboxes) t m) u d) same
-              ∙ get_or-set_same (queues_in inboxes) t (without_from m (queue_of (queues_in inboxes) t)) d known
-              ∙ ap (λ u. without_from m (queue_of (queues_in inboxes) u)) (sym same) ∙ sym right
+              ∙ get_or-set_same (queues_in inboxes) t (without_from m (apc_queue_of (queues_in inboxes) t)) d known
+              ∙ ap (λ u. without_from m (apc_queue_of (queues_in inboxes) u)) (sym same) ∙ sym right
           | inr other ↦
               get_or-set_other (queues_in inboxes) t k _ d other
               ∙ get_or_default (queues_in inboxes) k d [] below
-              ∙ sym (without_from-none m (queue_of (queues_in inboxes) k)
+              ∙ sym (without_from-none m (apc_queue_of (queues_in inboxes) k)
               (ap (has_from m) (queue_of-queues_in inboxes k) ∙ elsewhere_none inboxes places sound k t m placed other))
               ∙ sym right
         ]
@@ -131,7 +131,7 @@ pub listed : (inboxes : List Contents) (places : List (Option Place)) → AreApc
     Contains (inbox_at inboxes t).timers m → place_of (threads_in places) m ≡ Some t
 listed inboxes places sound t m at =
     place_of-threads_in places m
-    ∙ ap thread_of (sound.to_place t at.0 m (slice_get-get_or (inbox_at inboxes t).timers at.0 m at.1 ∙ ap Some at.2))
+    ∙ ap thread_of_place (sound.to_place t at.0 m (slice_get-get_or (inbox_at inboxes t).timers at.0 m at.1 ∙ ap Some at.2))
 
 pub listed_all : (inboxes : List Contents) (places : List (Option Place)) → AreApcsSound inboxes places → (t m : ℕ) →
     place_of (threads_in places) m ≡ Some t → Contains (inbox_at inboxes t).timers m
@@ -169,19 +169,19 @@ withdrawn_nowhere inboxes places sound m nowhere =
   where
     none : (k : ℕ) → has_from m (inbox_at inboxes k).queue ≡ false
     none k = elim (cases_Bool (has_from m (inbox_at inboxes k).queue)) [
-      | inl has ↦ let there : thread_of (place_at places m) ≡ Some k = sound.at_place k m has in let gone : thread_of (place_at places m) ≡ None = ap thread_of nowhere in absurd (cc)
+      | inl has ↦ let there : thread_of_place (place_at places m) ≡ Some k = sound.at_place k m has in let gone : thread_of_place (place_at places m) ≡ None = ap thread_of_place nowhere in absurd (cc)
       | inr fails ↦ fails
     ]
 
     at : (k : ℕ) (d : List Queued) → k < length (queues_in inboxes) → slice_index_or (withdrawn (queues_in inboxes) m) k d ≡ slice_index_or (queues_in inboxes) k d
     at k d below =
-        let mapped : slice_index_or (withdrawn (queues_in inboxes) m) k d ≡ without_from m (queue_of (queues_in inboxes) k) = get_or-map_within (without_from m) (queues_in inboxes) k [] d below in
+        let mapped : slice_index_or (withdrawn (queues_in inboxes) m) k d ≡ without_from m (apc_queue_of (queues_in inboxes) k) = get_or-map_within (without_from m) (queues_in inboxes) k [] d below in
         mapped
-        ∙ without_from-none m (queue_of (queues_in inboxes) k) (ap (has_from m) (queue_of-queues_in inboxes k) ∙ none k)
+        ∙ without_from-none m (apc_queue_of (queues_in inboxes) k) (ap (has_from m) (queue_of-queues_in inboxes k) ∙ none k)
         ∙ get_or_default (queues_in inboxes) k [] d below
 
 pub threads_kept : (old new : List (Option Place)) → ((m : ℕ) → place_at new m ≡ place_at old m) → (m : ℕ) → place_of (threads_in new) m ≡ place_of (threads_in old) m
-threads_kept old new kept m = place_of-threads_in new m ∙ ap thread_of (kept m) ∙ sym (place_of-threads_in old m)
+threads_kept old new kept m = place_of-threads_in new m ∙ ap thread_of_place (kept m) ∙ sym (place_of-threads_in old m)
 
 -- inboxes with the same queues and timers
 pub copied_sound : (inboxes inboxes' : List Contents) → queues_in inboxes' ≡ queues_in inboxes → timers_in inboxes' ≡ timers_in inboxes → KeepsSound inboxes inboxes'

@@ -16,9 +16,9 @@ timer_at inboxes t k = slice_get (inbox_at inboxes t).timers k
 abbrev pub place_at : List (Option Place) → ℕ → Option Place
 place_at places timer = slice_index_or places timer None
 
-abbrev pub thread_of : Option Place → Option ℕ
-thread_of None = None
-thread_of (Some place) = Some place.thread
+abbrev pub thread_of_place : Option Place → Option ℕ
+thread_of_place None = None
+thread_of_place (Some place) = Some place.thread
 
 abbrev pub queues_in : List Contents → List (List Queued)
 queues_in inboxes = map (λ inbox. inbox.queue) inboxes
@@ -27,11 +27,11 @@ abbrev pub timers_in : List Contents → List (List ℕ)
 timers_in inboxes = map (λ inbox. inbox.timers) inboxes
 
 abbrev pub threads_in : List (Option Place) → List (Option ℕ)
-threads_in places = map thread_of places
+threads_in places = map thread_of_place places
 
 -- places and inboxes name each other, and a timer's APC stands where its place is, once
 pub record AreApcsSound (inboxes : List Contents) (places : List (Option Place)) : Type 0 where
-  pub at_place : (t m : ℕ) → has_from m (inbox_at inboxes t).queue ≡ true → thread_of (place_at places m) ≡ Some t
+  pub at_place : (t m : ℕ) → has_from m (inbox_at inboxes t).queue ≡ true → thread_of_place (place_at places m) ≡ Some t
   pub once : (t m : ℕ) → count_from m (inbox_at inboxes t).queue ≤ 1
   pub to_timer : (m : ℕ) (place : Place) → place_at places m ≡ Some place → timer_at inboxes place.thread place.index ≡ Some m
   pub to_place : (t k m : ℕ) → timer_at inboxes t k ≡ Some m →
@@ -42,7 +42,7 @@ abbrev pub KeepsSound : List Contents → List Contents → Type 0
 KeepsSound old new = (places : List (Option Place)) → AreApcsSound old places → AreApcsSound new places
 
 -- a new place of this timer in t's inbox needs no memory
-pub record HasRoomFor (inboxes : List Contents) (places : List (Option Place)) (t timer : ℕ) : Type 0 where
+pub record HasRoomForPlace (inboxes : List Contents) (places : List (Option Place)) (t timer : ℕ) : Type 0 where
   pub thread : t < length inboxes
   pub known : timer < length places
   pub room : 0 < (inbox_at inboxes t).room
@@ -64,8 +64,8 @@ abbrev pub stands_at : ℕ → Option Place → Bool
 stands_at t None = false
 stands_at t (Some place) = (place.thread == t) && place.queued
 
-abbrev pub marked : List (Option Place) → ℕ → Bool → List (Option Place)
-marked places timer queued = slice_set places timer (flagged queued (place_at places timer))
+abbrev pub place_marked : List (Option Place) → ℕ → Bool → List (Option Place)
+place_marked places timer queued = slice_set places timer (flagged queued (place_at places timer))
 
 abbrev pub moved_to : List (Option Place) → ℕ → ℕ → List (Option Place)
 moved_to places timer index = slice_set places timer (reindexed index (place_at places timer))

@@ -12,11 +12,11 @@ pub record Apcs : Type 0 where
 
 -- ---- queues
 
-abbrev pub queue_of : List (List Queued) → ℕ → List Queued
-queue_of queues t = slice_index_or queues t []
+abbrev pub apc_queue_of : List (List Queued) → ℕ → List Queued
+apc_queue_of queues t = slice_index_or queues t []
 
 abbrev pub has_apc : List (List Queued) → ℕ → Bool
-has_apc queues t = list_any (λ _. true) (queue_of queues t)
+has_apc queues t = list_any (λ _. true) (apc_queue_of queues t)
 
 abbrev pub oldest : List Queued → Option Queued
 oldest [] = None
@@ -32,11 +32,11 @@ apc_of (Some q) = Some q.apc
 
 -- the APC stands last in t's queue
 abbrev pub pushed : List (List Queued) → ℕ → Queued → List (List Queued)
-pushed queues t q = slice_set queues t (queue_of queues t ++ q ∷ [])
+pushed queues t q = slice_set queues t (apc_queue_of queues t ++ q ∷ [])
 
 -- t's queue without its oldest APC
-abbrev pub taken : List (List Queued) → ℕ → List (List Queued)
-taken queues t = slice_set queues t (without_oldest (queue_of queues t))
+abbrev pub oldest_taken : List (List Queued) → ℕ → List (List Queued)
+oldest_taken queues t = slice_set queues t (without_oldest (apc_queue_of queues t))
 
 abbrev pub cleared : List (List Queued) → ℕ → List (List Queued)
 cleared queues t = slice_set queues t []
@@ -69,7 +69,7 @@ withdrawn queues timer = map (without_from timer) queues
 
 -- t's queue without this timer's APC
 abbrev pub withdrawn_at : List (List Queued) → ℕ → ℕ → List (List Queued)
-withdrawn_at queues t timer = slice_set queues t (without_from timer (queue_of queues t))
+withdrawn_at queues t timer = slice_set queues t (without_from timer (apc_queue_of queues t))
 
 -- ---- promised places
 
@@ -88,6 +88,6 @@ given_up t place = if is_at t place then None else place
 
 -- an APC of a timer stands where the timer's place is, once
 pub record KeepsPlaces (apcs : Apcs) : Type 0 where
-  pub at_place : (t timer : ℕ) → has_from timer (queue_of apcs.queues t) ≡ true → place_of apcs.places timer ≡ Some t
-  pub once : (t timer : ℕ) → count_from timer (queue_of apcs.queues t) ≤ 1
+  pub at_place : (t timer : ℕ) → has_from timer (apc_queue_of apcs.queues t) ≡ true → place_of apcs.places timer ≡ Some t
+  pub once : (t timer : ℕ) → count_from timer (apc_queue_of apcs.queues t) ≤ 1
   pub known : (t timer : ℕ) → place_of apcs.places timer ≡ Some t → t < length apcs.queues

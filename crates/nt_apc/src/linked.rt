@@ -1,7 +1,7 @@
 //! The inboxes of all threads and the places of all timers, which name each other.
 ghost use Rattle.std.specs.Prelude.{◌≡◌, ◌↔◌, true, ◌≢◌, ◌<◌, ℕ, Some, None, OnOk, OnErr, IfOk, length, false, vec_capacity};
-ghost use Rattle.nt_apc.specs.Queues.{pushed, taken, cleared, withdrawn, withdrawn_at, given_up, has_from, oldest, queue_of, place_of, is_at};
-ghost use Rattle.nt_apc.specs.Place.{inbox_at, place_at, index_at, thread_of, queues_in, threads_in, AreApcsSound, KeepsSound, HasRoomFor};
+ghost use Rattle.nt_apc.specs.Queues.{pushed, oldest_taken, cleared, withdrawn, withdrawn_at, given_up, has_from, oldest, apc_queue_of, place_of, is_at};
+ghost use Rattle.nt_apc.specs.Place.{inbox_at, place_at, index_at, thread_of_place, queues_in, threads_in, AreApcsSound, KeepsSound, HasRoomForPlace};
 
 use crate::apc::{Apc, Queued};
 use crate::inbox::Inbox;
@@ -32,7 +32,7 @@ pub fn push_promised(
     apc: Apc,
 )
     requires sound { AreApcsSound inboxes.old places.old }
-    requires placed { thread_of (place_at places.old timer) ≡ Some t }
+    requires placed { thread_of_place (place_at places.old timer) ≡ Some t }
     requires none { has_from timer (inbox_at inboxes.old t).queue ≡ false }
     ensures sound { AreApcsSound inboxes.new places.new }
     ensures queues { queues_in inboxes.new
@@ -69,8 +69,8 @@ pub fn next(inboxes: &mut [Inbox], places: &mut [Option<Place>], t: ThreadId) ->
     requires sound { AreApcsSound inboxes.old places.old }
     requires thread { t < length inboxes.old }
     ensures sound { AreApcsSound inboxes.new places.new }
-    ensures oldest { result ≡ oldest (queue_of (queues_in inboxes.old) t) }
-    ensures queues { queues_in inboxes.new ≡ taken (queues_in inboxes.old) t }
+    ensures oldest { result ≡ oldest (apc_queue_of (queues_in inboxes.old) t) }
+    ensures queues { queues_in inboxes.new ≡ oldest_taken (queues_in inboxes.old) t }
     ensures threads { threads_in places.new ≡ threads_in places.old }
 {
     let Some(queued) = inboxes[t.get() as usize].next() else {
@@ -126,7 +126,7 @@ pub fn forget(inboxes: &mut [Inbox], places: &mut [Option<Place>], t: ThreadId, 
 /// Notes a new place of the timer in t's inbox, for which there is room.
 fn list(inboxes: &mut [Inbox], places: &mut [Option<Place>], t: ThreadId, timer: ObjectNumber)
     requires sound { AreApcsSound inboxes.old places.old }
-    requires room { HasRoomFor inboxes.old places.old t timer }
+    requires room { HasRoomForPlace inboxes.old places.old t timer }
     requires none { place_at places.old timer ≡ None }
     ensures sound { AreApcsSound inboxes.new places.new }
     ensures queues { queues_in inboxes.new ≡ queues_in inboxes.old }
@@ -192,7 +192,7 @@ fn make_room(
 /// Moves the timer's place to t's inbox, for which there is room.
 fn move_place(inboxes: &mut [Inbox], places: &mut [Option<Place>], t: ThreadId, timer: ObjectNumber)
     requires sound { AreApcsSound inboxes.old places.old }
-    requires room { HasRoomFor inboxes.old places.old t timer }
+    requires room { HasRoomForPlace inboxes.old places.old t timer }
     requires elsewhere { is_at t (place_of (threads_in places.old) timer) ≡ false }
     ensures sound { AreApcsSound inboxes.new places.new }
     ensures queues { queues_in inboxes.new ≡ withdrawn (queues_in inboxes.old) timer }

@@ -1,6 +1,6 @@
 //! Where each timer's APC has its place, by the timer's number.
 ghost use Rattle.std.specs.Prelude.{◌≡◌, ℕ, ◌<◌, ◌+◌, None, OnOk, length, vec_len, vec_capacity};
-ghost use Rattle.nt_apc.specs.Place.{place_at, threads_in, marked, moved_to, stands_at, index_at, vacated, all_vacated};
+ghost use Rattle.nt_apc.specs.Place.{place_at, threads_in, place_marked, moved_to, stands_at, index_at, vacated, all_vacated};
 
 use nt_status::{ObjectNumber, ThreadId};
 use std::alloc::AllocError;
@@ -64,7 +64,7 @@ pub fn vacate_all(places: &mut [Option<Place>], timers: &[ObjectNumber])
 
 /// Notes whether this timer's APC stands in its queue.
 pub fn mark(places: &mut [Option<Place>], timer: ObjectNumber, queued: bool)
-    ensures places { places.new ≡ marked places.old timer queued }
+    ensures places { places.new ≡ place_marked places.old timer queued }
     ensures threads { threads_in places.new ≡ threads_in places.old }
 {
     if let Some(place) = place_of(places, timer) {

@@ -1,5 +1,5 @@
 ghost use Rattle.std.specs.Prelude.{◌≡◌, ◌≢◌, ◌<◌, if◌then◌else◌, ◌↔◌, ℕ, true, not, false, length, replicate, [], Some, None, OnOk, OnErr, IfOk, AllPairs, Contains};
-ghost use Rattle.nt_apc.specs.Queues.{Apcs, KeepsPlaces, queue_of, has_apc, has_from, is_queued, oldest, apc_of, pushed, taken, cleared, withdrawn, withdrawn_at, place_of, is_at, given_up};
+ghost use Rattle.nt_apc.specs.Queues.{Apcs, KeepsPlaces, apc_queue_of, has_apc, has_from, is_queued, oldest, apc_of, pushed, oldest_taken, cleared, withdrawn, withdrawn_at, place_of, is_at, given_up};
 
 use crate::apc::Apc;
 use crate::inbox::Inbox;
@@ -88,7 +88,7 @@ impl ApcQueues {
     /// Queues the APC of a timer, last, in the place that was promised in `t`'s queue.
     pub fn push_promised(&mut self, t: ThreadId, timer: ObjectNumber, apc: Apc)
         requires place { place_of self.old.places timer ≡ Some t }
-        requires none { has_from timer (queue_of self.old.queues t) ≡ false }
+        requires none { has_from timer (apc_queue_of self.old.queues t) ≡ false }
         ensures queues { self.new.queues ≡ pushed self.old.queues t (record { apc = apc; timer = Some timer }) }
         ensures places { self.new.places ≡ self.old.places }
         ensures keeps { KeepsPlaces self.new }
@@ -98,7 +98,7 @@ impl ApcQueues {
 
     /// Whether the timer's APC is in `t`'s queue.
     pub fn queued(&self, t: ThreadId, timer: ObjectNumber) -> bool
-        ensures here { result ≡ has_from timer (queue_of self.now.queues t) }
+        ensures here { result ≡ has_from timer (apc_queue_of self.now.queues t) }
         ensures anywhere { place_of self.now.places timer ≡ Some t → result ≡ is_queued self.now.queues timer }
     {
         place::is_queued(&self.places, t, timer)
@@ -128,8 +128,8 @@ impl ApcQueues {
     /// Takes the oldest APC of `t`. A timer's place stays.
     pub fn next(&mut self, t: ThreadId) -> Option<Apc>
         requires { t < length self.old.queues }
-        ensures apc { result ≡ apc_of (oldest (queue_of self.old.queues t)) }
-        ensures queues { self.new.queues ≡ taken self.old.queues t }
+        ensures apc { result ≡ apc_of (oldest (apc_queue_of self.old.queues t)) }
+        ensures queues { self.new.queues ≡ oldest_taken self.old.queues t }
         ensures places { self.new.places ≡ self.old.places }
         ensures keeps { KeepsPlaces self.new }
     {

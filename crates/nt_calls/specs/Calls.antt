@@ -30,7 +30,7 @@ timeout_of (WaitCall.Sleep ms alertable) = ms
 timeout_of (WaitCall.Swap h object ms alertable) = ms
 
 -- the wait that a waiting call asks for at this moment
-abbrev pub wait_of : ℕ → WaitCall → Wait
-wait_of now (WaitCall.Objects all alertable ms named) = record { objects = named; all = all; alertable = alertable; deadline = deadline_after now ms }
-wait_of now (WaitCall.Sleep ms alertable) = record { objects = []; all = false; alertable = alertable; deadline = deadline_after now ms }
-wait_of now (WaitCall.Swap h object ms alertable) = record { objects = object ∷ []; all = false; alertable = alertable; deadline = deadline_after now ms }
+abbrev pub asked_wait : ℕ → WaitCall → Wait
+asked_wait now (WaitCall.Objects all alertable ms named) = record { objects = named; all = all; alertable = alertable; deadline = deadline_after now ms }
+asked_wait now (WaitCall.Sleep ms alertable) = record { objects = []; all = false; alertable = alertable; deadline = deadline_after now ms }
+asked_wait now (WaitCall.Swap h object ms alertable) = record { objects = object ∷ []; all = false; alertable = alertable; deadline = deadline_after now ms }

@@ -9,7 +9,7 @@ use Rattle.nt_objects.specs.declared.object.Routine.{Routine}
 use Rattle.nt_objects.specs.Object.{event_of, mutex_of, timer_of, with_set, released, unlocked, abandoned_by, unset_by, armed_with, setting_of, due_of, rearmed, count_of}
 use Rattle.nt_objects.specs.Handles.{full_access}
 use Rattle.nt_apc.specs.declared.apc.Queued.{Queued}
-use Rattle.nt_apc.specs.Queues.{queue_of, has_apc, is_queued, pushed, withdrawn, cleared, oldest, taken, apc_of}
+use Rattle.nt_apc.specs.Queues.{apc_queue_of, has_apc, is_queued, pushed, withdrawn, cleared, oldest, oldest_taken, apc_of}
 use Rattle.nt_calls.specs.declared.call.Call.{Call}
 use Rattle.nt_calls.specs.declared.call.Act.{Act}
 use Rattle.nt_calls.specs.declared.call.WaitCall.{WaitCall}
@@ -105,12 +105,12 @@ may_take s t = slice_index_or s.handing t false && has_apc s.apcs t
 abbrev pub apc_taken : State → ℕ → State
 apc_taken s t =
     if may_take s t
-    then record s { apcs = taken s.apcs t }
+    then record s { apcs = oldest_taken s.apcs t }
     else with_handing s t false
 
 -- what it finds
 abbrev pub apc_answered : State → ℕ → Reply
-apc_answered s t = Reply.Apc (if may_take s t then apc_of (oldest (queue_of s.apcs t)) else None)
+apc_answered s t = Reply.Apc (if may_take s t then apc_of (oldest (apc_queue_of s.apcs t)) else None)
 
 -- ---- signals of SignalObjectAndWait, and exit (Win32 reference: SignalObjectAndWait, Mutex Objects)
 

@@ -17,7 +17,7 @@ use Rattle.nt_apc.specs.Queues.{has_apc}
 use Rattle.nt_calls.specs.declared.call.Call.{Call}
 use Rattle.nt_calls.specs.declared.call.Act.{Act}
 use Rattle.nt_calls.specs.declared.call.WaitCall.{WaitCall}
-use Rattle.nt_calls.specs.Calls.{act_grows, wait_of, timeout_of}
+use Rattle.nt_calls.specs.Calls.{act_grows, asked_wait, timeout_of}
 use Rattle.nt_calls.specs.Naming.{object_named, lacks}
 use Rattle.nt_calls.specs.State.{State, object_at, pends}
 use Rattle.nt_calls.specs.Serving.{fits}
@@ -176,7 +176,7 @@ would_pend s t w ms = not (fits s.objects t w) && not (w.alertable && has_apc s.
 -- whether a call may want memory: an act that may, and a wait that would pend, unless it names one object: for such a wait, as of a swap, there is room
 abbrev pub grows : State → ℕ → Call → Bool
 grows s t (Call.Act act) = act_grows act
-grows s t (Call.Wait wait) = would_pend s t (wait_of s.now wait) (timeout_of wait) && not (length (wait_of s.now wait).objects == 1)
+grows s t (Call.Wait wait) = would_pend s t (asked_wait s.now wait) (timeout_of wait) && not (length (asked_wait s.now wait).objects == 1)
 grows s t Call.Exit = false
 
 -- out of memory is the last cause, of the calls that may take memory

@@ -62,8 +62,8 @@ objects_taken objects t w =
     else take_at objects t (slice_index w.objects (least objects t w))
 
 -- a wait for these objects, as far as the objects are concerned
-abbrev pub wait_for : List ℕ → Bool → Wait
-wait_for objects all = record { objects = objects; all = all; alertable = false; deadline = None }
+abbrev pub wait_on : List ℕ → Bool → Wait
+wait_on objects all = record { objects = objects; all = all; alertable = false; deadline = None }
 
 -- t can take each of these objects that is signaled for it: none is a mutex at the greatest depth
 abbrev pub CanTake : List Object → ℕ → List ℕ → Type 0
@@ -81,8 +81,8 @@ abbrev pub taken_by : State → ℕ → Wait → State
 taken_by s t w = with_handing (record s { objects = objects_taken s.objects t w }) t false
 
 -- t's pending wait is granted
-abbrev pub granted : State → ℕ → Wait → State
-granted s t w = pending_no_more (taken_by s t w) t
+abbrev pub wait_granted : State → ℕ → Wait → State
+wait_granted s t w = pending_no_more (taken_by s t w) t
 
 -- whether the objects satisfy what is pending of thread t
 abbrev pub satisfied : List Object → ℕ → Option Wait → Bool
@@ -118,7 +118,7 @@ sequence s changed = flat_map s.queues changed
 abbrev pub Grants : List ℕ → State → List Grant → State → Type 0
 Grants threads old [] new = new ≡ old
 Grants threads old (g ∷ gs) new =
-    (find (is_due old) threads ≡ Some g.thread) × (w : Wait) × IsDue old g w × Grants threads (granted old g.thread w) gs new
+    (find (is_due old) threads ≡ Some g.thread) × (w : Wait) × IsDue old g w × Grants threads (wait_granted old g.thread w) gs new
 
 -- no pending wait fits
 abbrev pub IsServed : State → Type 0

@@ -60,15 +60,15 @@ abbrev pub pends : State → ℕ → Bool
 pends s t = is_some (get s.waits t)
 
 -- whether the wait names the object
-abbrev pub names : Wait → ℕ → Bool
-names w h = list_any (λ named. named == h) w.objects
+abbrev pub wait_names : Wait → ℕ → Bool
+wait_names w h = list_any (λ named. named == h) w.objects
 
 -- t's wait pends from now on, last in the queue of each object that it names
 abbrev pub pending_too : State → ℕ → Wait → State
 pending_too s t w =
     record s {
       waits = insert s.waits t w;
-      queues = λ h. if names w h then s.queues h ++ t ∷ [] else s.queues h;
+      queues = λ h. if wait_names w h then s.queues h ++ t ∷ [] else s.queues h;
     }
 
 -- t's wait pends no more, and the others keep their order

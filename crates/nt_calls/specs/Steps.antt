@@ -14,7 +14,7 @@ use Rattle.nt_calls.specs.declared.call.Call.{Call}
 use Rattle.nt_calls.specs.declared.call.Act.{Act}
 use Rattle.nt_calls.specs.declared.call.Reply.{Reply}
 use Rattle.nt_calls.specs.declared.call.Grant.{Grant}
-pub use Rattle.nt_calls.specs.Calls.{wait_of, timeout_of}
+pub use Rattle.nt_calls.specs.Calls.{asked_wait, timeout_of}
 use Rattle.nt_calls.specs.Naming.{call_named}
 use Rattle.nt_calls.specs.Rights.{is_denied}
 use Rattle.nt_calls.specs.Rising.{AreRising}
@@ -44,7 +44,7 @@ after_serving _ s = s
 -- what comes last: the answer, and for a waiting call its wait
 abbrev pub answered : State → State → ℕ → Call → Reply × State
 answered old s t (Call.Act act) = (act_reply old t act, s)
-answered old s t (Call.Wait wait) = begun s t (wait_of s.now wait) (timeout_of wait)
+answered old s t (Call.Wait wait) = begun s t (asked_wait s.now wait) (timeout_of wait)
 answered old s t Call.Exit = (Reply.Done, s)
 
 -- one accepted call, whose handles are the numbers of their objects here: its change, serving of the waits on changed objects, alerts, and the caller's own wait

@@ -4,7 +4,7 @@ ghost use Rattle.std.specs.List.{position, list_all, list_any, IsDistinct};
 ghost use Rattle.nt_objects.specs.declared.object.Object.{Object};
 ghost use Rattle.nt_objects.specs.Object.{has_room, is_abandoned, TellsAbandoned};
 ghost use Rattle.nt_calls.specs.State.{object_at};
-ghost use Rattle.nt_calls.specs.Serving.{is_ready, is_abandoned_at, status_at, take_at, take_each, wait_for, CanTake, IsTried};
+ghost use Rattle.nt_calls.specs.Serving.{is_ready, is_abandoned_at, status_at, take_at, take_each, wait_on, CanTake, IsTried};
 
 use nt_objects::{Object, Taken};
 use nt_owners::ObjectTable;
@@ -100,7 +100,7 @@ fn try_any(objects: &mut ObjectTable, thread: ThreadId, numbers: &[ObjectNumber]
     requires few { length numbers.now ≤ MAX_WAIT_OBJECTS }
     requires room { CanTake objects.old.items thread numbers.now }
     requires known { thread < length objects.old.owned }
-    ensures tried { IsTried objects.old.items objects.new.items thread (wait_for numbers.now false) result }
+    ensures tried { IsTried objects.old.items objects.new.items thread (wait_on numbers.now false) result }
     ensures none { IfNone result (objects.new ≡ objects.old) }
     ensures threads { length objects.new.owned ≡ length objects.old.owned }
 {
@@ -115,7 +115,7 @@ fn try_all(objects: &mut ObjectTable, thread: ThreadId, numbers: &[ObjectNumber]
     requires apart { IsDistinct nat_eq numbers.now }
     requires room { CanTake objects.old.items thread numbers.now }
     requires known { thread < length objects.old.owned }
-    ensures tried { IsTried objects.old.items objects.new.items thread (wait_for numbers.now true) result }
+    ensures tried { IsTried objects.old.items objects.new.items thread (wait_on numbers.now true) result }
     ensures none { IfNone result (objects.new ≡ objects.old) }
     ensures threads { length objects.new.owned ≡ length objects.old.owned }
 {
@@ -143,7 +143,7 @@ pub fn try_wait(
     requires apart { IsDistinct nat_eq numbers.now }
     requires room { CanTake objects.old.items thread numbers.now }
     requires known { thread < length objects.old.owned }
-    ensures tried { IsTried objects.old.items objects.new.items thread (wait_for numbers.now all) result }
+    ensures tried { IsTried objects.old.items objects.new.items thread (wait_on numbers.now all) result }
     ensures none { IfNone result (objects.new ≡ objects.old) }
     ensures threads { length objects.new.owned ≡ length objects.old.owned }
 {

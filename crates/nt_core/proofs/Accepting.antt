@@ -21,7 +21,7 @@ use Rattle.nt_calls.specs.declared.call.Grant.{Grant}
 use Rattle.nt_calls.specs.Rising.{AreRising}
 use Rattle.nt_calls.specs.State.{State, object_at}
 use Rattle.nt_core.specs.Dispatcher.{Dispatcher, state}
-use Rattle.nt_calls.specs.Serving.{satisfied, granted, take_at, take_each, objects_taken, least, IsChanged, Grants, Serve, IsAlerted, Alert}
+use Rattle.nt_calls.specs.Serving.{satisfied, wait_granted, take_at, take_each, objects_taken, least, IsChanged, Grants, Serve, IsAlerted, Alert}
 use Rattle.nt_calls.specs.Change.{change}
 use Rattle.nt_calls.specs.Steps.{IsAwaited, NothingDue, after_serving, answered}
 use Rattle.nt_objects.specs.declared.handles.Opened.{Opened}
@@ -41,10 +41,10 @@ use Rattle.nt_objects.specs.Object.{has_ended, is_gone}
 use Rattle.nt_calls.specs.declared.call.WaitCall.{WaitCall}
 use Rattle.nt_calls.specs.Calls.{timeout_of}
 use Rattle.nt_calls.specs.State.{pends}
-use Rattle.nt_calls.specs.Serving.{wait_for}
+use Rattle.nt_calls.specs.Serving.{wait_on}
 use Rattle.nt_calls.specs.Change.{wait_change}
 use Rattle.nt_calls.specs.Refusals.{Cause, first_of_causes, call_causes, refusal, has_twice, is_unknown, is_at_limit}
-use Rattle.nt_calls.specs.Steps.{begun, wait_of}
+use Rattle.nt_calls.specs.Steps.{begun, asked_wait}
 use Rattle.nt_core.specs.Lawful.{IsSoundWait}
 use Rattle.nt_core.proofs.Changing.{same_changed}
 use Rattle.nt_core.proofs.Walks.{get_removed}
@@ -84,24 +84,24 @@ reading_taken_by f same os t w k = go w.all
 pub due_taken_by : (os : List Object) (t : ℕ) (w : Wait) (k : ℕ) → due_of (object_at (objects_taken os t w) k) ≡ due_of (object_at os k)
 due_taken_by os t w k = reading_taken_by due_of (λ o u. due_taken o u) os t w k
 
-calm_granted : (s : State) (t : ℕ) (w : Wait) → IsCalm s → IsCalm (granted s t w)
+calm_granted : (s : State) (t : ℕ) (w : Wait) → IsCalm s → IsCalm (wait_granted s t w)
 calm_granted s t w calm u alerted = calm u (alerted.0, (get_removed s.waits t u alerted.0 alerted.1).1, alerted.2)
 
-due_granted : (s : State) (t : ℕ) (w : Wait) (m : ℕ) → NothingDue s m → NothingDue (granted s t w) m
+due_granted : (s : State) (t : ℕ) (w : Wait) (m : ℕ) → NothingDue s m → NothingDue (wait_granted s t w) m
 due_granted s t w m none v (inl timer) = none v (inl (timer.0, sym (due_taken_by s.objects t w timer.0) ∙ timer.1))
 due_granted s t w m none v (inr late) = none v (inr (late.0, late.1, (get_removed s.waits t late.0 late.1 late.2).1, late.3))
 
 pub Grants-calm : (threads : List ℕ) (s new : State) (gs : List Grant) → Grants threads s gs new → IsCalm s → IsCalm new
 Grants-calm threads s new [] is calm = subst IsCalm (sym is) calm
-Grants-calm threads s new (g ∷ gs) has calm = Grants-calm threads (granted s g.thread has.1) new gs has.3 (calm_granted s g.thread has.1 calm)
+Grants-calm threads s new (g ∷ gs) has calm = Grants-calm threads (wait_granted s g.thread has.1) new gs has.3 (calm_granted s g.thread has.1 calm)
 
 pub Grants-due : (threads : List ℕ) (s new : State) (gs : List Grant) (m : ℕ) → Grants threads s gs new → NothingDue s m → NothingDue new m
 Grants-due threads s new [] m is none = subst (λ (x : State). NothingDue x m) (sym is) none
-Grants-due threads s new (g ∷ gs) m has none = Grants-due threads (granted s g.thread has.1) new gs m has.3 (due_granted s g.thread has.1 m none)
+Grants-due threads s new (g ∷ gs) m has none = Grants-due threads (wait_granted s g.thread has.1) new gs m has.3 (due_granted s g.thread has.1 m none)
 
 pub Grants-now : (threads : List ℕ) (s new : State) (gs : List Grant) → Grants threads s gs new → new.now ≡ s.now
 Grants-now threads s new [] is = ap (λ (x : State). x.now) is
-Grants-now threads s new (g ∷ gs) has = Grants-now threads (granted s g.thread has.1) new gs has.3
+Grants-now threads s new (g ∷ gs) has = Grants-now threads (wait_granted s g.thread has.1) new gs has.3
 
 -- once waits are served nothing else is left to do
 pub settled_after : (threads : List ℕ) (s new : State) (gs : List Grant) → Serve threads s gs new → IsCalm s → NothingDue s s.now → IsSettled new
@@ -266,7 +266,7 @@ told_anew d table steady is = subst (λ (v : Waits). IsFresh (record d { table =
 })
 
 -- a wait that nothing precedes: nothing is changed, nothing served, and the caller's wait begins
-pub wait_accepted : (old new : Dispatcher) (t : ℕ) (wait : WaitCall) (reply : Reply) → IsFresh old → new.grants ≡ old.grants → new.table.looked ≡ old.table.looked → IsSteady new → wait_change (state old) wait ≡ state old → (reply, state new) ≡ begun (state old) t (wait_of old.now wait) (timeout_of wait) → Accepts old new t (Call.Wait wait) reply
+pub wait_accepted : (old new : Dispatcher) (t : ℕ) (wait : WaitCall) (reply : Reply) → IsFresh old → new.grants ≡ old.grants → new.table.looked ≡ old.table.looked → IsSteady new → wait_change (state old) wait ≡ state old → (reply, state new) ≡ begun (state old) t (asked_wait old.now wait) (timeout_of wait) → Accepts old new t (Call.Wait wait) reply
 wait_accepted old new t wait reply fresh grants looked steady same begins = record {
   step = record {
     numbers = [];
@@ -335,7 +335,7 @@ all_unless_any p [] e j below = absurd (omega (arith, below))
 all_unless_any p (x ∷ xs) e zero below = (or_false (p x) (list_any p xs) e).0
 all_unless_any p (x ∷ xs) e (suc j) below = all_unless_any p xs (or_false (p x) (list_any p xs) e).1 j (omega (arith, below))
 
-pub sound_objects : (s : State) (t : ℕ) (handles : List ℕ) (all alertable : Bool) (ms : ℕ) → ((h : ℕ) → Contains handles h → h < length s.objects → is_gone (object_at s.objects h) ≡ false) → refusal s t false (Call.Wait (WaitCall.Objects all alertable ms handles)) ≡ None → IsSoundWait s.threads s.objects t (wait_for handles all)
+pub sound_objects : (s : State) (t : ℕ) (handles : List ℕ) (all alertable : Bool) (ms : ℕ) → ((h : ℕ) → Contains handles h → h < length s.objects → is_gone (object_at s.objects h) ≡ false) → refusal s t false (Call.Wait (WaitCall.Objects all alertable ms handles)) ≡ None → IsSoundWait s.threads s.objects t (wait_on handles all)
 sound_objects s t handles all alertable ms alive none =
     let caller = free_caller s t (Call.Wait (WaitCall.Objects all alertable ms handles)) none in
     let own = own_causes s t (Call.Wait (WaitCall.Objects all alertable ms handles)) none in
@@ -344,20 +344,20 @@ sound_objects s t handles all alertable ms alive none =
     let third = next_causes (has_twice handles) InvalidParameter ((list_any (is_at_limit s.objects t) handles, RecursionLimit) ∷ []) second.1 in
     let fourth = next_causes (list_any (is_at_limit s.objects t) handles) RecursionLimit [] third.1 in
     let few = (or_false (length handles == 0) (nat_lt MAX_WAIT_OBJECTS (length handles)) first.0).1 in
-    let known : (h : ℕ) → Names (wait_for handles all) h → h < length s.objects = λ h names. let known = all_unless_any (is_unknown s.objects) handles second.0 names.0 names.1 in subst (λ (k : ℕ). k < length s.objects) names.2 (grind (arith, nat_tests, known)) in
+    let known : (h : ℕ) → Names (wait_on handles all) h → h < length s.objects = λ h names. let known = all_unless_any (is_unknown s.objects) handles second.0 names.0 names.1 in subst (λ (k : ℕ). k < length s.objects) names.2 (grind (arith, nat_tests, known)) in
     record {
       known = caller.0;
       runs = caller.1;
       few = grind (arith, nat_tests, few);
       apart = distinct_handles handles third.0;
-      living = λ h names. alive h (named_member handles (wait_for handles all) h refl names) (known h names);
+      living = λ h names. alive h (named_member handles (wait_on handles all) h refl names) (known h names);
       named = λ h names. (
         known h names,
         subst (λ (k : ℕ). is_at_limit s.objects t k ≡ false) names.2 (all_unless_any (is_at_limit s.objects t) handles fourth.0 names.0 names.1),
       );
     }
 
-pub sound_sleep : (s : State) (t : ℕ) → t < s.threads → has_ended (object_at s.objects t) ≡ false → IsSoundWait s.threads s.objects t (wait_for [] false)
+pub sound_sleep : (s : State) (t : ℕ) → t < s.threads → has_ended (object_at s.objects t) ≡ false → IsSoundWait s.threads s.objects t (wait_on [] false)
 unfolding IsDistinct
 sound_sleep s t known runs = record {
   known = known;

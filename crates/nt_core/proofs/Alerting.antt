@@ -11,7 +11,7 @@ use Rattle.nt_status.specs.Status.{io_completion_code}
 use Rattle.nt_waits.specs.declared.wait.Wait.{Wait}
 use Rattle.nt_waits.specs.Waits.{Waits, queue_of, others, Agrees}
 use Rattle.nt_apc.specs.declared.apc.Queued.{Queued}
-use Rattle.nt_apc.specs.Queues.{queue_of as inbox_of, has_apc, pushed, taken, oldest, apc_of, without_oldest}
+use Rattle.nt_apc.specs.Queues.{apc_queue_of as inbox_of, has_apc, pushed, oldest_taken, oldest, apc_of, without_oldest}
 use Rattle.nt_objects.specs.Object.{due_of}
 use Rattle.nt_calls.specs.declared.call.Call.{Call}
 use Rattle.nt_calls.specs.declared.call.Act.{Act}
@@ -21,7 +21,7 @@ use Rattle.nt_calls.specs.State.{State, pends, wait_over, waits_over, object_at}
 use Rattle.nt_core.specs.Dispatcher.{Dispatcher, state}
 use Rattle.nt_calls.specs.Serving.{satisfied, IsServed, IsAlerted, Alert, ending}
 use Rattle.nt_calls.specs.Steps.{NothingDue, IsAwaited}
-use Rattle.nt_core.specs.Lawful.{IsSound, IsSettled, IsSteady, MarksAgreeBut, IsUnmarked}
+use Rattle.nt_core.specs.Lawful.{IsMachineSound, IsSettled, IsSteady, MarksAgreeBut, IsUnmarked}
 use Rattle.nt_core.specs.Accepts.{is_by_objects, IsRoused, IsAlertedAfter, IsFresh, Accepts}
 use Rattle.nt_core.proofs.Marking.{marks_along, marks_ended}
 use Rattle.nt_core.proofs.Walks.{get_removed, get_same, get_other}
@@ -38,7 +38,7 @@ use Rattle.nt_core.specs.declared.standing.Standing.TheVariants.{Free}
 
 -- ---- one wait ends
 
-pub ended_sound : (old : Dispatcher) (table : Waits) (t code : ℕ) (may : Bool) (w : Wait) (grants : List Grant) (leaving : List Bool) → IsSound old → Some w ≡ fin.get old.table.pending t → table.pending ≡ fin.remove old.table.pending t → Agrees table.pending table.queues → grants ≡ old.grants ++ ending code t ∷ [] → MarksAgreeBut [] (record old { table = table; handing = set old.handing t may; standings = set old.standings t Free; grants = grants; leaving = leaving }) → IsSound (record old { table = table; handing = set old.handing t may; standings = set old.standings t Free; grants = grants; leaving = leaving })
+pub ended_sound : (old : Dispatcher) (table : Waits) (t code : ℕ) (may : Bool) (w : Wait) (grants : List Grant) (leaving : List Bool) → IsMachineSound old → Some w ≡ fin.get old.table.pending t → table.pending ≡ fin.remove old.table.pending t → Agrees table.pending table.queues → grants ≡ old.grants ++ ending code t ∷ [] → MarksAgreeBut [] (record old { table = table; handing = set old.handing t may; standings = set old.standings t Free; grants = grants; leaving = leaving }) → IsMachineSound (record old { table = table; handing = set old.handing t may; standings = set old.standings t Free; grants = grants; leaving = leaving })
 ended_sound old table t code may w grants leaving sound has waits agrees pushed marks =
     let longer : length grants ≡ length old.grants + 1 = ap (λ gs. length gs) pushed ∙ length-append old.grants (ending code t ∷ []) in
     let fewer = len_removed old.table.pending t w (sym has) in
@@ -61,7 +61,7 @@ ended_sound old table t code may w grants leaving sound has waits agrees pushed 
     }
 
 -- what it named may lack its mark
-pub ended_unmarked : (old : Dispatcher) (table : Waits) (t : ℕ) (may : Bool) (w : Wait) (grants : List Grant) → IsSound old → Some w ≡ fin.get old.table.pending t → ((h : ℕ) → queue_of table h ≡ others t (queue_of old.table h)) → MarksAgreeBut w.objects (record old { table = table; handing = set old.handing t may; standings = set old.standings t Free; grants = grants })
+pub ended_unmarked : (old : Dispatcher) (table : Waits) (t : ℕ) (may : Bool) (w : Wait) (grants : List Grant) → IsMachineSound old → Some w ≡ fin.get old.table.pending t → ((h : ℕ) → queue_of table h ≡ others t (queue_of old.table h)) → MarksAgreeBut w.objects (record old { table = table; handing = set old.handing t may; standings = set old.standings t Free; grants = grants })
 ended_unmarked old table t may w grants sound has queues =
     marks_ended old (record old { table = table; handing = set old.handing t may; standings = set old.standings t Free; grants = grants }) t w sound (sym has) refl refl refl queues refl (λ o. refl) (λ o. refl)
 
@@ -216,7 +216,7 @@ alone_pushed d t q calm u alerted = elim (cases_eq u t) [
   | inr differs ↦ absurd (calm u (alerted.0, alerted.1, ap (λ b. (alerted.0).alertable && b) (sym (has_pushed_other d.apcs.queues t u q differs)) ∙ alerted.2))
 ]
 
-pub posted_sound : (d : Dispatcher) (t : ℕ) (q : Queued) → IsSound d → IsSound (record d { apcs = record d.apcs { queues = pushed d.apcs.queues t q } })
+pub posted_sound : (d : Dispatcher) (t : ℕ) (q : Queued) → IsMachineSound d → IsMachineSound (record d { apcs = record d.apcs { queues = pushed d.apcs.queues t q } })
 posted_sound d t q sound = record {
   few = sound.few;
   waits = sound.waits;
@@ -234,7 +234,7 @@ posted_sound d t q sound = record {
   room = sound.room;
 }
 
-pub queued_accepted : (old new : Dispatcher) (t h routine arg : ℕ) → IsFresh old → IsSound new → IsAlertedAfter (record old { apcs = record old.apcs { queues = pushed old.apcs.queues h (record { apc = record { routine = routine; arg = arg; at = None }; timer = None }) } }) new → Accepts old new t (Call.Act (Act.QueueApc h routine arg)) Reply.Done
+pub queued_accepted : (old new : Dispatcher) (t h routine arg : ℕ) → IsFresh old → IsMachineSound new → IsAlertedAfter (record old { apcs = record old.apcs { queues = pushed old.apcs.queues h (record { apc = record { routine = routine; arg = arg; at = None }; timer = None }) } }) new → Accepts old new t (Call.Act (Act.QueueApc h routine arg)) Reply.Done
 queued_accepted old new t h routine arg fresh sound after = record {
   step = record {
     numbers = [];
@@ -269,10 +269,10 @@ queued_accepted old new t h routine arg fresh sound after = record {
 
 -- ---- an APC is taken
 
-has_taken_other : (qs : List (List Queued)) (t u : ℕ) → u ≢ t → has_apc (taken qs t) u ≡ has_apc qs u
+has_taken_other : (qs : List (List Queued)) (t u : ℕ) → u ≢ t → has_apc (oldest_taken qs t) u ≡ has_apc qs u
 has_taken_other qs t u differs = ap (λ (xs : List Queued). list_any (λ _. true) xs) (get_or-set_other qs t u (without_oldest (inbox_of qs t)) [] differs)
 
-taken_steady : (d : Dispatcher) (t : ℕ) → IsSteady d → fin.get d.table.pending t ≡ None → IsSteady (record d { apcs = record d.apcs { queues = taken d.apcs.queues t } })
+taken_steady : (d : Dispatcher) (t : ℕ) → IsSteady d → fin.get d.table.pending t ≡ None → IsSteady (record d { apcs = record d.apcs { queues = oldest_taken d.apcs.queues t } })
 taken_steady d t steady idle = record {
   sound = record {
     few = steady.sound.few;
@@ -311,11 +311,11 @@ quiet_accepted old new t call reply fresh grants looked objects is after steady 
     (idle_served old (change (state old) t call) new [] fresh (same_changed old.objects (change (state old) t call).objects (ap (λ (s : State). s.objects) (sym is) ∙ objects)) grants looked is steady)
     after refl refl steady answers
 
-pub taken_accepted : (old : Dispatcher) (t : ℕ) → IsFresh old → fin.get old.table.pending t ≡ None → may_take (state old) t ≡ true → Accepts old (record old { apcs = record old.apcs { queues = taken old.apcs.queues t } }) t (Call.Act Act.NextApc) (Reply.Apc (apc_of (oldest (inbox_of old.apcs.queues t))))
+pub taken_accepted : (old : Dispatcher) (t : ℕ) → IsFresh old → fin.get old.table.pending t ≡ None → may_take (state old) t ≡ true → Accepts old (record old { apcs = record old.apcs { queues = oldest_taken old.apcs.queues t } }) t (Call.Act Act.NextApc) (Reply.Apc (apc_of (oldest (inbox_of old.apcs.queues t))))
 taken_accepted old t fresh idle may =
-    quiet_accepted old (record old { apcs = record old.apcs { queues = taken old.apcs.queues t } }) t (Call.Act Act.NextApc) (Reply.Apc (apc_of (oldest (inbox_of old.apcs.queues t)))) fresh refl refl refl
+    quiet_accepted old (record old { apcs = record old.apcs { queues = oldest_taken old.apcs.queues t } }) t (Call.Act Act.NextApc) (Reply.Apc (apc_of (oldest (inbox_of old.apcs.queues t)))) fresh refl refl refl
     (sym (rw may refl)) refl (taken_steady old t fresh.steady idle)
-    (λ i. (Reply.Apc (if sym may i then apc_of (oldest (inbox_of old.apcs.queues t)) else None), state (record old { apcs = record old.apcs { queues = taken old.apcs.queues t } })))
+    (λ i. (Reply.Apc (if sym may i then apc_of (oldest (inbox_of old.apcs.queues t)) else None), state (record old { apcs = record old.apcs { queues = oldest_taken old.apcs.queues t } })))
 
 pub untaken_accepted : (old : Dispatcher) (t : ℕ) → IsFresh old → may_take (state old) t ≡ false → IsSteady (record old { handing = set old.handing t false }) → Accepts old (record old { handing = set old.handing t false }) t (Call.Act Act.NextApc) (Reply.Apc None)
 untaken_accepted old t fresh may steady =

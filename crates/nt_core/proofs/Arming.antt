@@ -26,7 +26,7 @@ use Rattle.nt_calls.specs.Serving.{is_ready, sequence, Serve}
 use Rattle.nt_calls.specs.Change.{change}
 use Rattle.nt_calls.specs.Steps.{NothingDue}
 use Rattle.nt_core.specs.Visits.{FitOnlyIn, FitOnlyBy}
-use Rattle.nt_core.specs.Lawful.{IsSound, IsSteady, IsSettled, IsUnmarked}
+use Rattle.nt_core.specs.Lawful.{IsMachineSound, IsSteady, IsSettled, IsUnmarked}
 use Rattle.nt_core.specs.Accepts.{IsFresh, IsPromised, IsServedAfter, Accepts}
 use Rattle.nt_core.proofs.Changing.{object_at-set_same, object_at-set_other, served_fewer, fit_only_in, changed_at_one, one_changed}
 use Rattle.nt_core.proofs.Accepting.{IsCalm, accepted, settled_after}
@@ -157,7 +157,7 @@ unready_timed s h manual was now a setting is rises u k unready = elim (cases_eq
     stays false rises e = refl
 
 -- no object satisfies more waits than before: nothing is served
-pub set_quietly : (old new : Dispatcher) (t h : ℕ) (due period : ℤ) (routine : Option (ℕ × ℕ)) (manual was now : Bool) (a setting : Option Armed) (queues : List (List Queued)) → IsFresh old → fin.get old.table.pending t ≡ None → object_at old.objects h ≡ Timer manual was a → (now ≡ true → was ≡ true) → ((v : ℕ) → due_of (Timer manual now setting) ≡ Some v → old.now < v) → ((u : ℕ) → u ≢ t → has_apc queues u ≡ true → has_apc old.apcs.queues u ≡ true) → state new ≡ timed_state (state old) h (Timer manual now setting) queues → IsSound new → new.grants ≡ old.grants → new.table.looked ≡ old.table.looked → new.marked ≡ old.marked → change (state old) t (Call.Act (Act.SetTimer h due period routine)) ≡ timed_state (state old) h (Timer manual now setting) queues → Accepts old new t (Call.Act (Act.SetTimer h due period routine)) Reply.Done
+pub set_quietly : (old new : Dispatcher) (t h : ℕ) (due period : ℤ) (routine : Option (ℕ × ℕ)) (manual was now : Bool) (a setting : Option Armed) (queues : List (List Queued)) → IsFresh old → fin.get old.table.pending t ≡ None → object_at old.objects h ≡ Timer manual was a → (now ≡ true → was ≡ true) → ((v : ℕ) → due_of (Timer manual now setting) ≡ Some v → old.now < v) → ((u : ℕ) → u ≢ t → has_apc queues u ≡ true → has_apc old.apcs.queues u ≡ true) → state new ≡ timed_state (state old) h (Timer manual now setting) queues → IsMachineSound new → new.grants ≡ old.grants → new.table.looked ≡ old.table.looked → new.marked ≡ old.marked → change (state old) t (Call.Act (Act.SetTimer h due period routine)) ≡ timed_state (state old) h (Timer manual now setting) queues → Accepts old new t (Call.Act (Act.SetTimer h due period routine)) Reply.Done
 set_quietly old new t h due period routine manual was now a setting queues fresh idle is rises later fewer becomes sound grants looked marked changes =
     let o = Timer manual now setting in
     let s = timed_state (state old) h o queues in
@@ -178,7 +178,7 @@ pub set_fit : (old : Dispatcher) (h : ℕ) (o : Object) (queues : List (List Que
 set_fit old h o queues fresh = fit_only_in (h ∷ []) old (set old.objects h o) fresh.steady.sound fresh.steady.settled.served (changed_at_one old.objects h o)
 
 -- the timer was not set, is set now, and the waits that name it were served
-pub set_served : (old mid new : Dispatcher) (t h : ℕ) (due period : ℤ) (routine : Option (ℕ × ℕ)) (manual : Bool) (a setting : Option Armed) (queues : List (List Queued)) → IsFresh old → fin.get old.table.pending t ≡ None → object_at old.objects h ≡ Timer manual false a → ((v : ℕ) → due_of (Timer manual true setting) ≡ Some v → old.now < v) → ((u : ℕ) → u ≢ t → has_apc queues u ≡ true → has_apc old.apcs.queues u ≡ true) → state mid ≡ timed_state (state old) h (Timer manual true setting) queues → Serve (sequence (state mid) (h ∷ [])) (state mid) new.grants (state new) → IsSound new → new.table.looked ≤ length (sequence (state mid) (h ∷ [])) → length new.grants ≤ new.table.looked → new.marked ≡ old.marked → change (state old) t (Call.Act (Act.SetTimer h due period routine)) ≡ timed_state (state old) h (Timer manual true setting) queues → Accepts old new t (Call.Act (Act.SetTimer h due period routine)) Reply.Done
+pub set_served : (old mid new : Dispatcher) (t h : ℕ) (due period : ℤ) (routine : Option (ℕ × ℕ)) (manual : Bool) (a setting : Option Armed) (queues : List (List Queued)) → IsFresh old → fin.get old.table.pending t ≡ None → object_at old.objects h ≡ Timer manual false a → ((v : ℕ) → due_of (Timer manual true setting) ≡ Some v → old.now < v) → ((u : ℕ) → u ≢ t → has_apc queues u ≡ true → has_apc old.apcs.queues u ≡ true) → state mid ≡ timed_state (state old) h (Timer manual true setting) queues → Serve (sequence (state mid) (h ∷ [])) (state mid) new.grants (state new) → IsMachineSound new → new.table.looked ≤ length (sequence (state mid) (h ∷ [])) → length new.grants ≤ new.table.looked → new.marked ≡ old.marked → change (state old) t (Call.Act (Act.SetTimer h due period routine)) ≡ timed_state (state old) h (Timer manual true setting) queues → Accepts old new t (Call.Act (Act.SetTimer h due period routine)) Reply.Done
 set_served old mid new t h due period routine manual a setting queues fresh idle is later fewer becomes serve sound most least marked changes =
     let o = Timer manual true setting in
     let s = timed_state (state old) h o queues in
@@ -217,7 +217,7 @@ promised_one d apcs timer routine r is queues place others = record {
   others = others;
 }
 
-pub armed_sound : (old p mid new : Dispatcher) (h : ℕ) (o : Object) (armed : Armed) → IsSound old → is_timer (object_at old.objects h) ≡ true → IfSome armed.routine (λ r. (r.thread < old.threads) × (has_ended (object_at old.objects r.thread) ≡ false)) → IsPromised old h armed.routine p → mid ≡ record p { apcs = record p.apcs { queues = withdrawn p.apcs.queues h } } → o ≡ armed_with (Some armed) (with_set false (object_at mid.objects h)) → new ≡ record mid { objects = set mid.objects h o; alarms = set mid.alarms h (due_of o) } → IsSound new
+pub armed_sound : (old p mid new : Dispatcher) (h : ℕ) (o : Object) (armed : Armed) → IsMachineSound old → is_timer (object_at old.objects h) ≡ true → IfSome armed.routine (λ r. (r.thread < old.threads) × (has_ended (object_at old.objects r.thread) ≡ false)) → IsPromised old h armed.routine p → mid ≡ record p { apcs = record p.apcs { queues = withdrawn p.apcs.queues h } } → o ≡ armed_with (Some armed) (with_set false (object_at mid.objects h)) → new ≡ record mid { objects = set mid.objects h o; alarms = set mid.alarms h (due_of o) } → IsMachineSound new
 armed_sound old p mid new h o armed sound is runs promised withdraws arms puts =
     let apcs : Apcs = record p.apcs { queues = withdrawn p.apcs.queues h } in
     let parts = timer_parts (object_at old.objects h) is in
@@ -226,7 +226,7 @@ armed_sound old p mid new h o armed sound is runs promised withdraws arms puts =
     let same : o ≡ o' = arms ∙ (ap (λ (d : Dispatcher). armed_with (Some armed) (with_set false (object_at d.objects h))) mid_is ∙ ap (λ (x : Object). armed_with (Some armed) (with_set false x)) parts.3) in
     let new_is : new ≡ retimed old h o' apcs = puts ∙ (ap (λ (d : Dispatcher). record d { objects = set d.objects h o; alarms = set d.alarms h (due_of o) }) mid_is ∙ ap (λ (x : Object). retimed old h x apcs) same) in
     let len : length (withdrawn p.apcs.queues h) ≡ length old.apcs.queues = ap (λ (qs : List (List Queued)). length qs) promised.queues ∙ length_withdrawn h old.apcs.queues in
-    subst IsSound (sym new_is)
+    subst IsMachineSound (sym new_is)
     (retimed_sound old h o' apcs sound is refl len (λ t sets. placed armed.routine refl t sets promised.place runs) promised.others)
   where
     placed : (routine : Option Routine) → armed.routine ≡ routine → (t : ℕ) → option_map (λ (r : Routine). r.thread) routine ≡ Some t → IfSome routine (λ r. place_of p.apcs.places h ≡ Some r.thread) → IfSome routine (λ r. (r.thread < old.threads) × (has_ended (object_at old.objects r.thread) ≡ false)) → (place_of p.apcs.places h ≡ Some t) × (t < old.threads) × (has_ended (object_at old.objects t) ≡ false)
@@ -237,7 +237,7 @@ armed_sound old p mid new h o armed sound is runs promised withdraws arms puts =
         (place ∙ ap (λ (k : ℕ). Some k) same, subst (λ (k : ℕ). k < old.threads) same runs.0, subst (λ (k : ℕ). has_ended (object_at old.objects k) ≡ false) same runs.1)
 
 -- the routine of a timer that expires has its place
-pub ringing_placed : (d : Dispatcher) (h due : ℕ) (o : Object) (routine : Option Routine) → IsSound d → o ≡ object_at d.objects h → due_of o ≡ Some due → IfSome (setting_of o) (λ armed. routine ≡ armed.routine) → IfSome routine (λ r. place_of d.apcs.places h ≡ Some r.thread)
+pub ringing_placed : (d : Dispatcher) (h due : ℕ) (o : Object) (routine : Option Routine) → IsMachineSound d → o ≡ object_at d.objects h → due_of o ≡ Some due → IfSome (setting_of o) (λ armed. routine ≡ armed.routine) → IfSome routine (λ r. place_of d.apcs.places h ≡ Some r.thread)
 ringing_placed d h due o routine sound is has same =
     let own = due_setting o due has in
     let parts = setting_parts o own.0 own.1 in
@@ -251,7 +251,7 @@ ringing_placed d h due o routine sound is has same =
         ap setter_of (sym is ∙ at) ∙ ap (λ (x : Option Routine). option_map (λ (y : Routine). y.thread) x) (sym routines ∙ e) in
         sound.timers.placed h r.thread setter
 
-pub ringing_sound : (d put new : Dispatcher) (h due at now : ℕ) (o o' : Object) (routine : Option Routine) → IsSound d → o ≡ object_at d.objects h → due_of o ≡ Some due → IfSome (setting_of o) (λ armed. o' ≡ armed_with (rearmed now armed) (with_set true o)) → put ≡ record d { objects = set d.objects h o'; alarms = set d.alarms h (due_of o') } → new ≡ record put { apcs = record put.apcs { queues = notified put.apcs.queues h at routine } } → IsSound new
+pub ringing_sound : (d put new : Dispatcher) (h due at now : ℕ) (o o' : Object) (routine : Option Routine) → IsMachineSound d → o ≡ object_at d.objects h → due_of o ≡ Some due → IfSome (setting_of o) (λ armed. o' ≡ armed_with (rearmed now armed) (with_set true o)) → put ≡ record d { objects = set d.objects h o'; alarms = set d.alarms h (due_of o') } → new ≡ record put { apcs = record put.apcs { queues = notified put.apcs.queues h at routine } } → IsMachineSound new
 ringing_sound d put new h due at now o o' routine sound is has changes puts notifies =
     let own = due_setting o due has in
     let parts = setting_parts o own.0 own.1 in
@@ -260,7 +260,7 @@ ringing_sound d put new h due at now o o' routine sound is has changes puts noti
     let timer : object_at d.objects h ≡ Timer parts.0 parts.1 (Some armed) = sym is ∙ parts.2 in
     let same : o' ≡ Timer parts.0 true (rearmed now armed) = subst (λ (s : Option Armed). IfSome s (λ a. o' ≡ armed_with (rearmed now a) (with_set true o))) own.1 changes ∙ ap (λ (x : Object). armed_with (rearmed now armed) (with_set true x)) parts.2 in
     let new_is : new ≡ retimed d h (Timer parts.0 true (rearmed now armed)) apcs = notifies ∙ (ap (λ (x : Dispatcher). record x { apcs = record x.apcs { queues = notified x.apcs.queues h at routine } }) puts ∙ ap (λ (x : Object). retimed d h x apcs) same) in
-    subst IsSound (sym new_is)
+    subst IsMachineSound (sym new_is)
     (retimed_sound d h (Timer parts.0 true (rearmed now armed)) apcs sound (ap is_timer timer) refl (length_notified d.apcs.queues h at routine)
     (λ t sets.
     let setter : setter_of (object_at d.objects h) ≡ Some t = ap setter_of timer ∙ setter_rearmed now parts.0 parts.1 armed t sets in
@@ -305,7 +305,7 @@ rung_after old d1 d2 h v manual was a armed is now arms rings =
     ∙ rung_state old.now (state old) h manual was a armed is (known_timer old.objects h (ap is_timer is))))
 
 -- it is not due yet
-pub set_ahead : (old new : Dispatcher) (t h : ℕ) (due period : ℤ) (routine : Option (ℕ × ℕ)) (armed : Armed) → IsFresh old → fin.get old.table.pending t ≡ None → is_timer (object_at old.objects h) ≡ true → armed ≡ asked old.now t due period routine → old.now < armed.due → state new ≡ armed_anew (state old) h armed → IsSound new → new.grants ≡ old.grants → new.table ≡ old.table → new.marked ≡ old.marked → Accepts old new t (Call.Act (Act.SetTimer h due period routine)) Reply.Done
+pub set_ahead : (old new : Dispatcher) (t h : ℕ) (due period : ℤ) (routine : Option (ℕ × ℕ)) (armed : Armed) → IsFresh old → fin.get old.table.pending t ≡ None → is_timer (object_at old.objects h) ≡ true → armed ≡ asked old.now t due period routine → old.now < armed.due → state new ≡ armed_anew (state old) h armed → IsMachineSound new → new.grants ≡ old.grants → new.table ≡ old.table → new.marked ≡ old.marked → Accepts old new t (Call.Act (Act.SetTimer h due period routine)) Reply.Done
 set_ahead old new t h due period routine armed fresh idle is same ahead arms sound grants table marked =
     let parts = timer_parts (object_at old.objects h) is in
     let changes : change (state old) t (Call.Act (Act.SetTimer h due period routine)) ≡ timed_state (state old) h (Timer parts.0 false (Some armed)) (withdrawn old.apcs.queues h) =
@@ -320,7 +320,7 @@ set_ahead old new t h due period routine armed fresh idle is same ahead arms sou
     inside a b e = (cc)
 
 -- it is due, and was set before
-pub set_at_once : (old d1 new : Dispatcher) (t h v : ℕ) (due period : ℤ) (routine : Option (ℕ × ℕ)) (armed : Armed) → IsFresh old → fin.get old.table.pending t ≡ None → is_timer (object_at old.objects h) ≡ true → armed ≡ asked old.now t due period routine → v ≡ old.now → armed.due ≤ v → signaled (object_at old.objects h) t ≡ true → state d1 ≡ armed_anew (state old) h armed → state new ≡ expired v (state d1) h → IsSound new → new.grants ≡ old.grants → new.table ≡ old.table → new.marked ≡ old.marked → Accepts old new t (Call.Act (Act.SetTimer h due period routine)) Reply.Done
+pub set_at_once : (old d1 new : Dispatcher) (t h v : ℕ) (due period : ℤ) (routine : Option (ℕ × ℕ)) (armed : Armed) → IsFresh old → fin.get old.table.pending t ≡ None → is_timer (object_at old.objects h) ≡ true → armed ≡ asked old.now t due period routine → v ≡ old.now → armed.due ≤ v → signaled (object_at old.objects h) t ≡ true → state d1 ≡ armed_anew (state old) h armed → state new ≡ expired v (state d1) h → IsMachineSound new → new.grants ≡ old.grants → new.table ≡ old.table → new.marked ≡ old.marked → Accepts old new t (Call.Act (Act.SetTimer h due period routine)) Reply.Done
 set_at_once old d1 new t h v due period routine armed fresh idle is same now past was arms rings sound grants table marked =
     let parts = timer_parts (object_at old.objects h) is in
     let known = known_timer old.objects h is in
@@ -336,7 +336,7 @@ set_at_once old d1 new t h v due period routine armed fresh idle is same now pas
     (rung_after old d1 new h v parts.0 parts.1 parts.2 armed parts.3 now arms rings) sound grants (ap (λ (x : Waits). x.looked) table) marked changes
 
 -- it is due, was not set before, and its waits were served
-pub set_and_served : (old d1 mid new : Dispatcher) (t h v : ℕ) (due period : ℤ) (routine : Option (ℕ × ℕ)) (armed : Armed) → IsFresh old → fin.get old.table.pending t ≡ None → is_timer (object_at old.objects h) ≡ true → armed ≡ asked old.now t due period routine → v ≡ old.now → armed.due ≤ v → signaled (object_at old.objects h) t ≡ false → state d1 ≡ armed_anew (state old) h armed → state mid ≡ expired v (state d1) h → Serve (sequence (state mid) (h ∷ [])) (state mid) new.grants (state new) → IsSound new → new.table.looked ≤ length (sequence (state mid) (h ∷ [])) → length new.grants ≤ new.table.looked → new.marked ≡ old.marked → Accepts old new t (Call.Act (Act.SetTimer h due period routine)) Reply.Done
+pub set_and_served : (old d1 mid new : Dispatcher) (t h v : ℕ) (due period : ℤ) (routine : Option (ℕ × ℕ)) (armed : Armed) → IsFresh old → fin.get old.table.pending t ≡ None → is_timer (object_at old.objects h) ≡ true → armed ≡ asked old.now t due period routine → v ≡ old.now → armed.due ≤ v → signaled (object_at old.objects h) t ≡ false → state d1 ≡ armed_anew (state old) h armed → state mid ≡ expired v (state d1) h → Serve (sequence (state mid) (h ∷ [])) (state mid) new.grants (state new) → IsMachineSound new → new.table.looked ≤ length (sequence (state mid) (h ∷ [])) → length new.grants ≤ new.table.looked → new.marked ≡ old.marked → Accepts old new t (Call.Act (Act.SetTimer h due period routine)) Reply.Done
 set_and_served old d1 mid new t h v due period routine armed fresh idle is same now past was arms rings serve sound most least marked =
     let parts = timer_parts (object_at old.objects h) is in
     let known = known_timer old.objects h is in

@@ -13,9 +13,9 @@ use Rattle.std.proofs.lemmas.Bool.Decides.{nat_tests}
 use Rattle.nt_waits.specs.declared.wait.Wait.{Wait}
 use Rattle.nt_waits.specs.Waits.{Waits, queue_of, Agrees, Names}
 use Rattle.nt_calls.specs.declared.call.Reply.{Reply}
-use Rattle.nt_calls.specs.State.{State, Pending, names, pending_too}
+use Rattle.nt_calls.specs.State.{State, Pending, wait_names, pending_too}
 use Rattle.nt_core.specs.Dispatcher.{Dispatcher, state}
-use Rattle.nt_core.specs.Lawful.{IsSoundWait, IsSound, IsUnmarked}
+use Rattle.nt_core.specs.Lawful.{IsSoundWait, IsMachineSound, IsUnmarked}
 use Rattle.std.proofs.lemmas.List.{length-set}
 use Rattle.nt_status.specs.declared.limits.TheConstants.{INFINITE}
 use Rattle.nt_apc.specs.Queues.{has_apc}
@@ -85,23 +85,23 @@ names_no (x ∷ hs) h e (suc j) below is = names_no hs h (second (x == h) (list_
 
 pub pends_too : (old : Dispatcher) (table : Waits) (t : ℕ) (w : Wait) → table.pending ≡ fin.insert old.table.pending t w → ((h : ℕ) → Names w h → queue_of table h ≡ queue_of old.table h ++ t ∷ []) → ((h : ℕ) → (Names w h → ⊥) → queue_of table h ≡ queue_of old.table h) → state (record old { table = table }) ≡ pending_too (state old) t w
 pends_too old table t w pending joined kept =
-    state_same (state (record old { table = table })) (pending_too (state old) t w) refl refl refl pending (λ h. queue h (names w h) refl) refl refl refl
+    state_same (state (record old { table = table })) (pending_too (state old) t w) refl refl refl pending (λ h. queue h (wait_names w h) refl) refl refl refl
   where
-    queue : (h : ℕ) (b : Bool) → names w h ≡ b → queue_of table h ≡ (if names w h then queue_of old.table h ++ t ∷ [] else queue_of old.table h)
+    queue : (h : ℕ) (b : Bool) → wait_names w h ≡ b → queue_of table h ≡ (if wait_names w h then queue_of old.table h ++ t ∷ [] else queue_of old.table h)
     queue h true is = rw is (joined h (names_yes w.objects h is))
     queue h false is = rw is (kept h (λ named. names_no w.objects h is named.0 named.1 named.2))
 
 -- no queue is shorter then
 pub queues_longer : (old table : Waits) (t : ℕ) (w : Wait) → ((h : ℕ) → Names w h → queue_of table h ≡ queue_of old h ++ t ∷ []) → ((h : ℕ) → (Names w h → ⊥) → queue_of table h ≡ queue_of old h) → (h : ℕ) → nat_lt 0 (length (queue_of old h)) ≡ true → nat_lt 0 (length (queue_of table h)) ≡ true
-queues_longer old table t w joined kept h some = go (names w h) refl
+queues_longer old table t w joined kept h some = go (wait_names w h) refl
   where
-    go : (b : Bool) → names w h ≡ b → nat_lt 0 (length (queue_of table h)) ≡ true
+    go : (b : Bool) → wait_names w h ≡ b → nat_lt 0 (length (queue_of table h)) ≡ true
     go true is =
         let longer : length (queue_of table h) ≡ length (queue_of old h) + 1 = ap (λ q. length q) (joined h (names_yes w.objects h is)) ∙ length-append (queue_of old h) (t ∷ []) in
         grind (arith, nat_tests, longer)
     go false is = ap (λ q. nat_lt 0 (length q)) (kept h (λ named. names_no w.objects h is named.0 named.1 named.2)) ∙ some
 
-pub sound_begun : (old : Dispatcher) (table : Waits) (t : ℕ) (w : Wait) → IsSound old → IsSoundWait old.threads old.objects t w → fin.get old.table.pending t ≡ None → length old.grants + fin.len old.table.pending < old.threads → table.pending ≡ fin.insert old.table.pending t w → Agrees table.pending table.queues → ((h : ℕ) → nat_lt 0 (length (queue_of old.table h)) ≡ true → nat_lt 0 (length (queue_of table h)) ≡ true) → IsSound (record old { table = table; standings = set old.standings t Waiting })
+pub sound_begun : (old : Dispatcher) (table : Waits) (t : ℕ) (w : Wait) → IsMachineSound old → IsSoundWait old.threads old.objects t w → fin.get old.table.pending t ≡ None → length old.grants + fin.len old.table.pending < old.threads → table.pending ≡ fin.insert old.table.pending t w → Agrees table.pending table.queues → ((h : ℕ) → nat_lt 0 (length (queue_of old.table h)) ≡ true → nat_lt 0 (length (queue_of table h)) ≡ true) → IsMachineSound (record old { table = table; standings = set old.standings t Waiting })
 sound_begun old table t w sound able idle room pending agrees more = record {
   few = sound.few;
   waits = λ u v pends. go u v (get_inserted old.table.pending t u w v (ap (λ m. fin.get m u) (sym pending) ∙ pends));
@@ -181,7 +181,7 @@ len_below m n known =
     waiter q (Some w) e h = known q w e
 
 -- where one thread does not wait, there is room for its grant too
-pub room_to_begin : (d : Dispatcher) (t : ℕ) (w : Wait) → IsSound d → t < d.threads → fin.get d.table.pending t ≡ None → fin.len d.table.pending < d.threads
+pub room_to_begin : (d : Dispatcher) (t : ℕ) (w : Wait) → IsMachineSound d → t < d.threads → fin.get d.table.pending t ≡ None → fin.len d.table.pending < d.threads
 room_to_begin d t w sound known idle =
     let more = len_inserted d.table.pending t w idle in
     let few = len_below (fin.insert d.table.pending t w) d.threads all in
@@ -194,7 +194,7 @@ room_to_begin d t w sound known idle =
     ]
 
 -- no thread waits that there is not
-pub nobody_beyond : (d : Dispatcher) (t : ℕ) → IsSound d → d.threads ≤ t → is_some (fin.get d.table.pending t) ≡ false
+pub nobody_beyond : (d : Dispatcher) (t : ℕ) → IsMachineSound d → d.threads ≤ t → is_some (fin.get d.table.pending t) ≡ false
 nobody_beyond d t sound beyond = go (fin.get d.table.pending t) refl
   where
     go : (o : Option Wait) → fin.get d.table.pending t ≡ o → is_some o ≡ false
@@ -294,7 +294,7 @@ handed_steady old t may steady = record {
 }
 
 -- it pends
-pub began_pending : (old new : Dispatcher) (t ms : ℕ) (w : Wait) → IsSteady old → fits old.objects t w ≡ false → (w.alertable && has_apc old.apcs.queues t) ≡ false → ms ≢ 0 → w.deadline ≡ deadline_after old.now ms → state new ≡ pending_too (state old) t w → IsSound new → new.marked ≡ old.marked → IsSteady new
+pub began_pending : (old new : Dispatcher) (t ms : ℕ) (w : Wait) → IsSteady old → fits old.objects t w ≡ false → (w.alertable && has_apc old.apcs.queues t) ≡ false → ms ≢ 0 → w.deadline ≡ deadline_after old.now ms → state new ≡ pending_too (state old) t w → IsMachineSound new → new.marked ≡ old.marked → IsSteady new
 began_pending old new t ms w steady unfit quiet later deadline becomes sound marked =
     record {
       sound = sound;

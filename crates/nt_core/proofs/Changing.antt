@@ -10,13 +10,13 @@ use Rattle.nt_objects.specs.declared.object.Object.TheVariants.{Event, Semaphore
 use Rattle.nt_objects.specs.Object.{signaled, is_event, is_thread, is_gone, has_ended, has_room, owned_by, due_of, setter_of, IsLawfulObject}
 use Rattle.nt_calls.specs.Rising.{AreRising}
 use Rattle.nt_calls.specs.State.{State, object_at}
-use Rattle.nt_core.specs.Dispatcher.{Dispatcher, state, with_created, with_object}
+use Rattle.nt_core.specs.Dispatcher.{Dispatcher, state, with_created, with_object_added}
 use Rattle.nt_calls.specs.Refusals.{is_at_limit, is_full}
 use Rattle.nt_calls.specs.Serving.{is_ready, fits, satisfied, is_due, IsChanged, sequence, IsServed}
 use Rattle.nt_core.specs.Visits.{FitOnlyIn}
 use Rattle.nt_calls.specs.Steps.{NothingDue}
 use Rattle.nt_objects.specs.declared.handles.Opened.{Opened}
-use Rattle.nt_core.specs.Lawful.{IsSound, HandlesAgree, MarksAgreeBut, MayReplace}
+use Rattle.nt_core.specs.Lawful.{IsMachineSound, HandlesAgree, MarksAgreeBut, MayReplace}
 use Rattle.nt_core.proofs.Taking.{fits_kept}
 use Rattle.nt_core.proofs.Handling.{handles_along, handles_created}
 use Rattle.nt_objects.specs.Handles.{full_access}
@@ -131,7 +131,7 @@ in_sequence s (k ∷ ks) h t named member = elim (contains_cases k ks h named) [
 ]
 
 -- before the change no wait fitted: so one that fits now names a changed object, and stands in the sequence
-pub fit_only_in : (changed : List ℕ) (old : Dispatcher) (objects : List Object) → IsSound old → IsServed (state old) → ChangedOnlyAt changed old.objects objects → FitOnlyIn (sequence (state old) changed) (state (record old { objects = objects }))
+pub fit_only_in : (changed : List ℕ) (old : Dispatcher) (objects : List Object) → IsMachineSound old → IsServed (state old) → ChangedOnlyAt changed old.objects objects → FitOnlyIn (sequence (state old) changed) (state (record old { objects = objects }))
 fit_only_in changed old objects sound served only t due = go (fin.get old.table.pending t) refl due
   where
     go : (o : Option Wait) → fin.get old.table.pending t ≡ o → satisfied objects t o ≡ true → Contains (sequence (state old) changed) t
@@ -145,7 +145,7 @@ fit_only_in changed old objects sound served only t due = go (fin.get old.table.
     ]
 
 -- where no object changes that waits name, no wait fits
-pub served_unchanged : (old : Dispatcher) (objects : List Object) → IsSound old → IsServed (state old) → ChangedOnlyAt [] old.objects objects → IsServed (state (record old { objects = objects }))
+pub served_unchanged : (old : Dispatcher) (objects : List Object) → IsMachineSound old → IsServed (state old) → ChangedOnlyAt [] old.objects objects → IsServed (state (record old { objects = objects }))
 served_unchanged old objects sound served only t = go (is_due (state (record old { objects = objects })) t) refl
   where
     go : (b : Bool) → is_due (state (record old { objects = objects })) t ≡ b → b ≡ false
@@ -189,7 +189,7 @@ limit_set (x ∷ os) zero o u kept (suc k) below = below
 limit_set (x ∷ os) (suc h) o u kept zero below = below
 limit_set (x ∷ os) (suc h) o u kept (suc k) below = limit_set os h o u kept k below
 
-pub sound_replaced : (d : Dispatcher) (h : ℕ) (o : Object) (owned : List (List ℕ)) → IsSound d → MayReplace (object_at d.objects h) o → IsSound (record d { objects = set d.objects h o; owned = owned })
+pub sound_replaced : (d : Dispatcher) (h : ℕ) (o : Object) (owned : List (List ℕ)) → IsMachineSound d → MayReplace (object_at d.objects h) o → IsMachineSound (record d { objects = set d.objects h o; owned = owned })
 sound_replaced d h o owned sound may = record {
   few = sound.few;
   waits = λ t w pends.
@@ -239,7 +239,7 @@ unset_undue (Thread ended) due = refl
 unset_undue Gone due = refl
 
 -- one object number more leaves all readings of objects that were there
-pub sound_longer : (d : Dispatcher) (o : Object) (owned : List (List ℕ)) (handles : List (Option Opened)) → IsSound d → IsLawfulObject o → is_thread o ≡ false → due_of o ≡ None → HandlesAgree (length (d.objects ++ o ∷ [])) handles → MarksAgreeBut [] (record (with_object d o owned) { handles = handles }) → IsSound (record (with_object d o owned) { handles = handles })
+pub sound_longer : (d : Dispatcher) (o : Object) (owned : List (List ℕ)) (handles : List (Option Opened)) → IsMachineSound d → IsLawfulObject o → is_thread o ≡ false → due_of o ≡ None → HandlesAgree (length (d.objects ++ o ∷ [])) handles → MarksAgreeBut [] (record (with_object_added d o owned) { handles = handles }) → IsMachineSound (record (with_object_added d o owned) { handles = handles })
 sound_longer d o owned handles sound lawful no_thread due agree marked = record {
   few = sound.few;
   waits = λ t w pends.
@@ -299,7 +299,7 @@ sound_longer d o owned handles sound lawful no_thread due agree marked = record 
     all (x ∷ os) has (suc k) = all os (λ j. has (suc j)) k
 
 -- one object more, and its handle
-pub sound_created : (d : Dispatcher) (o : Object) (owned : List (List ℕ)) → IsSound d → is_full d.handles ≡ false → IsLawfulObject o → is_thread o ≡ false → is_gone o ≡ false → due_of o ≡ None → IsSound (with_created d o owned)
+pub sound_created : (d : Dispatcher) (o : Object) (owned : List (List ℕ)) → IsMachineSound d → is_full d.handles ≡ false → IsLawfulObject o → is_thread o ≡ false → is_gone o ≡ false → due_of o ≡ None → IsMachineSound (with_created d o owned)
 sound_created d o owned sound room lawful no_thread alive due =
     sound_longer d o owned (d.handles ++ Some (record { object = length d.objects; access = full_access o }) ∷ []) sound lawful no_thread due
     (handles_created (length (d.objects ++ o ∷ [])) d.handles (length d.objects) (full_access o) (grind (arith, nat_tests, room)) sound.handles (length-append d.objects (o ∷ [])))

@@ -18,7 +18,7 @@ use Rattle.nt_calls.specs.State.{object_at}
 use Rattle.nt_calls.specs.Naming.{object_in, object_named}
 use Rattle.nt_core.specs.Dispatcher.{Dispatcher, state}
 use Rattle.nt_calls.specs.Living.{is_forgotten}
-use Rattle.nt_core.specs.Lawful.{IsSound, IsSteady, HandlesAgree, MarksAgreeBut}
+use Rattle.nt_core.specs.Lawful.{IsMachineSound, IsSteady, HandlesAgree, MarksAgreeBut}
 use Rattle.nt_calls.specs.Refusals.{first_of_causes, close_causes}
 use Rattle.nt_core.specs.Accepts.{IsFresh, Accepts}
 use Rattle.nt_core.proofs.Accepting.{accepted, next_causes}
@@ -28,7 +28,7 @@ use Rattle.nt_core.proofs.Replacing.{idle_served}
 
 -- ---- what an open handle names lives
 
-pub named_living : (d : Dispatcher) (h : ℕ) → IsSound d → object_named d.handles h < length d.objects → is_gone (object_at d.objects (object_named d.handles h)) ≡ false
+pub named_living : (d : Dispatcher) (h : ℕ) → IsMachineSound d → object_named d.handles h < length d.objects → is_gone (object_at d.objects (object_named d.handles h)) ≡ false
 named_living d h sound known = go (opened_at d.handles h) refl
   where
     go : (o : Option Opened) → opened_at d.handles h ≡ o → is_gone (object_at d.objects (object_named d.handles h)) ≡ false
@@ -39,7 +39,7 @@ named_living d h sound known = go (opened_at d.handles h) refl
         absurd (omega (arith, known, none, few, enough))
     go (Some opened) is = ap (λ (o : Option Opened). is_gone (object_at d.objects (object_in o))) is ∙ sound.marks.living h opened is
 
-pub all_living : (d : Dispatcher) (hs : List ℕ) → IsSound d → (o : ℕ) → Contains (map (object_named d.handles) hs) o → o < length d.objects → is_gone (object_at d.objects o) ≡ false
+pub all_living : (d : Dispatcher) (hs : List ℕ) → IsMachineSound d → (o : ℕ) → Contains (map (object_named d.handles) hs) o → o < length d.objects → is_gone (object_at d.objects o) ≡ false
 all_living d [] sound o m known = absurd (contains_none o m)
 all_living d (h ∷ hs) sound o m known = elim (contains_cases (object_named d.handles h) (map (object_named d.handles) hs) o m) [
   | inl here ↦ ap (λ (k : ℕ). is_gone (object_at d.objects k)) (sym here) ∙ named_living d h sound (subst (λ (k : ℕ). k < length d.objects) (sym here) known)
@@ -111,7 +111,7 @@ closed_accepted old new t h opened fresh is becomes =
     d : Dispatcher
     d = record old { handles = set old.handles h None; leaving = set old.leaving opened.object true }
 
-    before : IsSound old
+    before : IsMachineSound old
     before = fresh.steady.sound
 
     all : IsSteady d

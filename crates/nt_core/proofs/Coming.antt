@@ -20,7 +20,7 @@ use Rattle.nt_calls.specs.Serving.{satisfied, sequence, IsServed, ending, late_s
 use Rattle.nt_calls.specs.Change.{all_expired}
 use Rattle.nt_calls.specs.Steps.{IsAwaited, IsNextMoment, NothingDue, MomentPasses, MomentsPass, Ticked}
 use Rattle.nt_calls.specs.Living.{Ends}
-use Rattle.nt_core.specs.Lawful.{IsSound, IsSteady, IsUnmarked}
+use Rattle.nt_core.specs.Lawful.{IsMachineSound, IsSteady, IsUnmarked}
 use Rattle.nt_core.specs.Accepts.{IsFresh, IsPassedAfter, IsDueBy, is_by_objects, ended_by_objects, IsTickLocal}
 use Rattle.nt_core.proofs.Accepting.{IsCalm}
 use Rattle.nt_core.proofs.Alerting.{over_pending, over_objects}
@@ -38,7 +38,7 @@ blocks_in s h = length (s.queues h)
 pub record TickSoFar (old now : Dispatcher) (m : ℕ) : Type 0 where
   pub moments : List ℕ
   pub passed : Passed (state old) m moments now.grants (state now)
-  pub sound : IsSound now
+  pub sound : IsMachineSound now
   pub served : IsServed (state now)
   pub calm : IsCalm (state now)
   pub kept : (t : ℕ) (w : Wait) → fin.get (state now).waits t ≡ Some w → fin.get (state old).waits t ≡ Some w
@@ -60,7 +60,7 @@ tick_first d m fresh = record {
 }
 
 -- what is left to test fits the counter
-pub tick_countable : (old now : Dispatcher) (m : ℕ) → IsSound old → TickSoFar old now m → now.table.looked + due_weight (blocks_in (state now)) m 0 now.objects < 2 ^ 64
+pub tick_countable : (old now : Dispatcher) (m : ℕ) → IsMachineSound old → TickSoFar old now m → now.table.looked + due_weight (blocks_in (state now)) m 0 now.objects < 2 ^ 64
 tick_countable old now m sound far =
     let bound = due_weight_bound (blocks_in (state old)) m 0 4096 old.objects (λ h. queue_few old h sound) in
     let most = far.most in

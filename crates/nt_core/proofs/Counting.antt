@@ -18,9 +18,9 @@ use Rattle.nt_calls.specs.Calls.{timeout_of}
 use Rattle.nt_calls.specs.Naming.{call_named}
 use Rattle.nt_calls.specs.Rising.{IsRising}
 use Rattle.nt_calls.specs.State.{State, Pending, wait_over, waits_over}
-use Rattle.nt_calls.specs.Serving.{fits, granted, Grants, Alert, TimeOut}
+use Rattle.nt_calls.specs.Serving.{fits, wait_granted, Grants, Alert, TimeOut}
 use Rattle.nt_calls.specs.Change.{change, may_take, expired, expired_as, all_expired}
-use Rattle.nt_calls.specs.Steps.{Called, Step, Ticked, MomentPasses, MomentsPass, after_serving, answered, begun, wait_of}
+use Rattle.nt_calls.specs.Steps.{Called, Step, Ticked, MomentPasses, MomentsPass, after_serving, answered, begun, asked_wait}
 use Rattle.nt_core.proofs.Remaining.{ends_waits}
 
 len_removed : (m : Pending) (t : ℕ) (w : Wait) → map.get m t ≡ Some w → map.len (map.remove m t) + 1 ≡ map.len m
@@ -37,7 +37,7 @@ len_removed m t w e =
 grants-len : (threads : List ℕ) (gs : List Grant) (old new : State) → Grants threads old gs new → length gs + map.len new.waits ≡ map.len old.waits
 grants-len threads [] old new h = let e = ap (λ (s : State). map.len s.waits) h in omega arith
 grants-len threads (g ∷ gs) old new h =
-    let rest = grants-len threads gs (granted old g.thread h.1) new h.3 in
+    let rest = grants-len threads gs (wait_granted old g.thread h.1) new h.3 in
     let one = len_removed old.waits g.thread h.1 h.2.pends in
     omega (arith, rest, one)
 
@@ -117,7 +117,7 @@ begun-len s new t w ms reply e = by (fits s.objects t w) (w.alertable && has_apc
 answered-len : (old s new : State) (t : ℕ) (call : Call) (reply : Reply) → (reply, new) ≡ answered old s t call → map.len new.waits ≤ map.len s.waits + 1
 answered-len old s new t (Call.Act act) reply e = let same = ap (λ (x : Reply × State). map.len (x.1).waits) e in omega arith
 answered-len old s new t Call.Exit reply e = let same = ap (λ (x : Reply × State). map.len (x.1).waits) e in omega arith
-answered-len old s new t (Call.Wait wait) reply e = begun-len s new t (wait_of s.now wait) (timeout_of wait) reply e
+answered-len old s new t (Call.Wait wait) reply e = begun-len s new t (asked_wait s.now wait) (timeout_of wait) reply e
 
 -- the waits that pend when the caller's own comes are those from before without the granted ones
 woken_len : (old : State) (who : ℕ) (call : Call) (reply : Reply) (grants : List Grant) (new : State) (step : Step old who call reply grants new) → length grants + map.len (step.woken).waits ≡ map.len old.waits

@@ -19,7 +19,7 @@ use Rattle.nt_apc.specs.Queues.{Apcs, place_of, withdrawn}
 use Rattle.nt_calls.specs.State.{State, object_at}
 use Rattle.nt_core.specs.Dispatcher.{Dispatcher, state}
 use Rattle.nt_calls.specs.Living.{is_opened, is_awaited, runs, is_forgotten, gone}
-use Rattle.nt_core.specs.Lawful.{IsSound}
+use Rattle.nt_core.specs.Lawful.{IsMachineSound}
 use Rattle.nt_core.proofs.Changing.{object_at-set_other, property_set, limit_set}
 use Rattle.nt_core.proofs.Handling.{handles_along}
 use Rattle.nt_core.proofs.Lives.{still_forgotten, counted_opened, unkept, forgotten_known}
@@ -28,7 +28,7 @@ use Rattle.nt_core.proofs.Rousing.{cleared_other}
 use Rattle.nt_core.proofs.Settling.{queue_there}
 use Rattle.nt_core.proofs.Standings.{standings_kept}
 
-pub gone_sound : (d : Dispatcher) (o : ℕ) (owned : List (List ℕ)) (apcs : Apcs) → IsSound d → is_forgotten (state d) o ≡ true → length apcs.queues ≡ length d.apcs.queues → ((m : ℕ) → m ≢ o → place_of apcs.places m ≡ place_of d.apcs.places m) → IsSound (record d { objects = set d.objects o Gone; owned = owned; apcs = apcs; alarms = set d.alarms o None })
+pub gone_sound : (d : Dispatcher) (o : ℕ) (owned : List (List ℕ)) (apcs : Apcs) → IsMachineSound d → is_forgotten (state d) o ≡ true → length apcs.queues ≡ length d.apcs.queues → ((m : ℕ) → m ≢ o → place_of apcs.places m ≡ place_of d.apcs.places m) → IsMachineSound (record d { objects = set d.objects o Gone; owned = owned; apcs = apcs; alarms = set d.alarms o None })
 gone_sound d o owned apcs sound forgotten len places = record {
   few = sound.few;
   waits = λ u w pends.
@@ -133,9 +133,9 @@ gone_sound d o owned apcs sound forgotten len places = record {
     none_set h t here sets = let e : None ≡ Some t = sym (ap setter_of (here_gone h here)) ∙ sets in (cc)
 
 -- the same, from what the code of it says
-pub ended_object : (old mid : Dispatcher) (o : ℕ) (objects : List Object) (owned : List (List ℕ)) (alarms : List (Option ℕ)) → IsSound old → is_forgotten (state old) o ≡ true → mid ≡ record old { apcs = mid.apcs } → mid.apcs.queues ≡ withdrawn old.apcs.queues o → ((m : ℕ) → m ≢ o → place_of mid.apcs.places m ≡ place_of old.apcs.places m) → objects ≡ set mid.objects o Gone → alarms ≡ set mid.alarms o None → IsSound (record mid { objects = objects; owned = owned; alarms = alarms })
+pub ended_object : (old mid : Dispatcher) (o : ℕ) (objects : List Object) (owned : List (List ℕ)) (alarms : List (Option ℕ)) → IsMachineSound old → is_forgotten (state old) o ≡ true → mid ≡ record old { apcs = mid.apcs } → mid.apcs.queues ≡ withdrawn old.apcs.queues o → ((m : ℕ) → m ≢ o → place_of mid.apcs.places m ≡ place_of old.apcs.places m) → objects ≡ set mid.objects o Gone → alarms ≡ set mid.alarms o None → IsMachineSound (record mid { objects = objects; owned = owned; alarms = alarms })
 ended_object old mid o objects owned alarms sound forgotten rest queues places puts quiet =
-    subst IsSound (sym is) (gone_sound old o owned mid.apcs sound forgotten (ap (λ qs. length qs) queues ∙ same_inboxes old.apcs.queues) places)
+    subst IsMachineSound (sym is) (gone_sound old o owned mid.apcs sound forgotten (ap (λ qs. length qs) queues ∙ same_inboxes old.apcs.queues) places)
   where
     new_objects : objects ≡ set old.objects o Gone
     new_objects = puts ∙ ap (λ (d : Dispatcher). set d.objects o Gone) rest
@@ -151,7 +151,7 @@ ended_object old mid o objects owned alarms sound forgotten rest queues places p
     same_inboxes (q ∷ qs) = ap suc (same_inboxes qs)
 
 -- an object that is not forgotten needs no mark
-pub unmarked_sound : (d : Dispatcher) (o : ℕ) → IsSound d → is_forgotten (state d) o ≡ false → IsSound (record d { leaving = set d.leaving o false })
+pub unmarked_sound : (d : Dispatcher) (o : ℕ) → IsMachineSound d → is_forgotten (state d) o ≡ false → IsMachineSound (record d { leaving = set d.leaving o false })
 unmarked_sound d o sound needless = record {
   few = sound.few;
   waits = sound.waits;

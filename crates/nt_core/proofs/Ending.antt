@@ -19,7 +19,7 @@ use Rattle.nt_calls.specs.Rising.{AreRising}
 use Rattle.nt_calls.specs.Serving.{IsChanged, sequence, Serve}
 use Rattle.nt_calls.specs.Change.{exited}
 use Rattle.nt_core.specs.Visits.{FitOnlyIn}
-use Rattle.nt_core.specs.Lawful.{IsSound, IsSteady, IsUnmarked}
+use Rattle.nt_core.specs.Lawful.{IsMachineSound, IsSteady, IsUnmarked}
 use Rattle.nt_core.specs.Accepts.{IsFresh, IsSetBy, IsStoppedAfter, IsExitedAfter, Accepts}
 use Rattle.nt_calls.specs.declared.call.Call.{Call}
 use Rattle.nt_calls.specs.declared.call.Reply.{Reply}
@@ -64,7 +64,7 @@ not_given_up : (b : Bool) (place : Option ℕ) (u : ℕ) → (if b then None els
 not_given_up true place u at = let none : None ≡ Some u = at in (cc)
 not_given_up false place u at = at
 
-pub ended_sound : (d : Dispatcher) (t : ℕ) (apcs : Apcs) → IsSound d → fin.get d.table.pending t ≡ None → t < d.threads → has_ended (object_at d.objects t) ≡ false → ((h : ℕ) → setter_of (object_at d.objects h) ≢ Some t) → length apcs.queues ≡ length d.apcs.queues → ((m : ℕ) → place_of apcs.places m ≡ given_up t (place_of d.apcs.places m)) → IsSound (record d { objects = set d.objects t (Thread true); apcs = apcs; leaving = set d.leaving t true; standings = set d.standings t Ended })
+pub ended_sound : (d : Dispatcher) (t : ℕ) (apcs : Apcs) → IsMachineSound d → fin.get d.table.pending t ≡ None → t < d.threads → has_ended (object_at d.objects t) ≡ false → ((h : ℕ) → setter_of (object_at d.objects h) ≢ Some t) → length apcs.queues ≡ length d.apcs.queues → ((m : ℕ) → place_of apcs.places m ≡ given_up t (place_of d.apcs.places m)) → IsMachineSound (record d { objects = set d.objects t (Thread true); apcs = apcs; leaving = set d.leaving t true; standings = set d.standings t Ended })
 ended_sound d t apcs sound idle known running unset len places = record {
   few = sound.few;
   waits = λ u w pends.
@@ -130,10 +130,10 @@ ended_sound d t apcs sound idle known running unset len places = record {
 abbrev pub with_ended : Dispatcher → ℕ → Apcs → Dispatcher
 with_ended d t apcs = record d { objects = set d.objects t (Thread true); apcs = apcs; leaving = set d.leaving t true; standings = set d.standings t Ended; marked = record d.marked { changed = set d.marked.changed t true } }
 
-pub own_ended : (old new : Dispatcher) (t : ℕ) (apcs : Apcs) → IsSound old → fin.get old.table.pending t ≡ None → t < old.threads → has_ended (object_at old.objects t) ≡ false → ((h : ℕ) → setter_of (object_at old.objects h) ≢ Some t) → new ≡ with_ended old t apcs → apcs.queues ≡ cleared old.apcs.queues t → ((m : ℕ) → place_of apcs.places m ≡ given_up t (place_of old.apcs.places m)) → (state new ≡ record (state old) { objects = set old.objects t (Thread true); apcs = cleared old.apcs.queues t }) × IsSound new × (new.grants ≡ old.grants) × (new.table ≡ old.table) × (new.marked ≡ record old.marked { changed = set old.marked.changed t true })
+pub own_ended : (old new : Dispatcher) (t : ℕ) (apcs : Apcs) → IsMachineSound old → fin.get old.table.pending t ≡ None → t < old.threads → has_ended (object_at old.objects t) ≡ false → ((h : ℕ) → setter_of (object_at old.objects h) ≢ Some t) → new ≡ with_ended old t apcs → apcs.queues ≡ cleared old.apcs.queues t → ((m : ℕ) → place_of apcs.places m ≡ given_up t (place_of old.apcs.places m)) → (state new ≡ record (state old) { objects = set old.objects t (Thread true); apcs = cleared old.apcs.queues t }) × IsMachineSound new × (new.grants ≡ old.grants) × (new.table ≡ old.table) × (new.marked ≡ record old.marked { changed = set old.marked.changed t true })
 own_ended old new t apcs sound idle known running unset becomes queues places = (
   ap (λ (d : Dispatcher). state d) becomes ∙ ap (λ (qs : List (List Queued)). record (state old) { objects = set old.objects t (Thread true); apcs = qs }) queues,
-  subst (λ (d : Dispatcher). IsSound d) (sym becomes)
+  subst (λ (d : Dispatcher). IsMachineSound d) (sym becomes)
       (sound_marked (record old { objects = set old.objects t (Thread true); apcs = apcs; leaving = set old.leaving t true; standings = set old.standings t Ended }) (record old.marked { changed = set old.marked.changed t true })
       (ended_sound old t apcs sound idle known running unset (ap (λ qs. length qs) queues ∙ length-set old.apcs.queues t []) places)
       (record { changed = length-set old.marked.changed t true ∙ (sound.places.changed ∙ sym (length-set old.objects t (Thread true))); alerted = sound.places.alerted })),
@@ -161,7 +161,7 @@ exited_state old mid stopped new t frees stops ends = ends ∙ ap (λ (s : State
         ∙ ap (λ (os : List Object). record (state old) { objects = os }) objects)
 
 -- its own object is as before
-pub stopped_own : (old mid stopped : Dispatcher) (t : ℕ) → IsSound old → t < old.threads → has_ended (object_at old.objects t) ≡ false → IsFreed old t mid → IsStoppedAfter mid t stopped → object_at stopped.objects t ≡ Thread false
+pub stopped_own : (old mid stopped : Dispatcher) (t : ℕ) → IsMachineSound old → t < old.threads → has_ended (object_at old.objects t) ≡ false → IsFreed old t mid → IsStoppedAfter mid t stopped → object_at stopped.objects t ≡ Thread false
 stopped_own old mid stopped t sound known runs frees stops =
     ap (λ (os : List Object). object_at os t) (stopped_objects mid.objects stopped.objects t stops.stopped)
     ∙ (ap (λ (d : Dispatcher). object_at (map (unset_by t) d.objects) t) frees
@@ -181,15 +181,15 @@ freed_in v old t items owned changed same is =
     ap (λ (os : List Object). record v { objects = os; owned = owned; marked = record v.marked { changed = changed } }) is
     ∙ ap (λ (x : Dispatcher). record x { objects = map (abandoned_by t) x.objects; owned = owned; marked = record x.marked { changed = changed } }) same
 
-pub freed_sound : (old mid : Dispatcher) (t : ℕ) → IsSound old → length mid.marked.changed ≡ length old.marked.changed → IsFreed old t mid → IsSound mid
+pub freed_sound : (old mid : Dispatcher) (t : ℕ) → IsMachineSound old → length mid.marked.changed ≡ length old.marked.changed → IsFreed old t mid → IsMachineSound mid
 freed_sound old mid t sound count frees =
-    subst IsSound (sym frees)
+    subst IsMachineSound (sym frees)
     (sound_marked (record old { objects = map (abandoned_by t) old.objects; owned = mid.owned }) (record old.marked { changed = mid.marked.changed }) (abandoned_sound old t mid.owned sound)
     (record { changed = count ∙ (sound.places.changed ∙ sym (length-map old.objects (abandoned_by t))); alerted = sound.places.alerted }))
 
 -- ---- what is marked
 
-setter_before : (old : Dispatcher) (t h : ℕ) → IsSound old → setter_of (object_at (map (abandoned_by t) old.objects) h) ≡ setter_of (object_at old.objects h)
+setter_before : (old : Dispatcher) (t h : ℕ) → IsMachineSound old → setter_of (object_at (map (abandoned_by t) old.objects) h) ≡ setter_of (object_at old.objects h)
 setter_before old t h sound = ap setter_of (mapped_at (abandoned_by t) refl old.objects h) ∙ abandoned_setter t (object_at old.objects h) (sound.objects h)
 
 -- its mutexes, then its timers, and its own object were marked
@@ -200,7 +200,7 @@ pub record AreMarked (old : Dispatcher) (t : ℕ) (freed stopped ended : List Bo
   pub own : ended ≡ set stopped t true
 
 -- what is marked is exactly what its end changes
-pub marked_changed : (old : Dispatcher) (t : ℕ) (freed stopped ended : List Bool) → IsSound old → t < old.threads → has_ended (object_at old.objects t) ≡ false → AreMarked old t freed stopped ended → (h : ℕ) → (is_marked ended h ≡ true) ↔ IsChanged old.objects (objects_left old.objects t) h
+pub marked_changed : (old : Dispatcher) (t : ℕ) (freed stopped ended : List Bool) → IsMachineSound old → t < old.threads → has_ended (object_at old.objects t) ≡ false → AreMarked old t freed stopped ended → (h : ℕ) → (is_marked ended h ≡ true) ↔ IsChanged old.objects (objects_left old.objects t) h
 marked_changed old t freed stopped ended sound known runs marks h = (
   λ mark. altered_changed old t h sound known runs (to (cases_eq h t) (ap (λ (m : List Bool). is_marked m h) (sym marks.own) ∙ mark)),
   λ changed. ap (λ (m : List Bool). is_marked m h) marks.own ∙ from (altered_or_same old.objects t h) changed,
@@ -255,14 +255,14 @@ sequence_few s (h ∷ numbers) few =
     let both = length-append (s.queues h) (flat_map s.queues numbers) in
     omega (arith, here, rest, both)
 
-pub exited_few : (old : Dispatcher) (t : ℕ) (numbers : List ℕ) → IsSound old → AreRising (IsChanged old.objects (objects_left old.objects t)) numbers → length (sequence (exited (state old) t) numbers) < 2 ^ 64
+pub exited_few : (old : Dispatcher) (t : ℕ) (numbers : List ℕ) → IsMachineSound old → AreRising (IsChanged old.objects (objects_left old.objects t)) numbers → length (sequence (exited (state old) t) numbers) < 2 ^ 64
 exited_few old t numbers sound changed =
     let few = few_below (length old.objects) numbers (rising_once numbers changed.rising) (λ h m. ((changed.exactly h).0 m).0) in
     let most = sequence_few (exited (state old) t) numbers (λ h. queue_few old h sound) in
     let limit = sound.handles.few in
     omega (arith, few, most, limit)
 
-pub exited_accepted : (old mid new : Dispatcher) (t : ℕ) (numbers : List ℕ) → IsFresh old → IsExitedAfter old t mid → AreRising (IsChanged old.objects (objects_left old.objects t)) numbers → Serve (sequence (state mid) numbers) (state mid) new.grants (state new) → IsSound new → new.table.looked ≤ length (sequence (state mid) numbers) → length new.grants ≤ new.table.looked → IsUnmarked new.marked → Accepts old new t Call.Exit Reply.Done
+pub exited_accepted : (old mid new : Dispatcher) (t : ℕ) (numbers : List ℕ) → IsFresh old → IsExitedAfter old t mid → AreRising (IsChanged old.objects (objects_left old.objects t)) numbers → Serve (sequence (state mid) numbers) (state mid) new.grants (state new) → IsMachineSound new → new.table.looked ≤ length (sequence (state mid) numbers) → length new.grants ≤ new.table.looked → IsUnmarked new.marked → Accepts old new t Call.Exit Reply.Done
 exited_accepted old mid new t numbers fresh after changed serve sound most least unmarked =
     let served : Serve (sequence (state old) numbers) (exited (state old) t) new.grants (state new) = subst (λ (s : State). Serve (sequence s numbers) s new.grants (state new)) after.becomes serve in
     let steady : IsSteady new = record {

@@ -12,7 +12,7 @@ use Rattle.nt_core.specs.Dispatcher.{Dispatcher, state}
 use Rattle.nt_calls.specs.Change.{at}
 use Rattle.nt_calls.specs.Serving.{sequence, Serve}
 use Rattle.nt_core.specs.Visits.{FitOnlyBy, FitOnlyIn}
-use Rattle.nt_core.specs.Lawful.{IsSound, MayReplace, IsUnmarked}
+use Rattle.nt_core.specs.Lawful.{IsMachineSound, MayReplace, IsUnmarked}
 use Rattle.nt_core.specs.Accepts.{IsFresh, IsServedAfter}
 use Rattle.nt_core.proofs.Changing.{sound_replaced}
 use Rattle.nt_core.proofs.Stopping.{by_replaced}
@@ -38,8 +38,8 @@ exchanged_whole v old h change items owned same is lists =
     (λ i. record v { objects = is i; owned = lists i })
     ∙ ap (λ (x : Dispatcher). record x { objects = set x.objects h (change (object_at x.objects h)) }) same
 
-pub exchanged_sound : (old mid : Dispatcher) (h : ℕ) (o : Object) → IsFresh old → MayReplace (object_at old.objects h) o → IsExchanged old h o mid → IsSound mid
-exchanged_sound old mid h o fresh may is = subst IsSound (sym is) (sound_replaced old h o mid.owned fresh.steady.sound may)
+pub exchanged_sound : (old mid : Dispatcher) (h : ℕ) (o : Object) → IsFresh old → MayReplace (object_at old.objects h) o → IsExchanged old h o mid → IsMachineSound mid
+exchanged_sound old mid h o fresh may is = subst IsMachineSound (sym is) (sound_replaced old h o mid.owned fresh.steady.sound may)
 
 pub exchanged_fit : (old mid : Dispatcher) (h : ℕ) (o : Object) → IsFresh old → IsExchanged old h o mid → FitOnlyIn (sequence (state mid) (h ∷ [])) (state mid)
 exchanged_fit old mid h o fresh is = subst (λ (x : Dispatcher). FitOnlyIn (sequence (state x) (h ∷ [])) (state x)) (sym is) (replaced_fit old h o fresh.steady)
@@ -47,7 +47,7 @@ exchanged_fit old mid h o fresh is = subst (λ (x : Dispatcher). FitOnlyIn (sequ
 pub exchanged_needed : (old mid : Dispatcher) (h : ℕ) (o : Object) → IsFresh old → MayReplace (object_at old.objects h) o → IsExchanged old h o mid → FitOnlyBy h (state mid)
 exchanged_needed old mid h o fresh may is = subst (λ (x : Dispatcher). FitOnlyBy h (state x)) (sym is) (by_replaced (state old) h o fresh.steady.settled.served may.owner)
 
-pub exchanged_served : (old mid new : Dispatcher) (h : ℕ) (o : Object) → IsFresh old → h < length old.objects → o ≢ object_at old.objects h → IsExchanged old h o mid → Serve (sequence (state mid) (h ∷ [])) (state mid) new.grants (state new) → IsSound new → new.table.looked ≤ length (sequence (state mid) (h ∷ [])) → length new.grants ≤ new.table.looked → new.marked ≡ mid.marked → IsServedAfter old (at (state old) h (λ _. o)) new
+pub exchanged_served : (old mid new : Dispatcher) (h : ℕ) (o : Object) → IsFresh old → h < length old.objects → o ≢ object_at old.objects h → IsExchanged old h o mid → Serve (sequence (state mid) (h ∷ [])) (state mid) new.grants (state new) → IsMachineSound new → new.table.looked ≤ length (sequence (state mid) (h ∷ [])) → length new.grants ≤ new.table.looked → new.marked ≡ mid.marked → IsServedAfter old (at (state old) h (λ _. o)) new
 exchanged_served old mid new h o fresh known differs is serve sound most least marked =
     replaced_served old new h o known differs
     (subst (λ (x : Dispatcher). Serve (sequence (state x) (h ∷ [])) (state x) new.grants (state new)) is serve)

@@ -14,7 +14,7 @@ use Rattle.nt_core.specs.Dispatcher.{Dispatcher, state}
 use Rattle.nt_calls.specs.Serving.{IsChanged}
 use Rattle.nt_calls.specs.Change.{exited}
 use Rattle.nt_calls.specs.Steps.{NothingDue}
-use Rattle.nt_core.specs.Lawful.{IsSound, MayReplace}
+use Rattle.nt_core.specs.Lawful.{IsMachineSound, MayReplace}
 use Rattle.nt_core.specs.Accepts.{IsSetBy, AreStopped}
 use Rattle.nt_core.proofs.Handling.{handles_along}
 use Rattle.nt_core.proofs.Changing.{object_at-set_same, object_at-set_other, due_kept}
@@ -51,7 +51,7 @@ same_objects (x ∷ xs) [] len all = absurd (omega (arith, len))
 same_objects (x ∷ xs) (y ∷ ys) len all = ap (λ o. o ∷ xs) (all 0) ∙ ap (λ os. y ∷ os) (same_objects xs ys (omega (arith, len)) (λ h. all (suc h)))
 
 -- what holds of all objects still does, where each may take the place of the one before it
-sound_mapped : (d : Dispatcher) (f : Object → Object) (owned : List (List ℕ)) → f (Thread false) ≡ Thread false → ((o : Object) → IsLawfulObject o → MayReplace o (f o)) → IsSound d → IsSound (record d { objects = map f d.objects; owned = owned })
+sound_mapped : (d : Dispatcher) (f : Object → Object) (owned : List (List ℕ)) → f (Thread false) ≡ Thread false → ((o : Object) → IsLawfulObject o → MayReplace o (f o)) → IsMachineSound d → IsMachineSound (record d { objects = map f d.objects; owned = owned })
 sound_mapped d f owned still may sound = record {
   few = sound.few;
   waits = λ t w pends.
@@ -108,7 +108,7 @@ abandoned_may_replace t (Timer manual was armed) lawful = same_replace (Timer ma
 abandoned_may_replace t (Thread ended) lawful = same_replace (Thread ended) lawful
 abandoned_may_replace t Gone lawful = same_replace Gone lawful
 
-pub abandoned_sound : (d : Dispatcher) (t : ℕ) (owned : List (List ℕ)) → IsSound d → IsSound (record d { objects = map (abandoned_by t) d.objects; owned = owned })
+pub abandoned_sound : (d : Dispatcher) (t : ℕ) (owned : List (List ℕ)) → IsMachineSound d → IsMachineSound (record d { objects = map (abandoned_by t) d.objects; owned = owned })
 abandoned_sound d t owned sound = sound_mapped d (abandoned_by t) owned refl (abandoned_may_replace t) sound
 
 -- what an abandoned mutex was is read as before
@@ -207,7 +207,7 @@ freed_left : (t : ℕ) (o : Object) → owned_by o t ≡ true → left t o ≡ M
 freed_left t o owns = ap (unset_by t) (freed_mutex t o owns)
 
 -- the thread runs before its end
-pub runs_before : (d : Dispatcher) (t : ℕ) → IsSound d → t < d.threads → has_ended (object_at d.objects t) ≡ false → object_at d.objects t ≡ Thread false
+pub runs_before : (d : Dispatcher) (t : ℕ) → IsMachineSound d → t < d.threads → has_ended (object_at d.objects t) ≡ false → object_at d.objects t ≡ Thread false
 runs_before d t sound known runs = elim (sound.own t known).1 [
   | inl thread ↦ go (object_at d.objects t) thread runs
   | inr gone ↦ absurd (false≢true (sym (not_gone (object_at d.objects t) runs) ∙ gone))
@@ -230,7 +230,7 @@ altered_or_same os t h = go (cases_eq h t) (owned_by (object_at os h) t) refl (s
     go (inr differs) false owned (inl sets) = inl (inr (inl sets))
     go (inr differs) false owned (inr unset) = inr (other_left os t h differs ∙ same_left t (object_at os h) owned unset)
 
-pub altered_changed : (d : Dispatcher) (t h : ℕ) → IsSound d → t < d.threads → has_ended (object_at d.objects t) ≡ false → IsAltered d.objects t h → IsChanged d.objects (objects_left d.objects t) h
+pub altered_changed : (d : Dispatcher) (t h : ℕ) → IsMachineSound d → t < d.threads → has_ended (object_at d.objects t) ≡ false → IsAltered d.objects t h → IsChanged d.objects (objects_left d.objects t) h
 altered_changed d t h sound known runs = go
   where
     running : object_at d.objects t ≡ Thread false
@@ -272,7 +272,7 @@ due_left os t h lawful = go (cases_eq h t) (setter_or_not (abandoned_by t (objec
     go (inr differs) (inl sets) = inr (ap due_of (other_left os t h differs ∙ unset_one t (abandoned_by t (object_at os h)) sets) ∙ due_stopped (abandoned_by t (object_at os h)))
     go (inr differs) (inr unset) = inl (ap due_of (other_left os t h differs ∙ unset_other t (abandoned_by t (object_at os h)) unset) ∙ (abandoned_may_replace t (object_at os h) (lawful h)).due)
 
-pub due_exited : (d : Dispatcher) (t m : ℕ) → IsSound d → NothingDue (state d) m → NothingDue (exited (state d) t) m
+pub due_exited : (d : Dispatcher) (t m : ℕ) → IsMachineSound d → NothingDue (state d) m → NothingDue (exited (state d) t) m
 due_exited d t m sound none = due_kept (state d) (exited (state d) t) m (λ h. due_left d.objects t h sound.objects) refl none
 
 -- who has an APC had one before

@@ -9,7 +9,7 @@ use Rattle.nt_calls.specs.Rising.{IsRising}
 use Rattle.nt_calls.specs.State.{State}
 use Rattle.nt_core.specs.Dispatcher.{Dispatcher, state}
 use Rattle.nt_calls.specs.Living.{is_forgotten, gone, all_gone, Ends, LivesWhileKept}
-use Rattle.nt_core.specs.Lawful.{IsSound, IsSteady, IsUnmarked}
+use Rattle.nt_core.specs.Lawful.{IsMachineSound, IsSteady, IsUnmarked}
 use Rattle.nt_core.proofs.Lives.{forgotten_as, still_forgotten, all_living}
 use Rattle.nt_core.proofs.Remaining.{stays}
 use Rattle.nt_core.proofs.Rousing.{cleared_other, cleared_here, lowest_least}
@@ -27,12 +27,12 @@ pub record GoneSoFar (old now : Dispatcher) : Type 0 where
   pub forgotten : (x : ℕ) → Contains objects x → is_forgotten (state old) x ≡ true
   pub over : state now ≡ all_gone (state old) objects
   pub above : (x : ℕ) → is_marked now.leaving x ≡ true → (y : ℕ) → Contains objects y → y < x
-  pub sound : IsSound now
+  pub sound : IsMachineSound now
   pub grants : now.grants ≡ old.grants
   pub table : now.table ≡ old.table
   pub marked : now.marked ≡ old.marked
 
-pub gone_none : (d : Dispatcher) → IsSound d → GoneSoFar d d
+pub gone_none : (d : Dispatcher) → IsMachineSound d → GoneSoFar d d
 gone_none d sound = record {
   objects = [];
   rising = tt;
@@ -48,7 +48,7 @@ gone_none d sound = record {
 no_mark : {P : Type 0} → false ≡ true → P
 no_mark e = (cc)
 
-pub gone_next : (old now new : Dispatcher) (t : ℕ) → GoneSoFar old now → IsFirstMarked now.leaving t → state new ≡ cond (is_forgotten (state now) t) (gone (state now) t) (state now) → new.leaving ≡ slice_set now.leaving t false → IsSound new → new.grants ≡ now.grants → new.table ≡ now.table → new.marked ≡ now.marked → GoneSoFar old new
+pub gone_next : (old now new : Dispatcher) (t : ℕ) → GoneSoFar old now → IsFirstMarked now.leaving t → state new ≡ cond (is_forgotten (state now) t) (gone (state now) t) (state now) → new.leaving ≡ slice_set now.leaving t false → IsMachineSound new → new.grants ≡ now.grants → new.table ≡ now.table → new.marked ≡ now.marked → GoneSoFar old new
 gone_next old now new t far lowest becomes leaving sound grants table marked = go (is_forgotten (state now) t) refl becomes
   where
     mark_before : (x : ℕ) → x ≢ t → is_marked new.leaving x ≡ is_marked now.leaving x

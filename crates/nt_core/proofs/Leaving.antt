@@ -12,7 +12,7 @@ use Rattle.nt_marks.specs.Marks.{is_marked, AddsMarks}
 use Rattle.nt_apc.specs.Queues.{place_of}
 use Rattle.nt_calls.specs.State.{object_at}
 use Rattle.nt_core.specs.Dispatcher.{Dispatcher}
-use Rattle.nt_core.specs.Lawful.{IsSound}
+use Rattle.nt_core.specs.Lawful.{IsMachineSound}
 use Rattle.nt_core.specs.Accepts.{IsSetBy, IsSetAmong, AreStopped}
 use Rattle.nt_core.proofs.Changing.{object_at-set_same, object_at-set_other}
 use Rattle.nt_core.proofs.Timing.{known_timer, retimed_sound}
@@ -75,7 +75,7 @@ stopped_unset Gone t sets = let h : None ≡ Some t = sets in (cc)
 abbrev pub stopped_at : Dispatcher → ℕ → Dispatcher
 stopped_at d h = record d { objects = set d.objects h (armed_with None (object_at d.objects h)); alarms = set d.alarms h (due_of (armed_with None (object_at d.objects h))) }
 
-pub stopped_sound : (d : Dispatcher) (h : ℕ) → IsSound d → is_timer (object_at d.objects h) ≡ true → IsSound (stopped_at d h)
+pub stopped_sound : (d : Dispatcher) (h : ℕ) → IsMachineSound d → is_timer (object_at d.objects h) ≡ true → IsMachineSound (stopped_at d h)
 stopped_sound d h sound is =
     retimed_sound d h (armed_with None (object_at d.objects h)) d.apcs sound is (stopped_stays (object_at d.objects h) ∙ is) refl
     (λ t sets. stopped_unset (object_at d.objects h) t sets) (λ m differs. refl)
@@ -95,7 +95,7 @@ pub record StoppedSoFar (t : ℕ) (timers : List ℕ) (old now : List Object) (o
   pub stopped : AreStopped (IsSetAmong timers old t) old now
   pub marked : AddsMarks (IsSetAmong timers old t) old_marks marks
   pub clocks : length alarms ≡ length now
-  pub sound : (d : Dispatcher) → IsSound (record d { objects = old; alarms = old_alarms }) → IsSound (record d { objects = now; alarms = alarms })
+  pub sound : (d : Dispatcher) → IsMachineSound (record d { objects = old; alarms = old_alarms }) → IsMachineSound (record d { objects = now; alarms = alarms })
 
 -- a timer that is the thread's now was so before, and is none of those that are stopped
 set_before : (t : ℕ) (timers : List ℕ) (old now : List Object) (h : ℕ) → AreStopped (IsSetAmong timers old t) old now → IsSetBy now t h → IsSetBy old t h × (Contains timers h → ⊥)
@@ -124,7 +124,7 @@ stopped_next t timers h old now old_alarms alarms old_marks marks sets place far
   };
   clocks = length-set alarms h None ∙ (far.clocks ∙ sym (length-set now h (armed_with None (object_at now h))));
   sound = λ d sound.
-      subst (λ (due : Option ℕ). IsSound (record d { objects = set now h (armed_with None (object_at now h)); alarms = set alarms h due })) (due_stopped (object_at now h))
+      subst (λ (due : Option ℕ). IsMachineSound (record d { objects = set now h (armed_with None (object_at now h)); alarms = set alarms h due })) (due_stopped (object_at now h))
       (stopped_sound (record d { objects = now; alarms = alarms }) h (far.sound d sound) (setter_timer (object_at now h) t sets));
 }
   where
@@ -185,5 +185,5 @@ stopped_not t timers h old now old_alarms alarms old_marks marks none far = reco
     same k = (λ has. (Contains-append_left timers (h ∷ []) k has.0, has.1), λ has. among k has.1 (Contains-push_cases timers h k has.0))
 
 -- all that the thread armed with a routine have a place in its queue
-pub set_among : (d : Dispatcher) (t : ℕ) (timers : List ℕ) → IsSound d → ((m : ℕ) → Contains timers m ↔ (place_of d.apcs.places m ≡ Some t)) → (k : ℕ) → IsSetAmong timers d.objects t k ↔ IsSetBy d.objects t k
+pub set_among : (d : Dispatcher) (t : ℕ) (timers : List ℕ) → IsMachineSound d → ((m : ℕ) → Contains timers m ↔ (place_of d.apcs.places m ≡ Some t)) → (k : ℕ) → IsSetAmong timers d.objects t k ↔ IsSetBy d.objects t k
 set_among d t timers sound placed k = (λ has. has.1, λ sets. ((placed k).1 (sound.timers.placed k t sets), sets))

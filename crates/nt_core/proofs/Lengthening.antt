@@ -12,8 +12,8 @@ use Rattle.nt_objects.specs.Object.{is_gone, has_ended}
 use Rattle.nt_apc.specs.Queues.{KeepsPlaces, place_of, is_queued}
 use Rattle.nt_calls.specs.State.{State, object_at}
 use Rattle.nt_calls.specs.Living.{is_opened, is_awaited, runs, is_kept, lives, LivesWhileKept}
-use Rattle.nt_core.specs.Dispatcher.{Dispatcher, state, with_object}
-use Rattle.nt_core.specs.Lawful.{IsSound, IsSteady, HandlesAgree, MarksAgreeBut}
+use Rattle.nt_core.specs.Dispatcher.{Dispatcher, state, with_object_added}
+use Rattle.nt_core.specs.Lawful.{IsMachineSound, IsSteady, HandlesAgree, MarksAgreeBut}
 use Rattle.nt_core.specs.Accepts.{IsFresh}
 use Rattle.nt_core.specs.Renewals.{AddsVacant, is_vacant}
 use Rattle.nt_core.proofs.Changing.{object_at-append, sound_longer, served_unchanged, due_kept}
@@ -50,7 +50,7 @@ below_one_more k n m more differs = go (nat_lt k n) refl
         is ∙ sym e
 
 -- each thread has an object, gone or not
-threads_first : (d : Dispatcher) → IsSound d → d.threads ≤ length d.objects
+threads_first : (d : Dispatcher) → IsMachineSound d → d.threads ≤ length d.objects
 threads_first d sound = go (nat_lt (length d.objects) d.threads) refl
   where
     go : (b : Bool) → nat_lt (length d.objects) d.threads ≡ b → d.threads ≤ length d.objects
@@ -62,7 +62,7 @@ threads_first d sound = go (nat_lt (length d.objects) d.threads) refl
 
 -- ---- what keeps objects
 
-runs_same : (d : Dispatcher) (owned : List (List ℕ)) → IsSound d → (k : ℕ) → runs (state (with_object d Gone owned)) k ≡ runs (state d) k
+runs_same : (d : Dispatcher) (owned : List (List ℕ)) → IsMachineSound d → (k : ℕ) → runs (state (with_object_added d Gone owned)) k ≡ runs (state d) k
 runs_same d owned sound k = elim (cases_eq k (length d.objects)) [
   | inl same ↦
       let first = threads_first d sound in
@@ -72,10 +72,10 @@ runs_same d owned sound k = elim (cases_eq k (length d.objects)) [
   | inr differs ↦ ap (λ y. nat_lt k d.threads && not (has_ended y)) (other_number d.objects Gone k differs)
 ]
 
-kept_same : (d : Dispatcher) (owned : List (List ℕ)) → IsSound d → (k : ℕ) → is_kept (state (with_object d Gone owned)) k ≡ is_kept (state d) k
+kept_same : (d : Dispatcher) (owned : List (List ℕ)) → IsMachineSound d → (k : ℕ) → is_kept (state (with_object_added d Gone owned)) k ≡ is_kept (state d) k
 kept_same d owned sound k = ap (λ b. is_opened (state d) k || (is_awaited (state d) k || b)) (runs_same d owned sound k)
 
-pub living_vacant : (d : Dispatcher) (owned : List (List ℕ)) → IsSound d → LivesWhileKept (state d) → LivesWhileKept (state (with_object d Gone owned))
+pub living_vacant : (d : Dispatcher) (owned : List (List ℕ)) → IsMachineSound d → LivesWhileKept (state d) → LivesWhileKept (state (with_object_added d Gone owned))
 living_vacant d owned sound living k = elim (cases_eq k (length d.objects)) [
   | inl same ↦ gone_here same ∙ sym (kept_same d owned sound k ∙ (sym (living k) ∙ not_there same))
   | inr differs ↦
@@ -84,7 +84,7 @@ living_vacant d owned sound living k = elim (cases_eq k (length d.objects)) [
       ∙ (living k ∙ sym (kept_same d owned sound k)))
 ]
   where
-    gone_here : k ≡ length d.objects → lives (state (with_object d Gone owned)) k ≡ false
+    gone_here : k ≡ length d.objects → lives (state (with_object_added d Gone owned)) k ≡ false
     gone_here same =
         ap (λ (i : ℕ). nat_lt k (length (d.objects ++ Gone ∷ [])) && not (is_gone (object_at (d.objects ++ Gone ∷ []) i))) same
         ∙ (ap (λ y. nat_lt k (length (d.objects ++ Gone ∷ [])) && not (is_gone y)) (last_number d.objects Gone)
@@ -95,7 +95,7 @@ living_vacant d owned sound living k = elim (cases_eq k (length d.objects)) [
         let none : nat_lt k (length d.objects) ≡ false = grind (arith, nat_tests, same) in
         ap (λ b. b && not (is_gone (object_at d.objects k))) none
 
-pub steady_vacant : (d : Dispatcher) (owned : List (List ℕ)) → IsSteady d → LivesWhileKept (state d) → length d.objects < length d.handles → IsSteady (with_object d Gone owned)
+pub steady_vacant : (d : Dispatcher) (owned : List (List ℕ)) → IsSteady d → LivesWhileKept (state d) → length d.objects < length d.handles → IsSteady (with_object_added d Gone owned)
 steady_vacant d owned steady living room = record {
   sound = sound_longer d Gone owned d.handles sound tt refl refl agree marks;
   settled = record {
@@ -107,9 +107,9 @@ steady_vacant d owned steady living room = record {
 }
   where
     new : Dispatcher
-    new = with_object d Gone owned
+    new = with_object_added d Gone owned
 
-    sound : IsSound d
+    sound : IsMachineSound d
     sound = steady.sound
 
     longer : length (d.objects ++ Gone ∷ []) ≡ length d.objects + 1
@@ -133,32 +133,32 @@ steady_vacant d owned steady living room = record {
 -- ---- what is answered
 
 -- memory is refused and nothing changed, or there is one number more
-pub added_vacant : (old : State) (mid new : Dispatcher) (result : Result ℕ Refusal) → state mid ≡ old → IsFresh mid → length mid.objects < length mid.handles → IfOk result (λ number. number ≡ length mid.objects) → OnOk result (new ≡ with_object mid Gone new.owned) → IfErr result (λ cause. cause ≡ Memory) → OnErr result (new ≡ mid) → AddsVacant old result new.grants (state new)
+pub added_vacant : (old : State) (mid new : Dispatcher) (result : Result ℕ Refusal) → state mid ≡ old → IsFresh mid → length mid.objects < length mid.handles → IfOk result (λ number. number ≡ length mid.objects) → OnOk result (new ≡ with_object_added mid Gone new.owned) → IfErr result (λ cause. cause ≡ Memory) → OnErr result (new ≡ mid) → AddsVacant old result new.grants (state new)
 added_vacant old mid new result same fresh room number becomes memory stays = subst (λ (s : State). AddsVacant s result new.grants (state new)) same (go result number becomes memory stays)
   where
     less : nat_lt (length mid.objects) (length mid.handles) ≡ true
     less = grind (arith, nat_tests, room)
 
-    go : (r : Result ℕ Refusal) → IfOk r (λ n. n ≡ length mid.objects) → OnOk r (new ≡ with_object mid Gone new.owned) → IfErr r (λ cause. cause ≡ Memory) → OnErr r (new ≡ mid) → AddsVacant (state mid) r new.grants (state new)
+    go : (r : Result ℕ Refusal) → IfOk r (λ n. n ≡ length mid.objects) → OnOk r (new ≡ with_object_added mid Gone new.owned) → IfErr r (λ cause. cause ≡ Memory) → OnErr r (new ≡ mid) → AddsVacant (state mid) r new.grants (state new)
     go (Ok n) is ok none err = (less, is, ap (λ (d : Dispatcher). d.grants) ok ∙ fresh.no_grants, ap (λ (d : Dispatcher). state d) ok)
     go (Err cause) is ok memory err = (memory ∙ sym (ap (λ b. if b then Memory else HandleLimit) less), ap (λ (d : Dispatcher). d.grants) err ∙ fresh.no_grants, ap (λ (d : Dispatcher). state d) err)
 
 -- what holds of both holds of what it becomes
-pub either_vacant : (P : Dispatcher → Type 0) (mid new : Dispatcher) (result : Result ℕ Refusal) → OnOk result (new ≡ with_object mid Gone new.owned) → OnErr result (new ≡ mid) → P (with_object mid Gone new.owned) → P mid → P new
+pub either_vacant : (P : Dispatcher → Type 0) (mid new : Dispatcher) (result : Result ℕ Refusal) → OnOk result (new ≡ with_object_added mid Gone new.owned) → OnErr result (new ≡ mid) → P (with_object_added mid Gone new.owned) → P mid → P new
 either_vacant P mid new (Ok n) ok err longer before = subst P (sym ok) longer
 either_vacant P mid new (Err cause) ok err longer before = subst P (sym err) before
 
 -- ---- the number that there is more
 
 -- no timer has that number yet
-pub unplaced : (d : Dispatcher) → IsSound d → place_of d.apcs.places (length d.objects) ≡ None
+pub unplaced : (d : Dispatcher) → IsMachineSound d → place_of d.apcs.places (length d.objects) ≡ None
 unplaced d sound = go (place_of d.apcs.places (length d.objects)) refl
   where
     go : (place : Option ℕ) → place_of d.apcs.places (length d.objects) ≡ place → place_of d.apcs.places (length d.objects) ≡ None
     go None at = at
     go (Some t) at = let known = sound.timers.known (length d.objects) t at in absurd (omega (arith, known))
 
-last_vacant : (d : Dispatcher) (owned : List (List ℕ)) → IsSound d → KeepsPlaces d.apcs → is_vacant (state (with_object d Gone owned)) (length d.objects) ≡ true
+last_vacant : (d : Dispatcher) (owned : List (List ℕ)) → IsMachineSound d → KeepsPlaces d.apcs → is_vacant (state (with_object_added d Gone owned)) (length d.objects) ≡ true
 last_vacant d owned sound keeps =
     let first = threads_first d sound in
     let longer = length-append d.objects (Gone ∷ []) in
@@ -171,7 +171,7 @@ last_vacant d owned sound keeps =
     ∙ ap not quiet))
 
 -- the number that there is more is vacant: no timer had it, so no APC of one is queued
-pub vacant_added : (mid new : Dispatcher) (result : Result ℕ Refusal) → IsSound mid → KeepsPlaces mid.apcs → IfOk result (λ n. n ≡ length mid.objects) → OnOk result (new ≡ with_object mid Gone new.owned) → IfOk result (λ n. is_vacant (state new) n ≡ true)
+pub vacant_added : (mid new : Dispatcher) (result : Result ℕ Refusal) → IsMachineSound mid → KeepsPlaces mid.apcs → IfOk result (λ n. n ≡ length mid.objects) → OnOk result (new ≡ with_object_added mid Gone new.owned) → IfOk result (λ n. is_vacant (state new) n ≡ true)
 vacant_added mid new (Err cause) sound keeps number ok = tt
 vacant_added mid new (Ok n) sound keeps number ok =
     subst (λ (k : ℕ). is_vacant (state new) k ≡ true) (sym number)

@@ -7,7 +7,7 @@ use Rattle.nt_objects.specs.declared.object.Object.{Object}
 use Rattle.nt_objects.specs.Object.{taken, with_set, armed_with, setting_of, rearmed}
 use Rattle.nt_calls.specs.declared.call.Grant.{Grant}
 use Rattle.nt_calls.specs.State.{State, object_at}
-use Rattle.nt_calls.specs.Serving.{least, take_at, take_each, objects_taken, granted, Grants}
+use Rattle.nt_calls.specs.Serving.{least, take_at, take_each, objects_taken, wait_granted, Grants}
 use Rattle.nt_calls.specs.Change.{expired_as, expired, all_expired}
 use Rattle.std.specs.Prelude.{Option, Some, None}
 use Rattle.nt_objects.specs.declared.object.Armed.{Armed}
@@ -25,7 +25,7 @@ length_taken os t w = go w.all
 
 pub Grants_length : (threads : List ℕ) (s new : State) (gs : List Grant) → Grants threads s gs new → length new.objects ≡ length s.objects
 Grants_length threads s new [] is = ap (λ (x : State). length x.objects) is
-Grants_length threads s new (g ∷ gs) has = Grants_length threads (granted s g.thread has.1) new gs has.3 ∙ length_taken s.objects g.thread has.1
+Grants_length threads s new (g ∷ gs) has = Grants_length threads (wait_granted s g.thread has.1) new gs has.3 ∙ length_taken s.objects g.thread has.1
 
 -- ---- ticks
 

@@ -12,7 +12,7 @@ use Rattle.nt_waits.specs.Waits.{queue_of}
 use Rattle.nt_calls.specs.State.{State, object_at}
 use Rattle.nt_core.specs.Dispatcher.{Dispatcher, state}
 use Rattle.nt_calls.specs.Living.{is_opened, is_awaited, runs, is_kept, lives, is_forgotten, all_gone, Ends, LivesWhileKept}
-use Rattle.nt_core.specs.Lawful.{IsSound}
+use Rattle.nt_core.specs.Lawful.{IsMachineSound}
 use Rattle.nt_core.proofs.Remaining.{both, turned, and_not, same_handles, same_queues, same_threads, same_count, stays, goes, some_handle, some_member, ends_living}
 
 -- ---- tests
@@ -63,7 +63,7 @@ below_both s o known there =
     let less : nat_lt o (length s.objects) ≡ true = grind (arith, nat_tests, known) in
     ap (λ b. b && not (is_gone (object_at s.objects o))) less ∙ ap (λ b. not b) there
 
-pub kept_lives : (d : Dispatcher) → IsSound d → (o : ℕ) → is_kept (state d) o ≡ true → lives (state d) o ≡ true
+pub kept_lives : (d : Dispatcher) → IsMachineSound d → (o : ℕ) → is_kept (state d) o ≡ true → lives (state d) o ≡ true
 kept_lives d sound o kept = elim (one_of (is_opened (state d) o) (is_awaited (state d) o) (runs (state d) o) kept) [
   | inl opened ↦
       let one = some_handle d.handles o opened in
@@ -84,7 +84,7 @@ kept_lives d sound o kept = elim (one_of (is_opened (state d) o) (is_awaited (st
 -- ---- at the opening
 
 -- each object is a thread that runs, and that keeps it
-pub opening_living : (d : Dispatcher) → IsSound d → length d.objects ≡ d.threads → ((o : ℕ) → object_at d.objects o ≡ Thread false) → LivesWhileKept (state d)
+pub opening_living : (d : Dispatcher) → IsMachineSound d → length d.objects ≡ d.threads → ((o : ℕ) → object_at d.objects o ≡ Thread false) → LivesWhileKept (state d)
 opening_living d sound count running o = go (lives (state d) o) (is_kept (state d) o) refl refl
   where
     runs_there : lives (state d) o ≡ true → runs (state d) o ≡ true
@@ -168,5 +168,5 @@ whole s o is =
     ∙ ap (λ b. b && true) (below_both s o is.known is.living)))
 
 -- after the end of objects each lives exactly while something keeps it
-pub all_living : (d : Dispatcher) (new : State) → IsSound d → Ends (state d) new → LivesWhileKept new
+pub all_living : (d : Dispatcher) (new : State) → IsMachineSound d → Ends (state d) new → LivesWhileKept new
 all_living d new sound ends = ends_living (state d) new (kept_lives d sound) ends

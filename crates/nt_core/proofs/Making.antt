@@ -18,13 +18,13 @@ use Rattle.nt_core.specs.Dispatcher.{Dispatcher, state, with_created}
 use Rattle.nt_calls.specs.Change.{change, created}
 use Rattle.nt_calls.specs.Steps.{after_serving, answered}
 use Rattle.nt_calls.specs.Refusals.{first_of_causes, call_causes, creation_causes, kind_causes, grows, is_full, is_no, is_foreign, release_causes, unlock_causes}
-use Rattle.nt_core.specs.Accepts.{IsFresh, IsFree, IsMade, Accepts, reply_of, replied}
+use Rattle.nt_core.specs.Accepts.{IsFresh, IsFreeToCall, IsCallMade, Accepts, reply_of, replied}
 use Rattle.nt_core.proofs.Judging.{is_refusal, is_memory}
 use Rattle.nt_core.proofs.Accepting.{next_causes}
 use Rattle.nt_core.proofs.Replacing.{created_accepted}
 
 -- no cause of its own refuses it, and it is a step of the machine
-pub accepted_made : (old new : Dispatcher) (t : ℕ) (denied : Bool) (call : Call) (reply : Reply) → IsFree (state old) t → first_of_causes (call_causes (state old) t denied call) ≡ None → Accepts old new t call reply → IsMade old new t denied call (Ok reply)
+pub accepted_made : (old new : Dispatcher) (t : ℕ) (denied : Bool) (call : Call) (reply : Reply) → IsFreeToCall (state old) t → first_of_causes (call_causes (state old) t denied call) ≡ None → Accepts old new t call reply → IsCallMade old new t denied call (Ok reply)
 accepted_made old new t denied call reply free none accepts = record {
   made = (free denied call ∙ none, accepts.step);
   steady = accepts.steady;
@@ -33,7 +33,7 @@ accepted_made old new t denied call reply free none accepts = record {
 }
 
 -- a cause of its own refuses it, and nothing changed
-pub refused_made : (d : Dispatcher) (t : ℕ) (denied : Bool) (call : Call) (r : Refusal) → IsFresh d → IsFree (state d) t → first_of_causes (call_causes (state d) t denied call) ≡ Some r → IsMade d d t denied call (Err r)
+pub refused_made : (d : Dispatcher) (t : ℕ) (denied : Bool) (call : Call) (r : Refusal) → IsFresh d → IsFreeToCall (state d) t → first_of_causes (call_causes (state d) t denied call) ≡ Some r → IsCallMade d d t denied call (Err r)
 refused_made d t denied call r fresh free some = record {
   made = (is_refusal (state d) t denied call r (free denied call ∙ some), fresh.no_grants, refl);
   steady = fresh.steady;
@@ -42,33 +42,33 @@ refused_made d t denied call r fresh free some = record {
 }
 
 -- the same of a result that is told to be this refusal
-pub refused_with : (d : Dispatcher) (t : ℕ) (denied : Bool) (call : Call) (r : Refusal) (result : Result Reply Refusal) → IsErrAnd result (λ told. told ≡ r) → IsFresh d → IsFree (state d) t → first_of_causes (call_causes (state d) t denied call) ≡ Some r → IsMade d d t denied call result
+pub refused_with : (d : Dispatcher) (t : ℕ) (denied : Bool) (call : Call) (r : Refusal) (result : Result Reply Refusal) → IsErrAnd result (λ told. told ≡ r) → IsFresh d → IsFreeToCall (state d) t → first_of_causes (call_causes (state d) t denied call) ≡ Some r → IsCallMade d d t denied call result
 refused_with d t denied call r (Ok reply) told fresh free some = absurd told
 refused_with d t denied call r (Err e) told fresh free some = refused_made d t denied call e fresh free (some ∙ (λ i. Some (sym told i)))
 
 -- no cause of its own refuses it, but memory is refused, and nothing changed
-pub unmade : (old new : Dispatcher) (t : ℕ) (denied : Bool) (call : Call) (r : Refusal) → IsFresh old → IsFree (state old) t → first_of_causes (call_causes (state old) t denied call) ≡ None → IsTrue (grows (state old) t call) → r ≡ Memory → new ≡ old → IsMade old new t denied call (Err r)
+pub unmade : (old new : Dispatcher) (t : ℕ) (denied : Bool) (call : Call) (r : Refusal) → IsFresh old → IsFreeToCall (state old) t → first_of_causes (call_causes (state old) t denied call) ≡ None → IsTrue (grows (state old) t call) → r ≡ Memory → new ≡ old → IsCallMade old new t denied call (Err r)
 unmade old new t denied call r fresh free none grown memory same =
-    subst (λ (d : Dispatcher). IsMade old d t denied call (Err r)) (sym same) (record {
+    subst (λ (d : Dispatcher). IsCallMade old d t denied call (Err r)) (sym same) (record {
       made = (is_memory (state old) t denied call r (free denied call ∙ none) grown memory, fresh.no_grants, refl);
       steady = fresh.steady;
       local = tt;
       untested = fresh.untested;
     })
 
-pub unmade_with : (old new : Dispatcher) (t : ℕ) (denied : Bool) (call : Call) (result : Result Reply Refusal) → IsErrAnd result (λ told. told ≡ Memory) → IsFresh old → IsFree (state old) t → first_of_causes (call_causes (state old) t denied call) ≡ None → IsTrue (grows (state old) t call) → new ≡ old → IsMade old new t denied call result
+pub unmade_with : (old new : Dispatcher) (t : ℕ) (denied : Bool) (call : Call) (result : Result Reply Refusal) → IsErrAnd result (λ told. told ≡ Memory) → IsFresh old → IsFreeToCall (state old) t → first_of_causes (call_causes (state old) t denied call) ≡ None → IsTrue (grows (state old) t call) → new ≡ old → IsCallMade old new t denied call result
 unmade_with old new t denied call (Ok reply) told fresh free none grown same = absurd told
 unmade_with old new t denied call (Err r) told fresh free none grown same = unmade old new t denied call r fresh free none grown told same
 
 -- no cause of its own refuses it, and it is a step of the machine, or memory is refused and nothing changed
-pub tried_made : (old new : Dispatcher) (t : ℕ) (denied : Bool) (call : Call) (result : Result Reply Refusal) → IsFresh old → IsFree (state old) t → first_of_causes (call_causes (state old) t denied call) ≡ None → IfOk result (λ reply. Accepts old new t call reply) → OnErr result (IsTrue (grows (state old) t call)) → IfErr result (λ r. r ≡ Memory) → OnErr result (new ≡ old) → IsMade old new t denied call result
+pub tried_made : (old new : Dispatcher) (t : ℕ) (denied : Bool) (call : Call) (result : Result Reply Refusal) → IsFresh old → IsFreeToCall (state old) t → first_of_causes (call_causes (state old) t denied call) ≡ None → IfOk result (λ reply. Accepts old new t call reply) → OnErr result (IsTrue (grows (state old) t call)) → IfErr result (λ r. r ≡ Memory) → OnErr result (new ≡ old) → IsCallMade old new t denied call result
 tried_made old new t denied call (Ok reply) fresh free none accepts grown memory same = accepted_made old new t denied call reply free none accepts
 tried_made old new t denied call (Err r) fresh free none accepts grown memory same = unmade old new t denied call r fresh free none grown memory same
 
 -- the same for a waiting call, by what its wait answers
-pub waited_made : (old new : Dispatcher) (t : ℕ) (denied : Bool) (call : Call) (ended : Result (Option ℕ) Refusal) → IsFresh old → IsFree (state old) t → first_of_causes (call_causes (state old) t denied call) ≡ None → IfOk ended (λ e. Accepts old new t call (reply_of e)) → OnErr ended (IsTrue (grows (state old) t call)) → IfErr ended (λ r. r ≡ Memory) → OnErr ended (new ≡ old) → IsMade old new t denied call (replied ended)
-waited_made old new t denied call (Ok e) fresh free none accepts grown memory same = tried_made old new t denied call (Ok (reply_of e)) fresh free none accepts grown memory same
-waited_made old new t denied call (Err r) fresh free none accepts grown memory same = tried_made old new t denied call (Err r) fresh free none accepts grown memory same
+pub waited_made : (old new : Dispatcher) (t : ℕ) (denied : Bool) (call : Call) (ended : Result (Option ℕ) Refusal) → IsFresh old → IsFreeToCall (state old) t → first_of_causes (call_causes (state old) t denied call) ≡ None → IfOk ended (λ e. Accepts old new t call (reply_of e)) → OnErr ended (IsTrue (grows (state old) t call)) → IfErr ended (λ r. (r ≡ Memory) × (new ≡ old)) → IsCallMade old new t denied call (replied ended)
+waited_made old new t denied call (Ok e) fresh free none accepts grown refused = tried_made old new t denied call (Ok (reply_of e)) fresh free none accepts grown tt tt
+waited_made old new t denied call (Err r) fresh free none accepts grown refused = tried_made old new t denied call (Err r) fresh free none accepts grown refused.0 refused.1
 
 -- ---- what no cause says of an object
 
@@ -107,16 +107,16 @@ created_as (Ok reply) old new made o is becomes = becomes ∙ ap (λ (x : Object
 created_as (Err r) old new made o is becomes = tt
 
 -- the object is created, or no number is left for a handle, or memory is refused
-pub created_made : (old new : Dispatcher) (t : ℕ) (o : Object) (owned : List (List ℕ)) (act : Act) (lawful : Bool) (result : Result Reply Refusal) → IsFresh old → IsFree (state old) t → call_causes (state old) t false (Call.Act act) ≡ creation_causes old.handles lawful → lawful ≡ true → act_grows act ≡ true → IsLawfulObject o → is_thread o ≡ false → is_gone o ≡ false → due_of o ≡ None → change (state old) t (Call.Act act) ≡ created (state old) o → ((s : State) → after_serving (Call.Act act) s ≡ s) → ((s : State) → answered (state old) s t (Call.Act act) ≡ (Reply.Handle (length old.handles), s)) → OnOk result (is_full old.handles ≡ false) → IfOk result (λ reply. reply ≡ Reply.Handle (length old.handles)) → OnOk result (new ≡ with_created old o owned) → IfErr result (λ cause. MatchBool (is_full old.handles) (cause ≡ HandleLimit) (cause ≡ Memory)) → OnErr result (new ≡ old) → IsMade old new t false (Call.Act act) result
+pub created_made : (old new : Dispatcher) (t : ℕ) (o : Object) (owned : List (List ℕ)) (act : Act) (lawful : Bool) (result : Result Reply Refusal) → IsFresh old → IsFreeToCall (state old) t → call_causes (state old) t false (Call.Act act) ≡ creation_causes old.handles lawful → lawful ≡ true → act_grows act ≡ true → IsLawfulObject o → is_thread o ≡ false → is_gone o ≡ false → due_of o ≡ None → change (state old) t (Call.Act act) ≡ created (state old) o → ((s : State) → after_serving (Call.Act act) s ≡ s) → ((s : State) → answered (state old) s t (Call.Act act) ≡ (Reply.Handle (length old.handles), s)) → OnOk result (is_full old.handles ≡ false) → IfOk result (λ reply. reply ≡ Reply.Handle (length old.handles)) → OnOk result (new ≡ with_created old o owned) → IfErr result (λ cause. MatchBool (is_full old.handles) (cause ≡ HandleLimit) (cause ≡ Memory)) → OnErr result (new ≡ old) → IsCallMade old new t false (Call.Act act) result
 created_made old new t o owned act lawful (Ok reply) fresh free causes fair grown law no_thread alive due changes after answers few told becomes refused err =
-    subst (λ (r : Reply). IsMade old new t false (Call.Act act) (Ok r)) (sym told)
+    subst (λ (r : Reply). IsCallMade old new t false (Call.Act act) (Ok r)) (sym told)
     (accepted_made old new t false (Call.Act act) (Reply.Handle (length old.handles)) free (ap first_of_causes causes ∙ free_creation lawful (is_full old.handles) fair few)
     (created_accepted old new t o owned (Call.Act act) (length old.handles) fresh few law no_thread alive due changes after answers refl becomes))
 created_made old new t o owned act lawful (Err r) fresh free causes fair grown law no_thread alive due changes after answers few told becomes refused err = go (is_full old.handles) refl refused
   where
-    go : (full : Bool) → is_full old.handles ≡ full → MatchBool full (r ≡ HandleLimit) (r ≡ Memory) → IsMade old new t false (Call.Act act) (Err r)
+    go : (full : Bool) → is_full old.handles ≡ full → MatchBool full (r ≡ HandleLimit) (r ≡ Memory) → IsCallMade old new t false (Call.Act act) (Err r)
     go true is limit =
-        subst (λ (d : Dispatcher). IsMade old d t false (Call.Act act) (Err r)) (sym err)
+        subst (λ (d : Dispatcher). IsCallMade old d t false (Call.Act act) (Err r)) (sym err)
         (refused_made old t false (Call.Act act) r fresh free (ap first_of_causes causes ∙ (full_creation lawful (is_full old.handles) fair is ∙ (λ i. Some (sym limit i)))))
     go false is memory = unmade old new t false (Call.Act act) r fresh free (ap first_of_causes causes ∙ free_creation lawful (is_full old.handles) fair is) grown memory err
 

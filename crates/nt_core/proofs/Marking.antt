@@ -20,7 +20,7 @@ use Rattle.nt_waits.proofs.OthersLemmas.{others_absent}
 use Rattle.nt_calls.specs.State.{State, object_at}
 use Rattle.nt_core.specs.Dispatcher.{Dispatcher, state, with_created}
 use Rattle.nt_calls.specs.Living.{is_opened, is_awaited, runs, is_kept, lives, is_forgotten}
-use Rattle.nt_core.specs.Lawful.{IsSound, HandlesAgree, MarksAgreeBut}
+use Rattle.nt_core.specs.Lawful.{IsMachineSound, HandlesAgree, MarksAgreeBut}
 use Rattle.nt_core.proofs.Handling.{opened_longer}
 use Rattle.nt_core.proofs.Lives.{IsForgotten, parts, whole, counted_opened}
 
@@ -192,7 +192,7 @@ pub member_named : (w : Wait) (o : ℕ) → Contains w.objects o → Names w o
 member_named w o m = let place = at_from_Contains w.objects o m in (place.0, place.1, place.2 0)
 
 -- the wait of thread t is over, and perhaps it took objects: what it named may lack its mark
-pub marks_ended : (old new : Dispatcher) (t : ℕ) (w : Wait) → IsSound old → get old.table.pending t ≡ Some w → new.threads ≡ old.threads → new.handles ≡ old.handles → new.leaving ≡ old.leaving → ((o : ℕ) → queue_of new.table o ≡ others t (queue_of old.table o)) → length new.objects ≡ length old.objects → ((o : ℕ) → is_gone (object_at new.objects o) ≡ is_gone (object_at old.objects o)) → ((o : ℕ) → has_ended (object_at new.objects o) ≡ has_ended (object_at old.objects o)) → MarksAgreeBut w.objects new
+pub marks_ended : (old new : Dispatcher) (t : ℕ) (w : Wait) → IsMachineSound old → get old.table.pending t ≡ Some w → new.threads ≡ old.threads → new.handles ≡ old.handles → new.leaving ≡ old.leaving → ((o : ℕ) → queue_of new.table o ≡ others t (queue_of old.table o)) → length new.objects ≡ length old.objects → ((o : ℕ) → is_gone (object_at new.objects o) ≡ is_gone (object_at old.objects o)) → ((o : ℕ) → has_ended (object_at new.objects o) ≡ has_ended (object_at old.objects o)) → MarksAgreeBut w.objects new
 marks_ended old new t w sound pends threads handles leaving queues count gone ended =
     marks_from old new w.objects handles leaving count gone before
     (λ o m. subst (λ (n : ℕ). o < n) (sym count) ((sound.waits t w pends).named o (member_named w o m)).0) sound.marks

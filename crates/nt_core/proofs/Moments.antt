@@ -16,11 +16,11 @@ use Rattle.nt_calls.specs.declared.call.Grant.{Grant}
 use Rattle.nt_calls.specs.State.{State, object_at, waits_over, wait_over, Pending}
 use Rattle.nt_core.specs.Dispatcher.{Dispatcher, state, Marked, with_marked}
 use Rattle.nt_core.specs.Due.{is_up_to, due_weight, total_weight}
-use Rattle.nt_calls.specs.Serving.{granted, sequence, IsServed, IsAlerted, Grants, IsLate}
+use Rattle.nt_calls.specs.Serving.{wait_granted, sequence, IsServed, IsAlerted, Grants, IsLate}
 use Rattle.nt_calls.specs.Change.{expired_as, expired, all_expired}
 use Rattle.nt_calls.specs.Steps.{IsNextMoment}
 use Rattle.nt_core.specs.Visits.{FitOnlyIn, Visits}
-use Rattle.nt_core.specs.Lawful.{IsSound, IsUnmarked}
+use Rattle.nt_core.specs.Lawful.{IsMachineSound, IsUnmarked}
 use Rattle.nt_core.specs.Accepts.{IsExpiredAfter, IsAlertedAfter, IsTimedOutAfter, IsPassedAfter}
 use Rattle.nt_core.proofs.Walks.{get_removed, served}
 use Rattle.nt_core.proofs.Visiting.{len_removed}
@@ -52,15 +52,15 @@ waits_expired v s (h ∷ timers) = waits_expired v (expired v s h) timers ∙ on
 pub Grants_pending : (threads : List ℕ) (s new : State) (gs : List Grant) → Grants threads s gs new → (t : ℕ) (w : Wait) → fin.get new.waits t ≡ Some w → fin.get s.waits t ≡ Some w
 Grants_pending threads s new [] is t w pends = ap (λ (x : State). fin.get x.waits t) (sym is) ∙ pends
 Grants_pending threads s new (g ∷ gs) has t w pends =
-    (get_removed s.waits g.thread t w (Grants_pending threads (granted s g.thread has.1) new gs has.3 t w pends)).1
+    (get_removed s.waits g.thread t w (Grants_pending threads (wait_granted s g.thread has.1) new gs has.3 t w pends)).1
 
 Grants_apcs : (threads : List ℕ) (s new : State) (gs : List Grant) → Grants threads s gs new → new.apcs ≡ s.apcs
 Grants_apcs threads s new [] is = ap (λ (x : State). x.apcs) is
-Grants_apcs threads s new (g ∷ gs) has = Grants_apcs threads (granted s g.thread has.1) new gs has.3
+Grants_apcs threads s new (g ∷ gs) has = Grants_apcs threads (wait_granted s g.thread has.1) new gs has.3
 
 Grants_undue : (threads : List ℕ) (s new : State) (gs : List Grant) → Grants threads s gs new → (k : ℕ) → due_of (object_at new.objects k) ≡ due_of (object_at s.objects k)
 Grants_undue threads s new [] is k = ap (λ (x : State). due_of (object_at x.objects k)) is
-Grants_undue threads s new (g ∷ gs) has k = Grants_undue threads (granted s g.thread has.1) new gs has.3 k ∙ due_taken_by s.objects g.thread has.1 k
+Grants_undue threads s new (g ∷ gs) has k = Grants_undue threads (wait_granted s g.thread has.1) new gs has.3 k ∙ due_taken_by s.objects g.thread has.1 k
 
 length-others-le : (t : ℕ) (q : List ℕ) → length (others t q) ≤ length q
 length-others-le t [] = omega arith
@@ -73,7 +73,7 @@ length-others-le t (x ∷ q) = go (x == t) (length-others-le t q)
 pub Grants_queues : (threads : List ℕ) (s new : State) (gs : List Grant) → Grants threads s gs new → (h : ℕ) → length (new.queues h) ≤ length (s.queues h)
 Grants_queues threads s new [] is h = let same : length (new.queues h) ≡ length (s.queues h) = ap (λ (x : State). length (x.queues h)) is in omega (arith, same)
 Grants_queues threads s new (g ∷ gs) has h =
-    let rest = Grants_queues threads (granted s g.thread has.1) new gs has.3 h in
+    let rest = Grants_queues threads (wait_granted s g.thread has.1) new gs has.3 h in
     let one = length-others-le g.thread (s.queues h) in
     omega (arith, rest, one)
 
@@ -87,7 +87,7 @@ over_queues s (t ∷ ts) may h =
 pub Grants_len : (threads : List ℕ) (s new : State) (gs : List Grant) → Grants threads s gs new → fin.len new.waits + length gs ≡ fin.len s.waits
 Grants_len threads s new [] is = let same : fin.len new.waits ≡ fin.len s.waits = ap (λ (x : State). fin.len x.waits) is in omega (arith, same)
 Grants_len threads s new (g ∷ gs) has =
-    let rest = Grants_len threads (granted s g.thread has.1) new gs has.3 in
+    let rest = Grants_len threads (wait_granted s g.thread has.1) new gs has.3 in
     let one = len_removed s.waits g.thread has.1 has.2.pends in
     omega (arith, rest, one)
 
@@ -160,7 +160,7 @@ expired_remarked old new m u timers marks marked after = record {
 }
 
 -- what fits after timers expired names one of them
-pub expired_fit : (old new : Dispatcher) (m u : ℕ) (timers : List ℕ) (marks : List Bool) → IsSound old → IsServed (state old) → IsExpiredAfter old m u new timers marks → FitOnlyIn (sequence (state new) timers) (state new)
+pub expired_fit : (old new : Dispatcher) (m u : ℕ) (timers : List ℕ) (marks : List Bool) → IsMachineSound old → IsServed (state old) → IsExpiredAfter old m u new timers marks → FitOnlyIn (sequence (state new) timers) (state new)
 expired_fit old new m u timers marks sound served after =
     subst (λ (v : Waits). FitOnlyIn (flat_map (λ h. queue_of v h) timers) (state (record new { table = v }))) (sym after.table)
     (fit_only_in timers old new.objects sound served (λ h known. in_or_same h (contains_or_not timers h)))
@@ -212,7 +212,7 @@ late_fewer d1 d2 d3 d4 u threads gs has rouse timed t late = by_grants gs has
         let count = Grants_len threads (state d1) (state d2) (g ∷ gs) has in
         omega (arith, count, out, roused)
 
-pub passed_whole : (old d1 d2 d3 d4 : Dispatcher) (m u : ℕ) (timers : List ℕ) (marks : List Bool) → IsExpiredAfter old m u d1 timers marks → FitOnlyIn (sequence (state d1) timers) (state d1) → Visits (sequence (state d1) timers) d1 d2 → IsAlertedAfter d2 d3 → IsTimedOutAfter d3 u d4 → IsSound d4 → IsPassedAfter old m u d4
+pub passed_whole : (old d1 d2 d3 d4 : Dispatcher) (m u : ℕ) (timers : List ℕ) (marks : List Bool) → IsExpiredAfter old m u d1 timers marks → FitOnlyIn (sequence (state d1) timers) (state d1) → Visits (sequence (state d1) timers) d1 d2 → IsAlertedAfter d2 d3 → IsTimedOutAfter d3 u d4 → IsMachineSound d4 → IsPassedAfter old m u d4
 passed_whole old d1 d2 d3 d4 m u timers marks after local visits rouse timed sound =
     let same = same_sequence old d1 timers after.table in
     let grants : Grants (sequence (state old) timers) (all_expired m (state old) timers) visits.ended (state d2) =

@@ -28,9 +28,9 @@ use Rattle.nt_objects.specs.Object.{has_ended}
 use Rattle.nt_calls.specs.Naming.{call_named}
 use Rattle.nt_objects.specs.declared.handles.Opened.{Opened}
 use Rattle.nt_calls.specs.State.{State, Pending, pends, pending_too, with_handing, wait_over, waits_over, object_at}
-use Rattle.nt_calls.specs.Serving.{fits, status, granted, Grants, Alert, TimeOut, ending, taken_by, is_sleep, late_status, sleeps}
+use Rattle.nt_calls.specs.Serving.{fits, status, wait_granted, Grants, Alert, TimeOut, ending, taken_by, is_sleep, late_status, sleeps}
 use Rattle.nt_calls.specs.Change.{change, act_reply, may_take, armed_anew, timer_set, expired, expired_as, all_expired}
-use Rattle.nt_calls.specs.Steps.{Called, Made, Step, Ticked, MomentPasses, MomentsPass, after_serving, answered, begun, wait_of}
+use Rattle.nt_calls.specs.Steps.{Called, Made, Step, Ticked, MomentPasses, MomentsPass, after_serving, answered, begun, asked_wait}
 use Rattle.nt_calls.specs.Living.{Ends}
 use Rattle.nt_calls.specs.Moves.{one_if, pended, is_wait, granted_to, Moves, IsMomentAfter}
 use Rattle.nt_core.proofs.Remaining.{same_threads, ends_waits}
@@ -81,13 +81,13 @@ gone m u t has = at (ℕ_discrete u t)
 grants_counts : (t : ℕ) (threads : List ℕ) (gs : List Grant) (old new : State) → Grants threads old gs new → one_if (pends new t) + granted_to t gs ≡ one_if (pends old t)
 grants_counts t threads [] old new h = let a = ap (λ (s : State). one_if (pends s t)) h in omega arith
 grants_counts t threads (g ∷ gs) old new h =
-    let rest = grants_counts t threads gs (granted old g.thread h.1) new h.3 in
+    let rest = grants_counts t threads gs (wait_granted old g.thread h.1) new h.3 in
     let one = gone old.waits g.thread t (ap (λ (o : Option Wait). is_some o) h.2.pends) in
     omega (arith, rest, one)
 
 grants_keep : (threads : List ℕ) (gs : List Grant) (old new : State) → Grants threads old gs new → kept new ≡ kept old
 grants_keep threads [] old new h = ap kept h
-grants_keep threads (g ∷ gs) old new h = grants_keep threads gs (granted old g.thread h.1) new h.3
+grants_keep threads (g ∷ gs) old new h = grants_keep threads gs (wait_granted old g.thread h.1) new h.3
 
 -- ---- alerts and deadlines
 
@@ -241,7 +241,7 @@ act_stays s t (Act.Close h) = refl
 
 answered_counts : (old s : State) (who : ℕ) (call : Call) → get s.waits who ≡ None → IsBegun s who (answered old s who call)
 answered_counts old s who (Call.Act act) free = stays s s who (act_reply old who act) (act_stays old who act) (idle_same s)
-answered_counts old s who (Call.Wait wait) free = begun_counts s who (wait_of s.now wait) (timeout_of wait) free
+answered_counts old s who (Call.Wait wait) free = begun_counts s who (asked_wait s.now wait) (timeout_of wait) free
 answered_counts old s who Call.Exit free = stays s s who Reply.Done refl (idle_same s)
 
 -- ---- a call

@@ -17,11 +17,11 @@ use Rattle.nt_marks.specs.Marks.{is_marked, with_mark, marked_places}
 use Rattle.nt_apc.specs.Queues.{has_apc}
 use Rattle.nt_calls.specs.Rising.{IsRising}
 use Rattle.nt_calls.specs.State.{State, object_at}
-use Rattle.nt_core.specs.Dispatcher.{Dispatcher, Marked, state, with_marked}
+use Rattle.nt_core.specs.Dispatcher.{Dispatcher, Marked, state, due_marked}
 use Rattle.nt_core.specs.Due.{is_up_to, due_weight, total_weight}
 use Rattle.nt_calls.specs.Serving.{IsAlerted}
 use Rattle.nt_calls.specs.Change.{notified, expired, all_expired, IsTimerDue}
-use Rattle.nt_core.specs.Lawful.{IsSound}
+use Rattle.nt_core.specs.Lawful.{IsMachineSound}
 use Rattle.nt_core.specs.Accepts.{IsExpiredAfter}
 use Rattle.nt_core.proofs.Changing.{object_at-set_same, object_at-set_other}
 use Rattle.nt_core.proofs.Accepting.{IsCalm}
@@ -50,9 +50,9 @@ pub record ExpiredSoFar (old now : Dispatcher) (m u : ℕ) (timers : List ℕ) (
   pub count : length now.objects ≡ length old.objects
   pub grants : now.grants ≡ old.grants
   pub table : now.table ≡ old.table
-  pub sound : IsSound now
+  pub sound : IsMachineSound now
 
-pub expired_none : (d : Dispatcher) (m u : ℕ) (marks : List Bool) → IsSound d → IsCalm (state d) → NoneBefore d.alarms u → ExpiredSoFar d d m u [] marks
+pub expired_none : (d : Dispatcher) (m u : ℕ) (marks : List Bool) → IsMachineSound d → IsCalm (state d) → NoneBefore d.alarms u → ExpiredSoFar d d m u [] marks
 expired_none d m u marks sound calm before = record {
   rising = tt;
   due = λ h member. absurd (contains_none h member);
@@ -76,7 +76,7 @@ alarm_known (a ∷ alarms) zero u is = omega arith
 alarm_known (a ∷ alarms) (suc h) u is = let rest = alarm_known alarms h u is in omega (arith, rest)
 
 -- the object at the lowest place with this alarm is a timer that is due
-pub lowest_due : (d : Dispatcher) (u h : ℕ) → IsSound d → IsLowestAt d.alarms u h → due_of (object_at d.objects h) ≡ Some u
+pub lowest_due : (d : Dispatcher) (u h : ℕ) → IsMachineSound d → IsLowestAt d.alarms u h → due_of (object_at d.objects h) ≡ Some u
 lowest_due d u h sound lowest = sym (sound.timers.alarm h) ∙ lowest.here
 
 -- a rising list has no number twice
@@ -153,7 +153,7 @@ alerted_before m s h u t due alerted =
         go (inl same) = inl (setter_parts (object_at s.objects h) manual was armed is r some ∙ ap (λ (k : ℕ). Some k) (sym same))
         go (inr other) = inr (alerted.0, alerted.1, and_kept (alerted.0).alertable (has_apc (notified s.apcs h armed.due (Some r)) t) (has_apc s.apcs t) (has_notified s.apcs h armed.due (Some r) r.thread t refl other) (subst (λ (x : Option Routine). ((alerted.0).alertable && has_apc (notified s.apcs h armed.due x) t) ≡ true) some alerted.2))
 
-pub expired_next : (old now new : Dispatcher) (m u h : ℕ) (timers : List ℕ) (marks marked : List Bool) → u ≤ m → ExpiredSoFar old now m u timers marks → IsLowestAt now.alarms u h → IsMarked marks marked (setter_of (object_at now.objects h)) → state new ≡ expired m (state now) h → new.grants ≡ now.grants → new.table ≡ now.table → IsSound new → ExpiredSoFar old new m u (timers ++ h ∷ []) marked
+pub expired_next : (old now new : Dispatcher) (m u h : ℕ) (timers : List ℕ) (marks marked : List Bool) → u ≤ m → ExpiredSoFar old now m u timers marks → IsLowestAt now.alarms u h → IsMarked marks marked (setter_of (object_at now.objects h)) → state new ≡ expired m (state now) h → new.grants ≡ now.grants → new.table ≡ now.table → IsMachineSound new → ExpiredSoFar old new m u (timers ++ h ∷ []) marked
 expired_next old now new m u h timers marks marked le far lowest mark becomes grants table sound =
     let due = lowest_due now u h far.sound lowest in
     let own = expired_objects m (state now) h u due in
@@ -251,18 +251,14 @@ pub setter_marked : (marks : List Bool) (setter : Option ℕ) → ((t : ℕ) →
 setter_marked marks None known = marked_none marks
 setter_marked marks (Some t) known = marked_some marks t (known t refl)
 
-pub setter_known : (d : Dispatcher) (h t : ℕ) → IsSound d → setter_of (object_at d.objects h) ≡ Some t → t < length d.marked.alerted
+pub setter_known : (d : Dispatcher) (h t : ℕ) → IsMachineSound d → setter_of (object_at d.objects h) ≡ Some t → t < length d.marked.alerted
 setter_known d h t sound sets = let known = (sound.timers.runs h t sets).0 in let places = sound.places.alerted in omega (arith, known, places)
 
--- the timer at h, which expires, and its setter are marked
-abbrev pub due_marked : Dispatcher → ℕ → Dispatcher
-due_marked d h = with_marked d (record { changed = set d.marked.changed h true; alerted = with_mark (setter_of (object_at d.objects h)) d.marked.alerted })
-
-pub lowest_known : (d : Dispatcher) (u h : ℕ) → IsSound d → IsLowestAt d.alarms u h → h < length d.objects
+pub lowest_known : (d : Dispatcher) (u h : ℕ) → IsMachineSound d → IsLowestAt d.alarms u h → h < length d.objects
 lowest_known d u h sound lowest = let known = alarm_known d.alarms h u lowest.here in let clocks = sound.timers.count in omega (arith, known, clocks)
 
-pub marked_sound : (now mid : Dispatcher) (h : ℕ) → IsSound now → mid ≡ due_marked now h → IsSound mid
-marked_sound now mid h sound is = subst IsSound (sym is) (sound_marked now marks sound (record {
+pub marked_sound : (now mid : Dispatcher) (h : ℕ) → IsMachineSound now → mid ≡ due_marked now h → IsMachineSound mid
+marked_sound now mid h sound is = subst IsMachineSound (sym is) (sound_marked now marks sound (record {
   changed = length-set now.marked.changed h true ∙ sound.places.changed;
   alerted = as_long (setter_of (object_at now.objects h)) ∙ sound.places.alerted;
 }))
@@ -274,7 +270,7 @@ marked_sound now mid h sound is = subst IsSound (sym is) (sound_marked now marks
     marks : Marked
     marks = record { changed = set now.marked.changed h true; alerted = with_mark (setter_of (object_at now.objects h)) now.marked.alerted }
 
-pub due_by : (now mid : Dispatcher) (m u h : ℕ) → u ≤ m → IsSound now → IsLowestAt now.alarms u h → mid ≡ due_marked now h → IsSomeAnd (due_of (object_at mid.objects h)) (λ due. due ≤ m)
+pub due_by : (now mid : Dispatcher) (m u h : ℕ) → u ≤ m → IsMachineSound now → IsLowestAt now.alarms u h → mid ≡ due_marked now h → IsSomeAnd (due_of (object_at mid.objects h)) (λ due. due ≤ m)
 due_by now mid m u h le sound lowest is =
     subst (λ (o : Option ℕ). IsSomeAnd o (λ due. due ≤ m)) (sym (ap (λ (d : Dispatcher). due_of (object_at d.objects h)) is ∙ lowest_due now u h sound lowest)) le
 
@@ -286,7 +282,7 @@ mark_places now mid new m u h old far lowest is stays =
     ∙ marked_last now.marked.changed h (omega (arith, known, places)) (λ x member. far.above h (lowest_due now u h far.sound lowest) x member)
 
 -- the timer with the lowest number is marked, and expires
-pub expired_marked : (old now mid new : Dispatcher) (m u h : ℕ) → u ≤ m → ExpiredSoFar old now m u (marked_places now.marked.changed) now.marked.alerted → IsLowestAt now.alarms u h → mid ≡ due_marked now h → state new ≡ expired m (state mid) h → new.grants ≡ mid.grants → new.table ≡ mid.table → new.marked ≡ mid.marked → IsSound new → ExpiredSoFar old new m u (marked_places new.marked.changed) new.marked.alerted
+pub expired_marked : (old now mid new : Dispatcher) (m u h : ℕ) → u ≤ m → ExpiredSoFar old now m u (marked_places now.marked.changed) now.marked.alerted → IsLowestAt now.alarms u h → mid ≡ due_marked now h → state new ≡ expired m (state mid) h → new.grants ≡ mid.grants → new.table ≡ mid.table → new.marked ≡ mid.marked → IsMachineSound new → ExpiredSoFar old new m u (marked_places new.marked.changed) new.marked.alerted
 expired_marked old now mid new m u h le far lowest is becomes grants table stays sound =
     let setter = setter_of (object_at now.objects h) in
     let alerted : new.marked.alerted ≡ with_mark setter now.marked.alerted = ap (λ (mk : Marked). mk.alerted) (stays ∙ ap (λ (d : Dispatcher). d.marked) is) in

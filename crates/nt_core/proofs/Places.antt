@@ -9,7 +9,7 @@ use Rattle.nt_calls.specs.Rising.{IsRising, AreRising}
 use Rattle.nt_calls.specs.State.{State, pends}
 use Rattle.nt_calls.specs.Serving.{sequence, Serve}
 use Rattle.nt_core.specs.Dispatcher.{Dispatcher, Marked, state, with_marked}
-use Rattle.nt_core.specs.Lawful.{IsSound, HasPlaces}
+use Rattle.nt_core.specs.Lawful.{IsMachineSound, HasPlaces}
 use Rattle.nt_core.specs.Visits.{FitOnlyIn, Visits}
 use Rattle.nt_core.proofs.Marking.{marks_along}
 use Rattle.nt_core.proofs.Orders.{length-filter-le}
@@ -126,7 +126,7 @@ adds_as P Q old new same adds = record {
 -- ---- other marks
 
 -- soundness asks of these marks only that there is a place for each
-pub sound_marked : (d : Dispatcher) (marked : Marked) → IsSound d → HasPlaces d.threads d.objects marked → IsSound (with_marked d marked)
+pub sound_marked : (d : Dispatcher) (marked : Marked) → IsMachineSound d → HasPlaces d.threads d.objects marked → IsMachineSound (with_marked d marked)
 sound_marked d marked sound places = record {
   few = sound.few;
   waits = sound.waits;
@@ -164,9 +164,9 @@ pub record ServedSoFar (old now : Dispatcher) : Type 0 where
   pub split : marked_places old.marked.changed ≡ objects ++ marked_places now.marked.changed
   pub visits : Visits (sequence (state old) objects) (with_marked old now.marked) now
   pub alerted : now.marked.alerted ≡ old.marked.alerted
-  pub sound : IsSound now
+  pub sound : IsMachineSound now
 
-pub served_none : (d : Dispatcher) → IsSound d → ServedSoFar d d
+pub served_none : (d : Dispatcher) → IsMachineSound d → ServedSoFar d d
 served_none d sound = record {
   objects = [];
   split = refl;
@@ -179,14 +179,14 @@ served_none d sound = record {
 abbrev pub without_mark : Dispatcher → ℕ → Dispatcher
 without_mark d h = with_marked d (record d.marked { changed = set d.marked.changed h false })
 
-pub changed_sound : (now mid : Dispatcher) (h : ℕ) → IsSound now → mid ≡ without_mark now h → IsSound mid
+pub changed_sound : (now mid : Dispatcher) (h : ℕ) → IsMachineSound now → mid ≡ without_mark now h → IsMachineSound mid
 changed_sound now mid h sound is =
-    subst IsSound (sym is) (sound_marked now (record now.marked { changed = set now.marked.changed h false }) sound (record { changed = length-set now.marked.changed h false ∙ sound.places.changed; alerted = sound.places.alerted }))
+    subst IsMachineSound (sym is) (sound_marked now (record now.marked { changed = set now.marked.changed h false }) sound (record { changed = length-set now.marked.changed h false ∙ sound.places.changed; alerted = sound.places.alerted }))
 
 one_more : (s : State) (objects : List ℕ) (h : ℕ) → sequence s (objects ++ h ∷ []) ≡ sequence s objects ++ s.queues h
 one_more s objects h = flat_map-append s.queues objects (h ∷ []) ∙ ap (λ (q : List ℕ). sequence s objects ++ q) (append-nil (s.queues h))
 
-pub served_next : (old now mid new : Dispatcher) (h : ℕ) → ServedSoFar old now → IsFirstMarked now.marked.changed h → mid ≡ without_mark now h → Visits ((state mid).queues h) mid new → IsSound new → ServedSoFar old new
+pub served_next : (old now mid new : Dispatcher) (h : ℕ) → ServedSoFar old now → IsFirstMarked now.marked.changed h → mid ≡ without_mark now h → Visits ((state mid).queues h) mid new → IsMachineSound new → ServedSoFar old new
 served_next old now mid new h far lowest is visits sound = record {
   objects = far.objects ++ h ∷ [];
   split = far.split ∙ (ap (λ (xs : List ℕ). far.objects ++ xs) (lowest_first now.marked.changed h lowest) ∙ (sym (append_assoc far.objects (h ∷ []) (marked_places (set now.marked.changed h false))) ∙ ap (λ (m : Marked). (far.objects ++ h ∷ []) ++ marked_places m.changed) (sym marks)));

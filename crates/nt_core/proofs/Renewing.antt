@@ -5,7 +5,7 @@ use Rattle.nt_status.specs.Flags.{only_known, has_flag, event_bits, mutex_bits, 
 use Rattle.nt_status.specs.declared.refusal.Refusal.{Refusal}
 use Rattle.nt_status.specs.declared.refusal.Refusal.TheVariants.{AccessDenied, InvalidHandle, InvalidParameter}
 use Rattle.nt_status.specs.Access.{access_bits}
-use Rattle.nt_apc.specs.Queues.{Apcs, KeepsPlaces, queue_of, place_of, has_from, has_apc, is_queued}
+use Rattle.nt_apc.specs.Queues.{Apcs, KeepsPlaces, apc_queue_of, place_of, has_from, has_apc, is_queued}
 use Rattle.nt_apc.specs.declared.apc.Queued.{Queued}
 use Rattle.nt_calls.specs.declared.call.Call.{Call}
 use Rattle.nt_calls.specs.declared.call.Act.{Act}
@@ -25,9 +25,9 @@ use Rattle.nt_calls.specs.Serving.{is_due, sequence}
 use Rattle.nt_calls.specs.State.{State, object_at}
 use Rattle.nt_calls.specs.Living.{is_opened, is_awaited, runs, is_kept, lives, is_forgotten, LivesWhileKept}
 use Rattle.nt_core.specs.Dispatcher.{Dispatcher, state}
-use Rattle.nt_core.specs.Lawful.{IsSound, IsSteady, HandlesAgree}
+use Rattle.nt_core.specs.Lawful.{IsMachineSound, IsSteady, HandlesAgree}
 use Rattle.nt_core.specs.Renewals.{with_again, is_closed, is_vacant, is_left, creation, created_by, or_else, with_caller, creation_refusal, thread_refusal, duplicate_refusal}
-use Rattle.nt_core.specs.Accepts.{IsFree}
+use Rattle.nt_core.specs.Accepts.{IsFreeToCall}
 use Rattle.nt_core.proofs.Replacing.{mutex_undue, mutex_no_thread, mutex_lives}
 use Rattle.nt_core.proofs.Changing.{object_at-set_same, object_at-set_other, reading_set, property_set, fit_only_in, changed_at_one, due_kept, unset_undue}
 use Rattle.nt_core.proofs.Keeping.{no_thread_idle}
@@ -150,7 +150,7 @@ never_forgotten s o living is =
     let two = both (lives s o) (not (is_kept s o)) is in
     false≢true (sym (turned (is_kept s o) two.1) ∙ (sym (living o) ∙ two.0))
 
-pub sound_again : (d : Dispatcher) (o h : ℕ) (x : Object) (handing : List Bool) (standings : List Standing) (owned : List (List ℕ)) → IsSound d → LivesWhileKept (state d) → MayRenew d o h x handing standings → IsSound (with_again d o h x handing standings owned)
+pub sound_again : (d : Dispatcher) (o h : ℕ) (x : Object) (handing : List Bool) (standings : List Standing) (owned : List (List ℕ)) → IsMachineSound d → LivesWhileKept (state d) → MayRenew d o h x handing standings → IsMachineSound (with_again d o h x handing standings owned)
 sound_again d o h x handing standings owned sound living may = record {
   few = sound.few;
   waits = λ t w pends.
@@ -258,7 +258,7 @@ pub record MayOpen (d : Dispatcher) (h source : ℕ) (opened : Opened) : Type 0 
 abbrev pub with_opened : Dispatcher → ℕ → Opened → ℕ → Dispatcher
 with_opened d h opened access = record d { handles = set d.handles h (Some (record { object = opened.object; access = access })) }
 
-pub living_opened : (d : Dispatcher) (h source access : ℕ) (opened : Opened) → IsSound d → LivesWhileKept (state d) → MayOpen d h source opened → LivesWhileKept (state (with_opened d h opened access))
+pub living_opened : (d : Dispatcher) (h source access : ℕ) (opened : Opened) → IsMachineSound d → LivesWhileKept (state d) → MayOpen d h source opened → LivesWhileKept (state (with_opened d h opened access))
 living_opened d h source access opened sound living may k = elim (cases_eq k opened.object) [
   | inl same ↦ subst (λ (i : ℕ). lives (state new) i ≡ is_kept (state new) i) (sym same) (lives_here ∙ sym kept_here)
   | inr differs ↦ living k ∙ sym (kept_other differs)
@@ -309,7 +309,7 @@ steady_opened d h source access opened steady living may = record {
   unmarked = steady.unmarked;
 }
   where
-    sound : IsSound d
+    sound : IsMachineSound d
     sound = steady.sound
 
     handle : Opened
@@ -319,16 +319,16 @@ steady_opened d h source access opened steady living may = record {
 
 -- a timer that has no place has no queued APC
 pub not_queued : (apcs : Apcs) (timer : ℕ) → KeepsPlaces apcs → place_of apcs.places timer ≡ None → is_queued apcs.queues timer ≡ false
-not_queued apcs timer keeps none = go apcs.queues (λ t. nothing t (has_from timer (queue_of apcs.queues t)) refl)
+not_queued apcs timer keeps none = go apcs.queues (λ t. nothing t (has_from timer (apc_queue_of apcs.queues t)) refl)
   where
     no_place : {P : Type 0} (t : ℕ) → None ≡ Some t → P
     no_place t h = (cc)
 
-    nothing : (t : ℕ) (b : Bool) → has_from timer (queue_of apcs.queues t) ≡ b → has_from timer (queue_of apcs.queues t) ≡ false
+    nothing : (t : ℕ) (b : Bool) → has_from timer (apc_queue_of apcs.queues t) ≡ b → has_from timer (apc_queue_of apcs.queues t) ≡ false
     nothing t false e = e
     nothing t true e = no_place t (sym none ∙ keeps.at_place t timer e)
 
-    go : (queues : List (List Queued)) → ((t : ℕ) → has_from timer (queue_of queues t) ≡ false) → is_queued queues timer ≡ false
+    go : (queues : List (List Queued)) → ((t : ℕ) → has_from timer (apc_queue_of queues t) ≡ false) → is_queued queues timer ≡ false
     go [] each = refl
     go (q ∷ queues) each =
         let here : has_from timer q ≡ false = each zero in
@@ -382,7 +382,7 @@ closed_parts s h is =
     (let test = two.0 in grind (arith, nat_tests, test), is_none_of (opened_at s.handles h) two.1)
 
 -- what makes a creation may be given the numbers
-pub may_renew : (d : Dispatcher) (t : ℕ) (act : Act) (o h : ℕ) (x : Object) → (is_vacant (state d) o && is_closed (state d) h) ≡ true → creation t act ≡ Some x → IsLawfulObject x → IsSound d → MayRenew d o h x d.handing d.standings
+pub may_renew : (d : Dispatcher) (t : ℕ) (act : Act) (o h : ℕ) (x : Object) → (is_vacant (state d) o && is_closed (state d) h) ≡ true → creation t act ≡ Some x → IsLawfulObject x → IsMachineSound d → MayRenew d o h x d.handing d.standings
 may_renew d t act o h x free made lawful sound =
     let two = both (is_vacant (state d) o) (is_closed (state d) h) free in
     let closed = closed_parts (state d) h two.1 in
@@ -404,7 +404,7 @@ may_renew d t act o h x free made lawful sound =
     }
 
 -- a thread may begin again
-pub may_begin_again : (d : Dispatcher) (t h : ℕ) → IsSound d → (is_left (state d) t && is_closed (state d) h) ≡ true → MayRenew d t h (Thread false) (set d.handing t false) (set d.standings t Free)
+pub may_begin_again : (d : Dispatcher) (t h : ℕ) → IsMachineSound d → (is_left (state d) t && is_closed (state d) h) ≡ true → MayRenew d t h (Thread false) (set d.handing t false) (set d.standings t Free)
 may_begin_again d t h sound free =
     let two = both (is_left (state d) t) (is_closed (state d) h) free in
     let closed = closed_parts (state d) h two.1 in
@@ -440,15 +440,15 @@ pub barred : (s : State) (who : ℕ) (causes : List Cause) (cause : Refusal) →
 barred s who causes cause is = ap (λ r. or_else r (first_of_causes causes)) is
 
 -- no cause that lies in the caller refuses it
-pub unbarred : (s : State) (who : ℕ) (causes : List Cause) → IsFree s who → with_caller s who causes ≡ first_of_causes causes
+pub unbarred : (s : State) (who : ℕ) (causes : List Cause) → IsFreeToCall s who → with_caller s who causes ≡ first_of_causes causes
 unbarred s who causes free = ap (λ r. or_else r (first_of_causes causes)) (free false Call.Exit)
 
-pub uncreated : (s : State) (who : ℕ) (act : Act) (o h : ℕ) → IsFree s who → creation who act ≡ None → creation_refusal s who act o h ≡ Some InvalidParameter
+pub uncreated : (s : State) (who : ℕ) (act : Act) (o h : ℕ) → IsFreeToCall s who → creation who act ≡ None → creation_refusal s who act o h ≡ Some InvalidParameter
 uncreated s who act o h free none =
     unbarred s who ((is_none (creation who act), InvalidParameter) ∷ (not (is_vacant s o && is_closed s h), InvalidHandle) ∷ []) free
     ∙ ap (λ made. first_of_causes ((is_none made, InvalidParameter) ∷ (not (is_vacant s o && is_closed s h), InvalidHandle) ∷ [])) none
 
-pub created_where : (s : State) (who : ℕ) (act : Act) (o h : ℕ) (x : Object) (b : Bool) → IsFree s who → creation who act ≡ Some x → (is_vacant s o && is_closed s h) ≡ b → creation_refusal s who act o h ≡ (if b then None else Some InvalidHandle)
+pub created_where : (s : State) (who : ℕ) (act : Act) (o h : ℕ) (x : Object) (b : Bool) → IsFreeToCall s who → creation who act ≡ Some x → (is_vacant s o && is_closed s h) ≡ b → creation_refusal s who act o h ≡ (if b then None else Some InvalidHandle)
 created_where s who act o h x b free made is =
     unbarred s who ((is_none (creation who act), InvalidParameter) ∷ (not (is_vacant s o && is_closed s h), InvalidHandle) ∷ []) free
     ∙ (ap (λ (m : Option Object). first_of_causes ((is_none m, InvalidParameter) ∷ (not (is_vacant s o && is_closed s h), InvalidHandle) ∷ [])) made
@@ -473,7 +473,7 @@ duplicate_barred s who source access h cause is =
     barred s who ((is_none (opened_at s.handles source), InvalidHandle) ∷ (lacks access s.handles source || not (only_known access_bits access), AccessDenied) ∷ (not (is_closed s h), InvalidHandle) ∷ []) cause is
 
 -- a duplicate is refused by the first of its own causes
-pub duplicated_where : (s : State) (who source access h : ℕ) (a b c : Bool) → IsFree s who → is_none (opened_at s.handles source) ≡ a → (lacks access s.handles source || not (only_known access_bits access)) ≡ b → is_closed s h ≡ c → duplicate_refusal s who source access h ≡ first_of_causes ((a, InvalidHandle) ∷ (b, AccessDenied) ∷ (not c, InvalidHandle) ∷ [])
+pub duplicated_where : (s : State) (who source access h : ℕ) (a b c : Bool) → IsFreeToCall s who → is_none (opened_at s.handles source) ≡ a → (lacks access s.handles source || not (only_known access_bits access)) ≡ b → is_closed s h ≡ c → duplicate_refusal s who source access h ≡ first_of_causes ((a, InvalidHandle) ∷ (b, AccessDenied) ∷ (not c, InvalidHandle) ∷ [])
 duplicated_where s who source access h a b c free p q r =
     unbarred s who ((is_none (opened_at s.handles source), InvalidHandle) ∷ (lacks access s.handles source || not (only_known access_bits access), AccessDenied) ∷ (not (is_closed s h), InvalidHandle) ∷ []) free
     ∙ (ap (λ x. first_of_causes ((x, InvalidHandle) ∷ (lacks access s.handles source || not (only_known access_bits access), AccessDenied) ∷ (not (is_closed s h), InvalidHandle) ∷ [])) p

@@ -19,7 +19,7 @@ use Rattle.nt_calls.specs.Rising.{AreRising}
 use Rattle.nt_calls.specs.State.{State, object_at, with_object}
 use Rattle.nt_core.specs.Dispatcher.{Dispatcher, state, with_created}
 use Rattle.nt_calls.specs.declared.call.Grant.{Grant}
-use Rattle.nt_calls.specs.Serving.{is_ready, IsChanged, sequence, Serve, Grants, granted}
+use Rattle.nt_calls.specs.Serving.{is_ready, IsChanged, sequence, Serve, Grants, wait_granted}
 use Rattle.nt_calls.specs.Change.{change, at, created, opened_too}
 use Rattle.nt_calls.specs.Steps.{after_serving, answered}
 use Rattle.std.specs.Prelude.{not}
@@ -31,20 +31,20 @@ use Rattle.nt_core.proofs.Marking.{marks_opened, mark_created}
 use Rattle.nt_objects.specs.declared.handles.Opened.{Opened}
 use Rattle.nt_calls.specs.Refusals.{duplicate_causes, first_of_causes, is_full, is_unknown}
 use Rattle.nt_core.specs.Visits.{FitOnlyIn}
-use Rattle.nt_core.specs.Lawful.{IsSound, IsSteady, MayReplace, IsUnmarked}
+use Rattle.nt_core.specs.Lawful.{IsMachineSound, IsSteady, MayReplace, IsUnmarked}
 use Rattle.nt_core.specs.Accepts.{IsFresh, IsServedAfter, Accepts}
 use Rattle.nt_core.proofs.Changing.{ChangedOnlyAt, one_changed, same_changed, fit_only_in, changed_at_one, sound_replaced, served_fewer, due_replaced, none_created, sound_created, served_unchanged, object_at-append, due_kept, known_event, known_object, set_as_before, object_at-set_same}
 use Rattle.nt_core.proofs.Accepting.{accepted, settled_after, reading_taken_by, next_causes}
 
 -- ---- a queue holds each thread once at most
 
-pub queue_few : (d : Dispatcher) (h : ℕ) → IsSound d → length ((state d).queues h) ≤ 4096
+pub queue_few : (d : Dispatcher) (h : ℕ) → IsMachineSound d → length ((state d).queues h) ≤ 4096
 queue_few d h sound =
     let few = few_below d.threads ((state d).queues h) (sound.blocks.once h) (λ u m. let own = sound.blocks.named u h m in (sound.waits u own.0 own.1).known) in
     let all = sound.few in
     omega (arith, few, all)
 
-pub one_few : (d : Dispatcher) (h : ℕ) → IsSound d → length (sequence (state d) (h ∷ [])) < 2 ^ 64
+pub one_few : (d : Dispatcher) (h : ℕ) → IsMachineSound d → length (sequence (state d) (h ∷ [])) < 2 ^ 64
 one_few d h sound = let few = queue_few d h sound in rw (append-nil ((state d).queues h)) (omega (arith, few))
 
 -- ---- one object is exchanged for another that satisfies more waits, and the waits on it are served
@@ -52,7 +52,7 @@ one_few d h sound = let few = queue_few d h sound in rw (append-nil ((state d).q
 pub replaced_fit : (d : Dispatcher) (h : ℕ) (o : Object) → IsSteady d → FitOnlyIn (sequence (state d) (h ∷ [])) (state (record d { objects = set d.objects h o }))
 replaced_fit d h o steady = fit_only_in (h ∷ []) d (set d.objects h o) steady.sound steady.settled.served (changed_at_one d.objects h o)
 
-pub replaced_served : (old new : Dispatcher) (h : ℕ) (o : Object) → h < length old.objects → o ≢ object_at old.objects h → Serve (sequence (state old) (h ∷ [])) (state (record old { objects = set old.objects h o })) new.grants (state new) → IsSound new → new.table.looked ≤ length (sequence (state old) (h ∷ [])) → length new.grants ≤ new.table.looked → IsUnmarked new.marked → IsServedAfter old (state (record old { objects = set old.objects h o })) new
+pub replaced_served : (old new : Dispatcher) (h : ℕ) (o : Object) → h < length old.objects → o ≢ object_at old.objects h → Serve (sequence (state old) (h ∷ [])) (state (record old { objects = set old.objects h o })) new.grants (state new) → IsMachineSound new → new.table.looked ≤ length (sequence (state old) (h ∷ [])) → length new.grants ≤ new.table.looked → IsUnmarked new.marked → IsServedAfter old (state (record old { objects = set old.objects h o })) new
 replaced_served old new h o known differs serve sound most least unmarked = record {
   numbers = h ∷ [];
   changed = one_changed old.objects h o known differs;
@@ -205,7 +205,7 @@ event_taken Gone t = refl
 -- grants leave an event an event
 pub event_served : (threads : List ℕ) (s new : State) (gs : List Grant) (h : ℕ) → Grants threads s gs new → is_event (object_at new.objects h) ≡ is_event (object_at s.objects h)
 event_served threads s new [] h is = ap (λ (x : State). is_event (object_at x.objects h)) is
-event_served threads s new (g ∷ gs) h has = event_served threads (granted s g.thread has.1) new gs h has.3 ∙ reading_taken_by is_event (λ o t. event_taken o t) s.objects g.thread has.1 h
+event_served threads s new (g ∷ gs) h has = event_served threads (wait_granted s g.thread has.1) new gs h has.3 ∙ reading_taken_by is_event (λ o t. event_taken o t) s.objects g.thread has.1 h
 
 -- it is still an event when waits are served
 pub still_event : (old mid : Dispatcher) (h : ℕ) → is_event (object_at old.objects h) ≡ true → IsServedAfter old (at (state old) h (with_set true)) mid → is_event (object_at mid.objects h) ≡ true
@@ -289,7 +289,7 @@ duplicated_accepted old new t object access handle fresh room known alive is bec
     d : Dispatcher
     d = record old { handles = old.handles ++ Some (record { object = object; access = access }) ∷ [] }
 
-    before : IsSound old
+    before : IsMachineSound old
     before = fresh.steady.sound
 
     all : IsSteady d

@@ -16,7 +16,7 @@ use Rattle.nt_calls.specs.Rising.{IsRising}
 use Rattle.nt_calls.specs.State.{State, wait_over, waits_over}
 use Rattle.nt_core.specs.Dispatcher.{Dispatcher, state, Marked, with_marked}
 use Rattle.nt_calls.specs.Serving.{IsAlerted, ending}
-use Rattle.nt_core.specs.Lawful.{IsSound, IsUnmarked}
+use Rattle.nt_core.specs.Lawful.{IsMachineSound, IsUnmarked}
 use Rattle.nt_core.specs.Accepts.{IsRoused, IsAlertedAfter}
 use Rattle.nt_core.proofs.Alerting.{over_pending, over_apcs}
 use Rattle.nt_core.proofs.Places.{sound_marked}
@@ -45,9 +45,9 @@ pub record AlertedSoFar (old now : Dispatcher) (marks : List Bool) : Type 0 wher
   pub marked : (x : ℕ) → IsAlerted (state now) x → is_marked marks x ≡ true
   pub looked : now.table.looked ≡ old.table.looked
   pub stays : now.marked ≡ record old.marked { alerted = marks }
-  pub sound : IsSound now
+  pub sound : IsMachineSound now
 
-pub alerted_none : (d : Dispatcher) → IsSound d → ((t : ℕ) → IsAlerted (state d) t → is_marked d.marked.alerted t ≡ true) → AlertedSoFar d d d.marked.alerted
+pub alerted_none : (d : Dispatcher) → IsMachineSound d → ((t : ℕ) → IsAlerted (state d) t → is_marked d.marked.alerted t ≡ true) → AlertedSoFar d d d.marked.alerted
 alerted_none d sound marked = record {
   threads = [];
   rising = tt;
@@ -74,7 +74,7 @@ lowest_least marks t x lowest is = go (nat_le t x) refl
     go true le = grind (arith, nat_tests, le)
     go false gt = let below : x < t = grind (arith, nat_tests, gt) in absurd (lowest.none_below x below is)
 
-pub alerted_next : (old now new : Dispatcher) (marks : List Bool) (t : ℕ) → AlertedSoFar old now marks → IsFirstMarked marks t → IsRoused (with_marked now (record now.marked { alerted = set marks t false })) new t → IsSound new → AlertedSoFar old new (set marks t false)
+pub alerted_next : (old now new : Dispatcher) (marks : List Bool) (t : ℕ) → AlertedSoFar old now marks → IsFirstMarked marks t → IsRoused (with_marked now (record now.marked { alerted = set marks t false })) new t → IsMachineSound new → AlertedSoFar old new (set marks t false)
 alerted_next old now new marks t far lowest (inl roused) sound =
     let before = still_alerted (state old) far.threads true t (subst (λ (s : State). IsAlerted s t) far.over roused.0) in
     record {
@@ -115,7 +115,7 @@ alerted_next old now new marks t far lowest (inr idle) sound = subst (λ (d : Di
   ];
   looked = far.looked;
   stays = ap (λ (m : Marked). record m { alerted = set marks t false }) far.stays;
-  sound = subst IsSound idle.1 sound;
+  sound = subst IsMachineSound idle.1 sound;
 })
   where
     no_mark : {P : Type 0} → false ≡ true → P
@@ -126,9 +126,9 @@ alerted_next old now new marks t far lowest (inr idle) sound = subst (λ (d : Di
     after x is (inr other) y m = far.above x (sym (cleared_other marks t x other) ∙ is) y m
 
 -- the lowest mark is taken away
-pub taken_sound : (now mid : Dispatcher) (t : ℕ) → IsSound now → mid ≡ with_marked now (record now.marked { alerted = set now.marked.alerted t false }) → IsSound mid
+pub taken_sound : (now mid : Dispatcher) (t : ℕ) → IsMachineSound now → mid ≡ with_marked now (record now.marked { alerted = set now.marked.alerted t false }) → IsMachineSound mid
 taken_sound now mid t sound is =
-    subst IsSound (sym is) (sound_marked now (record now.marked { alerted = set now.marked.alerted t false }) sound (record { changed = sound.places.changed; alerted = length-set now.marked.alerted t false ∙ sound.places.alerted }))
+    subst IsMachineSound (sym is) (sound_marked now (record now.marked { alerted = set now.marked.alerted t false }) sound (record { changed = sound.places.changed; alerted = length-set now.marked.alerted t false ∙ sound.places.alerted }))
 
 pub alerted_left : (now mid new : Dispatcher) (t : ℕ) → mid ≡ with_marked now (record now.marked { alerted = set now.marked.alerted t false }) → IsRoused mid new t → new.marked.alerted ≡ set now.marked.alerted t false
 alerted_left now mid new t is (inl roused) = ap (λ (m : Marked). m.alerted) roused.4 ∙ ap (λ (d : Dispatcher). d.marked.alerted) is

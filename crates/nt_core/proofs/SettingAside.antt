@@ -1,5 +1,5 @@
 -- An object that is set aside leaves a dispatcher lawful.
-use Rattle.std.proofs.Common.{◌≡◌, ◌≢◌, ℕ, ◌<◌, ◌≤◌, Bool, true, false, not, ◌&&◌, ◌||◌, List, [], ◌∷◌, length, map, set, refl, sym, ap, ◌∙◌, subst, arith, Some, inl, inr, ◌⊎◌, Contains}
+use Rattle.std.proofs.Common.{◌≡◌, ◌≢◌, ℕ, ◌<◌, ◌≤◌, Bool, true, false, not, ◌&&◌, ◌||◌, List, [], ◌∷◌, length, set, refl, sym, ap, ◌∙◌, subst, arith, Some, inl, inr, ◌⊎◌, Contains}
 use Rattle.std.specs.Prelude.{nat_lt, nat_le}
 use Rattle.std.specs.FinMap as fin
 use Rattle.std.proofs.lemmas.Bool.{cases_eq, false≢true}
@@ -17,9 +17,9 @@ use Rattle.nt_calls.specs.Serving.{is_due, sequence}
 use Rattle.nt_calls.specs.State.{State, object_at}
 use Rattle.nt_calls.specs.Living.{is_opened, is_awaited, runs, is_kept, lives, LivesWhileKept}
 use Rattle.nt_core.specs.Dispatcher.{Dispatcher, state}
-use Rattle.nt_core.specs.Lawful.{IsSound, IsSteady}
+use Rattle.nt_core.specs.Lawful.{IsMachineSound, IsSteady}
 use Rattle.nt_core.specs.Renewals.{is_vacant}
-use Rattle.nt_core.specs.SetAside.{is_movable, can_set_aside, named_instead}
+use Rattle.nt_core.specs.SetAside.{is_movable, can_set_aside, with_aside}
 use Rattle.nt_core.proofs.Changing.{ChangedOnlyAt, object_at-set_same, object_at-set_other, reading_set, property_set, fit_only_in, due_kept}
 use Rattle.nt_core.proofs.Keeping.{timers_kept}
 use Rattle.nt_core.proofs.Lives.{below_both}
@@ -27,11 +27,6 @@ use Rattle.nt_core.proofs.Remaining.{both, turned, and_not}
 use Rattle.nt_core.proofs.Renewing.{never_forgotten}
 use Rattle.nt_core.proofs.Renumbering.{named_before, count_other, count_from, count_to, handles_instead}
 use Rattle.nt_core.proofs.Standings.{standings_kept}
-
--- thread t's object has the number o, and all handles that named it name it there
-abbrev pub with_aside : Dispatcher → ℕ → ℕ → List (List ℕ) → Dispatcher
-with_aside d t o owned =
-    record d { handles = map (named_instead t o) d.handles; objects = set (set d.objects o (object_at d.objects t)) t Gone; owned = owned }
 
 -- the thread has ended and no wait names its object; what had the number o is gone
 pub record MayMove (s : State) (t o : ℕ) : Type 0 where
@@ -91,7 +86,7 @@ aside_long d t o = length-set (set d.objects o (object_at d.objects t)) t Gone �
 others_apart : (d : Dispatcher) (t o : ℕ) → MayMove (state d) t o → o ≢ t
 others_apart d t o may same = let a = may.below in let b = may.beyond in omega (arith, a, b, same)
 
-at_own : (d : Dispatcher) (t o : ℕ) → IsSound d → MayMove (state d) t o → object_at (aside d t o) t ≡ Gone
+at_own : (d : Dispatcher) (t o : ℕ) → IsMachineSound d → MayMove (state d) t o → object_at (aside d t o) t ≡ Gone
 at_own d t o sound may =
     let there = (sound.own t may.below).0 in
     let long = length-set d.objects o (object_at d.objects t) in
@@ -129,18 +124,18 @@ unnamed d t u none member = go (queue_of d.table t) none member
     go [] e m = contains_none u m
     go (x ∷ queue) e m = let some : nat_lt 0 (length (x ∷ queue)) ≡ true = grind (arith, nat_tests) in false≢true (sym e ∙ some)
 
-wait_from : (d : Dispatcher) (t o u k : ℕ) (w : Wait) → IsSound d → MayMove (state d) t o → fin.get d.table.pending u ≡ Some w → Names w k → k ≢ t
+wait_from : (d : Dispatcher) (t o u k : ℕ) (w : Wait) → IsMachineSound d → MayMove (state d) t o → fin.get d.table.pending u ≡ Some w → Names w k → k ≢ t
 wait_from d t o u k w sound may pends names same =
     unnamed d t u may.unawaited (sound.blocks.listed u t w pends (subst (λ (i : ℕ). Names w i) same names))
 
-wait_to : (d : Dispatcher) (t o u k : ℕ) (w : Wait) → IsSound d → MayMove (state d) t o → fin.get d.table.pending u ≡ Some w → Names w k → k ≢ o
+wait_to : (d : Dispatcher) (t o u k : ℕ) (w : Wait) → IsMachineSound d → MayMove (state d) t o → fin.get d.table.pending u ≡ Some w → Names w k → k ≢ o
 wait_to d t o u k w sound may pends names same =
     false≢true (sym ((sound.waits u w pends).living k names) ∙ (ap (λ (i : ℕ). is_gone (object_at d.objects i)) same ∙ ap is_gone may.vacant))
 
 -- ---- each object lives exactly while it is kept
 
 -- it lived, and nothing but handles kept it
-pub aside_opened : (d : Dispatcher) (t o : ℕ) → IsSound d → LivesWhileKept (state d) → MayMove (state d) t o → is_opened (state d) t ≡ true
+pub aside_opened : (d : Dispatcher) (t o : ℕ) → IsMachineSound d → LivesWhileKept (state d) → MayMove (state d) t o → is_opened (state d) t ≡ true
 aside_opened d t o sound living may =
     let there = below_both (state d) t (sound.own t may.below).0 (ap is_gone may.ended) in
     let kept : is_kept (state d) t ≡ true = sym (living t) ∙ there in
@@ -151,7 +146,7 @@ aside_opened d t o sound living may =
     only true e = refl
     only false e = e
 
-pub living_aside : (d : Dispatcher) (t o : ℕ) (owned : List (List ℕ)) → IsSound d → LivesWhileKept (state d) → MayMove (state d) t o → LivesWhileKept (state (with_aside d t o owned))
+pub living_aside : (d : Dispatcher) (t o : ℕ) (owned : List (List ℕ)) → IsMachineSound d → LivesWhileKept (state d) → MayMove (state d) t o → LivesWhileKept (state (with_aside d t o owned))
 living_aside d t o owned sound living may k = elim (cases_eq k t) [
   | inl own ↦ subst (λ (i : ℕ). lives (state new) i ≡ is_kept (state new) i) (sym own) (lives_own ∙ sym kept_own)
   | inr from ↦ elim (cases_eq k o) [
@@ -190,7 +185,7 @@ living_aside d t o owned sound living may k = elim (cases_eq k t) [
 
 -- ---- the dispatcher stays sound, and settled
 
-pub sound_aside : (d : Dispatcher) (t o : ℕ) (owned : List (List ℕ)) → IsSound d → LivesWhileKept (state d) → MayMove (state d) t o → IsSound (with_aside d t o owned)
+pub sound_aside : (d : Dispatcher) (t o : ℕ) (owned : List (List ℕ)) → IsMachineSound d → LivesWhileKept (state d) → MayMove (state d) t o → IsMachineSound (with_aside d t o owned)
 sound_aside d t o owned sound living may = record {
   few = sound.few;
   waits = λ u w pends.

@@ -13,7 +13,7 @@ use Rattle.nt_objects.specs.Object.{signaled, taken, owned_by}
 use Rattle.nt_objects.proofs.Taking.{unsignaled_taken}
 use Rattle.nt_calls.specs.State.{State, object_at, with_object}
 use Rattle.nt_core.specs.Dispatcher.{Dispatcher, state}
-use Rattle.nt_calls.specs.Serving.{is_ready, is_due, satisfied, least, take_at, take_each, objects_taken, granted, IsServed, Serve, sequence}
+use Rattle.nt_calls.specs.Serving.{is_ready, is_due, satisfied, least, take_at, take_each, objects_taken, wait_granted, IsServed, Serve, sequence}
 use Rattle.nt_core.specs.Visits.{IsVisited, Visits, FitOnlyIn, FitOnlyBy, closed}
 use Rattle.nt_core.proofs.Taking.{unready_taken, fits_kept}
 use Rattle.nt_core.proofs.Walks.{IsAt, Grants-before, all_served, get_same, get_other}
@@ -51,7 +51,7 @@ closed_after os t w h u k other e = go w.all
     go true = closed_taken_each os t w.objects h u k other e
     go false = closed_taken os t (slice_index w.objects (least os t w)) h u k other e
 
-by_granted : (h : ℕ) (s : State) (t : ℕ) (w : Wait) → FitOnlyBy h s → FitOnlyBy h (granted s t w)
+by_granted : (h : ℕ) (s : State) (t : ℕ) (w : Wait) → FitOnlyBy h s → FitOnlyBy h (wait_granted s t w)
 by_granted h s t w by u = elim (cases_eq u t) [
   | inl same ↦ rw (ap (λ v. map.get (map.remove s.waits t) v) same ∙ get_same s.waits t) refl
   | inr other ↦ rw (get_other s.waits t u other) (go other (map.get s.waits u) (by u))

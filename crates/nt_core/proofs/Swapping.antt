@@ -18,10 +18,10 @@ use Rattle.nt_calls.specs.declared.call.Reply.{Reply}
 use Rattle.nt_calls.specs.declared.call.Grant.{Grant}
 use Rattle.nt_calls.specs.State.{State, object_at}
 use Rattle.nt_core.specs.Dispatcher.{Dispatcher, state}
-use Rattle.nt_calls.specs.Serving.{wait_for, sequence, Grants, granted, objects_taken}
+use Rattle.nt_calls.specs.Serving.{wait_on, sequence, Grants, wait_granted, objects_taken}
 use Rattle.nt_calls.specs.Change.{at, signal}
 use Rattle.nt_calls.specs.Refusals.{may_signal, is_foreign, is_no, is_unknown, is_at_limit, refusal}
-use Rattle.nt_calls.specs.Steps.{begun, wait_of}
+use Rattle.nt_calls.specs.Steps.{begun, asked_wait}
 use Rattle.nt_core.specs.Lawful.{IsSoundWait, IsSteady, MayReplace}
 use Rattle.nt_core.specs.Accepts.{is_by_objects, IsFresh, IsServedAfter, Accepts}
 use Rattle.nt_objects.proofs.Lawful.{lawful_released, lawful_unlocked}
@@ -118,7 +118,7 @@ serving_leaves n threads s new (g ∷ gs) t has sound idle =
     let own = sound.1 g.thread w due.pends in
     let well = objects_taken_well s.objects g.thread w own.apart (can_take s.objects g.thread n w sound.0 own) due.fits in
     let differs : t ≢ g.thread = λ e. let h : None ≡ Some w = sym idle ∙ (ap (λ x. fin.get s.waits x) e ∙ due.pends) in absurd_none w h in
-    let mid = granted s g.thread w in
+    let mid = wait_granted s g.thread w in
     let rest = serving_leaves n threads mid new gs t has.3 (well.lawful sound.0, λ u v pends. kept u v well (get_removed s.waits g.thread u v pends)) (removed_idle s t g.thread idle) in
     let one = len_removed s.waits g.thread w due.pends in
     record {
@@ -205,13 +205,13 @@ module _ (old calm : Dispatcher) (t h object ms : ℕ) (alertable : Bool)
 
   pub calm_room : length calm.grants + fin.len calm.table.pending < calm.threads
   calm_room =
-      let room = room_to_begin old t (wait_for [] false) fresh.steady.sound caller.0 caller.2 in
+      let room = room_to_begin old t (wait_on [] false) fresh.steady.sound caller.0 caller.2 in
       let fewer = left.fewer in
       let threads = left.threads in
       omega (arith, room, fewer, threads)
 
   -- the whole call
-  pub swap_accepted : (new : Dispatcher) (reply : Reply) → new.grants ≡ calm.grants → new.table.looked ≡ calm.table.looked → IsSteady new → (reply, state new) ≡ begun (state calm) t (wait_of calm.now (WaitCall.Swap h object ms alertable)) ms → Accepts old new t (Call.Wait (WaitCall.Swap h object ms alertable)) reply
+  pub swap_accepted : (new : Dispatcher) (reply : Reply) → new.grants ≡ calm.grants → new.table.looked ≡ calm.table.looked → IsSteady new → (reply, state new) ≡ begun (state calm) t (asked_wait calm.now (WaitCall.Swap h object ms alertable)) ms → Accepts old new t (Call.Wait (WaitCall.Swap h object ms alertable)) reply
   swap_accepted new reply same looked steady answers = record {
     step = record {
       numbers = served.numbers;

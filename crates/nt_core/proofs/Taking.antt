@@ -9,7 +9,7 @@ use Rattle.nt_waits.specs.declared.wait.Wait.{Wait}
 use Rattle.nt_objects.specs.declared.object.Object.{Object}
 use Rattle.nt_calls.specs.State.{State, Pending, pends}
 use Rattle.nt_objects.proofs.Taking.{unsignaled_taken}
-use Rattle.nt_calls.specs.Serving.{is_ready, is_sleep, fits, least, take_at, take_each, objects_taken, granted, satisfied, is_due}
+use Rattle.nt_calls.specs.Serving.{is_ready, is_sleep, fits, least, take_at, take_each, objects_taken, wait_granted, satisfied, is_due}
 
 -- ---- the law of taking, for lists of objects
 
@@ -71,7 +71,7 @@ pub get_granted : (m : Pending) (t u : ℕ) → map.get (map.remove m t) u ≡ c
 get_granted m t u = map.get-remove nat_cmp_total m t u
 
 -- who waits for nothing that fits does not after another's grant
-pub undue_granted : (s : State) (t : ℕ) (w : Wait) (u : ℕ) → is_due s u ≡ false → is_due (granted s t w) u ≡ false
+pub undue_granted : (s : State) (t : ℕ) (w : Wait) (u : ℕ) → is_due s u ≡ false → is_due (wait_granted s t w) u ≡ false
 undue_granted s t w u e =
     rw (get_granted s.waits t u) (go (eq_by_cmp nat_cmp u t) (map.get s.waits u) e)
   where
@@ -81,7 +81,7 @@ undue_granted s t w u e =
     go false (Some v) e = fits_kept s.objects (objects_taken s.objects t w) u v (λ k. unready_after s.objects t w u k) e
 
 -- who does not pend does not after a grant
-pub idle_granted : (s : State) (t : ℕ) (w : Wait) (u : ℕ) → pends s u ≡ false → pends (granted s t w) u ≡ false
+pub idle_granted : (s : State) (t : ℕ) (w : Wait) (u : ℕ) → pends s u ≡ false → pends (wait_granted s t w) u ≡ false
 idle_granted s t w u e = rw (get_granted s.waits t u) (go (eq_by_cmp nat_cmp u t))
   where
     go : (b : Bool) → is_some (cond b None (map.get s.waits u)) ≡ false

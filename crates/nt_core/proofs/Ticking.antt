@@ -13,13 +13,13 @@ use Rattle.nt_calls.specs.State.{State, wait_over, waits_over}
 use Rattle.nt_core.specs.Dispatcher.{Dispatcher, state}
 use Rattle.nt_calls.specs.Serving.{IsLate, ending, late_status, sleeps}
 use Rattle.nt_calls.specs.Steps.{IsAwaited, IsNextMoment, NothingDue, MomentPasses, MomentsPass}
-use Rattle.nt_core.specs.Lawful.{IsSound}
+use Rattle.nt_core.specs.Lawful.{IsMachineSound}
 use Rattle.nt_core.specs.Accepts.{IsTimedOutAfter}
 use Rattle.std.specs.Prelude.{MatchOption, if◌then◌else◌}
 use Rattle.std.proofs.lemmas.List.Elements.{Contains-push_cases}
 use Rattle.nt_status.proofs.Lists.{contains_none, contains_first, contains_later}
 use Rattle.nt_alarms.specs.Alarms.{alarm_at, IsQuiet, IsEarliest}
-use Rattle.nt_core.specs.Due.{earlier}
+use Rattle.nt_core.specs.Due.{earlier_moment}
 use Rattle.nt_core.proofs.Visiting.{len_removed}
 use Rattle.nt_core.proofs.Walks.{get_other}
 use Rattle.nt_core.proofs.Alerting.{over_pending}
@@ -37,7 +37,7 @@ pub deadline_late : (s : State) (u t : ℕ) → IsLate s u t → deadline_of s.w
 deadline_late s u t late = ap deadline_in late.1 ∙ late.2
 
 -- what is awaited is the alarm of a timer or a deadline
-pub awaited_alarm : (d : Dispatcher) (v : ℕ) → IsSound d → IsAwaited (state d) v → ((h : ℕ) × (alarm_at d.alarms h ≡ Some v)) ⊎ ((t : ℕ) × (deadline_of d.table.pending t ≡ Some v))
+pub awaited_alarm : (d : Dispatcher) (v : ℕ) → IsMachineSound d → IsAwaited (state d) v → ((h : ℕ) × (alarm_at d.alarms h ≡ Some v)) ⊎ ((t : ℕ) × (deadline_of d.table.pending t ≡ Some v))
 awaited_alarm d v sound (inl timer) = inl (timer.0, sound.timers.alarm timer.0 ∙ timer.1)
 awaited_alarm d v sound (inr late) = inr (late.0, deadline_late (state d) v late.0 (late.1, late.2, late.3))
 
@@ -45,7 +45,7 @@ awaited_alarm d v sound (inr late) = inr (late.0, deadline_late (state d) v late
 abbrev pub IsNext : Dispatcher → Option ℕ → Type 0
 IsNext d next = MatchOption next ((v : ℕ) → IsAwaited (state d) v → ⊥) (λ u. IsAwaited (state d) u × ((v : ℕ) → IsAwaited (state d) v → u ≤ v))
 
-pub next_of : (d : Dispatcher) (due deadline : Option ℕ) → IsSound d → MatchOption due (IsQuiet d.alarms) (λ u. IsEarliest d.alarms u) → MatchOption deadline (NoDeadline d.table.pending) (λ u. IsEarliestDeadline d.table.pending u) → IsNext d (earlier due deadline)
+pub next_of : (d : Dispatcher) (due deadline : Option ℕ) → IsMachineSound d → MatchOption due (IsQuiet d.alarms) (λ u. IsEarliest d.alarms u) → MatchOption deadline (NoDeadline d.table.pending) (λ u. IsEarliestDeadline d.table.pending u) → IsNext d (earlier_moment due deadline)
 next_of d None None sound quiet none = λ v awaited. elim (awaited_alarm d v sound awaited) [
   | inl timer ↦ absurd_none v (sym (quiet timer.0) ∙ timer.1)
   | inr late ↦ absurd_none v (sym (none late.0) ∙ late.1)
@@ -108,7 +108,7 @@ pub record LateSoFar (old now : Dispatcher) (u : ℕ) : Type 0 where
   pub looked : now.table.looked ≡ old.table.looked
   pub count : fin.len now.table.pending + length threads ≡ fin.len old.table.pending
   pub marked : now.marked ≡ old.marked
-  pub sound : IsSound now
+  pub sound : IsMachineSound now
 
 pub rising_append : (xs : List ℕ) (t : ℕ) → IsRising xs → ((y : ℕ) → Contains xs y → y < t) → IsRising (xs ++ t ∷ [])
 rising_append [] t rising below = (λ y m. absurd (contains_none y m), tt)
@@ -126,7 +126,7 @@ pub map_append : (f : ℕ → Grant) (xs : List ℕ) (t : ℕ) → map f (xs ++ 
 map_append f [] t = refl
 map_append f (x ∷ xs) t = ap (λ ys. f x ∷ ys) (map_append f xs t)
 
-pub late_next : (old now new : Dispatcher) (u t : ℕ) → LateSoFar old now u → IsFirstWithDeadline now.table.pending u t → state new ≡ wait_over (state now) t false → new.grants ≡ now.grants ++ ending (late_status (sleeps (fin.get now.table.pending t))) t ∷ [] → new.table.looked ≡ now.table.looked → new.marked ≡ now.marked → IsSound new → LateSoFar old new u
+pub late_next : (old now new : Dispatcher) (u t : ℕ) → LateSoFar old now u → IsFirstWithDeadline now.table.pending u t → state new ≡ wait_over (state now) t false → new.grants ≡ now.grants ++ ending (late_status (sleeps (fin.get now.table.pending t))) t ∷ [] → new.table.looked ≡ now.table.looked → new.marked ≡ now.marked → IsMachineSound new → LateSoFar old new u
 late_next old now new u t far first over grants looked marked sound =
     let here = late_of (state now) u t first.has in
     let before = over_pending (state old) far.threads false t here.0 (ap (λ (s : State). fin.get s.waits t) (sym far.over) ∙ here.1) in

@@ -9,7 +9,7 @@ use Rattle.nt_objects.specs.declared.object.Routine.{Routine}
 use Rattle.nt_objects.specs.Object.{signaled, is_timer, is_thread, is_gone, has_ended, owned_by, due_of, setter_of, setting_of, armed_with, IsLawfulObject}
 use Rattle.nt_alarms.specs.Alarms.{alarm_at}
 use Rattle.nt_apc.specs.declared.apc.Queued.{Queued}
-use Rattle.nt_apc.specs.Queues.{Apcs, queue_of, has_apc, has_from, is_from, withdrawn, without_from, place_of, KeepsPlaces}
+use Rattle.nt_apc.specs.Queues.{Apcs, apc_queue_of, has_apc, has_from, is_from, withdrawn, without_from, place_of, KeepsPlaces}
 use Rattle.nt_calls.specs.declared.call.Act.{Act}
 use Rattle.nt_calls.specs.declared.call.Call.{Call}
 use Rattle.nt_calls.specs.declared.call.Reply.{Reply}
@@ -18,7 +18,7 @@ use Rattle.nt_calls.specs.State.{object_at}
 use Rattle.nt_core.specs.Dispatcher.{Dispatcher, state}
 use Rattle.nt_calls.specs.Serving.{IsChanged}
 use Rattle.nt_calls.specs.Change.{timer_cancelled}
-use Rattle.nt_core.specs.Lawful.{IsSound, IsSteady}
+use Rattle.nt_core.specs.Lawful.{IsMachineSound, IsSteady}
 use Rattle.nt_core.specs.Accepts.{IsFresh, Accepts}
 use Rattle.nt_core.proofs.Handling.{handles_along}
 use Rattle.nt_core.proofs.Keeping.{own_kept, idle_kept}
@@ -44,7 +44,7 @@ without_none timer (q ∷ queue) none =
     let parts = or_none (is_from timer q.timer) (has_from timer queue) none in
     rw (parts.0) (ap (λ qs. q ∷ qs) (without_none timer queue parts.1))
 
-withdrawn_same : (timer : ℕ) (queues : List (List Queued)) → ((t : ℕ) → has_from timer (queue_of queues t) ≡ false) → withdrawn queues timer ≡ queues
+withdrawn_same : (timer : ℕ) (queues : List (List Queued)) → ((t : ℕ) → has_from timer (apc_queue_of queues t) ≡ false) → withdrawn queues timer ≡ queues
 withdrawn_same timer [] none = refl
 withdrawn_same timer (queue ∷ queues) none =
     let here : without_from timer queue ≡ queue = without_none timer queue (none 0) in
@@ -53,7 +53,7 @@ withdrawn_same timer (queue ∷ queues) none =
 
 -- a timer whose APC has no place has none queued
 pub withdrawn_none : (d : Dispatcher) (timer : ℕ) → KeepsPlaces d.apcs → place_of d.apcs.places timer ≡ None → withdrawn d.apcs.queues timer ≡ d.apcs.queues
-withdrawn_none d timer keeps none = withdrawn_same timer d.apcs.queues (λ t. is_true_or_false (has_from timer (queue_of d.apcs.queues t)) (λ has. no_place t (sym none ∙ keeps.at_place t timer has)))
+withdrawn_none d timer keeps none = withdrawn_same timer d.apcs.queues (λ t. is_true_or_false (has_from timer (apc_queue_of d.apcs.queues t)) (λ has. no_place t (sym none ∙ keeps.at_place t timer has)))
   where
     no_place : (t : ℕ) → None ≡ Some t → ⊥
     no_place t h = (cc)
@@ -149,7 +149,7 @@ IsPlaced d places h o = (t : ℕ) → setter_of o ≡ Some t → (place_of place
 abbrev pub retimed : Dispatcher → ℕ → Object → Apcs → Dispatcher
 retimed d h o apcs = record d { objects = set d.objects h o; alarms = set d.alarms h (due_of o); apcs = apcs }
 
-pub retimed_sound : (d : Dispatcher) (h : ℕ) (o : Object) (apcs : Apcs) → IsSound d → is_timer (object_at d.objects h) ≡ true → is_timer o ≡ true → length apcs.queues ≡ length d.apcs.queues → IsPlaced d apcs.places h o → ((m : ℕ) → m ≢ h → place_of apcs.places m ≡ place_of d.apcs.places m) → IsSound (retimed d h o apcs)
+pub retimed_sound : (d : Dispatcher) (h : ℕ) (o : Object) (apcs : Apcs) → IsMachineSound d → is_timer (object_at d.objects h) ≡ true → is_timer o ≡ true → length apcs.queues ≡ length d.apcs.queues → IsPlaced d apcs.places h o → ((m : ℕ) → m ≢ h → place_of apcs.places m ≡ place_of d.apcs.places m) → IsMachineSound (retimed d h o apcs)
 retimed_sound d h o apcs sound was is len placed others = record {
   few = sound.few;
   waits = λ t w pends.

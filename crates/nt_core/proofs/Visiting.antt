@@ -13,9 +13,9 @@ use Rattle.nt_objects.specs.declared.object.Object.{Object}
 use Rattle.nt_calls.specs.declared.call.Grant.{Grant}
 use Rattle.nt_calls.specs.State.{State, Pending, object_at}
 use Rattle.nt_core.specs.Dispatcher.{Dispatcher, state}
-use Rattle.nt_calls.specs.Serving.{fits, satisfied, granted, IsTried, CanTake}
+use Rattle.nt_calls.specs.Serving.{fits, satisfied, wait_granted, IsTried, CanTake}
 use Rattle.nt_core.specs.Visits.{IsVisited}
-use Rattle.nt_core.specs.Lawful.{IsSoundWait, IsSound, MarksAgreeBut}
+use Rattle.nt_core.specs.Lawful.{IsSoundWait, IsMachineSound, MarksAgreeBut}
 use Rattle.nt_objects.specs.Object.{has_room, signaled, owned_by, IsLawfulObject}
 use Rattle.nt_objects.specs.declared.object.Object.TheVariants.{Event, Semaphore, Mutex, Timer, Thread, Gone}
 use Rattle.std.proofs.lemmas.Bool.Decides.{nat_tests}
@@ -42,7 +42,7 @@ len_removed m t w e =
     omega arith
 
 -- a pending wait leaves room for its grant
-pub room_for : (d : Dispatcher) (t : ℕ) (w : Wait) → IsSound d → Some w ≡ map.get d.table.pending t → length d.grants < d.threads
+pub room_for : (d : Dispatcher) (t : ℕ) (w : Wait) → IsMachineSound d → Some w ≡ map.get d.table.pending t → length d.grants < d.threads
 room_for d t w sound has = let one = len_removed d.table.pending t w (sym has) in omega (arith, one, sound.room)
 
 -- ---- a sound wait can take what it fits
@@ -68,7 +68,7 @@ can_take objects t threads w lawful sound j below ready =
 
 -- ---- the visited wait stays
 
-pub looked_sound : (d : Dispatcher) (looked : ℕ) → IsSound d → IsSound (record d { table = record d.table { looked = looked } })
+pub looked_sound : (d : Dispatcher) (looked : ℕ) → IsMachineSound d → IsMachineSound (record d { table = record d.table { looked = looked } })
 looked_sound d looked sound = record {
   few = sound.few;
   waits = sound.waits;
@@ -86,11 +86,11 @@ looked_sound d looked sound = record {
   room = sound.room;
 }
 
-pub visit_passed : (old : Dispatcher) (t : ℕ) (w : Wait) (objects : List Object) (owned : List (List ℕ)) (table : Waits) → IsSound old → old.table.looked + 1 < 2 ^ 64 → Some w ≡ map.get old.table.pending t → fits old.objects t w ≡ false → objects ≡ old.objects → owned ≡ old.owned → table ≡ record old.table { looked = counted_once old.table.looked } → IsVisited old (record old { objects = objects; owned = owned; table = table }) t × IsSound (record old { objects = objects; owned = owned; table = table })
+pub visit_passed : (old : Dispatcher) (t : ℕ) (w : Wait) (objects : List Object) (owned : List (List ℕ)) (table : Waits) → IsMachineSound old → old.table.looked + 1 < 2 ^ 64 → Some w ≡ map.get old.table.pending t → fits old.objects t w ≡ false → objects ≡ old.objects → owned ≡ old.owned → table ≡ record old.table { looked = counted_once old.table.looked } → IsVisited old (record old { objects = objects; owned = owned; table = table }) t × IsMachineSound (record old { objects = objects; owned = owned; table = table })
 visit_passed old t w objects owned table sound small has unfit same lists looked =
     let is : record old { objects = objects; owned = owned; table = table } ≡ record old { table = record old.table { looked = old.table.looked + 1 } } =
     λ i. record old { objects = same i; owned = lists i; table = (looked ∙ ap (λ n. record old.table { looked = n }) (counted old.table.looked small)) i } in
-    subst (λ (new : Dispatcher). IsVisited old new t × IsSound new) (sym is) (
+    subst (λ (new : Dispatcher). IsVisited old new t × IsMachineSound new) (sym is) (
       inr (record {
         unfit = ap (λ o. satisfied old.objects t o) (sym has) ∙ unfit;
         stays = refl;
@@ -123,11 +123,11 @@ pub same_wait : (v w : Wait) → Some v ≡ Some w → v ≡ w
 same_wait v w e = (cc)
 
 -- whoever stands in a queue has a wait
-pub stands_waits : (d : Dispatcher) (t h : ℕ) → IsSound d → Contains (queue_of d.table h) t → IsSome (map.get d.table.pending t)
+pub stands_waits : (d : Dispatcher) (t h : ℕ) → IsMachineSound d → Contains (queue_of d.table h) t → IsSome (map.get d.table.pending t)
 stands_waits d t h sound stands = ap is_some (sound.blocks.named t h stands).1
 
 -- where that wait names one handle alone, it is this one
-pub only_this : (d : Dispatcher) (t h only : ℕ) (all : Bool) → IsSound d → Contains (queue_of d.table h) t → option_map only_of (map.get d.table.pending t) ≡ Some (Some (only, all)) → option_map only_of (map.get d.table.pending t) ≡ Some (Some (h, all))
+pub only_this : (d : Dispatcher) (t h only : ℕ) (all : Bool) → IsMachineSound d → Contains (queue_of d.table h) t → option_map only_of (map.get d.table.pending t) ≡ Some (Some (only, all)) → option_map only_of (map.get d.table.pending t) ≡ Some (Some (h, all))
 only_this d t h only all sound stands told =
     let named = sound.blocks.named t h stands in
     let w = only_wait (map.get d.table.pending t) only all told in
@@ -139,13 +139,13 @@ only_this d t h only all sound stands told =
     ]
 
 -- after it what it named may lack its mark
-pub visit_unmarked : (old : Dispatcher) (t code : ℕ) (w : Wait) (objects : List Object) (owned : List (List ℕ)) (table : Waits) (grants : List Grant) → IsSound old → Some w ≡ map.get old.table.pending t → IsTried old.objects objects t w (Some code) → ((h : ℕ) → queue_of table h ≡ others t (queue_of old.table h)) → MarksAgreeBut w.objects (record old { objects = objects; owned = owned; table = table; handing = set old.handing t false; standings = set old.standings t Free; grants = grants })
+pub visit_unmarked : (old : Dispatcher) (t code : ℕ) (w : Wait) (objects : List Object) (owned : List (List ℕ)) (table : Waits) (grants : List Grant) → IsMachineSound old → Some w ≡ map.get old.table.pending t → IsTried old.objects objects t w (Some code) → ((h : ℕ) → queue_of table h ≡ others t (queue_of old.table h)) → MarksAgreeBut w.objects (record old { objects = objects; owned = owned; table = table; handing = set old.handing t false; standings = set old.standings t Free; grants = grants })
 visit_unmarked old t code w objects owned table grants sound has tried queues =
     let own = sound.waits t w (sym has) in
     let well = subst (λ (os : List Object). TakesWell old.objects os t) (sym tried.2) (objects_taken_well old.objects t w own.apart (can_take old.objects t old.threads w sound.objects own) tried.0) in
     marks_ended old (record old { objects = objects; owned = owned; table = table; handing = set old.handing t false; standings = set old.standings t Free; grants = grants }) t w sound (sym has) refl refl refl queues well.length well.gone well.ended
 
-pub visit_granted : (old : Dispatcher) (t code : ℕ) (w : Wait) (objects : List Object) (owned : List (List ℕ)) (table : Waits) (grants : List Grant) (leaving : List Bool) → IsSound old → Some w ≡ map.get old.table.pending t → IsTried old.objects objects t w (Some code) → table.pending ≡ map.remove old.table.pending t → ((h : ℕ) → queue_of table h ≡ others t (queue_of old.table h)) → table.looked ≡ old.table.looked + 1 → Agrees table.pending table.queues → grants ≡ old.grants ++ record { thread = t; status = code } ∷ [] → MarksAgreeBut [] (record old { objects = objects; owned = owned; table = table; handing = set old.handing t false; standings = set old.standings t Free; grants = grants; leaving = leaving }) → IsVisited old (record old { objects = objects; owned = owned; table = table; handing = set old.handing t false; standings = set old.standings t Free; grants = grants; leaving = leaving }) t × IsSound (record old { objects = objects; owned = owned; table = table; handing = set old.handing t false; standings = set old.standings t Free; grants = grants; leaving = leaving })
+pub visit_granted : (old : Dispatcher) (t code : ℕ) (w : Wait) (objects : List Object) (owned : List (List ℕ)) (table : Waits) (grants : List Grant) (leaving : List Bool) → IsMachineSound old → Some w ≡ map.get old.table.pending t → IsTried old.objects objects t w (Some code) → table.pending ≡ map.remove old.table.pending t → ((h : ℕ) → queue_of table h ≡ others t (queue_of old.table h)) → table.looked ≡ old.table.looked + 1 → Agrees table.pending table.queues → grants ≡ old.grants ++ record { thread = t; status = code } ∷ [] → MarksAgreeBut [] (record old { objects = objects; owned = owned; table = table; handing = set old.handing t false; standings = set old.standings t Free; grants = grants; leaving = leaving }) → IsVisited old (record old { objects = objects; owned = owned; table = table; handing = set old.handing t false; standings = set old.standings t Free; grants = grants; leaving = leaving }) t × IsMachineSound (record old { objects = objects; owned = owned; table = table; handing = set old.handing t false; standings = set old.standings t Free; grants = grants; leaving = leaving })
 visit_granted old t code w objects owned table grants leaving sound has tried waits queues looked agrees pushed marks =
     let new : Dispatcher = record old { objects = objects; owned = owned; table = table; handing = set old.handing t false; standings = set old.standings t Free; grants = grants; leaving = leaving } in
     let own = sound.waits t w (sym has) in
@@ -156,7 +156,7 @@ visit_granted old t code w objects owned table grants leaving sound has tried wa
       inl (record {
         wait = w;
         due = record { pends = sym has; fits = tried.0; status = refl };
-        becomes = state_same (state new) (granted (state old) t w) refl refl tried.2 waits queues refl refl refl;
+        becomes = state_same (state new) (wait_granted (state old) t w) refl refl tried.2 waits queues refl refl refl;
         grants = pushed ∙ ap (λ (s : ℕ). old.grants ++ record { thread = t; status = s } ∷ []) tried.1;
         looked = looked;
         marked = refl;

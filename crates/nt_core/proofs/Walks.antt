@@ -17,9 +17,9 @@ use Rattle.nt_waits.proofs.OthersLemmas.{others_absent}
 use Rattle.nt_calls.specs.declared.call.Grant.{Grant}
 use Rattle.nt_calls.specs.State.{State, Pending, pends}
 use Rattle.nt_core.specs.Dispatcher.{Dispatcher, state}
-use Rattle.nt_calls.specs.Serving.{is_due, IsDue, satisfied, granted, grant_of, Grants, IsServed, Serve}
+use Rattle.nt_calls.specs.Serving.{is_due, IsDue, satisfied, wait_granted, grant_of, Grants, IsServed, Serve}
 use Rattle.nt_core.specs.Visits.{IsVisited, Visits, FitOnlyIn}
-use Rattle.nt_core.specs.Lawful.{IsSound}
+use Rattle.nt_core.specs.Lawful.{IsMachineSound}
 use Rattle.nt_core.proofs.Taking.{undue_granted, idle_granted, undue_idle}
 use Rattle.nt_core.proofs.Orders.{find_before, find_after, find_none_kept, find_none_member, find-filter, filter-filter, filter_whole, length-filter-le}
 
@@ -27,17 +27,17 @@ use Rattle.nt_core.proofs.Orders.{find_before, find_after, find_none_kept, find_
 
 pub Grants-undue : (threads : List ℕ) (s new : State) (gs : List Grant) (u : ℕ) → Grants threads s gs new → is_due s u ≡ false → is_due new u ≡ false
 Grants-undue threads s new [] u is e = subst (λ (x : State). is_due x u ≡ false) (sym is) e
-Grants-undue threads s new (g ∷ gs) u has e = Grants-undue threads (granted s g.thread has.1) new gs u has.3 (undue_granted s g.thread has.1 u e)
+Grants-undue threads s new (g ∷ gs) u has e = Grants-undue threads (wait_granted s g.thread has.1) new gs u has.3 (undue_granted s g.thread has.1 u e)
 
 pub Grants-idle : (threads : List ℕ) (s new : State) (gs : List Grant) (u : ℕ) → Grants threads s gs new → pends s u ≡ false → pends new u ≡ false
 Grants-idle threads s new [] u is e = subst (λ (x : State). pends x u ≡ false) (sym is) e
-Grants-idle threads s new (g ∷ gs) u has e = Grants-idle threads (granted s g.thread has.1) new gs u has.3 (idle_granted s g.thread has.1 u e)
+Grants-idle threads s new (g ∷ gs) u has e = Grants-idle threads (wait_granted s g.thread has.1) new gs u has.3 (idle_granted s g.thread has.1 u e)
 
 -- more threads may follow
 pub Grants-before : (xs ys : List ℕ) (s new : State) (gs : List Grant) → Grants xs s gs new → Grants (xs ++ ys) s gs new
 Grants-before xs ys s new [] is = is
 Grants-before xs ys s new (g ∷ gs) has =
-    (find_before (is_due s) xs ys g.thread has.0, has.1, has.2, Grants-before xs ys (granted s g.thread has.1) new gs has.3)
+    (find_before (is_due s) xs ys g.thread has.0, has.1, has.2, Grants-before xs ys (wait_granted s g.thread has.1) new gs has.3)
 
 -- threads of which none is due may stand before, and others that are not due between
 pub Grants-after : (xs ys : List ℕ) (r : ℕ → Bool) (s new : State) (gs : List Grant) → find (is_due s) xs ≡ None → ((u : ℕ) → r u ≡ false → is_due s u ≡ false) → Grants (filter r ys) s gs new → Grants (xs ++ ys) s gs new
@@ -47,12 +47,12 @@ Grants-after xs ys r s new (g ∷ gs) over only has =
       find_after (is_due s) xs ys over ∙ (sym (find-filter (is_due s) r only ys) ∙ has.0),
       has.1,
       has.2,
-      Grants-after xs ys r (granted s g.thread has.1) new gs (find_none_kept (is_due s) (is_due (granted s g.thread has.1)) after xs over) (λ u e. after u (only u e)) has.3,
+      Grants-after xs ys r (wait_granted s g.thread has.1) new gs (find_none_kept (is_due s) (is_due (wait_granted s g.thread has.1)) after xs over) (λ u e. after u (only u e)) has.3,
     )
 
 pub Grants-append : (threads : List ℕ) (s mid new : State) (gs hs : List Grant) → Grants threads s gs mid → Grants threads mid hs new → Grants threads s (gs ++ hs) new
 Grants-append threads s mid new [] hs is more = subst (λ (x : State). Grants threads x hs new) is more
-Grants-append threads s mid new (g ∷ gs) hs has more = (has.0, has.1, has.2, Grants-append threads (granted s g.thread has.1) mid new gs hs has.3 more)
+Grants-append threads s mid new (g ∷ gs) hs has more = (has.0, has.1, has.2, Grants-append threads (wait_granted s g.thread has.1) mid new gs hs has.3 more)
 
 -- ---- visits: the one lemma by which walks are put together
 
@@ -104,7 +104,7 @@ eqb_other : (a b : ℕ) → a ≢ b → eqb a b ≡ false
 eqb_other a b e = grind (arith, nat_tests, e)
 
 -- the others are those that still pend
-pub others_pend : (s : State) (t : ℕ) (w : Wait) (q : List ℕ) → ((u : ℕ) → Contains q u → pends s u ≡ true) → others t q ≡ filter (pends (granted s t w)) q
+pub others_pend : (s : State) (t : ℕ) (w : Wait) (q : List ℕ) → ((u : ℕ) → Contains q u → pends s u ≡ true) → others t q ≡ filter (pends (wait_granted s t w)) q
 others_pend s t w [] all = refl
 others_pend s t w (x ∷ q) all = elim (cases_eq x t) [
   | inl same ↦ rw (eqb_same x t same, ap is_some (ap (λ y. map.get (map.remove s.waits t) y) same ∙ get_same s.waits t)) (others_pend s t w q (λ u m. all u (contains_later x q u m)))
@@ -134,8 +134,8 @@ due_is : (s : State) (g : Grant) (w : Wait) → IsDue s g w → is_due s g.threa
 due_is s g w due = ap (λ o. satisfied s.objects g.thread o) due.pends ∙ due.fits
 
 -- a granted thread is not due
-undue_after : (s : State) (t : ℕ) (w : Wait) → is_due (granted s t w) t ≡ false
-undue_after s t w = undue_idle (granted s t w) t (ap is_some (get_same s.waits t))
+undue_after : (s : State) (t : ℕ) (w : Wait) → is_due (wait_granted s t w) t ≡ false
+undue_after s t w = undue_idle (wait_granted s t w) t (ap is_some (get_same s.waits t))
 
 pub visited : (old new : Dispatcher) (t : ℕ) → Agrees old.table.pending old.table.queues → IsVisited old new t → Visits (t ∷ []) old new
 visited old new t blocks (inl g) =
@@ -194,9 +194,9 @@ pub record IsAt (h : ℕ) (old now : Dispatcher) (at : Option ℕ) : Type 0 wher
   pub left : (state now).queues h ≡ kept ++ rest
   pub next : at ≡ slice_get rest 0
   pub visits : Visits passed old now
-  pub sound : IsSound now
+  pub sound : IsMachineSound now
 
-pub at_first : (h : ℕ) (d : Dispatcher) (at : Option ℕ) → IsSound d → at ≡ slice_get ((state d).queues h) 0 → IsAt h d d at
+pub at_first : (h : ℕ) (d : Dispatcher) (at : Option ℕ) → IsMachineSound d → at ≡ slice_get ((state d).queues h) 0 → IsAt h d d at
 at_first h d at sound is = record {
   passed = [];
   rest = (state d).queues h;
@@ -227,7 +227,7 @@ at_countable h old now t a =
     let most = a.visits.most in
     omega arith
 
-pub at_next : (h : ℕ) (old mid new : Dispatcher) (t : ℕ) (at : Option ℕ) → IsAt h old mid (Some t) → IsVisited mid new t → IsSound new → at ≡ next_after t ((state mid).queues h) → IsAt h old new at
+pub at_next : (h : ℕ) (old mid new : Dispatcher) (t : ℕ) (at : Option ℕ) → IsAt h old mid (Some t) → IsVisited mid new t → IsMachineSound new → at ≡ next_after t ((state mid).queues h) → IsAt h old new at
 at_next h old mid new t at a visit sound is =
     let more = rest_of a.rest t a.next in
     let here : (state mid).queues h ≡ a.kept ++ t ∷ more.0 = a.left ∙ ap (λ r. a.kept ++ r) more.1 in

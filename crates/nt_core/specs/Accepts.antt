@@ -23,11 +23,11 @@ use Rattle.nt_calls.specs.Change.{change, all_expired, exited, IsTimerDue}
 use Rattle.nt_calls.specs.Naming.{act_named, wait_named}
 use Rattle.nt_calls.specs.Rights.{act_denied, wait_denied}
 use Rattle.nt_calls.specs.Refusals.{first_of_causes, call_causes, refusal}
-use Rattle.nt_calls.specs.Steps.{Step, MomentPasses, Made, begun, wait_of}
+use Rattle.nt_calls.specs.Steps.{Step, MomentPasses, Made, begun, asked_wait}
 use Rattle.nt_core.specs.declared.waiting.Mode.{Mode}
 use Rattle.nt_core.specs.Dispatcher.{Dispatcher, state}
 use Rattle.nt_core.specs.Due.{due_weight, total_weight}
-use Rattle.nt_core.specs.Lawful.{IsSound, IsSoundWait, IsSteady, IsUnmarked}
+use Rattle.nt_core.specs.Lawful.{IsMachineSound, IsSoundWait, IsSteady, IsUnmarked}
 
 -- whether the wait ended by objects: neither by an APC nor by its deadline
 abbrev pub is_by_objects : Grant → Bool
@@ -46,7 +46,7 @@ pub record IsServedAfter (old : Dispatcher) (changed_to : State) (new : Dispatch
   pub numbers : List ℕ
   pub changed : AreRising (IsChanged old.objects changed_to.objects) numbers
   pub serves : Serve (sequence (state old) numbers) changed_to new.grants (state new)
-  pub sound : IsSound new
+  pub sound : IsMachineSound new
   pub most : new.table.looked ≤ length (sequence (state old) numbers)
   pub least : length new.grants ≤ new.table.looked
   pub unmarked : IsUnmarked new.marked
@@ -106,7 +106,7 @@ pub record IsPassedAfter (old : Dispatcher) (m u : ℕ) (new : Dispatcher) : Typ
   pub least : old.table.looked + length passes.served ≤ new.table.looked
   pub fewer : (weight : ℕ → ℕ) → due_weight weight m 0 new.objects + total_weight weight passes.timers ≡ due_weight weight m 0 old.objects
   pub late : (t : ℕ) → IsLate (state old) u t → len (state new).waits < len (state old).waits
-  pub sound : IsSound new
+  pub sound : IsMachineSound new
   pub unmarked : IsUnmarked new.marked
 
 -- the timer of this number is armed for a moment up to m
@@ -165,8 +165,8 @@ objects_call mode named = WaitCall.Objects mode.all mode.alertable mode.ms named
 
 -- the thread's wait for these objects pends from now on, or memory was refused and nothing has changed
 pub record HasPended (old new : Dispatcher) (t : ℕ) (named : List ℕ) (mode : Mode) (result : Result ⊤ Refusal) : Type 0 where
-  pub state : OnOk result (state new ≡ pending_too (state old) t (wait_of old.now (objects_call mode named)))
-  pub sound : IsSound new
+  pub state : OnOk result (state new ≡ pending_too (state old) t (asked_wait old.now (objects_call mode named)))
+  pub sound : IsMachineSound new
   pub grants : new.grants ≡ old.grants
   pub looked : new.table.looked ≡ old.table.looked
   pub marked : new.marked ≡ old.marked
@@ -185,7 +185,7 @@ replied (Err refusal) = Err refusal
 
 -- a wait for these objects has begun, and this is its reply
 abbrev pub HasBegun : State → State → ℕ → List ℕ → Mode → Reply → Type 0
-HasBegun old new t named mode reply = (reply, new) ≡ begun old t (wait_of old.now (objects_call mode named)) mode.ms
+HasBegun old new t named mode reply = (reply, new) ≡ begun old t (asked_wait old.now (objects_call mode named)) mode.ms
 
 -- the thread is known, runs, and waits for nothing
 pub record IsRunning (d : Dispatcher) (t : ℕ) : Type 0 where
@@ -212,11 +212,11 @@ pub record Accepts (old new : Dispatcher) (t : ℕ) (call : Call) (reply : Reply
   pub local : IsLocal (state old) t call new.table.looked new.grants
 
 -- a call of this thread is refused by its own causes alone: the thread is known, it runs, and waits for nothing
-abbrev pub IsFree : State → ℕ → Type 0
-IsFree s t = (denied : Bool) (call : Call) → refusal s t denied call ≡ first_of_causes (call_causes s t denied call)
+abbrev pub IsFreeToCall : State → ℕ → Type 0
+IsFreeToCall s t = (denied : Bool) (call : Call) → refusal s t denied call ≡ first_of_causes (call_causes s t denied call)
 
 -- a call on numbers of objects is a step of the machine, local, or is refused; either way the dispatcher is steady
-pub record IsMade (old new : Dispatcher) (t : ℕ) (denied : Bool) (call : Call) (result : Result Reply Refusal) : Type 0 where
+pub record IsCallMade (old new : Dispatcher) (t : ℕ) (denied : Bool) (call : Call) (result : Result Reply Refusal) : Type 0 where
   pub made : Made (state old) t denied call result new.grants (state new)
   pub steady : IsSteady new
   pub local : OnOk result (IsLocal (state old) t call new.table.looked new.grants)
@@ -224,12 +224,12 @@ pub record IsMade (old new : Dispatcher) (t : ℕ) (denied : Bool) (call : Call)
 
 -- an act is made on the object that its handle names, or refused
 abbrev pub IsActMade : Dispatcher → Dispatcher → ℕ → Act → Result Reply Refusal → Type 0
-IsActMade old new t act result = IsMade old new t (act_denied old.handles act) (Call.Act (act_named old.handles act)) result
+IsActMade old new t act result = IsCallMade old new t (act_denied old.handles act) (Call.Act (act_named old.handles act)) result
 
 -- the act is made or refused in one way, whoever makes it
 abbrev pub IsActOfAny : Dispatcher → Dispatcher → Act → Result Reply Refusal → Type 0
-IsActOfAny old new act result = (t : ℕ) → IsFree (state old) t → IsActMade old new t act result
+IsActOfAny old new act result = (t : ℕ) → IsFreeToCall (state old) t → IsActMade old new t act result
 
 -- a waiting call is made on the objects that its handles name, or refused
 abbrev pub IsWaitMade : Dispatcher → Dispatcher → ℕ → WaitCall → Result Reply Refusal → Type 0
-IsWaitMade old new t wait result = IsMade old new t (wait_denied old.handles old.objects wait) (Call.Wait (wait_named old.handles wait)) result
+IsWaitMade old new t wait result = IsCallMade old new t (wait_denied old.handles old.objects wait) (Call.Wait (wait_named old.handles wait)) result

@@ -1,13 +1,15 @@
 -- The dispatcher as its callers see it.
-use Rattle.std.specs.Prelude.{ℕ, Bool, false, List, [], ◌+◌, ◌∷◌, ◌++◌, length, Option, Some, None}
+use Rattle.std.specs.Prelude.{ℕ, Bool, true, false, List, [], ◌+◌, ◌∷◌, ◌++◌, length, slice_set, Option, Some, None}
 use Rattle.nt_waits.specs.Waits.{Waits, queue_of}
 use Rattle.nt_apc.specs.declared.apc.Queued.{Queued}
 use Rattle.nt_apc.specs.Queues.{Apcs}
 use Rattle.nt_objects.specs.declared.object.Object.{Object}
 use Rattle.nt_objects.specs.declared.handles.Opened.{Opened}
 use Rattle.nt_objects.specs.Handles.{full_access}
+use Rattle.nt_objects.specs.Object.{setter_of}
+use Rattle.nt_marks.specs.Marks.{with_mark}
 use Rattle.nt_calls.specs.declared.call.Grant.{Grant}
-use Rattle.nt_calls.specs.State.{State}
+use Rattle.nt_calls.specs.State.{State, object_at}
 use Rattle.nt_core.specs.declared.standing.Standing.{Standing}
 
 -- what is to be served or alerted still; between two calls nothing is
@@ -65,6 +67,14 @@ with_queues d queues = record d { apcs = record d.apcs { queues = queues } }
 abbrev pub with_marked : Dispatcher → Marked → Dispatcher
 with_marked d marked = record d { marked = marked }
 
+-- the waits on a timer that expires are to be served, and the thread that armed it with a routine may have to be alerted
+abbrev pub due_marked : Dispatcher → ℕ → Dispatcher
+due_marked d timer =
+    with_marked d (record {
+      changed = slice_set d.marked.changed timer true;
+      alerted = with_mark (setter_of (object_at d.objects timer)) d.marked.alerted;
+    })
+
 -- one object more, last, with a handle, no alarm and no mark; it may stand in its owner's list
 abbrev pub with_created : Dispatcher → Object → List (List ℕ) → Dispatcher
 with_created d o owned =
@@ -79,8 +89,8 @@ with_created d o owned =
     }
 
 -- one object number more, last, with no handle, no alarm and no mark; the object may stand in its owner's list
-abbrev pub with_object : Dispatcher → Object → List (List ℕ) → Dispatcher
-with_object d o owned =
+abbrev pub with_object_added : Dispatcher → Object → List (List ℕ) → Dispatcher
+with_object_added d o owned =
     record d {
       objects = d.objects ++ o ∷ [];
       owned = owned;

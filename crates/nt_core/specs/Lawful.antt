@@ -89,7 +89,7 @@ pub record StandingsAgree (threads : ℕ) (objects : List Object) (waits : Pendi
   pub each : (t : ℕ) → t < threads → slice_index_or standings t Free ≡ standing_of objects waits t
 
 -- what holds also between a change and the serving after it
-pub record IsSound (d : Dispatcher) : Type 0 where
+pub record IsMachineSound (d : Dispatcher) : Type 0 where
   pub few : d.threads ≤ MAX_MANY_THREADS
   pub waits : (t : ℕ) (w : Wait) → get (state d).waits t ≡ Some w → IsSoundWait d.threads d.objects t w
   -- wait blocks and pending waits name each other exactly
@@ -111,7 +111,7 @@ pub record IsSound (d : Dispatcher) : Type 0 where
 
 -- what holds also before the objects end that nothing keeps any more; the table of the objects keeps the owners' lists by itself
 pub record IsSteady (d : Dispatcher) : Type 0 where
-  pub sound : IsSound d
+  pub sound : IsMachineSound d
   pub settled : IsSettled (state d)
   -- no mark is left
   pub unmarked : IsUnmarked d.marked

@@ -8,6 +8,7 @@ use Rattle.nt_apc.specs.Queues.{has_apc}
 use Rattle.nt_calls.specs.declared.call.Grant.{Grant}
 use Rattle.nt_calls.specs.Living.{is_awaited}
 use Rattle.nt_calls.specs.State.{State, object_at}
+use Rattle.nt_core.specs.Dispatcher.{Dispatcher}
 use Rattle.nt_core.specs.Renewals.{is_vacant}
 
 -- the thread has ended and its object lives; no pending wait names the object, and no APC is queued to the thread
@@ -27,6 +28,15 @@ named_instead t o (Some opened) = Some (record { object = if opened.object == t 
 -- thread t's object, as it is, has the number o, by which all its handles name it; and nothing has the number t
 abbrev pub set_aside : State → ℕ → ℕ → State
 set_aside s t o = record s { handles = map (named_instead t o) s.handles; objects = slice_set (slice_set s.objects o (object_at s.objects t)) t Gone }
+
+-- the same of the dispatcher, with these mutexes for each owner
+abbrev pub with_aside : Dispatcher → ℕ → ℕ → List (List ℕ) → Dispatcher
+with_aside d t o owned =
+    record d {
+      handles = map (named_instead t o) d.handles;
+      objects = slice_set (slice_set d.objects o (object_at d.objects t)) t Gone;
+      owned = owned;
+    }
 
 -- it is done, or else nothing changes; no wait ends
 abbrev pub SetsAside : State → ℕ → ℕ → Bool → List Grant → State → Type 0

@@ -8,7 +8,7 @@ ghost use Rattle.std.specs.FinMap as map;
 ghost use Rattle.nt_calls.specs.State.{pends, wait_over};
 ghost use Rattle.nt_core.specs.Dispatcher.{state};
 ghost use Rattle.nt_calls.specs.Serving.{ending, sleeps};
-ghost use Rattle.nt_core.specs.Lawful.{IsSound};
+ghost use Rattle.nt_core.specs.Lawful.{IsMachineSound};
 ghost use Rattle.nt_core.specs.Accepts.{unmet_status, IsFresh, IsRoused, Accepts, IsActOfAny, IsRunning};
 
 use crate::machine::{Answer, Machine};
@@ -31,9 +31,9 @@ fn unmet_status(alerted: bool, sleeps: bool) -> Status
 impl Machine {
     /// Where this thread's wait pends, is alertable and an APC is queued for it, ends the wait.
     pub(crate) fn rouse(&mut self, thread: ThreadId)
-        requires sound { IsSound self.old }
+        requires sound { IsMachineSound self.old }
         ensures roused { IsRoused self.old self.new thread }
-        ensures sound { IsSound self.new }
+        ensures sound { IsMachineSound self.new }
     {
         let Some(about) = self.waits.about(thread) else {
             return;
@@ -47,14 +47,14 @@ impl Machine {
     /// Ends this thread's pending wait, which its objects do not end: for queued APCs, which the thread may take then, or since its
     /// interval has passed.
     pub(crate) fn end_wait(&mut self, thread: ThreadId, alerted: bool)
-        requires sound { IsSound self.old }
+        requires sound { IsMachineSound self.old }
         requires pends { IsTrue (pends (state self.old) thread) }
         ensures over { state self.new ≡ wait_over (state self.old) thread alerted }
         ensures grants { self.new.grants ≡ self.old.grants
             ++ ending (unmet_status alerted (sleeps (map.get self.old.table.pending thread))) thread ∷ [] }
         ensures looked { self.new.table.looked ≡ self.old.table.looked }
         ensures marked { self.new.marked ≡ self.old.marked }
-        ensures sound { IsSound self.new }
+        ensures sound { IsMachineSound self.new }
     {
         let ended = self.waits.end(thread);
         let status = unmet_status(alerted, ended.objects.as_slice().is_empty());
@@ -84,7 +84,7 @@ impl Machine {
 
     /// Whether the thread may take an APC, and has one.
     fn may_take(&self, thread: ThreadId) -> bool
-        requires sound { IsSound self.now }
+        requires sound { IsMachineSound self.now }
         requires known { thread < self.now.threads }
         ensures { result ≡ may_take (state self.now) thread }
     {

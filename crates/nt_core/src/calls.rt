@@ -6,9 +6,9 @@ ghost use Rattle.nt_calls.specs.Rights.{is_denied};
 ghost use Rattle.nt_calls.specs.Refusals.{refusal};
 ghost use Rattle.nt_calls.specs.declared.call.Call.{Call};
 ghost use Rattle.nt_calls.specs.Steps.{Made, Called};
-ghost use Rattle.nt_core.specs.Lawful.{IsSound, IsSteady};
+ghost use Rattle.nt_core.specs.Lawful.{IsMachineSound, IsSteady};
 ghost use Rattle.nt_calls.specs.Living.{LivesWhileKept};
-ghost use Rattle.nt_core.specs.Accepts.{IsFresh, IsFree, IsLocal, IsActMade};
+ghost use Rattle.nt_core.specs.Accepts.{IsFresh, IsFreeToCall, IsLocal, IsActMade};
 
 use crate::machine::{Answer, Machine};
 use crate::standing::Standing;
@@ -18,10 +18,10 @@ use nt_status::{Refusal, ThreadId};
 impl Machine {
     /// The refusal that every call of this thread must meet, if any.
     pub(crate) fn caller_refusal(&self, who: u32) -> Option<Refusal>
-        requires sound { IsSound self.now }
+        requires sound { IsMachineSound self.now }
         ensures refused { IfSome result
             (λ cause. (denied : Bool) (call : Call) → refusal (state self.now) who denied call ≡ Some cause) }
-        ensures free { IfNone result (IsFree (state self.now) who) }
+        ensures free { IfNone result (IsFreeToCall (state self.now) who) }
         ensures known { IfNone result (who < self.now.threads) }
     {
         match self.standings.get(who as usize) {
@@ -36,7 +36,7 @@ impl Machine {
     #[inline(always)]
     fn act(&mut self, thread: ThreadId, act: &Act) -> Answer
         requires fresh { IsFresh self.old }
-        requires free { IsFree (state self.old) thread }
+        requires free { IsFreeToCall (state self.old) thread }
         ensures { IsActMade self.old self.new thread act.now result }
     {
         match *act {

@@ -6,7 +6,7 @@ ghost use Rattle.nt_marks.specs.Marks.{AddsMarks};
 ghost use Rattle.nt_apc.specs.Queues.{cleared};
 ghost use Rattle.nt_calls.specs.State.{object_at};
 ghost use Rattle.nt_core.specs.Dispatcher.{Dispatcher, state};
-ghost use Rattle.nt_core.specs.Lawful.{IsSound, IsUnmarked};
+ghost use Rattle.nt_core.specs.Lawful.{IsMachineSound, IsUnmarked};
 ghost use Rattle.nt_core.specs.Accepts.{IsFresh, IsSetAmong, AreStopped, IsStoppedAfter, IsExitedAfter, Accepts, IsRunning};
 ghost use Rattle.nt_calls.specs.declared.call.Call.{Call};
 ghost use Rattle.nt_calls.specs.declared.call.Reply.{Reply};
@@ -52,8 +52,8 @@ fn stop_each(
     ensures stopped { AreStopped (IsSetAmong timers.now objects.old.items thread) objects.old.items objects.new.items }
     ensures marked { AddsMarks (IsSetAmong timers.now objects.old.items thread) changed.old changed.new }
     ensures owned { objects.new.owned ≡ objects.old.owned }
-    ensures sound { (d : Dispatcher) → IsSound (record d { objects = objects.old.items; alarms = alarms.old })
-        → IsSound (record d { objects = objects.new.items; alarms = alarms.new }) }
+    ensures sound { (d : Dispatcher) → IsMachineSound (record d { objects = objects.old.items; alarms = alarms.old })
+        → IsMachineSound (record d { objects = objects.new.items; alarms = alarms.new }) }
 {
     for timer in timers {
         if is_set_by(objects.as_slice(), thread, *timer) {
@@ -65,10 +65,10 @@ fn stop_each(
 impl Machine {
     /// Stops each timer that the thread armed with a routine, and marks it: the waits on it are to be served.
     fn stop_all(&mut self, thread: ThreadId)
-        requires sound { IsSound self.old }
+        requires sound { IsMachineSound self.old }
         requires known { thread < self.old.threads }
         ensures stopped { IsStoppedAfter self.old thread self.new }
-        ensures sound { IsSound self.new }
+        ensures sound { IsMachineSound self.new }
     {
         let timers = self.apcs.timers_of(thread);
         stop_each(
@@ -82,12 +82,12 @@ impl Machine {
 
     /// The thread's own object says from now on that it has ended, and is marked; its APCs are gone, with all places in its queue.
     fn end_own(&mut self, thread: ThreadId)
-        requires sound { IsSound self.old }
+        requires sound { IsMachineSound self.old }
         requires running { IsRunning self.old thread }
         requires unset { (h : ℕ) → setter_of (object_at self.old.objects h) ≢ Some thread }
         ensures ended { state self.new ≡ record (state self.old)
             { objects = slice_set self.old.objects thread (Thread true); apcs = cleared self.old.apcs.queues thread } }
-        ensures sound { IsSound self.new }
+        ensures sound { IsMachineSound self.new }
         ensures grants { self.new.grants ≡ self.old.grants }
         ensures table { self.new.table ≡ self.old.table }
         ensures marked { self.new.marked
@@ -106,11 +106,11 @@ impl Machine {
 
     /// The thread ends, and the objects that this changes are marked.
     fn leave(&mut self, thread: ThreadId)
-        requires sound { IsSound self.old }
+        requires sound { IsMachineSound self.old }
         requires unmarked { IsUnmarked self.old.marked }
         requires running { IsRunning self.old thread }
         ensures left { IsExitedAfter self.old thread self.new }
-        ensures sound { IsSound self.new }
+        ensures sound { IsMachineSound self.new }
     {
         self.objects.abandon_all(thread, &mut self.changed);
         self.stop_all(thread);

@@ -3,7 +3,7 @@ ghost use Rattle.std.specs.Prelude.{◌≡◌, ◌≢◌, ◌<◌, [], ℕ, None
 ghost use Rattle.std.specs.List.{Contains};
 ghost use Rattle.nt_apc.specs.Queues.{withdrawn, place_of};
 ghost use Rattle.nt_core.specs.Dispatcher.{state};
-ghost use Rattle.nt_core.specs.Lawful.{IsSound, IsSteady, MarksAgreeBut, LetsGoBut};
+ghost use Rattle.nt_core.specs.Lawful.{IsMachineSound, IsSteady, MarksAgreeBut, LetsGoBut};
 ghost use Rattle.nt_calls.specs.Living.{is_forgotten, gone, living, Ends, LivesWhileKept};
 ghost use Rattle.nt_core.specs.Accepts.{IsFresh, IsActOfAny, KeepsWaits};
 ghost use Rattle.nt_calls.specs.declared.call.Act.{Act};
@@ -84,10 +84,10 @@ impl Machine {
 
     /// The object is gone: a timer is not armed any more and its queued APC is withdrawn, a mutex is nobody's.
     fn end_object(&mut self, object: ObjectNumber)
-        requires sound { IsSound self.old }
+        requires sound { IsMachineSound self.old }
         requires forgotten { is_forgotten (state self.old) object ≡ true }
         ensures gone { state self.new ≡ gone (state self.old) object }
-        ensures sound { IsSound self.new }
+        ensures sound { IsMachineSound self.new }
         ensures place { place_of self.new.apcs.places object ≡ None }
         ensures leaving { self.new.leaving ≡ self.old.leaving }
         ensures kept { KeepsWaits self.old self.new }
@@ -100,11 +100,11 @@ impl Machine {
     /// An object that has a mark is gone where nothing keeps it any more, and has no mark then.
     #[inline(never)]
     fn end_marked(&mut self, object: ObjectNumber)
-        requires sound { IsSound self.old }
+        requires sound { IsMachineSound self.old }
         requires known { object < length self.old.leaving }
         ensures becomes { state self.new ≡
             (if is_forgotten (state self.old) object then gone (state self.old) object else state self.old) }
-        ensures sound { IsSound self.new }
+        ensures sound { IsMachineSound self.new }
         ensures leaving { self.new.leaving ≡ slice_set self.old.leaving object false }
         ensures kept { KeepsWaits self.old self.new }
     {

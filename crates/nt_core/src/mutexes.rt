@@ -4,7 +4,7 @@ ghost use Rattle.nt_objects.specs.Object.{owned_by, unlocked};
 ghost use Rattle.nt_calls.specs.State.{object_at};
 ghost use Rattle.nt_calls.specs.Change.{at};
 ghost use Rattle.nt_core.specs.Dispatcher.{state};
-ghost use Rattle.nt_core.specs.Accepts.{IsFresh, IsFree, IsServedAfter, IsActMade};
+ghost use Rattle.nt_core.specs.Accepts.{IsFresh, IsFreeToCall, IsServedAfter, IsActMade};
 ghost use Rattle.nt_calls.specs.declared.call.Act.{Act};
 
 use crate::machine::{Answer, Machine};
@@ -16,7 +16,7 @@ impl Machine {
     /// CreateMutex.
     pub(crate) fn create_mutex(&mut self, thread: ThreadId, flags: u32) -> Answer
         requires fresh { IsFresh self.old }
-        requires free { IsFree (state self.old) thread }
+        requires free { IsFreeToCall (state self.old) thread }
         ensures { IsActMade self.old self.new thread (Act.CreateMutex flags) result }
     {
         let Some(flags) = MutexFlags::from_bits(flags) else {
@@ -42,7 +42,7 @@ impl Machine {
     #[inline(always)]
     pub(crate) fn release_mutex(&mut self, thread: ThreadId, handle: Handle) -> Answer
         requires fresh { IsFresh self.old }
-        requires free { IsFree (state self.old) thread }
+        requires free { IsFreeToCall (state self.old) thread }
         ensures { IsActMade self.old self.new thread (Act.ReleaseMutex handle) result }
     {
         let mutex = mutex_named(&self.handles, &self.objects, handle, thread)?;

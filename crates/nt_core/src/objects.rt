@@ -1,7 +1,7 @@
 //! The list of objects, and the creation of more.
 ghost use Rattle.std.specs.Prelude.{slice_set, ◌≡◌, ◌<◌, ◌++◌, ◌∷◌, [], ℕ, true, false, Some, None, IfOk, IfErr, OnOk, OnErr, MatchBool, length};
 ghost use Rattle.nt_status.specs.declared.refusal.Refusal.TheVariants.{HandleLimit, Memory};
-ghost use Rattle.nt_objects.specs.Object.{owner_of, owned_by};
+ghost use Rattle.nt_objects.specs.Object.{mutex_owner, owned_by};
 ghost use Rattle.nt_calls.specs.State.{object_at};
 ghost use Rattle.nt_calls.specs.Refusals.{is_full};
 ghost use Rattle.nt_core.specs.Dispatcher.{with_created, with_queue};
@@ -98,7 +98,7 @@ impl Machine {
     /// Puts an object in the place of the one of this number, which had the same owner, or none like this one.
     pub(crate) fn exchange(&mut self, number: ObjectNumber, object: Object)
         requires known { number < length self.old.objects }
-        requires owner { owner_of object ≡ owner_of (object_at self.old.objects number) }
+        requires owner { mutex_owner object ≡ mutex_owner (object_at self.old.objects number) }
         ensures { self.new ≡ record self.old { objects = slice_set self.old.objects number object } }
     {
         self.objects.put(number, object);

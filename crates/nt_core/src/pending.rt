@@ -1,7 +1,7 @@
 //! How a wait comes to pend: for one object, as most do, or for any number.
 ghost use Rattle.std.specs.Prelude.{◌∷◌, ◌==◌, [], length, not, IsTrue, Ok, OnErr};
-ghost use Rattle.nt_calls.specs.Serving.{wait_for};
-ghost use Rattle.nt_core.specs.Lawful.{IsSound};
+ghost use Rattle.nt_calls.specs.Serving.{wait_on};
+ghost use Rattle.nt_core.specs.Lawful.{IsMachineSound};
 ghost use Rattle.nt_core.specs.Accepts.{HasPended, CanBegin};
 
 use crate::machine::Machine;
@@ -24,8 +24,8 @@ impl Machine {
         ms: u32,
         alertable: bool,
     )
-        requires can { CanBegin self.old thread (wait_for (object ∷ []) all) }
-        requires sound { IsSound self.old }
+        requires can { CanBegin self.old thread (wait_on (object ∷ []) all) }
+        requires sound { IsMachineSound self.old }
         ensures { HasPended self.old self.new thread (object ∷ [])
             (record { all = all; alertable = alertable; ms = ms }) (Ok tt) }
     {
@@ -47,8 +47,8 @@ impl Machine {
         ms: u32,
         alertable: bool,
     ) -> Result<(), Refusal>
-        requires can { CanBegin self.old thread (wait_for objects.now all) }
-        requires sound { IsSound self.old }
+        requires can { CanBegin self.old thread (wait_on objects.now all) }
+        requires sound { IsMachineSound self.old }
         ensures { HasPended self.old self.new thread objects.now
             (record { all = all; alertable = alertable; ms = ms }) result }
     {
@@ -69,8 +69,8 @@ impl Machine {
         objects: &[ObjectNumber],
         mode: Mode,
     ) -> Result<(), Refusal>
-        requires can { CanBegin self.old thread (wait_for objects.now mode.all) }
-        requires sound { IsSound self.old }
+        requires can { CanBegin self.old thread (wait_on objects.now mode.all) }
+        requires sound { IsMachineSound self.old }
         ensures pended { HasPended self.old self.new thread objects.now mode result }
         ensures several { OnErr result (IsTrue (not (length objects.now == 1))) }
     {

@@ -6,8 +6,8 @@ ghost use Rattle.nt_objects.specs.Handles.{opened_at};
 ghost use Rattle.nt_calls.specs.Living.{is_opened, LivesWhileKept};
 ghost use Rattle.nt_status.specs.declared.refusal.Refusal.TheVariants.{Memory};
 ghost use Rattle.nt_objects.specs.declared.object.Object.TheVariants.{Gone};
-ghost use Rattle.nt_core.specs.Dispatcher.{state, with_object};
-ghost use Rattle.nt_core.specs.Lawful.{IsSound, IsSteady, IsLawful};
+ghost use Rattle.nt_core.specs.Dispatcher.{state, with_object_added};
+ghost use Rattle.nt_core.specs.Lawful.{IsMachineSound, IsSteady, IsLawful};
 ghost use Rattle.std.specs.Option.{option_map};
 ghost use Rattle.nt_core.specs.Renewals.{is_closed, is_vacant, is_left, creation, with_again, AddsVacant, CreatesAgain, DuplicatesAgain, BeginsAgain};
 
@@ -79,7 +79,7 @@ impl Machine {
 
     /// Whether the thread has ended, and its object is gone.
     fn is_left(&self, thread: u32) -> bool
-        requires sound { IsSound self.now }
+        requires sound { IsMachineSound self.now }
         ensures { result ≡ is_left (state self.now) thread }
     {
         if thread >= self.threads {
@@ -100,7 +100,7 @@ impl Machine {
 
     /// Whether a thread may begin with the one number, and its handle may have the other.
     fn may_begin(&self, thread: u32, handle: Handle) -> bool
-        requires sound { IsSound self.now }
+        requires sound { IsMachineSound self.now }
         ensures { result ≡ (is_left (state self.now) thread && is_closed (state self.now) handle) }
     {
         self.is_left(thread) && self.is_closed(handle)
@@ -154,7 +154,7 @@ impl Machine {
     fn lengthen(&mut self) -> Result<ObjectNumber, Refusal>
         requires few { length self.old.objects < 2 ^ 32 - 1 }
         ensures number { IfOk result (λ number. number ≡ length self.old.objects) }
-        ensures ok { OnOk result (self.new ≡ with_object self.old Gone self.new.owned) }
+        ensures ok { OnOk result (self.new ≡ with_object_added self.old Gone self.new.owned) }
         ensures refused { IfErr result (λ cause. cause ≡ Memory) }
         ensures err { OnErr result (self.new ≡ self.old) }
     {

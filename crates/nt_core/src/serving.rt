@@ -9,7 +9,7 @@ ghost use Rattle.nt_marks.specs.Marks.{marked_places, NoneMarked};
 ghost use Rattle.nt_core.specs.Dispatcher.{state, with_marked};
 ghost use Rattle.nt_calls.specs.Serving.{sequence, Serve};
 ghost use Rattle.nt_core.specs.Visits.{Visits, FitOnlyBy, FitOnlyIn, HasVisited, HasServed, uncounted};
-ghost use Rattle.nt_core.specs.Lawful.{IsSound};
+ghost use Rattle.nt_core.specs.Lawful.{IsMachineSound};
 
 use crate::living::let_go;
 use crate::machine::Machine;
@@ -22,7 +22,7 @@ impl Machine {
     #[inline(never)]
     fn visit_any(&mut self, thread: ThreadId)
         requires pends { IsTrue (pends (state self.old) thread) }
-        requires sound { IsSound self.old }
+        requires sound { IsMachineSound self.old }
         requires countable { self.old.table.looked + 1 < 2 ^ 64 }
         ensures { HasVisited self.old self.new thread }
     {
@@ -45,7 +45,7 @@ impl Machine {
     #[inline(always)]
     fn visit_one(&mut self, thread: ThreadId, object: ObjectNumber, all: bool) -> Option<ThreadId>
         requires only { option_map only_of (fin.get self.old.table.pending thread) ≡ Some (Some (object, all)) }
-        requires sound { IsSound self.old }
+        requires sound { IsMachineSound self.old }
         requires counted { (0 < self.old.table.looked) × (self.old.table.looked < 2 ^ 64) }
         ensures visited { HasVisited (uncounted self.old) self.new thread }
         ensures next { result ≡ next_after thread ((state self.old).queues object) }
@@ -67,7 +67,7 @@ impl Machine {
     #[inline(always)]
     fn visit(&mut self, thread: ThreadId, object: ObjectNumber) -> Option<ThreadId>
         requires waits { Contains ((state self.old).queues object) thread }
-        requires sound { IsSound self.old }
+        requires sound { IsMachineSound self.old }
         requires countable { self.old.table.looked + 1 < 2 ^ 64 }
         ensures visited { HasVisited self.old self.new thread }
         ensures next { result ≡ next_after thread ((state self.old).queues object) }
@@ -82,7 +82,7 @@ impl Machine {
 
     /// Visits the waits on this object, in the order in which they began.
     fn serve_on(&mut self, object: ObjectNumber)
-        requires sound { IsSound self.old }
+        requires sound { IsMachineSound self.old }
         requires countable { self.old.table.looked + length ((state self.old).queues object) < 2 ^ 64 }
         ensures { HasServed ((state self.old).queues object) self.old self.new }
     {
@@ -95,17 +95,16 @@ impl Machine {
     /// Visits the waits on the objects that are marked as changed, object by object from the lowest number on, and takes the marks
     /// away.
     pub(crate) fn serve_marked(&mut self)
-        requires sound { IsSound self.old }
+        requires sound { IsMachineSound self.old }
         requires countable { self.old.table.looked
             + length (sequence (state self.old) (marked_places self.old.marked.changed)) < 2 ^ 64 }
         ensures visits { Visits (sequence (state self.old) (marked_places self.old.marked.changed))
             (with_marked self.old self.new.marked) self.new }
         ensures served { NoneMarked self.new.marked.changed }
         ensures alerted { self.new.marked.alerted ≡ self.old.marked.alerted }
-        ensures sound { IsSound self.new }
+        ensures sound { IsMachineSound self.new }
     {
-        while let Some(place) = self.changed.first() {
-            self.changed.clear(place);
+        while let Some(place) = self.changed.take_first() {
             self.serve_on(ObjectNumber::new(place as u32));
         }
     }
@@ -114,7 +113,7 @@ impl Machine {
     /// signaled for none that is left. The caller knows that a wait that fits needs this object.
     #[inline(never)]
     fn serve_first(&mut self, object: ObjectNumber, first: ThreadId)
-        requires sound { IsSound self.old }
+        requires sound { IsMachineSound self.old }
         requires first { slice_get ((state self.old).queues object) 0 ≡ Some first }
         requires needed { FitOnlyBy object (state self.old) }
         requires countable { self.old.table.looked + length ((state self.old).queues object) < 2 ^ 64 }
@@ -135,17 +134,16 @@ impl Machine {
     /// fits names it, and needs it.
     #[inline(always)]
     pub(crate) fn serve_one(&mut self, object: ObjectNumber)
-        requires sound { IsSound self.old }
+        requires sound { IsMachineSound self.old }
         requires local { FitOnlyIn (sequence (state self.old) (object ∷ [])) (state self.old) }
         requires needed { FitOnlyBy object (state self.old) }
-        requires first { self.old.grants ≡ [] }
-        requires anew { self.old.table.looked ≡ 0 }
+        requires untold { (self.old.grants ≡ []) × (self.old.table.looked ≡ 0) }
         ensures served { Serve (sequence (state self.old) (object ∷ [])) (state self.old) self.new.grants
             (state self.new) }
         ensures marked { self.new.marked ≡ self.old.marked }
-        ensures sound { IsSound self.new }
-        ensures most { self.new.table.looked ≤ length (sequence (state self.old) (object ∷ [])) }
-        ensures least { length self.new.grants ≤ self.new.table.looked }
+        ensures sound { IsMachineSound self.new }
+        ensures tested { (length self.new.grants ≤ self.new.table.looked)
+            × (self.new.table.looked ≤ length (sequence (state self.old) (object ∷ []))) }
     {
         if let Some(first) = self.waits.first_on(object) {
             self.serve_first(object, first);

@@ -6,8 +6,8 @@ ghost use Rattle.nt_objects.specs.Object.{owned_by};
 ghost use Rattle.nt_calls.specs.Living.{LivesWhileKept};
 ghost use Rattle.nt_calls.specs.State.{object_at};
 ghost use Rattle.nt_core.specs.Dispatcher.{state};
-ghost use Rattle.nt_core.specs.Lawful.{IsSound, IsSteady, IsLawful};
-ghost use Rattle.nt_core.specs.SetAside.{is_movable, can_set_aside, named_instead, SetsAside};
+ghost use Rattle.nt_core.specs.Lawful.{IsMachineSound, IsSteady, IsLawful};
+ghost use Rattle.nt_core.specs.SetAside.{is_movable, can_set_aside, named_instead, SetsAside, with_aside};
 
 use crate::dispatcher::Core;
 use crate::machine::Machine;
@@ -47,7 +47,7 @@ fn rename_all(handles: &mut HandleTable, from: ObjectNumber, to: ObjectNumber)
 impl Machine {
     /// Whether the thread has ended and its object can have another number.
     fn is_movable(&self, thread: u32) -> bool
-        requires sound { IsSound self.now }
+        requires sound { IsMachineSound self.now }
         ensures { result ≡ is_movable (state self.now) thread }
     {
         if thread >= self.threads {
@@ -63,7 +63,7 @@ impl Machine {
 
     /// Whether the thread's object can have this number.
     fn can_set_aside(&self, thread: u32, object: ObjectNumber) -> bool
-        requires sound { IsSound self.now }
+        requires sound { IsMachineSound self.now }
         ensures { result ≡ can_set_aside (state self.now) thread object }
     {
         self.is_movable(thread) && self.is_vacant(object)
@@ -76,11 +76,7 @@ impl Machine {
         requires enough { length self.old.objects ≤ length self.old.handles }
         requires few { length self.old.handles < 2 ^ 32 - 1 }
         requires owner { (t : ℕ) → owned_by (object_at self.old.objects from) t ≡ false }
-        ensures { self.new ≡ record self.old {
-          handles = map (named_instead from to) self.old.handles;
-          objects = slice_set (slice_set self.old.objects to (object_at self.old.objects from)) from Gone;
-          owned = self.new.owned;
-        } }
+        ensures { self.new ≡ with_aside self.old from to self.new.owned }
     {
         rename_all(&mut self.handles, from, to);
         let object = self.objects.as_slice()[from.get() as usize];

@@ -5,11 +5,11 @@ ghost use Rattle.nt_status.specs.declared.refusal.Refusal.TheVariants.{Memory};
 ghost use Rattle.nt_objects.specs.Object.{overflows, is_gone};
 ghost use Rattle.nt_calls.specs.State.{object_at, deadline_after, pending_too};
 ghost use Rattle.nt_core.specs.Dispatcher.{state};
-ghost use Rattle.nt_calls.specs.Calls.{wait_of};
+ghost use Rattle.nt_calls.specs.Calls.{asked_wait};
 ghost use Rattle.nt_calls.specs.Change.{at, signal};
 ghost use Rattle.nt_calls.specs.Refusals.{may_signal, is_foreign, refusal};
-ghost use Rattle.nt_core.specs.Lawful.{IsSound};
-ghost use Rattle.nt_core.specs.Accepts.{IsFresh, IsServedAfter, Accepts, IsFree, IsWaitMade, reply_of};
+ghost use Rattle.nt_core.specs.Lawful.{IsMachineSound};
+ghost use Rattle.nt_core.specs.Accepts.{IsFresh, IsServedAfter, Accepts, IsFreeToCall, IsWaitMade, reply_of};
 ghost use Rattle.nt_calls.specs.declared.call.Call.{Call};
 ghost use Rattle.nt_calls.specs.declared.call.WaitCall.{WaitCall};
 
@@ -71,7 +71,7 @@ impl Machine {
         mode: Mode,
     ) -> Answer
         requires fresh { IsFresh self.old }
-        requires caller { IsFree (state self.old) thread }
+        requires caller { IsFreeToCall (state self.old) thread }
         ensures { IsWaitMade self.old self.new thread (WaitCall.Swap signal object mode.ms mode.alertable) result }
     {
         let (signaled, no_signal) = opened(&self.handles, signal, MODIFY_STATE);

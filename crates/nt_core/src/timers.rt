@@ -1,12 +1,12 @@
 //! Calls on timers, and their expiry.
 ghost use Rattle.std.specs.Prelude.{◌≡◌, ◌≤◌, ◌<◌, pos, ◌≤ℤ◌, false, length, slice_set, is_some, None, Some, IfSome, IsSomeAnd, IsTrue, OnOk, OnErr};
-ghost use Rattle.nt_objects.specs.Object.{is_timer, has_ended, due_of, owner_of};
+ghost use Rattle.nt_objects.specs.Object.{is_timer, has_ended, due_of, mutex_owner};
 ghost use Rattle.nt_apc.specs.Queues.{withdrawn, place_of};
 ghost use Rattle.nt_calls.specs.State.{object_at};
 ghost use Rattle.nt_calls.specs.Change.{notified, expired, armed_anew, due_moment, routine_for};
 ghost use Rattle.nt_core.specs.Dispatcher.{state, with_queues};
-ghost use Rattle.nt_core.specs.Lawful.{IsSound};
-ghost use Rattle.nt_core.specs.Accepts.{IsFresh, IsFree, IsPromised, IsActMade, Accepts, IsActOfAny, IsRunning, KeepsWaits};
+ghost use Rattle.nt_core.specs.Lawful.{IsMachineSound};
+ghost use Rattle.nt_core.specs.Accepts.{IsFresh, IsFreeToCall, IsPromised, IsActMade, Accepts, IsActOfAny, IsRunning, KeepsWaits};
 ghost use Rattle.nt_calls.specs.declared.call.Act.{Act};
 ghost use Rattle.nt_calls.specs.declared.call.Call.{Call};
 ghost use Rattle.nt_calls.specs.declared.call.Reply.{Reply};
@@ -34,7 +34,7 @@ impl Machine {
     pub(crate) fn put_timer(&mut self, timer: ObjectNumber, object: Object)
         requires known { timer < length self.old.objects }
         requires clock { timer < length self.old.alarms }
-        requires owner { owner_of object ≡ owner_of (object_at self.old.objects timer) }
+        requires owner { mutex_owner object ≡ mutex_owner (object_at self.old.objects timer) }
         ensures { self.new ≡ record self.old {
           objects = slice_set self.old.objects timer object;
           alarms = slice_set self.old.alarms timer (due_of object);
@@ -78,10 +78,10 @@ impl Machine {
 
     /// The timer expires, seen from this moment, which is not before it is due.
     pub(crate) fn expire(&mut self, timer: ObjectNumber, now: Moment)
-        requires sound { IsSound self.old }
+        requires sound { IsMachineSound self.old }
         requires due { IsSomeAnd (due_of (object_at self.old.objects timer)) (λ due. due ≤ now) }
         ensures expired { state self.new ≡ expired now (state self.old) timer }
-        ensures sound { IsSound self.new }
+        ensures sound { IsMachineSound self.new }
         ensures kept { KeepsWaits self.old self.new }
     {
         let mut object = self.object(timer);
@@ -111,12 +111,12 @@ impl Machine {
 
     /// Stops the timer, withdraws its queued APC, and arms it anew, not set. Where memory is refused nothing changes.
     fn arm(&mut self, timer: ObjectNumber, armed: Armed) -> Result<(), AllocError>
-        requires sound { IsSound self.old }
+        requires sound { IsMachineSound self.old }
         requires kind { IsTrue (is_timer (object_at self.old.objects timer)) }
         requires runs { IfSome armed.routine
             (λ r. (r.thread < self.old.threads) × (has_ended (object_at self.old.objects r.thread) ≡ false)) }
         ensures armed { OnOk result (state self.new ≡ armed_anew (state self.old) timer armed) }
-        ensures sound { OnOk result (IsSound self.new) }
+        ensures sound { OnOk result (IsMachineSound self.new) }
         ensures kept { OnOk result (KeepsWaits self.old self.new) }
         ensures needs { OnErr result (IsTrue (is_some armed.routine)) }
         ensures err { OnErr result (self.new ≡ self.old) }
@@ -177,7 +177,7 @@ impl Machine {
         routine: Option<(u64, u64)>,
     ) -> Answer
         requires fresh { IsFresh self.old }
-        requires free { IsFree (state self.old) thread }
+        requires free { IsFreeToCall (state self.old) thread }
         ensures { IsActMade self.old self.new thread (Act.SetTimer handle due period routine) result }
     {
         let timer = timer_to_arm(&self.handles, &self.objects, handle, period)?;

@@ -7,17 +7,16 @@ ghost use Rattle.nt_objects.specs.Object.{is_gone};
 ghost use Rattle.nt_apc.specs.Queues.{has_apc};
 ghost use Rattle.nt_calls.specs.State.{object_at};
 ghost use Rattle.nt_core.specs.Dispatcher.{state};
-ghost use Rattle.nt_calls.specs.Serving.{late_status, wait_for, fits, status, taken_by};
+ghost use Rattle.nt_calls.specs.Serving.{late_status, wait_on, fits, status, taken_by};
 ghost use Rattle.nt_calls.specs.Living.{LivesWhileKept};
 ghost use Rattle.nt_calls.specs.Naming.{call_named};
 ghost use Rattle.nt_calls.specs.Refusals.{grows};
-ghost use Rattle.nt_calls.specs.Rights.{is_denied};
-ghost use Rattle.nt_calls.specs.Steps.{Made, Called};
+ghost use Rattle.nt_calls.specs.Steps.{Called};
 ghost use Rattle.nt_calls.specs.declared.call.Call.{Call};
 ghost use Rattle.nt_calls.specs.declared.call.WaitCall.{WaitCall};
-ghost use Rattle.nt_core.specs.Lawful.{IsSound, IsSteady};
+ghost use Rattle.nt_core.specs.Lawful.{IsMachineSound, IsSteady};
 ghost use Rattle.nt_calls.specs.declared.call.Reply.{Reply};
-ghost use Rattle.nt_core.specs.Accepts.{IsFresh, IsFree, HasBegun, reply_of, replied, objects_call, IsLocal, IsMade, IsWaitMade, CanBegin};
+ghost use Rattle.nt_core.specs.Accepts.{IsFresh, IsFreeToCall, HasBegun, reply_of, replied, objects_call, IsLocal, IsCallMade, IsWaitMade, CanBegin, KeepsWaits};
 
 use crate::machine::{Answer, Machine};
 use nt_calls::{
@@ -76,7 +75,7 @@ impl Machine {
 
     /// Whether a wait of this thread, alertable or not, ends for its queued APCs.
     pub(crate) fn is_alerted(&self, thread: ThreadId, alertable: bool) -> bool
-        requires sound { IsSound self.now }
+        requires sound { IsMachineSound self.now }
         requires known { thread < self.now.threads }
         ensures { result ≡ (alertable && has_apc self.now.apcs.queues thread) }
     {
@@ -86,14 +85,13 @@ impl Machine {
     /// Where the objects satisfy the caller's wait, takes them, and answers its status.
     #[inline(always)]
     fn take_now(&mut self, thread: ThreadId, objects: &[ObjectNumber], all: bool) -> Option<Status>
-        requires can { CanBegin self.old thread (wait_for objects.now all) }
+        requires can { CanBegin self.old thread (wait_on objects.now all) }
         requires steady { IsSteady self.old }
-        ensures fits { is_some result ≡ fits self.old.objects thread (wait_for objects.now all) }
-        ensures status { IfSome result (λ code. code ≡ status self.old.objects thread (wait_for objects.now all)) }
-        ensures taken { OnSome result (state self.new ≡ taken_by (state self.old) thread (wait_for objects.now all)) }
+        ensures fits { is_some result ≡ fits self.old.objects thread (wait_on objects.now all) }
+        ensures status { IfSome result (λ code. code ≡ status self.old.objects thread (wait_on objects.now all)) }
+        ensures taken { OnSome result (state self.new ≡ taken_by (state self.old) thread (wait_on objects.now all)) }
         ensures steady { IsSteady self.new }
-        ensures grants { self.new.grants ≡ self.old.grants }
-        ensures table { self.new.table ≡ self.old.table }
+        ensures kept { KeepsWaits self.old self.new }
         ensures none { IfNone result (self.new ≡ self.old) }
     {
         let status = try_wait(&mut self.objects, thread, objects, all)?;
@@ -110,15 +108,14 @@ impl Machine {
         objects: &[ObjectNumber],
         mode: Mode,
     ) -> Option<Status>
-        requires can { CanBegin self.old thread (wait_for objects.now mode.all) }
+        requires can { CanBegin self.old thread (wait_on objects.now mode.all) }
         requires steady { IsSteady self.old }
         ensures begun { IfSome result (λ code.
             HasBegun (state self.old) (state self.new) thread objects.now mode (Reply.Status code)) }
-        ensures pends { IfNone result ((fits self.old.objects thread (wait_for objects.now mode.all) ≡ false)
+        ensures pends { IfNone result ((fits self.old.objects thread (wait_on objects.now mode.all) ≡ false)
             × ((mode.alertable && has_apc self.old.apcs.queues thread) ≡ false) × (mode.ms ≢ 0)) }
         ensures steady { IsSteady self.new }
-        ensures grants { self.new.grants ≡ self.old.grants }
-        ensures table { self.new.table ≡ self.old.table }
+        ensures kept { KeepsWaits self.old self.new }
         ensures none { IfNone result (self.new ≡ self.old) }
     {
         if let Some(status) = self.take_now(thread, objects, mode.all) {
@@ -139,7 +136,7 @@ impl Machine {
     /// refused nothing changes.
     #[inline(always)]
     fn begin_wait(&mut self, thread: ThreadId, objects: &[ObjectNumber], mode: Mode) -> Begun
-        requires can { CanBegin self.old thread (wait_for objects.now mode.all) }
+        requires can { CanBegin self.old thread (wait_on objects.now mode.all) }
         requires steady { IsSteady self.old }
         ensures begun { IfOk result (λ ended.
             HasBegun (state self.old) (state self.new) thread objects.now mode (reply_of ended)) }
@@ -148,8 +145,7 @@ impl Machine {
         ensures looked { self.new.table.looked ≡ self.old.table.looked }
         ensures grows { OnErr result (IsTrue (grows (state self.old) thread
             (Call.Wait (objects_call mode objects.now)))) }
-        ensures memory { IfErr result (λ refusal. refusal ≡ Memory) }
-        ensures err { OnErr result (self.new ≡ self.old) }
+        ensures refused { IfErr result (λ refusal. (refusal ≡ Memory) × (self.new ≡ self.old)) }
     {
         if let Some(status) = self.end_at_once(thread, objects, mode) {
             return Ok(Some(status));
@@ -168,10 +164,10 @@ impl Machine {
         mode: Mode,
     ) -> Begun
         requires fresh { IsFresh self.old }
-        requires caller { IsFree (state self.old) thread }
+        requires caller { IsFreeToCall (state self.old) thread }
         requires living { (h : ℕ) → Contains numbers.now h → h < length self.old.objects
             → is_gone (object_at self.old.objects h) ≡ false }
-        ensures { IsMade self.old self.new thread denied (Call.Wait (objects_call mode numbers.now)) (replied result) }
+        ensures { IsCallMade self.old self.new thread denied (Call.Wait (objects_call mode numbers.now)) (replied result) }
     {
         match objects_refusal(self.objects.as_slice(), thread, denied, numbers) {
             Some(refusal) => Err(refusal),
@@ -183,7 +179,7 @@ impl Machine {
     #[inline(always)]
     fn wait_for_one(&mut self, thread: ThreadId, handle: Handle, mode: Mode) -> Answer
         requires fresh { IsFresh self.old }
-        requires caller { IsFree (state self.old) thread }
+        requires caller { IsFreeToCall (state self.old) thread }
         ensures { IsWaitMade self.old self.new thread (objects_call mode (handle ∷ [])) result }
     {
         let (object, denied) = opened(&self.handles, handle, SYNCHRONIZE);
@@ -194,7 +190,7 @@ impl Machine {
     #[inline(always)]
     fn wait_for_objects(&mut self, thread: ThreadId, these: &[Handle], mode: Mode) -> Answer
         requires fresh { IsFresh self.old }
-        requires caller { IsFree (state self.old) thread }
+        requires caller { IsFreeToCall (state self.old) thread }
         ensures { IsWaitMade self.old self.new thread (objects_call mode these.now) result }
     {
         match these {
@@ -207,7 +203,7 @@ impl Machine {
     #[inline(always)]
     fn wait_for_listed(&mut self, thread: ThreadId, these: &Handles, mode: Mode) -> Answer
         requires fresh { IsFresh self.old }
-        requires caller { IsFree (state self.old) thread }
+        requires caller { IsFreeToCall (state self.old) thread }
         ensures { IsWaitMade self.old self.new thread (objects_call mode these.now) result }
     {
         match these.alone() {
@@ -231,7 +227,7 @@ impl Machine {
         alertable: bool,
     ) -> Begun
         requires fresh { IsFresh self.old }
-        requires caller { IsFree (state self.old) thread }
+        requires caller { IsFreeToCall (state self.old) thread }
         ensures { IsWaitMade self.old self.new thread (WaitCall.Objects all alertable ms these.now) (replied result) }
     {
         if these.len() > MAX_WAIT_OBJECTS {
@@ -247,7 +243,7 @@ impl Machine {
     #[inline(always)]
     pub(crate) fn wait(&mut self, thread: ThreadId, call: &WaitCall) -> Answer
         requires fresh { IsFresh self.old }
-        requires caller { IsFree (state self.old) thread }
+        requires caller { IsFreeToCall (state self.old) thread }
         ensures { IsWaitMade self.old self.new thread call.now result }
     {
         match call {
@@ -273,14 +269,7 @@ impl Machine {
     #[inline(always)]
     fn make_wait(&mut self, who: u32, these: &[Handle], mode: Mode) -> Answer
         requires steady { IsSteady self.old }
-        ensures made { Made (state self.old) who (is_denied (state self.old) (Call.Wait (objects_call mode these.now)))
-            (call_named self.old.handles (Call.Wait (objects_call mode these.now)))
-            result self.new.grants (state self.new) }
-        ensures steady { IsSteady self.new }
-        ensures local { OnOk result (IsLocal (state self.old) who
-            (call_named self.old.handles (Call.Wait (objects_call mode these.now)))
-            self.new.table.looked self.new.grants) }
-        ensures untested { OnErr result (self.new.table.looked ≡ 0) }
+        ensures { IsWaitMade self.old self.new who (objects_call mode these.now) result }
     {
         self.tell_anew();
         if let Some(refusal) = self.caller_refusal(who) {

@@ -8,7 +8,7 @@ use Rattle.nt_calls.specs.State.{State}
 use Rattle.nt_calls.specs.Runs as runs
 use Rattle.nt_laws.specs.Laws.{wants_memory, AsksCall, question}
 use Rattle.nt_laws.proofs.OneWay.{turn_same}
-use Rattle.nt_look.specs.Orders.{Ask, Calls, Passes, Plan, Point, IsMade, Goes}
+use Rattle.nt_look.specs.Orders.{Ask, Calls, Passes, Plan, Point, IsAskMade, Goes}
 use Rattle.nt_explore.specs.Walk.{Arrives}
 
 calm : (r : Result Reply Refusal) → (r ≢ Err Memory) → wants_memory r ≡ false
@@ -28,7 +28,7 @@ calm (Err MomentBack) other = refl
 calm (Err JournalFull) other = refl
 calm (Err HandleLimit) other = refl
 
-made_same : (old : State) (lane : ℕ) (ask : Ask) (a b : State) → IsMade old lane ask a → IsMade old lane ask b → a ≡ b
+made_same : (old : State) (lane : ℕ) (ask : Ask) (a b : State) → IsAskMade old lane ask a → IsAskMade old lane ask b → a ≡ b
 made_same old lane (Calls call) a b x y =
     let alike : question (runs.Calls lane call x.0 x.1) ≡ question (runs.Calls lane call y.0 y.1) = ap (λ (w : Bool). AsksCall lane call w) (calm x.0 x.2 ∙ sym (calm y.0 y.2)) in
     (turn_same old a b (runs.Calls lane call x.0 x.1) (runs.Calls lane call y.0 y.1) alike x.3 y.3).1
@@ -44,7 +44,7 @@ point_same p q at same = λ i. record { at = at i; state = same i }
 pub goes_same : (plan : Plan) (old : Point) (lane : ℕ) (a b : Point) → Goes plan old lane a → Goes plan old lane b → a ≡ b
 goes_same plan old lane a b x y =
     let ask : x.ask ≡ y.ask = some_same x.ask y.ask (sym x.next ∙ y.next) in
-    point_same a b (x.at ∙ sym y.at) (made_same old.state lane y.ask a.state b.state (subst (λ (z : Ask). IsMade old.state lane z a.state) ask x.made) y.made)
+    point_same a b (x.at ∙ sym y.at) (made_same old.state lane y.ask a.state b.state (subst (λ (z : Ask). IsAskMade old.state lane z a.state) ask x.made) y.made)
 
 -- and so do lanes
 pub arrives_same : (plan : Plan) (start : Point) (lanes : List ℕ) (a b : Point) → Arrives plan start lanes a → Arrives plan start lanes b → a ≡ b

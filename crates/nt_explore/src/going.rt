@@ -2,7 +2,7 @@
 ghost use Rattle.std.specs.Prelude.{◌≡◌, ◌≢◌, ◌<◌, length, Err, MatchBool, IfOk, OnOk};
 ghost use Rattle.nt_status.specs.declared.refusal.Refusal.TheVariants.{Memory};
 ghost use Rattle.nt_core.specs.Dispatcher.{state};
-ghost use Rattle.nt_look.specs.Orders.{Calls, Passes, IsMade};
+ghost use Rattle.nt_look.specs.Orders.{Calls, Passes, IsAskMade};
 ghost use Rattle.nt_explore.specs.Search.{asked};
 ghost use Rattle.nt_explore.specs.Walk.{point_of, GoesOn, Went};
 
@@ -15,7 +15,7 @@ use std::alloc::AllocError;
 
 /// Makes the thread's call. Memory that is refused is no order of the plan.
 fn call(core: &mut Core, thread: u32, call: &Call) -> Result<(), AllocError>
-    ensures made { OnOk result (IsMade (state core.old) thread (Calls call.now) (state core.new)) }
+    ensures made { OnOk result (IsAskMade (state core.old) thread (Calls call.now) (state core.new)) }
     ensures threads { (state core.new).threads ≡ (state core.old).threads }
 {
     let result = core.call(thread, call);
@@ -34,7 +34,7 @@ fn is_without_memory(answer: &Result<Reply, Refusal>) -> bool
 
 /// Lets the moments pass.
 fn tick(core: &mut Core, thread: u32, moment: Moment)
-    ensures made { IsMade (state core.old) thread (Passes moment) (state core.new) }
+    ensures made { IsAskMade (state core.old) thread (Passes moment) (state core.new) }
     ensures threads { (state core.new).threads ≡ (state core.old).threads }
 {
     let _answer = core.tick(moment);
@@ -42,7 +42,7 @@ fn tick(core: &mut Core, thread: u32, moment: Moment)
 
 /// Makes what is asked of the thread.
 fn make(core: &mut Core, thread: u32, ask: &Ask) -> Result<(), AllocError>
-    ensures made { OnOk result (IsMade (state core.old) thread (asked ask.now) (state core.new)) }
+    ensures made { OnOk result (IsAskMade (state core.old) thread (asked ask.now) (state core.new)) }
     ensures threads { (state core.new).threads ≡ (state core.old).threads }
 {
     match ask {

@@ -9,6 +9,7 @@ use Rattle.nt_objects.specs.declared.object.Object.{Object}
 use Rattle.nt_objects.specs.declared.object.Object.TheVariants.{Event, Semaphore, Mutex, Timer, Thread, Gone}
 use Rattle.nt_objects.specs.declared.object.Armed.{Armed}
 use Rattle.nt_objects.specs.Object.{is_timer, event_of, mutex_of, timer_of, with_set, released, overflows, unlocked, armed_with, setting_of, rearmed}
+use Rattle.nt_apc.specs.Queues.{oldest_taken}
 use Rattle.nt_calls.specs.declared.call.Call.{Call}
 use Rattle.nt_calls.specs.declared.call.Act.{Act}
 use Rattle.nt_calls.specs.declared.call.WaitCall.{WaitCall}
@@ -187,7 +188,7 @@ act_object s t (Act.Duplicate object access) h none plain = refl
 act_object s t (Act.Close closed) h none plain = refl
 act_object s t Act.NextApc h none plain = go (may_take s t)
   where
-    go : (b : Bool) → object_at (cond b (record s { apcs = Rattle.nt_apc.specs.Queues.taken s.apcs t }) (with_handing s t false)).objects h ≡ object_at s.objects h
+    go : (b : Bool) → object_at (cond b (record s { apcs = oldest_taken s.apcs t }) (with_handing s t false)).objects h ≡ object_at s.objects h
     go true = refl
     go false = refl
 
@@ -209,7 +210,7 @@ timer_set_waits s timer armed = go (nat_le armed.due s.now)
 act_waits : (s : State) (t : ℕ) (act : Act) → (act_change s t act).waits ≡ s.waits
 act_waits s t Act.NextApc = go (may_take s t)
   where
-    go : (b : Bool) → (cond b (record s { apcs = Rattle.nt_apc.specs.Queues.taken s.apcs t }) (with_handing s t false)).waits ≡ s.waits
+    go : (b : Bool) → (cond b (record s { apcs = oldest_taken s.apcs t }) (with_handing s t false)).waits ≡ s.waits
     go true = refl
     go false = refl
 act_waits s t (Act.SetTimer g due period routine) = timer_set_waits s g (record { due = due_moment s.now due; period = unsigned_abs period; routine = routine_for t routine })

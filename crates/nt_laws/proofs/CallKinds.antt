@@ -13,7 +13,7 @@ use Rattle.nt_objects.specs.declared.object.Armed.{Armed}
 use Rattle.nt_objects.specs.declared.handles.Opened.{Opened}
 use Rattle.nt_objects.specs.Handles.{opened_at}
 use Rattle.nt_objects.specs.Object.{is_gone, has_ended, setting_of, rearmed, event_of, mutex_of, timer_of, with_set, released, unlocked, armed_with, abandoned_by, unset_by, set_by}
-use Rattle.nt_apc.specs.Queues.{taken, withdrawn}
+use Rattle.nt_apc.specs.Queues.{oldest_taken, withdrawn}
 use Rattle.nt_apc.specs.declared.apc.Queued.{Queued}
 use Rattle.nt_status.specs.declared.limits.TheConstants.{MAX_HANDLES}
 use Rattle.nt_calls.specs.declared.call.Call.{Call}
@@ -182,7 +182,7 @@ timer_set_same s timer armed = go (nat_le armed.due s.now)
 apc_taken_same : (s : State) (t : ℕ) → IsSame s (apc_taken s t)
 apc_taken_same s t = go (may_take s t)
   where
-    go : (b : Bool) → IsSame s (cond b (record s { apcs = taken s.apcs t }) (with_handing s t false))
+    go : (b : Bool) → IsSame s (cond b (record s { apcs = oldest_taken s.apcs t }) (with_handing s t false))
     go true = record { life = life_same s.objects; handles = refl; threads = refl; waits = refl; queues = refl }
     go false = record { life = life_same s.objects; handles = refl; threads = refl; waits = refl; queues = refl }
 

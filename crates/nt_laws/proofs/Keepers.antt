@@ -29,7 +29,7 @@ use Rattle.nt_calls.specs.Living.{is_opened, is_awaited, runs, is_kept, lives, L
 use Rattle.nt_laws.specs.Laws.{IsKept}
 use Rattle.nt_calls.specs.Refusals.{Cause, refusal, has_twice, is_unknown, is_no, is_foreign, is_at_limit, may_signal}
 use Rattle.nt_calls.specs.Change.{change}
-use Rattle.nt_calls.specs.Steps.{Made, wait_of}
+use Rattle.nt_calls.specs.Steps.{Made, asked_wait}
 use Rattle.nt_calls.specs.Runs.{Turn, Calls, Ticks, IsTurn}
 use Rattle.nt_core.proofs.Accepting.{next_causes, free_caller, nothing_pends, object_at-replicate}
 use Rattle.nt_core.proofs.Judging.{undenied}
@@ -62,7 +62,7 @@ each_living s [] sound has j below = absurd (omega (arith, below))
 each_living s (h ∷ hs) sound has zero below = handle_living s h sound (neither (lacks synchronize s.handles h) (list_any (lacks synchronize s.handles) hs) has).0
 each_living s (h ∷ hs) sound has (suc j) below = each_living s hs sound (neither (lacks synchronize s.handles h) (list_any (lacks synchronize s.handles) hs) has).1 j (omega (arith, below))
 
-wait_living : (s : State) (t : ℕ) (wait : WaitCall) → Stands s → refusal s t (is_denied s (Call.Wait wait)) (call_named s.handles (Call.Wait wait)) ≡ None → (now o : ℕ) → Names (wait_of now (wait_named s.handles wait)) o → is_living s.objects o ≡ true
+wait_living : (s : State) (t : ℕ) (wait : WaitCall) → Stands s → refusal s t (is_denied s (Call.Wait wait)) (call_named s.handles (Call.Wait wait)) ≡ None → (now o : ℕ) → Names (asked_wait now (wait_named s.handles wait)) o → is_living s.objects o ≡ true
 wait_living s t (WaitCall.Objects all alertable ms hs) sound none now o named =
     let denied : Bool = list_any (lacks synchronize s.handles) hs in
     let objects : List ℕ = map (object_named s.handles) hs in
@@ -106,10 +106,10 @@ made_stands old who call reply grants left sound made =
     same_wait : (a b : WaitCall) → Call.Wait a ≡ Call.Wait b → a ≡ b
     same_wait a b e = (cc)
 
-    pend : (call : Call) → refusal old who (is_denied old call) (call_named old.handles call) ≡ None → (s : State) (wait : WaitCall) → call_named old.handles call ≡ Call.Wait wait → IsIdle who old s → Stands (pending_too s who (wait_of s.now wait))
+    pend : (call : Call) → refusal old who (is_denied old call) (call_named old.handles call) ≡ None → (s : State) (wait : WaitCall) → call_named old.handles call ≡ Call.Wait wait → IsIdle who old s → Stands (pending_too s who (asked_wait s.now wait))
     pend (Call.Wait asked) none s wait same here =
-        stands_pending s who (wait_of s.now wait) here.stands here.idle
-        (λ o named. here.lives o (wait_living old who asked sound none s.now o (subst (λ (w : WaitCall). Names (wait_of s.now w) o) (sym (same_wait (wait_named old.handles asked) wait same)) named)))
+        stands_pending s who (asked_wait s.now wait) here.stands here.idle
+        (λ o named. here.lives o (wait_living old who asked sound none s.now o (subst (λ (w : WaitCall). Names (asked_wait s.now w) o) (sym (same_wait (wait_named old.handles asked) wait same)) named)))
     pend (Call.Act act) none s wait same here = waits_not _ wait same
     pend Call.Exit none s wait same here = exits_not wait same
 

@@ -17,9 +17,9 @@ use Rattle.nt_calls.specs.declared.call.Reply.{Reply}
 use Rattle.nt_calls.specs.declared.call.Grant.{Grant}
 use Rattle.nt_calls.specs.Calls.{timeout_of}
 use Rattle.nt_calls.specs.State.{State, object_at, with_object, with_handing, pending_no_more, pending_too, wait_over, waits_over}
-use Rattle.nt_calls.specs.Serving.{fits, status, objects_taken, taken_by, granted, is_sleep, late_status, Grants, sequence}
+use Rattle.nt_calls.specs.Serving.{fits, status, objects_taken, taken_by, wait_granted, is_sleep, late_status, Grants, sequence}
 use Rattle.nt_calls.specs.Change.{change, notified, expired, expired_as, all_expired}
-use Rattle.nt_calls.specs.Steps.{Step, wait_of, begun, answered, after_serving, MomentPasses, MomentsPass}
+use Rattle.nt_calls.specs.Steps.{Step, asked_wait, begun, answered, after_serving, MomentPasses, MomentsPass}
 use Rattle.nt_core.proofs.Accepting.{reading_taken_by}
 use Rattle.nt_core.proofs.Lengths.{length_taken}
 
@@ -101,7 +101,7 @@ taken_lasts holds lasts s t w here =
 grants_last : (holds : State → Type 0) → Lasts holds → (threads : List ℕ) (old : State) (gs : List Grant) (new : State) → Grants threads old gs new → holds old → holds new
 grants_last holds lasts threads old [] new is here = subst holds (sym is) here
 grants_last holds lasts threads old (g ∷ gs) new is here =
-    grants_last holds lasts threads (granted old g.thread is.1) gs new is.3 (lasts.over (taken_by old g.thread is.1) g.thread (taken_lasts holds lasts old g.thread is.1 here))
+    grants_last holds lasts threads (wait_granted old g.thread is.1) gs new is.3 (lasts.over (taken_by old g.thread is.1) g.thread (taken_lasts holds lasts old g.thread is.1 here))
 
 over_lasts : (holds : State → Type 0) → Lasts holds → (s : State) (ts : List ℕ) (may : Bool) → holds s → holds (waits_over s ts may)
 over_lasts holds lasts s [] may here = here
@@ -118,7 +118,7 @@ pub step_lasts :
     → ((s : State) → holds s → after s)
     → (old : State) (t : ℕ) (call : Call) (reply : Reply) (grants : List Grant) (new : State)
     → Step old t call reply grants new
-    → ((s : State) (wait : WaitCall) → call ≡ Call.Wait wait → holds s → after (pending_too s t (wait_of s.now wait)))
+    → ((s : State) (wait : WaitCall) → call ≡ Call.Wait wait → holds s → after (pending_too s t (asked_wait s.now wait)))
     → holds (change old t call)
     → after new
 step_lasts holds after lasts then old t call reply grants new step pend first = own call step.woken pend woken step.answers
@@ -144,8 +144,8 @@ step_lasts holds after lasts then old t call reply grants new step pend first = 
         first_case true = then (taken_by s t w) (taken_lasts holds lasts s t w here)
         first_case false = second (w.alertable && has_apc s.apcs t)
 
-    own : (call : Call) (s : State) → ((s : State) (wait : WaitCall) → call ≡ Call.Wait wait → holds s → after (pending_too s t (wait_of s.now wait))) → holds s → (reply, new) ≡ answered old s t call → after new
-    own (Call.Wait wait) s pend here is = subst after (sym (ap (λ p. p.1) is)) (begins s (wait_of s.now wait) (timeout_of wait) here (pend s wait refl here))
+    own : (call : Call) (s : State) → ((s : State) (wait : WaitCall) → call ≡ Call.Wait wait → holds s → after (pending_too s t (asked_wait s.now wait))) → holds s → (reply, new) ≡ answered old s t call → after new
+    own (Call.Wait wait) s pend here is = subst after (sym (ap (λ p. p.1) is)) (begins s (asked_wait s.now wait) (timeout_of wait) here (pend s wait refl here))
     own (Call.Act act) s pend here is = subst after (sym (ap (λ p. p.1) is)) (then s here)
     own Call.Exit s pend here is = subst after (sym (ap (λ p. p.1) is)) (then s here)
 

@@ -12,7 +12,7 @@ use Rattle.nt_objects.specs.declared.handles.Opened.{Opened}
 use Rattle.nt_objects.specs.Handles.{opened_at}
 use Rattle.nt_objects.specs.Object.{is_gone}
 use Rattle.nt_calls.specs.declared.call.Call.{Call}
-use Rattle.nt_calls.specs.State.{State, Pending, object_at, names, pending_no_more, pending_too}
+use Rattle.nt_calls.specs.State.{State, Pending, object_at, wait_names, pending_no_more, pending_too}
 use Rattle.nt_calls.specs.Change.{created, opened_too, handle_closed}
 use Rattle.nt_waits.proofs.OthersLemmas.{member_others, member_of_others}
 use Rattle.nt_core.proofs.Beginning.{get_inserted, names_yes, names_no}
@@ -156,8 +156,8 @@ pub stands_pending : (s : State) (t : ℕ) (w : Wait) → Stands s → get s.wai
 stands_pending s t w sound idle living = record {
   enough = sound.enough;
   own = sound.own;
-  listed = λ u o v is named. listed u o v (get_inserted s.waits t u w v is) named (names w o) refl;
-  pends = λ u o member. pends u o (names w o) refl member;
+  listed = λ u o v is named. listed u o v (get_inserted s.waits t u w v is) named (wait_names w o) refl;
+  pends = λ u o member. pends u o (wait_names w o) refl member;
   named = sound.named;
   awaited = λ u o v is named. elim (get_inserted s.waits t u w v is) [
     | inl own ↦ living o (subst (λ (x : Wait). Names x o) (sym own.1) named)
@@ -165,7 +165,7 @@ stands_pending s t w sound idle living = record {
   ];
 }
   where
-    listed : (u o : ℕ) (v : Wait) → ((u ≡ t) × (w ≡ v)) ⊎ (get s.waits u ≡ Some v) → Names v o → (b : Bool) → names w o ≡ b → Contains (cond (names w o) (s.queues o ++ t ∷ []) (s.queues o)) u
+    listed : (u o : ℕ) (v : Wait) → ((u ≡ t) × (w ≡ v)) ⊎ (get s.waits u ≡ Some v) → Names v o → (b : Bool) → wait_names w o ≡ b → Contains (cond (wait_names w o) (s.queues o ++ t ∷ []) (s.queues o)) u
     listed u o v (inl own) named true is = rw is (subst (λ k. Contains (s.queues o ++ t ∷ []) k) (sym own.0) (Contains-push (s.queues o) t))
     listed u o v (inl own) named false is =
         let mine : Names w o = subst (λ (x : Wait). Names x o) (sym own.1) named in
@@ -181,7 +181,7 @@ stands_pending s t w sound idle living = record {
         let wait = sound.pends u o member in
         (wait.0, inserted_other s.waits t u w (λ same. waits_not wait.0 (sym idle ∙ (ap (λ k. get s.waits k) (sym same) ∙ wait.1))) ∙ wait.1, wait.2)
 
-    pends : (u o : ℕ) (b : Bool) → names w o ≡ b → Contains (cond (names w o) (s.queues o ++ t ∷ []) (s.queues o)) u → (v : Wait) × (get (insert s.waits t w) u ≡ Some v) × Names v o
+    pends : (u o : ℕ) (b : Bool) → wait_names w o ≡ b → Contains (cond (wait_names w o) (s.queues o ++ t ∷ []) (s.queues o)) u → (v : Wait) × (get (insert s.waits t w) u ≡ Some v) × Names v o
     pends u o true is member =
         let there : Contains (s.queues o ++ t ∷ []) u = rw is at member in
         elim (Contains-push_cases (s.queues o) t u there) [

@@ -12,7 +12,7 @@ use Rattle.nt_objects.specs.declared.object.Object.{Object}
 use Rattle.nt_objects.specs.Object.{signaled, taken}
 use Rattle.nt_calls.specs.declared.call.Grant.{Grant}
 use Rattle.nt_calls.specs.State.{State, Pending, object_at}
-use Rattle.nt_calls.specs.Serving.{is_ready, is_sleep, fits, least, status, status_at, is_abandoned_at, take_at, take_each, objects_taken, granted, Grants, ending, IsLate, late_status, sleeps}
+use Rattle.nt_calls.specs.Serving.{is_ready, is_sleep, fits, least, status, status_at, is_abandoned_at, take_at, take_each, objects_taken, wait_granted, Grants, ending, IsLate, late_status, sleeps}
 use Rattle.nt_laws.specs.Takes.{Take, only_at, handles_told, takes_of, grant_took, grants_took, takers}
 use Rattle.nt_core.proofs.Listing.{same_yes, same_no}
 use Rattle.nt_calls.proofs.Tries.{object_taken_other, ready_other, differ}
@@ -141,13 +141,13 @@ IsWithin few many = (t : ℕ) (w : Wait) → get few t ≡ Some w → get many t
 pub grants_within : (threads : List ℕ) (s new : State) (gs : List Grant) (waits : Pending) → Grants threads s gs new → IsWithin s.waits waits → IsWithin new.waits waits
 grants_within threads s new [] waits is within = subst (λ (x : State). IsWithin x.waits waits) (sym is) within
 grants_within threads s new (g ∷ gs) waits has within =
-    grants_within threads (granted s g.thread has.1) new gs waits has.3 (λ t v e. within t v (get_removed s.waits g.thread t v e).1)
+    grants_within threads (wait_granted s g.thread has.1) new gs waits has.3 (λ t v e. within t v (get_removed s.waits g.thread t v e).1)
 
 pub grants_taken : (threads : List ℕ) (s new : State) (gs : List Grant) (waits : Pending) (h : ℕ) → Grants threads s gs new → IsWithin s.waits waits → AreFair waits → TakenBy (object_at s.objects h) (takers h (grants_took waits gs)) (object_at new.objects h)
 grants_taken threads s new [] waits h is within fair = ap (λ (x : State). object_at x.objects h) is
 grants_taken threads s new (g ∷ gs) waits h has within fair =
     let pends = within g.thread has.1 has.2.pends in
-    let rest = grants_taken threads (granted s g.thread has.1) new gs waits h has.3 (λ t v e. within t v (get_removed s.waits g.thread t v e).1) fair in
+    let rest = grants_taken threads (wait_granted s g.thread has.1) new gs waits h has.3 (λ t v e. within t v (get_removed s.waits g.thread t v e).1) fair in
     let first = wait_taken s.objects g.thread has.1 h (fair g.thread has.1 pends) has.2.fits in
     let told : grant_took (get waits g.thread) g ≡ takes_of g.thread (handles_told has.1 (status s.objects g.thread has.1)) =
     ap (λ o. grant_took o g) pends ∙ ap (λ c. takes_of g.thread (handles_told has.1 c)) has.2.status in

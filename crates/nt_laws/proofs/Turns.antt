@@ -30,7 +30,7 @@ use Rattle.nt_calls.specs.Rights.{is_denied}
 use Rattle.nt_core.proofs.Judging.{undenied}
 use Rattle.nt_calls.specs.Refusals.{Cause, refusal, has_twice, is_unknown, is_at_limit}
 use Rattle.nt_calls.specs.Living.{all_gone, gone, Ends}
-use Rattle.nt_calls.specs.Steps.{Step, Called, wait_of, begun, answered, after_serving, MomentPasses, MomentsPass, Ticked}
+use Rattle.nt_calls.specs.Steps.{Step, Called, asked_wait, begun, answered, after_serving, MomentPasses, MomentsPass, Ticked}
 use Rattle.nt_calls.specs.Runs.{Turn, Calls, Ticks, IsTurn, Turns}
 use Rattle.nt_laws.specs.Takes.{takes_of, grants_took, reply_took, call_took, turn_took, takers}
 use Rattle.nt_core.proofs.Remaining.{ends_waits}
@@ -75,7 +75,7 @@ begun_fair s t w ms reply new fair all is = go (fits s.objects t w) (w.alertable
     go false false false e = subst (λ (x : State). AreFair x.waits) (sym (ap (λ p. p.1) e)) (λ u v got. found u v (get_inserted s.waits t u w v got))
 
 -- a wait that no cause refuses is fair
-fair_call : (s : State) (t : ℕ) (wait : WaitCall) (now : ℕ) → refusal s t false (Call.Wait wait) ≡ None → IsFair (wait_of now wait)
+fair_call : (s : State) (t : ℕ) (wait : WaitCall) (now : ℕ) → refusal s t false (Call.Wait wait) ≡ None → IsFair (asked_wait now wait)
 fair_call s t (WaitCall.Objects all alertable ms handles) now none =
     let own = own_causes s t (Call.Wait (WaitCall.Objects all alertable ms handles)) none in
     let last : List Cause = (list_any (is_at_limit s.objects t) handles, RecursionLimit) ∷ [] in
@@ -91,7 +91,7 @@ fair_call s t (WaitCall.Objects all alertable ms handles) now none =
 fair_call s t (WaitCall.Sleep ms alertable) now none = (omega arith, distinct_handles [] refl)
 fair_call s t (WaitCall.Swap g object ms alertable) now none = (omega arith, distinct_handles (object ∷ []) refl)
 
-same_handles : (t now then : ℕ) (wait : WaitCall) (reply : Reply) → reply_took t (wait_of now wait) reply ≡ reply_took t (wait_of then wait) reply
+same_handles : (t now then : ℕ) (wait : WaitCall) (reply : Reply) → reply_took t (asked_wait now wait) reply ≡ reply_took t (asked_wait then wait) reply
 same_handles t now then (WaitCall.Objects all alertable ms handles) (Reply.Status code) = refl
 same_handles t now then (WaitCall.Sleep ms alertable) (Reply.Status code) = refl
 same_handles t now then (WaitCall.Swap g object ms alertable) (Reply.Status code) = refl
@@ -137,7 +137,7 @@ pub record InCall (h : ℕ) (old : State) (who : ℕ) (call : Call) (reply : Rep
 ends_at : (h : ℕ) (old woken new : State) (who : ℕ) (call : Call) (reply : Reply) → refusal old who false call ≡ None → (reply, new) ≡ answered old woken who call → TakenBy (object_at woken.objects h) (takers h (call_took old.now who call reply)) (object_at new.objects h)
 ends_at h old woken new who (Call.Wait wait) reply none is =
     subst (λ ks. TakenBy (object_at woken.objects h) (takers h ks) (object_at new.objects h)) (same_handles who woken.now old.now wait reply)
-    (begun_taken woken who (wait_of woken.now wait) (timeout_of wait) h reply new (fair_call old who wait woken.now none) is)
+    (begun_taken woken who (asked_wait woken.now wait) (timeout_of wait) h reply new (fair_call old who wait woken.now none) is)
 ends_at h old woken new who _ reply none is = ap (λ p. object_at p.1.objects h) is
 
 in_step : (h : ℕ) (old : State) (who : ℕ) (call : Call) (reply : Reply) (grants : List Grant) (new : State) → AreFair old.waits → refusal old who false call ≡ None → Step old who call reply grants new → InCall h old who call reply grants (object_at new.objects h)
@@ -192,7 +192,7 @@ call_fair old who call reply grants new fair none step =
     own call step.woken none (fair_within step.woken.waits old.waits woken fair) step.answers
   where
     own : (call : Call) (woken : State) → refusal old who false call ≡ None → AreFair woken.waits → (reply, new) ≡ answered old woken who call → AreFair new.waits
-    own (Call.Wait wait) woken none all is = begun_fair woken who (wait_of woken.now wait) (timeout_of wait) reply new (fair_call old who wait woken.now none) all is
+    own (Call.Wait wait) woken none all is = begun_fair woken who (asked_wait woken.now wait) (timeout_of wait) reply new (fair_call old who wait woken.now none) all is
     own _ woken none all is = subst (λ (s : State). AreFair s.waits) (sym (ap (λ p. p.1) is)) all
 
 -- ---- a tick

@@ -4,7 +4,7 @@ use Rattle.std.specs.List.{find}
 use Rattle.std.specs.FinMap as map
 use Rattle.nt_calls.specs.declared.call.Grant.{Grant}
 use Rattle.nt_calls.specs.State.{State}
-use Rattle.nt_calls.specs.Serving.{is_due, status, granted, Grants, IsServed}
+use Rattle.nt_calls.specs.Serving.{is_due, status, wait_granted, Grants, IsServed}
 
 find_passes : {X : Type 0} (p : X → Bool) (xs : List X) (x : X) → find p xs ≡ Some x → p x ≡ true
 find_passes p [] x e = (cc)
@@ -32,6 +32,6 @@ serve_unique threads old a b (g ∷ gs) (h ∷ hs) x p y q =
     let waits : Some x.1 ≡ Some y.1 = sym x.2.pends ∙ (ap (λ t. map.get old.waits t) thread ∙ y.2.pends) in
     let wait : x.1 ≡ y.1 = (cc) in
     let status' : g.status ≡ h.status = x.2.status ∙ (ap (λ t. status old.objects t x.1) thread ∙ (ap (λ w. status old.objects h.thread w) wait ∙ sym y.2.status)) in
-    let mid : granted old h.thread y.1 ≡ granted old g.thread x.1 = ap (λ t. granted old t y.1) (sym thread) ∙ ap (λ w. granted old g.thread w) (sym wait) in
-    let rest = serve_unique threads (granted old g.thread x.1) a b gs hs x.3 p (subst (λ (s : State). Grants threads s hs b) mid y.3) q in
+    let mid : wait_granted old h.thread y.1 ≡ wait_granted old g.thread x.1 = ap (λ t. wait_granted old t y.1) (sym thread) ∙ ap (λ w. wait_granted old g.thread w) (sym wait) in
+    let rest = serve_unique threads (wait_granted old g.thread x.1) a b gs hs x.3 p (subst (λ (s : State). Grants threads s hs b) mid y.3) q in
     (ap (λ k. k ∷ gs) (grant_same g h thread status') ∙ ap (λ ks. h ∷ ks) rest.0, rest.1)

@@ -1,8 +1,8 @@
 -- Lives: runs in which numbers are given again.
-use Rattle.std.specs.Prelude.{◌≡◌, ◌↔◌, ℕ, ◌<◌, Bool, true, false, ◌&&◌, ◌||◌, List, [], ◌∷◌, map, length, if◌then◌else◌, ◌==◌, Option, Some, None}
+use Rattle.std.specs.Prelude.{◌≡◌, ◌↔◌, ℕ, ◌<◌, Bool, true, false, ◌&&◌, ◌||◌, List, [], ◌∷◌, map, length, if◌then◌else◌, ◌==◌, Option, Some, None, is_ok}
 use Rattle.std.specs.List.{list_any}
 use Rattle.std.specs.declared.result.Result.{Result}
-use Rattle.std.specs.declared.result.Result.TheVariants.{Ok, Err}
+use Rattle.std.specs.declared.result.Result.TheVariants.{Err}
 use Rattle.nt_status.specs.declared.refusal.Refusal.{Refusal}
 use Rattle.nt_status.specs.declared.refusal.Refusal.TheVariants.{Memory}
 use Rattle.nt_objects.specs.declared.handles.Opened.{Opened}
@@ -48,17 +48,12 @@ Life n stages s = Stages (opening n) stages s
 abbrev pub RunsAreLives : Type 0
 RunsAreLives = (n : ℕ) (turns : List Turn) (s : State) → Run n turns s ↔ Life n (map Takes turns) s
 
--- it was accepted
-abbrev pub is_accepted : Result Reply Refusal → Bool
-is_accepted (Ok reply) = true
-is_accepted (Err cause) = false
-
 -- the stage gives this handle's number again
 abbrev pub gives_handle : ℕ → Stage → Bool
 gives_handle h (Takes turn) = false
-gives_handle h (Creates who act object handle result grants) = if is_accepted result then handle == h else false
-gives_handle h (Shares who source access handle result grants) = if is_accepted result then handle == h else false
-gives_handle h (Begins thread handle result grants) = if is_accepted result then handle == h else false
+gives_handle h (Creates who act object handle result grants) = if is_ok result then handle == h else false
+gives_handle h (Shares who source access handle result grants) = if is_ok result then handle == h else false
+gives_handle h (Begins thread handle result grants) = if is_ok result then handle == h else false
 gives_handle h (Adds result grants) = false
 gives_handle h (Renumbers thread object done grants) = false
 
@@ -96,9 +91,9 @@ HandlesStayUntilGivenAgain =
 -- the stage gives this object's number again, to another object
 abbrev pub gives_object : ℕ → Stage → Bool
 gives_object o (Takes turn) = false
-gives_object o (Creates who act object handle result grants) = if is_accepted result then object == o else false
+gives_object o (Creates who act object handle result grants) = if is_ok result then object == o else false
 gives_object o (Shares who source access handle result grants) = false
-gives_object o (Begins thread handle result grants) = if is_accepted result then thread == o else false
+gives_object o (Begins thread handle result grants) = if is_ok result then thread == o else false
 gives_object o (Adds result grants) = false
 gives_object o (Renumbers thread object done grants) = if done then object == o else false
 

@@ -11,7 +11,7 @@ use Rattle.nt_calls.specs.declared.call.Reply.{Reply}
 use Rattle.nt_calls.specs.declared.call.Grant.{Grant}
 use Rattle.nt_calls.specs.State.{State, Pending}
 use Rattle.nt_calls.specs.Naming.{call_named}
-use Rattle.nt_calls.specs.Steps.{wait_of}
+use Rattle.nt_calls.specs.Steps.{asked_wait}
 use Rattle.nt_calls.specs.Runs.{Turn, Calls, Ticks, Turns}
 
 -- a thread took the object with this number
@@ -57,7 +57,7 @@ reply_took t w _ = []
 
 -- what the caller's own wait took
 abbrev pub call_took : ℕ → ℕ → Call → Reply → List Take
-call_took now t (Call.Wait wait) reply = reply_took t (wait_of now wait) reply
+call_took now t (Call.Wait wait) reply = reply_took t (asked_wait now wait) reply
 call_took now t _ reply = []
 
 -- every taking of a turn from this state, in order: by the waits that pended, then by the caller's own wait

@@ -24,6 +24,7 @@ use Rattle.nt_core.proofs.Changing.{object_at-append}
 use Rattle.nt_core.proofs.Exiting.{left, mapped_at}
 use Rattle.nt_objects.specs.declared.handles.Opened.{Opened}
 use Rattle.nt_objects.specs.Handles.{opened_at, names, count_named, full_access}
+use Rattle.nt_apc.specs.Queues.{oldest_taken}
 use Rattle.nt_calls.specs.Naming.{act_named, call_named, object_named, object_in, no_object}
 use Rattle.nt_core.proofs.Lives.{counted_opened}
 use Rattle.nt_look.specs.Hangs.{holds}
@@ -497,7 +498,7 @@ act_kept n knot free t o who s denied (Act.Duplicate h access) known others out 
 act_kept n knot free t o who s denied (Act.Close closed) known others out none = record { threads = refl; longer = omega arith; waits = refl; object = λ below e. e; unnamed = λ below e. count_closed s.handles closed o e }
 act_kept n knot free t o who s denied Act.NextApc known others out none = go (may_take s who)
   where
-    go : (b : Bool) → IsKept n knot free t o s (cond b (record s { apcs = Rattle.nt_apc.specs.Queues.taken s.apcs who }) (with_handing s who false))
+    go : (b : Bool) → IsKept n knot free t o s (cond b (record s { apcs = oldest_taken s.apcs who }) (with_handing s who false))
     go true = record { threads = refl; longer = omega arith; waits = refl; object = λ below e. e; unnamed = λ below e. e }
     go false = record { threads = refl; longer = omega arith; waits = refl; object = λ below e. e; unnamed = λ below e. e }
 

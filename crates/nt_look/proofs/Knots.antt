@@ -10,7 +10,7 @@ use Rattle.nt_objects.specs.Object.{is_thread, is_gone}
 use Rattle.nt_calls.specs.declared.call.Call.{Call}
 use Rattle.nt_calls.specs.declared.call.Reply.{Reply}
 use Rattle.nt_calls.specs.declared.call.Grant.{Grant}
-use Rattle.nt_calls.specs.Calls.{wait_of, timeout_of}
+use Rattle.nt_calls.specs.Calls.{asked_wait, timeout_of}
 use Rattle.nt_calls.specs.State.{State, object_at}
 use Rattle.nt_calls.specs.Serving.{sequence}
 use Rattle.nt_calls.specs.Change.{change, all_expired}
@@ -81,7 +81,7 @@ step_stays callers knot a s who denied asked reply gs new begins stays out none 
     woken = alert_stays callers knot a (after_serving call step.calm) step.alerted step.woken begins after step.alerts
 
     answers : (call : Call) (woken : State) → Stays callers knot a woken → (reply, new) ≡ answered s woken who call → Stays callers knot a new
-    answers (Call.Wait wait) w here is = begun_stays callers knot a w who (wait_of w.now wait) (timeout_of wait) reply new other here is
+    answers (Call.Wait wait) w here is = begun_stays callers knot a w who (asked_wait w.now wait) (timeout_of wait) reply new other here is
     answers (Call.Act act) w here is = subst (Stays callers knot a) (sym (ap (λ p. p.1) is)) here
     answers Call.Exit w here is = subst (Stays callers knot a) (sym (ap (λ p. p.1) is)) here
 

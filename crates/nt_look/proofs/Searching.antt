@@ -13,7 +13,7 @@ use Rattle.nt_core.specs.Dispatcher.{Dispatcher, state}
 use Rattle.nt_core.specs.Lawful.{IsLawful}
 use Rattle.nt_look.specs.Hangs.{IsKnot}
 use Rattle.nt_look.specs.Hanging.{AreBy}
-use Rattle.nt_look.specs.Orders.{Ask, Calls, Passes, Plan, Point, place, asks, has_more, goes_on, IsMade, Goes, Order, Hangs, IsLost, IsClosed, steps}
+use Rattle.nt_look.specs.Orders.{Ask, Calls, Passes, Plan, Point, place, asks, has_more, goes_on, IsAskMade, Goes, Order, Hangs, IsLost, IsClosed, steps}
 use Rattle.nt_look.proofs.Standstill.{stuck_turns}
 use Rattle.nt_look.proofs.Knots.{knots_stay}
 
@@ -64,7 +64,7 @@ order_turns plan (lane ∷ lanes) a p q later order = go goes.ask goes.next goes
     between : (t : ℕ) → place a t ≤ place mid t
     between t = let first = later t in let second = goes_later plan p lane mid goes t in omega (arith, first, second)
 
-    go : (ask : Ask) → slice_get (asks plan lane) (place p lane) ≡ Some ask → IsMade p.state lane ask mid.state → AsTurns plan a mid q → AsTurns plan a p q
+    go : (ask : Ask) → slice_get (asks plan lane) (place p lane) ≡ Some ask → IsAskMade p.state lane ask mid.state → AsTurns plan a mid q → AsTurns plan a p q
     go (Calls call) next made rest =
         let inside = slice_get_within (asks plan lane) (place p lane) (Calls call) next in
         let more : has_more plan p lane ≡ true = grind (arith, nat_tests, inside) in

@@ -15,7 +15,7 @@ use Rattle.nt_apc.specs.Queues.{has_apc}
 use Rattle.nt_calls.specs.declared.call.Grant.{Grant}
 use Rattle.nt_calls.specs.declared.call.Reply.{Reply}
 use Rattle.nt_calls.specs.State.{State, object_at, with_handing, pending_too, wait_over, waits_over}
-use Rattle.nt_calls.specs.Serving.{fits, is_ready, is_sleep, status, satisfied, is_due, taken_by, granted, Grants, IsAlerted, Alert, IsLate, TimeOut, ending, late_status, sleeps}
+use Rattle.nt_calls.specs.Serving.{fits, is_ready, is_sleep, status, satisfied, is_due, taken_by, wait_granted, Grants, IsAlerted, Alert, IsLate, TimeOut, ending, late_status, sleeps}
 use Rattle.nt_calls.specs.Steps.{begun}
 use Rattle.nt_calls.specs.Moves.{one_if, granted_to}
 use Rattle.nt_core.proofs.Lengths.{length_taken}
@@ -135,14 +135,14 @@ grants_stay callers knot threads a s [] new begins stays is = (subst (Stays call
 grants_stay callers knot threads a s (g ∷ gs) new begins stays is =
     let other : (t : ℕ) → knot t ≡ true → callers t ≡ true → t ≢ g.thread = λ t inside may. apart s t g is.1 (undue callers knot a s begins stays t inside may) is.2.pends is.2.fits in
     let taken = stays_taken callers knot a s g.thread is.1 stays in
-    let over : Stays callers knot a (granted s g.thread is.1) = record {
+    let over : Stays callers knot a (wait_granted s g.thread is.1) = record {
       threads = taken.threads;
       longer = taken.longer;
       waits = λ t w inside may has. get_other s.waits g.thread t (other t inside may) ∙ stays.waits t w inside may has;
       unnamed = taken.unnamed;
       held = taken.held;
     } in
-    let rest = grants_stay callers knot threads a (granted s g.thread is.1) gs new begins over is.3 in
+    let rest = grants_stay callers knot threads a (wait_granted s g.thread is.1) gs new begins over is.3 in
     (rest.0, λ t inside may. none_for g gs t (other t inside may) (rest.1 t inside may))
 
 pub over_stays : (callers knot : ℕ → Bool) (a s : State) (ts : List ℕ) (may' : Bool) → ((t : ℕ) → knot t ≡ true → callers t ≡ true → Contains ts t → ⊥) → Stays callers knot a s → Stays callers knot a (waits_over s ts may')

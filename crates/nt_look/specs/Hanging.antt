@@ -1,8 +1,6 @@
 -- What follows of every run from a state in which threads hang.
-use Rattle.std.specs.Prelude.{◌≡◌, ℕ, Bool, true, false, List, [], ◌∷◌, Result, Ok, Err}
+use Rattle.std.specs.Prelude.{◌≡◌, ℕ, Bool, true, false, List, [], ◌∷◌, is_ok}
 use Rattle.std.specs.FinMap.{get}
-use Rattle.nt_status.specs.declared.refusal.Refusal.{Refusal}
-use Rattle.nt_calls.specs.declared.call.Reply.{Reply}
 use Rattle.nt_calls.specs.State.{State}
 use Rattle.nt_calls.specs.Moves.{granted_to}
 use Rattle.nt_calls.specs.Runs.{Turn, Calls, Ticks, Turns}
@@ -16,14 +14,10 @@ AreBy callers [] = Unit {0}
 AreBy callers (Calls who call result grants ∷ turns) = (callers who ≡ true) × AreBy callers turns
 AreBy callers (Ticks by moment result grants ∷ turns) = AreBy callers turns
 
-abbrev pub is_accepted : Result Reply Refusal → Bool
-is_accepted (Ok reply) = true
-is_accepted (Err cause) = false
-
 -- nothing comes of the turns: each call is refused, and no wait ends
 abbrev pub AreVain : List Turn → Type 0
 AreVain [] = Unit {0}
-AreVain (Calls who call result grants ∷ turns) = (is_accepted result ≡ false) × (grants ≡ []) × AreVain turns
+AreVain (Calls who call result grants ∷ turns) = (is_ok result ≡ false) × (grants ≡ []) × AreVain turns
 AreVain (Ticks by moment result grants ∷ turns) = (grants ≡ []) × AreVain turns
 
 -- a stuck state stays so: whatever these threads call and however much time passes, each call is refused and no wait ends
@@ -38,7 +32,7 @@ StuckStays =
 -- thread t does not go on in these turns: each call of it is refused, and none of the grants is its
 abbrev pub IsIdleIn : List Turn → ℕ → Type 0
 IsIdleIn [] t = Unit {0}
-IsIdleIn (Calls who call result grants ∷ turns) t = (who ≡ t → is_accepted result ≡ false) × (granted_to t grants ≡ 0) × IsIdleIn turns t
+IsIdleIn (Calls who call result grants ∷ turns) t = (who ≡ t → is_ok result ≡ false) × (granted_to t grants ≡ 0) × IsIdleIn turns t
 IsIdleIn (Ticks by moment result grants ∷ turns) t = (granted_to t grants ≡ 0) × IsIdleIn turns t
 
 -- a knot holds: whatever the others do, none of its threads that may call goes on, and each waits as it did

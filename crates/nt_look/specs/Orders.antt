@@ -41,16 +41,16 @@ abbrev pub goes_on : Plan → Point → ℕ → Bool
 goes_on plan p t = has_more plan p t || pends p.state t
 
 -- what was asked was made; that memory is refused is no order of the plan
-abbrev pub IsMade : State → ℕ → Ask → State → Type 0
-IsMade old t (Calls call) new = (result : Result Reply Refusal) × (grants : List Grant) × (result ≢ Err Memory) × Called old t call result grants new
-IsMade old t (Passes moment) new = (result : Result Reply Refusal) × (grants : List Grant) × Ticked old moment result grants new
+abbrev pub IsAskMade : State → ℕ → Ask → State → Type 0
+IsAskMade old t (Calls call) new = (result : Result Reply Refusal) × (grants : List Grant) × (result ≢ Err Memory) × Called old t call result grants new
+IsAskMade old t (Passes moment) new = (result : Result Reply Refusal) × (grants : List Grant) × Ticked old moment result grants new
 
 -- the lane does what comes next in it; a thread that waits makes no call
 pub record Goes (plan : Plan) (old : Point) (lane : ℕ) (new : Point) : Type 0 where
   pub free : pends old.state lane ≡ false
   pub ask : Ask
   pub next : slice_get (asks plan lane) (place old lane) ≡ Some ask
-  pub made : IsMade old.state lane ask new.state
+  pub made : IsAskMade old.state lane ask new.state
   pub at : new.at ≡ slice_set old.at lane (place old lane + 1)
 
 -- these lanes go, one after another

@@ -7,7 +7,7 @@ use Rattle.std.proofs.lemmas.List.{length-set, get_or-set_same, get_or-set_other
 use Rattle.std.proofs.Common.{length-append}
 use Rattle.std.proofs.Math.Nat.{lt_of_not-le}
 use Rattle.nt_objects.specs.declared.handles.Opened.{Opened}
-use Rattle.nt_objects.specs.Handles.{names, count_named, IsCounted}
+use Rattle.nt_objects.specs.Handles.{names, count_named, AreHandlesCounted}
 
 -- 1 where it is so
 abbrev pub weight : Bool → ℕ
@@ -70,7 +70,7 @@ other_object o k differs = go (o == k) refl
     go true e = absurd (differs (sym (eqb-true o k e)))
     go false e = refl
 
-pub more_counted : (hs : List (Option Opened)) (counts : List ℕ) (opened : Opened) → IsCounted hs counts → opened.object ≤ length hs → IsCounted (hs ++ Some opened ∷ []) (slice_set (counts ++ 0 ∷ []) opened.object (slice_index_or (counts ++ 0 ∷ []) opened.object 0 + 1))
+pub more_counted : (hs : List (Option Opened)) (counts : List ℕ) (opened : Opened) → AreHandlesCounted hs counts → opened.object ≤ length hs → AreHandlesCounted (hs ++ Some opened ∷ []) (slice_set (counts ++ 0 ∷ []) opened.object (slice_index_or (counts ++ 0 ∷ []) opened.object 0 + 1))
 more_counted hs counts opened is known =
     let o = opened.object in
     let wider = counts ++ 0 ∷ [] in
@@ -94,7 +94,7 @@ more_counted hs counts opened is known =
       ];
     }
 
-pub again_counted : (hs : List (Option Opened)) (counts : List ℕ) (h : ℕ) (opened : Opened) → IsCounted hs counts → h < length hs → get_or hs h None ≡ None → opened.object < length hs → IsCounted (slice_set hs h (Some opened)) (slice_set counts opened.object (slice_index_or counts opened.object 0 + 1))
+pub again_counted : (hs : List (Option Opened)) (counts : List ℕ) (h : ℕ) (opened : Opened) → AreHandlesCounted hs counts → h < length hs → get_or hs h None ≡ None → opened.object < length hs → AreHandlesCounted (slice_set hs h (Some opened)) (slice_set counts opened.object (slice_index_or counts opened.object 0 + 1))
 again_counted hs counts h opened is there closed known =
     let o = opened.object in
     let same = is.same_length in
@@ -117,19 +117,19 @@ again_counted hs counts h opened is there closed known =
     }
 
 -- what an open handle names is counted
-pub count_of_open : (hs : List (Option Opened)) (counts : List ℕ) (h : ℕ) (opened : Opened) → IsCounted hs counts → get_or hs h None ≡ Some opened → 0 < slice_index_or counts opened.object 0
+pub count_of_open : (hs : List (Option Opened)) (counts : List ℕ) (h : ℕ) (opened : Opened) → AreHandlesCounted hs counts → get_or hs h None ≡ Some opened → 0 < slice_index_or counts opened.object 0
 count_of_open hs counts h opened is there =
     let all = counted_less hs h opened opened.object there in
     let one = own_object opened.object in
     let count = is.counted opened.object in
     omega (arith, all, one, count)
 
-pub known_of_open : (hs : List (Option Opened)) (counts : List ℕ) (h : ℕ) (opened : Opened) → IsCounted hs counts → get_or hs h None ≡ Some opened → opened.object < length counts
+pub known_of_open : (hs : List (Option Opened)) (counts : List ℕ) (h : ℕ) (opened : Opened) → AreHandlesCounted hs counts → get_or hs h None ≡ Some opened → opened.object < length counts
 known_of_open hs counts h opened is there =
     let some = count_of_open hs counts h opened is there in
     lt_of_not-le (λ past. let none = get_or_past counts opened.object 0 past in omega (arith, some, none))
 
-pub less_counted : (hs : List (Option Opened)) (counts : List ℕ) (h : ℕ) (opened : Opened) → IsCounted hs counts → get_or hs h None ≡ Some opened → IsCounted (slice_set hs h None) (slice_set counts opened.object (slice_index_or counts opened.object 0 - 1))
+pub less_counted : (hs : List (Option Opened)) (counts : List ℕ) (h : ℕ) (opened : Opened) → AreHandlesCounted hs counts → get_or hs h None ≡ Some opened → AreHandlesCounted (slice_set hs h None) (slice_set counts opened.object (slice_index_or counts opened.object 0 - 1))
 less_counted hs counts h opened is there =
     let o = opened.object in
     let known = known_of_open hs counts h opened is there in
@@ -164,17 +164,17 @@ count_at_most (h ∷ hs) o =
     weight_at_most true = omega arith
     weight_at_most false = omega arith
 
-pub few_counted : (hs : List (Option Opened)) (counts : List ℕ) (o : ℕ) → IsCounted hs counts → length hs < 2 ^ 32 - 1 → slice_index_or (counts ++ 0 ∷ []) o 0 + 1 < 2 ^ 32
+pub few_counted : (hs : List (Option Opened)) (counts : List ℕ) (o : ℕ) → AreHandlesCounted hs counts → length hs < 2 ^ 32 - 1 → slice_index_or (counts ++ 0 ∷ []) o 0 + 1 < 2 ^ 32
 few_counted hs counts o is few =
     let same : get_or (counts ++ 0 ∷ []) o 0 ≡ count_named hs o = zero_end counts o ∙ is.counted o in
     let most = count_at_most hs o in
     omega (arith, same, most, few)
 
-pub few_again : (hs : List (Option Opened)) (counts : List ℕ) (o : ℕ) → IsCounted hs counts → length hs < 2 ^ 32 - 1 → slice_index_or counts o 0 + 1 < 2 ^ 32
+pub few_again : (hs : List (Option Opened)) (counts : List ℕ) (o : ℕ) → AreHandlesCounted hs counts → length hs < 2 ^ 32 - 1 → slice_index_or counts o 0 + 1 < 2 ^ 32
 few_again hs counts o is few =
     let same : get_or counts o 0 ≡ count_named hs o = is.counted o in
     let most = count_at_most hs o in
     omega (arith, same, most, few)
 
-pub known_again : (hs : List (Option Opened)) (counts : List ℕ) (o : ℕ) → IsCounted hs counts → o < length hs → o < length counts
+pub known_again : (hs : List (Option Opened)) (counts : List ℕ) (o : ℕ) → AreHandlesCounted hs counts → o < length hs → o < length counts
 known_again hs counts o is known = let same = is.same_length in omega (arith, same, known)

@@ -54,6 +54,6 @@ own_handles zero access = []
 own_handles (suc n) access = own_handles n access ++ Some (record { object = n; access = access }) ∷ []
 
 -- the handles that name each object are counted
-pub record IsCounted (handles : List (Option Opened)) (counts : List ℕ) : Type 0 where
+pub record AreHandlesCounted (handles : List (Option Opened)) (counts : List ℕ) : Type 0 where
   pub same_length : length counts ≡ length handles
   pub counted : (object : ℕ) → slice_index_or counts object 0 ≡ count_named handles object

@@ -1,7 +1,7 @@
 //! What each handle names.
 ghost use Rattle.std.specs.Prelude.{◌≡◌, ◌↔◌, true, ◌<◌, ◌≤◌, ◌+◌, ◌-◌, ◌++◌, ◌∷◌, ◌^◌, [], None, Some, length, slice_set, slice_index_or, vec_len, vec_capacity, IsSome, IfOk, OnOk};
 ghost use Rattle.std.specs.Option.{ForSome};
-ghost use Rattle.nt_objects.specs.Handles.{opened_at, count_named, own_handles, IsCounted};
+ghost use Rattle.nt_objects.specs.Handles.{opened_at, count_named, own_handles, AreHandlesCounted};
 
 use nt_status::{Access, Handle, ObjectNumber};
 use std::alloc::{AllocError, Global};
@@ -100,13 +100,13 @@ fn count_less(counts: &mut [u32], object: ObjectNumber)
 
 /// Adds a handle, last, and counts it.
 fn open(handles: &mut Vec<Row>, counts: &mut Vec<u32>, opened: Opened)
-    requires counted { IsCounted handles.old.items counts.old.items }
+    requires counted { AreHandlesCounted handles.old.items counts.old.items }
     requires handle_room { vec_len handles.old < vec_capacity handles.old }
     requires count_room { vec_len counts.old < vec_capacity counts.old }
     requires known { opened.object ≤ length handles.old.items }
     requires few { length handles.old.items < 2 ^ 32 - 1 }
     ensures handles { handles.new.items ≡ handles.old.items ++ Some opened ∷ [] }
-    ensures counted { IsCounted handles.new.items counts.new.items }
+    ensures counted { AreHandlesCounted handles.new.items counts.new.items }
 {
     counts.push_reserved(0);
     count_more(counts, opened.object);
@@ -115,13 +115,13 @@ fn open(handles: &mut Vec<Row>, counts: &mut Vec<u32>, opened: Opened)
 
 /// Opens a handle that was closed, and counts it.
 fn open_again(handles: &mut [Row], counts: &mut Vec<u32>, handle: Handle, opened: Opened)
-    requires counted { IsCounted handles.old counts.old.items }
+    requires counted { AreHandlesCounted handles.old counts.old.items }
     requires there { handle < length handles.old }
     requires closed { opened_at handles.old handle ≡ None }
     requires known { opened.object < length handles.old }
     requires few { length handles.old < 2 ^ 32 - 1 }
     ensures handles { handles.new ≡ slice_set handles.old handle (Some opened) }
-    ensures counted { IsCounted handles.new counts.new.items }
+    ensures counted { AreHandlesCounted handles.new counts.new.items }
 {
     count_more(counts, opened.object);
     handles[handle.get() as usize] = Row::new(opened);
@@ -129,11 +129,11 @@ fn open_again(handles: &mut [Row], counts: &mut Vec<u32>, handle: Handle, opened
 
 /// Takes an open handle away, and counts it no more.
 fn close(handles: &mut [Row], counts: &mut [u32], handle: Handle) -> ObjectNumber
-    requires counted { IsCounted handles.old counts.old }
+    requires counted { AreHandlesCounted handles.old counts.old }
     requires open { IsSome (opened_at handles.old handle) }
     ensures object { ForSome (opened_at handles.old handle) (λ opened. result ≡ opened.object) }
     ensures handles { handles.new ≡ slice_set handles.old handle None }
-    ensures counted { IsCounted handles.new counts.new }
+    ensures counted { AreHandlesCounted handles.new counts.new }
 {
     let Some(opened) = opened_in(handles, handle) else {
         unreachable!()
@@ -176,7 +176,7 @@ pub struct HandleTable {
 
 impl Model for HandleTable {
     ghost use Rattle.std.specs.Prelude.{min, vec_capacity};
-    ghost use Rattle.nt_objects.specs.Handles.{Handles, IsCounted};
+    ghost use Rattle.nt_objects.specs.Handles.{Handles, AreHandlesCounted};
 
     ghost Value = { Handles };
 
@@ -185,7 +185,7 @@ impl Model for HandleTable {
       room = min (vec_capacity t.handles) (vec_capacity t.counts);
     } };
 
-    ghost invariant = { λ t. IsCounted t.handles.items t.counts.items };
+    ghost invariant = { λ t. AreHandlesCounted t.handles.items t.counts.items };
 }
 
 impl HandleTable {

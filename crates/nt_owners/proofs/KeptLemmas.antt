@@ -10,7 +10,7 @@ use Rattle.nt_status.proofs.Lists.{contains_none, contains_first, contains_later
 use Rattle.nt_status.specs.declared.refusal.Refusal.{Refusal}
 use Rattle.nt_objects.specs.declared.object.Object.{Object}
 use Rattle.nt_objects.specs.declared.object.Object.TheVariants.{Event, Semaphore, Mutex, Timer, Thread, Gone}
-use Rattle.nt_objects.specs.Object.{owner_of, owned_by, is_mutex, taken, with_set, released}
+use Rattle.nt_objects.specs.Object.{mutex_owner, owned_by, is_mutex, taken, with_set, released}
 use Rattle.nt_owners.specs.Owned.{list_of, after_first, added, IsUnowned}
 use Rattle.nt_owners.specs.Objects.{object_at, OwnersAgree, IsPassed}
 use Rattle.nt_owners.proofs.ListLemmas.{elsewhere, at_t}
@@ -73,23 +73,23 @@ passed_on old mid new m to left joined = record {
 -- ---- objects
 
 -- what has no owner stands in no list
-pub free_unowned : (objects : List Object) (lists : List (List ℕ)) (m : ℕ) → OwnersAgree objects lists → owner_of (object_at objects m) ≡ None → IsUnowned lists m
+pub free_unowned : (objects : List Object) (lists : List (List ℕ)) (m : ℕ) → OwnersAgree objects lists → mutex_owner (object_at objects m) ≡ None → IsUnowned lists m
 free_unowned objects lists m agree free t has = none-some t (sym free ∙ (agree_owner objects lists m agree t).0 has)
 
 -- past the last object nothing is owned
 pub next_unowned : (objects : List Object) (lists : List (List ℕ)) → OwnersAgree objects lists → IsUnowned lists (length objects)
 next_unowned objects lists agree =
-    free_unowned objects lists (length objects) agree (ap owner_of (get_or_past objects (length objects) (Thread false) (omega arith)))
+    free_unowned objects lists (length objects) agree (ap mutex_owner (get_or_past objects (length objects) (Thread false) (omega arith)))
 
 -- an object that was read changes, but not its owner; each list stays, and there is still room
-pub owner_kept : (objects : List Object) (lists : List (List ℕ)) (m place room : ℕ) (read new : Object) → place ≡ m → m < length objects → read ≡ get_or objects place read → owner_of new ≡ owner_of read → OwnersAgree objects lists × (length objects ≤ room) → OwnersAgree (set objects place new) lists × (length (set objects place new) ≤ room)
+pub owner_kept : (objects : List Object) (lists : List (List ℕ)) (m place room : ℕ) (read new : Object) → place ≡ m → m < length objects → read ≡ get_or objects place read → mutex_owner new ≡ mutex_owner read → OwnersAgree objects lists × (length objects ≤ room) → OwnersAgree (set objects place new) lists × (length (set objects place new) ≤ room)
 owner_kept objects lists m place room read new placed known is same whole =
     let here : read ≡ get_or objects m read = rw placed at is in
-    let was : owner_of (object_at objects m) ≡ owner_of new = sym (same ∙ ap owner_of (get_or_read objects m read known here (Thread false))) in
-    let passed : IsPassed lists lists m (owner_of new) = same_passed lists m (owner_of new) (λ t. subst (λ (o : Option ℕ). Contains (list_of lists t) m ↔ (o ≡ Some t)) was (agree_owner objects lists m whole.0 t)) whole.0.once in
+    let was : mutex_owner (object_at objects m) ≡ mutex_owner new = sym (same ∙ ap mutex_owner (get_or_read objects m read known here (Thread false))) in
+    let passed : IsPassed lists lists m (mutex_owner new) = same_passed lists m (mutex_owner new) (λ t. subst (λ (o : Option ℕ). Contains (list_of lists t) m ↔ (o ≡ Some t)) was (agree_owner objects lists m whole.0 t)) whole.0.once in
     (rw placed (agree_put objects lists lists m new known whole.0 passed), rw (length-set objects place new) whole.1)
 
-pub owner-with_set : (b : Bool) (o : Object) → owner_of (with_set b o) ≡ owner_of o
+pub owner-with_set : (b : Bool) (o : Object) → mutex_owner (with_set b o) ≡ mutex_owner o
 owner-with_set b (Event manual set) = refl
 owner-with_set b (Semaphore count maximum) = refl
 owner-with_set b (Mutex owner depth abandoned) = refl
@@ -97,7 +97,7 @@ owner-with_set b (Timer manual set armed) = refl
 owner-with_set b (Thread ended) = refl
 owner-with_set b Gone = refl
 
-owner-released : (n : ℤ) (o : Object) → owner_of (released n o) ≡ owner_of o
+owner-released : (n : ℤ) (o : Object) → mutex_owner (released n o) ≡ mutex_owner o
 owner-released n (Event manual set) = refl
 owner-released n (Semaphore count maximum) = refl
 owner-released n (Mutex owner depth abandoned) = refl
@@ -106,12 +106,12 @@ owner-released n (Thread ended) = refl
 owner-released n Gone = refl
 
 -- a release, or its refusal, of a semaphore
-pub owner-release : (result : Result ℤ Refusal) (n : ℤ) (old new : Object) → OnOk result (new ≡ released n old) → OnErr result (new ≡ old) → owner_of new ≡ owner_of old
-owner-release (Ok before) n old new ok err = ap owner_of ok ∙ owner-released n old
-owner-release (Err refusal) n old new ok err = ap owner_of err
+pub owner-release : (result : Result ℤ Refusal) (n : ℤ) (old new : Object) → OnOk result (new ≡ released n old) → OnErr result (new ≡ old) → mutex_owner new ≡ mutex_owner old
+owner-release (Ok before) n old new ok err = ap mutex_owner ok ∙ owner-released n old
+owner-release (Err refusal) n old new ok err = ap mutex_owner err
 
 -- a free mutex that is taken is the thread's
-pub owner-taken_free : (o : Object) (t : ℕ) → is_mutex o ≡ true → owner_of o ≡ None → owner_of (taken o t) ≡ Some t
+pub owner-taken_free : (o : Object) (t : ℕ) → is_mutex o ≡ true → mutex_owner o ≡ None → mutex_owner (taken o t) ≡ Some t
 owner-taken_free (Event manual set) t is free = absurd (false≢true is)
 owner-taken_free (Semaphore count maximum) t is free = absurd (false≢true is)
 owner-taken_free (Mutex None depth abandoned) t is free = refl
@@ -121,7 +121,7 @@ owner-taken_free (Thread ended) t is free = absurd (false≢true is)
 owner-taken_free Gone t is free = absurd (false≢true is)
 
 -- all others stay with their owner
-pub owner-taken : (o : Object) (t : ℕ) → (is_mutex o ≡ true → owner_of o ≡ None → ⊥) → owner_of (taken o t) ≡ owner_of o
+pub owner-taken : (o : Object) (t : ℕ) → (is_mutex o ≡ true → mutex_owner o ≡ None → ⊥) → mutex_owner (taken o t) ≡ mutex_owner o
 owner-taken (Event manual set) t other = refl
 owner-taken (Semaphore count maximum) t other = refl
 owner-taken (Mutex None depth abandoned) t other = absurd (other refl refl)

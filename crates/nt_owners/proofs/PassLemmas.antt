@@ -7,7 +7,7 @@ use Rattle.std.proofs.lemmas.List.{get_or-set_same, get_or-set_other, get_or_pas
 use Rattle.std.specs.List.{IsDistinct}
 use Rattle.nt_objects.specs.declared.object.Object.{Object}
 use Rattle.nt_objects.specs.declared.object.Object.TheVariants.{Event, Semaphore, Mutex, Timer, Thread, Gone}
-use Rattle.nt_objects.specs.Object.{owner_of, owned_by, abandoned_by}
+use Rattle.nt_objects.specs.Object.{mutex_owner, owned_by, abandoned_by}
 use Rattle.nt_status.proofs.Lists.{contains_front}
 use Rattle.nt_owners.specs.Owned.{list_of, after_first, removed}
 use Rattle.nt_owners.specs.Objects.{object_at, OwnersAgree, IsPassed}
@@ -27,7 +27,7 @@ removed_passed lists t m itself once =
 
 -- ---- objects
 
-pub owned_owner : (o : Object) (t : ℕ) → IsTrue (owned_by o t) ↔ (owner_of o ≡ Some t)
+pub owned_owner : (o : Object) (t : ℕ) → IsTrue (owned_by o t) ↔ (mutex_owner o ≡ Some t)
 owned_owner (Event manual set) t = ((λ is. absurd (false≢true is)), λ e. absurd (none-some t e))
 owned_owner (Semaphore count maximum) t = ((λ is. absurd (false≢true is)), λ e. absurd (none-some t e))
 owned_owner (Mutex None depth abandoned) t = ((λ is. absurd (false≢true is)), λ e. absurd (none-some t e))
@@ -40,11 +40,11 @@ owned_owner (Thread ended) t = ((λ is. absurd (false≢true is)), λ e. absurd 
 owned_owner Gone t = ((λ is. absurd (false≢true is)), λ e. absurd (none-some t e))
 
 -- the mutex at a number stands in the list of its owner alone
-pub agree_owner : (objects : List Object) (lists : List (List ℕ)) (m : ℕ) → OwnersAgree objects lists → (t : ℕ) → Contains (list_of lists t) m ↔ (owner_of (object_at objects m) ≡ Some t)
+pub agree_owner : (objects : List Object) (lists : List (List ℕ)) (m : ℕ) → OwnersAgree objects lists → (t : ℕ) → Contains (list_of lists t) m ↔ (mutex_owner (object_at objects m) ≡ Some t)
 agree_owner objects lists m agree t =
     ((λ has. (owned_owner (object_at objects m) t).0 ((agree.named t m).0 has)), λ e. (agree.named t m).1 ((owned_owner (object_at objects m) t).1 e))
 
-pub agree_passed : (old new : List Object) (lists lists' : List (List ℕ)) (m : ℕ) (to : Option ℕ) → OwnersAgree old lists → IsPassed lists lists' m to → owner_of (object_at new m) ≡ to → ((k : ℕ) → k ≢ m → object_at new k ≡ object_at old k) → OwnersAgree new lists'
+pub agree_passed : (old new : List Object) (lists lists' : List (List ℕ)) (m : ℕ) (to : Option ℕ) → OwnersAgree old lists → IsPassed lists lists' m to → mutex_owner (object_at new m) ≡ to → ((k : ℕ) → k ≢ m → object_at new k ≡ object_at old k) → OwnersAgree new lists'
 agree_passed old new lists lists' m to agree passed here others = record {
   named = λ t k. elim (cases_eq k m) [
     | inl same ↦ subst (λ (n : ℕ). Contains (list_of lists' t) n ↔ IsTrue (owned_by (object_at new n) t)) (sym same)
@@ -57,12 +57,12 @@ agree_passed old new lists lists' m to agree passed here others = record {
   once = passed.once;
 }
 
-pub agree_put : (objects : List Object) (lists lists' : List (List ℕ)) (m : ℕ) (o : Object) → m < length objects → OwnersAgree objects lists → IsPassed lists lists' m (owner_of o) → OwnersAgree (set objects m o) lists'
+pub agree_put : (objects : List Object) (lists lists' : List (List ℕ)) (m : ℕ) (o : Object) → m < length objects → OwnersAgree objects lists → IsPassed lists lists' m (mutex_owner o) → OwnersAgree (set objects m o) lists'
 agree_put objects lists lists' m o known agree passed =
-    agree_passed objects (set objects m o) lists lists' m (owner_of o) agree passed (ap owner_of (get_or-set_same objects m o (Thread false) known)) (λ k differs. get_or-set_other objects m k o (Thread false) differs)
+    agree_passed objects (set objects m o) lists lists' m (mutex_owner o) agree passed (ap mutex_owner (get_or-set_same objects m o (Thread false) known)) (λ k differs. get_or-set_other objects m k o (Thread false) differs)
 
 -- whoever is to own the object has a list
-pub owner_known : (o : Object) (n : ℕ) → ((t : ℕ) → owned_by o t ≡ true → t < n) → (t : ℕ) → owner_of o ≡ Some t → t < n
+pub owner_known : (o : Object) (n : ℕ) → ((t : ℕ) → owned_by o t ≡ true → t < n) → (t : ℕ) → mutex_owner o ≡ Some t → t < n
 owner_known (Mutex (Some owner) depth abandoned) n below t e = below t (same_test owner t (same_Some owner t e))
 owner_known (Event manual set) n below t e = absurd (none-some t e)
 owner_known (Semaphore count maximum) n below t e = absurd (none-some t e)
@@ -81,29 +81,29 @@ object_before [] o (suc k) differs = refl
 object_before (x ∷ objects) o zero differs = refl
 object_before (x ∷ objects) o (suc k) differs = object_before objects o k (λ e. differs (ap suc e))
 
-pub agree_added : (objects : List Object) (lists lists' : List (List ℕ)) (o : Object) → OwnersAgree objects lists → IsPassed lists lists' (length objects) (owner_of o) → OwnersAgree (objects ++ o ∷ []) lists'
+pub agree_added : (objects : List Object) (lists lists' : List (List ℕ)) (o : Object) → OwnersAgree objects lists → IsPassed lists lists' (length objects) (mutex_owner o) → OwnersAgree (objects ++ o ∷ []) lists'
 agree_added objects lists lists' o agree passed =
-    agree_passed objects (objects ++ o ∷ []) lists lists' (length objects) (owner_of o) agree passed (ap owner_of (object_added objects o)) (λ k differs. object_before objects o k differs)
+    agree_passed objects (objects ++ o ∷ []) lists lists' (length objects) (mutex_owner o) agree passed (ap mutex_owner (object_added objects o)) (λ k differs. object_before objects o k differs)
 
 -- ---- the mutex that came last leaves its owner's list
 
-pub first_owner : (objects : List Object) (lists : List (List ℕ)) (t m : ℕ) → OwnersAgree objects lists → slice_get (list_of lists t) 0 ≡ Some m → owner_of (object_at objects m) ≡ Some t
+pub first_owner : (objects : List Object) (lists : List (List ℕ)) (t m : ℕ) → OwnersAgree objects lists → slice_get (list_of lists t) 0 ≡ Some m → mutex_owner (object_at objects m) ≡ Some t
 first_owner objects lists t m agree is = (agree_owner objects lists m agree t).0 (contains_front (list_of lists t) m is)
 
-pub owned_below : (objects : List Object) (t m : ℕ) → owner_of (object_at objects m) ≡ Some t → m < length objects
+pub owned_below : (objects : List Object) (t m : ℕ) → mutex_owner (object_at objects m) ≡ Some t → m < length objects
 owned_below objects t m owned = elim (cases_lt m (length objects)) [
   | inl below ↦ below
-  | inr past ↦ absurd (none-some t (ap owner_of (sym (get_or_past objects m (Thread false) past)) ∙ owned))
+  | inr past ↦ absurd (none-some t (ap mutex_owner (sym (get_or_past objects m (Thread false) past)) ∙ owned))
 ]
 
 pub popped_passed : (objects : List Object) (lists : List (List ℕ)) (t m : ℕ) → OwnersAgree objects lists → slice_get (list_of lists t) 0 ≡ Some m → IsPassed lists (set lists t (after_first (list_of lists t))) m None
 popped_passed objects lists t m agree is =
-    let owner : owner_of (object_at objects m) ≡ Some t = first_owner objects lists t m agree is in
+    let owner : mutex_owner (object_at objects m) ≡ Some t = first_owner objects lists t m agree is in
     subst (λ (list : List ℕ). IsPassed lists (set lists t list) m None) (without_head (list_of lists t) m is)
     (removed_passed lists t m (λ u. ((λ has. sym owner ∙ (agree_owner objects lists m agree u).0 has), λ e. (agree_owner objects lists m agree u).1 (owner ∙ e))) agree.once)
 
 -- an abandoned mutex has no owner
-pub abandoned_free : (o : Object) (t : ℕ) → owner_of o ≡ Some t → owner_of (abandoned_by t o) ≡ None
+pub abandoned_free : (o : Object) (t : ℕ) → mutex_owner o ≡ Some t → mutex_owner (abandoned_by t o) ≡ None
 abandoned_free (Mutex (Some owner) depth abandoned) t e = rw (same_test owner t (same_Some owner t e)) refl
 abandoned_free (Event manual set) t e = absurd (none-some t e)
 abandoned_free (Semaphore count maximum) t e = absurd (none-some t e)
@@ -113,19 +113,19 @@ abandoned_free (Thread ended) t e = absurd (none-some t e)
 abandoned_free Gone t e = absurd (none-some t e)
 
 -- what abandoning told, of the object that was read
-pub abandoned_is : (o read new : Object) (t : ℕ) → read ≡ o → owner_of o ≡ Some t → IfSome (owner_of read) (λ owner. new ≡ abandoned_by owner read) → new ≡ abandoned_by t o
+pub abandoned_is : (o read new : Object) (t : ℕ) → read ≡ o → mutex_owner o ≡ Some t → IfSome (mutex_owner read) (λ owner. new ≡ abandoned_by owner read) → new ≡ abandoned_by t o
 abandoned_is o read new t same owner is =
-    subst (λ (x : Option ℕ). IfSome x (λ u. new ≡ abandoned_by u o)) owner (subst (λ (r : Object). IfSome (owner_of r) (λ u. new ≡ abandoned_by u r)) same is)
+    subst (λ (x : Option ℕ). IfSome x (λ u. new ≡ abandoned_by u o)) owner (subst (λ (r : Object). IfSome (mutex_owner r) (λ u. new ≡ abandoned_by u r)) same is)
 
 pub agree_abandoned : (objects : List Object) (lists : List (List ℕ)) (t m : ℕ) → OwnersAgree objects lists → slice_get (list_of lists t) 0 ≡ Some m → OwnersAgree (set objects m (abandoned_by t (object_at objects m))) (set lists t (after_first (list_of lists t)))
 agree_abandoned objects lists t m agree is =
-    let owner : owner_of (object_at objects m) ≡ Some t = first_owner objects lists t m agree is in
+    let owner : mutex_owner (object_at objects m) ≡ Some t = first_owner objects lists t m agree is in
     let after = set lists t (after_first (list_of lists t)) in
     agree_put objects lists after m (abandoned_by t (object_at objects m)) (owned_below objects t m owner) agree
     (subst (λ (to : Option ℕ). IsPassed lists after m to) (sym (abandoned_free (object_at objects m) t owner)) (popped_passed objects lists t m agree is))
 
 -- whoever is to own the object in the place of another has a list
-pub heir_known : (objects : List Object) (lists : List (List ℕ)) (m : ℕ) (o : Object) → OwnersAgree objects lists → ((t : ℕ) → owned_by o t ≡ true → (owned_by (object_at objects m) t ≡ true) ⊎ (t < length lists)) → (t : ℕ) → owner_of o ≡ Some t → t < length lists
+pub heir_known : (objects : List Object) (lists : List (List ℕ)) (m : ℕ) (o : Object) → OwnersAgree objects lists → ((t : ℕ) → owned_by o t ≡ true → (owned_by (object_at objects m) t ≡ true) ⊎ (t < length lists)) → (t : ℕ) → mutex_owner o ≡ Some t → t < length lists
 heir_known objects lists m o agree heir t e = elim (heir t ((owned_owner o t).1 e)) [
   | inl had ↦ listed_known lists t m ((agree.named t m).1 had)
   | inr known ↦ known
@@ -133,7 +133,7 @@ heir_known objects lists m o agree heir t e = elim (heir t ((owned_owner o t).1 
 
 -- ---- a mutex is free after its owner's last release
 
-pub agree_freed : (objects : List Object) (lists : List (List ℕ)) (t m : ℕ) (freed : Object) → OwnersAgree objects lists → owner_of (object_at objects m) ≡ Some t → owner_of freed ≡ None → OwnersAgree (set objects m freed) (removed lists t m)
+pub agree_freed : (objects : List Object) (lists : List (List ℕ)) (t m : ℕ) (freed : Object) → OwnersAgree objects lists → mutex_owner (object_at objects m) ≡ Some t → mutex_owner freed ≡ None → OwnersAgree (set objects m freed) (removed lists t m)
 agree_freed objects lists t m freed agree owner free =
     let itself : (u : ℕ) → Contains (list_of lists u) m ↔ (Some t ≡ Some u) = λ u. ((λ has. sym owner ∙ (agree_owner objects lists m agree u).0 has), λ e. (agree_owner objects lists m agree u).1 (owner ∙ e)) in
     agree_put objects lists (removed lists t m) m freed (owned_below objects t m owner) agree

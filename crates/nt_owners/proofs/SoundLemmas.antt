@@ -7,8 +7,8 @@ use Rattle.std.specs.Prelude.{slice_get}
 use Rattle.std.specs.List.{IsDistinct}
 use Rattle.nt_status.proofs.Lists.{contains_none, contains_first, contains_cases, contains_same, distinct_none, distinct_cons, few_below}
 use Rattle.nt_owners.specs.declared.links.Link.{Link}
-use Rattle.nt_owners.specs.Owned.{Owned, IsUnowned, list_of, without, after_first}
-use Rattle.nt_owners.specs.Links.{alone, link_at, first_at, next_at, previous_at, with_first, with_next, with_previous, walk, list_in, lists_in, IsChain, IsListed, IsSound}
+use Rattle.nt_owners.specs.Owned.{Owned, IsUnowned, list_of, without_mutex, after_first}
+use Rattle.nt_owners.specs.Links.{alone, link_at, first_at, next_mutex, previous_mutex, with_first, with_next, with_previous, walk, list_in, lists_in, IsMutexChain, IsListed, AreOwnersSound}
 use Rattle.nt_owners.proofs.ListLemmas.{same_test, without_member, without_once}
 use Rattle.nt_owners.proofs.ChainLemmas.{walk-chain, next_in, previous_in, chain_kept, chain_entered, chain_left}
 
@@ -27,9 +27,9 @@ list-view firsts links t = at firsts t
     at (f ∷ fs) (suc u) = at fs u
 
 pub walked : (firsts : List (Option ℕ)) (links : List Link) (owned : ℕ → List ℕ) → IsListed firsts links owned → (t : ℕ) → list_in firsts links t ≡ owned t
-walked firsts links owned listed t = walk-chain links (next_at firsts links t) (previous_at links) (λ m. refl) (length links) None (owned t) (listed.chain t) (few_below (length links) (owned t) (listed.once t) (listed.below t))
+walked firsts links owned listed t = walk-chain links (next_mutex firsts links t) (previous_mutex links) (λ m. refl) (length links) None (owned t) (listed.chain t) (few_below (length links) (owned t) (listed.once t) (listed.below t))
 
-pub sound_of : (firsts : List (Option ℕ)) (links : List Link) (owned : ℕ → List ℕ) → IsListed firsts links owned → IsSound firsts links
+pub sound_of : (firsts : List (Option ℕ)) (links : List Link) (owned : ℕ → List ℕ) → IsListed firsts links owned → AreOwnersSound firsts links
 sound_of firsts links owned listed =
     let same : owned ≡ list_in firsts links = λ i. λ t. sym (walked firsts links owned listed t) i in
     subst (λ (lists : ℕ → List ℕ). IsListed firsts links lists) same listed
@@ -68,11 +68,11 @@ length-with_first : (firsts : List (Option ℕ)) (t : ℕ) (at to : Option ℕ) 
 length-with_first firsts t None to = length-set firsts t to
 length-with_first firsts t (Some m) to = refl
 
-next-with_next_same : (firsts : List (Option ℕ)) (links : List Link) (t : ℕ) (at to : Option ℕ) → t < length firsts → ((k : ℕ) → at ≡ Some k → k < length links) → next_at (with_first firsts t at to) (with_next links at to) t at ≡ to
+next-with_next_same : (firsts : List (Option ℕ)) (links : List Link) (t : ℕ) (at to : Option ℕ) → t < length firsts → ((k : ℕ) → at ≡ Some k → k < length links) → next_mutex (with_first firsts t at to) (with_next links at to) t at ≡ to
 next-with_next_same firsts links t None to below there = get_or-set_same firsts t to None below
 next-with_next_same firsts links t (Some m) to below there = ap (λ (l : Link). l.next) (get_or-set_same links m (record (link_at links m) { next = to }) alone (there m refl))
 
-next-with_next_other : (firsts : List (Option ℕ)) (links : List Link) (t : ℕ) (at to : Option ℕ) (u : ℕ) (x : Option ℕ) → x ≢ at → next_at (with_first firsts t at to) (with_next links at to) u x ≡ next_at firsts links u x
+next-with_next_other : (firsts : List (Option ℕ)) (links : List Link) (t : ℕ) (at to : Option ℕ) (u : ℕ) (x : Option ℕ) → x ≢ at → next_mutex (with_first firsts t at to) (with_next links at to) u x ≡ next_mutex firsts links u x
 next-with_next_other firsts links t None to u None differs = absurd (differs refl)
 next-with_next_other firsts links t None to u (Some k) differs = refl
 next-with_next_other firsts links t (Some m) to u None differs = refl
@@ -82,36 +82,36 @@ first-elsewhere : (firsts : List (Option ℕ)) (t : ℕ) (at to : Option ℕ) (u
 first-elsewhere firsts t None to u differs = get_or-set_other firsts t u to None differs
 first-elsewhere firsts t (Some m) to u differs = refl
 
-previous-with_next : (links : List Link) (at to : Option ℕ) (k : ℕ) → previous_at (with_next links at to) k ≡ previous_at links k
+previous-with_next : (links : List Link) (at to : Option ℕ) (k : ℕ) → previous_mutex (with_next links at to) k ≡ previous_mutex links k
 previous-with_next links None to k = refl
 previous-with_next links (Some m) to k = reading-set (λ (l : Link). l.previous) links m (record (link_at links m) { next = to }) refl k
 
-next-with_previous : (firsts : List (Option ℕ)) (links : List Link) (at to : Option ℕ) (u : ℕ) (x : Option ℕ) → next_at firsts (with_previous links at to) u x ≡ next_at firsts links u x
+next-with_previous : (firsts : List (Option ℕ)) (links : List Link) (at to : Option ℕ) (u : ℕ) (x : Option ℕ) → next_mutex firsts (with_previous links at to) u x ≡ next_mutex firsts links u x
 next-with_previous firsts links at to u None = refl
 next-with_previous firsts links None to u (Some k) = refl
 next-with_previous firsts links (Some m) to u (Some k) = reading-set (λ (l : Link). l.next) links m (record (link_at links m) { previous = to }) refl k
 
-previous-with_previous_same : (links : List Link) (at to : Option ℕ) (k : ℕ) → at ≡ Some k → k < length links → previous_at (with_previous links at to) k ≡ to
+previous-with_previous_same : (links : List Link) (at to : Option ℕ) (k : ℕ) → at ≡ Some k → k < length links → previous_mutex (with_previous links at to) k ≡ to
 previous-with_previous_same links None to k is below = absurd (none-some k is)
 previous-with_previous_same links (Some m) to k is below =
     let same : m ≡ k = same_Some m k is in
-    subst (λ (j : ℕ). previous_at (with_previous links (Some j) to) k ≡ to) (sym same) (ap (λ (l : Link). l.previous) (get_or-set_same links k (record (link_at links k) { previous = to }) alone below))
+    subst (λ (j : ℕ). previous_mutex (with_previous links (Some j) to) k ≡ to) (sym same) (ap (λ (l : Link). l.previous) (get_or-set_same links k (record (link_at links k) { previous = to }) alone below))
 
-previous-with_previous_other : (links : List Link) (at to : Option ℕ) (k : ℕ) → at ≢ Some k → previous_at (with_previous links at to) k ≡ previous_at links k
+previous-with_previous_other : (links : List Link) (at to : Option ℕ) (k : ℕ) → at ≢ Some k → previous_mutex (with_previous links at to) k ≡ previous_mutex links k
 previous-with_previous_other links None to k differs = refl
 previous-with_previous_other links (Some m) to k differs = ap (λ (l : Link). l.previous) (get_or-set_other links m k (record (link_at links m) { previous = to }) alone (λ e. differs (ap Some (sym e))))
 
 -- ---- a mutex comes first
 
-first_in : (next : Option ℕ → Option ℕ) (previous : ℕ → Option ℕ) (at : Option ℕ) (list : List ℕ) (k : ℕ) → IsChain next previous at list → next at ≡ Some k → Contains list k
+first_in : (next : Option ℕ → Option ℕ) (previous : ℕ → Option ℕ) (at : Option ℕ) (list : List ℕ) (k : ℕ) → IsMutexChain next previous at list → next at ≡ Some k → Contains list k
 first_in next previous at [] k chain e = absurd (none-some k (sym chain ∙ e))
 first_in next previous at (x ∷ list) k chain e = contains_first x list k (same_Some x k (sym chain.0 ∙ e))
 
 -- the first mutex of a thread, and that its list holds it
-pub first_below : (firsts : List (Option ℕ)) (links : List Link) → IsSound firsts links → (t k : ℕ) → first_at firsts t ≡ Some k → k < length links
-first_below firsts links sound t k e = sound.below t k (first_in (next_at firsts links t) (previous_at links) None (list_in firsts links t) k (sound.chain t) e)
+pub first_below : (firsts : List (Option ℕ)) (links : List Link) → AreOwnersSound firsts links → (t k : ℕ) → first_at firsts t ≡ Some k → k < length links
+first_below firsts links sound t k e = sound.below t k (first_in (next_mutex firsts links t) (previous_mutex links) None (list_in firsts links t) k (sound.chain t) e)
 
-module _ (firsts : List (Option ℕ)) (links : List Link) (t m : ℕ) (sound : IsSound firsts links) (thread : t < length firsts) (room : m < length links) (unowned : (u : ℕ) → Contains (list_in firsts links u) m → ⊥) where
+module _ (firsts : List (Option ℕ)) (links : List Link) (t m : ℕ) (sound : AreOwnersSound firsts links) (thread : t < length firsts) (room : m < length links) (unowned : (u : ℕ) → Contains (list_in firsts links u) m → ⊥) where
   abbrev placed : List Link
   placed = set links m (record { previous = None; next = first_at firsts t })
 
@@ -137,7 +137,7 @@ module _ (firsts : List (Option ℕ)) (links : List Link) (t m : ℕ) (sound : I
   elsewhere u differs = get_or-set_other (lists_in firsts links) t u (m ∷ list_in firsts links t) [] differs ∙ list-view firsts links u
 
   first_owned : (k : ℕ) → first_at firsts t ≡ Some k → Contains (list_in firsts links t) k
-  first_owned k e = first_in (next_at firsts links t) (previous_at links) None (list_in firsts links t) k (sound.chain t) e
+  first_owned k e = first_in (next_mutex firsts links t) (previous_mutex links) None (list_in firsts links t) k (sound.chain t) e
 
   first_other : first_at firsts t ≢ Some m
   first_other e = unowned t (first_owned m e)
@@ -145,14 +145,14 @@ module _ (firsts : List (Option ℕ)) (links : List Link) (t m : ℕ) (sound : I
   next_kept : (k : ℕ) → k ≢ m → (link_at entered_links k).next ≡ (link_at links k).next
   next_kept k differs = next-with_previous firsts placed (first_at firsts t) (Some m) t (Some k) ∙ ap (λ (l : Link). l.next) (get_or-set_other links m k (record { previous = None; next = first_at firsts t }) alone differs)
 
-  previous_kept : (k : ℕ) → k ≢ m → first_at firsts t ≢ Some k → previous_at entered_links k ≡ previous_at links k
+  previous_kept : (k : ℕ) → k ≢ m → first_at firsts t ≢ Some k → previous_mutex entered_links k ≡ previous_mutex links k
   previous_kept k differs apart = previous-with_previous_other placed (first_at firsts t) (Some m) k apart ∙ ap (λ (l : Link). l.previous) (get_or-set_other links m k (record { previous = None; next = first_at firsts t }) alone differs)
 
   owned_other : (u k : ℕ) → Contains (list_in firsts links u) k → k ≢ m
   owned_other u k has e = unowned u (contains_same (list_in firsts links u) k m e has)
 
-  chain_here : IsChain (next_at entered_firsts entered_links t) (previous_at entered_links) None (m ∷ list_in firsts links t)
-  chain_here = chain_entered (next_at firsts links t) (previous_at links) (next_at entered_firsts entered_links t) (previous_at entered_links) m (list_in firsts links t)
+  chain_here : IsMutexChain (next_mutex entered_firsts entered_links t) (previous_mutex entered_links) None (m ∷ list_in firsts links t)
+  chain_here = chain_entered (next_mutex firsts links t) (previous_mutex links) (next_mutex entered_firsts entered_links t) (previous_mutex entered_links) m (list_in firsts links t)
       (get_or-set_same firsts t (Some m) None thread)
       (previous-with_previous_other placed (first_at firsts t) (Some m) m first_other ∙ ap (λ (l : Link). l.previous) (get_or-set_same links m (record { previous = None; next = first_at firsts t }) alone room))
       (next-with_previous firsts placed (first_at firsts t) (Some m) t (Some m) ∙ ap (λ (l : Link). l.next) (get_or-set_same links m (record { previous = None; next = first_at firsts t }) alone room))
@@ -162,8 +162,8 @@ module _ (firsts : List (Option ℕ)) (links : List Link) (t m : ℕ) (sound : I
       (sound.once t)
       (sound.chain t)
 
-  chain_elsewhere : (u : ℕ) → u ≢ t → IsChain (next_at entered_firsts entered_links u) (previous_at entered_links) None (list_in firsts links u)
-  chain_elsewhere u differs = chain_kept (next_at firsts links u) (previous_at links) (next_at entered_firsts entered_links u) (previous_at entered_links) None (list_in firsts links u)
+  chain_elsewhere : (u : ℕ) → u ≢ t → IsMutexChain (next_mutex entered_firsts entered_links u) (previous_mutex entered_links) None (list_in firsts links u)
+  chain_elsewhere u differs = chain_kept (next_mutex firsts links u) (previous_mutex links) (next_mutex entered_firsts entered_links u) (previous_mutex entered_links) None (list_in firsts links u)
       (get_or-set_other firsts t u (Some m) None differs)
       (λ k has. (next_kept k (owned_other u k has), previous_kept k (owned_other u k has) (λ e. differs (sound.apart u t k has (first_owned k e)))))
       (sound.chain u)
@@ -186,8 +186,8 @@ module _ (firsts : List (Option ℕ)) (links : List Link) (t m : ℕ) (sound : I
   entered : IsListed entered_firsts entered_links (λ u. get_or entered_lists u [])
   entered = record {
     chain = λ u. elim (cases_eq u t) [
-      | inl same ↦ subst (λ (v : ℕ). IsChain (next_at entered_firsts entered_links v) (previous_at entered_links) None (get_or entered_lists v [])) (sym same) (subst (λ (list : List ℕ). IsChain (next_at entered_firsts entered_links t) (previous_at entered_links) None list) (sym here) chain_here)
-      | inr differs ↦ subst (λ (list : List ℕ). IsChain (next_at entered_firsts entered_links u) (previous_at entered_links) None list) (sym (elsewhere u differs)) (chain_elsewhere u differs)
+      | inl same ↦ subst (λ (v : ℕ). IsMutexChain (next_mutex entered_firsts entered_links v) (previous_mutex entered_links) None (get_or entered_lists v [])) (sym same) (subst (λ (list : List ℕ). IsMutexChain (next_mutex entered_firsts entered_links t) (previous_mutex entered_links) None list) (sym here) chain_here)
+      | inr differs ↦ subst (λ (list : List ℕ). IsMutexChain (next_mutex entered_firsts entered_links u) (previous_mutex entered_links) None list) (sym (elsewhere u differs)) (chain_elsewhere u differs)
     ];
     once = λ u. elim (cases_eq u t) [
       | inl same ↦ subst (IsDistinct nat_eq) (sym (ap (λ v. get_or entered_lists v []) same ∙ here)) (distinct_cons m (list_in firsts links t) (unowned t) (sound.once t))
@@ -200,7 +200,7 @@ module _ (firsts : List (Option ℕ)) (links : List Link) (t m : ℕ) (sound : I
     ];
   }
 
-  pub entered_sound : IsSound entered_firsts entered_links
+  pub entered_sound : AreOwnersSound entered_firsts entered_links
   entered_sound = sound_of entered_firsts entered_links (λ u. get_or entered_lists u []) entered
 
   pub entered_lists_are : lists_in entered_firsts entered_links ≡ set (lists_in firsts links) t (m ∷ list_in firsts links t)
@@ -208,9 +208,9 @@ module _ (firsts : List (Option ℕ)) (links : List Link) (t m : ℕ) (sound : I
 
 -- ---- a mutex leaves
 
-module _ (firsts : List (Option ℕ)) (links : List Link) (t m : ℕ) (sound : IsSound firsts links) (owned : Contains (list_in firsts links t) m) where
+module _ (firsts : List (Option ℕ)) (links : List Link) (t m : ℕ) (sound : AreOwnersSound firsts links) (owned : Contains (list_in firsts links t) m) where
   abbrev before : Option ℕ
-  before = previous_at links m
+  before = previous_mutex links m
 
   abbrev after : Option ℕ
   after = (link_at links m).next
@@ -222,7 +222,7 @@ module _ (firsts : List (Option ℕ)) (links : List Link) (t m : ℕ) (sound : I
   left_links = with_previous (with_next links before after) after before
 
   abbrev left_lists : List (List ℕ)
-  left_lists = set (lists_in firsts links) t (without m (list_in firsts links t))
+  left_lists = set (lists_in firsts links) t (without_mutex m (list_in firsts links t))
 
   pub left_thread : t < length firsts
   left_thread = listed_thread firsts links t m owned
@@ -231,10 +231,10 @@ module _ (firsts : List (Option ℕ)) (links : List Link) (t m : ℕ) (sound : I
   left_room = sound.below t m owned
 
   after_owned : (k : ℕ) → after ≡ Some k → Contains (list_in firsts links t) k
-  after_owned k e = next_in (next_at firsts links t) (previous_at links) None (list_in firsts links t) m k (sound.chain t) owned e
+  after_owned k e = next_in (next_mutex firsts links t) (previous_mutex links) None (list_in firsts links t) m k (sound.chain t) owned e
 
   before_owned : (k : ℕ) → before ≡ Some k → Contains (list_in firsts links t) k
-  before_owned k e = elim (previous_in (next_at firsts links t) (previous_at links) None (list_in firsts links t) m k (sound.chain t) owned e) [
+  before_owned k e = elim (previous_in (next_mutex firsts links t) (previous_mutex links) None (list_in firsts links t) m k (sound.chain t) owned e) [
     | inl none ↦ absurd (none-some k none)
     | inr within ↦ within
   ]
@@ -248,28 +248,28 @@ module _ (firsts : List (Option ℕ)) (links : List Link) (t m : ℕ) (sound : I
   long_left : length left_links ≡ length links
   long_left = length-with_previous (with_next links before after) after before ∙ length-with_next links before after
 
-  here_left : get_or left_lists t [] ≡ without m (list_in firsts links t)
-  here_left = get_or-set_same (lists_in firsts links) t (without m (list_in firsts links t)) [] (let lt = left_thread in omega (arith, lt, length-map firsts (walk links (length links))))
+  here_left : get_or left_lists t [] ≡ without_mutex m (list_in firsts links t)
+  here_left = get_or-set_same (lists_in firsts links) t (without_mutex m (list_in firsts links t)) [] (let lt = left_thread in omega (arith, lt, length-map firsts (walk links (length links))))
 
   elsewhere_left : (u : ℕ) → u ≢ t → get_or left_lists u [] ≡ list_in firsts links u
-  elsewhere_left u differs = get_or-set_other (lists_in firsts links) t u (without m (list_in firsts links t)) [] differs ∙ list-view firsts links u
+  elsewhere_left u differs = get_or-set_other (lists_in firsts links) t u (without_mutex m (list_in firsts links t)) [] differs ∙ list-view firsts links u
 
-  next_left : (u : ℕ) (x : Option ℕ) → x ≢ before → next_at left_firsts left_links u x ≡ next_at firsts links u x
+  next_left : (u : ℕ) (x : Option ℕ) → x ≢ before → next_mutex left_firsts left_links u x ≡ next_mutex firsts links u x
   next_left u x differs = next-with_previous left_firsts (with_next links before after) after before u x ∙ next-with_next_other firsts links t before after u x differs
 
-  previous_left : (k : ℕ) → after ≢ Some k → previous_at left_links k ≡ previous_at links k
+  previous_left : (k : ℕ) → after ≢ Some k → previous_mutex left_links k ≡ previous_mutex links k
   previous_left k differs = previous-with_previous_other (with_next links before after) after before k differs ∙ previous-with_next links before after k
 
-  left_here : IsChain (next_at left_firsts left_links t) (previous_at left_links) None (without m (list_in firsts links t))
-  left_here = chain_left (next_at firsts links t) (previous_at links) (next_at left_firsts left_links t) (previous_at left_links) m
+  left_here : IsMutexChain (next_mutex left_firsts left_links t) (previous_mutex left_links) None (without_mutex m (list_in firsts links t))
+  left_here = chain_left (next_mutex firsts links t) (previous_mutex links) (next_mutex left_firsts left_links t) (previous_mutex left_links) m
       (next-with_previous left_firsts (with_next links before after) after before t before ∙ next-with_next_same firsts links t before after left_thread before_below)
       (λ x differs. next_left t x differs)
       (λ k e. previous-with_previous_same (with_next links before after) after before k e (let below = after_below k e in omega (arith, below, length-with_next links before after)))
       (λ k differs. previous_left k differs)
       None (list_in firsts links t) owned (none-some m) (λ k has. none-some k) (sound.once t) (sound.chain t)
 
-  left_elsewhere : (u : ℕ) → u ≢ t → IsChain (next_at left_firsts left_links u) (previous_at left_links) None (list_in firsts links u)
-  left_elsewhere u differs = chain_kept (next_at firsts links u) (previous_at links) (next_at left_firsts left_links u) (previous_at left_links) None (list_in firsts links u)
+  left_elsewhere : (u : ℕ) → u ≢ t → IsMutexChain (next_mutex left_firsts left_links u) (previous_mutex left_links) None (list_in firsts links u)
+  left_elsewhere u differs = chain_kept (next_mutex firsts links u) (previous_mutex links) (next_mutex left_firsts left_links u) (previous_mutex left_links) None (list_in firsts links u)
       (first-elsewhere firsts t before after u differs)
       (λ k has. (next_left u (Some k) (λ e. differs (sound.apart u t k has (before_owned k (sym e)))), previous_left k (λ e. differs (sound.apart u t k has (after_owned k e)))))
       (sound.chain u)
@@ -283,8 +283,8 @@ module _ (firsts : List (Option ℕ)) (links : List Link) (t m : ℕ) (sound : I
   left : IsListed left_firsts left_links (λ u. get_or left_lists u [])
   left = record {
     chain = λ u. elim (cases_eq u t) [
-      | inl same ↦ subst (λ (v : ℕ). IsChain (next_at left_firsts left_links v) (previous_at left_links) None (get_or left_lists v [])) (sym same) (subst (λ (list : List ℕ). IsChain (next_at left_firsts left_links t) (previous_at left_links) None list) (sym here_left) left_here)
-      | inr differs ↦ subst (λ (list : List ℕ). IsChain (next_at left_firsts left_links u) (previous_at left_links) None list) (sym (elsewhere_left u differs)) (left_elsewhere u differs)
+      | inl same ↦ subst (λ (v : ℕ). IsMutexChain (next_mutex left_firsts left_links v) (previous_mutex left_links) None (get_or left_lists v [])) (sym same) (subst (λ (list : List ℕ). IsMutexChain (next_mutex left_firsts left_links t) (previous_mutex left_links) None list) (sym here_left) left_here)
+      | inr differs ↦ subst (λ (list : List ℕ). IsMutexChain (next_mutex left_firsts left_links u) (previous_mutex left_links) None list) (sym (elsewhere_left u differs)) (left_elsewhere u differs)
     ];
     once = λ u. elim (cases_eq u t) [
       | inl same ↦ subst (IsDistinct nat_eq) (sym (ap (λ v. get_or left_lists v []) same ∙ here_left)) (without_once m (list_in firsts links t) (sound.once t))
@@ -294,27 +294,27 @@ module _ (firsts : List (Option ℕ)) (links : List Link) (t m : ℕ) (sound : I
     below = λ u k has. subst (λ (n : ℕ). k < n) (sym long_left) (sound.below u k (left_member u k has));
   }
 
-  pub left_sound : IsSound left_firsts left_links
+  pub left_sound : AreOwnersSound left_firsts left_links
   left_sound = sound_of left_firsts left_links (λ u. get_or left_lists u []) left
 
-  pub left_lists_are : lists_in left_firsts left_links ≡ set (lists_in firsts links) t (without m (list_in firsts links t))
-  left_lists_are = lists_are left_firsts left_links left_lists (length-set (lists_in firsts links) t (without m (list_in firsts links t)) ∙ (length-map firsts (walk links (length links)) ∙ sym (length-with_first firsts t before after))) left
+  pub left_lists_are : lists_in left_firsts left_links ≡ set (lists_in firsts links) t (without_mutex m (list_in firsts links t))
+  left_lists_are = lists_are left_firsts left_links left_lists (length-set (lists_in firsts links) t (without_mutex m (list_in firsts links t)) ∙ (length-map firsts (walk links (length links)) ∙ sym (length-with_first firsts t before after))) left
 
 -- ---- more links
 
 -- there is room for more links
 pub listed_longer : (firsts : List (Option ℕ)) (links links' : List Link) (owned : ℕ → List ℕ) → ((m : ℕ) → link_at links' m ≡ link_at links m) → length links ≤ length links' → IsListed firsts links owned → IsListed firsts links' owned
 listed_longer firsts links links' owned same longer listed = record {
-  chain = λ t. chain_kept (next_at firsts links t) (previous_at links) (next_at firsts links' t) (previous_at links') None (owned t) refl (λ k has. (ap (λ (l : Link). l.next) (same k), ap (λ (l : Link). l.previous) (same k))) (listed.chain t);
+  chain = λ t. chain_kept (next_mutex firsts links t) (previous_mutex links) (next_mutex firsts links' t) (previous_mutex links') None (owned t) refl (λ k has. (ap (λ (l : Link). l.next) (same k), ap (λ (l : Link). l.previous) (same k))) (listed.chain t);
   once = listed.once;
   apart = listed.apart;
   below = λ t m has. let lt = listed.below t m has in omega (arith, lt, longer);
 }
 
-pub sound_longer : (firsts : List (Option ℕ)) (links links' : List Link) → ((m : ℕ) → link_at links' m ≡ link_at links m) → length links ≤ length links' → IsSound firsts links → IsSound firsts links'
+pub sound_longer : (firsts : List (Option ℕ)) (links links' : List Link) → ((m : ℕ) → link_at links' m ≡ link_at links m) → length links ≤ length links' → AreOwnersSound firsts links → AreOwnersSound firsts links'
 sound_longer firsts links links' same longer sound = sound_of firsts links' (list_in firsts links) (listed_longer firsts links links' (list_in firsts links) same longer sound)
 
-pub lists_longer : (firsts : List (Option ℕ)) (links links' : List Link) → ((m : ℕ) → link_at links' m ≡ link_at links m) → length links ≤ length links' → IsSound firsts links → lists_in firsts links' ≡ lists_in firsts links
+pub lists_longer : (firsts : List (Option ℕ)) (links links' : List Link) → ((m : ℕ) → link_at links' m ≡ link_at links m) → length links ≤ length links' → AreOwnersSound firsts links → lists_in firsts links' ≡ lists_in firsts links
 lists_longer firsts links links' same longer sound =
     lists_are firsts links' (lists_in firsts links) (length-map firsts (walk links (length links)))
     (subst (λ (lists : ℕ → List ℕ). IsListed firsts links' lists) (λ i. λ t. sym (list-view firsts links t) i) (listed_longer firsts links links' (list_in firsts links) same longer sound))
@@ -328,8 +328,8 @@ link_at-push (l ∷ links) (suc m) = link_at-push links m
 -- ---- what callers see
 
 -- the same lists lie in the same links
-pub sound_same : (firsts firsts' : List (Option ℕ)) (links links' : List Link) → firsts' ≡ firsts → links' ≡ links → IsSound firsts links → IsSound firsts' links'
-sound_same firsts firsts' links links' first rest sound = subst (λ (f : List (Option ℕ)). IsSound f links') (sym first) (subst (λ (l : List Link). IsSound firsts l) (sym rest) sound)
+pub sound_same : (firsts firsts' : List (Option ℕ)) (links links' : List Link) → firsts' ≡ firsts → links' ≡ links → AreOwnersSound firsts links → AreOwnersSound firsts' links'
+sound_same firsts firsts' links links' first rest sound = subst (λ (f : List (Option ℕ)). AreOwnersSound f links') (sym first) (subst (λ (l : List Link). AreOwnersSound firsts l) (sym rest) sound)
 
 pub lists_same : (firsts firsts' : List (Option ℕ)) (links links' : List Link) → firsts' ≡ firsts → links' ≡ links → lists_in firsts' links' ≡ lists_in firsts links
 lists_same firsts firsts' links links' first rest = λ i. lists_in (first i) (rest i)
@@ -355,15 +355,15 @@ listed_in owned firsts links t m view has =
     subst (λ (list : List ℕ). Contains list m) (list-view firsts links t) (subst (λ (o : Owned). Contains (list_of o.lists t) m) (sym view) has)
 
 -- the first of a list
-pub first-list : (firsts : List (Option ℕ)) (links : List Link) (t : ℕ) → IsSound firsts links → first_at firsts t ≡ slice_get (list_of (lists_in firsts links) t) 0
+pub first-list : (firsts : List (Option ℕ)) (links : List Link) (t : ℕ) → AreOwnersSound firsts links → first_at firsts t ≡ slice_get (list_of (lists_in firsts links) t) 0
 first-list firsts links t sound = head (list_in firsts links t) (sound.chain t) ∙ ap (λ list. slice_get list 0) (sym (list-view firsts links t))
   where
-    head : (list : List ℕ) → IsChain (next_at firsts links t) (previous_at links) None list → first_at firsts t ≡ slice_get list 0
+    head : (list : List ℕ) → IsMutexChain (next_mutex firsts links t) (previous_mutex links) None list → first_at firsts t ≡ slice_get list 0
     head [] chain = chain
     head (m ∷ list) chain = chain.0
 
 -- without the first of them, what stands after it is left
-pub without_head : (list : List ℕ) (m : ℕ) → slice_get list 0 ≡ Some m → without m list ≡ after_first list
+pub without_head : (list : List ℕ) (m : ℕ) → slice_get list 0 ≡ Some m → without_mutex m list ≡ after_first list
 without_head [] m e = refl
 without_head (x ∷ list) m e = rw (same_test x m (same_Some x m e)) refl
 
@@ -374,7 +374,7 @@ first-none zero t = refl
 first-none (suc n) zero = refl
 first-none (suc n) (suc t) = first-none n t
 
-pub none_sound : (n : ℕ) → IsSound (replicate n None) []
+pub none_sound : (n : ℕ) → AreOwnersSound (replicate n None) []
 none_sound n = record {
   chain = λ t. first-none n t;
   once = λ t. distinct_none;

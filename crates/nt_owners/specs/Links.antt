@@ -16,13 +16,13 @@ abbrev pub first_at : List (Option ℕ) → ℕ → Option ℕ
 first_at firsts thread = slice_index_or firsts thread None
 
 -- the mutex after this one in the thread's list; `None` stands before the first and after the last
-abbrev pub next_at : List (Option ℕ) → List Link → ℕ → Option ℕ → Option ℕ
-next_at firsts links thread None = first_at firsts thread
-next_at firsts links thread (Some mutex) = (link_at links mutex).next
+abbrev pub next_mutex : List (Option ℕ) → List Link → ℕ → Option ℕ → Option ℕ
+next_mutex firsts links thread None = first_at firsts thread
+next_mutex firsts links thread (Some mutex) = (link_at links mutex).next
 
 -- the mutex before this one
-abbrev pub previous_at : List Link → ℕ → Option ℕ
-previous_at links mutex = (link_at links mutex).previous
+abbrev pub previous_mutex : List Link → ℕ → Option ℕ
+previous_mutex links mutex = (link_at links mutex).previous
 
 -- `to` comes after `at`, or first where that is `None`
 abbrev pub with_first : List (Option ℕ) → ℕ → Option ℕ → Option ℕ → List (Option ℕ)
@@ -57,16 +57,16 @@ abbrev pub lists_in : List (Option ℕ) → List Link → List (List ℕ)
 lists_in firsts links = map (walk links (length links)) firsts
 
 -- from the one after `at` on these mutexes follow one another, and each names the one before it
-abbrev pub IsChain : (Option ℕ → Option ℕ) → (ℕ → Option ℕ) → Option ℕ → List ℕ → Type 0
-IsChain next previous at [] = next at ≡ None
-IsChain next previous at (mutex ∷ list) = (next at ≡ Some mutex) × (previous mutex ≡ at) × IsChain next previous (Some mutex) list
+abbrev pub IsMutexChain : (Option ℕ → Option ℕ) → (ℕ → Option ℕ) → Option ℕ → List ℕ → Type 0
+IsMutexChain next previous at [] = next at ≡ None
+IsMutexChain next previous at (mutex ∷ list) = (next at ≡ Some mutex) × (previous mutex ≡ at) × IsMutexChain next previous (Some mutex) list
 
 -- each thread has this list, and no mutex stands in two, or twice in one
 pub record IsListed (firsts : List (Option ℕ)) (links : List Link) (owned : ℕ → List ℕ) : Type 0 where
-  pub chain : (t : ℕ) → IsChain (next_at firsts links t) (previous_at links) None (owned t)
+  pub chain : (t : ℕ) → IsMutexChain (next_mutex firsts links t) (previous_mutex links) None (owned t)
   pub once : (t : ℕ) → IsDistinct nat_eq (owned t)
   pub apart : (t u m : ℕ) → Contains (owned t) m → Contains (owned u) m → t ≡ u
   pub below : (t m : ℕ) → Contains (owned t) m → m < length links
 
-abbrev pub IsSound : List (Option ℕ) → List Link → Type 0
-IsSound firsts links = IsListed firsts links (list_in firsts links)
+abbrev pub AreOwnersSound : List (Option ℕ) → List Link → Type 0
+AreOwnersSound firsts links = IsListed firsts links (list_in firsts links)

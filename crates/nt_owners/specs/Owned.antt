@@ -15,9 +15,9 @@ abbrev pub IsUnowned : List (List ℕ) → ℕ → Type 0
 IsUnowned lists mutex = (thread : ℕ) → Contains (list_of lists thread) mutex → ⊥
 
 -- the list without this mutex, in the same order
-abbrev pub without : ℕ → List ℕ → List ℕ
-without mutex [] = []
-without mutex (first ∷ list) = if first == mutex then list else first ∷ without mutex list
+abbrev pub without_mutex : ℕ → List ℕ → List ℕ
+without_mutex mutex [] = []
+without_mutex mutex (first ∷ list) = if first == mutex then list else first ∷ without_mutex mutex list
 
 -- the list without its first mutex
 abbrev pub after_first : List ℕ → List ℕ
@@ -30,4 +30,4 @@ added lists thread mutex = slice_set lists thread (mutex ∷ list_of lists threa
 
 -- the thread owns this mutex no more
 abbrev pub removed : List (List ℕ) → ℕ → ℕ → List (List ℕ)
-removed lists thread mutex = slice_set lists thread (without mutex (list_of lists thread))
+removed lists thread mutex = slice_set lists thread (without_mutex mutex (list_of lists thread))

@@ -1,8 +1,8 @@
 //! The links of mutexes, and the changes of one list.
 ghost use Rattle.std.specs.Prelude.{◌≡◌, ℕ, ◌<◌, ◌≤◌, ◌∷◌, None, IfOk, length, replicate, slice_set, vec_len, vec_capacity, Contains};
 ghost use Rattle.std.specs.Option.{ForSome};
-ghost use Rattle.nt_owners.specs.Owned.{without};
-ghost use Rattle.nt_owners.specs.Links.{link_at, first_at, with_first, with_next, with_previous, list_in, lists_in, IsSound};
+ghost use Rattle.nt_owners.specs.Owned.{without_mutex};
+ghost use Rattle.nt_owners.specs.Links.{link_at, first_at, with_first, with_next, with_previous, list_in, lists_in, AreOwnersSound};
 
 use crate::optional::OptionalMutex;
 use nt_status::{ObjectNumber, ThreadId};
@@ -78,11 +78,11 @@ pub fn enter(
     thread: ThreadId,
     mutex: ObjectNumber,
 )
-    requires sound { IsSound firsts.old links.old }
+    requires sound { AreOwnersSound firsts.old links.old }
     requires thread { thread < length firsts.old }
     requires room { mutex < length links.old }
     requires unowned { (t : ℕ) → Contains (list_in firsts.old links.old t) mutex → ⊥ }
-    ensures sound { IsSound firsts.new links.new }
+    ensures sound { AreOwnersSound firsts.new links.new }
     ensures lists { lists_in firsts.new links.new
         ≡ slice_set (lists_in firsts.old links.old) thread (mutex ∷ list_in firsts.old links.old thread) }
 {
@@ -102,11 +102,11 @@ pub fn leave(
     thread: ThreadId,
     mutex: ObjectNumber,
 )
-    requires sound { IsSound firsts.old links.old }
+    requires sound { AreOwnersSound firsts.old links.old }
     requires owned { Contains (list_in firsts.old links.old thread) mutex }
-    ensures sound { IsSound firsts.new links.new }
+    ensures sound { AreOwnersSound firsts.new links.new }
     ensures lists { lists_in firsts.new links.new
-        ≡ slice_set (lists_in firsts.old links.old) thread (without mutex (list_in firsts.old links.old thread)) }
+        ≡ slice_set (lists_in firsts.old links.old) thread (without_mutex mutex (list_in firsts.old links.old thread)) }
 {
     let link = links[mutex.get() as usize];
     set_next(firsts, links, thread, link.previous, link.next);

@@ -20,13 +20,13 @@ pub struct Owners {
 impl Model for Owners {
     ghost use Rattle.std.specs.Prelude.{length};
     ghost use Rattle.nt_owners.specs.Owned.{Owned};
-    ghost use Rattle.nt_owners.specs.Links.{lists_in, IsSound};
+    ghost use Rattle.nt_owners.specs.Links.{lists_in, AreOwnersSound};
 
     ghost Value = { Owned };
 
     ghost view = { λ o. record { lists = lists_in o.firsts.items o.links.items; room = length o.links.items } };
 
-    ghost invariant = { λ o. IsSound o.firsts.items o.links.items };
+    ghost invariant = { λ o. AreOwnersSound o.firsts.items o.links.items };
 }
 
 impl Owners {

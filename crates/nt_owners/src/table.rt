@@ -4,7 +4,7 @@ ghost use Rattle.std.specs.Option.{ForSome, OnSome};
 ghost use Rattle.nt_objects.specs.declared.object.Object.TheVariants.{Thread};
 ghost use Rattle.std.specs.List.{IsDistinct};
 ghost use Rattle.std.specs.Result.{result_err};
-ghost use Rattle.nt_objects.specs.Object.{is_event, is_semaphore, is_mutex, count_of, owner_of, owned_by, abandoned_by};
+ghost use Rattle.nt_objects.specs.Object.{is_event, is_semaphore, is_mutex, count_of, mutex_owner, owned_by, abandoned_by};
 ghost use Rattle.nt_objects.specs.Object.{signaled, taken, has_room, TellsAbandoned};
 ghost use Rattle.nt_objects.specs.Object.{with_set, released, release_refusal, unlocked, TellsOwner};
 ghost use Rattle.nt_marks.specs.Marks.{AddsMarks};
@@ -214,7 +214,7 @@ impl ObjectTable {
             → (owned_by (object_at self.old.items number) t ≡ true) ⊎ (t < length self.old.owned) }
         ensures items { self.new.items ≡ slice_set self.old.items number object }
         ensures threads { length self.new.owned ≡ length self.old.owned }
-        ensures kept { owner_of object ≡ owner_of (object_at self.old.items number) → self.new.owned ≡ self.old.owned }
+        ensures kept { mutex_owner object ≡ mutex_owner (object_at self.old.items number) → self.new.owned ≡ self.old.owned }
     {
         let place = number.get() as usize;
         let from = self.objects[place].owner();

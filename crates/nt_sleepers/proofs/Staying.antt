@@ -18,9 +18,9 @@ use Rattle.nt_calls.specs.declared.call.Reply.{Reply}
 use Rattle.nt_calls.specs.Calls.{timeout_of}
 use Rattle.nt_calls.specs.Naming.{call_named}
 use Rattle.nt_calls.specs.State.{State, Pending, pending_too, with_handing, object_at}
-use Rattle.nt_calls.specs.Serving.{fits, status, granted, Grants, Alert, TimeOut, taken_by, is_sleep, late_status, sequence}
+use Rattle.nt_calls.specs.Serving.{fits, status, wait_granted, Grants, Alert, TimeOut, taken_by, is_sleep, late_status, sequence}
 use Rattle.nt_calls.specs.Change.{change, may_take, armed_anew, timer_set, expired, expired_as, all_expired}
-use Rattle.nt_calls.specs.Steps.{Called, Step, Ticked, MomentPasses, MomentsPass, after_serving, answered, begun, wait_of}
+use Rattle.nt_calls.specs.Steps.{Called, Step, Ticked, MomentPasses, MomentsPass, after_serving, answered, begun, asked_wait}
 use Rattle.nt_calls.specs.Moves.{pended}
 use Rattle.nt_core.proofs.Remaining.{ends_waits}
 use Rattle.nt_core.proofs.Walks.{get_removed}
@@ -39,7 +39,7 @@ StayedOrBegan old who began new = (t : ℕ) (w : Wait) → get new.waits t ≡ S
 grants_within : (threads : List ℕ) (s new : State) (gs : List Grant) (waits : Pending) → Grants threads s gs new → IsWithin s.waits waits → IsWithin new.waits waits
 grants_within threads s new [] waits is within = subst (λ (x : State). IsWithin x.waits waits) (sym is) within
 grants_within threads s new (g ∷ gs) waits has within =
-    grants_within threads (granted s g.thread has.1) new gs waits has.3 (λ t v e. within t v (get_removed s.waits g.thread t v e).1)
+    grants_within threads (wait_granted s g.thread has.1) new gs waits has.3 (λ t v e. within t v (get_removed s.waits g.thread t v e).1)
 
 alert_within : (old new : State) (grants : List Grant) (waits : Pending) → Alert old grants new → IsWithin old.waits waits → IsWithin new.waits waits
 alert_within old new grants waits alert within = subst (λ (s : State). IsWithin s.waits waits) (sym alert.leaves) (λ t w e. within t w (over_pending old alert.threads true t w e).0)
@@ -113,7 +113,7 @@ begun_stayed s who w ms = first (fits s.objects who w)
 
 answered_stayed : (old s : State) (who : ℕ) (call : Call) → StayedOrBegan s who (pended (Ok (answered old s who call).0)) (answered old s who call).1
 answered_stayed old s who (Call.Act act) = same_stayed s s who _ refl
-answered_stayed old s who (Call.Wait wait) = begun_stayed s who (wait_of s.now wait) (timeout_of wait)
+answered_stayed old s who (Call.Wait wait) = begun_stayed s who (asked_wait s.now wait) (timeout_of wait)
 answered_stayed old s who Call.Exit = same_stayed s s who _ refl
 
 -- ---- a call

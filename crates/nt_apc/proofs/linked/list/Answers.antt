@@ -1,7 +1,7 @@
 use Rattle.std.proofs.Common.{◌++◌, ◌∷◌, [], false, length, slice_set, Some, None, sym, ◌∙◌, ap, get_or-set_same, get_or-set_other}
 use Rattle.nt_apc.specs.declared.place.Place.{Place}
 use Rattle.nt_apc.specs.Inbox.{Contents}
-use Rattle.nt_apc.specs.Place.{thread_of}
+use Rattle.nt_apc.specs.Place.{thread_of_place}
 use Rattle.nt_apc.proofs.ListingLemmas.{sound_listed, place_with}
 use Rattle.nt_apc.proofs.ViewLemmas.{queues_in-set_same, read_at, place_of-threads_in}
 use Rattle.nt_apc.proofs.linked.list.Goals as goal
@@ -30,12 +30,12 @@ returns-clause-here c =
     let placed : Place = place_with c.args.t (length c.timers.result.now) false in
     rw c.get.ensures
     (place_of-threads_in (slice_set c.args.places.now c.args.timer (Some placed)) c.args.timer
-    ∙ ap thread_of (get_or-set_same c.args.places.now c.args.timer (Some placed) None c.requires.room.known))
+    ∙ ap thread_of_place (get_or-set_same c.args.places.now c.args.timer (Some placed) None c.requires.room.known))
 
 pub returns-clause-others : goal.returns-clause-others
 returns-clause-others c m other =
     let placed : Place = place_with c.args.t (length c.timers.result.now) false in
     rw c.get.ensures
     (place_of-threads_in (slice_set c.args.places.now c.args.timer (Some placed)) m
-    ∙ ap thread_of (get_or-set_other c.args.places.now c.args.timer m (Some placed) None other)
+    ∙ ap thread_of_place (get_or-set_other c.args.places.now c.args.timer m (Some placed) None other)
     ∙ sym (place_of-threads_in c.args.places.now m))

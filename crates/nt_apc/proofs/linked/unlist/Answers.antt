@@ -1,6 +1,6 @@
 use Rattle.std.proofs.Common.{◌<◌, length, sym, ◌∙◌, ap, subst}
 use Rattle.nt_apc.specs.Inbox.{Contents, GivesUp}
-use Rattle.nt_apc.specs.Place.{thread_of}
+use Rattle.nt_apc.specs.Place.{thread_of_place}
 use Rattle.nt_apc.proofs.ListingLemmas.{index_known, sound_unlisted_moved, sound_unlisted_last, vacated_same, vacated_other}
 use Rattle.nt_apc.proofs.ViewLemmas.{queues_in-set_same, read_at, place_of-threads_in}
 use Rattle.nt_apc.proofs.linked.unlist.Goals as goal
@@ -30,11 +30,11 @@ returns-in_default-clause-queues c =
     rw c.get.ensures (queues_in-set_same _ c.args.t c.give_up.new.self (c.give_up.ensures.queue ∙ ap (λ (inbox : Contents). inbox.queue) read))
 
 pub returns-in_default-clause-gone : goal.returns-in_default-clause-gone
-returns-in_default-clause-gone c = rw c.vacate.ensures (place_of-threads_in _ c.args.timer ∙ ap thread_of (vacated_same c.args.places.now c.args.timer))
+returns-in_default-clause-gone c = rw c.vacate.ensures (place_of-threads_in _ c.args.timer ∙ ap thread_of_place (vacated_same c.args.places.now c.args.timer))
 
 pub returns-in_default-clause-others : goal.returns-in_default-clause-others
 returns-in_default-clause-others c m other =
-    rw c.vacate.ensures (place_of-threads_in _ m ∙ ap thread_of (vacated_other c.args.places.now c.args.timer m other) ∙ sym (place_of-threads_in c.args.places.now m))
+    rw c.vacate.ensures (place_of-threads_in _ m ∙ ap thread_of_place (vacated_other c.args.places.now c.args.timer m other) ∙ sym (place_of-threads_in c.args.places.now m))
 
 pub returns-clause-sound : goal.returns-clause-sound
 returns-clause-sound c =
@@ -54,9 +54,9 @@ returns-clause-queues c =
 
 pub returns-clause-gone : goal.returns-clause-gone
 returns-clause-gone c =
-    rw (c.set_index.ensures.threads, c.vacate.ensures) (place_of-threads_in _ c.args.timer ∙ ap thread_of (vacated_same c.args.places.now c.args.timer))
+    rw (c.set_index.ensures.threads, c.vacate.ensures) (place_of-threads_in _ c.args.timer ∙ ap thread_of_place (vacated_same c.args.places.now c.args.timer))
 
 pub returns-clause-others : goal.returns-clause-others
 returns-clause-others c m other =
     rw (c.set_index.ensures.threads, c.vacate.ensures)
-    (place_of-threads_in _ m ∙ ap thread_of (vacated_other c.args.places.now c.args.timer m other) ∙ sym (place_of-threads_in c.args.places.now m))
+    (place_of-threads_in _ m ∙ ap thread_of_place (vacated_other c.args.places.now c.args.timer m other) ∙ sym (place_of-threads_in c.args.places.now m))

@@ -4,7 +4,7 @@ use Rattle.std.specs.Prelude.{is_some}
 use Rattle.std.proofs.lemmas.List.{get_or_read}
 use Rattle.nt_objects.specs.declared.object.Object.{Object}
 use Rattle.nt_objects.specs.declared.object.Object.TheVariants.{Thread}
-use Rattle.nt_objects.specs.Object.{owner_of, abandoned_by}
+use Rattle.nt_objects.specs.Object.{mutex_owner, abandoned_by}
 use Rattle.nt_owners.specs.Owned.{Owned}
 use Rattle.nt_owners.specs.Objects.{object_at, OwnersAgree}
 use Rattle.nt_owners.proofs.PassLemmas.{first_owner, owned_below, abandoned_is, agree_abandoned}
@@ -21,7 +21,7 @@ abandon-requires c =
     let owner = first_owner c.args.objects.now c.args.owners.now.lists c.args.thread c.in_ok-mutex.mutex c.requires.agree (sym c.pop.ensures.first ∙ c.in_ok-mutex.was) in
     let below = owned_below c.args.objects.now c.args.thread c.in_ok-mutex.mutex owner in
     let read : c.index-objects-get.result ≡ object_at c.args.objects.now c.in_ok-mutex.mutex = get_or_read c.args.objects.now c.in_ok-mutex.mutex c.index-objects-get.result below (rw c.get.ensures at c.index-objects-get.is) (Thread false) in
-    subst (λ (o : Object). IsSome (owner_of o)) c.index-objects-get.is (ap is_some (ap owner_of read ∙ owner))
+    subst (λ (o : Object). IsSome (mutex_owner o)) c.index-objects-get.is (ap is_some (ap mutex_owner read ∙ owner))
 
 pub returns-clause-free : goal.returns-clause-free
 returns-clause-free c =

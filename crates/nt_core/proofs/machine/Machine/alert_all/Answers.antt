@@ -1,7 +1,8 @@
 use Rattle.std.proofs.Common.{◌≡◌, ◌<◌, ℕ, List, set, sym, ap, ◌∙◌, subst, Bool, false}
 use Rattle.nt_marks.specs.Marks.{NoneMarked, IsFirstMarked}
 use Rattle.nt_core.specs.Dispatcher.{Dispatcher, with_marked}
-use Rattle.nt_core.specs.Accepts.{IsRoused}
+use Rattle.nt_core.specs.Lawful.{IsMachineSound}
+use Rattle.nt_core.specs.Accepts.{IsRoused, IsAlertedAfter}
 use Rattle.nt_core.specs.contracts.machine.Machine.{the_view}
 use Rattle.nt_marks.proofs.Counting.{marks_left, marks_less}
 use Rattle.nt_core.proofs.Rousing.{AlertedSoFar, alerted_none, alerted_next, alerted_end, alerted_left, taken_sound}
@@ -14,18 +15,18 @@ pub rouse-requires : goal.rouse-requires
 rouse-requires c =
     let now = c.loop-place.self in
     let place = c.in-Some.place in
-    let lowest : IsFirstMarked now.marked.alerted place = subst (λ (d : Dispatcher). IsFirstMarked d.marked.alerted place) c.self.view_is c.in-Some.ensures in
-    let mid : Dispatcher = record (the_view c.self.inside) { marked = record (the_view c.self.inside).marked { alerted = c.clear.new.self } } in
-    let taken : mid ≡ with_marked now (record now.marked { alerted = set now.marked.alerted place false }) = ap (λ (xs : List Bool). record (the_view c.self.inside) { marked = record (the_view c.self.inside).marked { alerted = xs } }) c.clear.ensures ∙ ap (λ (d : Dispatcher). with_marked d (record d.marked { alerted = set d.marked.alerted place false })) c.self.view_is in
+    let lowest : IsFirstMarked now.marked.alerted place = subst (λ (d : Dispatcher). IsFirstMarked d.marked.alerted place) c.self.view_is c.in-Some.ensures.first in
+    let mid : Dispatcher = record (the_view c.self.inside) { marked = record (the_view c.self.inside).marked { alerted = c.take_first.new.self } } in
+    let taken : mid ≡ with_marked now (record now.marked { alerted = set now.marked.alerted place false }) = ap (λ (xs : List Bool). record (the_view c.self.inside) { marked = record (the_view c.self.inside).marked { alerted = xs } }) c.in-Some.ensures.rest ∙ ap (λ (d : Dispatcher). with_marked d (record d.marked { alerted = set d.marked.alerted place false })) c.self.view_is in
     record { sound = taken_sound now mid place c.loop-place.invariant.sound taken }
 
 pub loop-place-smaller : goal.loop-place-smaller
 loop-place-smaller c =
     let now = c.loop-place.self in
     let place = c.in-Some.place in
-    let lowest : IsFirstMarked now.marked.alerted place = subst (λ (d : Dispatcher). IsFirstMarked d.marked.alerted place) c.self.view_is c.in-Some.ensures in
-    let mid : Dispatcher = record (the_view c.self.inside) { marked = record (the_view c.self.inside).marked { alerted = c.clear.new.self } } in
-    let taken : mid ≡ with_marked now (record now.marked { alerted = set now.marked.alerted place false }) = ap (λ (xs : List Bool). record (the_view c.self.inside) { marked = record (the_view c.self.inside).marked { alerted = xs } }) c.clear.ensures ∙ ap (λ (d : Dispatcher). with_marked d (record d.marked { alerted = set d.marked.alerted place false })) c.self.view_is in
+    let lowest : IsFirstMarked now.marked.alerted place = subst (λ (d : Dispatcher). IsFirstMarked d.marked.alerted place) c.self.view_is c.in-Some.ensures.first in
+    let mid : Dispatcher = record (the_view c.self.inside) { marked = record (the_view c.self.inside).marked { alerted = c.take_first.new.self } } in
+    let taken : mid ≡ with_marked now (record now.marked { alerted = set now.marked.alerted place false }) = ap (λ (xs : List Bool). record (the_view c.self.inside) { marked = record (the_view c.self.inside).marked { alerted = xs } }) c.in-Some.ensures.rest ∙ ap (λ (d : Dispatcher). with_marked d (record d.marked { alerted = set d.marked.alerted place false })) c.self.view_is in
     let marks = alerted_left now mid c.rouse.new.self place taken (subst (λ (k : ℕ). IsRoused mid c.rouse.new.self k) c.new.ensures c.rouse.ensures.roused) in
     let less : marks_left c.rouse.new.self.marked.alerted < marks_left now.marked.alerted = subst (λ (m : List Bool). marks_left m < marks_left now.marked.alerted) (sym marks) (marks_less now.marked.alerted place lowest.here) in
     less
@@ -34,9 +35,9 @@ pub loop-place-preserved : goal.loop-place-preserved
 loop-place-preserved c =
     let now = c.loop-place.self in
     let place = c.in-Some.place in
-    let lowest : IsFirstMarked now.marked.alerted place = subst (λ (d : Dispatcher). IsFirstMarked d.marked.alerted place) c.self.view_is c.in-Some.ensures in
-    let mid : Dispatcher = record (the_view c.self.inside) { marked = record (the_view c.self.inside).marked { alerted = c.clear.new.self } } in
-    let taken : mid ≡ with_marked now (record now.marked { alerted = set now.marked.alerted place false }) = ap (λ (xs : List Bool). record (the_view c.self.inside) { marked = record (the_view c.self.inside).marked { alerted = xs } }) c.clear.ensures ∙ ap (λ (d : Dispatcher). with_marked d (record d.marked { alerted = set d.marked.alerted place false })) c.self.view_is in
+    let lowest : IsFirstMarked now.marked.alerted place = subst (λ (d : Dispatcher). IsFirstMarked d.marked.alerted place) c.self.view_is c.in-Some.ensures.first in
+    let mid : Dispatcher = record (the_view c.self.inside) { marked = record (the_view c.self.inside).marked { alerted = c.take_first.new.self } } in
+    let taken : mid ≡ with_marked now (record now.marked { alerted = set now.marked.alerted place false }) = ap (λ (xs : List Bool). record (the_view c.self.inside) { marked = record (the_view c.self.inside).marked { alerted = xs } }) c.in-Some.ensures.rest ∙ ap (λ (d : Dispatcher). with_marked d (record d.marked { alerted = set d.marked.alerted place false })) c.self.view_is in
     let roused = (subst (λ (k : ℕ). IsRoused mid c.rouse.new.self k) c.new.ensures c.rouse.ensures.roused) in
     let marks = alerted_left now mid c.rouse.new.self place taken roused in
     subst (λ (m : List Bool). AlertedSoFar c.args.self.now c.rouse.new.self m) (sym marks)
@@ -45,5 +46,11 @@ loop-place-preserved c =
 
 pub returns : goal.returns
 returns c =
-    let none : NoneMarked c.loop-place.self.marked.alerted = subst (λ (d : Dispatcher). NoneMarked d.marked.alerted) c.self.view_is c.in_default.ensures in
-    record { alerted = alerted_end c.args.self.now c.loop-place.self c.loop-place.self.marked.alerted c.loop-place.invariant none c.requires.served; sound = c.loop-place.invariant.sound }
+    let now = c.loop-place.self in
+    let none : NoneMarked now.marked.alerted = subst (λ (d : Dispatcher). NoneMarked d.marked.alerted) c.self.view_is c.in_default.ensures.first in
+    let last : Dispatcher = record (the_view c.self.inside) { marked = record (the_view c.self.inside).marked { alerted = c.take_first.new.self } } in
+    let same : last ≡ now = ap (λ (xs : List Bool). record (the_view c.self.inside) { marked = record (the_view c.self.inside).marked { alerted = xs } }) c.in_default.ensures.rest ∙ c.self.view_is in
+    record {
+      alerted = subst (λ (d : Dispatcher). IsAlertedAfter c.args.self.now d) (sym same) (alerted_end c.args.self.now now now.marked.alerted c.loop-place.invariant none c.requires.served);
+      sound = subst IsMachineSound (sym same) c.loop-place.invariant.sound;
+    }

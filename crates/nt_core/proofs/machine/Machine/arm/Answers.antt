@@ -1,13 +1,13 @@
 use Rattle.std.proofs.Common.{ap, ◌∙◌, Some, false}
 use Rattle.nt_objects.specs.declared.object.Object.{Object}
-use Rattle.nt_objects.specs.Object.{owner_of, armed_with, with_set}
+use Rattle.nt_objects.specs.Object.{mutex_owner, armed_with, with_set}
 use Rattle.nt_core.proofs.Owned.{owner_set, owner_armed}
 use Rattle.nt_core.proofs.Arming.{armed_sound}
 use Rattle.nt_core.proofs.machine.Machine.arm.Goals as goal
 
 pub put_timer-requires-clause-owner : goal.put_timer-requires-clause-owner
 put_timer-requires-clause-owner c =
-    ap owner_of c.arm.ensures ∙ (owner_armed (Some c.args.armed) (with_set false c.object-object.result) ∙ (owner_set false c.object-object.result ∙ ap owner_of c.object-object.ensures))
+    ap mutex_owner c.arm.ensures ∙ (owner_armed (Some c.args.armed) (with_set false c.object-object.result) ∙ (owner_set false c.object-object.result ∙ ap mutex_owner c.object-object.ensures))
 
 pub returns-clause-sound : goal.returns-clause-sound
 returns-clause-sound c =

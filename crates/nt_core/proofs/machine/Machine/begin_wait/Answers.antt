@@ -4,7 +4,7 @@ use Rattle.nt_waits.specs.declared.wait.Wait.{Wait}
 use Rattle.nt_calls.specs.declared.call.Reply.{Reply}
 use Rattle.nt_calls.specs.State.{State, deadline_after, pending_too}
 use Rattle.nt_core.specs.Dispatcher.{Dispatcher, state}
-use Rattle.nt_calls.specs.Serving.{fits, wait_for}
+use Rattle.nt_calls.specs.Serving.{fits, wait_on}
 use Rattle.nt_core.proofs.Beginning.{began_pending, begun_pends}
 use Rattle.nt_core.proofs.machine.Machine.begin_wait.Goals as goal
 
@@ -25,6 +25,6 @@ returns-clause-steady c =
     let w : Wait = record { objects = c.args.objects.now; all = c.args.mode.all; alertable = c.args.mode.alertable; deadline = deadline_after d.now c.args.mode.ms } in
     let same = c.in_default.ensures.none in
     let pends = c.in_default.ensures.pends in
-    let unfit : fits d.objects c.args.thread w ≡ false = subst (λ (x : Dispatcher). fits x.objects c.args.thread (wait_for c.args.objects.now c.args.mode.all) ≡ false) (sym same) pends.0 in
+    let unfit : fits d.objects c.args.thread w ≡ false = subst (λ (x : Dispatcher). fits x.objects c.args.thread (wait_on c.args.objects.now c.args.mode.all) ≡ false) (sym same) pends.0 in
     let quiet : (w.alertable && has_apc d.apcs.queues c.args.thread) ≡ false = subst (λ (x : Dispatcher). (c.args.mode.alertable && has_apc x.apcs.queues c.args.thread) ≡ false) (sym same) pends.1 in
     began_pending d c.pend.new.self c.args.thread c.args.mode.ms w c.end_at_once.ensures.steady unfit quiet pends.2 refl c.in_ok-pend.ensures.pended.state c.pend.ensures.pended.sound c.pend.ensures.pended.marked

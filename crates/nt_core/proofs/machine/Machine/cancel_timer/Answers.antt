@@ -1,7 +1,7 @@
 use Rattle.std.proofs.Common.{ℕ, ap, ◌∙◌, set, subst, None}
 use Rattle.std.specs.Prelude.{Ok, Err}
 use Rattle.nt_objects.specs.declared.object.Object.{Object}
-use Rattle.nt_objects.specs.Object.{is_timer, owner_of, armed_with, due_of}
+use Rattle.nt_objects.specs.Object.{is_timer, mutex_owner, armed_with, due_of}
 use Rattle.nt_calls.specs.State.{object_at}
 use Rattle.nt_core.specs.Dispatcher.{Dispatcher}
 use Rattle.nt_calls.specs.declared.call.Act.{Act}
@@ -9,7 +9,7 @@ use Rattle.nt_calls.specs.declared.call.Call.{Call}
 use Rattle.nt_calls.specs.declared.call.Reply.{Reply}
 use Rattle.nt_calls.specs.Naming.{act_named}
 use Rattle.nt_calls.specs.Rights.{act_denied}
-use Rattle.nt_core.specs.Accepts.{IsMade}
+use Rattle.nt_core.specs.Accepts.{IsCallMade}
 use Rattle.nt_core.proofs.Owned.{owner_armed}
 use Rattle.nt_core.proofs.Timing.{cancel_accepted}
 use Rattle.nt_core.proofs.Making.{refused_with, accepted_made, kind_free}
@@ -24,7 +24,7 @@ returns-in_err-timer c t free =
     refused_with old t (act_denied old.handles act) (Call.Act (act_named old.handles act)) c.in_err-timer.field-0.0 c.from_residual.result c.from_residual.ensures.1 c.requires.fresh free (subst (λ (x : Dispatcher). IsJudged x.handles c.args.handle modify_state (kind_causes is_timer x.objects) (Err c.in_err-timer.field-0.0)) c.self.view_is c.in_err-timer.ensures)
 
 pub put_timer-requires-clause-owner : goal.put_timer-requires-clause-owner
-put_timer-requires-clause-owner c = ap owner_of c.cancel.ensures ∙ (owner_armed None c.object-object.result ∙ ap owner_of c.object-object.ensures)
+put_timer-requires-clause-owner c = ap mutex_owner c.cancel.ensures ∙ (owner_armed None c.object-object.result ∙ ap mutex_owner c.object-object.ensures)
 
 pub returns : goal.returns
 returns c t free =
@@ -38,5 +38,5 @@ returns c t free =
     (c.put_timer.ensures
     ∙ (ap (λ (o : Object). record mid { objects = set mid.objects timer o; alarms = set mid.alarms timer (due_of o) }) (c.cancel.ensures ∙ ap (armed_with None) c.object-object.ensures)
     ∙ ap (λ (d : Dispatcher). record d { objects = set d.objects timer (armed_with None (object_at d.objects timer)); alarms = set d.alarms timer (due_of (armed_with None (object_at d.objects timer))) }) c.withdraw.ensures)) in
-    subst (λ (h : ℕ). IsMade old new t (act_denied old.handles act) (Call.Act (Act.CancelTimer h)) (Ok Reply.Done)) judged.0
+    subst (λ (h : ℕ). IsCallMade old new t (act_denied old.handles act) (Call.Act (Act.CancelTimer h)) (Ok Reply.Done)) judged.0
     (accepted_made old new t (act_denied old.handles act) (Call.Act (Act.CancelTimer timer)) Reply.Done free judged.1 accepted)

@@ -5,7 +5,7 @@ use Rattle.nt_calls.specs.declared.call.Call.{Call}
 use Rattle.nt_calls.specs.declared.call.Reply.{Reply}
 use Rattle.nt_calls.specs.Naming.{act_named}
 use Rattle.nt_calls.specs.Rights.{act_denied}
-use Rattle.nt_core.specs.Accepts.{IsMade}
+use Rattle.nt_core.specs.Accepts.{IsCallMade}
 use Rattle.nt_objects.specs.Object.{is_gone}
 use Rattle.nt_calls.specs.State.{object_at}
 use Rattle.nt_core.proofs.Closing.{named_living}
@@ -29,7 +29,7 @@ returns-in_err-make_room c t free =
     let new : Dispatcher = record (the_view c.self.inside) { handles = c.make_room.new.self.opened } in
     let act = Act.Duplicate c.args.handle c.args.access in
     let judged = (subst (λ (x : Dispatcher). IsJudged x.handles c.args.handle c.args.access (λ denied h. duplicate_causes x.handles x.objects denied h c.args.access) (Ok c.in_ok-object.object)) c.self.view_is c.in_ok-object.ensures) in
-    subst (λ (h : ℕ). IsMade old new t (act_denied old.handles act) (Call.Act (Act.Duplicate h c.args.access)) c.from_residual-in_err-make_room.result) judged.0
+    subst (λ (h : ℕ). IsCallMade old new t (act_denied old.handles act) (Call.Act (Act.Duplicate h c.args.access)) c.from_residual-in_err-make_room.result) judged.0
     (unmade_with old new t (act_denied old.handles act) (Call.Act (Act.Duplicate c.in_ok-object.object c.args.access)) c.from_residual-in_err-make_room.result c.from_residual-in_err-make_room.ensures.1 c.requires.fresh free judged.1 refl (ap (λ (hs : List (Option Opened)). record (the_view c.self.inside) { handles = hs }) c.make_room.ensures.opened ∙ c.self.view_is))
 
 pub returns : goal.returns
@@ -44,5 +44,5 @@ returns c t free =
     let living = subst (λ (h : ℕ). h < length old.objects → is_gone (object_at old.objects h) ≡ false) (sym judged.0) (λ known. named_living old c.args.handle c.requires.fresh.steady.sound known) in
     let accepted = duplicated_accepted old new t object c.args.access c.add.result c.requires.fresh may.2 may.0 (living may.0) (c.add.ensures.handle ∙ ap (λ (hs : List (Option Opened)). length hs) opened)
     (ap (λ (hs : List (Option Opened)). record (the_view c.self.inside) { handles = hs }) c.add.ensures.opened ∙ (λ i. record (c.self.view_is i) { handles = opened i ++ Some (record { object = object; access = c.in-Some.access }) ∷ [] }) ∙ ap (λ (access : ℕ). record old { handles = old.handles ++ Some (record { object = object; access = access }) ∷ [] }) c.in-Some.ensures.value) in
-    subst (λ (h : ℕ). IsMade old new t (act_denied old.handles act) (Call.Act (Act.Duplicate h c.args.access)) (Ok (Reply.Handle c.add.result))) judged.0
+    subst (λ (h : ℕ). IsCallMade old new t (act_denied old.handles act) (Call.Act (Act.Duplicate h c.args.access)) (Ok (Reply.Handle c.add.result))) judged.0
     (accepted_made old new t (act_denied old.handles act) (Call.Act (Act.Duplicate object c.args.access)) (Reply.Handle c.add.result) free judged.1 accepted)

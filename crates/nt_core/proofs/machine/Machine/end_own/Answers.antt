@@ -1,4 +1,4 @@
-use Rattle.std.proofs.Common.{◌≡◌, ◌<◌, ℕ, List, length, Option, Some, true, set, ap, arith, ◌∙◌, Bool}
+use Rattle.std.proofs.Common.{◌≡◌, ◌<◌, ℕ, List, length, true, set, ap, arith, ◌∙◌, Bool}
 use Rattle.nt_objects.specs.declared.object.Object.{Object}
 use Rattle.nt_objects.specs.declared.object.Object.TheVariants.{Thread}
 use Rattle.nt_apc.specs.Queues.{place_of, given_up, cleared}

@@ -1,6 +1,6 @@
 use Rattle.std.proofs.Common.{◌≡◌, sym, ap, ◌∙◌, Some, subst}
 use Rattle.std.specs.Prelude.{IfSome}
-use Rattle.nt_objects.specs.Object.{owner_of}
+use Rattle.nt_objects.specs.Object.{mutex_owner}
 use Rattle.nt_apc.specs.Queues.{place_of}
 use Rattle.nt_core.specs.Dispatcher.{Dispatcher}
 use Rattle.nt_core.proofs.Owned.{owner_rung}
@@ -9,7 +9,7 @@ use Rattle.nt_core.proofs.machine.Machine.expire.Goals as goal
 
 pub put_timer-requires-clause-owner : goal.put_timer-requires-clause-owner
 put_timer-requires-clause-owner c =
-    owner_rung c.object-object.result c.expire-routine.new.self c.args.now c.in-Some.due (sym c.in-Some.ensures) c.expire-routine.ensures.change ∙ ap owner_of c.object-object.ensures
+    owner_rung c.object-object.result c.expire-routine.new.self c.args.now c.in-Some.due (sym c.in-Some.ensures) c.expire-routine.ensures.change ∙ ap mutex_owner c.object-object.ensures
 
 pub notify-requires : goal.notify-requires
 notify-requires c =

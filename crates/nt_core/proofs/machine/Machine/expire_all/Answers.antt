@@ -4,11 +4,11 @@ use Rattle.nt_objects.specs.Object.{due_of}
 use Rattle.nt_alarms.specs.Alarms.{IsLowestAt, NoneAt}
 use Rattle.nt_marks.specs.Marks.{marked_places}
 use Rattle.nt_calls.specs.State.{State, object_at}
-use Rattle.nt_core.specs.Dispatcher.{Dispatcher, state}
+use Rattle.nt_core.specs.Dispatcher.{Dispatcher, state, due_marked}
 use Rattle.nt_calls.specs.Change.{expired}
 use Rattle.nt_core.proofs.Lengths.{length_expired}
 use Rattle.nt_core.proofs.Places.{none_marked}
-use Rattle.nt_core.proofs.Passing.{ExpiredSoFar, expired_none, expired_marked, expired_fewer, expired_end, lowest_known, marked_sound, due_by, due_marked}
+use Rattle.nt_core.proofs.Passing.{ExpiredSoFar, expired_none, expired_marked, expired_fewer, expired_end, lowest_known, marked_sound, due_by}
 use Rattle.nt_core.proofs.machine.Machine.expire_all.Goals as goal
 
 pub loop-place-init : goal.loop-place-init

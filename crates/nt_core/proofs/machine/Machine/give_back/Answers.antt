@@ -23,4 +23,4 @@ serve_one-requires-clause-needed c = exchanged_needed c.args.self.now (record (t
 pub returns : goal.returns
 returns c =
     exchanged_served c.args.self.now (record (the_view c.self.inside) { objects = c.unlock.new.self.items; owned = c.unlock.new.self.owned }) c.serve_one.new.self c.args.mutex (unlocked (object_at c.args.self.now.objects c.args.mutex)) c.requires.fresh (known_mutex c.args.self.now.objects c.args.mutex c.args.thread c.requires.owner) (unlocked_differs (object_at c.args.self.now.objects c.args.mutex) c.args.thread c.requires.owner (c.requires.fresh.steady.sound.objects c.args.mutex)) (exchanged_in (the_view c.self.inside) c.args.self.now c.args.mutex unlocked c.unlock.new.self.items c.unlock.new.self.owned c.self.view_is c.in-Ok.ensures.items)
-    c.serve_one.ensures.served c.serve_one.ensures.sound c.serve_one.ensures.most c.serve_one.ensures.least c.serve_one.ensures.marked
+    c.serve_one.ensures.served c.serve_one.ensures.sound c.serve_one.ensures.tested.1 c.serve_one.ensures.tested.0 c.serve_one.ensures.marked

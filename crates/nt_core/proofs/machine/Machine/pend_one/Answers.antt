@@ -7,14 +7,14 @@ use Rattle.nt_calls.specs.State.{deadline_after}
 use Rattle.nt_core.specs.Accepts.{HasPended}
 use Rattle.nt_core.specs.declared.standing.Standing.TheVariants.{Waiting}
 use Rattle.nt_core.specs.Dispatcher.{Dispatcher, dispatcher_of}
-use Rattle.nt_core.specs.Lawful.{IsSound, IsSoundWait}
+use Rattle.nt_core.specs.Lawful.{IsMachineSound, IsSoundWait}
 use Rattle.nt_core.proofs.Beginning.{pends_too, queues_longer, sound_begun}
 use Rattle.nt_core.proofs.machine.Machine.pend_one.Goals as goal
 
 pub index_mut-requires : goal.index_mut-requires
 index_mut-requires c =
     let d = dispatcher_of c.self.inside.threads c.self.inside.handles.opened c.self.inside.objects.items c.self.inside.objects.owned c.self.inside.waits c.self.inside.apcs c.self.inside.handing.items c.self.inside.standings.items c.self.inside.moment c.self.inside.grants.items c.self.inside.alarms c.self.inside.leaving c.self.inside.changed c.self.inside.alerted in
-    let sound : IsSound d = subst IsSound (sym c.self.view_is) c.requires.sound in
+    let sound : IsMachineSound d = subst IsMachineSound (sym c.self.view_is) c.requires.sound in
     let count : length c.self.inside.standings.items ≡ d.threads = sound.standings.count in
     let known : c.args.thread < d.threads = subst (λ (x : Dispatcher). c.args.thread < x.threads) (sym c.self.view_is) c.requires.can.able.known in
     let thread : c.get.result ≡ c.args.thread = c.get.ensures in
@@ -24,7 +24,7 @@ pub returns : goal.returns
 returns c =
     let d = dispatcher_of c.self.inside.threads c.self.inside.handles.opened c.self.inside.objects.items c.self.inside.objects.owned c.self.inside.waits c.self.inside.apcs c.self.inside.handing.items c.self.inside.standings.items c.self.inside.moment c.self.inside.grants.items c.self.inside.alarms c.self.inside.leaving c.self.inside.changed c.self.inside.alerted in
     let w : Wait = record { objects = c.args.object ∷ []; all = c.args.all; alertable = c.args.alertable; deadline = deadline_after d.now c.args.ms } in
-    let sound : IsSound d = subst IsSound (sym c.self.view_is) c.requires.sound in
+    let sound : IsMachineSound d = subst IsMachineSound (sym c.self.view_is) c.requires.sound in
     let able : IsSoundWait d.threads d.objects c.args.thread w =
     let same = subst (λ (x : Dispatcher). IsSoundWait x.threads x.objects c.args.thread (record { objects = c.args.object ∷ []; all = c.args.all; alertable = false; deadline = None })) (sym c.self.view_is) c.requires.can.able in
     record { known = same.known; runs = same.runs; few = same.few; apart = same.apart; named = same.named; living = same.living } in

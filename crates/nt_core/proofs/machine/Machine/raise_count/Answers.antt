@@ -24,4 +24,4 @@ serve_one-requires-clause-needed c = exchanged_needed c.args.self.now (record (t
 pub returns-clause-served : goal.returns-clause-served
 returns-clause-served c =
     exchanged_served c.args.self.now (record (the_view c.self.inside) { objects = c.release.new.self.items; owned = c.release.new.self.owned }) c.serve_one.new.self c.args.semaphore (released c.args.count (object_at c.args.self.now.objects c.args.semaphore)) c.requires.fresh (known_semaphore c.args.self.now.objects c.args.semaphore c.requires.kind) (released_differs c.args.count (object_at c.args.self.now.objects c.args.semaphore) c.requires.kind c.requires.positive) (exchanged_in (the_view c.self.inside) c.args.self.now c.args.semaphore (released c.args.count) c.release.new.self.items c.release.new.self.owned c.self.view_is (rw (to_z-of_z w32 c.args.count c.ranges.count) at c.in-Ok.ensures.items))
-    c.serve_one.ensures.served c.serve_one.ensures.sound c.serve_one.ensures.most c.serve_one.ensures.least c.serve_one.ensures.marked
+    c.serve_one.ensures.served c.serve_one.ensures.sound c.serve_one.ensures.tested.1 c.serve_one.ensures.tested.0 c.serve_one.ensures.marked

@@ -24,7 +24,7 @@ serve_one-requires-clause-needed c = exchanged_needed c.args.self.now (record (t
 pub returns-then-set : goal.returns-then-set
 returns-then-set c =
     exchanged_served c.args.self.now (record (the_view c.self.inside) { objects = c.set.new.self.items; owned = c.set.new.self.owned }) c.serve_one.new.self c.args.event (with_set true (object_at c.args.self.now.objects c.args.event)) c.requires.fresh (known_event c.args.self.now.objects c.args.event c.requires.kind) (raised_differs (object_at c.args.self.now.objects c.args.event) c.set.result c.requires.kind (λ t. c.set.ensures.answer t ∙ ap (λ (x : Dispatcher). not (signaled (object_at x.objects c.args.event) t)) c.self.view_is) c.if-set.true) (exchanged_in (the_view c.self.inside) c.args.self.now c.args.event (with_set true) c.set.new.self.items c.set.new.self.owned c.self.view_is c.set.ensures.items)
-    c.serve_one.ensures.served c.serve_one.ensures.sound c.serve_one.ensures.most c.serve_one.ensures.least c.serve_one.ensures.marked
+    c.serve_one.ensures.served c.serve_one.ensures.sound c.serve_one.ensures.tested.1 c.serve_one.ensures.tested.0 c.serve_one.ensures.marked
 
 pub returns-else-set : goal.returns-else-set
 returns-else-set c = raised_already c.args.self.now (record (the_view c.self.inside) { objects = c.set.new.self.items; owned = c.set.new.self.owned }) c.args.event c.set.result c.requires.kind (λ t. c.set.ensures.answer t ∙ ap (λ (x : Dispatcher). not (signaled (object_at x.objects c.args.event) t)) c.self.view_is) c.if-set.false (exchanged_whole (the_view c.self.inside) c.args.self.now c.args.event (with_set true) c.set.new.self.items c.set.new.self.owned c.self.view_is c.set.ensures.items c.set.ensures.owned) c.requires.fresh

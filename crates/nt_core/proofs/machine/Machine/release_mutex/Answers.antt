@@ -5,7 +5,7 @@ use Rattle.nt_calls.specs.declared.call.Call.{Call}
 use Rattle.nt_calls.specs.declared.call.Reply.{Reply}
 use Rattle.nt_calls.specs.Naming.{act_named}
 use Rattle.nt_calls.specs.Rights.{act_denied}
-use Rattle.nt_core.specs.Accepts.{IsMade}
+use Rattle.nt_core.specs.Accepts.{IsCallMade}
 use Rattle.nt_objects.specs.Object.{unlocked}
 use Rattle.nt_calls.specs.State.{object_at}
 use Rattle.nt_core.proofs.Replacing.{replaced_accepted}
@@ -32,5 +32,5 @@ returns c =
     let judged = (subst (λ (x : Dispatcher). IsJudged x.handles c.args.handle 0 (λ _ h. unlock_causes x.objects c.args.thread h) (Ok c.in_ok-mutex.mutex)) c.self.view_is c.in_ok-mutex.ensures) in
     let owner = unlock_free old.objects c.args.thread mutex judged.1 in
     let accepted = replaced_accepted old new c.args.thread mutex (unlocked (object_at old.objects mutex)) (Call.Act (Act.ReleaseMutex mutex)) Reply.Done c.requires.fresh (may_unlock old mutex c.args.thread c.requires.fresh owner) refl refl refl c.give_back.ensures in
-    subst (λ (h : ℕ). IsMade old new c.args.thread false (Call.Act (Act.ReleaseMutex h)) (Ok Reply.Done)) judged.0
+    subst (λ (h : ℕ). IsCallMade old new c.args.thread false (Call.Act (Act.ReleaseMutex h)) (Ok Reply.Done)) judged.0
     (accepted_made old new c.args.thread false (Call.Act (Act.ReleaseMutex mutex)) Reply.Done c.requires.free judged.1 accepted)

@@ -5,7 +5,7 @@ use Rattle.nt_calls.specs.declared.call.Call.{Call}
 use Rattle.nt_calls.specs.declared.call.Reply.{Reply}
 use Rattle.nt_calls.specs.Naming.{act_named}
 use Rattle.nt_calls.specs.Rights.{act_denied}
-use Rattle.nt_core.specs.Accepts.{IsMade}
+use Rattle.nt_core.specs.Accepts.{IsCallMade}
 use Rattle.std.specs.Prelude.{ℤ}
 use mir.Val.{to_z, of_z}
 use Rattle.std.proofs.lemmas.Int.{to_z-of_z}
@@ -42,5 +42,5 @@ returns c t free =
     let previous : c.raise_count.result ≡ count_of o = c.raise_count.ensures.previous in
     let reading : to_z w32 (of_z w32 c.raise_count.result) ≡ c.raise_count.result = (let k = c.raise_count.type_inv in to_z-of_z w32 c.raise_count.result (search (rules, k))) in
     let accepted = subst (λ (z : ℤ). Accepts old new t (Call.Act (Act.ReleaseSemaphore semaphore c.args.count)) (Reply.Previous z)) (sym (reading ∙ previous)) told in
-    subst (λ (h : ℕ). IsMade old new t (act_denied old.handles act) (Call.Act (Act.ReleaseSemaphore h c.args.count)) (Ok (Reply.Previous (to_z w32 (of_z w32 c.raise_count.result))))) judged.0
+    subst (λ (h : ℕ). IsCallMade old new t (act_denied old.handles act) (Call.Act (Act.ReleaseSemaphore h c.args.count)) (Ok (Reply.Previous (to_z w32 (of_z w32 c.raise_count.result))))) judged.0
     (accepted_made old new t (act_denied old.handles act) (Call.Act (Act.ReleaseSemaphore semaphore c.args.count)) (Reply.Previous (to_z w32 (of_z w32 c.raise_count.result))) free judged.1 accepted)

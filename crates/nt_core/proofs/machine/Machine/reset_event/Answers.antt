@@ -5,7 +5,7 @@ use Rattle.nt_calls.specs.declared.call.Reply.{Reply}
 use Rattle.std.specs.Prelude.{Ok, Err}
 use Rattle.nt_calls.specs.Naming.{act_named}
 use Rattle.nt_calls.specs.Rights.{act_denied}
-use Rattle.nt_core.specs.Accepts.{IsMade}
+use Rattle.nt_core.specs.Accepts.{IsCallMade}
 use Rattle.nt_objects.specs.Object.{is_event, with_set}
 use Rattle.nt_core.specs.Dispatcher.{Dispatcher}
 use Rattle.nt_core.specs.Accepts.{Accepts}
@@ -32,5 +32,5 @@ returns c t free =
     let judged = (subst (λ (x : Dispatcher). IsJudged x.handles c.args.handle modify_state (kind_causes is_event x.objects) (Ok c.in_ok-event.event)) c.self.view_is c.in_ok-event.ensures) in
     let accepted = subst (λ (d : Dispatcher). Accepts old d t (Call.Act (Act.ResetEvent event)) Reply.Done) (sym (exchanged_whole (the_view c.self.inside) old event (with_set false) c.reset.new.self.items c.reset.new.self.owned c.self.view_is c.reset.ensures.items c.reset.ensures.owned))
     (reset_accepted old t event c.requires.fresh (kind_free is_event old.objects (act_denied old.handles (Act.ResetEvent c.args.handle)) event judged.1)) in
-    subst (λ (h : ℕ). IsMade old new t (act_denied old.handles act) (Call.Act (Act.ResetEvent h)) (Ok Reply.Done)) judged.0
+    subst (λ (h : ℕ). IsCallMade old new t (act_denied old.handles act) (Call.Act (Act.ResetEvent h)) (Ok Reply.Done)) judged.0
     (accepted_made old new t (act_denied old.handles act) (Call.Act (Act.ResetEvent event)) Reply.Done free judged.1 accepted)

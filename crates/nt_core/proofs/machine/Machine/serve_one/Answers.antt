@@ -11,31 +11,30 @@ serve_first-requires-clause-first c =
     sym (ap (λ (d : Dispatcher). slice_get ((state d).queues c.args.object) 0) c.self.view_is) ∙ (sym c.first_on.ensures.first ∙ c.in-Some.is)
 
 pub serve_first-requires-clause-countable : goal.serve_first-requires-clause-countable
-serve_first-requires-clause-countable c = one_countable c.args.self.now c.args.object c.requires.anew (one_few c.args.self.now c.args.object c.requires.sound)
+serve_first-requires-clause-countable c = one_countable c.args.self.now c.args.object c.requires.untold.1 (one_few c.args.self.now c.args.object c.requires.sound)
 
 pub returns-in-Some-clause-served : goal.returns-in-Some-clause-served
-returns-in-Some-clause-served c = one_served c.args.self.now c.serve_first.new.self c.args.object c.requires.first c.requires.local c.serve_first.ensures.visits
+returns-in-Some-clause-served c = one_served c.args.self.now c.serve_first.new.self c.args.object c.requires.untold.0 c.requires.local c.serve_first.ensures.visits
 
-pub returns-in-Some-clause-most : goal.returns-in-Some-clause-most
-returns-in-Some-clause-most c = one_most c.args.self.now c.serve_first.new.self c.args.object c.requires.anew c.serve_first.ensures.visits
-
-pub returns-in-Some-clause-least : goal.returns-in-Some-clause-least
-returns-in-Some-clause-least c = one_least c.args.self.now c.serve_first.new.self c.args.object c.requires.first c.requires.anew c.serve_first.ensures.visits
+pub returns-in-Some-clause-tested : goal.returns-in-Some-clause-tested
+returns-in-Some-clause-tested c =
+    let old = c.args.self.now in
+    let new = c.serve_first.new.self in (
+      one_least old new c.args.object c.requires.untold.0 c.requires.untold.1 c.serve_first.ensures.visits,
+      one_most old new c.args.object c.requires.untold.1 c.serve_first.ensures.visits,
+    )
 
 pub returns-in_default-clause-served : goal.returns-in_default-clause-served
 returns-in_default-clause-served c =
     let old = c.args.self.now in
     let first = c.first_on.ensures.first ∙ ap (λ (d : Dispatcher). slice_get ((state d).queues c.args.object) 0) c.self.view_is in
-    one_served old old c.args.object c.requires.first c.requires.local (at_end c.args.object old old (at_first c.args.object old None c.requires.sound (sym c.in_default.is ∙ first)))
+    one_served old old c.args.object c.requires.untold.0 c.requires.local (at_end c.args.object old old (at_first c.args.object old None c.requires.sound (sym c.in_default.is ∙ first)))
 
-pub returns-in_default-clause-most : goal.returns-in_default-clause-most
-returns-in_default-clause-most c =
+pub returns-in_default-clause-tested : goal.returns-in_default-clause-tested
+returns-in_default-clause-tested c =
     let old = c.args.self.now in
     let first = c.first_on.ensures.first ∙ ap (λ (d : Dispatcher). slice_get ((state d).queues c.args.object) 0) c.self.view_is in
-    one_most old old c.args.object c.requires.anew (at_end c.args.object old old (at_first c.args.object old None c.requires.sound (sym c.in_default.is ∙ first)))
-
-pub returns-in_default-clause-least : goal.returns-in_default-clause-least
-returns-in_default-clause-least c =
-    let old = c.args.self.now in
-    let first = c.first_on.ensures.first ∙ ap (λ (d : Dispatcher). slice_get ((state d).queues c.args.object) 0) c.self.view_is in
-    one_least old old c.args.object c.requires.first c.requires.anew (at_end c.args.object old old (at_first c.args.object old None c.requires.sound (sym c.in_default.is ∙ first)))
+    let none = at_end c.args.object old old (at_first c.args.object old None c.requires.sound (sym c.in_default.is ∙ first)) in (
+      one_least old old c.args.object c.requires.untold.0 c.requires.untold.1 none,
+      one_most old old c.args.object c.requires.untold.1 none,
+    )

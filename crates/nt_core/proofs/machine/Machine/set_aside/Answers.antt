@@ -3,8 +3,8 @@ use Rattle.nt_calls.specs.State.{State}
 use Rattle.nt_calls.specs.Living.{LivesWhileKept}
 use Rattle.nt_core.specs.Dispatcher.{Dispatcher, state}
 use Rattle.nt_core.specs.Lawful.{IsSteady}
-use Rattle.nt_core.specs.SetAside.{can_set_aside, set_aside}
-use Rattle.nt_core.proofs.SettingAside.{MayMove, with_aside, may_move, steady_aside, living_aside}
+use Rattle.nt_core.specs.SetAside.{can_set_aside, set_aside, with_aside}
+use Rattle.nt_core.proofs.SettingAside.{MayMove, may_move, steady_aside, living_aside}
 use Rattle.nt_core.proofs.machine.Machine.set_aside.Goals as goal
 
 refused : (old mid : State) → mid ≡ old → LivesWhileKept old → LivesWhileKept mid

@@ -5,7 +5,7 @@ use Rattle.nt_calls.specs.declared.call.Reply.{Reply}
 use Rattle.std.specs.Prelude.{Ok, Err}
 use Rattle.nt_calls.specs.Naming.{act_named}
 use Rattle.nt_calls.specs.Rights.{act_denied}
-use Rattle.nt_core.specs.Accepts.{IsMade}
+use Rattle.nt_core.specs.Accepts.{IsCallMade}
 use Rattle.nt_objects.specs.Object.{is_event}
 use Rattle.nt_core.proofs.Replacing.{set_accepted}
 use Rattle.nt_core.proofs.Making.{refused_with, accepted_made, kind_free}
@@ -28,5 +28,5 @@ returns c t free =
     let event = c.in_ok-event.event in
     let judged = (subst (λ (x : Dispatcher). IsJudged x.handles c.args.handle modify_state (kind_causes is_event x.objects) (Ok c.in_ok-event.event)) c.self.view_is c.in_ok-event.ensures) in
     let accepted = set_accepted old new t event c.requires.fresh (kind_free is_event old.objects (act_denied old.handles (Act.SetEvent c.args.handle)) event judged.1) c.raise_event.ensures in
-    subst (λ (h : ℕ). IsMade old new t (act_denied old.handles act) (Call.Act (Act.SetEvent h)) (Ok Reply.Done)) judged.0
+    subst (λ (h : ℕ). IsCallMade old new t (act_denied old.handles act) (Call.Act (Act.SetEvent h)) (Ok Reply.Done)) judged.0
     (accepted_made old new t (act_denied old.handles act) (Call.Act (Act.SetEvent event)) Reply.Done free judged.1 accepted)

@@ -11,7 +11,7 @@ use Rattle.nt_calls.specs.Naming.{object_named, lacks}
 use Rattle.nt_calls.specs.Rights.{signal_denied}
 use Rattle.nt_calls.specs.Refusals.{first_of_causes, swap_causes}
 use Rattle.nt_core.specs.Dispatcher.{Dispatcher, state}
-use Rattle.nt_core.specs.Accepts.{IsMade, reply_of}
+use Rattle.nt_core.specs.Accepts.{IsCallMade, reply_of}
 use Rattle.nt_core.proofs.Closing.{named_living}
 use Rattle.nt_core.proofs.Judging.{undenied}
 use Rattle.nt_core.proofs.Making.{refused_made, accepted_made}
@@ -23,11 +23,11 @@ denied_as d inside signal object signaled os no_signal no_wait denied same by_ob
     is ∙ (λ i. not (is_mutex (object_at (by_objects i) (by_signal i))) && by_right i || by_wait i) ∙ ap (λ (x : Dispatcher). signal_denied x.handles x.objects signal || lacks 0x00100000 x.handles object) same
 
 -- how it is made does not hang on how the rights and the numbers of the objects were found
-made_as : (old new : Dispatcher) (t : ℕ) (found denied : Bool) (signaled h awaited object ms : ℕ) (alertable : Bool) (result : Result Reply Refusal) → found ≡ denied → signaled ≡ h → awaited ≡ object → IsMade old new t found (Call.Wait (WaitCall.Swap signaled awaited ms alertable)) result → IsMade old new t denied (Call.Wait (WaitCall.Swap h object ms alertable)) result
+made_as : (old new : Dispatcher) (t : ℕ) (found denied : Bool) (signaled h awaited object ms : ℕ) (alertable : Bool) (result : Result Reply Refusal) → found ≡ denied → signaled ≡ h → awaited ≡ object → IsCallMade old new t found (Call.Wait (WaitCall.Swap signaled awaited ms alertable)) result → IsCallMade old new t denied (Call.Wait (WaitCall.Swap h object ms alertable)) result
 made_as old new t found denied signaled h awaited object ms alertable result by_right by_signal by_object made =
-    subst (λ (b : Bool). IsMade old new t b (Call.Wait (WaitCall.Swap h object ms alertable)) result) by_right
-    (subst (λ (k : ℕ). IsMade old new t found (Call.Wait (WaitCall.Swap k object ms alertable)) result) by_signal
-    (subst (λ (k : ℕ). IsMade old new t found (Call.Wait (WaitCall.Swap signaled k ms alertable)) result) by_object made))
+    subst (λ (b : Bool). IsCallMade old new t b (Call.Wait (WaitCall.Swap h object ms alertable)) result) by_right
+    (subst (λ (k : ℕ). IsCallMade old new t found (Call.Wait (WaitCall.Swap k object ms alertable)) result) by_signal
+    (subst (λ (k : ℕ). IsCallMade old new t found (Call.Wait (WaitCall.Swap signaled k ms alertable)) result) by_object made))
 
 pub swap-requires-clause-free : goal.swap-requires-clause-free
 swap-requires-clause-free c =

@@ -34,7 +34,7 @@ returns-then-not-was_set-clause-ok c =
     let same : armed ≡ asked old.now c.args.thread c.args.due c.args.period c.args.routine = λ i. record { due = due i; period = period i; routine = c.routine_for.ensures i } in
     let past : c.due_moment-due.result ≤ c.self.inside.moment = let h = c.if-due-get.true in let k = c.get.ensures.value in omega (arith, h, k) in
     let was = ap (λ (o : Object). signaled o c.args.thread) (sym c.object.ensures) ∙ sym c.signaled_for-was_set.ensures in
-    set_and_served old c.arm.new.self c.expire.new.self c.serve_one.new.self c.args.thread c.args.timer c.self.inside.moment c.args.due c.args.period c.args.routine armed c.requires.fresh c.requires.running.idle c.requires.kind same now past (was ∙ c.if-not-was_set.true) c.in_ok-arm.ensures.armed c.expire.ensures.expired c.serve_one.ensures.served c.serve_one.ensures.sound c.serve_one.ensures.most c.serve_one.ensures.least (c.serve_one.ensures.marked ∙ (c.expire.ensures.kept.marked ∙ c.in_ok-arm.ensures.kept.marked))
+    set_and_served old c.arm.new.self c.expire.new.self c.serve_one.new.self c.args.thread c.args.timer c.self.inside.moment c.args.due c.args.period c.args.routine armed c.requires.fresh c.requires.running.idle c.requires.kind same now past (was ∙ c.if-not-was_set.true) c.in_ok-arm.ensures.armed c.expire.ensures.expired c.serve_one.ensures.served c.serve_one.ensures.sound c.serve_one.ensures.tested.1 c.serve_one.ensures.tested.0 (c.serve_one.ensures.marked ∙ (c.expire.ensures.kept.marked ∙ c.in_ok-arm.ensures.kept.marked))
 
 pub returns-else-not-was_set-clause-ok : goal.returns-else-not-was_set-clause-ok
 returns-else-not-was_set-clause-ok c =

@@ -1,7 +1,7 @@
 use Rattle.std.proofs.Common.{◌≡◌, ℕ, List, sym, ap, ◌∙◌, subst}
 use Rattle.nt_marks.specs.Marks.{AddsMarks}
 use Rattle.nt_core.specs.Dispatcher.{Dispatcher}
-use Rattle.nt_core.specs.Lawful.{IsSound}
+use Rattle.nt_core.specs.Lawful.{IsMachineSound}
 use Rattle.nt_core.specs.Accepts.{IsSetBy, IsSetAmong, AreStopped, IsStoppedAfter}
 use Rattle.nt_core.specs.contracts.machine.Machine.{the_view}
 use Rattle.nt_core.proofs.Leaving.{set_among, stopped_as}
@@ -14,7 +14,7 @@ returns c =
     let d = the_view c.self.inside in
     let t = c.args.thread in
     let timers = c.timers_of-timers.result.now in
-    let sound : IsSound d = subst IsSound (sym c.self.view_is) c.requires.sound in
+    let sound : IsMachineSound d = subst IsMachineSound (sym c.self.view_is) c.requires.sound in
     let same = set_among d t timers sound c.timers_of-timers.ensures.listed in
     let new = record d { objects = c.stop_each.new.objects.items; owned = c.stop_each.new.objects.owned; alarms = c.stop_each.new.alarms; marked = record d.marked { changed = c.stop_each.new.changed } } in
     let stopped : AreStopped (IsSetBy d.objects t) d.objects new.objects = stopped_as (IsSetAmong timers d.objects t) (IsSetBy d.objects t) d.objects new.objects same c.stop_each.ensures.stopped in
@@ -23,5 +23,5 @@ returns c =
     let stops : IsStoppedAfter d t new = record { rest = rest; stopped = stopped; marks = marks } in
     record {
       stopped = subst (λ (x : Dispatcher). IsStoppedAfter x t new) c.self.view_is stops;
-      sound = subst IsSound (sym rest) (sound_marked (record d { objects = new.objects; alarms = new.alarms }) new.marked (c.stop_each.ensures.sound d sound) (record { changed = marks.count ∙ (sound.places.changed ∙ sym stopped.count); alerted = sound.places.alerted }));
+      sound = subst IsMachineSound (sym rest) (sound_marked (record d { objects = new.objects; alarms = new.alarms }) new.marked (c.stop_each.ensures.sound d sound) (record { changed = marks.count ∙ (sound.places.changed ∙ sym stopped.count); alerted = sound.places.alerted }));
     }

@@ -3,7 +3,7 @@ use Rattle.nt_waits.specs.declared.wait.Wait.{Wait}
 use Rattle.nt_calls.specs.declared.call.Reply.{Reply}
 use Rattle.nt_calls.specs.State.{State, deadline_after, pending_too}
 use Rattle.nt_core.specs.Dispatcher.{Dispatcher, state}
-use Rattle.nt_calls.specs.Serving.{wait_for}
+use Rattle.nt_calls.specs.Serving.{wait_on}
 use Rattle.nt_calls.specs.Steps.{begun}
 use Rattle.nt_core.specs.Lawful.{IsSteady}
 use Rattle.nt_core.specs.Accepts.{CanBegin}
@@ -13,10 +13,10 @@ use Rattle.nt_core.proofs.machine.Machine.swap.Goals as goal
 use Rattle.nt_core.proofs.machine.Machine.swap.Goals.{After-signal}
 
 -- once the object is signaled the wait can begin
-can : (c : After-signal) → CanBegin c.signal.new.self c.args.thread (wait_for (c.args.object ∷ []) false)
+can : (c : After-signal) → CanBegin c.signal.new.self c.args.thread (wait_on (c.args.object ∷ []) false)
 can c = record {
   idle = calm_idle c.args.self.now c.signal.new.self c.args.thread c.args.signal c.args.object c.args.mode.ms c.args.mode.alertable c.requires.fresh c.requires.free c.requires.living c.signal.ensures;
-  able = calm_able c.args.self.now c.signal.new.self c.args.thread c.args.signal c.args.object c.args.mode.ms c.args.mode.alertable c.requires.fresh c.requires.free c.requires.living c.signal.ensures (wait_for (c.args.object ∷ []) false) refl;
+  able = calm_able c.args.self.now c.signal.new.self c.args.thread c.args.signal c.args.object c.args.mode.ms c.args.mode.alertable c.requires.fresh c.requires.free c.requires.living c.signal.ensures (wait_on (c.args.object ∷ []) false) refl;
   room = calm_room c.args.self.now c.signal.new.self c.args.thread c.args.signal c.args.object c.args.mode.ms c.args.mode.alertable c.requires.fresh c.requires.free c.requires.living c.signal.ensures;
 }
 
@@ -33,11 +33,11 @@ end_at_once-requires-clause-steady c = steady (goal.at.end_at_once-requires-clau
 pub returns-in-Some : goal.returns-in-Some
 returns-in-Some c =
     swap_accepted c.args.self.now c.signal.new.self c.args.thread c.args.signal c.args.object c.args.mode.ms c.args.mode.alertable c.requires.fresh c.requires.free c.requires.living c.signal.ensures c.end_at_once.new.self (Reply.Status c.in-Some.status)
-    c.end_at_once.ensures.grants (ap (λ v. v.looked) c.end_at_once.ensures.table) c.end_at_once.ensures.steady c.in-Some.ensures.begun
+    c.end_at_once.ensures.kept.grants (ap (λ v. v.looked) c.end_at_once.ensures.kept.table) c.end_at_once.ensures.steady c.in-Some.ensures.begun
 
 pub pend_one-requires-clause-can : goal.pend_one-requires-clause-can
 pend_one-requires-clause-can c =
-    subst (λ (d : Dispatcher). CanBegin d c.args.thread (wait_for (c.args.object ∷ []) false)) (sym c.in_default.ensures.none) (can (goal.at.pend_one-requires-clause-can c).After-signal)
+    subst (λ (d : Dispatcher). CanBegin d c.args.thread (wait_on (c.args.object ∷ []) false)) (sym c.in_default.ensures.none) (can (goal.at.pend_one-requires-clause-can c).After-signal)
 
 -- the wait pends
 pub returns : goal.returns
@@ -54,4 +54,4 @@ returns c =
     let settled : IsSteady new = began_pending calm new t c.args.mode.ms w (steady (goal.at.returns c).After-signal) pends.0 pends.1 pends.2 refl becomes done.sound (done.marked ∙ ap (λ (d : Dispatcher). d.marked) same) in
     let answers : (Reply.Pended, state new) ≡ begun (state calm) t w c.args.mode.ms = ap (λ (s : State). (Reply.Pended, s)) becomes ∙ sym (begun_pends (state calm) t w c.args.mode.ms pends.0 pends.1 pends.2) in
     swap_accepted c.args.self.now calm t c.args.signal c.args.object c.args.mode.ms c.args.mode.alertable c.requires.fresh c.requires.free c.requires.living c.signal.ensures new Reply.Pended
-    (done.grants ∙ c.end_at_once.ensures.grants) (done.looked ∙ ap (λ v. v.looked) c.end_at_once.ensures.table) settled answers
+    (done.grants ∙ c.end_at_once.ensures.kept.grants) (done.looked ∙ ap (λ v. v.looked) c.end_at_once.ensures.kept.table) settled answers

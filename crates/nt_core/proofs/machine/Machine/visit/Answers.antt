@@ -3,7 +3,7 @@ use Rattle.std.specs.Option.{option_map, IsSome}
 use Rattle.std.specs.FinMap as map
 use Rattle.nt_waits.specs.Waits.{Waits, one_for, only_of}
 use Rattle.nt_core.specs.Dispatcher.{Dispatcher, dispatcher_of}
-use Rattle.nt_core.specs.Lawful.{IsSound}
+use Rattle.nt_core.specs.Lawful.{IsMachineSound}
 use Rattle.nt_core.specs.Visits.{HasVisited, uncounted}
 use Rattle.nt_core.proofs.Visiting.{looked_sound, stands_waits, only_this}
 use Rattle.nt_core.proofs.machine.Machine.visit.Goals as goal
@@ -22,8 +22,8 @@ visit_one-requires-clause-only c =
 
 pub visit_one-requires-clause-sound : goal.visit_one-requires-clause-sound
 visit_one-requires-clause-sound c =
-    subst (λ (w : Waits). IsSound (dispatcher_of c.self.inside.threads c.self.inside.handles.opened c.self.inside.objects.items c.self.inside.objects.owned w c.self.inside.apcs c.self.inside.handing.items c.self.inside.standings.items c.self.inside.moment c.self.inside.grants.items c.self.inside.alarms c.self.inside.leaving c.self.inside.changed c.self.inside.alerted)) (sym c.in-Some.ensures.counted)
-    (looked_sound (dispatcher_of c.self.inside.threads c.self.inside.handles.opened c.self.inside.objects.items c.self.inside.objects.owned c.self.inside.waits c.self.inside.apcs c.self.inside.handing.items c.self.inside.standings.items c.self.inside.moment c.self.inside.grants.items c.self.inside.alarms c.self.inside.leaving c.self.inside.changed c.self.inside.alerted) (c.self.inside.waits.looked + 1) (subst IsSound (sym c.self.view_is) c.requires.sound))
+    subst (λ (w : Waits). IsMachineSound (dispatcher_of c.self.inside.threads c.self.inside.handles.opened c.self.inside.objects.items c.self.inside.objects.owned w c.self.inside.apcs c.self.inside.handing.items c.self.inside.standings.items c.self.inside.moment c.self.inside.grants.items c.self.inside.alarms c.self.inside.leaving c.self.inside.changed c.self.inside.alerted)) (sym c.in-Some.ensures.counted)
+    (looked_sound (dispatcher_of c.self.inside.threads c.self.inside.handles.opened c.self.inside.objects.items c.self.inside.objects.owned c.self.inside.waits c.self.inside.apcs c.self.inside.handing.items c.self.inside.standings.items c.self.inside.moment c.self.inside.grants.items c.self.inside.alarms c.self.inside.leaving c.self.inside.changed c.self.inside.alerted) (c.self.inside.waits.looked + 1) (subst IsMachineSound (sym c.self.view_is) c.requires.sound))
 
 pub returns-in-Some-clause-visited : goal.returns-in-Some-clause-visited
 returns-in-Some-clause-visited c =
@@ -35,8 +35,8 @@ returns-in-Some-clause-visited c =
 
 pub visit_any-requires-clause-sound : goal.visit_any-requires-clause-sound
 visit_any-requires-clause-sound c =
-    subst (λ (w : Waits). IsSound (dispatcher_of c.self.inside.threads c.self.inside.handles.opened c.self.inside.objects.items c.self.inside.objects.owned w c.self.inside.apcs c.self.inside.handing.items c.self.inside.standings.items c.self.inside.moment c.self.inside.grants.items c.self.inside.alarms c.self.inside.leaving c.self.inside.changed c.self.inside.alerted)) (sym c.look.ensures.counted)
-    (looked_sound (dispatcher_of c.self.inside.threads c.self.inside.handles.opened c.self.inside.objects.items c.self.inside.objects.owned c.self.inside.waits c.self.inside.apcs c.self.inside.handing.items c.self.inside.standings.items c.self.inside.moment c.self.inside.grants.items c.self.inside.alarms c.self.inside.leaving c.self.inside.changed c.self.inside.alerted) (c.self.inside.waits.looked + one_for c.look.result) (subst IsSound (sym c.self.view_is) c.requires.sound))
+    subst (λ (w : Waits). IsMachineSound (dispatcher_of c.self.inside.threads c.self.inside.handles.opened c.self.inside.objects.items c.self.inside.objects.owned w c.self.inside.apcs c.self.inside.handing.items c.self.inside.standings.items c.self.inside.moment c.self.inside.grants.items c.self.inside.alarms c.self.inside.leaving c.self.inside.changed c.self.inside.alerted)) (sym c.look.ensures.counted)
+    (looked_sound (dispatcher_of c.self.inside.threads c.self.inside.handles.opened c.self.inside.objects.items c.self.inside.objects.owned c.self.inside.waits c.self.inside.apcs c.self.inside.handing.items c.self.inside.standings.items c.self.inside.moment c.self.inside.grants.items c.self.inside.alarms c.self.inside.leaving c.self.inside.changed c.self.inside.alerted) (c.self.inside.waits.looked + one_for c.look.result) (subst IsMachineSound (sym c.self.view_is) c.requires.sound))
 
 pub returns-clause-visited : goal.returns-clause-visited
 returns-clause-visited c =

@@ -4,7 +4,7 @@ use Rattle.nt_calls.specs.declared.call.WaitCall.{WaitCall}
 use Rattle.nt_calls.specs.State.{deadline_after}
 use Rattle.nt_core.specs.Dispatcher.{state}
 use Rattle.nt_calls.specs.Refusals.{grows}
-use Rattle.nt_calls.specs.Serving.{wait_for}
+use Rattle.nt_calls.specs.Serving.{wait_on}
 use Rattle.nt_calls.specs.Steps.{begun}
 use Rattle.nt_core.specs.Accepts.{Accepts, CanBegin, HasBegun, IsWaitMade, objects_call, reply_of, replied}
 use Rattle.nt_core.specs.declared.waiting.Mode.{Mode}
@@ -17,7 +17,7 @@ pub begin_wait-requires-clause-can : goal.begin_wait-requires-clause-can
 begin_wait-requires-clause-can c =
     let d = c.args.self.now in
     let runs = free_runs d c.args.thread c.requires.caller in
-    subst (λ (m : Mode). CanBegin d c.args.thread (wait_for [] m.all)) (sym c.new-in-Sleep.ensures) (free_can d c.args.thread (wait_for [] false) c.requires.fresh c.requires.caller (sound_sleep (state d) c.args.thread runs.known runs.runs))
+    subst (λ (m : Mode). CanBegin d c.args.thread (wait_on [] m.all)) (sym c.new-in-Sleep.ensures) (free_can d c.args.thread (wait_on [] false) c.requires.fresh c.requires.caller (sound_sleep (state d) c.args.thread runs.known runs.runs))
 
 pub returns-in-Sleep : goal.returns-in-Sleep
 returns-in-Sleep c =
@@ -34,4 +34,4 @@ returns-in-Sleep c =
     (λ ended. Accepts old new t (Call.Wait asked) (reply_of ended))
     (λ ended begins. wait_accepted old new t asked (reply_of ended) c.requires.fresh began.grants began.looked began.steady refl begins)
     c.begin_wait.result (subst (λ (m : Mode). IfOk c.begin_wait.result (λ ended. HasBegun (state old) (state new) t [] m (reply_of ended))) is began.begun))
-    (subst (λ (m : Mode). OnErr c.begin_wait.result (IsTrue (grows (state old) t (Call.Wait (objects_call m []))))) is began.grows) began.memory began.err))
+    (subst (λ (m : Mode). OnErr c.begin_wait.result (IsTrue (grows (state old) t (Call.Wait (objects_call m []))))) is began.grows) began.refused))

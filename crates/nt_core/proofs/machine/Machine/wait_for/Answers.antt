@@ -4,7 +4,7 @@ use Rattle.nt_calls.specs.declared.call.Call.{Call}
 use Rattle.nt_calls.specs.declared.call.WaitCall.{WaitCall}
 use Rattle.nt_calls.specs.State.{deadline_after}
 use Rattle.nt_core.specs.Dispatcher.{Dispatcher, state}
-use Rattle.nt_calls.specs.Serving.{wait_for}
+use Rattle.nt_calls.specs.Serving.{wait_on}
 use Rattle.nt_calls.specs.Steps.{begun}
 use Rattle.nt_core.specs.Accepts.{Accepts, reply_of}
 use Rattle.nt_calls.specs.Refusals.{first_of_causes, objects_causes, refusal}
@@ -20,7 +20,7 @@ begin_wait-requires-clause-can c =
     let call = Call.Wait (WaitCall.Objects c.args.mode.all c.args.mode.alertable c.args.mode.ms c.args.numbers.now) in
     let judged = c.objects_refusal.ensures ∙ (ap (λ (os : List Object). first_of_causes (objects_causes os c.args.thread c.args.denied c.args.numbers.now)) c.as_slice.ensures ∙ ap (λ (x : Dispatcher). first_of_causes (objects_causes x.objects c.args.thread c.args.denied c.args.numbers.now)) c.self.view_is) in
     let free : refusal (state d) c.args.thread false call ≡ None = undenied (state d) c.args.thread c.args.denied call (c.requires.caller c.args.denied call ∙ (sym judged ∙ c.in-None.is)) in
-    free_can d c.args.thread (wait_for c.args.numbers.now c.args.mode.all) c.requires.fresh c.requires.caller (sound_objects (state d) c.args.thread c.args.numbers.now c.args.mode.all c.args.mode.alertable c.args.mode.ms c.requires.living free)
+    free_can d c.args.thread (wait_on c.args.numbers.now c.args.mode.all) c.requires.fresh c.requires.caller (sound_objects (state d) c.args.thread c.args.numbers.now c.args.mode.all c.args.mode.alertable c.args.mode.ms c.requires.living free)
 
 pub returns-in-Some : goal.returns-in-Some
 returns-in-Some c =
@@ -43,4 +43,4 @@ returns-in-None c =
     (λ ended. Accepts old new t (Call.Wait asked) (reply_of ended))
     (λ ended begins. wait_accepted old new t asked (reply_of ended) c.requires.fresh began.grants began.looked began.steady refl begins)
     c.begin_wait.result began.begun)
-    began.grows began.memory began.err
+    began.grows began.refused

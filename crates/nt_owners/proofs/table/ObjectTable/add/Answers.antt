@@ -2,7 +2,7 @@ use Rattle.std.proofs.Common.{◌≡◌, ◌<◌, ◌+◌, min, vec_capacity, Li
 use Rattle.std.proofs.lemmas.List.{length-append}
 use Rattle.std.proofs.Math.Nat.{min-le_right}
 use Rattle.nt_objects.specs.declared.object.Object.{Object}
-use Rattle.nt_objects.specs.Object.{owner_of}
+use Rattle.nt_objects.specs.Object.{mutex_owner}
 use Rattle.nt_owners.specs.Objects.{Objects, OwnersAgree, IsPassed}
 use Rattle.nt_owners.proofs.PassLemmas.{owner_known, agree_added}
 use Rattle.nt_owners.proofs.KeptLemmas.{unlisted, next_unowned}
@@ -17,7 +17,7 @@ invariant_of-self c =
     let items = c.self.inside.objects.items in
     let lists = c.self.inside.owners.lists in
     let count : c.new-number.result ≡ length items = search rules in
-    let passed : IsPassed lists c.pass.new.owners.lists (length items) (owner_of c.args.object) = rw (count, c.owner.ensures) at c.pass.ensures.passed in
+    let passed : IsPassed lists c.pass.new.owners.lists (length items) (mutex_owner c.args.object) = rw (count, c.owner.ensures) at c.pass.ensures.passed in
     let short : length items < min (vec_capacity c.self.inside.objects) c.self.inside.owners.room = subst (λ (t : Objects). length t.items < t.room) (sym c.self.view_is) c.requires.room in
     let least = min-le_right (vec_capacity c.self.inside.objects) c.self.inside.owners.room in
     let within : length items < c.self.inside.owners.room = omega (arith, short, least) in

@@ -2,7 +2,7 @@ use Rattle.std.proofs.Common.{◌↔◌, false, ap, Option, Some, Contains, ◌�
 use Rattle.std.proofs.lemmas.List.{length-set, get_or_read}
 use Rattle.nt_objects.specs.declared.object.Object.TheVariants.{Thread}
 use Rattle.nt_owners.specs.Owned.{list_of}
-use Rattle.nt_objects.specs.Object.{owner_of, owned_by}
+use Rattle.nt_objects.specs.Object.{mutex_owner, owned_by}
 use Rattle.nt_owners.specs.Objects.{Objects, object_at, OwnersAgree, IsPassed}
 use Rattle.nt_owners.proofs.PassLemmas.{heir_known, agree_put, agree_owner}
 use Rattle.nt_owners.proofs.table.ObjectTable.put.Goals as goal
@@ -19,7 +19,7 @@ pub invariant_of-self : goal.invariant_of-self
 invariant_of-self c =
     let items = c.self.inside.objects.items in
     let known : c.args.number < length items = subst (λ (t : Objects). c.args.number < length t.items) (sym c.self.view_is) c.requires.known in
-    let passed : IsPassed c.self.inside.owners.lists c.pass.new.owners.lists c.args.number (owner_of c.args.object) = rw c.owner-to.ensures at c.pass.ensures.passed in
+    let passed : IsPassed c.self.inside.owners.lists c.pass.new.owners.lists c.args.number (mutex_owner c.args.object) = rw c.owner-to.ensures at c.pass.ensures.passed in
     let agree : OwnersAgree (set items c.args.number c.args.object) c.pass.new.owners.lists = agree_put items c.self.inside.owners.lists c.pass.new.owners.lists c.args.number c.args.object known c.self.invariant.0 passed in
     let room : length items ≤ c.pass.new.owners.room = rw c.pass.ensures.room c.self.invariant.1 in
     (rw c.get-place.ensures agree, rw (length-set items c.get-place.result c.args.object) room)
@@ -30,4 +30,4 @@ pass-requires-clause-from c =
     let lists = c.self.inside.owners.lists in
     let known : c.args.number < length items = subst (λ (t : Objects). c.args.number < length t.items) (sym c.self.view_is) c.requires.known in
     let read : c.index.result.now ≡ object_at items c.args.number = get_or_read items c.args.number c.index.result.now known (rw c.get-place.ensures at c.index.ensures) (Thread false) in
-    subst (λ (owner : Option ℕ). (t : ℕ) → Contains (list_of lists t) c.args.number ↔ (owner ≡ Some t)) (sym (c.owner-from.ensures ∙ ap owner_of read)) (agree_owner items lists c.args.number c.self.invariant.0)
+    subst (λ (owner : Option ℕ). (t : ℕ) → Contains (list_of lists t) c.args.number ↔ (owner ≡ Some t)) (sym (c.owner-from.ensures ∙ ap mutex_owner read)) (agree_owner items lists c.args.number c.self.invariant.0)
