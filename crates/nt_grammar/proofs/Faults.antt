@@ -1,14 +1,14 @@
 -- The fault at which the parser stops is the first one.
-use Rattle.std.proofs.Common.{◌≡◌, ℕ, Bool, true, false, List, [], ◌∷◌, length, nat_le, Option, Some, None, Result, Ok, Err, refl, sym, ap, ◌∙◌, codes}
+use Rattle.std.proofs.Common.{◌≡◌, ℕ, Bool, true, false, List, [], ◌∷◌, length, nat_le, Option, Some, None, Result, Ok, Err, refl, sym, ap, ◌∙◌}
 use Rattle.std.specs.List.{list_all}
 use Rattle.std.specs.Str.{bytes_eq}
 use Rattle.nt_status.specs.declared.limits.TheConstants.{MAX_MOMENT, MAX_THREADS}
 use Rattle.nt_lines.specs.Words.{text_of, words_of, is_plain, caller_of}
 use Rattle.nt_grammar.specs.Scope.{Scope}
-use Rattle.nt_grammar.specs.Keywords.{keyword_of}
+use Rattle.nt_grammar.specs.Keywords.{ThreadsWord, TickWord, keyword_of, other_text}
 use Rattle.nt_grammar.specs.Places.{Place, NumberPlace, MomentPlace, ValueOf, value_in, is_word}
 use Rattle.nt_grammar.specs.Grammar.{After, Options, Each, Both, Values, places_of, after_of, called, row, only, options_fault, each_fault, places_fault, both_fault, after_fault, shape_fault, caller_fault, words_fault, opening_fault, line_fault}
-use Rattle.nt_grammar.specs.Reading.{◌>>=◌, end_at, option_at, options_at, value_at, places_at, each_at, both_at, after_at, tick_at, call_at, caller_at, statement_at, threads_at, opening_at, plain_text, short_line, opening_of, statement_of}
+use Rattle.nt_grammar.specs.Reading.{◌>>=◌, end_at, option_at, options_at, value_at, places_at, each_at, both_at, after_at, tick_at, keyword_line_at, caller_at, statement_at, threads_at, opening_at, plain_text, short_line, opening_of, statement_of}
 use Rattle.nt_grammar.specs.declared.keyword.Keyword.{Keyword}
 use Rattle.nt_grammar.specs.declared.parser.Statement.{Statement}
 use Rattle.nt_grammar.specs.declared.parser.Statement.TheVariants.{Tick}
@@ -91,8 +91,8 @@ after_faults scope (Both first second) words = both_faults scope first second wo
 
 -- ---- the line of a keyword
 
-call_faults : (scope : Scope) (who : ℕ) (k : Keyword) (words : Words) → fault_of (call_at scope who k words) ≡ shape_fault scope (row k).shape words
-unfolding call_at
+call_faults : (scope : Scope) (who : ℕ) (k : Keyword) (words : Words) → fault_of (keyword_line_at scope who k words) ≡ shape_fault scope (row k).shape words
+unfolding keyword_line_at
 call_faults scope who k words =
     places_faults scope (after_fault scope (after_of k)) (places_of k) (λ values rest. after_at scope (after_of k) rest >>= λ after. Ok (called who k values after))
     (λ values rest. made (λ after. called who k values after) (after_at scope (after_of k) rest) ∙ after_faults scope (after_of k) rest) words
@@ -113,9 +113,9 @@ tick scope words = places_faults scope (options_fault []) (NumberPlace 0 MAX_MOM
 statement : (scope : Scope) (words : Words) → fault_of (statement_at scope words) ≡ words_fault scope words
 unfolding statement_at
 statement scope [] = refl
-statement scope (first ∷ words) = by (is_word first (codes "tick")) (caller_of first) refl refl
+statement scope (first ∷ words) = by (is_word first (other_text TickWord)) (caller_of first) refl refl
   where
-    by : (b : Bool) (o : Option ℕ) → is_word first (codes "tick") ≡ b → caller_of first ≡ o → fault_of (statement_at scope (first ∷ words)) ≡ words_fault scope (first ∷ words)
+    by : (b : Bool) (o : Option ℕ) → is_word first (other_text TickWord) ≡ b → caller_of first ≡ o → fault_of (statement_at scope (first ∷ words)) ≡ words_fault scope (first ∷ words)
     by true o is e = rw is (tick scope words)
     by false None is e = rw is (rw e refl)
     by false (Some who) is e = rw is (rw e (caller_faults scope who words))
@@ -123,9 +123,9 @@ statement scope (first ∷ words) = by (is_word first (codes "tick")) (caller_of
 opening : (words : Words) → fault_of (opening_at words) ≡ opening_fault words
 unfolding opening_at threads_at
 opening [] = refl
-opening (first ∷ words) = by (is_word first (codes "threads")) refl
+opening (first ∷ words) = by (is_word first (other_text ThreadsWord)) refl
   where
-    by : (b : Bool) → is_word first (codes "threads") ≡ b → fault_of (opening_at (first ∷ words)) ≡ opening_fault (first ∷ words)
+    by : (b : Bool) → is_word first (other_text ThreadsWord) ≡ b → fault_of (opening_at (first ∷ words)) ≡ opening_fault (first ∷ words)
     by true e = rw e (places_faults (record { threads = 0; names = [] }) (options_fault []) (NumberPlace 1 MAX_THREADS ∷ []) (λ values rest. end_at rest >>= λ ended. Ok (Some values.0)) (λ values rest. ends _ rest) words)
     by false e = rw e refl
 

@@ -1,16 +1,15 @@
 -- The parser reads a statement only where the words are that statement.
-use Rattle.std.proofs.Common.{◌≡◌, ℕ, Bool, true, false, List, [], ◌∷◌, ◌++◌, length, nat_le, Option, Some, None, Result, Ok, Err, refl, ap, subst, ◌∙◌, codes}
+use Rattle.std.proofs.Common.{◌≡◌, ℕ, Bool, true, false, List, [], ◌∷◌, ◌++◌, length, nat_le, Option, Some, None, Result, Ok, Err, refl, ap, subst, ◌∙◌}
 use Rattle.std.specs.List.{list_all}
 use Rattle.std.specs.Str.{bytes_eq}
 use Rattle.std.proofs.lemmas.Slice.Eq.{bytes_eq-Decides}
 use Rattle.nt_status.specs.declared.limits.TheConstants.{MAX_MOMENT, MAX_THREADS}
 use Rattle.nt_lines.specs.Words.{text_of, words_of, is_plain, caller_of}
 use Rattle.nt_grammar.specs.Scope.{Scope}
-use Rattle.nt_grammar.specs.Keywords.{keywords, keyword_among, keyword_of}
-use Rattle.nt_grammar.specs.Keywords as keyword
+use Rattle.nt_grammar.specs.Keywords.{ThreadsWord, TickWord, keyword_among, keyword_of, keyword_text, keywords, other_text}
 use Rattle.nt_grammar.specs.Places.{NumberPlace, is_word}
 use Rattle.nt_grammar.specs.Grammar.{Values, ValuesAfter, places_of, after_of, Nothing, Moment, Called, called, Spells, value_parts, after_parts, Part, Value, IsStatement, IsOpening, IsPlainLine}
-use Rattle.nt_grammar.specs.Reading.{◌>>=◌, end_at, number_at, after_at, tick_at, call_at, caller_at, statement_at, threads_at, opening_at, plain_text, short_line, opening_of, statement_of}
+use Rattle.nt_grammar.specs.Reading.{◌>>=◌, end_at, number_at, after_at, tick_at, keyword_line_at, caller_at, statement_at, threads_at, opening_at, plain_text, short_line, opening_of, statement_of}
 use Rattle.nt_grammar.specs.Lines.{IsLine, IsOpeningLine, IsBlankLine}
 use Rattle.nt_grammar.specs.declared.fault.ScriptFault.{ScriptFault}
 use Rattle.nt_grammar.specs.declared.fault.ScriptFault.TheVariants.{ThreadsExpected}
@@ -31,8 +30,8 @@ record SaidCall (scope : Scope) (who : ℕ) (k : Keyword) (words : Words) (st : 
   made : called who k values after ≡ st
   spells : Spells scope (value_parts (places_of k) values ++ after_parts (after_of k) after) words
 
-call_said : (scope : Scope) (who : ℕ) (k : Keyword) (words : Words) (st : Statement) → call_at scope who k words ≡ Ok st → SaidCall scope who k words st
-unfolding call_at
+call_said : (scope : Scope) (who : ℕ) (k : Keyword) (words : Words) (st : Statement) → keyword_line_at scope who k words ≡ Ok st → SaidCall scope who k words st
+unfolding keyword_line_at
 call_said scope who k words st e =
     let read = places_said scope (places_of k) (λ values rest. after_at scope (after_of k) rest >>= λ after. Ok (called who k values after)) words st e in
     by read.values read.rest read.spells (after_at scope (after_of k) read.rest) refl read.after
@@ -48,18 +47,18 @@ call_said scope who k words st e =
 bytes_eq-true : (xs ys : List ℕ) → bytes_eq xs ys ≡ true → xs ≡ ys
 bytes_eq-true xs ys = (bytes_eq-Decides xs ys).0
 
-among_said : (ks : List Keyword) (word : List ℕ) (k : Keyword) → keyword_among ks word ≡ Some k → word ≡ keyword.text_of k
+among_said : (ks : List Keyword) (word : List ℕ) (k : Keyword) → keyword_among ks word ≡ Some k → word ≡ keyword_text k
 among_said [] word k e = let bad : None ≡ Some k = e in absurd (cc)
-among_said (one ∷ others) word k e = by (among_said others word k) (bytes_eq word (keyword.text_of one)) refl
+among_said (one ∷ others) word k e = by (among_said others word k) (bytes_eq word (keyword_text one)) refl
   where
-    by : (keyword_among others word ≡ Some k → word ≡ keyword.text_of k) → (b : Bool) → bytes_eq word (keyword.text_of one) ≡ b → word ≡ keyword.text_of k
+    by : (keyword_among others word ≡ Some k → word ≡ keyword_text k) → (b : Bool) → bytes_eq word (keyword_text one) ≡ b → word ≡ keyword_text k
     by more true is =
         let same : Some one ≡ Some k = rw is at e in
         let one_is : one ≡ k = (cc) in
-        bytes_eq-true word (keyword.text_of one) is ∙ ap keyword.text_of one_is
+        bytes_eq-true word (keyword_text one) is ∙ ap keyword_text one_is
     by more false is = more (rw is at e)
 
-keyword_said : (word : List ℕ) (k : Keyword) → keyword_of word ≡ Some k → word ≡ keyword.text_of k
+keyword_said : (word : List ℕ) (k : Keyword) → keyword_of word ≡ Some k → word ≡ keyword_text k
 keyword_said word k e = among_said keywords word k e
 
 -- ---- statements
@@ -100,9 +99,9 @@ number_said least most f words x e =
 statement_said : (scope : Scope) (words : Words) (st : Statement) → statement_at scope words ≡ Ok st → IsStatement scope st words
 unfolding statement_at tick_at
 statement_said scope [] st e = (Nothing, ok_is Blank st e, tt)
-statement_said scope (first ∷ words) st e = by (is_word first (codes "tick")) (caller_of first) refl refl
+statement_said scope (first ∷ words) st e = by (is_word first (other_text TickWord)) (caller_of first) refl refl
   where
-    by : (b : Bool) (o : Option ℕ) → is_word first (codes "tick") ≡ b → caller_of first ≡ o → IsStatement scope st (first ∷ words)
+    by : (b : Bool) (o : Option ℕ) → is_word first (other_text TickWord) ≡ b → caller_of first ≡ o → IsStatement scope st (first ∷ words)
     by true o is caller =
         let said = number_said 0 MAX_MOMENT (λ moment. Tick moment) words st (rw is at e) in
         (Moment said.number, said.made, (bytes_eq-true _ _ is, said.spells scope))
@@ -118,9 +117,9 @@ opened_by words found e = number_said 1 MAX_THREADS (λ n. Some n) words found e
 opening_said : (words : Words) (threads : ℕ) → opening_at words ≡ Ok (Some threads) → IsOpening threads words
 unfolding opening_at
 opening_said [] threads e = let bad : None ≡ Some threads = ok_is None (Some threads) e in absurd (cc)
-opening_said (first ∷ words) threads e = by (is_word first (codes "threads")) refl
+opening_said (first ∷ words) threads e = by (is_word first (other_text ThreadsWord)) refl
   where
-    by : (b : Bool) → is_word first (codes "threads") ≡ b → IsOpening threads (first ∷ words)
+    by : (b : Bool) → is_word first (other_text ThreadsWord) ≡ b → IsOpening threads (first ∷ words)
     by true is =
         let opened = opened_by words (Some threads) (rw is at e) in
         let same : opened.number ≡ threads = let h : Some opened.number ≡ Some threads = opened.made in (cc) in
@@ -130,9 +129,9 @@ opening_said (first ∷ words) threads e = by (is_word first (codes "threads")) 
 blank_said : (words : Words) → opening_at words ≡ Ok None → words ≡ []
 unfolding opening_at
 blank_said [] e = refl
-blank_said (first ∷ words) e = by (is_word first (codes "threads")) refl
+blank_said (first ∷ words) e = by (is_word first (other_text ThreadsWord)) refl
   where
-    by : (b : Bool) → is_word first (codes "threads") ≡ b → first ∷ words ≡ []
+    by : (b : Bool) → is_word first (other_text ThreadsWord) ≡ b → first ∷ words ≡ []
     by true is =
         let opened = opened_by words None (rw is at e) in
         let bad : Some opened.number ≡ None = opened.made in

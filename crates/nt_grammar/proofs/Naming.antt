@@ -2,10 +2,10 @@
 use Rattle.std.proofs.Common.{◌≡◌, ℕ, ◌&&◌, not, Bool, true, false, List, [], ◌∷◌, ◌++◌, ◌^◌, Option, Some, None, is_some, Result, Ok, Err, IfOk, refl, subst}
 use Rattle.nt_lines.specs.Words.{is_name, words_of, text_of}
 use Rattle.nt_grammar.specs.Scope.{Scope, bound_in}
-use Rattle.nt_grammar.specs.Keywords as keyword
+use Rattle.nt_grammar.specs.Keywords.{keyword_text}
 use Rattle.nt_grammar.specs.Naming.{NamesFree}
 use Rattle.nt_grammar.specs.Places.{NamePlace, ObjectPlace, SignedPlace, AccessPlace, free_name_in}
-use Rattle.nt_grammar.specs.Grammar.{Line, Nothing, Moment, Called, said_by, after_of, Part, Caller, Word, Value, Spells, value_parts, after_parts, parts_of, IsStatement}
+use Rattle.nt_grammar.specs.Grammar.{Line, Nothing, Moment, Called, said_by, after_of, Part, Caller, Word, Value, Spells, value_parts, after_parts, line_parts, IsStatement}
 use Rattle.nt_grammar.specs.Lines.{ReadsStatement}
 use Rattle.nt_grammar.specs.declared.fault.LineFault.{LineFault}
 use Rattle.nt_grammar.specs.declared.keyword.Keyword.{Keyword}
@@ -36,14 +36,14 @@ name_free scope who text name parts (first ∷ []) s = absurd s.1
 name_free scope who text name parts (first ∷ second ∷ []) s = absurd s.1.1
 name_free scope who text name parts (first ∷ second ∷ word ∷ words) s = word_free scope word name s.1.1.0
 
-line_free : (scope : Scope) (line : Line) (words : Words) → Spells scope (parts_of line) words → NamesFree scope (said_by line)
+line_free : (scope : Scope) (line : Line) (words : Words) → Spells scope (line_parts line) words → NamesFree scope (said_by line)
 line_free scope Nothing words s = tt
 line_free scope (Moment moment) words s = tt
-line_free scope (Called who Keyword.Event values after) words s = name_free scope who (keyword.text_of Keyword.Event) values.0 (after_parts (after_of Keyword.Event) after) words s
-line_free scope (Called who Keyword.Semaphore values after) words s = name_free scope who (keyword.text_of Keyword.Semaphore) values.0 (value_parts (SignedPlace (2 ^ 31) ∷ SignedPlace (2 ^ 31) ∷ []) values.1 ++ after_parts (after_of Keyword.Semaphore) after) words s
-line_free scope (Called who Keyword.Mutex values after) words s = name_free scope who (keyword.text_of Keyword.Mutex) values.0 (after_parts (after_of Keyword.Mutex) after) words s
-line_free scope (Called who Keyword.Timer values after) words s = name_free scope who (keyword.text_of Keyword.Timer) values.0 (after_parts (after_of Keyword.Timer) after) words s
-line_free scope (Called who Keyword.Duplicate values after) words s = name_free scope who (keyword.text_of Keyword.Duplicate) values.0 (value_parts (ObjectPlace ∷ AccessPlace ∷ []) values.1 ++ after_parts (after_of Keyword.Duplicate) after) words s
+line_free scope (Called who Keyword.Event values after) words s = name_free scope who (keyword_text Keyword.Event) values.0 (after_parts (after_of Keyword.Event) after) words s
+line_free scope (Called who Keyword.Semaphore values after) words s = name_free scope who (keyword_text Keyword.Semaphore) values.0 (value_parts (SignedPlace (2 ^ 31) ∷ SignedPlace (2 ^ 31) ∷ []) values.1 ++ after_parts (after_of Keyword.Semaphore) after) words s
+line_free scope (Called who Keyword.Mutex values after) words s = name_free scope who (keyword_text Keyword.Mutex) values.0 (after_parts (after_of Keyword.Mutex) after) words s
+line_free scope (Called who Keyword.Timer values after) words s = name_free scope who (keyword_text Keyword.Timer) values.0 (after_parts (after_of Keyword.Timer) after) words s
+line_free scope (Called who Keyword.Duplicate values after) words s = name_free scope who (keyword_text Keyword.Duplicate) values.0 (value_parts (ObjectPlace ∷ AccessPlace ∷ []) values.1 ++ after_parts (after_of Keyword.Duplicate) after) words s
 line_free scope (Called who Keyword.Set values after) words s = tt
 line_free scope (Called who Keyword.Reset values after) words s = tt
 line_free scope (Called who Keyword.Pulse values after) words s = tt

@@ -1,6 +1,6 @@
 -- Objects, one after another.
 use Rattle.std.proofs.Common.{◌≡◌, ℕ, List, [], ◌∷◌, ◌++◌, Result, Ok, Err, refl, sym, subst, ◌∙◌, ap, append_assoc, append-nil}
-use Rattle.nt_grammar.specs.Places.{ObjectPlace, blame, object_in}
+use Rattle.nt_grammar.specs.Places.{ObjectPlace, blame, object_meant}
 use Rattle.nt_grammar.specs.Reading.{◌>>=◌, or_fault, word_at, each_at}
 use Rattle.nt_grammar.specs.Scope.{Scope}
 use Rattle.nt_grammar.specs.declared.fault.ScriptFault.{ScriptFault}
@@ -39,7 +39,7 @@ taken (first ∷ words) left word e =
 
 -- one object more
 pub objects_next : (scope : Scope) (front : List ℕ) (words left : List (List ℕ)) (word : List ℕ) (handle : ℕ) (total : Result (List ℕ) ScriptFault)
-    → word_at words ≡ Ok (word, left) → taken_as handle ≡ or_fault (object_in scope word) (blame ObjectPlace word) → with_front front (each_at scope ObjectPlace words) ≡ total
+    → word_at words ≡ Ok (word, left) → taken_as handle ≡ or_fault (object_meant scope word) (blame ObjectPlace word) → with_front front (each_at scope ObjectPlace words) ≡ total
     → with_front (front ++ handle ∷ []) (each_at scope ObjectPlace left) ≡ total
 unfolding each_at
 objects_next scope front words left word handle total next object so_far =
@@ -48,7 +48,7 @@ objects_next scope front words left word handle total next object so_far =
 
 -- an object that is none is the fault of all
 pub objects_fail : (scope : Scope) (front : List ℕ) (words left : List (List ℕ)) (word : List ℕ) (fault : ScriptFault) (total : Result (List ℕ) ScriptFault)
-    → word_at words ≡ Ok (word, left) → (let read : Result ℕ ScriptFault = Err fault in read ≡ or_fault (object_in scope word) (blame ObjectPlace word)) → with_front front (each_at scope ObjectPlace words) ≡ total
+    → word_at words ≡ Ok (word, left) → (let read : Result ℕ ScriptFault = Err fault in read ≡ or_fault (object_meant scope word) (blame ObjectPlace word)) → with_front front (each_at scope ObjectPlace words) ≡ total
     → total ≡ Err fault
 unfolding each_at
 objects_fail scope front words left word fault total next object so_far =

@@ -1,13 +1,12 @@
 -- Words that are a statement are read as it, and as no other.
-use Rattle.std.proofs.Common.{◌≡◌, ℕ, Bool, true, false, List, [], ◌∷◌, ◌++◌, Some, None, Ok, refl, sym, ap, subst, ◌∙◌, codes}
+use Rattle.std.proofs.Common.{◌≡◌, ℕ, Bool, true, false, List, [], ◌∷◌, ◌++◌, Some, None, Ok, refl, sym, ap, subst, ◌∙◌}
 use Rattle.std.proofs.lemmas.Slice.Eq.{bytes_eq-Decides}
 use Rattle.nt_lines.specs.Words.{text_of, words_of, caller_of, number_of}
 use Rattle.nt_grammar.specs.Scope.{Scope}
-use Rattle.nt_grammar.specs.Keywords.{keyword_of}
-use Rattle.nt_grammar.specs.Keywords as keyword
+use Rattle.nt_grammar.specs.Keywords.{TickWord, keyword_of, keyword_text, other_text}
 use Rattle.nt_grammar.specs.Places.{is_word}
-use Rattle.nt_grammar.specs.Grammar.{Values, ValuesAfter, places_of, after_of, Line, Nothing, Moment, Called, called, said_by, Spells, value_parts, after_parts, parts_of, IsStatement, IsOpening}
-use Rattle.nt_grammar.specs.Reading.{◌>>=◌, number_at, tick_at, after_at, call_at, caller_at, statement_at, plain_text, statement_of}
+use Rattle.nt_grammar.specs.Grammar.{Values, ValuesAfter, places_of, after_of, Line, Nothing, Moment, Called, called, said_by, Spells, value_parts, after_parts, line_parts, IsStatement, IsOpening}
+use Rattle.nt_grammar.specs.Reading.{◌>>=◌, number_at, tick_at, after_at, keyword_line_at, caller_at, statement_at, plain_text, statement_of}
 use Rattle.nt_grammar.specs.Lines.{IsLine, IsOpeningLine, IsBlankLine}
 use Rattle.nt_grammar.specs.declared.keyword.Keyword.{Keyword}
 use Rattle.nt_grammar.specs.declared.parser.Statement.{Statement}
@@ -18,7 +17,7 @@ Words = List (List ℕ)
 
 -- ---- the line of a keyword
 
-keyword_of-text : (k : Keyword) → keyword_of (keyword.text_of k) ≡ Some k
+keyword_of-text : (k : Keyword) → keyword_of (keyword_text k) ≡ Some k
 keyword_of-text Keyword.Event = refl
 keyword_of-text Keyword.Semaphore = refl
 keyword_of-text Keyword.Mutex = refl
@@ -63,27 +62,27 @@ apart Keyword.Swap = refl
 apart Keyword.Next = refl
 apart Keyword.Exit = refl
 
-tick_calls_nobody : (who : ℕ) → caller_of (codes "tick") ≡ Some who → ⊥
+tick_calls_nobody : (who : ℕ) → caller_of (other_text TickWord) ≡ Some who → ⊥
 unfolding caller_of number_of
 tick_calls_nobody who e = let none : None ≡ Some who = e in absurd (cc)
 
-caller_no_tick : (first : List ℕ) (who : ℕ) → caller_of first ≡ Some who → is_word first (codes "tick") ≡ false
-caller_no_tick first who e = by (is_word first (codes "tick")) refl
+caller_no_tick : (first : List ℕ) (who : ℕ) → caller_of first ≡ Some who → is_word first (other_text TickWord) ≡ false
+caller_no_tick first who e = by (is_word first (other_text TickWord)) refl
   where
-    by : (b : Bool) → is_word first (codes "tick") ≡ b → is_word first (codes "tick") ≡ false
-    by true is = absurd (tick_calls_nobody who (subst (λ (word : List ℕ). caller_of word ≡ Some who) ((bytes_eq-Decides first (codes "tick")).0 is) e))
+    by : (b : Bool) → is_word first (other_text TickWord) ≡ b → is_word first (other_text TickWord) ≡ false
+    by true is = absurd (tick_calls_nobody who (subst (λ (word : List ℕ). caller_of word ≡ Some who) ((bytes_eq-Decides first (other_text TickWord)).0 is) e))
     by false is = is
 
 call_reads : (scope : Scope) (who : ℕ) (k : Keyword) (values : Values (places_of k)) (after : ValuesAfter (after_of k)) (words : Words)
-    → Spells scope (value_parts (places_of k) values ++ after_parts (after_of k) after) words → call_at scope who k words ≡ Ok (called who k values after)
-unfolding call_at
+    → Spells scope (value_parts (places_of k) values ++ after_parts (after_of k) after) words → keyword_line_at scope who k words ≡ Ok (called who k values after)
+unfolding keyword_line_at
 call_reads scope who k values after words s =
     places_read scope (after_parts (after_of k) after) (called who k values after) (places_of k) values (λ values rest. after_at scope (after_of k) rest >>= λ after. Ok (called who k values after))
     (λ rest s. rw (after_read scope (after_of k) after (apart k) rest s) refl) words s
 
 -- ---- statements
 
-said_reads : (scope : Scope) (line : Line) (words : Words) → Spells scope (parts_of line) words → statement_at scope words ≡ Ok (said_by line)
+said_reads : (scope : Scope) (line : Line) (words : Words) → Spells scope (line_parts line) words → statement_at scope words ≡ Ok (said_by line)
 unfolding statement_at caller_at tick_at number_at
 said_reads scope Nothing [] s = refl
 said_reads scope Nothing (word ∷ words) s = absurd s

@@ -4,7 +4,7 @@ use Rattle.std.specs.List.{list_all}
 use Rattle.std.proofs.lemmas.Bool.{le-leb}
 use Rattle.nt_lines.specs.Words.{words_of, text_of, is_plain}
 use Rattle.nt_grammar.specs.Scope.{Scope}
-use Rattle.nt_grammar.specs.Grammar.{Line, Nothing, Moment, Called, said_by, places_of, after_of, parts_of, Spells, IsStatement}
+use Rattle.nt_grammar.specs.Grammar.{Line, Nothing, Moment, Called, said_by, places_of, after_of, line_parts, Spells, IsStatement}
 use Rattle.nt_grammar.specs.Spelling.{plain, line_of, line_words, spelling, statement_text, CanBeSaid}
 use Rattle.nt_grammar.specs.Laws.{StatementsReadBack, LinesSpellStatements, StandFor}
 use Rattle.nt_grammar.specs.Lines.{IsLine}
@@ -85,7 +85,7 @@ sound_after Keyword.Swap = refl
 sound_after Keyword.Next = refl
 sound_after Keyword.Exit = refl
 
-sound : (line : Line) → list_all is_sound (parts_of line) ≡ true
+sound : (line : Line) → list_all is_sound (line_parts line) ≡ true
 sound Nothing = refl
 sound (Moment moment) = refl
 sound (Called who k values after) = sound_line who k values after (sound_keyword k) (sound_places k) (sound_after k)
@@ -122,13 +122,13 @@ line_of-said (Called who Keyword.Exit values after) = refl
 
 -- ---- the laws
 
-spelled : (line : Line) (st : Statement) → said_by line ≡ st → map plain (parts_of line) ≡ spelling st
-spelled line st e = subst (λ (st : Statement). map plain (parts_of line) ≡ spelling st) e (sym (ap line_words (line_of-said line)))
+spelled : (line : Line) (st : Statement) → said_by line ≡ st → map plain (line_parts line) ≡ spelling st
+spelled line st e = subst (λ (st : Statement). map plain (line_parts line) ≡ spelling st) e (sym (ap line_words (line_of-said line)))
 
 pub own_text_is_line : (scope : Scope) (st : Statement) → CanBeSaid scope st → length (statement_text st) ≤ 4096 → IsLine scope st (statement_text st)
 own_text_is_line scope st said short =
     let line = said.0 in
-    let parts = parts_of line in
+    let parts = line_parts line in
     let texts = spelled line st said.1 in
     let bodies : AreBodies (spelling st) = subst AreBodies texts (all_bodies scope parts (sound line) said.2) in
     let text = text_of-joined (spelling st) bodies in
@@ -147,4 +147,4 @@ pub lines_spell_statements : LinesSpellStatements
 lines_spell_statements scope st bytes is =
     let line = is.1.0 in
     subst (λ (texts : Words). StandFor scope (words_of (text_of bytes)) texts) (spelled line st is.1.1)
-    (all_stand scope (parts_of line) (words_of (text_of bytes)) (sound line) is.1.2)
+    (all_stand scope (line_parts line) (words_of (text_of bytes)) (sound line) is.1.2)

@@ -1,5 +1,5 @@
 -- The words of a statement's own text say its parts, and words that say them stand for these.
-use Rattle.std.proofs.Common.{◌≡◌, ℕ, ℤ, pos, negsuc, neg_ℤ, suc, ◌-◌, ◌^◌, ◌<◌, ◌≤◌, Bool, true, false, not, nat_le, nat_lt, ◌&&◌, ◌==◌, List, [], ◌∷◌, ◌++◌, length, map, Option, Some, None, is_some, refl, sym, ap, subst, ◌∙◌, inl, inr, arith, codes}
+use Rattle.std.proofs.Common.{◌≡◌, ℕ, ℤ, pos, negsuc, neg_ℤ, suc, ◌-◌, ◌^◌, ◌<◌, ◌≤◌, Bool, true, false, not, nat_le, nat_lt, ◌&&◌, ◌==◌, List, [], ◌∷◌, ◌++◌, length, map, Option, Some, None, is_some, refl, sym, ap, subst, ◌∙◌, inl, inr, arith}
 use Rattle.std.specs.List.{list_all}
 use Rattle.std.specs.Str.{bytes_eq}
 use Rattle.std.specs.Option.{option_map}
@@ -11,9 +11,9 @@ use Rattle.nt_status.specs.declared.limits.TheConstants.{INFINITE}
 use Rattle.nt_lines.specs.Words.{is_digit, are_digits, is_name, is_name_byte, number_of, up_to}
 use Rattle.nt_grammar.specs.Plain.{plain_word}
 use Rattle.nt_grammar.specs.Scope.{Scope, bound_in}
-use Rattle.nt_grammar.specs.Keywords as keyword
-use Rattle.nt_grammar.specs.Places.{at_least, number_in, free_name_in, object_in, is_word, is_negative, signed_in, time_in, mode_in, Place, NamePlace, ObjectPlace, NumberPlace, SignedPlace, TimePlace, ModePlace, ValueOf, value_in}
-use Rattle.nt_grammar.specs.Grammar.{After, Options, Each, Both, Values, Given, ValuesAfter, places_of, after_of, Called, Part, Caller, Word, Value, Says, Spells, value_parts, option_parts, each_parts, both_parts, after_parts, parts_of}
+use Rattle.nt_grammar.specs.Keywords.{AlertableWord, EndlessWord, PlainWord, keyword_text, other_text}
+use Rattle.nt_grammar.specs.Places.{at_least, number_in, free_name_in, object_meant, is_word, is_negative, signed_in, time_in, mode_in, Place, NamePlace, ObjectPlace, NumberPlace, SignedPlace, TimePlace, ModePlace, ValueOf, value_in}
+use Rattle.nt_grammar.specs.Grammar.{After, Options, Each, Both, Values, Given, ValuesAfter, places_of, after_of, Called, Part, Caller, Word, Value, WordSays, Spells, value_parts, option_parts, each_parts, both_parts, after_parts, line_parts}
 use Rattle.nt_grammar.specs.Spelling.{time_word, mode_word, value_word, plain, IsSigned, IsFreeName, CanStand, CanSay, CanSayAll}
 use Rattle.nt_grammar.specs.declared.keyword.Keyword.{Keyword}
 use Rattle.nt_grammar.specs.Laws.{StandsFor, StandFor}
@@ -110,11 +110,11 @@ plain_signed half n (first ∷ others) e = by (first == 45) refl
 -- ---- times
 
 -- digits are no word of letters
-no_inf : (word : List ℕ) → are_digits word ≡ true → is_word word (codes "inf") ≡ false
-no_inf word h = by (is_word word (codes "inf")) refl
+no_inf : (word : List ℕ) → are_digits word ≡ true → is_word word (other_text EndlessWord) ≡ false
+no_inf word h = by (is_word word (other_text EndlessWord)) refl
   where
-    by : (b : Bool) → is_word word (codes "inf") ≡ b → is_word word (codes "inf") ≡ false
-    by true is = let same = (bytes_eq-Decides word (codes "inf")).0 is in let bad : false ≡ true = sym (ap are_digits same) ∙ h in absurd (cc)
+    by : (b : Bool) → is_word word (other_text EndlessWord) ≡ b → is_word word (other_text EndlessWord) ≡ false
+    by true is = let same = (bytes_eq-Decides word (other_text EndlessWord)).0 is in let bad : false ≡ true = sym (ap are_digits same) ∙ h in absurd (cc)
     by false is = is
 
 time_read : (ms : ℕ) → ms < 2 ^ 32 → time_in (time_word ms) ≡ Some ms
@@ -127,13 +127,13 @@ time_read ms small = by (ms == INFINITE) refl
         rw is (rw (no_inf (decimal ms) digits) (number_in-decimal 0 (2 ^ 32 - 1) ms (omega arith) (omega (arith, small)) (omega (arith, small))))
 
 time_stands : (scope : Scope) (ms : ℕ) (word : List ℕ) → time_in word ≡ Some ms → StandsFor scope word (time_word ms)
-time_stands scope ms word e = by (is_word word (codes "inf")) (ms == INFINITE) refl refl
+time_stands scope ms word e = by (is_word word (other_text EndlessWord)) (ms == INFINITE) refl refl
   where
-    by : (b t : Bool) → is_word word (codes "inf") ≡ b → (ms == INFINITE) ≡ t → StandsFor scope word (time_word ms)
+    by : (b t : Bool) → is_word word (other_text EndlessWord) ≡ b → (ms == INFINITE) ≡ t → StandsFor scope word (time_word ms)
     by true t is at =
         let same : Some INFINITE ≡ Some ms = rw is at e in
         let inf : ms ≡ INFINITE = (cc) in
-        let word_is : word ≡ codes "inf" = (bytes_eq-Decides word (codes "inf")).0 is in
+        let word_is : word ≡ other_text EndlessWord = (bytes_eq-Decides word (other_text EndlessWord)).0 is in
         inl (ap plain_word word_is ∙ sym (ap time_word inf))
     by false true is at =
         let inf : ms ≡ INFINITE = search (arith, at) in
@@ -145,12 +145,12 @@ time_stands scope ms word e = by (is_word word (codes "inf")) (ms == INFINITE) r
 
 -- ---- objects, names and modes
 
-object_read : (scope : Scope) (handle : ℕ) → handle < 2 ^ 32 → object_in scope (decimal handle) ≡ Some handle
+object_read : (scope : Scope) (handle : ℕ) → handle < 2 ^ 32 → object_meant scope (decimal handle) ≡ Some handle
 object_read scope handle small =
     let digits = (decimal_digits handle (omega (arith, small))).digits in
     rw digits (number_in-decimal 0 (2 ^ 32 - 1) handle (omega arith) (omega (arith, small)) (omega (arith, small)))
 
-object_stands : (scope : Scope) (handle : ℕ) (word : List ℕ) → object_in scope word ≡ Some handle → StandsFor scope word (decimal handle)
+object_stands : (scope : Scope) (handle : ℕ) (word : List ℕ) → object_meant scope word ≡ Some handle → StandsFor scope word (decimal handle)
 object_stands scope handle word e = by (are_digits word) refl
   where
     by : (b : Bool) → are_digits word ≡ b → StandsFor scope word (decimal handle)
@@ -171,17 +171,17 @@ name_stands scope name word e = by (is_name word && not (is_some (bound_in scope
     by false is = let none : None ≡ Some name = rw is at e in absurd (cc)
 
 mode_stands : (scope : Scope) (alertable : Bool) (word : List ℕ) → mode_in word ≡ Some alertable → StandsFor scope word (mode_word alertable)
-mode_stands scope alertable word e = by (is_word word (codes "plain")) (is_word word (codes "alertable")) refl refl
+mode_stands scope alertable word e = by (is_word word (other_text PlainWord)) (is_word word (other_text AlertableWord)) refl refl
   where
-    by : (p a : Bool) → is_word word (codes "plain") ≡ p → is_word word (codes "alertable") ≡ a → StandsFor scope word (mode_word alertable)
+    by : (p a : Bool) → is_word word (other_text PlainWord) ≡ p → is_word word (other_text AlertableWord) ≡ a → StandsFor scope word (mode_word alertable)
     by true a is at =
         let some : Some false ≡ Some alertable = rw is at e in
         let same : false ≡ alertable = (cc) in
-        inl (ap plain_word ((bytes_eq-Decides word (codes "plain")).0 is) ∙ ap mode_word same)
+        inl (ap plain_word ((bytes_eq-Decides word (other_text PlainWord)).0 is) ∙ ap mode_word same)
     by false true is at =
         let some : Some true ≡ Some alertable = rw at at (rw is at e) in
         let same : true ≡ alertable = (cc) in
-        inl (ap plain_word ((bytes_eq-Decides word (codes "alertable")).0 at) ∙ ap mode_word same)
+        inl (ap plain_word ((bytes_eq-Decides word (other_text AlertableWord)).0 at) ∙ ap mode_word same)
     by false false is at = let none : None ≡ Some alertable = rw at at (rw is at e) in absurd (cc)
 
 -- ---- any part
@@ -196,7 +196,7 @@ value_read scope TimePlace ms sound h = time_read ms h
 value_read scope ModePlace true sound h = refl
 value_read scope ModePlace false sound h = refl
 
-said : (scope : Scope) (part : Part) → is_sound part ≡ true → CanSay scope part → Says scope part (plain part)
+said : (scope : Scope) (part : Part) → is_sound part ≡ true → CanSay scope part → WordSays scope part (plain part)
 said scope (Caller who) sound h = caller_of-decimal who h
 said scope (Word text) sound h = refl
 said scope (Value place value) sound h = value_read scope place value sound h
@@ -212,7 +212,7 @@ value_stands scope (SignedPlace half) n word h = inl (plain_signed half n word h
 value_stands scope TimePlace ms word h = time_stands scope ms word h
 value_stands scope ModePlace alertable word h = mode_stands scope alertable word h
 
-stands : (scope : Scope) (part : Part) (word : List ℕ) → is_sound part ≡ true → Says scope part word → StandsFor scope word (plain part)
+stands : (scope : Scope) (part : Part) (word : List ℕ) → is_sound part ≡ true → WordSays scope part word → StandsFor scope word (plain part)
 stands scope (Caller who) word sound h = inl (plain_caller who word h)
 stands scope (Word text) word sound h = inl (ap plain_word h ∙ sound_plain text sound)
 stands scope (Value place value) word sound h = value_stands scope place value word h
@@ -232,7 +232,7 @@ time_body : (ms : ℕ) → ms < 2 ^ 32 → IsBody (time_word ms)
 time_body ms small = by (ms == INFINITE) refl
   where
     by : (b : Bool) → (ms == INFINITE) ≡ b → IsBody (time_word ms)
-    by true is = let inf : IsBody (codes "inf") = record { bytes = refl; some = omega arith } in rw is inf
+    by true is = let inf : IsBody (other_text EndlessWord) = record { bytes = refl; some = omega arith } in rw is inf
     by false is = rw is (decimal_body ms (omega (arith, small)))
 
 signed_body : (half : ℕ) (n : ℤ) → half ≤ 2 ^ 63 → IsSigned half n → IsBody (signed_decimal n)
@@ -299,8 +299,8 @@ sound_after (Each place) values sound = sound_each place values sound
 sound_after (Both first second) both sound = sound_both first second both sound
 
 abbrev pub sound_word : Keyword → Bool
-sound_word k = is_sound_word (keyword.text_of k)
+sound_word k = is_sound_word (keyword_text k)
 
 pub sound_line : (who : ℕ) (k : Keyword) (values : Values (places_of k)) (after : ValuesAfter (after_of k)) → sound_word k ≡ true → are_sound (places_of k) ≡ true → is_sound_after (after_of k) ≡ true
-    → list_all is_sound (parts_of (Called who k values after)) ≡ true
+    → list_all is_sound (line_parts (Called who k values after)) ≡ true
 sound_line who k values after word places rest = rw word (sound_values (places_of k) values (after_parts (after_of k) after) places (sound_after (after_of k) after rest))

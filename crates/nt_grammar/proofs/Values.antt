@@ -7,7 +7,7 @@ use Rattle.std.proofs.lemmas.Slice.Eq.{bytes_eq-Decides}
 use Rattle.nt_grammar.specs.Scope.{Scope}
 use Rattle.nt_grammar.specs.Places.{Place, NamePlace, ObjectPlace, NumberPlace, SignedPlace, TimePlace, ModePlace, ValueOf, value_in, blame}
 use Rattle.nt_grammar.specs.Grammar.{After, Options, Each, Both, Values, Given, ValuesAfter, Part, Spells, value_parts, word_if, option_parts, each_parts, both_parts, after_parts}
-use Rattle.nt_grammar.specs.Reading.{◌>>=◌, value_at, place_at, places_at, number_at, signed_at, free_name_at, object_at, time_at, mode_at, option_at, options_at, each_at, both_at, after_at, end_at}
+use Rattle.nt_grammar.specs.Reading.{◌>>=◌, value_at, place_value_at, places_at, number_at, signed_at, free_name_at, object_word_at, time_at, mode_at, option_at, options_at, each_at, both_at, after_at, end_at}
 use Rattle.nt_grammar.specs.declared.fault.ScriptFault.{ScriptFault}
 use Rattle.nt_grammar.proofs.Plain.{and_true}
 
@@ -15,8 +15,8 @@ abbrev Words : Type 0
 Words = List (List ℕ)
 
 -- what a place reads
-pub read_in : (scope : Scope) (place : Place) (words : Words) → place_at scope place words ≡ value_at (value_in scope place) place words
-unfolding number_at free_name_at object_at signed_at time_at mode_at
+pub read_in : (scope : Scope) (place : Place) (words : Words) → place_value_at scope place words ≡ value_at (value_in scope place) place words
+unfolding number_at free_name_at object_word_at signed_at time_at mode_at
 read_in scope NamePlace words = refl
 read_in scope ObjectPlace words = refl
 read_in scope (NumberPlace least most) words = refl
@@ -25,7 +25,7 @@ read_in scope TimePlace words = refl
 read_in scope ModePlace words = refl
 
 -- a word that means this is taken
-pub taken : (scope : Scope) (place : Place) (value : ValueOf place) (word : List ℕ) (words : Words) → value_in scope place word ≡ Some value → place_at scope place (word ∷ words) ≡ Ok (value, words)
+pub taken : (scope : Scope) (place : Place) (value : ValueOf place) (word : List ℕ) (words : Words) → value_in scope place word ≡ Some value → place_value_at scope place (word ∷ words) ≡ Ok (value, words)
 taken scope place value word words e =
     let one : value_at (value_in scope place) place (word ∷ words) ≡ Ok (value, words) = rw e refl in
     read_in scope place (word ∷ words) ∙ one

@@ -1,5 +1,5 @@
 -- The lines of a script: which words make which statement, and the first fault of words that make none.
-use Rattle.std.specs.Prelude.{◌≡◌, ℕ, ◌+◌, ◌^◌, nat_le, is_some, Bool, true, false, List, [], ◌∷◌, ◌++◌, length, Option, Some, None, if◌then◌else◌, codes}
+use Rattle.std.specs.Prelude.{◌≡◌, ℕ, ◌+◌, ◌^◌, nat_le, is_some, Bool, true, false, List, [], ◌∷◌, ◌++◌, length, Option, Some, None, if◌then◌else◌}
 use Rattle.std.specs.List.{list_all}
 use Rattle.nt_lines.specs.declared.input.TheConstants.{MAX_LINE}
 use Rattle.nt_status.specs.declared.limits.TheConstants.{MAX_THREADS}
@@ -8,14 +8,13 @@ use Rattle.nt_calls.specs.declared.call.Act.{Act}
 use Rattle.nt_calls.specs.declared.call.WaitCall.{WaitCall}
 use Rattle.nt_lines.specs.Words.{words_of, text_of, is_plain, caller_of}
 use Rattle.nt_grammar.specs.Scope.{Scope}
-use Rattle.nt_grammar.specs.Places.{is_word, Place, NamePlace, ObjectPlace, NumberPlace, SignedPlace, TimePlace, ModePlace, ValueOf, value_in, fits, blame, ValuePlace, AccessPlace, MomentPlace}
+use Rattle.nt_grammar.specs.Places.{is_word, Place, NamePlace, ObjectPlace, NumberPlace, SignedPlace, TimePlace, ModePlace, ValueOf, value_in, fits_place, blame, ValuePlace, AccessPlace, MomentPlace}
 use Rattle.nt_grammar.specs.declared.fault.ScriptFault.{ScriptFault}
 use Rattle.nt_grammar.specs.declared.fault.ScriptFault.TheVariants.{LineTooLong, BadByte, ThreadsExpected, UnknownWord, MissingWord, ExtraWord}
 use Rattle.nt_grammar.specs.declared.parser.Statement.{Statement}
 use Rattle.nt_grammar.specs.declared.parser.Statement.TheVariants.{Blank, Create, Perform, Tick}
 use Rattle.nt_grammar.specs.declared.keyword.Keyword.{Keyword}
-use Rattle.nt_grammar.specs.Keywords.{keyword_of}
-use Rattle.nt_grammar.specs.Keywords as keyword
+use Rattle.nt_grammar.specs.Keywords.{ManualWord, OwnedWord, SetWord, ThreadsWord, TickWord, keyword_of, keyword_text, other_text}
 
 -- ---- the shape of a line
 
@@ -82,7 +81,7 @@ wait_by who wait = Perform who (Call.Wait wait)
 abbrev pub row : Keyword → Row
 -- a name, and whether the event is a manual one and whether it is set
 row Keyword.Event = record {
-  shape = shape (NamePlace ∷ []) (Options (codes "manual" ∷ codes "set" ∷ []));
+  shape = shape (NamePlace ∷ []) (Options (other_text ManualWord ∷ other_text SetWord ∷ []));
   made = λ who name given. Create who name (Act.CreateEvent (bit_if given.0 1 + bit_if given.1.0 2));
 }
 -- a name, the first count and the greatest
@@ -91,9 +90,9 @@ row Keyword.Semaphore = record {
   made = λ who name initial maximum given. Create who name (Act.CreateSemaphore initial maximum);
 }
 -- a name, and whether the caller owns it
-row Keyword.Mutex = record { shape = shape (NamePlace ∷ []) (Options (codes "owned" ∷ [])); made = λ who name given. Create who name (Act.CreateMutex (bit_if given.0 1)) }
+row Keyword.Mutex = record { shape = shape (NamePlace ∷ []) (Options (other_text OwnedWord ∷ [])); made = λ who name given. Create who name (Act.CreateMutex (bit_if given.0 1)) }
 -- a name, and whether the timer is a manual one
-row Keyword.Timer = record { shape = shape (NamePlace ∷ []) (Options (codes "manual" ∷ [])); made = λ who name given. Create who name (Act.CreateTimer (bit_if given.0 1)) }
+row Keyword.Timer = record { shape = shape (NamePlace ∷ []) (Options (other_text ManualWord ∷ [])); made = λ who name given. Create who name (Act.CreateTimer (bit_if given.0 1)) }
 -- a name, an object and rights
 row Keyword.Duplicate = record { shape = only (NamePlace ∷ ObjectPlace ∷ AccessPlace ∷ []); made = λ who name handle access given. Create who name (Act.Duplicate handle access) }
 -- an event
@@ -170,15 +169,15 @@ pub data Part : Type 0 where
   Value : (place : Place) → ValueOf place → Part
 
 -- the word says that
-abbrev pub Says : Scope → Part → List ℕ → Type 0
-Says scope (Caller who) word = caller_of word ≡ Some who
-Says scope (Word text) word = word ≡ text
-Says scope (Value place value) word = value_in scope place word ≡ Some value
+abbrev pub WordSays : Scope → Part → List ℕ → Type 0
+WordSays scope (Caller who) word = caller_of word ≡ Some who
+WordSays scope (Word text) word = word ≡ text
+WordSays scope (Value place value) word = value_in scope place word ≡ Some value
 
 -- the words say these parts, one each
 abbrev pub Spells : Scope → List Part → List (List ℕ) → Type 0
 Spells scope [] [] = Unit {0}
-Spells scope (part ∷ parts) (word ∷ words) = Says scope part word × Spells scope parts words
+Spells scope (part ∷ parts) (word ∷ words) = WordSays scope part word × Spells scope parts words
 Spells scope parts words = ⊥
 
 -- each place with its value
@@ -212,18 +211,18 @@ after_parts (Each place) values = each_parts place values
 after_parts (Both first second) both = both_parts first second both
 
 -- what each word of a line says
-abbrev pub parts_of : Line → List Part
-parts_of Nothing = []
-parts_of (Moment moment) = Word (codes "tick") ∷ Value MomentPlace moment ∷ []
-parts_of (Called who k values after) = Caller who ∷ Word (keyword.text_of k) ∷ (value_parts (places_of k) values ++ after_parts (after_of k) after)
+abbrev pub line_parts : Line → List Part
+line_parts Nothing = []
+line_parts (Moment moment) = Word (other_text TickWord) ∷ Value MomentPlace moment ∷ []
+line_parts (Called who k values after) = Caller who ∷ Word (keyword_text k) ∷ (value_parts (places_of k) values ++ after_parts (after_of k) after)
 
 -- the words are a line of this statement
 abbrev pub IsStatement : Scope → Statement → List (List ℕ) → Type 0
-IsStatement scope statement words = (line : Line) × (said_by line ≡ statement) × Spells scope (parts_of line) words
+IsStatement scope statement words = (line : Line) × (said_by line ≡ statement) × Spells scope (line_parts line) words
 
 -- the words tell how many threads there are: threads N
 abbrev pub IsOpening : ℕ → List (List ℕ) → Type 0
-IsOpening threads words = Spells (record { threads = 0; names = [] }) (Word (codes "threads") ∷ Value (NumberPlace 1 MAX_THREADS) threads ∷ []) words
+IsOpening threads words = Spells (record { threads = 0; names = [] }) (Word (other_text ThreadsWord) ∷ Value (NumberPlace 1 MAX_THREADS) threads ∷ []) words
 
 -- ---- the first fault
 
@@ -237,13 +236,13 @@ options_fault (option ∷ options) (word ∷ words) = if is_word word option the
 -- the first word that does not fit the place
 abbrev pub each_fault : Scope → Place → List (List ℕ) → Option ScriptFault
 each_fault scope place [] = None
-each_fault scope place (word ∷ words) = if fits scope place word then each_fault scope place words else Some (blame place word)
+each_fault scope place (word ∷ words) = if fits_place scope place word then each_fault scope place words else Some (blame place word)
 
 -- the first place that lacks its word, or the first word that may not stand where it does; then what is said of the words after them
 abbrev pub places_fault : Scope → List Place → (List (List ℕ) → Option ScriptFault) → List (List ℕ) → Option ScriptFault
 places_fault scope [] after words = after words
 places_fault scope (place ∷ places) after [] = Some MissingWord
-places_fault scope (place ∷ places) after (word ∷ words) = if fits scope place word then places_fault scope places after words else Some (blame place word)
+places_fault scope (place ∷ places) after (word ∷ words) = if fits_place scope place word then places_fault scope places after words else Some (blame place word)
 
 -- both places, where a word stands in the first
 abbrev pub both_fault : Scope → Place → Place → List (List ℕ) → Option ScriptFault
@@ -274,7 +273,7 @@ caller_fault scope (word ∷ words) = keyword_fault scope (keyword_of word) word
 abbrev pub words_fault : Scope → List (List ℕ) → Option ScriptFault
 words_fault scope [] = None
 words_fault scope (first ∷ words) =
-    if is_word first (codes "tick") then shape_fault scope (only (MomentPlace ∷ [])) words
+    if is_word first (other_text TickWord) then shape_fault scope (only (MomentPlace ∷ [])) words
     else if is_some (caller_of first) then caller_fault scope words
     else Some UnknownWord
 
@@ -282,7 +281,7 @@ words_fault scope (first ∷ words) =
 abbrev pub opening_fault : List (List ℕ) → Option ScriptFault
 opening_fault [] = None
 opening_fault (first ∷ words) =
-    if is_word first (codes "threads") then shape_fault (record { threads = 0; names = [] }) (only (NumberPlace 1 MAX_THREADS ∷ [])) words else Some ThreadsExpected
+    if is_word first (other_text ThreadsWord) then shape_fault (record { threads = 0; names = [] }) (only (NumberPlace 1 MAX_THREADS ∷ [])) words else Some ThreadsExpected
 
 -- ---- a whole line
 

@@ -1,9 +1,10 @@
 -- What follows from the definitions alone.
-use Rattle.std.specs.Prelude.{◌≡◌, ℕ, ◌≤◌, ◌⊎◌, List, [], ◌∷◌, length, Some, codes}
+use Rattle.std.specs.Prelude.{◌≡◌, ℕ, ◌≤◌, ◌⊎◌, List, [], ◌∷◌, length, Some}
 use Rattle.std.specs.Fmt.{decimal}
 use Rattle.nt_lines.specs.declared.input.TheConstants.{MAX_LINE}
 use Rattle.nt_status.specs.declared.limits.TheConstants.{INFINITE}
 use Rattle.nt_lines.specs.Words.{words_of, text_of}
+use Rattle.nt_grammar.specs.Keywords.{EndlessWord, other_text}
 use Rattle.nt_grammar.specs.Plain.{plain_word}
 use Rattle.nt_grammar.specs.Scope.{Scope}
 use Rattle.nt_grammar.specs.Places.{named_object}
@@ -25,7 +26,7 @@ StatementsReadBack =
 abbrev pub StandsFor : Scope → List ℕ → List ℕ → Type 0
 StandsFor scope word text =
     (plain_word word ≡ text)
-    ⊎ ((plain_word word ≡ decimal INFINITE) × (text ≡ codes "inf"))
+    ⊎ ((plain_word word ≡ decimal INFINITE) × (text ≡ other_text EndlessWord))
     ⊎ ((handle : ℕ) × (named_object scope word ≡ Some handle) × (text ≡ decimal handle))
 
 -- each word stands for the text in its place

@@ -1,8 +1,9 @@
 -- What one word of a script may say, and what must stand in a place of a line.
-use Rattle.std.specs.Prelude.{ℕ, ℤ, pos, neg_ℤ, ◌-◌, ◌^◌, ◌&&◌, ◌==◌, nat_lt, nat_le, is_some, not, option_map, drop, Bool, true, false, List, [], ◌∷◌, Option, Some, None, if◌then◌else◌, codes}
+use Rattle.std.specs.Prelude.{ℕ, ℤ, pos, neg_ℤ, ◌-◌, ◌^◌, ◌&&◌, ◌==◌, nat_lt, nat_le, is_some, not, option_map, drop, Bool, true, false, List, [], ◌∷◌, Option, Some, None, if◌then◌else◌}
 use Rattle.std.specs.Str.{bytes_eq}
 use Rattle.nt_status.specs.declared.limits.TheConstants.{INFINITE, MAX_MOMENT}
 use Rattle.nt_lines.specs.Words.{is_digit, are_digits, number_of, caller_of, is_name, up_to}
+use Rattle.nt_grammar.specs.Keywords.{AlertableWord, EndlessWord, PlainWord, other_text}
 use Rattle.nt_grammar.specs.Scope.{Scope, bound_in}
 use Rattle.nt_grammar.specs.declared.fault.ScriptFault.{ScriptFault}
 use Rattle.nt_grammar.specs.declared.fault.ScriptFault.TheVariants.{UnknownWord, BadNumber, BadName, NameTaken, UnknownName}
@@ -32,8 +33,8 @@ abbrev pub named_object : Scope → List ℕ → Option ℕ
 named_object scope word = if is_some (caller_of word) then thread_object scope (caller_of word) else bound_in scope.names word
 
 -- the handle that a word means: digits alone are a handle's number
-abbrev pub object_in : Scope → List ℕ → Option ℕ
-object_in scope word = if are_digits word then number_in 0 (2 ^ 32 - 1) word else named_object scope word
+abbrev pub object_meant : Scope → List ℕ → Option ℕ
+object_meant scope word = if are_digits word then number_in 0 (2 ^ 32 - 1) word else named_object scope word
 
 -- whether a word is that one
 abbrev pub is_word : List ℕ → List ℕ → Bool
@@ -53,11 +54,11 @@ signed_in half word =
 
 -- milliseconds, or `inf`
 abbrev pub time_in : List ℕ → Option ℕ
-time_in word = if is_word word (codes "inf") then Some INFINITE else number_in 0 (2 ^ 32 - 1) word
+time_in word = if is_word word (other_text EndlessWord) then Some INFINITE else number_in 0 (2 ^ 32 - 1) word
 
 -- whether the wait is alertable
 abbrev pub mode_in : List ℕ → Option Bool
-mode_in word = if is_word word (codes "plain") then Some false else (if is_word word (codes "alertable") then Some true else None)
+mode_in word = if is_word word (other_text PlainWord) then Some false else (if is_word word (other_text AlertableWord) then Some true else None)
 
 -- ---- places
 
@@ -82,15 +83,15 @@ ValueOf ModePlace = Bool
 -- what the word means there
 abbrev pub value_in : Scope → (place : Place) → List ℕ → Option (ValueOf place)
 value_in scope NamePlace word = free_name_in scope word
-value_in scope ObjectPlace word = object_in scope word
+value_in scope ObjectPlace word = object_meant scope word
 value_in scope (NumberPlace least most) word = number_in least most word
 value_in scope (SignedPlace half) word = signed_in half word
 value_in scope TimePlace word = time_in word
 value_in scope ModePlace word = mode_in word
 
 -- whether a word may stand in the place
-abbrev pub fits : Scope → Place → List ℕ → Bool
-fits scope place word = is_some (value_in scope place word)
+abbrev pub fits_place : Scope → Place → List ℕ → Bool
+fits_place scope place word = is_some (value_in scope place word)
 
 -- whether the first byte is a digit
 abbrev pub begins_with_digit : List ℕ → Bool

@@ -1,15 +1,15 @@
 -- How the parser reads a line, word by word from the left, up to the first fault.
-use Rattle.std.specs.Prelude.{◌≡◌, ℕ, ℤ, ◌==◌, nat_le, Bool, true, false, List, [], ◌∷◌, length, Option, Some, None, Result, Ok, Err, if◌then◌else◌, codes}
+use Rattle.std.specs.Prelude.{◌≡◌, ℕ, ℤ, ◌==◌, nat_le, Bool, true, false, List, [], ◌∷◌, length, Option, Some, None, Result, Ok, Err, if◌then◌else◌}
 use Rattle.std.specs.List.{list_all}
 use Rattle.std.specs.Str.{bytes_eq}
 use Rattle.nt_lines.specs.declared.input.TheConstants.{MAX_LINE}
 use Rattle.nt_status.specs.declared.limits.TheConstants.{MAX_MOMENT, MAX_THREADS}
 use Rattle.nt_lines.specs.Words.{text_of, words_of, is_plain, caller_of}
 use Rattle.nt_grammar.specs.Scope.{Scope}
-use Rattle.nt_grammar.specs.Places.{Place, NamePlace, ObjectPlace, NumberPlace, SignedPlace, TimePlace, ModePlace, ValuePlace, ValueOf, value_in, blame, is_word, number_in, signed_in, free_name_in, object_in, time_in, mode_in}
+use Rattle.nt_grammar.specs.Places.{Place, NamePlace, ObjectPlace, NumberPlace, SignedPlace, TimePlace, ModePlace, ValuePlace, ValueOf, value_in, blame, is_word, number_in, signed_in, free_name_in, object_meant, time_in, mode_in}
 use Rattle.nt_grammar.specs.Grammar.{After, Options, Each, Both, Values, Given, ValuesAfter, places_of, after_of, called}
 use Rattle.nt_grammar.specs.declared.keyword.Keyword.{Keyword}
-use Rattle.nt_grammar.specs.Keywords.{keyword_of}
+use Rattle.nt_grammar.specs.Keywords.{ThreadsWord, TickWord, keyword_of, other_text}
 use Rattle.nt_grammar.specs.declared.fault.ScriptFault.{ScriptFault}
 use Rattle.nt_grammar.specs.declared.fault.ScriptFault.TheVariants.{LineTooLong, BadByte, ThreadsExpected, UnknownWord, MissingWord, ExtraWord}
 use Rattle.nt_grammar.specs.declared.parser.Statement.{Statement}
@@ -78,8 +78,8 @@ number_at least most words = value_at (number_in least most) (NumberPlace least 
 unfoldable pub free_name_at : Scope → List (List ℕ) → Result (List ℕ × List (List ℕ)) ScriptFault
 free_name_at scope words = value_at (free_name_in scope) NamePlace words
 
-unfoldable pub object_at : Scope → List (List ℕ) → Result (ℕ × List (List ℕ)) ScriptFault
-object_at scope words = value_at (object_in scope) ObjectPlace words
+unfoldable pub object_word_at : Scope → List (List ℕ) → Result (ℕ × List (List ℕ)) ScriptFault
+object_word_at scope words = value_at (object_meant scope) ObjectPlace words
 
 unfoldable pub signed_at : ℕ → List (List ℕ) → Result (ℤ × List (List ℕ)) ScriptFault
 signed_at half words = value_at (signed_in half) (SignedPlace half) words
@@ -91,18 +91,18 @@ unfoldable pub mode_at : List (List ℕ) → Result (Bool × List (List ℕ)) Sc
 mode_at words = value_at mode_in ModePlace words
 
 -- the value of the next word in any place
-abbrev pub place_at : Scope → (place : Place) → List (List ℕ) → Result (ValueOf place × List (List ℕ)) ScriptFault
-place_at scope NamePlace words = free_name_at scope words
-place_at scope ObjectPlace words = object_at scope words
-place_at scope (NumberPlace least most) words = number_at least most words
-place_at scope (SignedPlace half) words = signed_at half words
-place_at scope TimePlace words = time_at words
-place_at scope ModePlace words = mode_at words
+abbrev pub place_value_at : Scope → (place : Place) → List (List ℕ) → Result (ValueOf place × List (List ℕ)) ScriptFault
+place_value_at scope NamePlace words = free_name_at scope words
+place_value_at scope ObjectPlace words = object_word_at scope words
+place_value_at scope (NumberPlace least most) words = number_at least most words
+place_value_at scope (SignedPlace half) words = signed_at half words
+place_value_at scope TimePlace words = time_at words
+place_value_at scope ModePlace words = mode_at words
 
 -- a value for each place, and what is made of them and the words that are left
 abbrev pub places_at : {A : Type 0} → Scope → (places : List Place) → (Values places → List (List ℕ) → Result A ScriptFault) → List (List ℕ) → Result A ScriptFault
 places_at scope [] read words = read tt words
-places_at scope (place ∷ places) read words = place_at scope place words >>= λ value. places_at scope places (λ values rest. read (value.0, values) rest) value.1
+places_at scope (place ∷ places) read words = place_value_at scope place words >>= λ value. places_at scope places (λ values rest. read (value.0, values) rest) value.1
 
 -- ---- after the places
 
@@ -123,7 +123,7 @@ each_at scope place (word ∷ words) = do
 abbrev pub both_at : Scope → (first second : Place) → List (List ℕ) → Result (Option (ValueOf first × ValueOf second)) ScriptFault
 both_at scope first second words =
     if length words == 0 then Ok None
-    else (place_at scope first words >>= λ one. (place_at scope second one.1 >>= λ two. (end_at two.1 >>= λ ended. Ok (Some (one.0, two.0)))))
+    else (place_value_at scope first words >>= λ one. (place_value_at scope second one.1 >>= λ two. (end_at two.1 >>= λ ended. Ok (Some (one.0, two.0)))))
 
 -- what the words after the places say
 abbrev pub after_at : Scope → (after : After) → List (List ℕ) → Result (ValuesAfter after) ScriptFault
@@ -145,19 +145,19 @@ tick_at words = do
   Ok (Tick moment.0)
 
 -- the line of a keyword
-unfoldable pub call_at : Scope → ℕ → Keyword → List (List ℕ) → Result Statement ScriptFault
-call_at scope who k words = places_at scope (places_of k) (λ values rest. after_at scope (after_of k) rest >>= λ after. Ok (called who k values after)) words
+unfoldable pub keyword_line_at : Scope → ℕ → Keyword → List (List ℕ) → Result Statement ScriptFault
+keyword_line_at scope who k words = places_at scope (places_of k) (λ values rest. after_at scope (after_of k) rest >>= λ after. Ok (called who k values after)) words
 
 -- after a caller
 unfoldable pub caller_at : Scope → ℕ → List (List ℕ) → Result Statement ScriptFault
 caller_at scope who words = do
   word ← word_at words
   keyword ← or_fault (keyword_of word.0) UnknownWord
-  call_at scope who keyword word.1
+  keyword_line_at scope who keyword word.1
 
 unfoldable pub statement_at : Scope → List (List ℕ) → Result Statement ScriptFault
 statement_at scope [] = Ok Blank
-statement_at scope (first ∷ words) = if is_word first (codes "tick") then tick_at words else (or_fault (caller_of first) UnknownWord >>= λ who. caller_at scope who words)
+statement_at scope (first ∷ words) = if is_word first (other_text TickWord) then tick_at words else (or_fault (caller_of first) UnknownWord >>= λ who. caller_at scope who words)
 
 unfoldable pub threads_at : List (List ℕ) → Result (Option ℕ) ScriptFault
 threads_at words = do
@@ -168,7 +168,7 @@ threads_at words = do
 -- threads N, on the first line that isn't blank
 unfoldable pub opening_at : List (List ℕ) → Result (Option ℕ) ScriptFault
 opening_at [] = Ok None
-opening_at (first ∷ words) = if is_word first (codes "threads") then threads_at words else Err ThreadsExpected
+opening_at (first ∷ words) = if is_word first (other_text ThreadsWord) then threads_at words else Err ThreadsExpected
 
 unfoldable pub plain_text : List ℕ → Result (List ℕ) ScriptFault
 plain_text line = if list_all is_plain (text_of line) then Ok (text_of line) else Err BadByte

@@ -8,9 +8,11 @@ use Rattle.nt_calls.specs.declared.call.Call.{Call}
 use Rattle.nt_calls.specs.declared.call.Act.{Act}
 use Rattle.nt_calls.specs.declared.call.WaitCall.{WaitCall}
 use Rattle.nt_lines.specs.Words.{is_name}
+use Rattle.nt_lines.specs.declared.words.TheConstants.{MAX_CALLER}
+use Rattle.nt_grammar.specs.Keywords.{AlertableWord, EndlessWord, PlainWord, other_text}
 use Rattle.nt_grammar.specs.Scope.{Scope, bound_in}
 use Rattle.nt_grammar.specs.Places.{Place, NamePlace, ObjectPlace, NumberPlace, SignedPlace, TimePlace, ModePlace, ValueOf}
-use Rattle.nt_grammar.specs.Grammar.{Line, Nothing, Moment, Called, said_by, Part, Caller, Word, Value, parts_of}
+use Rattle.nt_grammar.specs.Grammar.{Line, Nothing, Moment, Called, said_by, Part, Caller, Word, Value, line_parts}
 use Rattle.nt_grammar.specs.declared.keyword.Keyword.{Keyword}
 use Rattle.nt_grammar.specs.declared.parser.Statement.{Statement}
 use Rattle.nt_grammar.specs.declared.parser.Statement.TheVariants.{Blank, Create, Perform, Tick}
@@ -23,11 +25,11 @@ caller_word who = codes "t" ++ decimal who
 
 -- milliseconds, or `inf`
 abbrev pub time_word : ℕ → List ℕ
-time_word ms = if ms == INFINITE then codes "inf" else decimal ms
+time_word ms = if ms == INFINITE then other_text EndlessWord else decimal ms
 
 -- whether the wait is alertable, as a word
 abbrev pub mode_word : Bool → List ℕ
-mode_word alertable = if alertable then codes "alertable" else codes "plain"
+mode_word alertable = if alertable then other_text AlertableWord else other_text PlainWord
 
 -- a value as it is written in its place
 abbrev pub value_word : (place : Place) → ValueOf place → List ℕ
@@ -88,7 +90,7 @@ line_of (Perform who Call.Exit) = Some (Called who Keyword.Exit tt tt)
 -- the words of a line
 abbrev pub line_words : Option Line → List (List ℕ)
 line_words None = []
-line_words (Some line) = map plain (parts_of line)
+line_words (Some line) = map plain (line_parts line)
 
 -- the words of a statement
 abbrev pub spelling : Statement → List (List ℕ)
@@ -128,7 +130,7 @@ CanStand scope ModePlace alertable = Unit {0}
 
 -- a part that a word can say
 abbrev pub CanSay : Scope → Part → Type 0
-CanSay scope (Caller who) = who ≤ 999999999
+CanSay scope (Caller who) = who ≤ MAX_CALLER
 CanSay scope (Word text) = Unit {0}
 CanSay scope (Value place value) = CanStand scope place value
 
@@ -139,4 +141,4 @@ CanSayAll scope (part ∷ parts) = CanSay scope part × CanSayAll scope parts
 
 -- The statement is that of a line with lawful names and numbers.
 abbrev pub CanBeSaid : Scope → Statement → Type 0
-CanBeSaid scope statement = (line : Line) × (said_by line ≡ statement) × CanSayAll scope (parts_of line)
+CanBeSaid scope statement = (line : Line) × (said_by line ≡ statement) × CanSayAll scope (line_parts line)

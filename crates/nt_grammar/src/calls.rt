@@ -3,7 +3,7 @@
 ghost use Rattle.std.specs.Prelude.{◌≡◌};
 ghost use Rattle.nt_grammar.specs.Places.{ObjectPlace};
 ghost use Rattle.nt_grammar.specs.Scope.{Scope};
-ghost use Rattle.nt_grammar.specs.Reading.{Gives, each_at, call_at};
+ghost use Rattle.nt_grammar.specs.Reading.{Gives, each_at, keyword_line_at};
 
 use crate::fault::LineFault;
 use crate::keyword::{Keyword, MANUAL, OWNED, SET};
@@ -23,7 +23,7 @@ pub(crate) fn parse_call(
     keyword: Keyword,
     words: Words,
 ) -> Result<Statement, LineFault>
-    ensures { Gives (λ statement. statement) result (call_at bindings.now.scope who keyword words.entry) }
+    ensures { Gives (λ statement. statement) result (keyword_line_at bindings.now.scope who keyword words.entry) }
 {
     match keyword {
         Keyword::Event => create_event(alloc, bindings, who, words),
@@ -50,14 +50,14 @@ pub(crate) fn parse_call(
 }
 
 /// A name, and whether the event is a manual one and whether it is set.
-#[tactic(auto, unfolding(crate::specs::Reading::call_at))]
+#[tactic(auto, unfolding(crate::specs::Reading::keyword_line_at))]
 fn create_event(
     alloc: Global,
     bindings: &Bindings,
     who: u32,
     mut words: Words,
 ) -> Result<Statement, LineFault>
-    ensures { Gives (λ statement. statement) result (call_at bindings.now.scope who Keyword.Event words.entry) }
+    ensures { Gives (λ statement. statement) result (keyword_line_at bindings.now.scope who Keyword.Event words.entry) }
 {
     let name = words.free_name(bindings)?;
     let manual = words.option(MANUAL);
@@ -70,14 +70,14 @@ fn create_event(
 }
 
 /// A name, and the first and the greatest count.
-#[tactic(auto, unfolding(crate::specs::Reading::call_at))]
+#[tactic(auto, unfolding(crate::specs::Reading::keyword_line_at))]
 fn create_semaphore(
     alloc: Global,
     bindings: &Bindings,
     who: u32,
     mut words: Words,
 ) -> Result<Statement, LineFault>
-    ensures { Gives (λ statement. statement) result (call_at bindings.now.scope who Keyword.Semaphore words.entry) }
+    ensures { Gives (λ statement. statement) result (keyword_line_at bindings.now.scope who Keyword.Semaphore words.entry) }
 {
     let name = words.free_name(bindings)?;
     let initial = words.signed32()?;
@@ -89,14 +89,14 @@ fn create_semaphore(
 }
 
 /// A name, and whether the caller owns it.
-#[tactic(auto, unfolding(crate::specs::Reading::call_at))]
+#[tactic(auto, unfolding(crate::specs::Reading::keyword_line_at))]
 fn create_mutex(
     alloc: Global,
     bindings: &Bindings,
     who: u32,
     mut words: Words,
 ) -> Result<Statement, LineFault>
-    ensures { Gives (λ statement. statement) result (call_at bindings.now.scope who Keyword.Mutex words.entry) }
+    ensures { Gives (λ statement. statement) result (keyword_line_at bindings.now.scope who Keyword.Mutex words.entry) }
 {
     let name = words.free_name(bindings)?;
     let owned = words.option(OWNED);
@@ -107,14 +107,14 @@ fn create_mutex(
 }
 
 /// A name, and whether the timer is a manual one.
-#[tactic(auto, unfolding(crate::specs::Reading::call_at))]
+#[tactic(auto, unfolding(crate::specs::Reading::keyword_line_at))]
 fn create_timer(
     alloc: Global,
     bindings: &Bindings,
     who: u32,
     mut words: Words,
 ) -> Result<Statement, LineFault>
-    ensures { Gives (λ statement. statement) result (call_at bindings.now.scope who Keyword.Timer words.entry) }
+    ensures { Gives (λ statement. statement) result (keyword_line_at bindings.now.scope who Keyword.Timer words.entry) }
 {
     let name = words.free_name(bindings)?;
     let manual = words.option(MANUAL);
@@ -125,14 +125,14 @@ fn create_timer(
 }
 
 /// A name, an object, and rights.
-#[tactic(auto, unfolding(crate::specs::Reading::call_at))]
+#[tactic(auto, unfolding(crate::specs::Reading::keyword_line_at))]
 fn duplicate_handle(
     alloc: Global,
     bindings: &Bindings,
     who: u32,
     mut words: Words,
 ) -> Result<Statement, LineFault>
-    ensures { Gives (λ statement. statement) result (call_at bindings.now.scope who Keyword.Duplicate words.entry) }
+    ensures { Gives (λ statement. statement) result (keyword_line_at bindings.now.scope who Keyword.Duplicate words.entry) }
 {
     let name = words.free_name(bindings)?;
     let handle = words.object(bindings)?;
@@ -161,9 +161,9 @@ fn wait_of(who: u32, wait: WaitCall) -> Statement
 }
 
 /// An event.
-#[tactic(auto, unfolding(crate::specs::Reading::call_at))]
+#[tactic(auto, unfolding(crate::specs::Reading::keyword_line_at))]
 fn set_event(bindings: &Bindings, who: u32, mut words: Words) -> Result<Statement, LineFault>
-    ensures { Gives (λ statement. statement) result (call_at bindings.now.scope who Keyword.Set words.entry) }
+    ensures { Gives (λ statement. statement) result (keyword_line_at bindings.now.scope who Keyword.Set words.entry) }
 {
     let event = words.object(bindings)?;
     words.end()?;
@@ -171,9 +171,9 @@ fn set_event(bindings: &Bindings, who: u32, mut words: Words) -> Result<Statemen
 }
 
 /// An event.
-#[tactic(auto, unfolding(crate::specs::Reading::call_at))]
+#[tactic(auto, unfolding(crate::specs::Reading::keyword_line_at))]
 fn reset_event(bindings: &Bindings, who: u32, mut words: Words) -> Result<Statement, LineFault>
-    ensures { Gives (λ statement. statement) result (call_at bindings.now.scope who Keyword.Reset words.entry) }
+    ensures { Gives (λ statement. statement) result (keyword_line_at bindings.now.scope who Keyword.Reset words.entry) }
 {
     let event = words.object(bindings)?;
     words.end()?;
@@ -181,9 +181,9 @@ fn reset_event(bindings: &Bindings, who: u32, mut words: Words) -> Result<Statem
 }
 
 /// An event.
-#[tactic(auto, unfolding(crate::specs::Reading::call_at))]
+#[tactic(auto, unfolding(crate::specs::Reading::keyword_line_at))]
 fn pulse_event(bindings: &Bindings, who: u32, mut words: Words) -> Result<Statement, LineFault>
-    ensures { Gives (λ statement. statement) result (call_at bindings.now.scope who Keyword.Pulse words.entry) }
+    ensures { Gives (λ statement. statement) result (keyword_line_at bindings.now.scope who Keyword.Pulse words.entry) }
 {
     let event = words.object(bindings)?;
     words.end()?;
@@ -191,13 +191,13 @@ fn pulse_event(bindings: &Bindings, who: u32, mut words: Words) -> Result<Statem
 }
 
 /// An object, and a count.
-#[tactic(auto, unfolding(crate::specs::Reading::call_at))]
+#[tactic(auto, unfolding(crate::specs::Reading::keyword_line_at))]
 fn release_semaphore(
     bindings: &Bindings,
     who: u32,
     mut words: Words,
 ) -> Result<Statement, LineFault>
-    ensures { Gives (λ statement. statement) result (call_at bindings.now.scope who Keyword.Release words.entry) }
+    ensures { Gives (λ statement. statement) result (keyword_line_at bindings.now.scope who Keyword.Release words.entry) }
 {
     let semaphore = words.object(bindings)?;
     let count = words.signed32()?;
@@ -206,9 +206,9 @@ fn release_semaphore(
 }
 
 /// A mutex.
-#[tactic(auto, unfolding(crate::specs::Reading::call_at))]
+#[tactic(auto, unfolding(crate::specs::Reading::keyword_line_at))]
 fn release_mutex(bindings: &Bindings, who: u32, mut words: Words) -> Result<Statement, LineFault>
-    ensures { Gives (λ statement. statement) result (call_at bindings.now.scope who Keyword.Unlock words.entry) }
+    ensures { Gives (λ statement. statement) result (keyword_line_at bindings.now.scope who Keyword.Unlock words.entry) }
 {
     let mutex = words.object(bindings)?;
     words.end()?;
@@ -216,9 +216,9 @@ fn release_mutex(bindings: &Bindings, who: u32, mut words: Words) -> Result<Stat
 }
 
 /// An object, when it is due, its period, and a routine with its argument or none.
-#[tactic(auto, unfolding(crate::specs::Reading::call_at, crate::specs::Reading::routine_at))]
+#[tactic(auto, unfolding(crate::specs::Reading::keyword_line_at, crate::specs::Reading::routine_at))]
 fn set_timer(bindings: &Bindings, who: u32, mut words: Words) -> Result<Statement, LineFault>
-    ensures { Gives (λ statement. statement) result (call_at bindings.now.scope who Keyword.Arm words.entry) }
+    ensures { Gives (λ statement. statement) result (keyword_line_at bindings.now.scope who Keyword.Arm words.entry) }
 {
     let timer = words.object(bindings)?;
     let due = words.signed64()?;
@@ -234,9 +234,9 @@ fn set_timer(bindings: &Bindings, who: u32, mut words: Words) -> Result<Statemen
 }
 
 /// A timer.
-#[tactic(auto, unfolding(crate::specs::Reading::call_at))]
+#[tactic(auto, unfolding(crate::specs::Reading::keyword_line_at))]
 fn cancel_timer(bindings: &Bindings, who: u32, mut words: Words) -> Result<Statement, LineFault>
-    ensures { Gives (λ statement. statement) result (call_at bindings.now.scope who Keyword.Cancel words.entry) }
+    ensures { Gives (λ statement. statement) result (keyword_line_at bindings.now.scope who Keyword.Cancel words.entry) }
 {
     let timer = words.object(bindings)?;
     words.end()?;
@@ -244,9 +244,9 @@ fn cancel_timer(bindings: &Bindings, who: u32, mut words: Words) -> Result<State
 }
 
 /// A thread's object, a routine and its argument.
-#[tactic(auto, unfolding(crate::specs::Reading::call_at))]
+#[tactic(auto, unfolding(crate::specs::Reading::keyword_line_at))]
 fn queue_apc(bindings: &Bindings, who: u32, mut words: Words) -> Result<Statement, LineFault>
-    ensures { Gives (λ statement. statement) result (call_at bindings.now.scope who Keyword.Apc words.entry) }
+    ensures { Gives (λ statement. statement) result (keyword_line_at bindings.now.scope who Keyword.Apc words.entry) }
 {
     let thread = words.object(bindings)?;
     let routine = words.number(0, u64::MAX)?;
@@ -261,9 +261,9 @@ fn queue_apc(bindings: &Bindings, who: u32, mut words: Words) -> Result<Statemen
 }
 
 /// Any object.
-#[tactic(auto, unfolding(crate::specs::Reading::call_at))]
+#[tactic(auto, unfolding(crate::specs::Reading::keyword_line_at))]
 fn close_handle(bindings: &Bindings, who: u32, mut words: Words) -> Result<Statement, LineFault>
-    ensures { Gives (λ statement. statement) result (call_at bindings.now.scope who Keyword.Close words.entry) }
+    ensures { Gives (λ statement. statement) result (keyword_line_at bindings.now.scope who Keyword.Close words.entry) }
 {
     let handle = words.object(bindings)?;
     words.end()?;
@@ -271,14 +271,14 @@ fn close_handle(bindings: &Bindings, who: u32, mut words: Words) -> Result<State
 }
 
 /// How long, whether alertable, and the objects.
-#[tactic(auto, unfolding(crate::specs::Reading::call_at))]
+#[tactic(auto, unfolding(crate::specs::Reading::keyword_line_at))]
 fn wait_for_any(
     alloc: Global,
     bindings: &Bindings,
     who: u32,
     mut words: Words,
 ) -> Result<Statement, LineFault>
-    ensures { Gives (λ statement. statement) result (call_at bindings.now.scope who Keyword.Any words.entry) }
+    ensures { Gives (λ statement. statement) result (keyword_line_at bindings.now.scope who Keyword.Any words.entry) }
 {
     let ms = words.time()?;
     let alertable = words.mode()?;
@@ -293,14 +293,14 @@ fn wait_for_any(
 }
 
 /// How long, whether alertable, and the objects.
-#[tactic(auto, unfolding(crate::specs::Reading::call_at))]
+#[tactic(auto, unfolding(crate::specs::Reading::keyword_line_at))]
 fn wait_for_all(
     alloc: Global,
     bindings: &Bindings,
     who: u32,
     mut words: Words,
 ) -> Result<Statement, LineFault>
-    ensures { Gives (λ statement. statement) result (call_at bindings.now.scope who Keyword.All words.entry) }
+    ensures { Gives (λ statement. statement) result (keyword_line_at bindings.now.scope who Keyword.All words.entry) }
 {
     let ms = words.time()?;
     let alertable = words.mode()?;
@@ -329,9 +329,9 @@ fn objects(alloc: Global, bindings: &Bindings, mut words: Words) -> Result<Handl
 }
 
 /// How long, and whether alertable.
-#[tactic(auto, unfolding(crate::specs::Reading::call_at))]
+#[tactic(auto, unfolding(crate::specs::Reading::keyword_line_at))]
 fn sleep_for(who: u32, mut words: Words) -> Result<Statement, LineFault>
-    ensures { (scope : Scope) → Gives (λ statement. statement) result (call_at scope who Keyword.Sleep words.entry) }
+    ensures { (scope : Scope) → Gives (λ statement. statement) result (keyword_line_at scope who Keyword.Sleep words.entry) }
 {
     let ms = words.time()?;
     let alertable = words.mode()?;
@@ -340,9 +340,9 @@ fn sleep_for(who: u32, mut words: Words) -> Result<Statement, LineFault>
 }
 
 /// The object to signal, the object to wait for, how long, and whether alertable.
-#[tactic(auto, unfolding(crate::specs::Reading::call_at))]
+#[tactic(auto, unfolding(crate::specs::Reading::keyword_line_at))]
 fn signal_and_wait(bindings: &Bindings, who: u32, mut words: Words) -> Result<Statement, LineFault>
-    ensures { Gives (λ statement. statement) result (call_at bindings.now.scope who Keyword.Swap words.entry) }
+    ensures { Gives (λ statement. statement) result (keyword_line_at bindings.now.scope who Keyword.Swap words.entry) }
 {
     let signal = words.object(bindings)?;
     let object = words.object(bindings)?;
@@ -359,18 +359,18 @@ fn signal_and_wait(bindings: &Bindings, who: u32, mut words: Words) -> Result<St
 }
 
 /// Nothing more.
-#[tactic(auto, unfolding(crate::specs::Reading::call_at))]
+#[tactic(auto, unfolding(crate::specs::Reading::keyword_line_at))]
 fn next_apc(who: u32, words: Words) -> Result<Statement, LineFault>
-    ensures { (scope : Scope) → Gives (λ statement. statement) result (call_at scope who Keyword.Next words.entry) }
+    ensures { (scope : Scope) → Gives (λ statement. statement) result (keyword_line_at scope who Keyword.Next words.entry) }
 {
     words.end()?;
     Ok(act_of(who, Act::NextApc))
 }
 
 /// Nothing more.
-#[tactic(auto, unfolding(crate::specs::Reading::call_at))]
+#[tactic(auto, unfolding(crate::specs::Reading::keyword_line_at))]
 fn exit_thread(who: u32, words: Words) -> Result<Statement, LineFault>
-    ensures { (scope : Scope) → Gives (λ statement. statement) result (call_at scope who Keyword.Exit words.entry) }
+    ensures { (scope : Scope) → Gives (λ statement. statement) result (keyword_line_at scope who Keyword.Exit words.entry) }
 {
     words.end()?;
     let call = Call::Exit;

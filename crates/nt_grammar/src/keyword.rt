@@ -1,7 +1,7 @@
 //! The words of lines. Each stands here alone: others name it.
 
 ghost use Rattle.std.specs.Prelude.{◌≡◌};
-ghost use Rattle.nt_grammar.specs.Keywords.{keyword_among, keyword_of, text_of};
+ghost use Rattle.nt_grammar.specs.Keywords.{keyword_among, keyword_of, keyword_text};
 
 /// Which call a line after `threads` makes, by the word after its caller.
 #[derive(Clone, Copy, Debug, PartialEq, Eq)]
@@ -69,7 +69,7 @@ pub const KEYWORDS: [Keyword; 20] = [
 impl Keyword {
     /// The keyword's word, as the table of the definitions has it.
     pub fn text(self) -> &'static str
-        ensures { result.now ≡ text_of self }
+        ensures { result.now ≡ keyword_text self }
     {
         match self {
             Keyword::Event => "event",

@@ -3,7 +3,7 @@
 ghost use Rattle.std.specs.Prelude.{◌≡◌, ◌≤◌, ◌<◌, IfOk, IfSome};
 ghost use Rattle.nt_grammar.specs.Places.{ObjectPlace};
 ghost use Rattle.nt_grammar.specs.Scope.{Scope};
-ghost use Rattle.nt_grammar.specs.Reading.{Gives, each_at, tick_at, call_at, caller_at, statement_at, opening_at, threads_at};
+ghost use Rattle.nt_grammar.specs.Reading.{Gives, each_at, tick_at, keyword_line_at, caller_at, statement_at, opening_at, threads_at};
 
 use crate::calls::parse_call;
 use crate::fault::{LineFault, ScriptFault};

@@ -2,8 +2,8 @@
 
 ghost use Rattle.std.specs.Prelude.{◌≡◌, ◌≤◌, ◌<◌, ◌^◌, ◌-◌, ◌≤ℤ◌, ◌<ℤ◌, pos, neg_ℤ, drop, IfOk, IfSome, None};
 ghost use Rattle.nt_grammar.specs.Scope.{bound_in};
-ghost use Rattle.nt_grammar.specs.Places.{number_in, is_negative, signed_in, named_object, object_in, time_in, begins_with_digit, blame, ObjectPlace};
-ghost use Rattle.nt_grammar.specs.Reading.{Takes, or_fault, number_at, signed_at, routine_at, free_name_at, object_at, time_at, mode_at};
+ghost use Rattle.nt_grammar.specs.Places.{number_in, is_negative, signed_in, named_object, object_meant, time_in, begins_with_digit, blame, ObjectPlace};
+ghost use Rattle.nt_grammar.specs.Reading.{Takes, or_fault, number_at, signed_at, routine_at, free_name_at, object_word_at, time_at, mode_at};
 
 use crate::fault::ScriptFault;
 use crate::keyword::{ALERTABLE, INF, PLAIN};
@@ -69,9 +69,9 @@ impl<'a> Words<'a> {
         Ok(name)
     }
 
-    #[tactic(auto, unfolding(crate::specs::Reading::object_at))]
+    #[tactic(auto, unfolding(crate::specs::Reading::object_word_at))]
     pub(crate) fn object(&mut self, bindings: &Bindings) -> Result<Handle, ScriptFault>
-        ensures { Takes (λ handle. handle) result self.new (object_at bindings.now.scope self.old) }
+        ensures { Takes (λ handle. handle) result self.new (object_word_at bindings.now.scope self.old) }
     {
         let word = self.next()?;
         let mut first = 0;
@@ -171,7 +171,7 @@ pub(crate) fn object_of(
     next: &mut usize,
     word: &[u8],
 ) -> Result<Handle, ScriptFault>
-    ensures { result ≡ or_fault (object_in bindings.now.scope word.now) (blame ObjectPlace word.now) }
+    ensures { result ≡ or_fault (object_meant bindings.now.scope word.now) (blame ObjectPlace word.now) }
 {
     match object_in(bindings, next, word) {
         Some(handle) => Ok(handle),
@@ -182,7 +182,7 @@ pub(crate) fn object_of(
 
 /// The handle that a word means: digits alone are a handle's number.
 fn object_in(bindings: &Bindings, next: &mut usize, word: &[u8]) -> Option<Handle>
-    ensures { result ≡ object_in bindings.now.scope word.now }
+    ensures { result ≡ object_meant bindings.now.scope word.now }
 {
     if are_digits(word) {
         let number = number_in(word, 0, u64::from(u32::MAX))?;

@@ -2,6 +2,7 @@
 use Rattle.std.specs.Prelude.{◌≡◌, ℕ, ◌+◌, ◌-◌, ◌*◌, ◌^◌, ◌==◌, ◌&&◌, ◌||◌, not, nat_lt, nat_le, Bool, false, List, [], ◌∷◌, length, slice_index, filter, take, position, unwrap_or, Option, Some, None, if◌then◌else◌}
 use Rattle.std.specs.List.{slice_split, list_all}
 use Rattle.std.specs.Str.Lines.{strip_carriage_return}
+use Rattle.nt_lines.specs.declared.words.TheConstants.{MAX_CALLER}
 use denote.Ref.{Bor}
 
 -- ---- what a line says: what stands before a comment
@@ -71,7 +72,7 @@ up_to most (Some n) = if nat_le n most then Some n else None
 -- `t` and one to nine digits
 unfoldable pub caller_of : List ℕ → Option ℕ
 caller_of [] = None
-caller_of (first ∷ digits) = if first == 116 then up_to 999999999 (number_of 9 digits) else None
+caller_of (first ∷ digits) = if first == 116 then up_to MAX_CALLER (number_of 9 digits) else None
 
 abbrev pub is_letter : ℕ → Bool
 is_letter byte = (nat_le 65 byte && nat_le byte 90) || (nat_le 97 byte && nat_le byte 122) || (byte == 95)

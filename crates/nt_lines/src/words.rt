@@ -84,7 +84,7 @@ pub fn number_of(word: &[u8], most: usize) -> Option<u64>
 }
 
 /// The greatest number of nine digits.
-const MAX_CALLER: u64 = 999_999_999;
+pub const MAX_CALLER: u64 = 999_999_999;
 
 /// The thread that `t` and one to nine digits name.
 #[tactic(auto, unfolding(crate::specs::Words::caller_of))]

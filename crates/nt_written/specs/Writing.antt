@@ -2,10 +2,11 @@
 use Rattle.std.specs.Prelude.{◌≡◌, ℕ, ◌+◌, ◌*◌, ◌^◌, ◌<◌, nat_lt, Bool, true, List, [], ◌∷◌, ◌++◌, length, if◌then◌else◌}
 use Rattle.std.specs.List.{flat_map, AllByRecursion}
 use Rattle.std.specs.Fmt.{decimal}
+use Rattle.nt_written.specs.declared.writing.TheConstants.{FEW_BYTES, NUMBER_BYTES}
 use Rattle.nt_calls.specs.declared.call.Call.{Call}
 use Rattle.nt_calls.specs.declared.call.Act.{Act}
 use Rattle.nt_calls.specs.declared.call.WaitCall.{WaitCall}
-use Rattle.nt_grammar.specs.Keywords.{text_of}
+use Rattle.nt_grammar.specs.Keywords.{keyword_text}
 use Rattle.nt_grammar.specs.Naming.{NamesFree}
 use Rattle.nt_grammar.specs.declared.keyword.Keyword.{Keyword}
 use Rattle.nt_grammar.specs.Scope.{Scope}
@@ -30,7 +31,7 @@ flag_text given word = if given then 32 ∷ word else []
 
 -- the keyword of a wait for all of its objects, or for any
 abbrev pub wait_word : Bool → List ℕ
-wait_word all = if all then text_of Keyword.All else text_of Keyword.Any
+wait_word all = if all then keyword_text Keyword.All else keyword_text Keyword.Any
 
 -- each object after a space
 abbrev pub objects_text : List ℕ → List ℕ
@@ -52,4 +53,4 @@ objects_in _ = 0
 
 -- the most bytes of a call's line
 abbrev pub room_of : Call → ℕ
-room_of call = 192 + 21 * objects_in call
+room_of call = FEW_BYTES + NUMBER_BYTES * objects_in call

@@ -37,8 +37,8 @@ impl From<AllocError> for Unwritten {
 /// The most bytes in a line before the objects of a wait.
 const FEW_BYTES: usize = 192;
 
-/// The most bytes that one of these objects takes.
-const OBJECT_BYTES: usize = 21;
+/// The most bytes of a number, with the space before it.
+const NUMBER_BYTES: usize = 21;
 
 /// Writes a thread's call, which answered this, as a line after what `out` has; where it can't, `out` has what it had.
 ///
@@ -89,7 +89,7 @@ fn room_for(call: &Call) -> Option<usize>
 {
     let count = objects_in(call);
     if count <= MAX_LINE {
-        Some(FEW_BYTES + OBJECT_BYTES * count)
+        Some(FEW_BYTES + NUMBER_BYTES * count)
     } else {
         None
     }

@@ -5,6 +5,7 @@ ghost use Rattle.nt_grammar.specs.Scope.{Scope};
 ghost use Rattle.nt_grammar.specs.Naming.{NamesFree};
 ghost use Rattle.nt_grammar.specs.Spelling.{statement_text, CanBeSaid};
 ghost use Rattle.nt_grammar.specs.Grammar.{act_by, wait_by};
+ghost use Rattle.nt_written.specs.declared.writing.TheConstants.{FEW_BYTES, NUMBER_BYTES};
 ghost use Rattle.nt_written.specs.Written.{statement_for};
 ghost use Rattle.nt_written.specs.Writing.{has_words, flags_have_words, room_of, IsPut};
 
@@ -34,9 +35,9 @@ pub(crate) fn put_call(out: &mut Vec<u8>, who: ThreadId, call: &Call, created: O
 /// Puts an act's line.
 fn put_act(out: &mut Vec<u8>, who: ThreadId, act: &Act, created: Option<Handle>)
     requires words { flags_have_words act.now ≡ true }
-    requires room { vec_len out.old + 192 ≤ vec_capacity out.old }
+    requires room { vec_len out.old + FEW_BYTES ≤ vec_capacity out.old }
     ensures put { IsPut out.old.items (statement_for who (Call.Act act.now) created) out.new.items }
-    ensures len { vec_len out.new < vec_len out.old + 192 }
+    ensures len { vec_len out.new < vec_len out.old + FEW_BYTES }
     ensures room { vec_capacity out.old ≤ vec_capacity out.new }
 {
     match act {
@@ -72,9 +73,9 @@ fn put_act(out: &mut Vec<u8>, who: ThreadId, act: &Act, created: Option<Handle>)
 /// A name, and whether the event is a manual one and whether it is set.
 fn put_event(out: &mut Vec<u8>, who: ThreadId, flags: u32, created: Option<Handle>)
     requires words { nat_lt flags 4 ≡ true }
-    requires room { vec_len out.old + 192 ≤ vec_capacity out.old }
+    requires room { vec_len out.old + FEW_BYTES ≤ vec_capacity out.old }
     ensures put { IsPut out.old.items (statement_for who (Call.Act (Act.CreateEvent flags)) created) out.new.items }
-    ensures len { vec_len out.new < vec_len out.old + 192 }
+    ensures len { vec_len out.new < vec_len out.old + FEW_BYTES }
     ensures room { vec_capacity out.old ≤ vec_capacity out.new }
 {
     put_creation(out, who, Keyword::Event, created);
@@ -90,10 +91,10 @@ fn put_semaphore(
     maximum: i32,
     created: Option<Handle>,
 )
-    requires { vec_len out.old + 192 ≤ vec_capacity out.old }
+    requires { vec_len out.old + FEW_BYTES ≤ vec_capacity out.old }
     ensures put { IsPut out.old.items
         (statement_for who (Call.Act (Act.CreateSemaphore initial maximum)) created) out.new.items }
-    ensures len { vec_len out.new < vec_len out.old + 192 }
+    ensures len { vec_len out.new < vec_len out.old + FEW_BYTES }
     ensures room { vec_capacity out.old ≤ vec_capacity out.new }
 {
     put_creation(out, who, Keyword::Semaphore, created);
@@ -104,9 +105,9 @@ fn put_semaphore(
 /// A name, and whether the caller owns it.
 fn put_mutex(out: &mut Vec<u8>, who: ThreadId, flags: u32, created: Option<Handle>)
     requires words { nat_lt flags 2 ≡ true }
-    requires room { vec_len out.old + 192 ≤ vec_capacity out.old }
+    requires room { vec_len out.old + FEW_BYTES ≤ vec_capacity out.old }
     ensures put { IsPut out.old.items (statement_for who (Call.Act (Act.CreateMutex flags)) created) out.new.items }
-    ensures len { vec_len out.new < vec_len out.old + 192 }
+    ensures len { vec_len out.new < vec_len out.old + FEW_BYTES }
     ensures room { vec_capacity out.old ≤ vec_capacity out.new }
 {
     put_creation(out, who, Keyword::Mutex, created);
@@ -116,9 +117,9 @@ fn put_mutex(out: &mut Vec<u8>, who: ThreadId, flags: u32, created: Option<Handl
 /// A name, and whether the timer is a manual one.
 fn put_timer(out: &mut Vec<u8>, who: ThreadId, flags: u32, created: Option<Handle>)
     requires words { nat_lt flags 2 ≡ true }
-    requires room { vec_len out.old + 192 ≤ vec_capacity out.old }
+    requires room { vec_len out.old + FEW_BYTES ≤ vec_capacity out.old }
     ensures put { IsPut out.old.items (statement_for who (Call.Act (Act.CreateTimer flags)) created) out.new.items }
-    ensures len { vec_len out.new < vec_len out.old + 192 }
+    ensures len { vec_len out.new < vec_len out.old + FEW_BYTES }
     ensures room { vec_capacity out.old ≤ vec_capacity out.new }
 {
     put_creation(out, who, Keyword::Timer, created);
@@ -133,10 +134,10 @@ fn put_duplicate(
     access: u32,
     created: Option<Handle>,
 )
-    requires { vec_len out.old + 192 ≤ vec_capacity out.old }
+    requires { vec_len out.old + FEW_BYTES ≤ vec_capacity out.old }
     ensures put { IsPut out.old.items
         (statement_for who (Call.Act (Act.Duplicate handle access)) created) out.new.items }
-    ensures len { vec_len out.new < vec_len out.old + 192 }
+    ensures len { vec_len out.new < vec_len out.old + FEW_BYTES }
     ensures room { vec_capacity out.old ≤ vec_capacity out.new }
 {
     put_creation(out, who, Keyword::Duplicate, created);
@@ -146,9 +147,9 @@ fn put_duplicate(
 
 /// An object, and a count.
 fn put_release(out: &mut Vec<u8>, who: ThreadId, semaphore: Handle, count: i32)
-    requires { vec_len out.old + 192 ≤ vec_capacity out.old }
+    requires { vec_len out.old + FEW_BYTES ≤ vec_capacity out.old }
     ensures put { IsPut out.old.items (act_by who (Act.ReleaseSemaphore semaphore count)) out.new.items }
-    ensures len { vec_len out.new < vec_len out.old + 192 }
+    ensures len { vec_len out.new < vec_len out.old + FEW_BYTES }
     ensures room { vec_capacity out.old ≤ vec_capacity out.new }
 {
     put_on(out, who, Keyword::Release, semaphore);
@@ -164,9 +165,9 @@ fn put_arm(
     period: i32,
     routine: Option<(u64, u64)>,
 )
-    requires { vec_len out.old + 192 ≤ vec_capacity out.old }
+    requires { vec_len out.old + FEW_BYTES ≤ vec_capacity out.old }
     ensures put { IsPut out.old.items (act_by who (Act.SetTimer timer due period routine)) out.new.items }
-    ensures len { vec_len out.new < vec_len out.old + 192 }
+    ensures len { vec_len out.new < vec_len out.old + FEW_BYTES }
     ensures room { vec_capacity out.old ≤ vec_capacity out.new }
 {
     put_on(out, who, Keyword::Arm, timer);
@@ -183,9 +184,9 @@ fn put_arm(
 
 /// A thread's object, a routine and its argument.
 fn put_apc(out: &mut Vec<u8>, who: ThreadId, thread: Handle, routine: u64, arg: u64)
-    requires { vec_len out.old + 192 ≤ vec_capacity out.old }
+    requires { vec_len out.old + FEW_BYTES ≤ vec_capacity out.old }
     ensures put { IsPut out.old.items (act_by who (Act.QueueApc thread routine arg)) out.new.items }
-    ensures len { vec_len out.new < vec_len out.old + 192 }
+    ensures len { vec_len out.new < vec_len out.old + FEW_BYTES }
     ensures room { vec_capacity out.old ≤ vec_capacity out.new }
 {
     put_on(out, who, Keyword::Apc, thread);
@@ -226,9 +227,9 @@ fn put_objects_wait(
     ms: u32,
     handles: &[Handle],
 )
-    requires { vec_len out.old + 192 + 21 * length handles.now ≤ vec_capacity out.old }
+    requires { vec_len out.old + FEW_BYTES + NUMBER_BYTES * length handles.now ≤ vec_capacity out.old }
     ensures put { IsPut out.old.items (wait_by who (WaitCall.Objects all alertable ms handles.now)) out.new.items }
-    ensures len { vec_len out.new < vec_len out.old + 192 + 21 * length handles.now }
+    ensures len { vec_len out.new < vec_len out.old + FEW_BYTES + NUMBER_BYTES * length handles.now }
     ensures room { vec_capacity out.old ≤ vec_capacity out.new }
 {
     put_wait_keyword(out, who, all);
@@ -239,9 +240,9 @@ fn put_objects_wait(
 
 /// How long, and whether alertable.
 fn put_sleep(out: &mut Vec<u8>, who: ThreadId, ms: u32, alertable: bool)
-    requires { vec_len out.old + 192 ≤ vec_capacity out.old }
+    requires { vec_len out.old + FEW_BYTES ≤ vec_capacity out.old }
     ensures put { IsPut out.old.items (wait_by who (WaitCall.Sleep ms alertable)) out.new.items }
-    ensures len { vec_len out.new < vec_len out.old + 192 }
+    ensures len { vec_len out.new < vec_len out.old + FEW_BYTES }
     ensures room { vec_capacity out.old ≤ vec_capacity out.new }
 {
     put_keyword(out, who, Keyword::Sleep);
@@ -258,9 +259,9 @@ fn put_swap(
     ms: u32,
     alertable: bool,
 )
-    requires { vec_len out.old + 192 ≤ vec_capacity out.old }
+    requires { vec_len out.old + FEW_BYTES ≤ vec_capacity out.old }
     ensures put { IsPut out.old.items (wait_by who (WaitCall.Swap signal object ms alertable)) out.new.items }
-    ensures len { vec_len out.new < vec_len out.old + 192 }
+    ensures len { vec_len out.new < vec_len out.old + FEW_BYTES }
     ensures room { vec_capacity out.old ≤ vec_capacity out.new }
 {
     put_on(out, who, Keyword::Swap, signal);

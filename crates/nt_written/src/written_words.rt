@@ -6,8 +6,9 @@ ghost use Rattle.nt_status.specs.Flags.{has_flag};
 ghost use Rattle.nt_lines.specs.Words.{is_name};
 ghost use Rattle.nt_grammar.specs.Scope.{Scope};
 ghost use Rattle.nt_grammar.specs.Naming.{NamesFree};
-ghost use Rattle.nt_grammar.specs.Keywords.{text_of};
+ghost use Rattle.nt_grammar.specs.Keywords.{keyword_text};
 ghost use Rattle.nt_grammar.specs.Spelling.{caller_word, time_word, mode_word, statement_text, IsSigned, CanBeSaid};
+ghost use Rattle.nt_written.specs.declared.writing.TheConstants.{NUMBER_BYTES};
 ghost use Rattle.nt_written.specs.Written.{name_for, statement_for};
 ghost use Rattle.nt_written.specs.Writing.{has_words, flags_have_words, flag_text, wait_word, objects_text, room_of, AreHandles};
 
@@ -31,9 +32,9 @@ fn put_word(out: &mut Vec<u8>, word: &[u8])
 
 /// Puts a space and a number.
 pub(crate) fn put_value(out: &mut Vec<u8>, value: u64)
-    requires { vec_len out.old + 21 ≤ vec_capacity out.old }
+    requires { vec_len out.old + NUMBER_BYTES ≤ vec_capacity out.old }
     ensures items { out.new.items ≡ out.old.items ++ 32 ∷ decimal value }
-    ensures len { vec_len out.new ≤ vec_len out.old + 21 }
+    ensures len { vec_len out.new ≤ vec_len out.old + NUMBER_BYTES }
     ensures room { vec_capacity out.old ≤ vec_capacity out.new }
     ensures range { value < 2 ^ 64 }
 {
@@ -43,9 +44,9 @@ pub(crate) fn put_value(out: &mut Vec<u8>, value: u64)
 
 /// Puts a space and an object, by the number of its handle.
 pub(crate) fn put_object(out: &mut Vec<u8>, object: Handle)
-    requires { vec_len out.old + 21 ≤ vec_capacity out.old }
+    requires { vec_len out.old + NUMBER_BYTES ≤ vec_capacity out.old }
     ensures items { out.new.items ≡ out.old.items ++ 32 ∷ decimal object }
-    ensures len { vec_len out.new ≤ vec_len out.old + 21 }
+    ensures len { vec_len out.new ≤ vec_len out.old + NUMBER_BYTES }
     ensures room { vec_capacity out.old ≤ vec_capacity out.new }
     ensures range { object < 2 ^ 32 }
 {
@@ -66,9 +67,9 @@ pub(crate) fn put_count(out: &mut Vec<u8>, count: i32)
 
 /// Puts a space and a due time, which may be negative.
 pub(crate) fn put_due(out: &mut Vec<u8>, due: i64)
-    requires { vec_len out.old + 21 ≤ vec_capacity out.old }
+    requires { vec_len out.old + NUMBER_BYTES ≤ vec_capacity out.old }
     ensures items { out.new.items ≡ out.old.items ++ 32 ∷ signed_decimal due }
-    ensures len { vec_len out.new ≤ vec_len out.old + 21 }
+    ensures len { vec_len out.new ≤ vec_len out.old + NUMBER_BYTES }
     ensures room { vec_capacity out.old ≤ vec_capacity out.new }
     ensures range { IsSigned (2 ^ 63) due }
 {
@@ -78,9 +79,9 @@ pub(crate) fn put_due(out: &mut Vec<u8>, due: i64)
 
 /// Puts a space and a timeout in milliseconds, or none.
 pub(crate) fn put_time(out: &mut Vec<u8>, ms: u32)
-    requires { vec_len out.old + 21 ≤ vec_capacity out.old }
+    requires { vec_len out.old + NUMBER_BYTES ≤ vec_capacity out.old }
     ensures items { out.new.items ≡ out.old.items ++ 32 ∷ time_word ms }
-    ensures len { vec_len out.new ≤ vec_len out.old + 21 }
+    ensures len { vec_len out.new ≤ vec_len out.old + NUMBER_BYTES }
     ensures room { vec_capacity out.old ≤ vec_capacity out.new }
     ensures range { ms < 2 ^ 32 }
 {
@@ -119,9 +120,9 @@ pub(crate) fn put_flag(out: &mut Vec<u8>, flags: u32, flag: u32, word: &[u8])
 
 /// Puts each object after a space.
 pub(crate) fn put_objects(out: &mut Vec<u8>, objects: &[Handle])
-    requires { vec_len out.old + 21 * length objects.now ≤ vec_capacity out.old }
+    requires { vec_len out.old + NUMBER_BYTES * length objects.now ≤ vec_capacity out.old }
     ensures items { out.new.items ≡ out.old.items ++ objects_text objects.now }
-    ensures len { vec_len out.new ≤ vec_len out.old + 21 * length objects.now }
+    ensures len { vec_len out.new ≤ vec_len out.old + NUMBER_BYTES * length objects.now }
     ensures room { vec_capacity out.old ≤ vec_capacity out.new }
     ensures range { AreHandles objects.now }
 {
@@ -134,9 +135,9 @@ pub(crate) fn put_objects(out: &mut Vec<u8>, objects: &[Handle])
 
 /// Puts a caller and a keyword.
 pub(crate) fn put_keyword(out: &mut Vec<u8>, who: ThreadId, keyword: Keyword)
-    requires { vec_len out.old + 22 + length (text_of keyword) ≤ vec_capacity out.old }
-    ensures items { out.new.items ≡ out.old.items ++ (caller_word who ++ 32 ∷ text_of keyword) }
-    ensures len { vec_len out.new ≤ vec_len out.old + 22 + length (text_of keyword) }
+    requires { vec_len out.old + 22 + length (keyword_text keyword) ≤ vec_capacity out.old }
+    ensures items { out.new.items ≡ out.old.items ++ (caller_word who ++ 32 ∷ keyword_text keyword) }
+    ensures len { vec_len out.new ≤ vec_len out.old + 22 + length (keyword_text keyword) }
     ensures room { vec_capacity out.old ≤ vec_capacity out.new }
     ensures range { who < 2 ^ 16 }
 {
@@ -162,9 +163,9 @@ pub(crate) fn put_wait_keyword(out: &mut Vec<u8>, who: ThreadId, all: bool)
 
 /// Puts a caller, a keyword and an object.
 pub(crate) fn put_on(out: &mut Vec<u8>, who: ThreadId, keyword: Keyword, object: Handle)
-    requires { vec_len out.old + 43 + length (text_of keyword) ≤ vec_capacity out.old }
-    ensures items { out.new.items ≡ out.old.items ++ (caller_word who ++ 32 ∷ (text_of keyword ++ 32 ∷ decimal object)) }
-    ensures len { vec_len out.new ≤ vec_len out.old + 43 + length (text_of keyword) }
+    requires { vec_len out.old + 43 + length (keyword_text keyword) ≤ vec_capacity out.old }
+    ensures items { out.new.items ≡ out.old.items ++ (caller_word who ++ 32 ∷ (keyword_text keyword ++ 32 ∷ decimal object)) }
+    ensures len { vec_len out.new ≤ vec_len out.old + 43 + length (keyword_text keyword) }
     ensures room { vec_capacity out.old ≤ vec_capacity out.new }
     ensures range { (who < 2 ^ 16) × (object < 2 ^ 32) }
 {
@@ -179,9 +180,9 @@ pub(crate) fn put_creation(
     keyword: Keyword,
     created: Option<Handle>,
 )
-    requires { vec_len out.old + 44 + length (text_of keyword) ≤ vec_capacity out.old }
-    ensures items { out.new.items ≡ out.old.items ++ (caller_word who ++ 32 ∷ (text_of keyword ++ 32 ∷ name_for created)) }
-    ensures len { vec_len out.new ≤ vec_len out.old + 44 + length (text_of keyword) }
+    requires { vec_len out.old + 44 + length (keyword_text keyword) ≤ vec_capacity out.old }
+    ensures items { out.new.items ≡ out.old.items ++ (caller_word who ++ 32 ∷ (keyword_text keyword ++ 32 ∷ name_for created)) }
+    ensures len { vec_len out.new ≤ vec_len out.old + 44 + length (keyword_text keyword) }
     ensures room { vec_capacity out.old ≤ vec_capacity out.new }
     ensures range { (who < 2 ^ 16) × (is_name (name_for created) ≡ true) }
 {
