@@ -8,7 +8,7 @@ use Rattle.nt_core.proofs.Runs.{turns-append}
 use Rattle.nt_script.specs.declared.tally.Tally.{Tally}
 use Rattle.nt_grammar.specs.Scope.{Scope}
 use Rattle.nt_script.specs.Transcript.{Transcript, LineGives}
-use Rattle.nt_script.specs.Progress.{Progress, Goes, Ran, Advances, CarriedOut, scope_of, tally_of, add_tally, is_refused, granted_by}
+use Rattle.nt_script.specs.Progress.{Progress, TurnsGo, Ran, Advances, CarriedOut, scope_of, tally_of, add_tally, is_refused, granted_by}
 
 pub Transcript-then : (line : ℕ) (a b c : Option Scope) (lines : List (List ℕ)) (turns : List Turn) (text : List ℕ) (bytes : List ℕ) (more : List Turn) (more_text : List ℕ)
     → Transcript line a lines turns text b → LineGives (line + length lines) bytes b more more_text c
@@ -43,7 +43,7 @@ nothing : (turns more : List Turn) → turns ≡ [] → more ≡ [] → turns ++
 nothing turns more p q = rw (p, q) refl
 
 ran-then : (number : ℕ) (bytes : List ℕ) (turns more : List Turn) (text : List ℕ) (old new : Option Progress)
-    → Ran turns old → LineGives number bytes (scope_of old) more text (scope_of new) → Goes old more new → Ran (turns ++ more) new
+    → Ran turns old → LineGives number bytes (scope_of old) more text (scope_of new) → TurnsGo old more new → Ran (turns ++ more) new
 ran-then number bytes turns more text None None p gives goes = nothing turns more p gives.1
 ran-then number bytes turns more text None (Some new) p gives goes =
     let none = nothing turns more p gives.1 in

@@ -13,7 +13,7 @@ use Rattle.nt_script.specs.declared.tally.Tally.{Tally}
 use Rattle.nt_script.specs.Transcript.{turn_text, binds}
 use Rattle.nt_grammar.specs.Naming.{handle_of}
 use Rattle.nt_grammar.specs.Lines.{IsLine}
-use Rattle.nt_script.specs.Progress.{Progress, Advances, IsCounted, add_tally, tally_of}
+use Rattle.nt_script.specs.Progress.{Progress, Advances, ProgressIsCounted, add_tally, tally_of}
 
 binds-threads : (name : List ℕ) (handle : Option ℕ) (scope : Scope) → (binds name handle scope).threads ≡ scope.threads
 binds-threads name None scope = refl
@@ -68,6 +68,6 @@ blank_line number bytes text old mid same writes read =
     subst (λ (p : Progress). IsLine p.scope Blank bytes → Advances number bytes (Some p) [] text (Some mid)) same
     (λ h. record { gives = (Blank, h, (refl, writes, refl)); goes = record { run = refl; tally = add-none mid.tally; threads = refl } }) read
 
-pub counted_on : (number : ℕ) (old mid : Progress) → mid ≡ old → IsCounted number old → IsCounted (number + 1) mid
+pub counted_on : (number : ℕ) (old mid : Progress) → mid ≡ old → ProgressIsCounted number old → ProgressIsCounted (number + 1) mid
 counted_on number old mid same h =
-    subst (λ (p : Progress). IsCounted number p → IsCounted (number + 1) mid) same (λ h. record { calls = omega (arith, h.calls); refused = h.refused; granted = h.granted }) h
+    subst (λ (p : Progress). ProgressIsCounted number p → ProgressIsCounted (number + 1) mid) same (λ h. record { calls = omega (arith, h.calls); refused = h.refused; granted = h.granted }) h

@@ -11,7 +11,7 @@ use Rattle.nt_calls.specs.Runs.{Turn, Calls, Ticks, Turns, Run}
 use Rattle.nt_laws.specs.Laws.{RunsOneWay, AsksCall, wants_memory, question}
 use Rattle.nt_lines.specs.Lines.{lines_of}
 use Rattle.nt_grammar.specs.Scope.{Scope}
-use Rattle.nt_script.specs.Transcript.{Transcript, LineGives, IsCarriedOut, turn_text, binds, end_text}
+use Rattle.nt_script.specs.Transcript.{Transcript, LineGives, StatementIsCarriedOut, turn_text, binds, end_text}
 use Rattle.nt_grammar.specs.Lines.{opened_scope}
 use Rattle.nt_grammar.specs.Naming.{handle_of}
 use Rattle.nt_script.specs.Progress.{Progress}
@@ -50,7 +50,7 @@ asks_call who call r q gs hs first other x y h k =
     ap (map question) x ∙ ap (λ (b : Bool). AsksCall who call b ∷ []) (none ∙ sym nor) ∙ sym (ap (map question) y)
 
 asks_same : (line : ℕ) (st : Statement) (scope : Scope) (first other : List Turn) (text text' : List ℕ) (after after' : Scope)
-    → IsCarriedOut line st scope first text after → IsCarriedOut line st scope other text' after' → HadMemory first → HadMemory other → map question first ≡ map question other
+    → StatementIsCarriedOut line st scope first text after → StatementIsCarriedOut line st scope other text' after' → HadMemory first → HadMemory other → map question first ≡ map question other
 asks_same line Blank scope first other text text' after after' x y h k = ap (map question) (x.0 ∙ sym y.0)
 asks_same line (Create who name act) scope first other text text' after after' x y h k = asks_call who (Call.Act act) x.0 y.0 x.1 y.1 first other x.2.turn y.2.turn h k
 asks_same line (Perform who call) scope first other text text' after after' x y h k = asks_call who call x.0 y.0 x.1 y.1 first other x.2.turn y.2.turn h k
@@ -70,7 +70,7 @@ text_same : (line : ℕ) (r q : Result Reply Refusal) (gs hs : List Grant) (text
 text_same line r q gs hs text text' x y same = x ∙ ap (λ (z : Result Reply Refusal). turn_text line z gs) same.0 ∙ ap (λ (z : List Grant). turn_text line q z) same.1 ∙ sym y
 
 writes_same : (line : ℕ) (st : Statement) (scope : Scope) (first other : List Turn) (text text' : List ℕ) (after after' : Scope)
-    → IsCarriedOut line st scope first text after → IsCarriedOut line st scope other text' after' → first ≡ other → (text ≡ text') × (after ≡ after')
+    → StatementIsCarriedOut line st scope first text after → StatementIsCarriedOut line st scope other text' after' → first ≡ other → (text ≡ text') × (after ≡ after')
 writes_same line Blank scope first other text text' after after' x y e = (x.1 ∙ sym y.1, x.2 ∙ sym y.2)
 writes_same line (Create who name act) scope first other text text' after after' x y e =
     let same = call_is who (Call.Act act) x.0 y.0 x.1 y.1 first other x.2.turn y.2.turn e in
@@ -89,7 +89,7 @@ binds_keep : (name : List ℕ) (handle : Option ℕ) (scope : Scope) → (binds 
 binds_keep name None scope = refl
 binds_keep name (Some handle) scope = refl
 
-carried_keep : (line : ℕ) (st : Statement) (scope : Scope) (turns : List Turn) (text : List ℕ) (after : Scope) → IsCarriedOut line st scope turns text after → after.threads ≡ scope.threads
+carried_keep : (line : ℕ) (st : Statement) (scope : Scope) (turns : List Turn) (text : List ℕ) (after : Scope) → StatementIsCarriedOut line st scope turns text after → after.threads ≡ scope.threads
 carried_keep line Blank scope turns text after x = ap (λ (s : Scope). s.threads) x.2
 carried_keep line (Create who name act) scope turns text after x = ap (λ (s : Scope). s.threads) x.3 ∙ binds_keep name (handle_of x.0) scope
 carried_keep line (Perform who call) scope turns text after x = ap (λ (s : Scope). s.threads) x.3
@@ -118,7 +118,7 @@ module _ (one_way : RunsOneWay) (n : ℕ) where
       → HadMemory first → HadMemory other → Same first other text text' after after' a b
   one_line line bytes scope before first other text text' after after' s a b run x y p q h k =
       let same : q.0 ≡ p.0 = one_statement scope bytes q.0 p.0 q.1 p.1 in
-      let carried = subst (λ (st : Statement). IsCarriedOut line st scope other text' after') same q.2 in
+      let carried = subst (λ (st : Statement). StatementIsCarriedOut line st scope other text' after') same q.2 in
       let asks = asks_same line p.0 scope first other text text' after after' p.2 carried h k in
       let questions : map question (before ++ first) ≡ map question (before ++ other) = map-append question before first ∙ ap (λ asked. map question before ++ asked) asks ∙ sym (map-append question before other) in
       let all = one_way n (before ++ first) (before ++ other) a b (turns-append (opening n) s a before first run x) (turns-append (opening n) s b before other run y) questions in

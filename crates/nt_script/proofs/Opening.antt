@@ -9,9 +9,9 @@ use Rattle.nt_script.specs.declared.session.Session.{Session}
 use Rattle.nt_script.specs.declared.tally.Tally.{Tally}
 use Rattle.nt_grammar.specs.declared.fault.LineFault.{LineFault}
 use Rattle.nt_grammar.specs.declared.fault.LineFault.TheVariants.{Memory, Script}
-use Rattle.nt_script.specs.Progress.{Progress, IsFresh, IsCounted, AreCounted, Advances, LineAnswers, Opens, progress, progress_of}
+use Rattle.nt_script.specs.Progress.{Progress, ProgressIsFresh, ProgressIsCounted, AreCounted, Advances, LineAnswers, Opens, progress, progress_of}
 
-fresh_counted : (number : ℕ) (now : Progress) → IsFresh now → IsCounted (number + 1) now
+fresh_counted : (number : ℕ) (now : Progress) → ProgressIsFresh now → ProgressIsCounted (number + 1) now
 fresh_counted number now fresh =
     let calls = ap (λ (tally : Tally). tally.calls) fresh.tally in
     let refused = ap (λ (tally : Tally). tally.refused) fresh.tally in

@@ -9,7 +9,7 @@ use Rattle.nt_lines.specs.Lines.{is_feed, HasNoFeed, lines_of, without_empty_las
 use Rattle.nt_calls.specs.Runs.{Turn}
 use Rattle.nt_grammar.specs.Lines.{FaultIn}
 use Rattle.nt_script.specs.Progress.{Progress, Advances, CarriedOut, scope_of, progress_of}
-use Rattle.nt_script.specs.Running.{Has, end_of, summary_at, Stops, FaultNext, AnyCause, ReadsPart, Breaks, Answers, with_feeds, TakesLine, FindsFault, FailsIn, TakesNext, NothingAhead, SoFar, Whole, Ends, WritesLine}
+use Rattle.nt_script.specs.Running.{Has, end_of, summary_at, Stops, FaultNext, AnyCause, ReadsPart, Breaks, Answers, with_feeds, TakesLine, FindsFault, FailsIn, TakesNext, NothingAhead, SoFar, Whole, RunEnds, WritesLine}
 use Rattle.nt_grammar.specs.declared.fault.ScriptFault.{ScriptFault}
 use Rattle.nt_grammar.specs.declared.fault.ScriptFault.TheVariants.{LineTooLong}
 use Rattle.nt_script.specs.declared.fault.RunFault.{RunFault}
@@ -291,7 +291,7 @@ Turns-err number line old new left left' held held' (Read place) t w = absurd w
 
 -- the end was written, or not, after all lines
 pub Answers-end : (count : ℕ) (now : Option Progress) (left reader held between held' : Option (List ℕ)) (result : Result Summary RunFault)
-    → Whole count now left held between → Ends count now between held' result → Answers left reader held held' result
+    → Whole count now left held between → RunEnds count now between held' result → Answers left reader held held' result
 Answers-end count None left reader held between held' (Err (Script place fault)) w e = record {
   input = w.input;
   turns = w.turns;

@@ -224,9 +224,9 @@ summary_at lines now =
     record { lines = lines; calls = now.tally.calls; refused = now.tally.refused; granted = now.tally.granted; pending = len now.state.waits }
 
 -- The end was written after so many lines, or why not.
-abbrev pub Ends : ℕ → Option Progress → Option (List ℕ) → Option (List ℕ) → Result Summary RunFault → Type 0
-Ends lines None held held' (Err (Script place fault)) = (place ≡ 1 + lines) × (fault ≡ ThreadsExpected) × Keeps held held'
-Ends lines (Some now) held held' (Ok summary) = (summary ≡ summary_at lines now) × Appends held held' (end_of now)
-Ends lines (Some now) held held' (Err (Memory place)) = (place ≡ 1 + lines) × Keeps held held'
-Ends lines (Some now) held held' (Err (Write place)) = (place ≡ 1 + lines) × AppendsPart held held' (end_of now)
-Ends lines now held held' result = ⊥
+abbrev pub RunEnds : ℕ → Option Progress → Option (List ℕ) → Option (List ℕ) → Result Summary RunFault → Type 0
+RunEnds lines None held held' (Err (Script place fault)) = (place ≡ 1 + lines) × (fault ≡ ThreadsExpected) × Keeps held held'
+RunEnds lines (Some now) held held' (Ok summary) = (summary ≡ summary_at lines now) × Appends held held' (end_of now)
+RunEnds lines (Some now) held held' (Err (Memory place)) = (place ≡ 1 + lines) × Keeps held held'
+RunEnds lines (Some now) held held' (Err (Write place)) = (place ≡ 1 + lines) × AppendsPart held held' (end_of now)
+RunEnds lines now held held' result = ⊥

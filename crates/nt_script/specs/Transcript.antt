@@ -23,8 +23,8 @@ hex_digits zero n = []
 hex_digits (suc count) n = hex_digits count (n / 16) ++ digit_glyph true (n % 16) ∷ []
 
 -- eight upper-case hexadecimal digits
-abbrev pub status_text : ℕ → List ℕ
-status_text status = codes "0x" ++ hex_digits 8 status
+abbrev pub hexadecimal_status : ℕ → List ℕ
+hexadecimal_status status = codes "0x" ++ hex_digits 8 status
 
 -- when the timer that queued an APC was due
 abbrev pub moment_text : Option ℕ → List ℕ
@@ -35,14 +35,14 @@ abbrev pub answer_text : Result Reply Refusal → List ℕ
 answer_text (Ok Reply.Done) = codes "ok"
 answer_text (Ok (Reply.Handle handle)) = codes "handle " ++ decimal handle
 answer_text (Ok (Reply.Previous count)) = codes "previous " ++ signed_decimal count
-answer_text (Ok (Reply.Status status)) = codes "status " ++ status_text status
+answer_text (Ok (Reply.Status status)) = codes "status " ++ hexadecimal_status status
 answer_text (Ok Reply.Pended) = codes "pending"
 answer_text (Ok (Reply.Apc None)) = codes "apc none"
 answer_text (Ok (Reply.Apc (Some apc))) = codes "apc " ++ decimal apc.routine ++ codes " " ++ decimal apc.arg ++ moment_text apc.at
 answer_text (Err refusal) = codes "error " ++ decimal (number_of refusal)
 
 abbrev pub grant_text : Grant → List ℕ
-grant_text grant = codes "t" ++ decimal grant.thread ++ codes " status " ++ status_text grant.status
+grant_text grant = codes "t" ++ decimal grant.thread ++ codes " status " ++ hexadecimal_status grant.status
 
 abbrev pub line_start : ℕ → List ℕ
 line_start line = decimal line ++ codes ": "
@@ -88,13 +88,13 @@ pub record Passes (line moment : ℕ) (result : Result Reply Refusal) (grants : 
   pub output : text ≡ turn_text line result grants
 
 -- The statement on this line is carried out by these turns, with this output.
-abbrev pub IsCarriedOut : ℕ → Statement → Scope → List Turn → List ℕ → Scope → Type 0
-IsCarriedOut line Blank scope turns text after = (turns ≡ []) × (text ≡ []) × (after ≡ scope)
-IsCarriedOut line (Create who name act) scope turns text after =
+abbrev pub StatementIsCarriedOut : ℕ → Statement → Scope → List Turn → List ℕ → Scope → Type 0
+StatementIsCarriedOut line Blank scope turns text after = (turns ≡ []) × (text ≡ []) × (after ≡ scope)
+StatementIsCarriedOut line (Create who name act) scope turns text after =
     (result : Result Reply Refusal) × (grants : List Grant) × Makes line who (Call.Act act) result grants turns text × (after ≡ binds name (handle_of result) scope)
-IsCarriedOut line (Perform who call) scope turns text after =
+StatementIsCarriedOut line (Perform who call) scope turns text after =
     (result : Result Reply Refusal) × (grants : List Grant) × Makes line who call result grants turns text × (after ≡ scope)
-IsCarriedOut line (Tick moment) scope turns text after =
+StatementIsCarriedOut line (Tick moment) scope turns text after =
     (result : Result Reply Refusal) × (grants : List Grant) × Passes line moment result grants turns text × (after ≡ scope)
 
 -- This line is carried out by these turns, with this output. Before the `threads` line there is no scope.
@@ -102,7 +102,7 @@ abbrev pub LineGives : ℕ → List ℕ → Option Scope → List Turn → List 
 LineGives line bytes None turns text None = IsBlankLine bytes × (turns ≡ []) × (text ≡ [])
 LineGives line bytes None turns text (Some after) = IsOpeningLine after.threads bytes × (turns ≡ []) × (text ≡ []) × (after ≡ opened_scope after.threads)
 LineGives line bytes (Some scope) turns text None = ⊥
-LineGives line bytes (Some scope) turns text (Some after) = (statement : Statement) × IsLine scope statement bytes × IsCarriedOut line statement scope turns text after
+LineGives line bytes (Some scope) turns text (Some after) = (statement : Statement) × IsLine scope statement bytes × StatementIsCarriedOut line statement scope turns text after
 
 -- ---- all lines
 

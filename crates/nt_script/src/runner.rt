@@ -3,7 +3,7 @@
 ghost use Rattle.std.specs.Prelude.{◌≡◌, ◌+◌, ◌-◌, ◌<◌, ◌≤◌, ◌^◌, [], length, IfOk, IfErr, OnOk, None, false, vec_capacity};
 ghost use Rattle.nt_lines.specs.declared.input.TheConstants.{MAX_LINE};
 ghost use Rattle.nt_script.specs.Progress.{AreCounted, progress_of};
-ghost use Rattle.nt_script.specs.Running.{Answers, CountsFailures, CountsFaults, NothingAhead, RunnerTakesNext, WritesLine, WritesOutput, Ends};
+ghost use Rattle.nt_script.specs.Running.{Answers, CountsFailures, CountsFaults, NothingAhead, RunnerTakesNext, WritesLine, WritesOutput, RunEnds};
 
 use crate::fault::RunFault;
 use crate::session::{Session, carry_out};
@@ -106,7 +106,7 @@ impl Runner {
         ensures lines { IfOk result (λ summary. summary.lines ≡ lines) }
         ensures unflushed { (W.seen writer.new).flushes ≡ (W.seen writer.old).flushes }
         ensures held { OnOk result ((W.seen writer.new).handed_on ≡ false) }
-        ensures ends { Ends lines (progress_of self.old.session) (W.seen writer.old).held
+        ensures ends { RunEnds lines (progress_of self.old.session) (W.seen writer.old).held
             (W.seen writer.new).held result }
         ensures counts { CountsFaults 0 0 (W.seen writer.old).failed (W.seen writer.new).failed result }
     {

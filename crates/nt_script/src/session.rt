@@ -4,12 +4,12 @@ ghost use Rattle.std.specs.Prelude.{◌≡◌, ◌+◌, ◌*◌, ◌-◌, ◌<�
 ghost use Rattle.std.specs.FinMap.{len};
 ghost use Rattle.nt_lines.specs.declared.input.TheConstants.{MAX_LINE};
 ghost use Rattle.nt_core.specs.Dispatcher.{state};
-ghost use Rattle.nt_calls.specs.Steps.{Called, Ticked};
 ghost use Rattle.nt_grammar.specs.Reading.{Gives, statement_of, opening_of};
 ghost use Rattle.nt_grammar.specs.Naming.{NamesFree};
 ghost use Rattle.nt_grammar.specs.Scope.{bound_in, handle_in, name_in};
 ghost use Rattle.std.specs.Option.{option_copied};
-ghost use Rattle.nt_script.specs.Transcript.{turn_text, binds};
+ghost use Rattle.nt_script.specs.declared.transcript.TheConstants.{MOST_BYTES};
+ghost use Rattle.nt_script.specs.Transcript.{binds};
 ghost use Rattle.nt_grammar.specs.Naming.{handle_of};
 ghost use Rattle.nt_grammar.specs.Lines.{ReadsOpening, ReadsStatement, opened_scope};
 ghost use Rattle.nt_script.specs.Progress.{Opens, AreCounted, LineAnswers, progress_of};
@@ -49,12 +49,12 @@ pub(crate) fn open(alloc: Global, line: &[u8]) -> Result<Option<Session>, LineFa
 }
 
 impl Session {
-    ghost use Rattle.nt_script.specs.Progress.{progress, LineAnswers, IsCounted, IsFresh, add_tally, tally_of};
+    ghost use Rattle.nt_script.specs.Progress.{progress, LineAnswers, MakesTurn, ProgressIsCounted, ProgressIsFresh};
     ghost use Rattle.nt_calls.specs.Runs.{Calls, Ticks};
 
     fn new(alloc: Global, threads: u32) -> Result<Session, AllocError>
         requires range { (0 < threads) × (threads ≤ MAX_THREADS) }
-        ensures fresh { IfOk result (λ session. IsFresh (progress session)) }
+        ensures fresh { IfOk result (λ session. ProgressIsFresh (progress session)) }
         ensures scope { IfOk result (λ session. session.bindings.scope ≡ opened_scope threads) }
     {
         match Core::new(alloc, threads) {
@@ -81,7 +81,7 @@ impl Session {
     fn make_room(&mut self, out: &mut Vec<u8>) -> Result<(), AllocError>
         requires { out.old.items ≡ [] }
         ensures empty { out.new.items ≡ [] }
-        ensures text { OnOk result ((2 + len (state self.new.core).waits) * 96 ≤ vec_capacity out.new) }
+        ensures text { OnOk result ((2 + len (state self.new.core).waits) * MOST_BYTES ≤ vec_capacity out.new) }
         ensures name { OnOk result (0 < self.new.bindings.room) }
         ensures same { progress self.new ≡ progress self.old }
     {
@@ -98,15 +98,12 @@ impl Session {
         call: &Call,
         out: &mut Vec<u8>,
     ) -> Result<Reply, Refusal>
-        requires counted { IsCounted number (progress self.old) }
+        requires counted { ProgressIsCounted number (progress self.old) }
         requires number { number < 2 ^ 64 }
         requires empty { out.old.items ≡ [] }
-        requires room { (2 + len (state self.old.core).waits) * 96 ≤ vec_capacity out.old }
-        ensures step { Called (state self.old.core) who call.now result self.new.core.grants (state self.new.core) }
-        ensures text { out.new.items ≡ turn_text number result self.new.core.grants }
-        ensures tally { self.new.tally ≡ add_tally self.old.tally
-            (tally_of (Calls who call.now result self.new.core.grants ∷ [])) }
-        ensures counted { IsCounted (number + 1) (progress self.new) }
+        requires room { (2 + len (state self.old.core).waits) * MOST_BYTES ≤ vec_capacity out.old }
+        ensures turn { MakesTurn number (Calls who call.now result self.new.core.grants) (progress self.old)
+            out.new.items (progress self.new) }
         ensures bindings { self.new.bindings ≡ self.old.bindings }
     {
         let answer = self.core.call(who, call);
@@ -118,15 +115,12 @@ impl Session {
 
     /// Makes one tick, and puts what came of it where there is room for it.
     fn tick(&mut self, number: u64, moment: Moment, out: &mut Vec<u8>) -> Result<Reply, Refusal>
-        requires counted { IsCounted number (progress self.old) }
+        requires counted { ProgressIsCounted number (progress self.old) }
         requires number { number < 2 ^ 64 }
         requires empty { out.old.items ≡ [] }
-        requires room { (2 + len (state self.old.core).waits) * 96 ≤ vec_capacity out.old }
-        ensures step { Ticked (state self.old.core) moment result self.new.core.grants (state self.new.core) }
-        ensures text { out.new.items ≡ turn_text number result self.new.core.grants }
-        ensures tally { self.new.tally ≡ add_tally self.old.tally
-            (tally_of (Ticks 0 moment result self.new.core.grants ∷ [])) }
-        ensures counted { IsCounted (number + 1) (progress self.new) }
+        requires room { (2 + len (state self.old.core).waits) * MOST_BYTES ≤ vec_capacity out.old }
+        ensures turn { MakesTurn number (Ticks 0 moment result self.new.core.grants) (progress self.old)
+            out.new.items (progress self.new) }
         ensures bindings { self.new.bindings ≡ self.old.bindings }
     {
         let answer = self.core.tick(moment);
@@ -145,18 +139,14 @@ impl Session {
         act: Act,
         out: &mut Vec<u8>,
     ) -> Result<Reply, Refusal>
-        requires counted { IsCounted number (progress self.old) }
+        requires counted { ProgressIsCounted number (progress self.old) }
         requires number { number < 2 ^ 64 }
         requires empty { out.old.items ≡ [] }
-        requires room { (2 + len (state self.old.core).waits) * 96 ≤ vec_capacity out.old }
+        requires room { (2 + len (state self.old.core).waits) * MOST_BYTES ≤ vec_capacity out.old }
         requires place { 0 < self.old.bindings.room }
         requires free { bound_in self.old.bindings.scope.names name ≡ None }
-        ensures step { Called (state self.old.core) who (Call.Act act) result self.new.core.grants
-            (state self.new.core) }
-        ensures text { out.new.items ≡ turn_text number result self.new.core.grants }
-        ensures tally { self.new.tally ≡ add_tally self.old.tally
-            (tally_of (Calls who (Call.Act act) result self.new.core.grants ∷ [])) }
-        ensures counted { IsCounted (number + 1) (progress self.new) }
+        ensures turn { MakesTurn number (Calls who (Call.Act act) result self.new.core.grants) (progress self.old)
+            out.new.items (progress self.new) }
         ensures scope { self.new.bindings.scope ≡ binds name (handle_of result) self.old.bindings.scope }
     {
         let answer = self.perform(number, who, &Call::Act(act), out);
@@ -175,7 +165,7 @@ impl Session {
         out: &mut Vec<u8>,
     ) -> Result<(), LineFault>
         requires short { length line.now ≤ MAX_LINE }
-        requires counted { IsCounted number (progress self.old) }
+        requires counted { ProgressIsCounted number (progress self.old) }
         requires number { number < 2 ^ 64 }
         requires empty { out.old.items ≡ [] }
         ensures { LineAnswers number line.now (Some (progress self.old)) result out.new.items

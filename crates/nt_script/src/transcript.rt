@@ -1,7 +1,8 @@
 //! The text of a turn, and of the end.
 
 ghost use Rattle.std.specs.Prelude.{◌≡◌, ◌+◌, ◌*◌, ◌≤◌, ◌++◌, length, vec_len, vec_capacity, codes, decimal};
-ghost use Rattle.nt_script.specs.Transcript.{turn_text, moment_text, output_line, answer_text, grant_text, status_text, line_start};
+ghost use Rattle.nt_script.specs.declared.transcript.TheConstants.{MOST_BYTES};
+ghost use Rattle.nt_script.specs.Transcript.{turn_text, moment_text, output_line, answer_text, grant_text, hexadecimal_status, line_start};
 
 use crate::text::put_hex;
 use nt_apc::Apc;
@@ -15,7 +16,7 @@ pub(crate) const MOST_BYTES: usize = 96;
 
 fn put_status(out: &mut Vec<u8>, status: Status)
     requires { vec_len out.old + 10 ≤ vec_capacity out.old }
-    ensures items { out.new.items ≡ out.old.items ++ status_text status }
+    ensures items { out.new.items ≡ out.old.items ++ hexadecimal_status status }
     ensures len { vec_len out.new ≤ vec_len out.old + 10 }
     ensures room { vec_capacity out.old ≤ vec_capacity out.new }
 {
@@ -93,9 +94,9 @@ fn put_line_number(out: &mut Vec<u8>, line: u64)
 }
 
 fn put_answer_line(out: &mut Vec<u8>, line: u64, answer: &Result<Reply, Refusal>)
-    requires { vec_len out.old + 96 ≤ vec_capacity out.old }
+    requires { vec_len out.old + MOST_BYTES ≤ vec_capacity out.old }
     ensures items { out.new.items ≡ out.old.items ++ output_line line (answer_text answer.now) }
-    ensures len { vec_len out.new ≤ vec_len out.old + 96 }
+    ensures len { vec_len out.new ≤ vec_len out.old + MOST_BYTES }
     ensures room { vec_capacity out.old ≤ vec_capacity out.new }
 {
     put_line_number(out, line);
@@ -104,9 +105,9 @@ fn put_answer_line(out: &mut Vec<u8>, line: u64, answer: &Result<Reply, Refusal>
 }
 
 fn put_grant_line(out: &mut Vec<u8>, line: u64, grant: &Grant)
-    requires { vec_len out.old + 96 ≤ vec_capacity out.old }
+    requires { vec_len out.old + MOST_BYTES ≤ vec_capacity out.old }
     ensures items { out.new.items ≡ out.old.items ++ output_line line (grant_text grant.now) }
-    ensures len { vec_len out.new ≤ vec_len out.old + 96 }
+    ensures len { vec_len out.new ≤ vec_len out.old + MOST_BYTES }
     ensures room { vec_capacity out.old ≤ vec_capacity out.new }
 {
     put_line_number(out, line);
@@ -121,7 +122,7 @@ pub(crate) fn put_turn(
     answer: &Result<Reply, Refusal>,
     grants: &[Grant],
 )
-    requires { vec_len out.old + (1 + length grants.now) * 96 ≤ vec_capacity out.old }
+    requires { vec_len out.old + (1 + length grants.now) * MOST_BYTES ≤ vec_capacity out.old }
     ensures { out.new.items ≡ out.old.items ++ turn_text line answer.now grants.now }
 {
     put_answer_line(out, line, answer);

@@ -21,9 +21,9 @@ returns-in-Perform c =
       (
         Calls c.in-Perform.who c.in-Perform.call p.result grants ∷ [],
         perform_line c.args.number c.in-Perform.who c.args.line.now c.in-Perform.call p.result grants p.new.out.items (progress c.args.self.now) (progress c.make_room.new.self) (progress p.new.self)
-            c.in_ok-make_room.ensures.same p.ensures.step p.ensures.text p.ensures.tally (rw c.in-Perform.is at c.in_ok-statement.ensures.reads) (ap (λ (b : Bound). b.scope) p.ensures.bindings),
+            c.in_ok-make_room.ensures.same p.ensures.turn.step p.ensures.turn.output p.ensures.turn.tally (rw c.in-Perform.is at c.in_ok-statement.ensures.reads) (ap (λ (b : Bound). b.scope) p.ensures.bindings),
       ),
-      p.ensures.counted,
+      p.ensures.turn.counted,
     )
 
 pub returns-in-Tick : goal.returns-in-Tick
@@ -33,9 +33,9 @@ returns-in-Tick c =
       (
         Ticks 0 c.in-Tick.moment p.result grants ∷ [],
         tick_line c.args.number c.in-Tick.moment c.args.line.now p.result grants p.new.out.items (progress c.args.self.now) (progress c.make_room.new.self) (progress p.new.self)
-            c.in_ok-make_room.ensures.same p.ensures.step p.ensures.text p.ensures.tally (rw c.in-Tick.is at c.in_ok-statement.ensures.reads) (ap (λ (b : Bound). b.scope) p.ensures.bindings),
+            c.in_ok-make_room.ensures.same p.ensures.turn.step p.ensures.turn.output p.ensures.turn.tally (rw c.in-Tick.is at c.in_ok-statement.ensures.reads) (ap (λ (b : Bound). b.scope) p.ensures.bindings),
       ),
-      p.ensures.counted,
+      p.ensures.turn.counted,
     )
 
 pub returns-in-Create : goal.returns-in-Create
@@ -45,7 +45,7 @@ returns-in-Create c =
       (
         Calls c.in-Create.who (Call.Act c.in-Create.act) p.result grants ∷ [],
         create_line c.args.number c.in-Create.who c.args.line.now c.in-Create.act p.result grants p.new.out.items (progress c.args.self.now) (progress c.make_room.new.self) (progress p.new.self)
-            c.in_ok-make_room.ensures.same p.ensures.step p.ensures.text p.ensures.tally c.in-Create.name (rw c.in-Create.is at c.in_ok-statement.ensures.reads) p.ensures.scope,
+            c.in_ok-make_room.ensures.same p.ensures.turn.step p.ensures.turn.output p.ensures.turn.tally c.in-Create.name (rw c.in-Create.is at c.in_ok-statement.ensures.reads) p.ensures.scope,
       ),
-      p.ensures.counted,
+      p.ensures.turn.counted,
     )
