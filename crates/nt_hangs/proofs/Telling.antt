@@ -13,11 +13,11 @@ use Rattle.nt_script.specs.declared.session.Session.{Session}
 use Rattle.nt_script.specs.declared.fault.RunFault.{RunFault}
 use Rattle.nt_hangs.specs.declared.reports.Report.{Report}
 use Rattle.std.specs.FinMap.{get}
-use Rattle.nt_hangs.specs.Waits.{waiter_text, waiters_text}
+use Rattle.nt_hangs.specs.Waits.{awaited_text, waiters_text}
 use Rattle.nt_hangs.specs.Verdicts.{code_of}
 use Rattle.nt_hangs.specs.Reports.{report_text, IsReport, ReportsOf}
 use Rattle.nt_hangs.specs.Watching.{Seen}
-use Rattle.nt_hangs.specs.Ending.{message_of, status_of, Shows, TellsFault}
+use Rattle.nt_hangs.specs.Ending.{hang_message, hang_status, Shows, TellsFault}
 
 -- two pieces, one after the other
 pub put_two : {X E : Type 0} (result : Result X E) (old mid new first second : List ℕ) → mid ≡ old ++ first → OnOk result (new ≡ mid ++ second) → OnOk result (new ≡ old ++ (first ++ second))
@@ -30,12 +30,12 @@ put_both result old mid new first second given p same q = subst (λ (l : List �
 
 -- one thread more that waits
 pub waiters_more : (now : Progress) (objects told since : List ℕ) (t line : ℕ) (old mid new : List ℕ) → line ≡ slice_index_or since t 0 → mid ≡ old ++ waiters_text now objects told since t
-    → new ≡ mid ++ waiter_text now objects told line t (get now.state.waits t) → new ≡ old ++ waiters_text now objects told since (t + 1)
+    → new ≡ mid ++ awaited_text now objects told line t (get now.state.waits t) → new ≡ old ++ waiters_text now objects told since (t + 1)
 waiters_more now objects told since t line old mid new p q r =
     let next : t + 1 ≡ suc t = omega arith in
-    let here = waiter_text now objects told (slice_index_or since t 0) t (get now.state.waits t) in
+    let here = awaited_text now objects told (slice_index_or since t 0) t (get now.state.waits t) in
     subst (λ (n : ℕ). new ≡ old ++ waiters_text now objects told since n) (sym next)
-    (r ∙ ap (λ (n : ℕ). mid ++ waiter_text now objects told n t (get now.state.waits t)) p ∙ ap (λ (l : List ℕ). l ++ here) q ∙ append_assoc old (waiters_text now objects told since t) here)
+    (r ∙ ap (λ (n : ℕ). mid ++ awaited_text now objects told n t (get now.state.waits t)) p ∙ ap (λ (l : List ℕ). l ++ here) q ∙ append_assoc old (waiters_text now objects told since t) here)
 
 -- a report was not handed on
 pub unshown : (given text : List ℕ) (code : ℕ) (writer writer' errors errors' : Writing) (status : ℕ) → given ≡ text
@@ -44,7 +44,7 @@ pub unshown : (given text : List ℕ) (code : ℕ) (writer writer' errors errors
 unshown given text code writer writer' errors errors' status same part more says is =
     inr (subst (λ (bytes : List ℕ). AppendsPart writer.held writer'.held bytes ⊎ Appends writer.held writer'.held bytes) same part, more, says, is)
 
-pub told_fault : (fault : RunFault) (line : List ℕ) (errors errors' : Writing) (status : ℕ) → line ≡ message_of fault → Says errors errors' line → status ≡ status_of fault
+pub told_fault : (fault : RunFault) (line : List ℕ) (errors errors' : Writing) (status : ℕ) → line ≡ hang_message fault → Says errors errors' line → status ≡ hang_status fault
     → TellsFault fault errors errors' status
 told_fault fault line errors errors' status same says is = inl (subst (Says errors errors') same says, is)
 

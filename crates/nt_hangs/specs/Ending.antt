@@ -8,7 +8,7 @@ use Rattle.nt_script.specs.Running.{Has}
 use Rattle.nt_script.specs.declared.fault.RunFault.{RunFault}
 use Rattle.nt_script.specs.declared.fault.RunFault.TheVariants.{Script, Read, Write, Memory}
 use Rattle.nt_hangs.specs.declared.reports.Report.{Report}
-use Rattle.nt_hangs.specs.Watching.{before_zero, up_to}
+use Rattle.nt_hangs.specs.Watching.{before_zero, lines_up_to}
 use Rattle.nt_hangs.specs.Reports.{Reports}
 
 -- ---- what is said on standard error
@@ -18,19 +18,19 @@ abbrev pub SaysMemory : (errors errors' : Writing) → (status : ℕ) → Type 0
 SaysMemory errors errors' status = Says errors errors' (codes "ntlook: out of memory\n") × (status ≡ 1)
 
 -- the line that tells why a run ended
-abbrev pub message_of : RunFault → List ℕ
-message_of fault = codes "ntlook: " ++ (fault_text fault ++ (10 ∷ []))
+abbrev pub hang_message : RunFault → List ℕ
+hang_message fault = codes "ntlook: " ++ (fault_text fault ++ (10 ∷ []))
 
 -- 2 where the script has a fault, 1 where memory was refused
-abbrev pub status_of : RunFault → ℕ
-status_of (Script line fault) = 2
-status_of (Read line) = 1
-status_of (Write line) = 1
-status_of (Memory line) = 1
+abbrev pub hang_status : RunFault → ℕ
+hang_status (Script line fault) = 2
+hang_status (Read line) = 1
+hang_status (Write line) = 1
+hang_status (Memory line) = 1
 
 -- It is said why the run ended, or that memory ran out for that too.
 abbrev pub TellsFault : RunFault → (errors errors' : Writing) → (status : ℕ) → Type 0
-TellsFault fault errors errors' status = (Says errors errors' (message_of fault) × (status ≡ status_of fault)) ⊎ SaysMemory errors errors' status
+TellsFault fault errors errors' status = (Says errors errors' (hang_message fault) × (status ≡ hang_status fault)) ⊎ SaysMemory errors errors' status
 
 -- ---- what is written
 
@@ -44,17 +44,17 @@ Shows text code writer writer' errors errors' status =
 -- ---- a whole run
 
 -- The report of the script in these bytes was shown; or nothing was written, and it is said why there is none.
-abbrev pub Tells : Result Report RunFault → (writer writer' errors errors' : Writing) → (status : ℕ) → Type 0
-Tells (Ok report) writer writer' errors errors' status =
+abbrev pub TellsReport : Result Report RunFault → (writer writer' errors errors' : Writing) → (status : ℕ) → Type 0
+TellsReport (Ok report) writer writer' errors errors' status =
     Shows report.text.items report.code writer writer' errors errors' status
-Tells (Err fault) writer writer' errors errors' status =
+TellsReport (Err fault) writer writer' errors errors' status =
     Keeps writer.held writer'.held × (writer'.failed ≡ writer.failed) × TellsFault fault errors errors' status
 
 -- What is told of a script with these bytes, which was run up to that line.
 pub record TellsInput (file input : List ℕ) (last : Option ℕ) (writer writer' errors errors' : Writing) (status : ℕ) : Type 0 where
   pub outcome : Result Report RunFault
-  pub reports : Reports file (up_to last (lines_of (before_zero input))) outcome
-  pub tells : Tells outcome writer writer' errors errors' status
+  pub reports : Reports file (lines_up_to last (lines_of (before_zero input))) outcome
+  pub tells : TellsReport outcome writer writer' errors errors' status
 
 -- All was read, and told of; or nothing was written, and it is said that the read failed or memory ran out.
 pub record WhyEnds (file : List ℕ) (last : Option ℕ) (reader reader' : Reading) (writer writer' errors errors' : Writing) (status : ℕ) : Type 0 where

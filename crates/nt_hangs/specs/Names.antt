@@ -10,8 +10,8 @@ abbrev pub thread_name : ℕ → List ℕ
 thread_name t = codes "t" ++ decimal t
 
 -- the place of the first name that was given to the object
-abbrev pub place_of : List ℕ → ℕ → Option ℕ
-place_of objects o = position (λ named. named == o) objects
+abbrev pub name_place_of : List ℕ → ℕ → Option ℕ
+name_place_of objects o = position (λ named. named == o) objects
 
 -- this name; or the object's number, where it has none
 abbrev pub or_number : ℕ → Option (List ℕ) → List ℕ
@@ -21,17 +21,17 @@ or_number o (Some name) = name
 -- a thread by its number, any other object by the first name that it was given
 abbrev pub object_name : Progress → List ℕ → ℕ → List ℕ
 object_name now objects o =
-    if nat_lt o now.state.threads then thread_name o else or_number o (option_and_then (name_in now.scope.names) (place_of objects o))
+    if nat_lt o now.state.threads then thread_name o else or_number o (option_and_then (name_in now.scope.names) (name_place_of objects o))
 
 -- ---- names that comments tell, as `; h256 is accounts`
 
 -- what stands after the front, where the text begins so
-abbrev pub after : List ℕ → List ℕ → Option (List ℕ)
-after front text = if starts_with nat_eq text front then Some (drop (length front) text) else None
+abbrev pub after_front : List ℕ → List ℕ → Option (List ℕ)
+after_front front text = if starts_with nat_eq text front then Some (drop (length front) text) else None
 
 -- what this line calls the word
 abbrev pub name_told : List ℕ → List ℕ → Option (List ℕ)
-name_told word line = option_and_then (after (codes " is ")) (option_and_then (after word) (after (codes "; ") line))
+name_told word line = option_and_then (after_front (codes " is ")) (option_and_then (after_front word) (after_front (codes "; ") line))
 
 -- the later of two names
 abbrev pub later : Option (List ℕ) → Option (List ℕ) → Option (List ℕ)

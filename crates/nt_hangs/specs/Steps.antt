@@ -1,5 +1,6 @@
 -- How the watch of a script goes on, line by line. No public clause cites this.
 use Rattle.std.specs.Prelude.{◌≡◌, ℕ, ◌+◌, ◌≤◌, ◌==◌, ◌++◌, Bool, false, List, length, Option, Some, None, Result, Ok, Err}
+use Rattle.nt_status.specs.declared.limits.TheConstants.{MAX_THREADS}
 use Rattle.nt_lines.specs.Lines.{lines_of}
 use Rattle.nt_script.specs.Progress.{AreCounted, Progress, scope_of}
 use Rattle.nt_grammar.specs.Lines.{FaultIn}
@@ -10,9 +11,9 @@ use Rattle.nt_script.specs.declared.fault.RunFault.TheVariants.{Script, Read, Wr
 use Rattle.nt_hangs.specs.Watching.{Seen, SeesAll, StopsAt, unseen}
 
 -- the line has this first fault, or memory was refused
-abbrev pub HasFault : Option Progress → List ℕ → LineFault → Type 0
-HasFault now bytes (line.Script fault) = FaultIn (scope_of now) bytes fault
-HasFault now bytes line.Memory = Unit {0}
+abbrev pub LineHasFault : Option Progress → List ℕ → LineFault → Type 0
+LineHasFault now bytes (line.Script fault) = FaultIn (scope_of now) bytes fault
+LineHasFault now bytes line.Memory = Unit {0}
 
 -- the same, with the line's number
 abbrev pub IsFaultOf : ℕ → Option Progress → List ℕ → RunFault → Type 0
@@ -38,14 +39,14 @@ pub record SeenSoFar (input rest : List ℕ) (last : Option ℕ) (count : ℕ) (
   pub place : count ≡ length before
   pub sees : SeesAll 1 unseen before now
   pub counted : AreCounted (count + 1) now.now
-  pub places : length now.since ≡ 256
+  pub places : length now.since ≡ MAX_THREADS
   pub within : IsWithin last count
   pub few : count + length rest ≤ length input
 
 -- all of these lines were seen, so many; or one has a fault, or memory was refused
-abbrev pub Watches : List (List ℕ) → Result ℕ RunFault → Seen → Type 0
-Watches lines (Ok count) seen = SeesAll 1 unseen lines seen × (count ≡ length lines)
-Watches lines (Err (Script number fault)) seen = StopsAt number fault lines
-Watches lines (Err (Memory number)) seen = Unit {0}
-Watches lines (Err (Read number)) seen = ⊥
-Watches lines (Err (Write number)) seen = ⊥
+abbrev pub WatchesLines : List (List ℕ) → Result ℕ RunFault → Seen → Type 0
+WatchesLines lines (Ok count) seen = SeesAll 1 unseen lines seen × (count ≡ length lines)
+WatchesLines lines (Err (Script number fault)) seen = StopsAt number fault lines
+WatchesLines lines (Err (Memory number)) seen = Unit {0}
+WatchesLines lines (Err (Read number)) seen = ⊥
+WatchesLines lines (Err (Write number)) seen = ⊥

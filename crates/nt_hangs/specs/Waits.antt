@@ -10,6 +10,7 @@ use Rattle.nt_waits.specs.declared.wait.Wait.{Wait}
 use Rattle.nt_calls.specs.State.{State, object_at, pends}
 use Rattle.nt_calls.specs.Serving.{is_sleep}
 use Rattle.nt_calls.specs.Living.{is_opened, runs}
+use Rattle.nt_grammar.specs.Spelling.{mode_word}
 use Rattle.nt_script.specs.Progress.{Progress}
 use Rattle.nt_hangs.specs.Names.{object_name, object_title, thread_title}
 
@@ -67,34 +68,31 @@ abbrev pub time_text : Option ℕ → List ℕ
 time_text None = codes "inf "
 time_text (Some moment) = codes "until " ++ (decimal moment ++ codes " ")
 
-abbrev pub mode_text : Bool → List ℕ
-mode_text alertable = if alertable then codes "alertable" else codes "plain"
-
 -- the names of the objects
 abbrev pub names_text : Progress → List ℕ → List ℕ → List ℕ
 names_text now objects numbers = flat_map (λ o. codes " " ++ object_name now objects o) numbers
 
 -- the wait as a script has it, with the moment at which it times out
 abbrev pub wait_text : Progress → List ℕ → Wait → List ℕ
-wait_text now objects w = (kind_text w ++ time_text w.deadline) ++ (mode_text w.alertable ++ names_text now objects w.objects)
+wait_text now objects w = (kind_text w ++ time_text w.deadline) ++ (mode_word w.alertable ++ names_text now objects w.objects)
 
 -- what stands before an object of a wait: one alone stands on the same line
 abbrev pub gap_text : Wait → List ℕ
 gap_text w = if nat_le (length w.objects) 1 then codes "   " else codes "\n    "
 
 -- the objects of the wait, with their states
-abbrev pub objects_text : Progress → (objects told : List ℕ) → Wait → List ℕ
-objects_text now objects told w = flat_map (λ o. gap_text w ++ object_text now objects told o) w.objects
+abbrev pub wait_objects_text : Progress → (objects told : List ℕ) → Wait → List ℕ
+wait_objects_text now objects told w = flat_map (λ o. gap_text w ++ object_text now objects told o) w.objects
 
 abbrev pub since_text : List ℕ → ℕ → ℕ → List ℕ
 since_text told t since = (codes "  " ++ thread_title told t) ++ (codes " since line " ++ (decimal since ++ codes "  "))
 
 -- what thread t waits for, since this line
-abbrev pub waiter_text : Progress → (objects told : List ℕ) → ℕ → ℕ → Option Wait → List ℕ
-waiter_text now objects told since t None = []
-waiter_text now objects told since t (Some w) = since_text told t since ++ ((wait_text now objects w ++ objects_text now objects told w) ++ codes "\n")
+abbrev pub awaited_text : Progress → (objects told : List ℕ) → ℕ → ℕ → Option Wait → List ℕ
+awaited_text now objects told since t None = []
+awaited_text now objects told since t (Some w) = since_text told t since ++ ((wait_text now objects w ++ wait_objects_text now objects told w) ++ codes "\n")
 
 -- the threads below this number that wait, rising
 abbrev pub waiters_text : Progress → (objects told since : List ℕ) → ℕ → List ℕ
 waiters_text now objects told since zero = []
-waiters_text now objects told since (suc t) = waiters_text now objects told since t ++ waiter_text now objects told (slice_index_or since t 0) t (get now.state.waits t)
+waiters_text now objects told since (suc t) = waiters_text now objects told since t ++ awaited_text now objects told (slice_index_or since t 0) t (get now.state.waits t)

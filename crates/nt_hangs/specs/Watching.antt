@@ -1,6 +1,7 @@
 -- What is known of a script while it runs: who waits since which line, and what its objects and threads are called.
 use Rattle.std.specs.Prelude.{◌≡◌, ℕ, ◌+◌, ◌==◌, ◌<◌, ◌++◌, List, [], ◌∷◌, length, take, replicate, position, unwrap_or, option_map, slice_index_or, Bool, false, nat_eq, codes, Option, Some, None, if◌then◌else◌}
 use Rattle.std.specs.List.{starts_with}
+use Rattle.nt_status.specs.declared.limits.TheConstants.{MAX_THREADS}
 use Rattle.nt_objects.specs.Handles.{opened_at}
 use Rattle.nt_calls.specs.State.{pends}
 use Rattle.nt_calls.specs.Runs.{Turn}
@@ -23,7 +24,7 @@ seen_of watch = record { now = progress_of watch.session; since = watch.since.it
 
 -- nothing is seen yet
 abbrev pub unseen : Seen
-unseen = record { now = None; since = replicate 256 0; objects = []; told = [] }
+unseen = record { now = None; since = replicate MAX_THREADS 0; objects = []; told = [] }
 
 -- ---- one line
 
@@ -48,9 +49,9 @@ abbrev pub since_then : ℕ → Bool → ℕ → ℕ
 since_then number waits since = if waits then (if since == 0 then number else since) else 0
 
 -- the object of the handle that this line gave a name, if it gave one
-abbrev pub object_named : Option Progress → Option ℕ → List ℕ
-object_named now None = []
-object_named now (Some handle) = object_of now handle ∷ []
+abbrev pub newly_named : Option Progress → Option ℕ → List ℕ
+newly_named now None = []
+newly_named now (Some handle) = object_of now handle ∷ []
 
 -- a line that is a comment, with an LF
 abbrev pub telling : List ℕ → List ℕ
@@ -61,8 +62,8 @@ pub record Sees (number : ℕ) (bytes : List ℕ) (old new : Seen) : Type 0 wher
   pub turns : List Turn
   pub text : List ℕ
   pub advances : Advances number bytes old.now turns text new.now
-  pub since : (t : ℕ) → t < 256 → since_of new t ≡ since_then number (is_waiting new.now t) (since_of old t)
-  pub objects : new.objects ≡ old.objects ++ object_named new.now (handle_in (names_of new.now) (length (names_of old.now)))
+  pub since : (t : ℕ) → t < MAX_THREADS → since_of new t ≡ since_then number (is_waiting new.now t) (since_of old t)
+  pub objects : new.objects ≡ old.objects ++ newly_named new.now (handle_in (names_of new.now) (length (names_of old.now)))
   pub told : new.told ≡ old.told ++ telling bytes
 
 -- ---- all lines
@@ -80,9 +81,9 @@ abbrev pub before_zero : List ℕ → List ℕ
 before_zero bytes = take (unwrap_or (position is_zero bytes) (length bytes)) bytes
 
 -- the lines up to this one
-abbrev pub up_to : Option ℕ → List (List ℕ) → List (List ℕ)
-up_to None lines = lines
-up_to (Some last) lines = take last lines
+abbrev pub lines_up_to : Option ℕ → List (List ℕ) → List (List ℕ)
+lines_up_to None lines = lines
+lines_up_to (Some last) lines = take last lines
 
 -- The lines before this one were seen, and this is the first fault of what comes next.
 pub record StopsAt (number : ℕ) (fault : ScriptFault) (lines : List (List ℕ)) : Type 0 where

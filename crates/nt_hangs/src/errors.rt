@@ -1,7 +1,7 @@
 //! What is said on standard error.
 ghost use Rattle.std.specs.Prelude.{◌≡◌, ◌++◌, IfOk, OnOk, Err};
 ghost use Rattle.nt_devices.specs.Device.{Says};
-ghost use Rattle.nt_hangs.specs.Ending.{message_of, status_of, SaysMemory};
+ghost use Rattle.nt_hangs.specs.Ending.{hang_message, hang_status, SaysMemory};
 
 use crate::text::put_number;
 use nt_devices::{Sink, write_whole};
@@ -26,7 +26,7 @@ pub fn lacks_memory<E: Sink>(errors: &mut E) -> u8
 
 /// The line that tells why a run ended.
 pub(crate) fn message_of(alloc: Global, fault: RunFault) -> Result<Vec<u8>, AllocError>
-    ensures { IfOk result (λ line. line.items ≡ message_of fault) }
+    ensures { IfOk result (λ line. line.items ≡ hang_message fault) }
 {
     let mut line = Vec::new(alloc);
     line.extend_from_slice(b"ntlook: line ")?;
@@ -39,7 +39,7 @@ pub(crate) fn message_of(alloc: Global, fault: RunFault) -> Result<Vec<u8>, Allo
 
 /// The exit status of a run that was not done.
 pub(crate) fn status_of(fault: RunFault) -> u8
-    ensures { result ≡ status_of fault }
+    ensures { result ≡ hang_status fault }
 {
     match fault {
         RunFault::Script { .. } => 2,

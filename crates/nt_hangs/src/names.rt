@@ -3,7 +3,7 @@ ghost use Rattle.std.specs.Prelude.{◌≡◌, ◌++◌, None, ◌≤◌, OnOk, 
 ghost use Rattle.std.specs.Option.{option_copied};
 ghost use Rattle.nt_script.specs.Progress.{progress};
 ghost use Rattle.nt_grammar.specs.Scope.{name_in};
-ghost use Rattle.nt_hangs.specs.Names.{after, called_by, later, name_told, object_name, object_title, or_nothing, place_of};
+ghost use Rattle.nt_hangs.specs.Names.{after_front, called_by, later, name_told, object_name, object_title, or_nothing, name_place_of};
 ghost use Rattle.nt_hangs.specs.Names.{thread_name, thread_title, titled};
 ghost use Rattle.nt_lines.specs.Lines.{lines_of};
 
@@ -22,7 +22,7 @@ pub(crate) fn put_thread(out: &mut Vec<u8>, thread: u32) -> Result<(), AllocErro
 
 /// The place of the first name that the object was given.
 fn place_of(objects: &[u32], object: u32) -> Option<usize>
-    ensures { result ≡ place_of objects.now object }
+    ensures { result ≡ name_place_of objects.now object }
 {
     objects.iter().position(|named| *named == object)
 }
@@ -30,7 +30,7 @@ fn place_of(objects: &[u32], object: u32) -> Option<usize>
 /// The first name that the object was given.
 fn name_of<'a>(session: &'a Session, objects: &[u32], object: u32) -> Option<&'a [u8]>
     ensures { option_copied result
-        ≡ option_and_then (name_in (progress session.now).scope.names) (place_of objects.now object) }
+        ≡ option_and_then (name_in (progress session.now).scope.names) (name_place_of objects.now object) }
 {
     match place_of(objects, object) {
         Some(place) => session.name_at(place),
@@ -61,7 +61,7 @@ pub fn put_object_name(
 
 /// What stands after the front, where the text begins so.
 fn after<'a>(front: &[u8], text: &'a [u8]) -> Option<&'a [u8]>
-    ensures { option_copied result ≡ after front.now text.now }
+    ensures { option_copied result ≡ after_front front.now text.now }
 {
     if text.starts_with(front) {
         Some(&text[front.len()..])

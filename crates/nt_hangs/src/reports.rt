@@ -6,7 +6,7 @@ ghost use Rattle.nt_script.specs.Progress.{progress};
 ghost use Rattle.nt_status.specs.declared.limits.TheConstants.{MAX_MOMENT};
 ghost use Rattle.nt_hangs.specs.Reports.{head_text, place_text, report_text, IsReport, Reports, ReportsOf};
 ghost use Rattle.nt_hangs.specs.Verdicts.{verdict_text};
-ghost use Rattle.nt_hangs.specs.Watching.{before_zero, seen_of, unseen, up_to};
+ghost use Rattle.nt_hangs.specs.Watching.{before_zero, seen_of, unseen, lines_up_to};
 
 use crate::input::before_zero;
 use crate::text::put_number;
@@ -162,7 +162,7 @@ impl Watch {
         last: Option<u64>,
     ) -> Result<Report, RunFault>
         requires { seen_of self.old ≡ unseen }
-        ensures { Reports file.now (up_to last (lines_of input.now)) result }
+        ensures { Reports file.now (lines_up_to last (lines_of input.now)) result }
     {
         let count = self.watch(alloc, input, last)?;
         match self.tell(alloc, file, count) {
@@ -182,7 +182,7 @@ pub fn report_on(
     input: &[u8],
     last: Option<u64>,
 ) -> Result<Report, RunFault>
-    ensures { Reports file.now (up_to last (lines_of (before_zero input.now))) result }
+    ensures { Reports file.now (lines_up_to last (lines_of (before_zero input.now))) result }
 {
     match Watch::new(alloc) {
         Ok(mut watch) => {

@@ -2,14 +2,16 @@
 ghost use Rattle.std.specs.Prelude.{◌≡◌, ◌++◌, OnOk, codes, decimal, slice_index_or};
 ghost use Rattle.std.specs.List.{flat_map};
 ghost use Rattle.std.specs.FinMap.{get};
+ghost use Rattle.nt_grammar.specs.Spelling.{mode_word};
 ghost use Rattle.nt_script.specs.Progress.{progress};
 ghost use Rattle.nt_hangs.specs.Names.{thread_title};
-ghost use Rattle.nt_hangs.specs.Waits.{gap_text, kind_text, mode_text, names_text, object_text, objects_text};
-ghost use Rattle.nt_hangs.specs.Waits.{since_text, time_text, wait_text, waiter_text, waiters_text};
+ghost use Rattle.nt_hangs.specs.Waits.{gap_text, kind_text, names_text, object_text, wait_objects_text};
+ghost use Rattle.nt_hangs.specs.Waits.{since_text, time_text, wait_text, awaited_text, waiters_text};
 
 use crate::names::{put_object_name, put_thread_title};
 use crate::objects::put_object;
 use crate::text::put_number;
+use nt_grammar::{ALERTABLE, PLAIN};
 use nt_script::Session;
 use nt_status::ObjectNumber;
 use nt_waits::Wait;
@@ -28,9 +30,9 @@ fn kind_text(wait: &Wait) -> &'static [u8]
 }
 
 fn mode_text(alertable: bool) -> &'static [u8]
-    ensures { result.now ≡ mode_text alertable }
+    ensures { result.now ≡ mode_word alertable }
 {
-    if alertable { b"alertable" } else { b"plain" }
+    if alertable { ALERTABLE } else { PLAIN }
 }
 
 /// Puts when the wait times out.
@@ -79,7 +81,7 @@ fn put_mode(
     wait: &Wait,
 ) -> Result<(), AllocError>
     ensures { OnOk result (out.new.items ≡ out.old.items
-        ++ (mode_text wait.now.alertable ++ names_text (progress session.now) objects.now wait.now.objects)) }
+        ++ (mode_word wait.now.alertable ++ names_text (progress session.now) objects.now wait.now.objects)) }
 {
     out.extend_from_slice(mode_text(wait.alertable))?;
     put_names(out, session, objects, wait.objects.as_slice())
@@ -136,7 +138,7 @@ fn put_objects(
     told: &[u8],
     wait: &Wait,
 ) -> Result<(), AllocError>
-    ensures { OnOk result (out.new.items ≡ out.old.items ++ objects_text (progress session.now) objects.now told.now wait.now) }
+    ensures { OnOk result (out.new.items ≡ out.old.items ++ wait_objects_text (progress session.now) objects.now told.now wait.now) }
 {
     put_each(
         out,
@@ -183,7 +185,7 @@ fn put_whole_wait(
 ) -> Result<(), AllocError>
     ensures { OnOk result (out.new.items ≡ out.old.items
         ++ (wait_text (progress session.now) objects.now wait.now
-        ++ objects_text (progress session.now) objects.now told.now wait.now)) }
+        ++ wait_objects_text (progress session.now) objects.now told.now wait.now)) }
 {
     put_wait(out, session, objects, wait)?;
     put_objects(out, session, objects, told, wait)
@@ -198,7 +200,7 @@ fn put_waiter(
     since: u64,
     thread: u32,
 ) -> Result<(), AllocError>
-    ensures { OnOk result (out.new.items ≡ out.old.items ++ waiter_text (progress session.now) objects.now told.now since thread
+    ensures { OnOk result (out.new.items ≡ out.old.items ++ awaited_text (progress session.now) objects.now told.now since thread
         (get (progress session.now).state.waits thread)) }
 {
     match session.core().waits_for(thread) {

@@ -4,21 +4,22 @@ ghost use Rattle.std.specs.Prelude.{IfOk, IfErr, OnOk, MatchOption, None, Some};
 ghost use Rattle.std.specs.List.{ends_with};
 ghost use Rattle.std.specs.Option.{option_copied};
 ghost use Rattle.nt_lines.specs.declared.input.TheConstants.{MAX_LINE};
+ghost use Rattle.nt_status.specs.declared.limits.TheConstants.{MAX_THREADS};
 ghost use Rattle.nt_grammar.specs.Scope.{handle_in};
 ghost use Rattle.nt_script.specs.Progress.{AreCounted, LineAnswers, progress, progress_of};
 ghost use Rattle.nt_lines.specs.Lines.{lines_of};
-ghost use Rattle.nt_hangs.specs.Steps.{is_last, HasFault, IsFaultOf, Watches};
-ghost use Rattle.nt_hangs.specs.Watching.{is_waiting, names_of, object_named, object_of, seen_of, since_of, since_then, telling, unseen, up_to, Sees};
+ghost use Rattle.nt_hangs.specs.Steps.{is_last, LineHasFault, IsFaultOf, WatchesLines};
+ghost use Rattle.nt_hangs.specs.Watching.{is_waiting, names_of, newly_named, object_of, seen_of, since_of, since_then, telling, unseen, lines_up_to, Sees};
 
 use crate::input::first_line;
 use nt_grammar::{LineFault, ScriptFault};
 use nt_lines::MAX_LINE;
 use nt_script::{RunFault, Session, carry_out};
-use nt_status::Handle;
+use nt_status::{Handle, MAX_THREADS};
 use std::alloc::{AllocError, Global};
 
 /// The greatest number of threads, each of which has a place.
-const MOST_THREADS: usize = 256;
+const MOST_THREADS: usize = MAX_THREADS as usize;
 
 /// A script that is run, and what is seen of it.
 #[derive(Drop)]
@@ -59,8 +60,8 @@ fn is_waiting(session: &Option<Session>, thread: u32) -> bool
 
 /// Notes who waits after the line with this number.
 fn note_waits(since: &mut [u64], session: &Option<Session>, number: u64)
-    requires { length since.old ≡ 256 }
-    ensures { (t : ℕ) → t < 256 → slice_index_or since.new t 0
+    requires { length since.old ≡ MAX_THREADS }
+    ensures { (t : ℕ) → t < MAX_THREADS → slice_index_or since.new t 0
         ≡ since_then number (is_waiting (progress_of session.now) t) (slice_index_or since.old t 0) }
 {
     for thread in 0..MOST_THREADS {
@@ -108,7 +109,7 @@ fn note_object(
     place: usize,
 ) -> Result<(), AllocError>
     ensures { OnOk result (objects.new.items ≡ objects.old.items
-        ++ object_named (progress_of session.now) (handle_in (names_of (progress_of session.now)) place)) }
+        ++ newly_named (progress_of session.now) (handle_in (names_of (progress_of session.now)) place)) }
 {
     if let Some(handle) = handle_at(session, place) {
         objects.push(object_of(session, handle))?;
@@ -170,11 +171,11 @@ impl Watch {
     fn see(&mut self, alloc: Global, number: u64, line: &[u8]) -> Result<(), LineFault>
         requires short { length line.now ≤ MAX_LINE }
         requires counted { AreCounted number (progress_of self.old.session) }
-        requires places { vec_len self.old.since ≡ 256 }
+        requires places { vec_len self.old.since ≡ MAX_THREADS }
         ensures sees { OnOk result (Sees number line.now (seen_of self.old) (seen_of self.new)) }
         ensures counted { OnOk result (AreCounted (number + 1) (progress_of self.new.session)) }
-        ensures places { vec_len self.new.since ≡ 256 }
-        ensures fault { IfErr result (λ fault. HasFault (progress_of self.old.session) line.now fault) }
+        ensures places { vec_len self.new.since ≡ MAX_THREADS }
+        ensures fault { IfErr result (λ fault. LineHasFault (progress_of self.old.session) line.now fault) }
     {
         let place = names_bound(&self.session);
         carry_out(&mut self.session, alloc, number, line, &mut self.out)?;
@@ -190,10 +191,10 @@ impl Watch {
     /// The same of a line that may be too long.
     pub fn see_line(&mut self, alloc: Global, number: u64, line: &[u8]) -> Result<(), RunFault>
         requires counted { AreCounted number (progress_of self.old.session) }
-        requires places { vec_len self.old.since ≡ 256 }
+        requires places { vec_len self.old.since ≡ MAX_THREADS }
         ensures sees { OnOk result (Sees number line.now (seen_of self.old) (seen_of self.new)) }
         ensures counted { OnOk result (AreCounted (number + 1) (progress_of self.new.session)) }
-        ensures places { vec_len self.new.since ≡ 256 }
+        ensures places { vec_len self.new.since ≡ MAX_THREADS }
         ensures fault { IfErr result (λ fault. IsFaultOf number (progress_of self.old.session) line.now fault) }
     {
         if line.len() > MAX_LINE {
@@ -244,7 +245,7 @@ impl Watch {
     /// Carries out the lines up to this one, and answers how many there were.
     fn see_lines(&mut self, alloc: Global, input: &[u8], last: Option<u64>) -> Result<u64, RunFault>
         requires fresh { seen_of self.old ≡ unseen }
-        ensures watches { Watches (up_to last (lines_of input.now)) result (seen_of self.new) }
+        ensures watches { WatchesLines (lines_up_to last (lines_of input.now)) result (seen_of self.new) }
         ensures few { IfOk result (λ count. count ≤ length input.now) }
     {
         let mut rest = input;
@@ -272,7 +273,7 @@ impl Watch {
         last: Option<u64>,
     ) -> Result<u64, RunFault>
         requires fresh { seen_of self.old ≡ unseen }
-        ensures { Watches (up_to last (lines_of input.now)) result (seen_of self.new) }
+        ensures { WatchesLines (lines_up_to last (lines_of input.now)) result (seen_of self.new) }
     {
         match self.see_lines(alloc, input, last) {
             Ok(count) => match &self.session {

@@ -1,5 +1,6 @@
 -- Lines of a head that are carried out and seen, one after another.
 use Rattle.std.proofs.Common.{◌≡◌, ℕ, ◌+◌, ◌<◌, List, [], ◌∷◌, ◌++◌, length, refl, sym, ap, subst, ◌∙◌, arith, append_assoc, length-append}
+use Rattle.nt_status.specs.declared.limits.TheConstants.{MAX_THREADS}
 use Rattle.nt_lines.specs.Lines.{lines_of}
 use Rattle.nt_script.specs.Progress.{AreCounted, scope_of}
 use Rattle.nt_grammar.specs.Lines.{FaultIn}
@@ -30,7 +31,7 @@ HeadSoFar-start input now same = rw same (record {
 
 module _ (input rest : List ℕ) (count : ℕ) (now : Seen) (s : HeadSoFar input rest count now) where
   pub HeadSoFar-then : (line after : List ℕ) (new : Seen) → lines_of rest ≡ line ∷ lines_of after → length after < length rest → IsOfHead now.now line
-      → Sees (count + 1) line now new → AreCounted (count + 1 + 1) new.now → length new.since ≡ 256 → HeadSoFar input after (count + 1) new
+      → Sees (count + 1) line now new → AreCounted (count + 1 + 1) new.now → length new.since ≡ MAX_THREADS → HeadSoFar input after (count + 1) new
   HeadSoFar-then line after new first less head sees counted places =
       let number : count + 1 ≡ 1 + length s.before = omega (arith, s.place) in
       record {

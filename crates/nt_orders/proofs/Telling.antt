@@ -15,15 +15,15 @@ use Rattle.nt_script.specs.declared.fault.RunFault.TheVariants.{Script, Read, Wr
 use Rattle.nt_devices.specs.Device.{Says, Writing}
 use Rattle.nt_hangs.specs.Watching.{Seen, unseen}
 use Rattle.nt_orders.specs.declared.lanes.LaneFault.TheVariants as lane
-use Rattle.nt_orders.specs.Ending.{IsFirstFault, TellsFault}
-use Rattle.nt_orders.specs.Faults.{message_of, status_of}
+use Rattle.nt_orders.specs.Ending.{IsFirstFault, TellsOrdersFault}
+use Rattle.nt_orders.specs.Faults.{order_message, order_status}
 use Rattle.nt_orders.specs.Plans.{EndsHead, IsHeadFault, LacksThreads, ReadsHead, SeesHead, StopsAfterHead, StopsInLanes}
 use Rattle.nt_orders.specs.Reading.{IsFaultAt, at_line}
 use Rattle.nt_orders.specs.declared.fault.OrdersFault.{OrdersFault}
 use Rattle.nt_orders.specs.declared.fault.OrdersFault.TheVariants as orders
 
-pub told_fault : (fault : OrdersFault) (line : List ℕ) (errors errors' : Writing) (status : ℕ) → line ≡ message_of fault → Says errors errors' line → status ≡ status_of fault
-    → TellsFault fault errors errors' status
+pub told_fault : (fault : OrdersFault) (line : List ℕ) (errors errors' : Writing) (status : ℕ) → line ≡ order_message fault → Says errors errors' line → status ≡ order_status fault
+    → TellsOrdersFault fault errors errors' status
 told_fault fault line errors errors' status same says is = inl (subst (Says errors errors') same says, is)
 
 -- a fault of a line, with its number

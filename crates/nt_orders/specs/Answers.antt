@@ -37,9 +37,9 @@ whose_text thread = codes "; t" ++ decimal thread
 unfoldable pub how_text : ℕ → List ℕ
 how_text status = codes "'s wait ends: " ++ status_text status
 
-abbrev pub end_text : Grant → List ℕ
-end_text grant = whose_text grant.thread ++ how_text grant.status
+abbrev pub wait_end_text : Grant → List ℕ
+wait_end_text grant = whose_text grant.thread ++ how_text grant.status
 
 -- what a call answered, and the waits that it ended
-abbrev pub answer_text : Result Reply Refusal → List Grant → List ℕ
-answer_text result grants = result_text result ++ flat_map end_text grants
+abbrev pub order_answer_text : Result Reply Refusal → List Grant → List ℕ
+order_answer_text result grants = result_text result ++ flat_map wait_end_text grants

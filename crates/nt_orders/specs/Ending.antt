@@ -13,20 +13,20 @@ use Rattle.nt_grammar.specs.declared.fault.ScriptFault.TheVariants.{ThreadsExpec
 use Rattle.nt_hangs.specs.declared.reports.Report.{Report}
 use Rattle.nt_hangs.specs.Ending.{SaysMemory, Shows}
 use Rattle.nt_hangs.specs.Watching.{before_zero}
-use Rattle.nt_orders.specs.Faults.{message_of, status_of}
+use Rattle.nt_orders.specs.Faults.{order_message, order_status}
 use Rattle.nt_orders.specs.Plans.{IsPlanOf, LacksThreads, StopsAfterHead, StopsInHead}
 use Rattle.nt_orders.specs.declared.fault.OrdersFault.{OrdersFault}
 use Rattle.nt_orders.specs.declared.fault.OrdersFault.TheVariants as orders
 
 -- the exit status of a verdict
-abbrev pub code_of : Verdict → ℕ
-code_of (verdict.Hangs lanes loss) = 3
-code_of verdict.None = 0
-code_of (verdict.Met level) = 4
+abbrev pub verdict_code : Verdict → ℕ
+verdict_code (verdict.Hangs lanes loss) = 3
+verdict_code verdict.None = 0
+verdict_code (verdict.Met level) = 4
 
 -- The exit status is that of a verdict on all orders of the plan from this state.
-abbrev pub IsJudged : Plan → State → ℕ → Type 0
-IsJudged plan s code = (found : Verdict) × Tells plan (beginning plan s) found × (code ≡ code_of found)
+abbrev pub PlanIsJudged : Plan → State → ℕ → Type 0
+PlanIsJudged plan s code = (found : Verdict) × Tells plan (beginning plan s) found × (code ≡ verdict_code found)
 
 -- This is the script's first fault: in its head; that it has no `threads` line; or in a lane. Or memory was refused.
 abbrev pub IsFirstFault : List ℕ → OrdersFault → Type 0
@@ -40,25 +40,25 @@ IsFirstFault input (orders.NoThread line) = StopsAfterHead input (orders.NoThrea
 IsFirstFault input orders.Memory = Unit {0}
 
 -- What an exploration comes to: a report on the plan of the script; or the script has this first fault, or memory was refused.
-abbrev pub IsOutcome : List ℕ → Result Report OrdersFault → Type 0
-IsOutcome input (Ok report) = (plan : Plan) × (s : State) × IsPlanOf input plan s × IsJudged plan s report.code
-IsOutcome input (Err fault) = IsFirstFault input fault
+abbrev pub IsOrdersOutcome : List ℕ → Result Report OrdersFault → Type 0
+IsOrdersOutcome input (Ok report) = (plan : Plan) × (s : State) × IsPlanOf input plan s × PlanIsJudged plan s report.code
+IsOrdersOutcome input (Err fault) = IsFirstFault input fault
 
 -- It is said why the orders are not explored, or that memory ran out for that too.
-abbrev pub TellsFault : OrdersFault → (errors errors' : Writing) → (status : ℕ) → Type 0
-TellsFault fault errors errors' status = (Says errors errors' (message_of fault) × (status ≡ status_of fault)) ⊎ SaysMemory errors errors' status
+abbrev pub TellsOrdersFault : OrdersFault → (errors errors' : Writing) → (status : ℕ) → Type 0
+TellsOrdersFault fault errors errors' status = (Says errors errors' (order_message fault) × (status ≡ order_status fault)) ⊎ SaysMemory errors errors' status
 
 -- The report was shown; or nothing was written, and it is said why there is none.
 abbrev pub TellsOutcome : Result Report OrdersFault → (writer writer' errors errors' : Writing) → (status : ℕ) → Type 0
 TellsOutcome (Ok report) writer writer' errors errors' status =
     Shows report.text.items report.code writer writer' errors errors' status
 TellsOutcome (Err fault) writer writer' errors errors' status =
-    Keeps writer.held writer'.held × (writer'.failed ≡ writer.failed) × TellsFault fault errors errors' status
+    Keeps writer.held writer'.held × (writer'.failed ≡ writer.failed) × TellsOrdersFault fault errors errors' status
 
 -- What is told of a script with these bytes.
 pub record TellsOrders (input : List ℕ) (writer writer' errors errors' : Writing) (status : ℕ) : Type 0 where
   pub outcome : Result Report OrdersFault
-  pub is : IsOutcome (before_zero input) outcome
+  pub is : IsOrdersOutcome (before_zero input) outcome
   pub tells : TellsOutcome outcome writer writer' errors errors' status
 
 -- All was read, and told of; or nothing was written, and it is said that the read failed or memory ran out.

@@ -2,13 +2,14 @@
 use Rattle.std.specs.Prelude.{◌≡◌, ℕ, ◌+◌, ◌≤◌, ◌++◌, Bool, true, false, List, length, Result, Ok, Err}
 use Rattle.std.specs.declared.option.Option.{Option}
 use Rattle.std.specs.Prelude.{None, Some}
+use Rattle.nt_status.specs.declared.limits.TheConstants.{MAX_THREADS}
 use Rattle.nt_lines.specs.Lines.{lines_of}
 use Rattle.nt_script.specs.Progress.{AreCounted, Progress}
 use Rattle.nt_grammar.specs.declared.fault.LineFault.{LineFault}
 use Rattle.nt_grammar.specs.declared.fault.LineFault.TheVariants as line
 use Rattle.nt_script.specs.declared.fault.RunFault.{RunFault}
 use Rattle.nt_script.specs.declared.fault.RunFault.TheVariants.{Script, Memory}
-use Rattle.nt_hangs.specs.Steps.{HasFault}
+use Rattle.nt_hangs.specs.Steps.{LineHasFault}
 use Rattle.nt_hangs.specs.Watching.{Seen, unseen}
 use Rattle.nt_grammar.specs.Lines.{IsLine}
 use Rattle.nt_grammar.specs.declared.parser.Statement.{Statement}
@@ -25,7 +26,7 @@ use Rattle.nt_orders.specs.Plans.{Adds, IsLineThat, IsOfHead, IsOfLane, ReadsLan
 abbrev pub IsEnd : Option Progress → List ℕ → Result Bool LineFault → Type 0
 IsEnd now bytes (Ok true) = IsOfLane now bytes
 IsEnd now bytes (Ok false) = IsOfHead now bytes
-IsEnd now bytes (Err fault) = HasFault now bytes fault
+IsEnd now bytes (Err fault) = LineHasFault now bytes fault
 
 -- the same fault, with its line's number
 abbrev pub IsFaultAt : ℕ → LineFault → RunFault → Type 0
@@ -39,7 +40,7 @@ pub record HeadSoFar (input rest : List ℕ) (count : ℕ) (now : Seen) : Type 0
   pub place : count ≡ length before
   pub sees : SeesHead 1 unseen before now
   pub counted : AreCounted (count + 1) now.now
-  pub places : length now.since ≡ 256
+  pub places : length now.since ≡ MAX_THREADS
   pub few : count + length rest ≤ length input
 
 -- ---- the lanes
@@ -58,7 +59,7 @@ IsAskOf threads statement (Err lane.NoThread) = is_of_nobody threads statement �
 
 -- the line is of no lane, for this cause
 abbrev pub IsLaneFault : Progress → List ℕ → LaneFault → Type 0
-IsLaneFault now bytes (lane.Line fault) = HasFault (Some now) bytes fault
+IsLaneFault now bytes (lane.Line fault) = LineHasFault (Some now) bytes fault
 IsLaneFault now bytes lane.Late = IsLineThat now bytes creates
 IsLaneFault now bytes lane.NoThread = IsLineThat now bytes (is_of_nobody now.state.threads)
 

@@ -17,8 +17,8 @@ abbrev pub text_width : List Row → ℕ
 text_width rows = fold (λ width row. max width (length row.text.items)) 0 rows
 
 -- the number of a line, at the right of its column
-abbrev pub place_text : ℕ → ℕ → List ℕ
-place_text width number = (codes "line " ++ gap (width - length (decimal number))) ++ (decimal number ++ codes "  ")
+abbrev pub row_place_text : ℕ → ℕ → List ℕ
+row_place_text width number = (codes "line " ++ gap (width - length (decimal number))) ++ (decimal number ++ codes "  ")
 
 -- the text of a line, at the left of its column
 abbrev pub line_text : ℕ → List ℕ → List ℕ
@@ -26,7 +26,7 @@ line_text width text = (text ++ gap (width - length text)) ++ codes "    "
 
 -- a step after so many spaces: its line, and what came of it
 abbrev pub row_text : (indent numbers texts : ℕ) → Row → List ℕ
-row_text indent numbers texts row = (gap indent ++ place_text numbers row.number) ++ (line_text texts row.text.items ++ (row.answer.items ++ codes "\n"))
+row_text indent numbers texts row = (gap indent ++ row_place_text numbers row.number) ++ (line_text texts row.text.items ++ (row.answer.items ++ codes "\n"))
 
 -- the steps, each after so many spaces
 abbrev pub rows_text : ℕ → List Row → List ℕ

@@ -2,7 +2,7 @@
 ghost use Rattle.std.specs.Prelude.{◌≡◌, ◌++◌, IfOk, OnOk, codes, decimal};
 ghost use Rattle.std.specs.List.{flat_map};
 ghost use Rattle.nt_status.specs.Status.{status_text};
-ghost use Rattle.nt_orders.specs.Answers.{answer_text, apc_text, end_text, how_text, reply_text, result_text, whose_text};
+ghost use Rattle.nt_orders.specs.Answers.{order_answer_text, apc_text, wait_end_text, how_text, reply_text, result_text, whose_text};
 ghost use Rattle.nt_script.specs.Transcript.{moment_text};
 
 use nt_apc::Apc;
@@ -87,7 +87,7 @@ fn put_how(out: &mut Vec<u8>, status: Status) -> Result<(), AllocError>
 
 /// Puts whose wait a call ended, and how.
 fn put_grant(out: &mut Vec<u8>, grant: &Grant) -> Result<(), AllocError>
-    ensures { OnOk result (out.new.items ≡ out.old.items ++ end_text grant.now) }
+    ensures { OnOk result (out.new.items ≡ out.old.items ++ wait_end_text grant.now) }
 {
     put_whose(out, grant.thread)?;
     put_how(out, grant.status)
@@ -105,7 +105,7 @@ fn put_answer(out: &mut Vec<u8>, answer: &Result<Reply, Refusal>) -> Result<(), 
 
 /// Puts the waits that a call ended.
 fn put_grants(out: &mut Vec<u8>, grants: &[Grant]) -> Result<(), AllocError>
-    ensures { OnOk result (out.new.items ≡ out.old.items ++ flat_map end_text grants.now) }
+    ensures { OnOk result (out.new.items ≡ out.old.items ++ flat_map wait_end_text grants.now) }
 {
     for grant in grants {
         put_grant(out, grant)?;
@@ -119,7 +119,7 @@ pub(crate) fn answer_of(
     answer: &Result<Reply, Refusal>,
     grants: &[Grant],
 ) -> Result<Vec<u8>, AllocError>
-    ensures { IfOk result (λ text. text.items ≡ answer_text answer.now grants.now) }
+    ensures { IfOk result (λ text. text.items ≡ order_answer_text answer.now grants.now) }
 {
     let mut text = Vec::new(alloc);
     put_answer(&mut text, answer)?;

@@ -1,5 +1,5 @@
 //! The orders of a script, between a reader and two writers.
-ghost use Rattle.nt_orders.specs.Ending.{OrdersEnd, OrdersTold, TellsFault, TellsOrders};
+ghost use Rattle.nt_orders.specs.Ending.{OrdersEnd, OrdersTold, TellsOrdersFault, TellsOrders};
 
 use crate::fault::{OrdersFault, message_of, status_of};
 use crate::report::report_on;
@@ -11,7 +11,7 @@ use std::rt::Files;
 
 /// Says why the orders are not explored, and answers the exit status.
 fn tell<E: Sink>(alloc: Global, fault: OrdersFault, errors: &mut E) -> u8
-    ensures { TellsFault fault (E.seen errors.old) (E.seen errors.new) result }
+    ensures { TellsOrdersFault fault (E.seen errors.old) (E.seen errors.new) result }
 {
     match message_of(alloc, fault) {
         Ok(line) => say(errors, line.as_slice(), status_of(fault)),

@@ -1,6 +1,6 @@
 //! Why a script's orders are not explored.
 ghost use Rattle.std.specs.Prelude.{◌≡◌, ◌++◌, IfOk, OnOk, codes, decimal};
-ghost use Rattle.nt_orders.specs.Faults.{line_of, line_text, message_of, reason_of, status_of};
+ghost use Rattle.nt_orders.specs.Faults.{order_line, line_text, order_message, order_reason, order_status};
 
 use nt_hangs::put_number;
 use nt_script::RunFault;
@@ -21,7 +21,7 @@ pub enum OrdersFault {
 
 /// The fault in words, and its line.
 fn reason_of(fault: OrdersFault) -> &'static str
-    ensures { result.now ≡ reason_of fault }
+    ensures { result.now ≡ order_reason fault }
 {
     match fault {
         OrdersFault::Run(fault) => fault.reason(),
@@ -33,7 +33,7 @@ fn reason_of(fault: OrdersFault) -> &'static str
 
 /// The line of which it is told, if it is told of one.
 fn line_of(fault: OrdersFault) -> Option<u64>
-    ensures { result ≡ line_of fault }
+    ensures { result ≡ order_line fault }
 {
     match fault {
         OrdersFault::Run(fault) => Some(fault.line()),
@@ -44,7 +44,7 @@ fn line_of(fault: OrdersFault) -> Option<u64>
 
 /// The exit status: 2 if the script is at fault, 1 if memory was refused.
 pub(crate) fn status_of(fault: OrdersFault) -> u8
-    ensures { result ≡ status_of fault }
+    ensures { result ≡ order_status fault }
 {
     match fault {
         OrdersFault::Run(RunFault::Script { .. }) => 2,
@@ -77,7 +77,7 @@ fn put_line_of(out: &mut Vec<u8>, line: Option<u64>) -> Result<(), AllocError>
 
 /// The line that tells why.
 pub(crate) fn message_of(alloc: Global, fault: OrdersFault) -> Result<Vec<u8>, AllocError>
-    ensures { IfOk result (λ line. line.items ≡ message_of fault) }
+    ensures { IfOk result (λ line. line.items ≡ order_message fault) }
 {
     let mut line = Vec::new(alloc);
     line.extend_from_slice(b"ntlook: ")?;

@@ -2,7 +2,7 @@
 ghost use Rattle.std.specs.Prelude.{◌≡◌, IfOk};
 ghost use Rattle.nt_core.specs.Dispatcher.{state};
 ghost use Rattle.nt_hangs.specs.Watching.{before_zero};
-ghost use Rattle.nt_orders.specs.Ending.{code_of, IsJudged, IsOutcome};
+ghost use Rattle.nt_orders.specs.Ending.{verdict_code, PlanIsJudged, IsOrdersOutcome};
 
 use crate::fault::OrdersFault;
 use crate::hang::{held_at, put_hang};
@@ -159,7 +159,7 @@ impl Script {
         told: &[u8],
         explored: &Explored,
     ) -> Result<Report, AllocError>
-        ensures { IfOk result (λ report. report.code ≡ code_of explored.now.verdict) }
+        ensures { IfOk result (λ report. report.code ≡ verdict_code explored.now.verdict) }
     {
         let mut text = Vec::new(alloc);
         put_counts(&mut text, file, explored)?;
@@ -189,7 +189,7 @@ impl Script {
         told: &[u8],
         most: usize,
     ) -> Result<Report, AllocError>
-        ensures { IfOk result (λ report. IsJudged self.old.plan (state self.old.session.core) report.code) }
+        ensures { IfOk result (λ report. PlanIsJudged self.old.plan (state self.old.session.core) report.code) }
     {
         let explored = explore(alloc, self.session.core(), &self.plan, most, &mut Nobody)?;
         self.report(alloc, file, told, &explored)
@@ -204,7 +204,7 @@ pub fn report_on(
     input: &[u8],
     most: usize,
 ) -> Result<Report, OrdersFault>
-    ensures { IsOutcome (before_zero input.now) result }
+    ensures { IsOrdersOutcome (before_zero input.now) result }
 {
     let lines = before_zero(input);
     let mut script = read_script(alloc, lines)?;

@@ -1,6 +1,6 @@
 //! The steps of an order, a line each, in columns.
 ghost use Rattle.std.specs.Prelude.{◌≡◌, ◌++◌, OnOk};
-ghost use Rattle.nt_orders.specs.Rows.{line_text, number_width, place_text, row_text, rows_text, text_width};
+ghost use Rattle.nt_orders.specs.Rows.{line_text, number_width, row_place_text, row_text, rows_text, text_width};
 
 use crate::text::{digits_in, put_gap};
 use nt_hangs::put_number;
@@ -38,7 +38,7 @@ fn text_width(rows: &[Row]) -> usize
 
 /// Puts the number of a line, at the right of its column.
 fn put_place(out: &mut Vec<u8>, width: usize, number: u64) -> Result<(), AllocError>
-    ensures { OnOk result (out.new.items ≡ out.old.items ++ place_text width number) }
+    ensures { OnOk result (out.new.items ≡ out.old.items ++ row_place_text width number) }
 {
     out.extend_from_slice(b"line ")?;
     put_gap(out, width.saturating_sub(digits_in(number)))?;

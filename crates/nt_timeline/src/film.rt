@@ -1,8 +1,9 @@
 //! A script that is run, and what is kept of it.
 ghost use Rattle.std.specs.Prelude.{◌≡◌, ◌+◌, ◌≤◌, IfErr, IfOk, OnOk, length};
+ghost use Rattle.nt_status.specs.declared.limits.TheConstants.{MAX_THREADS};
 ghost use Rattle.nt_lines.specs.Lines.{lines_of};
 ghost use Rattle.nt_script.specs.Progress.{AreCounted};
-ghost use Rattle.nt_hangs.specs.Steps.{IsFaultOf, Watches};
+ghost use Rattle.nt_hangs.specs.Steps.{IsFaultOf, WatchesLines};
 ghost use Rattle.nt_hangs.specs.Watching.{seen_of, unseen, Sees};
 
 use crate::kept::Kept;
@@ -63,10 +64,10 @@ impl Film {
         object: Option<&str>,
     ) -> Result<(), RunFault>
         requires counted { AreCounted number (seen_of self.old.watch).now }
-        requires places { length (seen_of self.old.watch).since ≡ 256 }
+        requires places { length (seen_of self.old.watch).since ≡ MAX_THREADS }
         ensures sees { OnOk result (Sees number line.now (seen_of self.old.watch) (seen_of self.new.watch)) }
         ensures counted { OnOk result (AreCounted (number + 1) (seen_of self.new.watch).now) }
-        ensures places { OnOk result (length (seen_of self.new.watch).since ≡ 256) }
+        ensures places { OnOk result (length (seen_of self.new.watch).since ≡ MAX_THREADS) }
         ensures fault { IfErr result (λ fault. IsFaultOf number (seen_of self.old.watch).now line.now fault) }
     {
         match self.watch.see_line(alloc, number, line) {
@@ -86,7 +87,7 @@ impl Film {
         object: Option<&str>,
     ) -> Result<u64, RunFault>
         requires { seen_of self.old.watch ≡ unseen }
-        ensures watches { Watches (lines_of input.now) result (seen_of self.new.watch) }
+        ensures watches { WatchesLines (lines_of input.now) result (seen_of self.new.watch) }
         ensures few { IfOk result (λ count. count ≤ length input.now) }
     {
         let mut rest = input;
@@ -111,7 +112,7 @@ impl Film {
         object: Option<&str>,
     ) -> Result<u64, RunFault>
         requires { seen_of self.old.watch ≡ unseen }
-        ensures { Watches (lines_of input.now) result (seen_of self.new.watch) }
+        ensures { WatchesLines (lines_of input.now) result (seen_of self.new.watch) }
     {
         match self.take_lines(alloc, input, object) {
             Ok(count) => match self.watch.session() {

@@ -1,10 +1,11 @@
 //! Who waits, step by step.
 
 use crate::steps::{Ended, Kind, Step};
+use nt_status::MAX_THREADS;
 use std::alloc::{AllocError, Global};
 
 /// The greatest number of threads, each of which has a place.
-pub(crate) const MOST_THREADS: usize = 256;
+pub(crate) const MOST_THREADS: usize = MAX_THREADS as usize;
 
 /// By thread, the line on which its pending wait began; 0 while it does not wait.
 #[derive(Drop)]

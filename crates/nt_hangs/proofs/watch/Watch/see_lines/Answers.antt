@@ -1,4 +1,5 @@
 use Rattle.std.proofs.Common.{rules, ◌≡◌, length, false, true}
+use Rattle.nt_status.specs.declared.limits.TheConstants.{MAX_THREADS}
 use Rattle.nt_hangs.specs.Steps.{is_last}
 use Rattle.nt_hangs.specs.Watching.{seen_of}
 use Rattle.nt_hangs.proofs.Seeing.{SeenSoFar-start, SeenSoFar-then, stopped, watched_all, watched_to}
@@ -21,7 +22,7 @@ returns-in-Err-clause-watches c =
 pub loop-rest-preserved : goal.loop-rest-preserved
 loop-rest-preserved c =
     let more : is_last c.args.last c.loop-rest.count ≡ false = search rules in
-    let places : length c.see_line.new.self.since.items ≡ 256 = search rules in
+    let places : length c.see_line.new.self.since.items ≡ MAX_THREADS = search rules in
     SeenSoFar-then c.args.input.now c.loop-rest.rest.now c.args.last c.loop-rest.count (seen_of c.loop-rest.self) c.loop-rest.invariant c.first_line.result.0.now c.first_line.result.1.now
     (seen_of c.see_line.new.self) c.first_line.ensures.lines c.first_line.ensures.shorter more c.in-Ok.ensures.sees c.in-Ok.ensures.counted places
 
