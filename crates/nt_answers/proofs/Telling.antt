@@ -15,7 +15,7 @@ use Rattle.nt_calls.specs.Serving.{fits, status, taken_by, late_status, is_sleep
 use Rattle.nt_calls.specs.State.{State, with_handing, pending_too}
 use Rattle.nt_calls.specs.Steps.{Called, Ticked, answered, begun}
 use Rattle.nt_answers.specs.Answers.{is_began, is_done}
-use Rattle.nt_answers.specs.Kinds.{Kind, kind_of, tells, is_answer}
+use Rattle.nt_answers.specs.Kinds.{Kind, kind_of, tells_kind, is_answer}
 
 -- what an accepted call answers
 reply_is : (old : State) (who : ℕ) (call : Call) (reply : Reply) (grants : List Grant) (new : State) → Called old who call (Ok reply) grants new
@@ -41,7 +41,7 @@ act_tells : (old : State) (t : ℕ) (act : Act) → IsTrue (is_answer (Call.Act 
 act_tells old t Act.NextApc = refl
 act_tells old t _ = refl
 
-refusal_tells : (kind : Kind) (refusal : Refusal) → IsTrue (tells kind (Err refusal))
+refusal_tells : (kind : Kind) (refusal : Refusal) → IsTrue (tells_kind kind (Err refusal))
 refusal_tells Kind.Began refusal = refl
 refusal_tells _ refusal = refl
 

@@ -15,8 +15,8 @@ as_reply stands_for (Err refusal) = Err refusal
 abbrev pub done_reply : Result ⊤ Refusal → Result Reply Refusal
 done_reply result = as_reply (λ _. Reply.Done) result
 
-abbrev pub handle_reply : Result ℕ Refusal → Result Reply Refusal
-handle_reply result = as_reply Reply.Handle result
+abbrev pub created_reply : Result ℕ Refusal → Result Reply Refusal
+created_reply result = as_reply Reply.Handle result
 
 abbrev pub previous_reply : Result ℤ Refusal → Result Reply Refusal
 previous_reply result = as_reply Reply.Previous result

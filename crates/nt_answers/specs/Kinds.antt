@@ -37,13 +37,13 @@ kind_of (Call.Wait wait) = Began
 kind_of Call.Exit = Done
 
 -- the result is a refusal, or a reply that tells this
-abbrev pub tells : Kind → Result Reply Refusal → Bool
-tells Done result = is_done result
-tells Handle result = is_handle result
-tells Previous result = is_previous result
-tells Apc result = is_apc result
-tells Began result = is_began result
+abbrev pub tells_kind : Kind → Result Reply Refusal → Bool
+tells_kind Done result = is_done result
+tells_kind Handle result = is_handle result
+tells_kind Previous result = is_previous result
+tells_kind Apc result = is_apc result
+tells_kind Began result = is_began result
 
 -- the result is one that the call can have: a refusal, or a reply that tells what the call has to tell
 abbrev pub is_answer : Call → Result Reply Refusal → Bool
-is_answer call result = tells (kind_of call) result
+is_answer call result = tells_kind (kind_of call) result

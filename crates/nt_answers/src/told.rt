@@ -3,7 +3,7 @@
 //! (`_inside`: the prover wants the types inside of a reply named in each function that takes one apart.)
 ghost use Rattle.std.specs.Prelude.{◌≡◌, IsTrue};
 ghost use Rattle.nt_calls.specs.declared.call.Reply.{Reply};
-ghost use Rattle.nt_answers.specs.Answers.{is_done, is_handle, is_previous, is_apc, is_began, done_reply, handle_reply, previous_reply, apc_reply, began_reply};
+ghost use Rattle.nt_answers.specs.Answers.{is_done, is_handle, is_previous, is_apc, is_began, done_reply, created_reply, previous_reply, apc_reply, began_reply};
 
 use crate::began::Began;
 use nt_apc::Apc;
@@ -25,7 +25,7 @@ pub fn done_told(reply: Result<Reply, Refusal>) -> Result<(), Refusal>
 /// The handle that a creation or a duplicate answers.
 pub fn handle_told(reply: Result<Reply, Refusal>) -> Result<Handle, Refusal>
     requires { IsTrue (is_handle reply) }
-    ensures { handle_reply result ≡ reply }
+    ensures { created_reply result ≡ reply }
 {
     let _inside: Option<Apc> = None;
     match reply? {

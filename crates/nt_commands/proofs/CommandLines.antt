@@ -14,7 +14,8 @@ use Rattle.clap.specs.declared.error.kind.ErrorKind.TheVariants.{OutOfMemory}
 use Rattle.clap.specs.declared.parser.matches.ArgMatches.{ArgMatches}
 use Rattle.clap.proofs.FaultLemmas.{stopped_fault}
 use Rattle.clap.proofs.WalkLemmas.{walk_stopped}
-use Rattle.nt_commands.specs.CommandLine.{ends_options, file_asked, file_after, file_named}
+use Rattle.nt_lines.specs.Options.{ends_options}
+use Rattle.nt_commands.specs.CommandLine.{file_asked, file_after, file_named}
 use Rattle.nt_commands.specs.Command.{command_line, file_found, file_of}
 use Rattle.nt_commands.proofs.Looks.{Look, plain, ends, long, short, look}
 use Rattle.nt_commands.proofs.Faults.{Fails, fails_first, other_fails}

@@ -8,7 +8,7 @@ use Rattle.clap.specs.Kinds.{Kinds, or_else}
 use Rattle.clap.specs.Walk.{Held, Names, Rule, Step, Text, Walk, arg_by_index, arg_by_long, arg_by_short, idle, long_or_other, short_or_plain, subcommand_met, subcommand_or_other, trailing, value, word_met}
 use Rattle.clap.specs.Simple.{Shape}
 use Rattle.clap.specs.Faults.{bundle_fault, flag_word_fault, flags_fault, other_fault, positional_fault, step_fault, stray_fault, turn_fault, word_fault}
-use Rattle.nt_commands.specs.CommandLine.{is_operand, ends_options}
+use Rattle.nt_lines.specs.Options.{ends_options, is_operand}
 use Rattle.nt_commands.proofs.Looks.{Look, plain, ends, long, short, has_first}
 
 -- some error comes

@@ -6,7 +6,7 @@ use Rattle.std.specs.Char.{encode_utf8}
 use Rattle.std.specs.Str.{encode_utf8_all}
 use Rattle.std.proofs.lemmas.Str.{encodes-chars}
 use Rattle.clap.specs.Lexer.{long_of, long_of_rest, short_of, short_of_rest, strip_byte}
-use Rattle.nt_commands.specs.CommandLine.{is_operand, ends_options}
+use Rattle.nt_lines.specs.Options.{ends_options, is_operand}
 
 pub data Look (w : List ℕ) : Type 0 where
   plain : long_of w ≡ None → short_of w ≡ None → is_operand w ≡ true → ends_options w ≡ false → Look w

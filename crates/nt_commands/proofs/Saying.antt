@@ -4,9 +4,9 @@ use Rattle.std.specs.Fmt.{decimal}
 use Rattle.std.specs.Io.KnownBytes.{Appends}
 use Rattle.std.proofs.KnownBytes.{Appends-trans}
 use Rattle.std.proofs.lemmas.List.{take-append-le}
-use Rattle.nt_devices.specs.Device.{AppendsPart, Says, Writes, Writing, one_more}
-use Rattle.nt_threads.specs.Reports.{IsReport}
-use Rattle.nt_commands.specs.Ending.{message_of}
+use Rattle.nt_devices.specs.Device.{AppendsPart, Says, WritesBytes, Writing, one_more}
+use Rattle.nt_threads.specs.Reports.{IsThreadsReport}
+use Rattle.nt_commands.specs.Ending.{run_message}
 use Rattle.nt_commands.specs.Telling.{EndsWell, EndsUnwritten, EndsSilent, TellsLines}
 use Rattle.nt_script.specs.Message.{line_number, reason_of}
 use Rattle.nt_script.specs.declared.fault.RunFault.{RunFault}
@@ -24,7 +24,7 @@ part_after a b c text more p q =
 
 -- the first piece was written, and the others so
 pub Writes-then : {Y F : Type 0} (a b c : Writing) (text more whole : List ℕ) (result : Result Y F)
-    → Appends a.held b.held text → b.failed ≡ a.failed → Writes b c more result → text ++ more ≡ whole → Writes a c whole result
+    → Appends a.held b.held text → b.failed ≡ a.failed → WritesBytes b c more result → text ++ more ≡ whole → WritesBytes a c whole result
 Writes-then a b c text more whole (Ok y) p same q e = (subst (Appends a.held c.held) e (Appends-trans a.held b.held c.held text more p q.0), q.1 ∙ same)
 Writes-then a b c text more whole (Err fault) p same q e = (subst (AppendsPart a.held c.held) e (part_after a.held b.held c.held text more p q.0), q.1 ∙ ap one_more same)
 
@@ -37,13 +37,13 @@ part_of_front a b text more whole p e =
     subst (AppendsPart a b) e (n, within, subst (Appends a b) (sym same) p.2)
 
 -- what was written was said
-pub Writes-said : {X E : Type 0} (a b : Writing) (text : List ℕ) (result : Result X E) → Writes a b text result → Says a b text
-Writes-said a b text (Ok x) p = inl p
-Writes-said a b text (Err e) p = inr p
+pub WritesBytes-said : {X E : Type 0} (a b : Writing) (text : List ℕ) (result : Result X E) → WritesBytes a b text result → Says a b text
+WritesBytes-said a b text (Ok x) p = inl p
+WritesBytes-said a b text (Err e) p = inr p
 
 -- a message in two pieces
 pub message_pieces : (fault : RunFault) (line : ℕ) (reason : List ℕ) → line ≡ line_number fault → reason ≡ reason_of fault
-    → (codes "ntrun: line " ++ decimal line) ++ (codes ": " ++ (reason ++ (10 ∷ []))) ≡ message_of fault
+    → (codes "ntrun: line " ++ decimal line) ++ (codes ": " ++ (reason ++ (10 ∷ []))) ≡ run_message fault
 message_pieces fault line reason p q =
     ap (λ (n : ℕ). (codes "ntrun: line " ++ decimal n) ++ (codes ": " ++ (reason ++ (10 ∷ [])))) p
     ∙ ap (λ (r : List ℕ). (codes "ntrun: line " ++ decimal (line_number fault)) ++ (codes ": " ++ (r ++ (10 ∷ [])))) q
@@ -51,7 +51,7 @@ message_pieces fault line reason p q =
 
 -- the lines of a run were handed on, or they were not
 pub told : (workers rounds : ℕ) (lines : List ℕ) (writer writer' errors errors' : Writing) (status : ℕ)
-    → IsReport workers rounds lines → TellsLines lines writer writer' errors errors' status
+    → IsThreadsReport workers rounds lines → TellsLines lines writer writer' errors errors' status
     → EndsWell workers rounds writer writer' errors errors' status
     ⊎ (EndsUnwritten workers rounds writer writer' errors errors' status ⊎ EndsSilent workers rounds writer writer' errors errors' status)
 told workers rounds lines writer writer' errors errors' status report (inl is) = inl ((lines, report, is.0), is.1, is.2, is.3, is.4, is.5)

@@ -7,7 +7,8 @@ use Rattle.clap.specs.Kinds.{Kinds, or_else}
 use Rattle.clap.specs.Walk.{Held, Step, Text, Walk, after_step, finished, first_of, idle, nothing_held, rows_after, settled, walk, walk_from, walked}
 use Rattle.clap.specs.Simple.{App, Shape, built}
 use Rattle.clap.specs.Faults.{check_fault, defaults_fault, level_fault, settle_fault, turn_fault, walk_fault}
-use Rattle.nt_commands.specs.CommandLine.{ends_options, file_named, is_operand}
+use Rattle.nt_lines.specs.Options.{ends_options, is_operand}
+use Rattle.nt_commands.specs.CommandLine.{file_named}
 use Rattle.nt_commands.specs.Command.{command_line}
 use Rattle.nt_commands.proofs.Looks.{Look, plain, ends, long, short, look}
 use Rattle.nt_commands.proofs.Faults.{Fails, fails_first, fails_then, option_fails, other_fails, plain_met, plain_turn}

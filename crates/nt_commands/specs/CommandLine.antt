@@ -1,21 +1,12 @@
 -- What the words of a command line ask for.
 use Rattle.std.specs.Prelude.{◌≡◌, ℕ, ◌==◌, ◌&&◌, nat_le, Bool, true, not, List, [], ◌∷◌, drop, Option, None, Some, option_map, option_and_then, Result, Ok, Err, if◌then◌else◌, codes, String, string_bytes}
 use Rattle.std.specs.Str.{bytes_eq}
-use Rattle.nt_lines.specs.Words.{number_of}
+use Rattle.nt_lines.specs.Options.{ends_options, is_operand}
+use Rattle.nt_lines.specs.Words.{digits_number}
 use Rattle.nt_commands.specs.declared.plan.Plan.{Plan}
 use Rattle.nt_commands.specs.declared.plan.Plan.TheVariants.{Script, Threads}
 use Rattle.nt_commands.specs.declared.plan.PlanFault.{PlanFault}
 use Rattle.nt_commands.specs.declared.plan.PlanFault.TheVariants.{Usage, Memory}
-
--- a word that does not begin with `-`, or is `-` alone
-abbrev pub is_operand : List ℕ → Bool
-is_operand [] = true
-is_operand (first ∷ []) = true
-is_operand (first ∷ second ∷ others) = not (first == 45)
-
--- whether a word is `--`, after which nothing is an option
-abbrev pub ends_options : List ℕ → Bool
-ends_options word = bytes_eq word (codes "--")
 
 -- the file of two words: `-- FILE`, or `FILE --`
 abbrev pub file_of_two : List ℕ → List ℕ → Option (List ℕ)
@@ -40,12 +31,12 @@ file_asked words = file_after (drop 1 words)
 -- ---- threads
 
 -- a number from 1 to `most`, of one to four digits
-abbrev pub count_of : ℕ → List ℕ → Option ℕ
-count_of most word = option_and_then (λ n. if nat_le 1 n && nat_le n most then Some n else None) (number_of 4 word)
+abbrev pub option_count : ℕ → List ℕ → Option ℕ
+option_count most word = option_and_then (λ n. if nat_le 1 n && nat_le n most then Some n else None) (digits_number 4 word)
 
 -- how many workers and rounds two words tell
 abbrev pub two_counts : List ℕ → List ℕ → Option (ℕ × ℕ)
-two_counts first second = option_and_then (λ workers. option_map (λ rounds. (workers, rounds)) (count_of 1000 second)) (count_of 64 first)
+two_counts first second = option_and_then (λ workers. option_map (λ rounds. (workers, rounds)) (option_count 1000 second)) (option_count 64 first)
 
 -- the workers and rounds of three words, one of which is `--`
 abbrev pub counts_of_three : List ℕ → List ℕ → List ℕ → Option (ℕ × ℕ)
@@ -71,8 +62,8 @@ abbrev pub threads_asked : List (List ℕ) → Option (ℕ × ℕ)
 threads_asked words = counts_after (drop 1 words)
 
 -- there may be so many workers and rounds
-abbrev pub are_lawful : ℕ → ℕ → Bool
-are_lawful workers rounds = nat_le 1 workers && nat_le workers 64 && nat_le 1 rounds && nat_le rounds 1000
+abbrev pub are_lawful_counts : ℕ → ℕ → Bool
+are_lawful_counts workers rounds = nat_le 1 workers && nat_le workers 64 && nat_le 1 rounds && nat_le rounds 1000
 
 -- ---- the plan
 

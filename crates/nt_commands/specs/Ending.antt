@@ -9,12 +9,12 @@ use Rattle.nt_script.specs.declared.fault.RunFault.{RunFault}
 use Rattle.nt_script.specs.declared.fault.RunFault.TheVariants.{Script, Read, Write, Memory}
 
 -- the exit status of a run: 2 where the script has a fault, 1 where the run was cut short, 0 where it was done
-abbrev pub status_of : Result Summary RunFault → ℕ
-status_of (Ok summary) = 0
-status_of (Err (Script line fault)) = 2
-status_of (Err (Read line)) = 1
-status_of (Err (Write line)) = 1
-status_of (Err (Memory line)) = 1
+abbrev pub run_status : Result Summary RunFault → ℕ
+run_status (Ok summary) = 0
+run_status (Err (Script line fault)) = 2
+run_status (Err (Read line)) = 1
+run_status (Err (Write line)) = 1
+run_status (Err (Memory line)) = 1
 
 -- The reader failed once where that is why the run ended, and not otherwise.
 abbrev pub CountsReads : (reader reader' : Reading) → Result Summary RunFault → Type 0
@@ -42,13 +42,13 @@ abbrev pub with_feed : List ℕ → List ℕ
 with_feed line = line ++ (10 ∷ [])
 
 -- the line that tells why a run ended
-abbrev pub message_of : RunFault → List ℕ
-message_of fault = with_feed (codes "ntrun: " ++ fault_text fault)
+abbrev pub run_message : RunFault → List ℕ
+run_message fault = with_feed (codes "ntrun: " ++ fault_text fault)
 
 -- what is said of a run: nothing, where it was done
 abbrev pub said_of : Result Summary RunFault → List ℕ
 said_of (Ok summary) = []
-said_of (Err fault) = message_of fault
+said_of (Err fault) = run_message fault
 
 -- The exit status is that of the run, and what is said is said of it.
 pub record ScriptEnds (reader reader' : Reading) (writer writer' errors errors' : Writing) (status : ℕ) : Type 0 where
@@ -56,7 +56,7 @@ pub record ScriptEnds (reader reader' : Reading) (writer writer' errors errors' 
   pub ends : Outcome reader reader' writer writer' outcome
   pub reads : CountsReads reader reader' outcome
   pub said : Says errors errors' (said_of outcome)
-  pub is : status ≡ status_of outcome
+  pub is : status ≡ run_status outcome
 
 -- It is said that the file can't be opened, and nothing was written; or the script in it was run.
 pub record FileEnds (writer writer' errors errors' : Writing) (status : ℕ) : Type 0 where

@@ -2,12 +2,12 @@
 use Rattle.std.specs.Prelude.{◌≡◌, ◌⊎◌, ℕ, true, false, List, Result, Ok, Err, codes}
 use Rattle.std.specs.Io.KnownBytes.{Appends, Keeps}
 use Rattle.nt_devices.specs.Device.{AppendsPart, Says, Writing, one_more}
-use Rattle.nt_threads.specs.Reports.{IsReport}
+use Rattle.nt_threads.specs.Reports.{IsThreadsReport}
 use Rattle.nt_commands.specs.declared.plan.Plan.{Plan}
 use Rattle.nt_commands.specs.declared.plan.Plan.TheVariants.{Script, Threads}
 use Rattle.nt_commands.specs.declared.plan.PlanFault.{PlanFault}
 use Rattle.nt_commands.specs.declared.plan.PlanFault.TheVariants.{Usage, Memory}
-use Rattle.nt_commands.specs.CommandLine.{are_lawful}
+use Rattle.nt_commands.specs.CommandLine.{are_lawful_counts}
 use Rattle.nt_commands.specs.Ending.{PrintEnds, usage, with_feed}
 
 -- These lines were handed on, and nothing was said; or they were not, and that is said.
@@ -20,20 +20,20 @@ TellsLines lines writer writer' errors errors' status =
 -- The lines of a run were handed on, and nothing was said.
 abbrev pub EndsWell : (workers rounds : ℕ) → (writer writer' errors errors' : Writing) → (status : ℕ) → Type 0
 EndsWell workers rounds writer writer' errors errors' status =
-    ((lines : List ℕ) × IsReport workers rounds lines × Appends writer.held writer'.held lines) × (writer'.failed ≡ writer.failed) × (writer'.handed_on ≡ true) × Keeps errors.held errors'.held × (errors'.failed ≡ errors.failed) × (status ≡ 0)
+    ((lines : List ℕ) × IsThreadsReport workers rounds lines × Appends writer.held writer'.held lines) × (writer'.failed ≡ writer.failed) × (writer'.handed_on ≡ true) × Keeps errors.held errors'.held × (errors'.failed ≡ errors.failed) × (status ≡ 0)
 
 -- The lines of a run were not handed on, and that is said.
 abbrev pub EndsUnwritten : (workers rounds : ℕ) → (writer writer' errors errors' : Writing) → (status : ℕ) → Type 0
 EndsUnwritten workers rounds writer writer' errors errors' status =
-    ((lines : List ℕ) × IsReport workers rounds lines × (AppendsPart writer.held writer'.held lines ⊎ Appends writer.held writer'.held lines))
+    ((lines : List ℕ) × IsThreadsReport workers rounds lines × (AppendsPart writer.held writer'.held lines ⊎ Appends writer.held writer'.held lines))
     × (writer'.failed ≡ one_more writer.failed) × Says errors errors' (with_feed (codes "ntrun: write failed")) × (status ≡ 1)
 
 -- Nothing was written: memory was refused, and that is said; or there may not be so many workers or rounds, and the usage is told.
 abbrev pub EndsSilent : (workers rounds : ℕ) → (writer writer' errors errors' : Writing) → (status : ℕ) → Type 0
 EndsSilent workers rounds writer writer' errors errors' status =
     Keeps writer.held writer'.held × (writer'.failed ≡ writer.failed)
-    × (((are_lawful workers rounds ≡ true) × Says errors errors' (with_feed (codes "ntrun: out of memory")) × (status ≡ 1))
-    ⊎ ((are_lawful workers rounds ≡ false) × Says errors errors' (with_feed usage) × (status ≡ 2)))
+    × (((are_lawful_counts workers rounds ≡ true) × Says errors errors' (with_feed (codes "ntrun: out of memory")) × (status ≡ 1))
+    ⊎ ((are_lawful_counts workers rounds ≡ false) × Says errors errors' (with_feed usage) × (status ≡ 2)))
 
 -- The lines of a run were handed on; or they were not; or nothing was written.
 pub record ThreadsEnd (workers rounds : ℕ) (writer writer' errors errors' : Writing) (status : ℕ) : Type 0 where

@@ -2,8 +2,8 @@
 
 ghost use Rattle.std.specs.Prelude.{◌≡◌, ◌++◌, codes};
 ghost use Rattle.std.specs.Fmt.{decimal};
-ghost use Rattle.nt_devices.specs.Device.{Says, Writes};
-ghost use Rattle.nt_commands.specs.Ending.{message_of, with_feed};
+ghost use Rattle.nt_devices.specs.Device.{Says, WritesBytes};
+ghost use Rattle.nt_commands.specs.Ending.{run_message, with_feed};
 
 use nt_devices::{Sink, WriteFailed, write_whole};
 use nt_script::RunFault;
@@ -23,14 +23,14 @@ pub fn say<E: Sink>(errors: &mut E, line: &str, status: u8) -> u8
 
 /// Says why a run ended. A failure to say it is ignored.
 pub fn tell<E: Sink>(errors: &mut E, fault: RunFault)
-    ensures { Says (E.seen errors.old) (E.seen errors.new) (message_of fault) }
+    ensures { Says (E.seen errors.old) (E.seen errors.new) (run_message fault) }
 {
     let _ = write_message(errors, fault);
 }
 
 /// Writes why a run ended.
 fn write_message<E: Sink>(errors: &mut E, fault: RunFault) -> Result<(), WriteFailed>
-    ensures { Writes (E.seen errors.old) (E.seen errors.new) (message_of fault) result }
+    ensures { WritesBytes (E.seen errors.old) (E.seen errors.new) (run_message fault) result }
 {
     match write_place(errors, fault.line()) {
         Ok(()) => write_reason(errors, fault.reason()),
@@ -40,7 +40,7 @@ fn write_message<E: Sink>(errors: &mut E, fault: RunFault) -> Result<(), WriteFa
 
 /// Writes the beginning of a message, with the line's number.
 fn write_place<E: Sink>(errors: &mut E, line: u64) -> Result<(), WriteFailed>
-    ensures { Writes (E.seen errors.old) (E.seen errors.new) (codes "ntrun: line " ++ decimal line) result }
+    ensures { WritesBytes (E.seen errors.old) (E.seen errors.new) (codes "ntrun: line " ++ decimal line) result }
 {
     match write_whole(errors, b"ntrun: line ") {
         Ok(()) => write_whole(errors, itoa::Buffer::new().format(line).as_bytes()),
@@ -50,7 +50,7 @@ fn write_place<E: Sink>(errors: &mut E, line: u64) -> Result<(), WriteFailed>
 
 /// Writes the rest of a message.
 fn write_reason<E: Sink>(errors: &mut E, reason: &str) -> Result<(), WriteFailed>
-    ensures { Writes (E.seen errors.old) (E.seen errors.new) (codes ": " ++ with_feed reason.now) result }
+    ensures { WritesBytes (E.seen errors.old) (E.seen errors.new) (codes ": " ++ with_feed reason.now) result }
 {
     match write_whole(errors, b": ") {
         Ok(()) => write_line(errors, reason),
@@ -60,7 +60,7 @@ fn write_reason<E: Sink>(errors: &mut E, reason: &str) -> Result<(), WriteFailed
 
 /// Writes a line.
 fn write_line<E: Sink>(errors: &mut E, line: &str) -> Result<(), WriteFailed>
-    ensures { Writes (E.seen errors.old) (E.seen errors.new) (with_feed line.now) result }
+    ensures { WritesBytes (E.seen errors.old) (E.seen errors.new) (with_feed line.now) result }
 {
     match write_whole(errors, line.as_bytes()) {
         Ok(()) => write_whole(errors, b"\n"),

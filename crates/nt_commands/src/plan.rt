@@ -2,7 +2,7 @@
 
 ghost use Rattle.std.specs.Prelude.{◌≡◌, IfOk, map, string_bytes};
 ghost use Rattle.clap.specs.Words.{app_of};
-ghost use Rattle.nt_commands.specs.CommandLine.{FindsFile, PlansBy, count_of, counts_of_three, file_asked, threads_asked, two_counts};
+ghost use Rattle.nt_commands.specs.CommandLine.{FindsFile, PlansBy, option_count, counts_of_three, file_asked, threads_asked, two_counts};
 ghost use Rattle.nt_commands.specs.Command.{command_line, file_found};
 
 use clap::error::ErrorKind;
@@ -133,7 +133,7 @@ fn two_counts(first: &str, second: &str) -> Option<(u32, u32)>
 
 /// A number from 1 to `most`, of one to four digits.
 fn count_of(word: &str, most: u32) -> Option<u32>
-    ensures { result ≡ count_of most word.now }
+    ensures { result ≡ option_count most word.now }
 {
     match number_of(word.as_bytes(), 4) {
         Some(n) if 1 <= n && n <= u64::from(most) => Some(n as u32),

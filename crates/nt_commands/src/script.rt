@@ -4,7 +4,7 @@ ghost use Rattle.std.specs.Prelude.{◌≡◌, ◌-◌, ◌+◌, ◌<◌, ◌^�
 ghost use Rattle.std.specs.Io.KnownBytes.{Keeps};
 ghost use Rattle.nt_devices.specs.Device.{one_more};
 ghost use Rattle.nt_script.specs.declared.fault.RunFault.TheVariants.{Write};
-ghost use Rattle.nt_commands.specs.Ending.{CountsReads, FileEnds, IsFlushed, Outcome, ScriptEnds, status_of};
+ghost use Rattle.nt_commands.specs.Ending.{CountsReads, FileEnds, IsFlushed, Outcome, ScriptEnds, run_status};
 
 use crate::errors::{say, tell};
 use nt_devices::{Counted, Sink, Source};
@@ -101,7 +101,7 @@ fn try_to_hand_on<W: Sink>(writer: &mut W)
 
 /// The exit status of a run that was not done.
 fn status_of(fault: RunFault) -> u8
-    ensures { result ≡ status_of (Err fault) }
+    ensures { result ≡ run_status (Err fault) }
 {
     match fault {
         RunFault::Script { .. } => 2,

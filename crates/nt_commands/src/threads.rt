@@ -2,7 +2,7 @@
 
 ghost use Rattle.std.specs.Prelude.{◌≡◌, ◌≤◌, ◌&&◌, nat_le};
 ghost use Rattle.nt_commands.specs.Telling.{TellsLines, ThreadsEnd};
-ghost use Rattle.nt_commands.specs.CommandLine.{are_lawful};
+ghost use Rattle.nt_commands.specs.CommandLine.{are_lawful_counts};
 
 use crate::errors::{OUT_OF_MEMORY, USAGE, say};
 use crate::plan::{MOST_ROUNDS, MOST_WORKERS};
@@ -51,7 +51,7 @@ fn tell_lines<W: Sink, E: Sink>(lines: &[u8], writer: &mut W, errors: &mut E) ->
 
 /// Whether there may be so many workers and rounds.
 fn are_lawful(workers: u32, rounds: u32) -> bool
-    ensures { result ≡ are_lawful workers rounds }
+    ensures { result ≡ are_lawful_counts workers rounds }
 {
     1 <= workers && workers <= MOST_WORKERS && 1 <= rounds && rounds <= MOST_ROUNDS
 }

@@ -4,7 +4,7 @@ ghost use Rattle.nt_calls.specs.declared.call.Act.{Act};
 ghost use Rattle.nt_calls.specs.declared.call.Call.{Call};
 ghost use Rattle.nt_calls.specs.declared.call.WaitCall.{WaitCall};
 ghost use Rattle.nt_core.specs.Dispatcher.{Dispatcher};
-ghost use Rattle.nt_answers.specs.Answers.{done_reply, handle_reply, previous_reply, apc_reply, began_reply};
+ghost use Rattle.nt_answers.specs.Answers.{done_reply, created_reply, previous_reply, apc_reply, began_reply};
 ghost use Rattle.nt_core_calls.specs.Called.{IsCalled, IsTicked};
 
 use nt_answers::{Apc, Began, Timeout};
@@ -22,22 +22,22 @@ pub trait Calls {
     /// CreateEvent, with the flags of CreateEventEx. Answers the event's handle.
     fn create_event(&mut self, who: u32, flags: EventFlags) -> Result<Handle, Refusal>
         ensures { IsCalled (dispatcher self.old) who (Call.Act (Act.CreateEvent flags))
-            (handle_reply result) (dispatcher self.new) };
+            (created_reply result) (dispatcher self.new) };
 
     /// CreateSemaphore. Answers the semaphore's handle.
     fn create_semaphore(&mut self, who: u32, initial: i32, maximum: i32) -> Result<Handle, Refusal>
         ensures { IsCalled (dispatcher self.old) who (Call.Act (Act.CreateSemaphore initial maximum))
-            (handle_reply result) (dispatcher self.new) };
+            (created_reply result) (dispatcher self.new) };
 
     /// CreateMutex, with the flags of CreateMutexEx. Answers the mutex's handle.
     fn create_mutex(&mut self, who: u32, flags: MutexFlags) -> Result<Handle, Refusal>
         ensures { IsCalled (dispatcher self.old) who (Call.Act (Act.CreateMutex flags))
-            (handle_reply result) (dispatcher self.new) };
+            (created_reply result) (dispatcher self.new) };
 
     /// CreateWaitableTimer, with the flags of CreateWaitableTimerEx. Answers the timer's handle.
     fn create_timer(&mut self, who: u32, flags: TimerFlags) -> Result<Handle, Refusal>
         ensures { IsCalled (dispatcher self.old) who (Call.Act (Act.CreateTimer flags))
-            (handle_reply result) (dispatcher self.new) };
+            (created_reply result) (dispatcher self.new) };
 
     /// SetEvent.
     fn set_event(&mut self, who: u32, event: Handle) -> Result<(), Refusal>
@@ -96,7 +96,7 @@ pub trait Calls {
     /// DuplicateHandle: answers one handle more for what this one names, with these rights, none of which the first may lack.
     fn duplicate(&mut self, who: u32, handle: Handle, access: Access) -> Result<Handle, Refusal>
         ensures { IsCalled (dispatcher self.old) who (Call.Act (Act.Duplicate handle access))
-            (handle_reply result) (dispatcher self.new) };
+            (created_reply result) (dispatcher self.new) };
 
     /// CloseHandle: the handle names nothing any more, and no other gets its number.
     fn close(&mut self, who: u32, handle: Handle) -> Result<(), Refusal>

@@ -3,7 +3,7 @@ ghost use Rattle.std.specs.Prelude.{◌≡◌, IsTrue};
 ghost use Rattle.nt_calls.specs.declared.call.Act.{Act};
 ghost use Rattle.nt_calls.specs.declared.call.Call.{Call};
 ghost use Rattle.nt_calls.specs.declared.call.WaitCall.{WaitCall};
-ghost use Rattle.nt_answers.specs.Answers.{done_reply, handle_reply, previous_reply, apc_reply, began_reply};
+ghost use Rattle.nt_answers.specs.Answers.{done_reply, created_reply, previous_reply, apc_reply, began_reply};
 ghost use Rattle.nt_answers.specs.Kinds.{Kind, act_kind, is_answer};
 ghost use Rattle.nt_core_calls.specs.Called.{IsCalled, IsTicked};
 
@@ -31,7 +31,7 @@ pub(crate) fn make_done(core: &mut Core, who: u32, act: Act) -> Result<(), Refus
 /// Makes a call that answers a handle.
 pub(crate) fn make_handle(core: &mut Core, who: u32, act: Act) -> Result<Handle, Refusal>
     requires { act_kind act ≡ Kind.Handle }
-    ensures { IsCalled core.old who (Call.Act act) (handle_reply result) core.new }
+    ensures { IsCalled core.old who (Call.Act act) (created_reply result) core.new }
 {
     handle_told(make(core, who, &Call::Act(act)))
 }

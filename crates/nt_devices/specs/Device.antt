@@ -34,9 +34,9 @@ abbrev pub AppendsPart : Option (List ℕ) → Option (List ℕ) → List ℕ �
 AppendsPart old new bytes = (taken : ℕ) × (taken < length bytes) × Appends old new (take taken bytes)
 
 -- all of these bytes were written; or a part of them, and one failure more is counted
-abbrev pub Writes : {X E : Type 0} → (writer writer' : Writing) → List ℕ → Result X E → Type 0
-Writes writer writer' bytes (Ok x) = Appends writer.held writer'.held bytes × (writer'.failed ≡ writer.failed)
-Writes writer writer' bytes (Err e) = AppendsPart writer.held writer'.held bytes × (writer'.failed ≡ one_more writer.failed)
+abbrev pub WritesBytes : {X E : Type 0} → (writer writer' : Writing) → List ℕ → Result X E → Type 0
+WritesBytes writer writer' bytes (Ok x) = Appends writer.held writer'.held bytes × (writer'.failed ≡ writer.failed)
+WritesBytes writer writer' bytes (Err e) = AppendsPart writer.held writer'.held bytes × (writer'.failed ≡ one_more writer.failed)
 
 -- All of these bytes were written and handed on; or a part of them was, or all of them with a flush that failed, and the writer failed once more.
 abbrev pub Hands : {X E : Type 0} → (writer writer' : Writing) → List ℕ → Result X E → Type 0

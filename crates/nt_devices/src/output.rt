@@ -1,7 +1,7 @@
 //! Writing bytes as a whole.
 
 ghost use Rattle.std.specs.Prelude.{◌≡◌, ◌<◌, false, length};
-ghost use Rattle.nt_devices.specs.Device.{Hands, Writes};
+ghost use Rattle.nt_devices.specs.Device.{Hands, WritesBytes};
 
 use crate::sink::Sink;
 
@@ -11,7 +11,7 @@ pub struct WriteFailed;
 
 /// Writes all of the bytes, in as many writes as it takes. A failure is not tried again, and nothing is flushed.
 pub fn write_whole<W: Sink>(writer: &mut W, bytes: &[u8]) -> Result<(), WriteFailed>
-    ensures bytes { Writes (W.seen writer.old) (W.seen writer.new) bytes.now result }
+    ensures bytes { WritesBytes (W.seen writer.old) (W.seen writer.new) bytes.now result }
     ensures unflushed { (W.seen writer.new).flushes ≡ (W.seen writer.old).flushes }
     ensures held { 0 < length bytes.now → (W.seen writer.new).handed_on ≡ false }
 {

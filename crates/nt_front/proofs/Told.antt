@@ -16,8 +16,8 @@ use Rattle.nt_core.specs.Dispatcher.{state}
 use Rattle.nt_core.specs.Lawful.{IsLawful}
 use Rattle.nt_core.proofs.Accepting.{free_caller}
 use Rattle.nt_core.proofs.Judging.{undenied}
-use Rattle.nt_answers.specs.Answers.{is_handle, handle_reply as reply_of}
-use Rattle.nt_answers.specs.Kinds.{Kind, act_kind, kind_of, tells, is_answer}
+use Rattle.nt_answers.specs.Answers.{is_handle, created_reply as reply_of}
+use Rattle.nt_answers.specs.Kinds.{Kind, act_kind, kind_of, tells_kind, is_answer}
 use Rattle.nt_answers.proofs.Telling.{call_told}
 use Rattle.nt_life.specs.Lasting.{Spares, WithSpare, IsUnchanged, KeepsPace, MakesCall, MayBeginThis, MayPop, MayStack, gives}
 use Rattle.nt_life.specs.Renewals.{Tells, Renewed as IsRenewed}
@@ -25,12 +25,12 @@ use Rattle.nt_life.specs.declared.renewal.Renewal.{Renewal}
 use Rattle.nt_life.specs.declared.renewal.Renewal.TheVariants.{Create, CreateAdded, Unadded, Duplicate, Begin}
 use Rattle.nt_mail.specs.declared.entry.Entry.{Entry}
 use Rattle.nt_mail.specs.declared.entry.Entry.TheVariants.{Called, Renewed}
-use Rattle.nt_mail.specs.Entries.{handle_reply}
+use Rattle.nt_mail.specs.Entries.{created_reply}
 use Rattle.nt_mail.specs.Journals.{IsDeed, is_renewal}
 use Rattle.nt_front.specs.Books.{IsOfCall, IsCarriedOut}
 
 -- the words of both crates for a handle's reply are the same
-pub same_reply : (told : Result ℕ Refusal) → handle_reply told ≡ reply_of told
+pub same_reply : (told : Result ℕ Refusal) → created_reply told ≡ reply_of told
 same_reply (Ok handle) = refl
 same_reply (Err cause) = refl
 
@@ -57,12 +57,12 @@ creation_kind s who (Act.CreateMutex flags) o h none = refl
 creation_kind s who (Act.CreateTimer flags) o h none = refl
 creation_kind s who act o h none = absurd (refused_some (refusal s who false Call.Exit) _ none)
 
-refused_answer : (kind : Kind) (cause : Refusal) → IsTrue (tells kind (Err cause))
+refused_answer : (kind : Kind) (cause : Refusal) → IsTrue (tells_kind kind (Err cause))
 refused_answer Kind.Began cause = refl
 refused_answer _ cause = refl
 
 handle_answer : (call : Call) (reply : Reply) (h : ℕ) → kind_of call ≡ Kind.Handle → reply ≡ Reply.Handle h → IsTrue (is_answer call (Ok reply))
-handle_answer call reply h kind is = subst (λ (x : Kind × Reply). IsTrue (tells x.0 (Ok x.1))) {x = (Kind.Handle, Reply.Handle h)} {y = (kind_of call, reply)} (λ i. (sym kind i, sym is i)) refl
+handle_answer call reply h kind is = subst (λ (x : Kind × Reply). IsTrue (tells_kind x.0 (Ok x.1))) {x = (Kind.Handle, Reply.Handle h)} {y = (kind_of call, reply)} (λ i. (sym kind i, sym is i)) refl
 
 created_answer : (old : State) (who : ℕ) (call : Call) (act : Act) (o h : ℕ) (reply : Reply) (grants : List Grant) (new : State) → call ≡ Call.Act act → CreatesAgain old who act o h (Ok reply) grants new → IsTrue (is_answer call (Ok reply))
 created_answer old who call act o h reply grants new made_for is = handle_answer call reply h (ap kind_of made_for ∙ creation_kind old who act o h is.0) is.1
@@ -107,7 +107,7 @@ waits_before old who call told (Err cause) grants new is same = ap (λ (s : Stat
 pub own_deed : (old : State) (who : ℕ) (call : Call) (result : Result Reply Refusal) (grants : List Grant) (new : State) → Tells old who call None result grants new → IsDeed old (record { entry = Called who call result; grants = grants }) new
 own_deed old who call result grants new is = (refl, (new, is, refl))
 
-pub renewal_deed : (old : State) (who : ℕ) (call : Call) (renewal : Renewal) (told : Result ℕ Refusal) (result : Result Reply Refusal) (grants : List Grant) (new : State) → Tells old who call (Some renewal) result grants new → handle_reply told ≡ result
+pub renewal_deed : (old : State) (who : ℕ) (call : Call) (renewal : Renewal) (told : Result ℕ Refusal) (result : Result Reply Refusal) (grants : List Grant) (new : State) → Tells old who call (Some renewal) result grants new → created_reply told ≡ result
     → IsDeed old (record { entry = Renewed who renewal told; grants = grants }) new
 renewal_deed old who call renewal told result grants new is same =
     subst (λ (r : Result Reply Refusal). IsRenewed old who renewal r grants new) (sym same) is.1
@@ -170,7 +170,7 @@ pub carried_own : (old new : WithSpare) (who : ℕ) (call : Call) (result : Resu
 carried_own old new who call result told_is makes stacked pace unchanged lawful =
     carried old new who call None result (Called who call result) (refl, refl, refl) (own_deed (state old.core) who call result new.core.grants (state new.core) told_is) (λ once. refl) told_is makes stacked pace unchanged lawful
 
-pub carried_renewal : (old new : WithSpare) (who : ℕ) (call : Call) (renewal : Renewal) (told : Result ℕ Refusal) (result : Result Reply Refusal) → handle_reply told ≡ result → (gives old.spare call ≡ false → Some renewal ≡ None) → Tells (state old.core) who call (Some renewal) result new.core.grants (state new.core)
+pub carried_renewal : (old new : WithSpare) (who : ℕ) (call : Call) (renewal : Renewal) (told : Result ℕ Refusal) (result : Result Reply Refusal) → created_reply told ≡ result → (gives old.spare call ≡ false → Some renewal ≡ None) → Tells (state old.core) who call (Some renewal) result new.core.grants (state new.core)
     → MakesCall (state old.core) old.spare who call result new.core.grants (state new.core) → MayStack call result old.spare new.spare → KeepsPace (state old.core) who call result new.core.grants (state new.core) → IsUnchanged (state old.core) result new.core.grants (state new.core) → IsLawful new.core
     → IsCarriedOut old who call result (Renewed who renewal told) new
 carried_renewal old new who call renewal told result same own told_is makes stacked pace unchanged lawful =

@@ -33,20 +33,20 @@ IsRefused front old call Refused.JournalFull new = (new ≡ old) × WasFull fron
 IsRefused front old call Refused.NoMemory new = (new ≡ old) × TakesMemory call
 
 -- the call was made and written, with the reply for which the answer stands; or it was refused
-abbrev pub IsTold : {A : Type 0} → (A → Reply) → Prepared → Knowledge → Call → Result (Told A) Refused → Knowledge → Type 0
-IsTold stands_for front old call (Ok told) new = IsMade old call told.entry (Ok (stands_for told.answer)) new
-IsTold stands_for front old call (Err refused) new = IsRefused front old call refused new
+abbrev pub CallIsTold : {A : Type 0} → (A → Reply) → Prepared → Knowledge → Call → Result (Told A) Refused → Knowledge → Type 0
+CallIsTold stands_for front old call (Ok told) new = IsMade old call told.entry (Ok (stands_for told.answer)) new
+CallIsTold stands_for front old call (Err refused) new = IsRefused front old call refused new
 
-abbrev pub IsDone : Prepared → Knowledge → Call → Result (Told ⊤) Refused → Knowledge → Type 0
-IsDone front old call result new = IsTold (λ _. Reply.Done) front old call result new
+abbrev pub CallIsDone : Prepared → Knowledge → Call → Result (Told ⊤) Refused → Knowledge → Type 0
+CallIsDone front old call result new = CallIsTold (λ _. Reply.Done) front old call result new
 
 -- ---- a wait
 
 -- the wait ended at once with this status, pends, or was refused
-abbrev pub HasBegun : {X : Type 0} → Prepared → Knowledge → WaitCall → Began X → Type 0
-HasBegun front old wait (Began.Ended new told) = IsMade old (Call.Wait wait) told.entry (Ok (Reply.Status told.answer)) new
-HasBegun front old wait (Began.Pended new entry) = IsMade old (Call.Wait wait) entry (Ok Reply.Pended) new
-HasBegun front old wait (Began.Refused new refused) = IsRefused front old (Call.Wait wait) refused new
+abbrev pub WaitHasBegun : {X : Type 0} → Prepared → Knowledge → WaitCall → Began X → Type 0
+WaitHasBegun front old wait (Began.Ended new told) = IsMade old (Call.Wait wait) told.entry (Ok (Reply.Status told.answer)) new
+WaitHasBegun front old wait (Began.Pended new entry) = IsMade old (Call.Wait wait) entry (Ok Reply.Pended) new
+WaitHasBegun front old wait (Began.Refused new refused) = IsRefused front old (Call.Wait wait) refused new
 
 -- not for want of memory
 abbrev pub FindsMemory : {X : Type 0} → Began X → Type 0
@@ -92,12 +92,12 @@ LeavesHold (Err (Refused.Call entry refusal)) held = is_ended held ≡ true
 LeavesHold (Err other) held = is_pass held ≡ true
 
 -- the thread's end was made, or refused
-abbrev pub IsEnded : {X : Type 0} → Prepared → Knowledge → Held X → Result (Told ⊤) Refused → Type 0
-IsEnded front old held result = IsDone front old Call.Exit result (knowledge_of held) × LeavesHold result held
+abbrev pub ThreadIsEnded : {X : Type 0} → Prepared → Knowledge → Held X → Result (Told ⊤) Refused → Type 0
+ThreadIsEnded front old held result = CallIsDone front old Call.Exit result (knowledge_of held) × LeavesHold result held
 
 -- the tick was made and written, or refused so
-abbrev pub IsTicked : Prepared → Knowledge → ℕ → Result (Told ⊤) Refused → Knowledge → Type 0
-IsTicked front old moment (Ok told) new = (new ≡ with_tick old told.entry moment (Ok Reply.Done)) × IsEarlier told.entry old
-IsTicked front old moment (Err (Refused.Call entry refusal)) new = (new ≡ with_tick old entry moment (Err refusal)) × IsEarlier entry old
-IsTicked front old moment (Err Refused.JournalFull) new = (new ≡ old) × WasFull front old
-IsTicked front old moment (Err Refused.NoMemory) new = ⊥
+abbrev pub FrontIsTicked : Prepared → Knowledge → ℕ → Result (Told ⊤) Refused → Knowledge → Type 0
+FrontIsTicked front old moment (Ok told) new = (new ≡ with_tick old told.entry moment (Ok Reply.Done)) × IsEarlier told.entry old
+FrontIsTicked front old moment (Err (Refused.Call entry refusal)) new = (new ≡ with_tick old entry moment (Err refusal)) × IsEarlier entry old
+FrontIsTicked front old moment (Err Refused.JournalFull) new = (new ≡ old) × WasFull front old
+FrontIsTicked front old moment (Err Refused.NoMemory) new = ⊥

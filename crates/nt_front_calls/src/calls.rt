@@ -3,7 +3,7 @@ ghost use Rattle.std.specs.Prelude.{◌≡◌};
 ghost use Rattle.nt_calls.specs.declared.call.Act.{Act};
 ghost use Rattle.nt_calls.specs.declared.call.Call.{Call};
 ghost use Rattle.nt_calls.specs.declared.call.Reply.{Reply};
-ghost use Rattle.nt_front_calls.specs.Answers.{IsTold, IsDone, IsTicked};
+ghost use Rattle.nt_front_calls.specs.Answers.{CallIsTold, CallIsDone, FrontIsTicked};
 
 use crate::told::{Refused, Told};
 use nt_answers::Apc;
@@ -33,7 +33,7 @@ impl<'f, 'r, N: Named, R: Wait> Calls<'f, 'r, N, R> {
         pass: &mut Pass<N>,
         flags: EventFlags,
     ) -> Result<Told<Handle>, Refused>
-        ensures { IsTold Reply.Handle N.front pass.old (Call.Act (Act.CreateEvent flags)) result pass.new }
+        ensures { CallIsTold Reply.Handle N.front pass.old (Call.Act (Act.CreateEvent flags)) result pass.new }
     {
         self.make_handle(pass, Act::create_event(flags))
     }
@@ -45,7 +45,7 @@ impl<'f, 'r, N: Named, R: Wait> Calls<'f, 'r, N, R> {
         initial: i32,
         maximum: i32,
     ) -> Result<Told<Handle>, Refused>
-        ensures { IsTold Reply.Handle N.front pass.old (Call.Act (Act.CreateSemaphore initial maximum)) result pass.new }
+        ensures { CallIsTold Reply.Handle N.front pass.old (Call.Act (Act.CreateSemaphore initial maximum)) result pass.new }
     {
         self.make_handle(pass, Act::CreateSemaphore { initial, maximum })
     }
@@ -56,7 +56,7 @@ impl<'f, 'r, N: Named, R: Wait> Calls<'f, 'r, N, R> {
         pass: &mut Pass<N>,
         flags: MutexFlags,
     ) -> Result<Told<Handle>, Refused>
-        ensures { IsTold Reply.Handle N.front pass.old (Call.Act (Act.CreateMutex flags)) result pass.new }
+        ensures { CallIsTold Reply.Handle N.front pass.old (Call.Act (Act.CreateMutex flags)) result pass.new }
     {
         self.make_handle(pass, Act::create_mutex(flags))
     }
@@ -67,28 +67,28 @@ impl<'f, 'r, N: Named, R: Wait> Calls<'f, 'r, N, R> {
         pass: &mut Pass<N>,
         flags: TimerFlags,
     ) -> Result<Told<Handle>, Refused>
-        ensures { IsTold Reply.Handle N.front pass.old (Call.Act (Act.CreateTimer flags)) result pass.new }
+        ensures { CallIsTold Reply.Handle N.front pass.old (Call.Act (Act.CreateTimer flags)) result pass.new }
     {
         self.make_handle(pass, Act::create_timer(flags))
     }
 
     /// SetEvent.
     pub fn set_event(&self, pass: &mut Pass<N>, event: Handle) -> Result<Told<()>, Refused>
-        ensures { IsDone N.front pass.old (Call.Act (Act.SetEvent event)) result pass.new }
+        ensures { CallIsDone N.front pass.old (Call.Act (Act.SetEvent event)) result pass.new }
     {
         self.make_done(pass, Act::SetEvent(event))
     }
 
     /// ResetEvent.
     pub fn reset_event(&self, pass: &mut Pass<N>, event: Handle) -> Result<Told<()>, Refused>
-        ensures { IsDone N.front pass.old (Call.Act (Act.ResetEvent event)) result pass.new }
+        ensures { CallIsDone N.front pass.old (Call.Act (Act.ResetEvent event)) result pass.new }
     {
         self.make_done(pass, Act::ResetEvent(event))
     }
 
     /// PulseEvent.
     pub fn pulse_event(&self, pass: &mut Pass<N>, event: Handle) -> Result<Told<()>, Refused>
-        ensures { IsDone N.front pass.old (Call.Act (Act.PulseEvent event)) result pass.new }
+        ensures { CallIsDone N.front pass.old (Call.Act (Act.PulseEvent event)) result pass.new }
     {
         self.make_done(pass, Act::PulseEvent(event))
     }
@@ -100,14 +100,14 @@ impl<'f, 'r, N: Named, R: Wait> Calls<'f, 'r, N, R> {
         semaphore: Handle,
         count: i32,
     ) -> Result<Told<i32>, Refused>
-        ensures { IsTold Reply.Previous N.front pass.old (Call.Act (Act.ReleaseSemaphore semaphore count)) result pass.new }
+        ensures { CallIsTold Reply.Previous N.front pass.old (Call.Act (Act.ReleaseSemaphore semaphore count)) result pass.new }
     {
         self.make_previous(pass, semaphore, count)
     }
 
     /// ReleaseMutex.
     pub fn release_mutex(&self, pass: &mut Pass<N>, mutex: Handle) -> Result<Told<()>, Refused>
-        ensures { IsDone N.front pass.old (Call.Act (Act.ReleaseMutex mutex)) result pass.new }
+        ensures { CallIsDone N.front pass.old (Call.Act (Act.ReleaseMutex mutex)) result pass.new }
     {
         self.make_done(pass, Act::ReleaseMutex(mutex))
     }
@@ -122,7 +122,7 @@ impl<'f, 'r, N: Named, R: Wait> Calls<'f, 'r, N, R> {
         period: i32,
         routine: Option<(u64, u64)>,
     ) -> Result<Told<()>, Refused>
-        ensures { IsDone N.front pass.old (Call.Act (Act.SetTimer timer due period routine)) result pass.new }
+        ensures { CallIsDone N.front pass.old (Call.Act (Act.SetTimer timer due period routine)) result pass.new }
     {
         let act = Act::SetTimer {
             timer,
@@ -135,7 +135,7 @@ impl<'f, 'r, N: Named, R: Wait> Calls<'f, 'r, N, R> {
 
     /// CancelWaitableTimer.
     pub fn cancel_timer(&self, pass: &mut Pass<N>, timer: Handle) -> Result<Told<()>, Refused>
-        ensures { IsDone N.front pass.old (Call.Act (Act.CancelTimer timer)) result pass.new }
+        ensures { CallIsDone N.front pass.old (Call.Act (Act.CancelTimer timer)) result pass.new }
     {
         self.make_done(pass, Act::CancelTimer(timer))
     }
@@ -148,7 +148,7 @@ impl<'f, 'r, N: Named, R: Wait> Calls<'f, 'r, N, R> {
         routine: u64,
         arg: u64,
     ) -> Result<Told<()>, Refused>
-        ensures { IsDone N.front pass.old (Call.Act (Act.QueueApc thread routine arg)) result pass.new }
+        ensures { CallIsDone N.front pass.old (Call.Act (Act.QueueApc thread routine arg)) result pass.new }
     {
         let act = Act::QueueApc {
             thread,
@@ -161,7 +161,7 @@ impl<'f, 'r, N: Named, R: Wait> Calls<'f, 'r, N, R> {
     /// Takes the thread's oldest APC, if its last ended wait ended for its APCs and it has not found none since. Answers none if there is
     /// none to take.
     pub fn next_apc(&self, pass: &mut Pass<N>) -> Result<Told<Option<Apc>>, Refused>
-        ensures { IsTold Reply.Apc N.front pass.old (Call.Act Act.NextApc) result pass.new }
+        ensures { CallIsTold Reply.Apc N.front pass.old (Call.Act Act.NextApc) result pass.new }
     {
         self.make_apc(pass)
     }
@@ -173,14 +173,14 @@ impl<'f, 'r, N: Named, R: Wait> Calls<'f, 'r, N, R> {
         handle: Handle,
         access: Access,
     ) -> Result<Told<Handle>, Refused>
-        ensures { IsTold Reply.Handle N.front pass.old (Call.Act (Act.Duplicate handle access)) result pass.new }
+        ensures { CallIsTold Reply.Handle N.front pass.old (Call.Act (Act.Duplicate handle access)) result pass.new }
     {
         self.make_handle(pass, Act::duplicate(handle, access))
     }
 
     /// CloseHandle: the handle names nothing any more, and no other gets its number unless the front lasts.
     pub fn close(&self, pass: &mut Pass<N>, handle: Handle) -> Result<Told<()>, Refused>
-        ensures { IsDone N.front pass.old (Call.Act (Act.Close handle)) result pass.new }
+        ensures { CallIsDone N.front pass.old (Call.Act (Act.Close handle)) result pass.new }
     {
         self.make_done(pass, Act::Close(handle))
     }
@@ -188,7 +188,7 @@ impl<'f, 'r, N: Named, R: Wait> Calls<'f, 'r, N, R> {
     /// Lets all moments up to this one pass, as `Core::tick` does. The dispatcher refuses it with `MomentBack` if it is before the present
     /// moment.
     pub fn tick_to(&self, pass: &mut Pass<N>, moment: Moment) -> Result<Told<()>, Refused>
-        ensures { IsTicked N.front pass.old moment result pass.new }
+        ensures { FrontIsTicked N.front pass.old moment result pass.new }
     {
         self.make_tick(pass, moment)
     }

@@ -4,7 +4,7 @@ ghost use Rattle.nt_calls.specs.declared.call.Act.{Act};
 ghost use Rattle.nt_calls.specs.declared.call.Call.{Call};
 ghost use Rattle.nt_calls.specs.declared.call.Reply.{Reply};
 ghost use Rattle.nt_answers.specs.Kinds.{Kind, act_kind};
-ghost use Rattle.nt_front_calls.specs.Answers.{IsTold, IsDone, IsEnded, IsTicked};
+ghost use Rattle.nt_front_calls.specs.Answers.{CallIsTold, CallIsDone, ThreadIsEnded, FrontIsTicked};
 
 use crate::calls::Calls;
 use crate::told::{Refused, Told, told_at};
@@ -18,7 +18,7 @@ impl<'f, 'r, N: Named, R: Wait> Calls<'f, 'r, N, R> {
     /// Makes a call that has nothing to tell.
     pub(crate) fn make_done(&self, pass: &mut Pass<N>, act: Act) -> Result<Told<()>, Refused>
         requires { act_kind act ≡ Kind.Done }
-        ensures { IsDone N.front pass.old (Call.Act act) result pass.new }
+        ensures { CallIsDone N.front pass.old (Call.Act act) result pass.new }
     {
         match self.front.call(self.rt, pass, act) {
             Ok(receipt) => told_at(receipt.entry, done_told(receipt.result)),
@@ -29,7 +29,7 @@ impl<'f, 'r, N: Named, R: Wait> Calls<'f, 'r, N, R> {
     /// Makes a call that answers a handle.
     pub(crate) fn make_handle(&self, pass: &mut Pass<N>, act: Act) -> Result<Told<Handle>, Refused>
         requires { act_kind act ≡ Kind.Handle }
-        ensures { IsTold Reply.Handle N.front pass.old (Call.Act act) result pass.new }
+        ensures { CallIsTold Reply.Handle N.front pass.old (Call.Act act) result pass.new }
     {
         match self.front.call(self.rt, pass, act) {
             Ok(receipt) => told_at(receipt.entry, handle_told(receipt.result)),
@@ -44,7 +44,7 @@ impl<'f, 'r, N: Named, R: Wait> Calls<'f, 'r, N, R> {
         semaphore: Handle,
         count: i32,
     ) -> Result<Told<i32>, Refused>
-        ensures { IsTold Reply.Previous N.front pass.old (Call.Act (Act.ReleaseSemaphore semaphore count)) result pass.new }
+        ensures { CallIsTold Reply.Previous N.front pass.old (Call.Act (Act.ReleaseSemaphore semaphore count)) result pass.new }
     {
         match self
             .front
@@ -57,7 +57,7 @@ impl<'f, 'r, N: Named, R: Wait> Calls<'f, 'r, N, R> {
 
     /// Takes the thread's next APC.
     pub(crate) fn make_apc(&self, pass: &mut Pass<N>) -> Result<Told<Option<Apc>>, Refused>
-        ensures { IsTold Reply.Apc N.front pass.old (Call.Act Act.NextApc) result pass.new }
+        ensures { CallIsTold Reply.Apc N.front pass.old (Call.Act Act.NextApc) result pass.new }
     {
         match self.front.call(self.rt, pass, Act::NextApc) {
             Ok(receipt) => told_at(receipt.entry, apc_told(receipt.result)),
@@ -67,7 +67,7 @@ impl<'f, 'r, N: Named, R: Wait> Calls<'f, 'r, N, R> {
 
     /// Ends the thread.
     pub(crate) fn make_exit(&self, pass: Pass<N>) -> (Held<N>, Result<Told<()>, Refused>)
-        ensures { IsEnded N.front pass result.0 result.1 }
+        ensures { ThreadIsEnded N.front pass result.0 result.1 }
     {
         match self.front.exit(self.rt, pass) {
             Exited::Ended(ended, receipt) => {
@@ -80,7 +80,7 @@ impl<'f, 'r, N: Named, R: Wait> Calls<'f, 'r, N, R> {
 
     /// Makes a tick.
     pub(crate) fn make_tick(&self, pass: &mut Pass<N>, moment: Moment) -> Result<Told<()>, Refused>
-        ensures { IsTicked N.front pass.old moment result pass.new }
+        ensures { FrontIsTicked N.front pass.old moment result pass.new }
     {
         match self.front.tick(self.rt, pass, moment) {
             Ok(receipt) => told_at(receipt.entry, done_told(receipt.result)),

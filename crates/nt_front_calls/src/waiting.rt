@@ -6,7 +6,7 @@ ghost use Rattle.nt_calls.specs.Moves.{pended};
 ghost use Rattle.nt_answers.specs.Answers.{as_reply, is_began};
 ghost use Rattle.nt_front_calls.specs.declared.told.Refused.{Refused};
 ghost use Rattle.nt_front_calls.specs.Told.{TellsEnd};
-ghost use Rattle.nt_front_calls.specs.Answers.{FindsMemory, HasBegun, IsWoken, IsWaitedFor, IsLookedFor};
+ghost use Rattle.nt_front_calls.specs.Answers.{FindsMemory, WaitHasBegun, IsWoken, IsWaitedFor, IsLookedFor};
 
 use crate::calls::Calls;
 use crate::told::{Began, Polled, Refused, Told, WaitEnd, told_at};
@@ -20,7 +20,7 @@ use std::sync::Wait;
 impl<'f, 'r, N: Named, R: Wait> Calls<'f, 'r, N, R> {
     /// Begins a wait.
     pub(crate) fn begin(&self, pass: Pass<N>, wait: WaitCall) -> Began<N>
-        ensures begun { HasBegun N.front pass wait result }
+        ensures begun { WaitHasBegun N.front pass wait result }
         ensures memory { FindsMemory result }
     {
         match self.front.begin(self.rt, pass, wait) {
@@ -92,7 +92,7 @@ impl<'f, 'r, N: Named, R: Wait + Alloc<A = Global>> Calls<'f, 'r, N, R> {
         timeout: Timeout,
         alertable: bool,
     ) -> Began<N>
-        ensures { HasBegun N.front pass (WaitCall.Objects all alertable timeout handles.now) result }
+        ensures { WaitHasBegun N.front pass (WaitCall.Objects all alertable timeout handles.now) result }
     {
         let handles = match Handles::from_slice(self.rt.alloc(), handles) {
             Ok(handles) => handles,

@@ -1,7 +1,7 @@
 //! The calls that may pend, and the end of a thread.
 ghost use Rattle.std.specs.Prelude.{◌≡◌, false, true, [], ◌∷◌};
 ghost use Rattle.nt_calls.specs.declared.call.WaitCall.{WaitCall};
-ghost use Rattle.nt_front_calls.specs.Answers.{HasBegun, IsWoken, IsWaitedFor, IsLookedFor, IsEnded};
+ghost use Rattle.nt_front_calls.specs.Answers.{WaitHasBegun, IsWoken, IsWaitedFor, IsLookedFor, ThreadIsEnded};
 
 use crate::calls::Calls;
 use crate::told::{Began, Polled, Refused, Told, WaitEnd};
@@ -60,7 +60,7 @@ impl<'f, 'r, N: Named, R: Wait + Alloc<A = Global>> Calls<'f, 'r, N, R> {
         timeout: Timeout,
         alertable: bool,
     ) -> Began<N>
-        ensures { HasBegun N.front pass (WaitCall.Objects false alertable timeout (handle ∷ [])) result }
+        ensures { WaitHasBegun N.front pass (WaitCall.Objects false alertable timeout (handle ∷ [])) result }
     {
         self.begin_for(pass, &[handle], false, timeout, alertable)
     }
@@ -73,7 +73,7 @@ impl<'f, 'r, N: Named, R: Wait + Alloc<A = Global>> Calls<'f, 'r, N, R> {
         timeout: Timeout,
         alertable: bool,
     ) -> Began<N>
-        ensures { HasBegun N.front pass (WaitCall.Objects false alertable timeout handles.now) result }
+        ensures { WaitHasBegun N.front pass (WaitCall.Objects false alertable timeout handles.now) result }
     {
         self.begin_for(pass, handles, false, timeout, alertable)
     }
@@ -86,7 +86,7 @@ impl<'f, 'r, N: Named, R: Wait + Alloc<A = Global>> Calls<'f, 'r, N, R> {
         timeout: Timeout,
         alertable: bool,
     ) -> Began<N>
-        ensures { HasBegun N.front pass (WaitCall.Objects true alertable timeout handles.now) result }
+        ensures { WaitHasBegun N.front pass (WaitCall.Objects true alertable timeout handles.now) result }
     {
         self.begin_for(pass, handles, true, timeout, alertable)
     }
@@ -129,7 +129,7 @@ impl<'f, 'r, N: Named, R: Wait> Calls<'f, 'r, N, R> {
 
     /// SleepEx: begins the wait.
     pub fn begin_sleep(&self, pass: Pass<N>, timeout: Timeout, alertable: bool) -> Began<N>
-        ensures { HasBegun N.front pass (WaitCall.Sleep timeout alertable) result }
+        ensures { WaitHasBegun N.front pass (WaitCall.Sleep timeout alertable) result }
     {
         let ms = timeout.ms();
         self.begin(pass, WaitCall::Sleep { ms, alertable })
@@ -144,7 +144,7 @@ impl<'f, 'r, N: Named, R: Wait> Calls<'f, 'r, N, R> {
         timeout: Timeout,
         alertable: bool,
     ) -> Began<N>
-        ensures { HasBegun N.front pass (WaitCall.Swap signal object timeout alertable) result }
+        ensures { WaitHasBegun N.front pass (WaitCall.Swap signal object timeout alertable) result }
     {
         let ms = timeout.ms();
         let swap = WaitCall::Swap {
@@ -172,7 +172,7 @@ impl<'f, 'r, N: Named, R: Wait> Calls<'f, 'r, N, R> {
 
     /// The thread ends. It holds an ended mark then, which `finish` takes; and its pass as before if nothing was written.
     pub fn exit(&self, pass: Pass<N>) -> (Held<N>, Result<Told<()>, Refused>)
-        ensures { IsEnded N.front pass result.0 result.1 }
+        ensures { ThreadIsEnded N.front pass result.0 result.1 }
     {
         self.make_exit(pass)
     }

@@ -7,7 +7,7 @@ use Rattle.std.proofs.lemmas.Fmt.{decimal_by_steps, decimal_step, decimal_digit,
 use Rattle.std.proofs.lemmas.Slice.Eq.{bytes_eq-Decides}
 use Rattle.std.proofs.lemmas.Bool.{lt-ltb, le-leb, ltb-true, leb-true}
 use Rattle.std.proofs.Math.Dec.{eqb-suc-zero}
-use Rattle.nt_lines.specs.Words.{is_digit, are_digits, value_after, fitting, number_of, up_to, caller_of, is_name, is_identifier, is_name_byte}
+use Rattle.nt_lines.specs.Words.{is_digit, are_digits, value_after, fitting, digits_number, up_to, caller_of, is_name, is_identifier, is_name_byte}
 use Rattle.nt_grammar.specs.Plain.{without_zeros, negative_word, plain_word}
 
 pub and_true : {a b : Bool} → (a && b) ≡ true → (a ≡ true) × (b ≡ true)
@@ -62,8 +62,8 @@ decimal_digits = decimal_by_steps Digits
 some_not_empty : (n : ℕ) → 0 < n → not (n == 0) ≡ true
 some_not_empty n lt = search (arith, lt)
 
-pub number_of-decimal : (most n : ℕ) → n < 2 ^ 64 → length (decimal n) ≤ most → number_of most (decimal n) ≡ Some n
-unfolding number_of
+pub number_of-decimal : (most n : ℕ) → n < 2 ^ 64 → length (decimal n) ≤ most → digits_number most (decimal n) ≡ Some n
+unfolding digits_number
 number_of-decimal most n lt len =
     let d = decimal_digits n lt in
     let some : not (length (decimal n) == 0) ≡ true = some_not_empty _ d.some in
@@ -91,8 +91,8 @@ fitting_is v n e = by (nat_lt v (2 ^ 64)) refl
         (same, omega (arith, lt, same))
     by false is = let none : None ≡ Some n = rw is at e in absurd (cc)
 
-pub numeral : (most n : ℕ) (word : List ℕ) → number_of most word ≡ Some n → Numeral n word
-unfolding number_of
+pub numeral : (most n : ℕ) (word : List ℕ) → digits_number most word ≡ Some n → Numeral n word
+unfolding digits_number
 numeral most n word e = by (are_digits word && not (length word == 0) && nat_le (length word) most) refl
   where
     by : (b : Bool) → (are_digits word && not (length word == 0) && nat_le (length word) most) ≡ b → Numeral n word
@@ -189,7 +189,7 @@ plain_caller who (first ∷ digits) e = by (first == 116) refl
     by : (b : Bool) → (first == 116) ≡ b → plain_word (first ∷ digits) ≡ codes "t" ++ decimal who
     by true is =
         let t : first ≡ 116 = search (arith, is) in
-        let read : up_to 999999999 (number_of 9 digits) ≡ Some who = rw is at e in
+        let read : up_to 999999999 (digits_number 9 digits) ≡ Some who = rw is at e in
         let h = numeral 9 who digits (up_to_is 999999999 who _ read).0 in
         subst (λ (b : ℕ). plain_word (b ∷ digits) ≡ codes "t" ++ decimal who) (sym t) (plain_after_t who digits h)
     by false is = let none : None ≡ Some who = rw is at e in absurd (cc)

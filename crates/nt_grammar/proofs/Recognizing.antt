@@ -1,7 +1,7 @@
 -- Words that are a statement are read as it, and as no other.
 use Rattle.std.proofs.Common.{◌≡◌, ℕ, Bool, true, false, List, [], ◌∷◌, ◌++◌, Some, None, Ok, refl, sym, ap, subst, ◌∙◌}
 use Rattle.std.proofs.lemmas.Slice.Eq.{bytes_eq-Decides}
-use Rattle.nt_lines.specs.Words.{text_of, words_of, caller_of, number_of}
+use Rattle.nt_lines.specs.Words.{text_of, words_of, caller_of, digits_number}
 use Rattle.nt_grammar.specs.Scope.{Scope}
 use Rattle.nt_grammar.specs.Keywords.{TickWord, keyword_of, keyword_text, other_text}
 use Rattle.nt_grammar.specs.Places.{is_word}
@@ -63,7 +63,7 @@ apart Keyword.Next = refl
 apart Keyword.Exit = refl
 
 tick_calls_nobody : (who : ℕ) → caller_of (other_text TickWord) ≡ Some who → ⊥
-unfolding caller_of number_of
+unfolding caller_of digits_number
 tick_calls_nobody who e = let none : None ≡ Some who = e in absurd (cc)
 
 caller_no_tick : (first : List ℕ) (who : ℕ) → caller_of first ≡ Some who → is_word first (other_text TickWord) ≡ false

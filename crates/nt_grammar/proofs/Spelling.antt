@@ -8,7 +8,7 @@ use Rattle.std.proofs.lemmas.Bool.{le-leb, leb-true, ltb-true}
 use Rattle.std.proofs.lemmas.Fmt.{length-decimal-le}
 use Rattle.std.proofs.lemmas.Slice.Eq.{bytes_eq-Decides}
 use Rattle.nt_status.specs.declared.limits.TheConstants.{INFINITE}
-use Rattle.nt_lines.specs.Words.{is_digit, are_digits, is_name, is_name_byte, number_of, up_to}
+use Rattle.nt_lines.specs.Words.{is_digit, are_digits, is_name, is_name_byte, digits_number, up_to}
 use Rattle.nt_grammar.specs.Plain.{plain_word}
 use Rattle.nt_grammar.specs.Scope.{Scope, bound_in}
 use Rattle.nt_grammar.specs.Keywords.{AlertableWord, EndlessWord, PlainWord, keyword_text, other_text}
@@ -66,7 +66,7 @@ at_least_is least n (Some m) e = by (nat_le least m) refl
     by false is = let none : None ≡ Some n = rw is at e in absurd (cc)
 
 in_numeral : (least most n : ℕ) (word : List ℕ) → number_in least most word ≡ Some n → Numeral n word
-in_numeral least most n word e = numeral 20 n word (up_to_is most n (number_of 20 word) (at_least_is least n (up_to most (number_of 20 word)) e)).0
+in_numeral least most n word e = numeral 20 n word (up_to_is most n (digits_number 20 word) (at_least_is least n (up_to most (digits_number 20 word)) e)).0
 
 plain_number : (least most n : ℕ) (word : List ℕ) → number_in least most word ≡ Some n → plain_word word ≡ decimal n
 plain_number least most n word e = plain_numeral n word (in_numeral least most n word e)

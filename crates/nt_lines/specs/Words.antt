@@ -60,8 +60,8 @@ abbrev pub fitting : ℕ → Option ℕ
 fitting n = if nat_lt n (2 ^ 64) then Some n else None
 
 -- one digit or more, and `most` of them at most
-unfoldable pub number_of : ℕ → List ℕ → Option ℕ
-number_of most word = if are_digits word && not (length word == 0) && nat_le (length word) most then fitting (value_after 0 word) else None
+unfoldable pub digits_number : ℕ → List ℕ → Option ℕ
+digits_number most word = if are_digits word && not (length word == 0) && nat_le (length word) most then fitting (value_after 0 word) else None
 
 abbrev pub up_to : ℕ → Option ℕ → Option ℕ
 up_to most None = None
@@ -72,7 +72,7 @@ up_to most (Some n) = if nat_le n most then Some n else None
 -- `t` and one to nine digits
 unfoldable pub caller_of : List ℕ → Option ℕ
 caller_of [] = None
-caller_of (first ∷ digits) = if first == 116 then up_to MAX_CALLER (number_of 9 digits) else None
+caller_of (first ∷ digits) = if first == 116 then up_to MAX_CALLER (digits_number 9 digits) else None
 
 abbrev pub is_letter : ℕ → Bool
 is_letter byte = (nat_le 65 byte && nat_le byte 90) || (nat_le 97 byte && nat_le byte 122) || (byte == 95)

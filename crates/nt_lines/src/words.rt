@@ -3,7 +3,7 @@
 ghost use Rattle.std.specs.Prelude.{◌≡◌, ◌<◌, ◌≤◌, length, take, position, IfSome, Some, None, option_map, if◌then◌else◌};
 ghost use Rattle.std.specs.List.{list_all, position_or_len};
 ghost use Rattle.std.specs.Str.Lines.{strip_carriage_return};
-ghost use Rattle.nt_lines.specs.Words.{is_gap, is_no_gap, are_digits, is_digit, number_of, value_after, fitting, caller_of, is_letter, is_name_byte, is_identifier, is_thread_like, is_name, is_plain, is_semicolon, comment_start, text_of, IsFirstWord};
+ghost use Rattle.nt_lines.specs.Words.{is_gap, is_no_gap, are_digits, is_digit, digits_number, value_after, fitting, caller_of, is_letter, is_name_byte, is_identifier, is_thread_like, is_name, is_plain, is_semicolon, comment_start, text_of, IsFirstWord};
 
 use memchr::memchr;
 
@@ -72,9 +72,9 @@ fn value_of(digits: &[u8]) -> Option<u64>
 }
 
 /// A number of at most `most` digits.
-#[tactic(auto, unfolding(crate::specs::Words::number_of))]
+#[tactic(auto, unfolding(crate::specs::Words::digits_number))]
 pub fn number_of(word: &[u8], most: usize) -> Option<u64>
-    ensures { result ≡ number_of most word.now }
+    ensures { result ≡ digits_number most word.now }
 {
     if are_digits(word) && !word.is_empty() && word.len() <= most {
         value_of(word)

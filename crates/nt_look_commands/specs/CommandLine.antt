@@ -2,32 +2,23 @@
 use Rattle.std.specs.Prelude.{ℕ, ◌==◌, ◌&&◌, ◌||◌, nat_le, nat_lt, Bool, true, not, List, [], ◌∷◌, length, Option, None, Some, option_map, option_and_then, is_some, take, drop, position, Result, Ok, Err, if◌then◌else◌, codes}
 use Rattle.std.specs.Str.{bytes_eq}
 use Rattle.std.specs.Option.{option_copied}
-use Rattle.nt_lines.specs.Words.{caller_of, number_of}
+use Rattle.nt_lines.specs.Options.{ends_options, is_operand}
+use Rattle.nt_lines.specs.Words.{caller_of, digits_number}
 use Rattle.nt_look_commands.specs.declared.command.Command.{Command}
 use Rattle.nt_look_commands.specs.declared.command.Command.TheVariants as command
 use Rattle.nt_look_commands.specs.declared.look.Look.{Look}
 use Rattle.nt_look_commands.specs.declared.look.Look.TheVariants as look
-use Rattle.nt_look_commands.specs.Commands.{command_of, knows}
+use Rattle.nt_look_commands.specs.Commands.{command_of, has_option}
 
 -- ---- the words after a command
 
--- a word that does not begin with `-`, or is `-` alone
-abbrev pub is_operand : List ℕ → Bool
-is_operand [] = true
-is_operand (first ∷ []) = true
-is_operand (first ∷ second ∷ others) = not (first == 45)
-
--- whether a word is `--`, after which nothing is an option
-abbrev pub ends_options : List ℕ → Bool
-ends_options word = bytes_eq word (codes "--")
-
 -- the value of an option is the word after it
-abbrev pub value_in : List ℕ → List (List ℕ) → Option (List ℕ)
-value_in option [] = None
-value_in option (word ∷ []) = None
-value_in option (word ∷ value ∷ others) =
-    if is_operand word then value_in option (value ∷ others)
-    else (if bytes_eq word option then Some value else value_in option others)
+abbrev pub option_value_in : List ℕ → List (List ℕ) → Option (List ℕ)
+option_value_in option [] = None
+option_value_in option (word ∷ []) = None
+option_value_in option (word ∷ value ∷ others) =
+    if is_operand word then option_value_in option (value ∷ others)
+    else (if bytes_eq word option then Some value else option_value_in option others)
 
 -- the file is an operand, or what follows `--` at the end
 abbrev pub file_in : List (List ℕ) → Option (List ℕ)
@@ -38,46 +29,46 @@ file_in (word ∷ value ∷ others) =
 
 -- an option of the command that the words after it do not tell again
 unfoldable pub is_told_once : Command → List ℕ → List (List ℕ) → Bool
-is_told_once command option others = knows command option && not (is_some (value_in option others))
+is_told_once command option others = has_option command option && not (is_some (option_value_in option others))
 
 -- options of the command with their values, none of them twice, and at most one file
-abbrev pub are_lawful : Command → List (List ℕ) → Bool
-are_lawful command [] = true
-are_lawful command (word ∷ []) = is_operand word
-are_lawful command (word ∷ value ∷ others) =
-    if is_operand word then not (is_some (file_in (value ∷ others))) && are_lawful command (value ∷ others)
-    else (ends_options word && (length others == 0)) || (is_told_once command word others && are_lawful command others)
+abbrev pub are_lawful_options : Command → List (List ℕ) → Bool
+are_lawful_options command [] = true
+are_lawful_options command (word ∷ []) = is_operand word
+are_lawful_options command (word ∷ value ∷ others) =
+    if is_operand word then not (is_some (file_in (value ∷ others))) && are_lawful_options command (value ∷ others)
+    else (ends_options word && (length others == 0)) || (is_told_once command word others && are_lawful_options command others)
 
 -- ---- what is asked for
 
 -- what a command is to do
-pub data Asked : Type 0 where
-  AskedWhy : (file : List ℕ) → (at : Option ℕ) → Asked
-  AskedTimeline : (file : List ℕ) → (lines : Option (ℕ × ℕ)) → (object : Option (List ℕ)) → (thread : Option ℕ) → (svg : Option (List ℕ)) → Asked
-  AskedExplore : (file : List ℕ) → (most : ℕ) → Asked
+pub data LookAsked : Type 0 where
+  AskedWhy : (file : List ℕ) → (at : Option ℕ) → LookAsked
+  AskedTimeline : (file : List ℕ) → (lines : Option (ℕ × ℕ)) → (object : Option (List ℕ)) → (thread : Option ℕ) → (svg : Option (List ℕ)) → LookAsked
+  AskedExplore : (file : List ℕ) → (most : ℕ) → LookAsked
 
-abbrev pub asked : Look → Asked
-asked (look.Why file at) = AskedWhy file.now at
-asked (look.Timeline file part svg) = AskedTimeline file.now part.lines (option_copied part.object) part.thread (option_copied svg)
-asked (look.Explore file most) = AskedExplore file.now most
+abbrev pub look_asked : Look → LookAsked
+look_asked (look.Why file at) = AskedWhy file.now at
+look_asked (look.Timeline file part svg) = AskedTimeline file.now part.lines (option_copied part.object) part.thread (option_copied svg)
+look_asked (look.Explore file most) = AskedExplore file.now most
 
 -- the number of a line, from 1 on
-unfoldable pub line_of : List ℕ → Option ℕ
-line_of word = option_and_then (λ n. if nat_lt 0 n then Some n else None) (number_of 20 word)
+unfoldable pub line_number_in : List ℕ → Option ℕ
+line_number_in word = option_and_then (λ n. if nat_lt 0 n then Some n else None) (digits_number 20 word)
 
 -- an option that is left out, or its value where that is lawful
 abbrev pub told : {X : Type 0} → (List ℕ → Option X) → Option (List ℕ) → Option (Option X)
 told reading None = Some None
 told reading (Some word) = option_map (λ x. Some x) (reading word)
 
-abbrev pub why_in : List ℕ → List (List ℕ) → Option Asked
-why_in file words = option_map (AskedWhy file) (told line_of (value_in (codes "--at") words))
+abbrev pub why_in : List ℕ → List (List ℕ) → Option LookAsked
+why_in file words = option_map (AskedWhy file) (told line_number_in (option_value_in (codes "--at") words))
 
 -- the number of a line after `..`
 unfoldable pub after_dots : List ℕ → Option ℕ
 after_dots [] = None
 after_dots (first ∷ []) = None
-after_dots (first ∷ second ∷ last) = if (first == 46) && (second == 46) then line_of last else None
+after_dots (first ∷ second ∷ last) = if (first == 46) && (second == 46) then line_number_in last else None
 
 abbrev pub both : {X Y : Type 0} → Option X → Option Y → Option (X × Y)
 both first second = option_and_then (λ x. option_map (λ y. (x, y)) second) first
@@ -86,17 +77,17 @@ abbrev pub is_dot : ℕ → Bool
 is_dot byte = byte == 46
 
 -- the lines of A..B
-abbrev pub lines_of : List ℕ → Option (ℕ × ℕ)
-lines_of word = option_and_then (λ place. both (line_of (take place word)) (after_dots (drop place word))) (position is_dot word)
+abbrev pub line_range_in : List ℕ → Option (ℕ × ℕ)
+line_range_in word = option_and_then (λ place. both (line_number_in (take place word)) (after_dots (drop place word))) (position is_dot word)
 
-abbrev pub timeline_in : List ℕ → List (List ℕ) → Option Asked
+abbrev pub timeline_in : List ℕ → List (List ℕ) → Option LookAsked
 timeline_in file words =
-    option_map (λ narrowed. AskedTimeline file narrowed.0 (value_in (codes "--object") words) narrowed.1 (value_in (codes "--svg") words))
-    (both (told lines_of (value_in (codes "--lines") words)) (told caller_of (value_in (codes "--thread") words)))
+    option_map (λ narrowed. AskedTimeline file narrowed.0 (option_value_in (codes "--object") words) narrowed.1 (option_value_in (codes "--svg") words))
+    (both (told line_range_in (option_value_in (codes "--lines") words)) (told caller_of (option_value_in (codes "--thread") words)))
 
 -- how many states may be met
 abbrev pub most_of : List ℕ → Option ℕ
-most_of word = option_and_then (λ n. if nat_lt 0 n && nat_le n 4000000000 then Some n else None) (number_of 20 word)
+most_of word = option_and_then (λ n. if nat_lt 0 n && nat_le n 4000000000 then Some n else None) (digits_number 20 word)
 
 -- a million where that is left out
 abbrev pub most_told : Option (List ℕ) → Option ℕ
@@ -104,32 +95,32 @@ most_told None = Some 1000000
 most_told (Some word) = most_of word
 
 abbrev pub most_in : List (List ℕ) → Option ℕ
-most_in words = most_told (value_in (codes "--most") words)
+most_in words = most_told (option_value_in (codes "--most") words)
 
-abbrev pub explore_in : List ℕ → List (List ℕ) → Option Asked
+abbrev pub explore_in : List ℕ → List (List ℕ) → Option LookAsked
 explore_in file words = option_map (AskedExplore file) (most_in words)
 
 -- what the command is to do with the file
-abbrev pub on_file : Command → List ℕ → List (List ℕ) → Option Asked
+abbrev pub on_file : Command → List ℕ → List (List ℕ) → Option LookAsked
 on_file command.Why file words = why_in file words
 on_file command.Timeline file words = timeline_in file words
 on_file command.Explore file words = explore_in file words
 
 -- what these words after the command ask for, if they are lawful
-abbrev pub after : Command → List (List ℕ) → Option Asked
-after command words = if are_lawful command words then option_and_then (λ file. on_file command file words) (file_in words) else None
+abbrev pub asked_after : Command → List (List ℕ) → Option LookAsked
+asked_after command words = if are_lawful_options command words then option_and_then (λ file. on_file command file words) (file_in words) else None
 
 -- the same, or the command whose usage is to be told
-abbrev pub or_usage : Command → Option Asked → Result Asked (Option Command)
+abbrev pub or_usage : Command → Option LookAsked → Result LookAsked (Option Command)
 or_usage command None = Err (Some command)
 or_usage command (Some asked) = Ok asked
 
-abbrev pub by_command : Option Command → List (List ℕ) → Result Asked (Option Command)
+abbrev pub by_command : Option Command → List (List ℕ) → Result LookAsked (Option Command)
 by_command None words = Err None
-by_command (Some command) words = or_usage command (after command words)
+by_command (Some command) words = or_usage command (asked_after command words)
 
 -- what a command line asks for, the program's own name first; or whose usage is to be told, that of all commands where none is named
-abbrev pub look_of : List (List ℕ) → Result Asked (Option Command)
+abbrev pub look_of : List (List ℕ) → Result LookAsked (Option Command)
 look_of [] = Err None
 look_of (own ∷ []) = Err None
 look_of (own ∷ name ∷ words) = by_command (command_of name) words

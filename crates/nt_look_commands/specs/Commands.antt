@@ -13,10 +13,10 @@ command_of word =
     else None
 
 -- whether the command has this option
-abbrev pub knows : Command → List ℕ → Bool
-knows Why option = bytes_eq option (codes "--at")
-knows Timeline option = bytes_eq option (codes "--lines") || bytes_eq option (codes "--object") || bytes_eq option (codes "--thread") || bytes_eq option (codes "--svg")
-knows Explore option = bytes_eq option (codes "--most")
+abbrev pub has_option : Command → List ℕ → Bool
+has_option Why option = bytes_eq option (codes "--at")
+has_option Timeline option = bytes_eq option (codes "--lines") || bytes_eq option (codes "--object") || bytes_eq option (codes "--thread") || bytes_eq option (codes "--svg")
+has_option Explore option = bytes_eq option (codes "--most")
 
 -- the line that tells how the command is called
 abbrev pub usage_of : Command → List ℕ
@@ -25,5 +25,5 @@ usage_of Timeline = codes "ntlook: usage: ntlook timeline FILE [--lines A..B] [-
 usage_of Explore = codes "ntlook: usage: ntlook explore FILE [--most STATES]   (1 to 4000000000; 1000000 if left out)\n"
 
 -- the same of all commands
-abbrev pub usage : List ℕ
-usage = usage_of Why ++ (usage_of Timeline ++ usage_of Explore)
+abbrev pub look_usage : List ℕ
+look_usage = usage_of Why ++ (usage_of Timeline ++ usage_of Explore)

@@ -5,8 +5,8 @@ use Rattle.nt_hangs.specs.Ending.{FileTold, SaysMemory}
 use Rattle.nt_timeline.specs.Ending.{PictureEnds, TimelineTold}
 use Rattle.nt_orders.specs.Ending.{OrdersTold}
 use Rattle.nt_look_commands.specs.declared.command.Command.{Command}
-use Rattle.nt_look_commands.specs.Commands.{usage, usage_of}
-use Rattle.nt_look_commands.specs.CommandLine.{Asked, AskedExplore, AskedTimeline, AskedWhy}
+use Rattle.nt_look_commands.specs.Commands.{look_usage, usage_of}
+use Rattle.nt_look_commands.specs.CommandLine.{LookAsked, AskedExplore, AskedTimeline, AskedWhy}
 
 -- It is said that memory ran out; or the file was told of, to some writer.
 abbrev pub PrintTold : List ℕ → Option ℕ → (errors errors' : Writing) → (status : ℕ) → Type 0
@@ -33,11 +33,11 @@ PrintOrders errors errors' status =
 
 -- the usage of this command, or of all
 abbrev pub usage_for : Option Command → List ℕ
-usage_for None = usage
+usage_for None = look_usage
 usage_for (Some command) = usage_of command
 
 -- What was asked for was done; or the usage was told.
-abbrev pub CommandEnds : Result Asked (Option Command) → (errors errors' : Writing) → (status : ℕ) → Type 0
+abbrev pub CommandEnds : Result LookAsked (Option Command) → (errors errors' : Writing) → (status : ℕ) → Type 0
 CommandEnds (Err command) errors errors' status = Says errors errors' (usage_for command) × (status ≡ 2)
 CommandEnds (Ok (AskedWhy file at)) errors errors' status = PrintTold file at errors errors' status
 CommandEnds (Ok (AskedTimeline file lines object thread svg)) errors errors' status = MakesTimeline svg errors errors' status

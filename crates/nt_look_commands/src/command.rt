@@ -1,6 +1,6 @@
 //! The commands, with the options and the usage line of each.
 ghost use Rattle.std.specs.Prelude.{◌≡◌};
-ghost use Rattle.nt_look_commands.specs.Commands.{command_of, knows, usage_of};
+ghost use Rattle.nt_look_commands.specs.Commands.{command_of, has_option, usage_of};
 ghost use Rattle.nt_look_commands.specs.declared.command.Command.TheVariants.{Timeline};
 
 /// A command of the program.
@@ -31,7 +31,7 @@ pub(crate) fn command_of(word: &str) -> Option<Command>
 
 /// Whether it is an option of `ntlook timeline`.
 fn is_of_timeline(option: &str) -> bool
-    ensures { result ≡ knows Timeline option.now }
+    ensures { result ≡ has_option Timeline option.now }
 {
     option == "--lines" || option == "--object" || option == "--thread" || option == "--svg"
 }
@@ -39,7 +39,7 @@ fn is_of_timeline(option: &str) -> bool
 impl Command {
     /// Whether the command has this option.
     pub(crate) fn knows(self, option: &str) -> bool
-        ensures { result ≡ knows self option.now }
+        ensures { result ≡ has_option self option.now }
     {
         match self {
             Command::Why => option == "--at",

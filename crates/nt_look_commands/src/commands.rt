@@ -1,6 +1,6 @@
 //! What is done with the words of a command line.
 ghost use Rattle.std.specs.Prelude.{◌≡◌, map, string_bytes};
-ghost use Rattle.nt_look_commands.specs.CommandLine.{asked, look_of};
+ghost use Rattle.nt_look_commands.specs.CommandLine.{look_asked, look_of};
 ghost use Rattle.nt_look_commands.specs.Ending.{CommandEnds, MakesTimeline, PrintOrders, PrintTimeline, PrintTold, usage_for};
 ghost use Rattle.std.specs.Option.{option_copied};
 
@@ -92,7 +92,7 @@ fn make_timeline<R: Files + AllocGlobal + Print, E: Sink>(
 
 /// Does what is asked for, and answers the exit status.
 fn take_look<R: Files + AllocGlobal + Print, E: Sink>(rt: &R, look: Look<'_>, errors: &mut E) -> u8
-    ensures { CommandEnds (Ok (asked look.entry)) (E.seen errors.old) (E.seen errors.new) result }
+    ensures { CommandEnds (Ok (look_asked look.entry)) (E.seen errors.old) (E.seen errors.new) result }
 {
     match look {
         Look::Why { file, at } => print_why(rt, file, at, errors),

@@ -1,8 +1,8 @@
 //! What a command line asks for.
 ghost use Rattle.std.specs.Prelude.{◌≡◌, ◌<◌, None, Some, IfSome, length, position, MatchOption, MatchResult, codes, map, string_bytes};
-ghost use Rattle.nt_look_commands.specs.CommandLine.{after, after_dots, asked, both, explore_in, is_dot, line_of, lines_of, look_of, most_in, most_of, timeline_in, told, value_in, why_in};
+ghost use Rattle.nt_look_commands.specs.CommandLine.{asked_after, after_dots, look_asked, both, explore_in, is_dot, line_number_in, line_range_in, look_of, most_in, most_of, timeline_in, told, option_value_in, why_in};
 ghost use Rattle.nt_lines.specs.Words.{caller_of};
-ghost use Rattle.nt_look_commands.specs.Looks.{Finds};
+ghost use Rattle.nt_look_commands.specs.Looks.{FindsLook};
 
 use crate::command::{Command, command_of};
 use crate::words::{are_lawful, file_in, value_in};
@@ -37,9 +37,9 @@ pub enum Look<'a> {
 }
 
 /// The number of a line, from 1 on.
-#[tactic(auto, unfolding(crate::specs::CommandLine::line_of))]
+#[tactic(auto, unfolding(crate::specs::CommandLine::line_number_in))]
 fn line_of(word: &[u8]) -> Option<u64>
-    ensures { result ≡ line_of word.now }
+    ensures { result ≡ line_number_in word.now }
 {
     match number_of(word, 20) {
         Some(line) if line > 0 => Some(line),
@@ -49,7 +49,7 @@ fn line_of(word: &[u8]) -> Option<u64>
 
 /// The line that an option tells; `Some(None)` where the option is left out.
 fn line_in(option: &str, words: &[String]) -> Option<Option<u64>>
-    ensures { result ≡ told line_of (value_in option.now (map string_bytes words.now)) }
+    ensures { result ≡ told line_number_in (option_value_in option.now (map string_bytes words.now)) }
 {
     match value_in(option, words) {
         Some(word) => match line_of(word.as_bytes()) {
@@ -62,7 +62,7 @@ fn line_in(option: &str, words: &[String]) -> Option<Option<u64>>
 
 /// `ntlook why`
 fn why_in<'a>(file: &'a str, words: &[String]) -> Option<Look<'a>>
-    ensures { Finds (why_in file.now (map string_bytes words.now)) result }
+    ensures { FindsLook (why_in file.now (map string_bytes words.now)) result }
 {
     match line_in("--at", words) {
         Some(at) => Some(Look::Why { file, at }),
@@ -101,7 +101,7 @@ fn first_dot(word: &[u8]) -> Option<usize>
 
 /// The lines of `A..B`.
 fn lines_of(word: &[u8]) -> Option<(u64, u64)>
-    ensures { result ≡ lines_of word.now }
+    ensures { result ≡ line_range_in word.now }
 {
     match first_dot(word) {
         Some(place) => both(line_of(&word[..place]), after_dots(&word[place..])),
@@ -111,7 +111,7 @@ fn lines_of(word: &[u8]) -> Option<(u64, u64)>
 
 /// The lines that `--lines` tells; `Some(None)` where it is left out.
 fn lines_in(words: &[String]) -> Option<Option<(u64, u64)>>
-    ensures { result ≡ told lines_of (value_in (codes "--lines") (map string_bytes words.now)) }
+    ensures { result ≡ told line_range_in (option_value_in (codes "--lines") (map string_bytes words.now)) }
 {
     match value_in("--lines", words) {
         Some(word) => match lines_of(word.as_bytes()) {
@@ -124,7 +124,7 @@ fn lines_in(words: &[String]) -> Option<Option<(u64, u64)>>
 
 /// The thread that `--thread` tells; `Some(None)` where it is left out.
 fn thread_in(words: &[String]) -> Option<Option<u32>>
-    ensures { result ≡ told caller_of (value_in (codes "--thread") (map string_bytes words.now)) }
+    ensures { result ≡ told caller_of (option_value_in (codes "--thread") (map string_bytes words.now)) }
 {
     match value_in("--thread", words) {
         Some(word) => match caller_of(word.as_bytes()) {
@@ -137,7 +137,7 @@ fn thread_in(words: &[String]) -> Option<Option<u32>>
 
 /// `ntlook timeline`
 fn timeline_in<'a>(file: &'a str, words: &'a [String]) -> Option<Look<'a>>
-    ensures { Finds (timeline_in file.now (map string_bytes words.now)) result }
+    ensures { FindsLook (timeline_in file.now (map string_bytes words.now)) result }
 {
     match (lines_in(words), thread_in(words)) {
         (Some(lines), Some(thread)) => {
@@ -176,7 +176,7 @@ fn most_in(words: &[String]) -> Option<u64>
 
 /// `ntlook explore`
 fn explore_in<'a>(file: &'a str, words: &[String]) -> Option<Look<'a>>
-    ensures { Finds (explore_in file.now (map string_bytes words.now)) result }
+    ensures { FindsLook (explore_in file.now (map string_bytes words.now)) result }
 {
     match most_in(words) {
         Some(most) => Some(Look::Explore { file, most }),
@@ -186,7 +186,7 @@ fn explore_in<'a>(file: &'a str, words: &[String]) -> Option<Look<'a>>
 
 /// What the words after the command ask for, if they are lawful.
 fn after(command: Command, words: &[String]) -> Option<Look<'_>>
-    ensures { Finds (after command (map string_bytes words.now)) result }
+    ensures { FindsLook (asked_after command (map string_bytes words.now)) result }
 {
     if !are_lawful(command, words) {
         return None;
@@ -203,7 +203,7 @@ fn after(command: Command, words: &[String]) -> Option<Look<'_>>
 
 /// What the words ask for, the program's own name first. `Err` has the command whose usage is to be told, or none for the usage of all.
 pub fn look_of(words: &[String]) -> Result<Look<'_>, Option<Command>>
-    ensures { MatchResult result (λ look. look_of (map string_bytes words.now) ≡ Ok (asked look))
+    ensures { MatchResult result (λ look. look_of (map string_bytes words.now) ≡ Ok (look_asked look))
         (λ usage. look_of (map string_bytes words.now) ≡ Err usage) }
 {
     match words {

@@ -2,7 +2,8 @@
 ghost use Rattle.std.specs.Prelude.{◌≡◌, ◌==◌, ◌&&◌, length, map, string_bytes};
 ghost use Rattle.std.specs.Option.{option_copied};
 ghost use Rattle.std.specs.Str.{bytes_eq};
-ghost use Rattle.nt_look_commands.specs.CommandLine.{are_lawful, ends_options, file_in, is_operand, is_told_once, value_in};
+ghost use Rattle.nt_lines.specs.Options.{ends_options, is_operand};
+ghost use Rattle.nt_look_commands.specs.CommandLine.{are_lawful_options, file_in, is_told_once, option_value_in};
 
 use crate::command::Command;
 
@@ -25,7 +26,7 @@ fn is_option(word: &str, option: &str) -> bool
 
 /// The value of the option, if it is among the words.
 pub(crate) fn value_in<'a>(option: &str, words: &'a [String]) -> Option<&'a str>
-    ensures { option_copied result ≡ value_in option.now (map string_bytes words.now) }
+    ensures { option_copied result ≡ option_value_in option.now (map string_bytes words.now) }
 {
     match words {
         [] | [_] => None,
@@ -65,7 +66,7 @@ fn is_told_once(command: Command, option: &str, others: &[String]) -> bool
 
 /// Whether the words are options of this command, none of them twice, and at most one file.
 pub(crate) fn are_lawful(command: Command, words: &[String]) -> bool
-    ensures { result ≡ are_lawful command (map string_bytes words.now) }
+    ensures { result ≡ are_lawful_options command (map string_bytes words.now) }
 {
     match words {
         [] => true,

@@ -12,7 +12,7 @@ use Rattle.nt_laws.specs.Lives.{LivesOneWay}
 use Rattle.nt_mail.specs.declared.entry.Entry.{Entry}
 use Rattle.nt_mail.specs.Journals.{granted, written, IsDeed, IsLifeFrom}
 use Rattle.nt_mail.proofs.Lives.{deeds-append, written-append}
-use Rattle.nt_replay.specs.Replays.{IsReached, Begins, IsFirstToDiffer, IsForMemory, IsUnreplayed, AreReplayed, IsDone, IsUndone}
+use Rattle.nt_replay.specs.Replays.{IsReached, LifeBegins, IsFirstToDiffer, IsForMemory, IsUnreplayed, AreReplayed, EntryIsDone, IsUndone}
 use Rattle.nt_replay.specs.declared.unreplayed.Unreplayed.{Unreplayed}
 use Rattle.nt_replay.specs.declared.unreplayed.Unreplayed.TheVariants.{Differs, Memory}
 use Rattle.nt_replay.proofs.Following.{deed, no_grant, reached_after, Continues, continues, deed_next}
@@ -50,7 +50,7 @@ life_so_far : (base : State) (es : List Entry) (compared : ℕ) (d : Dispatcher)
 life_so_far base es compared d all r = subst (λ (l : List Entry). IsLifeFrom base l (state d)) (none_left es compared d all) r.life
 
 -- the machine did what the entry tells
-pub entry_done : (base : State) (es : List Entry) (place : ℕ) (e : Entry) (compared : ℕ) (old new : Dispatcher) → place < length es → e ≡ get_or es place e → length old.grants ≤ compared → IsDone e old new
+pub entry_done : (base : State) (es : List Entry) (place : ℕ) (e : Entry) (compared : ℕ) (old new : Dispatcher) → place < length es → e ≡ get_or es place e → length old.grants ≤ compared → EntryIsDone e old new
     → AreReplayed base (take place es) compared old → AreReplayed base (take (place + 1) es) 0 new
 entry_done base es place e compared old new inside is all done r =
     let so_far = life_so_far base (take place es) compared old all r in
@@ -71,20 +71,20 @@ entry_done base es place e compared old new inside is all done r =
 -- ---- the first that differs
 
 -- another life from the base that begins with these entries and one more
-begun : LivesOneWay → (base : State) (done : List Entry) (e : Entry) (left : List Grant) (s : State) → IsReached base → IsLifeFrom base (done ++ map granted left) s → Begins base (done ++ e ∷ []) → (rest : List Entry) × (a : State) × Continues s left (e ∷ rest) a
+begun : LivesOneWay → (base : State) (done : List Entry) (e : Entry) (left : List Grant) (s : State) → IsReached base → IsLifeFrom base (done ++ map granted left) s → LifeBegins base (done ++ e ∷ []) → (rest : List Entry) × (a : State) × Continues s left (e ∷ rest) a
 begun law base done e left s reached life (rest, a, other) =
     (rest, a, continues law base s a done (e ∷ rest) left reached life (subst (λ (l : List Entry). IsLifeFrom base l a) (append_assoc done (e ∷ []) rest) other))
 
-whole_begins : (base a : State) (es : List Entry) (n : ℕ) → IsLifeFrom base es a → Begins base (take n es)
+whole_begins : (base a : State) (es : List Entry) (n : ℕ) → IsLifeFrom base es a → LifeBegins base (take n es)
 whole_begins base a es n life = (drop n es, a, subst (λ (l : List Entry). IsLifeFrom base l a) (sym (take-append-drop n es)) life)
 
 -- the entry at a place differs where no life begins so
 first_to_differ : (base : State) (es : List Entry) (place : ℕ) (e : Entry) (compared : ℕ) (d : Dispatcher) → place < length es → e ≡ get_or es place e → AreReplayed base (take place es) compared d
-    → (IsReached base → ¬ Begins base (take place es ++ e ∷ [])) → IsFirstToDiffer base es place
+    → (IsReached base → ¬ LifeBegins base (take place es ++ e ∷ [])) → IsFirstToDiffer base es place
 first_to_differ base es place e compared d inside is r not = record {
   before = (map granted (drop compared d.grants), state d, r.life);
-  here = λ reached _ begins. not reached (subst (Begins base) (one_more es place e inside is) begins);
-  none = λ reached a life. not reached (subst (Begins base) (one_more es place e inside is) (whole_begins base a es (place + 1) life));
+  here = λ reached _ begins. not reached (subst (LifeBegins base) (one_more es place e inside is) begins);
+  none = λ reached a life. not reached (subst (LifeBegins base) (one_more es place e inside is) (whole_begins base a es (place + 1) life));
 }
 
 -- a grant is next, and the entry is not that one
@@ -124,7 +124,7 @@ entry_undone law base es place e compared d (Memory at) inside is all undone r =
 
 -- what was done, or not done, in answer to one entry
 pub done_goes : (es : List Entry) (place : ℕ) (e : Entry) (compared : ℕ) (old new : Dispatcher) → place < length es → e ≡ get_or es place e → length old.grants ≤ compared → (result : Result ℕ Unreplayed)
-    → IfOk result (λ now. (now ≡ 0) × IsDone e old new) → IfOk result (λ now. (base : State) → AreReplayed base (take place es) compared old → AreReplayed base (take (place + 1) es) now new)
+    → IfOk result (λ now. (now ≡ 0) × EntryIsDone e old new) → IfOk result (λ now. (base : State) → AreReplayed base (take place es) compared old → AreReplayed base (take (place + 1) es) now new)
 done_goes es place e compared old new inside is all (Ok now) done =
     λ base r. subst (λ (n : ℕ). AreReplayed base (take (place + 1) es) n new) (sym done.0) (entry_done base es place e compared old new inside is all done.1 r)
 done_goes es place e compared old new inside is all (Err cause) done = tt

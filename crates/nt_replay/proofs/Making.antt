@@ -17,7 +17,7 @@ use Rattle.nt_mail.specs.declared.entry.Entry.{Entry}
 use Rattle.nt_mail.specs.declared.entry.Entry.TheVariants.{Called, Ticked, Granted, Renewed}
 use Rattle.nt_life.specs.declared.renewal.Renewal.TheVariants.{Create, CreateAdded, Unadded, Duplicate, Begin}
 use Rattle.nt_mail.specs.Entries.{handle_reply}
-use Rattle.nt_replay.specs.Replays.{IsReached, IsMismatch, IsNumberMismatch, IsDone, IsUndone}
+use Rattle.nt_replay.specs.Replays.{IsReached, IsMismatch, IsNumberMismatch, EntryIsDone, IsUndone}
 use Rattle.nt_replay.specs.declared.unreplayed.Unreplayed.{Unreplayed}
 use Rattle.nt_replay.specs.declared.unreplayed.Unreplayed.TheVariants.{Differs, Memory}
 use Rattle.nt_replay.proofs.Following.{no_grant, stages_one_way}
@@ -30,7 +30,7 @@ stage_one_way law s a b t u reached x y alike =
 
 -- what an answer to one entry says: it was done, or it was not
 abbrev pub IsJudged : Dispatcher → Entry → ℕ → Dispatcher → Result ℕ Unreplayed → Type 0
-IsJudged old e place new result = IfOk result (λ now. (now ≡ 0) × IsDone e old new) × IfErr result (IsUndone (state old) e place)
+IsJudged old e place new result = IfOk result (λ now. (now ≡ 0) × EntryIsDone e old new) × IfErr result (IsUndone (state old) e place)
 
 -- the same answer by another name
 pub answered_ok : (result : Result ℕ Unreplayed) (made told same : Result Reply Refusal) → told ≡ same → IfOk result (λ now. (now ≡ 0) × (made ≡ told)) → IfOk result (λ now. (now ≡ 0) × (made ≡ same))

@@ -23,13 +23,13 @@ abbrev pub IsReached : State → Type 0
 IsReached s = (n : ℕ) × (stages : List Stage) × Life n stages s
 
 -- a life from the base begins with these entries
-abbrev pub Begins : State → List Entry → Type 0
-Begins base es = (rest : List Entry) × (s : State) × IsLifeFrom base (es ++ rest) s
+abbrev pub LifeBegins : State → List Entry → Type 0
+LifeBegins base es = (rest : List Entry) × (s : State) × IsLifeFrom base (es ++ rest) s
 
 -- the entries before this place begin a life from the base, and those up to it begin none; the entries are no life, and so no run
 pub record IsFirstToDiffer (base : State) (es : List Entry) (place : ℕ) : Type 0 where
-  pub before : Begins base (take place es)
-  pub here : IsReached base → place < length es → ¬ Begins base (take (place + 1) es)
+  pub before : LifeBegins base (take place es)
+  pub here : IsReached base → place < length es → ¬ LifeBegins base (take (place + 1) es)
   pub none : IsReached base → (s : State) → ¬ IsLifeFrom base es s
 
 -- the machine answers the call so, and memory was refused to this answer and not to the one that is told, or the other way round
@@ -84,8 +84,8 @@ IsNumberMismatch made told place (Differs at) = (at ≡ place) × (wants_number 
 IsNumberMismatch made told place (Memory at) = (at ≡ place) × (wants_number made ≢ wants_number told)
 
 -- the machine did what the entry tells, and ended these waits with it
-abbrev pub IsDone : Entry → Dispatcher → Dispatcher → Type 0
-IsDone e old new = IsDeed (state old) (record { entry = e; grants = new.grants }) (state new)
+abbrev pub EntryIsDone : Entry → Dispatcher → Dispatcher → Type 0
+EntryIsDone e old new = IsDeed (state old) (record { entry = e; grants = new.grants }) (state new)
 
 -- the machine, once it was reached, does nothing that this entry tells; or memory was refused to the one and not to the other
 abbrev pub IsUndone : State → Entry → ℕ → Unreplayed → Type 0
@@ -93,8 +93,8 @@ IsUndone old e place (Differs at) = (at ≡ place) × (IsReached old → (grants
 IsUndone old e place (Memory at) = (at ≡ place) × IsApart old e
 
 -- with the entry at this place what was replayed goes on: so many grants of the last call are compared then
-abbrev pub GoesOn : List Entry → ℕ → ℕ → Dispatcher → ℕ → Dispatcher → Type 0
-GoesOn es place compared old now new = (base : State) → AreReplayed base (take place es) compared old → AreReplayed base (take (place + 1) es) now new
+abbrev pub ReplayGoesOn : List Entry → ℕ → ℕ → Dispatcher → ℕ → Dispatcher → Type 0
+ReplayGoesOn es place compared old now new = (base : State) → AreReplayed base (take place es) compared old → AreReplayed base (take (place + 1) es) now new
 
 -- the entries are not replayed for this cause, from whichever base they were replayed up to this place
 abbrev pub StopsFor : List Entry → ℕ → ℕ → Dispatcher → Unreplayed → Type 0

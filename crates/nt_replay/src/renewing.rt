@@ -6,7 +6,7 @@ ghost use Rattle.nt_laws.specs.Lives.{wants_number};
 ghost use Rattle.nt_mail.specs.declared.entry.Entry.TheVariants.{Renewed};
 ghost use Rattle.nt_life.specs.declared.renewal.Renewal.TheVariants.{CreateAdded, Unadded};
 ghost use Rattle.nt_mail.specs.Entries.{handle_reply};
-ghost use Rattle.nt_replay.specs.Replays.{IsNumberMismatch, IsDone, IsUndone};
+ghost use Rattle.nt_replay.specs.Replays.{IsNumberMismatch, EntryIsDone, IsUndone};
 
 use crate::replaying::compare;
 use crate::unreplayed::Unreplayed;
@@ -23,7 +23,7 @@ pub(crate) fn renew_again(
     told: Result<Handle, Refusal>,
     place: usize,
 ) -> Result<usize, Unreplayed>
-    ensures ok { IfOk result (λ now. (now ≡ 0) × IsDone (Renewed who renewal.now told) core.old core.new) }
+    ensures ok { IfOk result (λ now. (now ≡ 0) × EntryIsDone (Renewed who renewal.now told) core.old core.new) }
     ensures err { IfErr result (IsUndone (state core.old) (Renewed who renewal.now told) place) }
 {
     lives_one_way();
@@ -79,7 +79,7 @@ fn create_added(
     place: usize,
 ) -> Result<usize, Unreplayed>
     ensures ok { IfOk result (λ now. (now ≡ 0)
-        × IsDone (Renewed who (CreateAdded act.now object handle) told) core.old core.new) }
+        × EntryIsDone (Renewed who (CreateAdded act.now object handle) told) core.old core.new) }
     ensures err { IfErr result (IsUndone (state core.old) (Renewed who (CreateAdded act.now object handle) told) place) }
 {
     lives_one_way();
@@ -102,7 +102,7 @@ fn add_in_vain(
     told: Result<Handle, Refusal>,
     place: usize,
 ) -> Result<usize, Unreplayed>
-    ensures ok { IfOk result (λ now. (now ≡ 0) × IsDone (Renewed who (Unadded act.now) told) core.old core.new) }
+    ensures ok { IfOk result (λ now. (now ≡ 0) × EntryIsDone (Renewed who (Unadded act.now) told) core.old core.new) }
     ensures err { IfErr result (IsUndone (state core.old) (Renewed who (Unadded act.now) told) place) }
 {
     lives_one_way();

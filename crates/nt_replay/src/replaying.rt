@@ -4,7 +4,7 @@ ghost use Rattle.std.specs.List.{slice_get, list_any};
 ghost use Rattle.nt_core.specs.Dispatcher.{state};
 ghost use Rattle.nt_laws.specs.Laws.{wants_memory};
 ghost use Rattle.nt_mail.specs.Journals.{IsLifeFrom, IsRunFrom, is_renewal};
-ghost use Rattle.nt_replay.specs.Replays.{GoesOn, StopsFor, IsUnreplayed, IsMismatch, IsDone, IsUndone};
+ghost use Rattle.nt_replay.specs.Replays.{ReplayGoesOn, StopsFor, IsUnreplayed, IsMismatch, EntryIsDone, IsUndone};
 
 use crate::renewing::renew_again;
 use crate::unreplayed::Unreplayed;
@@ -63,7 +63,7 @@ fn replay_entry(
     place: usize,
 ) -> Result<usize, Unreplayed>
     requires { place < length entries.now }
-    ensures ok { IfOk result (λ now. GoesOn entries.now place compared core.old now core.new) }
+    ensures ok { IfOk result (λ now. ReplayGoesOn entries.now place compared core.old now core.new) }
     ensures err { IfErr result (StopsFor entries.now place compared core.old) }
 {
     lives_one_way();
@@ -86,7 +86,7 @@ fn replay_entry(
 
 /// Does again what the entry tells, unless it is a grant. No grant of it was compared yet.
 fn do_again(core: &mut Core, entry: &Entry, place: usize) -> Result<usize, Unreplayed>
-    ensures ok { IfOk result (λ now. (now ≡ 0) × IsDone entry.now core.old core.new) }
+    ensures ok { IfOk result (λ now. (now ≡ 0) × EntryIsDone entry.now core.old core.new) }
     ensures err { IfErr result (IsUndone (state core.old) entry.now place) }
 {
     lives_one_way();

@@ -16,7 +16,7 @@ use Rattle.nt_front.specs.Holds.{new_threads}
 use Rattle.nt_threads.specs.declared.plan.Objects.{Objects}
 use Rattle.nt_threads.specs.Doors.{accepted_calls, calls_of_hold}
 use Rattle.nt_threads.specs.Plans.{carried_out, creations, lead_of, work_of}
-use Rattle.nt_threads.specs.Reports.{calls_by, IsCarriedOut}
+use Rattle.nt_threads.specs.Reports.{calls_by, PlanIsCarriedOut}
 
 cons_both : {X : Type 0} (x y : X) (xs ys : List X) → x ≡ y → xs ≡ ys → x ∷ xs ≡ y ∷ ys
 cons_both x y xs ys p q = λ i. p i ∷ q i
@@ -108,7 +108,7 @@ others_planned (k ∷ ks) o rounds (suc i) other above below none = work_planned
 -- where holds of new threads made what the plan asks and the history accounts for them, the history has the plan
 pub plan_told : {X : Type 0} (es : List Entry) (hs : List (Held X)) (ks : List Knowledge) (n rounds : ℕ) (o : Objects) → ks ≡ new_threads n → 0 < n → Each (IsAccounted es) hs
     → map (λ h. (knowledge_of h).thread) hs ≡ map (λ (k : Knowledge). k.thread) ks
-    → map calls_of_hold hs ≡ carried_out (λ (k : Knowledge). accepted_calls k.made) o rounds ks → IsCarriedOut (n - 1) rounds es
+    → map calls_of_hold hs ≡ carried_out (λ (k : Knowledge). accepted_calls k.made) o rounds ks → PlanIsCarriedOut (n - 1) rounds es
 plan_told es hs ks n rounds o are some told threads made =
     let numbers = map (λ (k : Knowledge). k.thread) (new_threads n) in
     let planned = carried_out (λ (k : Knowledge). accepted_calls k.made) o rounds (new_threads n) in
@@ -124,5 +124,5 @@ plan_told es hs ks n rounds o are some told threads made =
       others = λ t above below. at t ∙ others_planned (new_threads n) o rounds t (by t) above (omega (arith, count)) (none_made n);
     }
 
-pub told_of_workers : (threads workers rounds : ℕ) (es : List Entry) → threads ≡ workers + 1 → IsCarriedOut (threads - 1) rounds es → IsCarriedOut workers rounds es
-told_of_workers threads workers rounds es are told = let less : threads - 1 ≡ workers = omega (arith, are) in subst (λ (n : ℕ). IsCarriedOut n rounds es) less told
+pub told_of_workers : (threads workers rounds : ℕ) (es : List Entry) → threads ≡ workers + 1 → PlanIsCarriedOut (threads - 1) rounds es → PlanIsCarriedOut workers rounds es
+told_of_workers threads workers rounds es are told = let less : threads - 1 ≡ workers = omega (arith, are) in subst (λ (n : ℕ). PlanIsCarriedOut n rounds es) less told

@@ -16,9 +16,9 @@ is_release (Called who (Call.Act (Act.ReleaseMutex mutex)) (Ok reply)) = true
 is_release other = false
 
 -- how many mutex releases were not refused
-abbrev pub released : List Entry → ℕ
-released [] = 0
-released (e ∷ es) = one_if (is_release e) + released es
+abbrev pub mutex_releases : List Entry → ℕ
+mutex_releases [] = 0
+mutex_releases (e ∷ es) = one_if (is_release e) + mutex_releases es
 
 -- by how much the entry tells that a semaphore was released, 0 where it was refused
 abbrev pub posts_in : Entry → ℕ
@@ -41,15 +41,15 @@ abbrev pub tells_abandoned : ℕ → Bool
 tells_abandoned status = nat_le 128 status && nat_lt status 192
 
 -- the entry tells of a wait that ended with such a status, at once or later
-abbrev pub is_abandoned : Entry → Bool
-is_abandoned (Called who call (Ok (Reply.Status status))) = tells_abandoned status
-is_abandoned (Granted who status) = tells_abandoned status
-is_abandoned other = false
+abbrev pub ends_abandoned : Entry → Bool
+ends_abandoned (Called who call (Ok (Reply.Status status))) = tells_abandoned status
+ends_abandoned (Granted who status) = tells_abandoned status
+ends_abandoned other = false
 
 -- how many waits ended with an abandoned mutex
 abbrev pub abandoned : List Entry → ℕ
 abandoned [] = 0
-abandoned (e ∷ es) = one_if (is_abandoned e) + abandoned es
+abandoned (e ∷ es) = one_if (ends_abandoned e) + abandoned es
 
 -- ---- acquisitions
 

@@ -1,5 +1,6 @@
 -- The calls that a door to a front made.
-use Rattle.std.specs.Prelude.{ℕ, List, [], ◌∷◌, ◌++◌, Option, Some, None, Result, Ok, Err}
+use Rattle.std.specs.Prelude.{◌≡◌, ◌≤◌, ℕ, List, [], ◌∷◌, ◌++◌, Vec, vec_capacity, Option, Some, None, Result, Ok, Err}
+use Rattle.std.specs.declared.alloc.Global.{Global}
 use Rattle.nt_calls.specs.declared.call.Call.{Call}
 use Rattle.nt_calls.specs.declared.call.Reply.{Reply}
 use Rattle.nt_status.specs.declared.refusal.Refusal.{Refusal}
@@ -34,3 +35,7 @@ made_through (Some carried) = calls_of_hold carried.hold
 abbrev pub holder_of : {X : Type 0} → Option (Carried (Held X)) → Option ℕ
 holder_of None = None
 holder_of (Some carried) = Some (knowledge_of carried.hold).thread
+
+-- nothing stands in the list, and it has room for so many
+abbrev pub HasFreeRoom : {A : Type 0} → ℕ → Vec A Global → Type 0
+HasFreeRoom most list = (list.items ≡ []) × (most ≤ vec_capacity list)

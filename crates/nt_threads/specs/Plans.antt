@@ -7,16 +7,16 @@ use Rattle.nt_calls.specs.declared.call.WaitCall.{WaitCall}
 use Rattle.nt_threads.specs.declared.plan.Objects.{Objects}
 
 -- a wait for this object, without a deadline
-abbrev pub wait_for : ℕ → Call
-wait_for object = Call.Wait (WaitCall.Objects false false INFINITE (object ∷ []))
+abbrev pub endless_wait_for : ℕ → Call
+endless_wait_for object = Call.Wait (WaitCall.Objects false false INFINITE (object ∷ []))
 
 -- a wait for all of these objects, without a deadline
-abbrev pub wait_for_all : List ℕ → Call
-wait_for_all objects = Call.Wait (WaitCall.Objects true false INFINITE objects)
+abbrev pub endless_wait_for_all : List ℕ → Call
+endless_wait_for_all objects = Call.Wait (WaitCall.Objects true false INFINITE objects)
 
 -- a round: the mutex is acquired, the semaphore is released by one, the mutex is released
 abbrev pub round_of : Objects → List Call
-round_of o = wait_for o.mutex ∷ Call.Act (Act.ReleaseSemaphore o.semaphore (pos 1)) ∷ Call.Act (Act.ReleaseMutex o.mutex) ∷ []
+round_of o = endless_wait_for o.mutex ∷ Call.Act (Act.ReleaseSemaphore o.semaphore (pos 1)) ∷ Call.Act (Act.ReleaseMutex o.mutex) ∷ []
 
 abbrev pub rounds_of : Objects → ℕ → List Call
 rounds_of o zero = []
@@ -24,7 +24,7 @@ rounds_of o (suc rounds) = rounds_of o rounds ++ round_of o
 
 -- a worker: it waits for the start, makes its rounds, and ends
 abbrev pub work_of : Objects → ℕ → List Call
-work_of o rounds = (wait_for o.start ∷ rounds_of o rounds) ++ Call.Exit ∷ []
+work_of o rounds = (endless_wait_for o.start ∷ rounds_of o rounds) ++ Call.Exit ∷ []
 
 -- the first thread, before the workers start: it creates the objects
 abbrev pub creations : ℕ → List Call
@@ -37,7 +37,7 @@ workers (suc n) = workers n ++ suc n ∷ []
 
 -- the first thread, once the workers are started: it lets them begin, waits for the end of each, and ends
 abbrev pub lead_of : Objects → ℕ → List Call
-lead_of o n = Call.Act (Act.SetEvent o.start) ∷ wait_for_all (workers n) ∷ Call.Exit ∷ []
+lead_of o n = Call.Act (Act.SetEvent o.start) ∷ endless_wait_for_all (workers n) ∷ Call.Exit ∷ []
 
 -- what has been made through each door once the workers are started and all is done, from what was made through it before
 abbrev pub led : {X : Type 0} → (X → List Call) → Objects → ℕ → ℕ → X → List X → List (List Call)

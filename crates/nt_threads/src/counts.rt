@@ -1,7 +1,7 @@
 //! What the program tells of a history.
 ghost use Rattle.std.specs.Prelude.{◌≡◌, false, get_or, set, IfOk};
 ghost use Rattle.nt_calls.specs.Moves.{one_if};
-ghost use Rattle.nt_threads.specs.Counts.{abandoned, acquired, acquires, is_abandoned, is_release, is_taken, is_wait_for, posted, posts_in, released, tells_abandoned, waiting_after};
+ghost use Rattle.nt_threads.specs.Counts.{abandoned, acquired, acquires, ends_abandoned, is_release, is_taken, is_wait_for, posted, posts_in, mutex_releases, tells_abandoned, waiting_after};
 
 use nt_core::{Act, Call, Reply, WaitCall};
 use nt_mail::Entry;
@@ -30,7 +30,7 @@ pub fn counts_of(
     entries: &[Entry],
 ) -> Result<Counts, AllocError>
     ensures acquired { IfOk result (λ c. c.acquired ≡ acquired threads mutex entries.now) }
-    ensures released { IfOk result (λ c. c.released ≡ released entries.now) }
+    ensures released { IfOk result (λ c. c.released ≡ mutex_releases entries.now) }
     ensures posted { IfOk result (λ c. c.posted ≡ posted entries.now) }
     ensures abandoned { IfOk result (λ c. c.abandoned ≡ abandoned entries.now) }
 {
@@ -115,7 +115,7 @@ fn tells_abandoned(status: Status) -> bool
 
 /// Whether the entry tells of a wait that ended with an abandoned mutex.
 fn is_abandoned(entry: &Entry) -> bool
-    ensures { result ≡ is_abandoned entry.now }
+    ensures { result ≡ ends_abandoned entry.now }
 {
     match entry {
         Entry::Called {

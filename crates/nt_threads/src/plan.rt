@@ -2,7 +2,7 @@
 ghost use Rattle.std.specs.Prelude.{◌≡◌, ◌++◌, ◌+◌, ◌∷◌, ◌<◌, ◌^◌, [], true, IfOk, OnOk};
 ghost use Rattle.nt_calls.specs.declared.call.Act.{Act};
 ghost use Rattle.nt_calls.specs.declared.call.Call.{Call};
-ghost use Rattle.nt_threads.specs.Plans.{creations, lead_of, rounds_of, round_of, wait_for, wait_for_all, work_of, workers};
+ghost use Rattle.nt_threads.specs.Plans.{creations, lead_of, rounds_of, round_of, endless_wait_for, endless_wait_for_all, work_of, workers};
 
 use crate::door::Door;
 use nt_core::{Act, Reply, WaitCall};
@@ -84,7 +84,7 @@ fn wait_for<D: Door, R: Wait>(
     object: Handle,
 ) -> Result<(), Refusal>
     ensures thread { D.thread_of door.new ≡ D.thread_of door.old }
-    ensures made { OnOk result (D.made_of door.new ≡ D.made_of door.old ++ wait_for object ∷ []) }
+    ensures made { OnOk result (D.made_of door.new ≡ D.made_of door.old ++ endless_wait_for object ∷ []) }
 {
     let wait = WaitCall::Objects {
         handles: Handles::from_slice(alloc, &[object])?,
@@ -115,7 +115,7 @@ fn wait_for_workers<D: Door, R: Wait>(
     count: u32,
 ) -> Result<(), Refusal>
     ensures thread { D.thread_of door.new ≡ D.thread_of door.old }
-    ensures made { OnOk result (D.made_of door.new ≡ D.made_of door.old ++ wait_for_all (workers count) ∷ []) }
+    ensures made { OnOk result (D.made_of door.new ≡ D.made_of door.old ++ endless_wait_for_all (workers count) ∷ []) }
 {
     let wait = WaitCall::Objects {
         handles: worker_handles(alloc, count)?,
@@ -168,7 +168,7 @@ fn make_rounds<D: Door, R: Wait>(
 fn start_and_work<D: Door, R: Wait>(rt: &R, door: &mut D, plan: &Plan) -> Result<(), Refusal>
     ensures thread { D.thread_of door.new ≡ D.thread_of door.old }
     ensures made { OnOk result (D.made_of door.new
-        ≡ D.made_of door.old ++ wait_for plan.now.objects.start ∷ rounds_of plan.now.objects plan.now.rounds) }
+        ≡ D.made_of door.old ++ endless_wait_for plan.now.objects.start ∷ rounds_of plan.now.objects plan.now.rounds) }
 {
     wait_for(rt, plan.alloc, door, plan.objects.start)?;
     make_rounds(rt, plan.alloc, door, &plan.objects, plan.rounds)

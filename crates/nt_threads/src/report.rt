@@ -1,6 +1,6 @@
 //! The lines that the program prints.
 ghost use Rattle.std.specs.Prelude.{◌≡◌, ◌++◌, IfOk, OnOk, codes};
-ghost use Rattle.nt_threads.specs.Reports.{line_of, lines_of};
+ghost use Rattle.nt_threads.specs.Reports.{count_line, count_lines};
 
 use crate::counts::Counts;
 use itoa::Buffer;
@@ -8,7 +8,7 @@ use std::alloc::{AllocError, Global};
 
 /// Puts a line: a name that ends in a space, and a number.
 fn put_line(out: &mut Vec<u8>, name: &str, number: u128) -> Result<(), AllocError>
-    ensures { OnOk result (out.new.items ≡ out.old.items ++ line_of name.now number) }
+    ensures { OnOk result (out.new.items ≡ out.old.items ++ count_line name.now number) }
 {
     let mut buffer = Buffer::new();
     out.extend_from_slice(name.as_bytes())?;
@@ -24,7 +24,7 @@ pub(crate) fn lines_of(
     rounds: u32,
     counts: &Counts,
 ) -> Result<Vec<u8>, AllocError>
-    ensures { IfOk result (λ lines. lines.items ≡ lines_of workers rounds counts.now) }
+    ensures { IfOk result (λ lines. lines.items ≡ count_lines workers rounds counts.now) }
 {
     let mut out = Vec::new(alloc);
     put_line(&mut out, "threads ", u128::from(workers))?;

@@ -6,9 +6,9 @@ ghost use Rattle.nt_front.specs.Runs.{IsRun};
 ghost use Rattle.nt_front.specs.Held.{knowledge_of};
 ghost use Rattle.nt_front.specs.Holds.{new_threads};
 ghost use Rattle.nt_threads.specs.declared.plan.Objects.{Objects};
-ghost use Rattle.nt_threads.specs.Doors.{accepted_calls, calls_of_hold, made_through};
+ghost use Rattle.nt_threads.specs.Doors.{HasFreeRoom, accepted_calls, calls_of_hold, made_through};
 ghost use Rattle.nt_threads.specs.Plans.{carried_out};
-ghost use Rattle.nt_threads.specs.Reports.{IsCarriedOut, IsReport, ComesOfRun};
+ghost use Rattle.nt_threads.specs.Reports.{PlanIsCarriedOut, IsThreadsReport, ComesOfRun};
 
 use crate::counts::counts_of;
 use crate::driving::{Driven, drive};
@@ -53,9 +53,7 @@ struct Room<'f, N: Named> {
 impl<'f, N: Named> Room<'f, N> {
     /// Room for so many threads.
     fn new(alloc: Global, threads: usize) -> Result<Room<'f, N>, AllocError>
-        ensures doors { IfOk result (λ r. (r.doors.items ≡ []) × (threads ≤ vec_capacity r.doors)) }
-        ensures back { IfOk result (λ r. (r.back.items ≡ []) × (threads ≤ vec_capacity r.back)) }
-        ensures holds { IfOk result (λ r. (r.holds.items ≡ []) × (threads ≤ vec_capacity r.holds)) }
+        ensures { IfOk result (λ r. HasFreeRoom threads r.doors × HasFreeRoom threads r.back × HasFreeRoom threads r.holds) }
     {
         let doors = Vec::with_capacity(alloc, threads)?;
         let back = Vec::with_capacity(alloc, threads)?;
@@ -89,7 +87,7 @@ pub fn history_of<R: Threads + Wait + Sync>(
     requires workers { workers ≤ 64 }
     requires rounds { rounds ≤ 1000 }
     ensures comes { IfOk result (λ history. ComesOfRun (workers + 1) history.entries.items) }
-    ensures whole { IfOk result (λ history. IsCarriedOut workers rounds history.entries.items) }
+    ensures whole { IfOk result (λ history. PlanIsCarriedOut workers rounds history.entries.items) }
 {
     let room = workers as usize * (4 * rounds as usize + 3) + 7;
     let blank = prepare(alloc, workers + 1, room).map_err(|_| AllocError)?;
@@ -108,7 +106,7 @@ pub fn report_of<R: Threads + Wait + Sync>(
 ) -> Result<Vec<u8>, AllocError>
     requires workers { workers ≤ 64 }
     requires rounds { rounds ≤ 1000 }
-    ensures { IfOk result (λ lines. IsReport workers rounds lines.items) }
+    ensures { IfOk result (λ lines. IsThreadsReport workers rounds lines.items) }
 {
     let history = history_of(rt, alloc, workers, rounds)?;
     let told = told_of(alloc, workers, rounds, history.entries.as_slice());
@@ -125,8 +123,8 @@ fn told_of(
 ) -> Result<Vec<u8>, AllocError>
     requires workers { workers ≤ 64 }
     requires comes { ComesOfRun (workers + 1) entries.now }
-    requires whole { IsCarriedOut workers rounds entries.now }
-    ensures { IfOk result (λ lines. IsReport workers rounds lines.items) }
+    requires whole { PlanIsCarriedOut workers rounds entries.now }
+    ensures { IfOk result (λ lines. IsThreadsReport workers rounds lines.items) }
 {
     let threads = workers + 1;
     let counts = counts_of(alloc, threads, Handle::new(threads), entries)?;
@@ -146,7 +144,7 @@ fn run<N: Named + Send + Sync, R: Threads + Wait + Sync>(
     requires rounds { rounds ≤ 1000 }
     ensures comes { IfOk result (λ r. r.whole ≡ true → ComesOfRun blank.threads r.history.entries.items) }
     ensures whole { IfOk result (λ r. r.whole ≡ true
-        → IsCarriedOut (blank.threads - 1) rounds r.history.entries.items) }
+        → PlanIsCarriedOut (blank.threads - 1) rounds r.history.entries.items) }
 {
     match Room::new(alloc, 65) {
         Ok(room) => run_in::<N, R>(rt, alloc, blank, room, rounds),
@@ -169,12 +167,10 @@ fn run_in<N: Named + Send + Sync, R: Threads + Wait + Sync>(
     requires once { blank.lasts ≡ false }
     requires threads { (0 < blank.threads) × (blank.threads ≤ 65) }
     requires rounds { rounds ≤ 1000 }
-    requires doors { (room.doors.items ≡ []) × (65 ≤ vec_capacity room.doors) }
-    requires back { (room.back.items ≡ []) × (65 ≤ vec_capacity room.back) }
-    requires holds { (room.holds.items ≡ []) × (65 ≤ vec_capacity room.holds) }
+    requires room { HasFreeRoom 65 room.doors × HasFreeRoom 65 room.back × HasFreeRoom 65 room.holds }
     ensures comes { IfOk result (λ r. r.whole ≡ true → ComesOfRun blank.threads r.history.entries.items) }
     ensures whole { IfOk result (λ r. r.whole ≡ true
-        → IsCarriedOut (blank.threads - 1) rounds r.history.entries.items) }
+        → PlanIsCarriedOut (blank.threads - 1) rounds r.history.entries.items) }
 {
     match open::<N>(alloc, blank) {
         Ok((front, passes)) => Ok(run_on(rt, alloc, front, passes, room, rounds)),
@@ -198,11 +194,9 @@ fn run_on<N: Named + Send + Sync, R: Threads + Wait + Sync>(
     requires once { N.front.lasts ≡ false }
     requires threads { vec_len passes ≤ 65 }
     requires rounds { rounds ≤ 1000 }
-    requires doors { (room.doors.items ≡ []) × (vec_len passes ≤ vec_capacity room.doors) }
-    requires back { (room.back.items ≡ []) × (vec_len passes ≤ vec_capacity room.back) }
-    requires holds { (room.holds.items ≡ []) × (vec_len passes ≤ vec_capacity room.holds) }
+    requires room { HasFreeRoom (vec_len passes) room.doors × HasFreeRoom (vec_len passes) room.back × HasFreeRoom (vec_len passes) room.holds }
     ensures comes { result.whole ≡ true → ComesOfRun N.front.threads result.history.entries.items }
-    ensures whole { result.whole ≡ true → IsCarriedOut (N.front.threads - 1) rounds result.history.entries.items }
+    ensures whole { result.whole ≡ true → PlanIsCarriedOut (N.front.threads - 1) rounds result.history.entries.items }
 {
     let (holds, whole) = drive_on(rt, alloc, &front, passes, room, rounds);
     let history = front.finish(holds);
@@ -225,9 +219,7 @@ fn drive_on<'f, N: Named + Send + Sync, R: Threads + Wait + Sync>(
 ) -> (Vec<Held<N>>, bool)
     requires threads { vec_len passes ≤ 65 }
     requires rounds { rounds ≤ 1000 }
-    requires doors { (room.doors.items ≡ []) × (vec_len passes ≤ vec_capacity room.doors) }
-    requires back { (room.back.items ≡ []) × (vec_len passes ≤ vec_capacity room.back) }
-    requires holds { (room.holds.items ≡ []) × (vec_len passes ≤ vec_capacity room.holds) }
+    requires room { HasFreeRoom (vec_len passes) room.doors × HasFreeRoom (vec_len passes) room.back × HasFreeRoom (vec_len passes) room.holds }
     ensures threads { map (λ h. (knowledge_of h).thread) result.0.items ≡ map (λ p. p.thread) passes.items }
     ensures whole { result.1 ≡ true → (o : Objects)
         × (map calls_of_hold result.0.items ≡ carried_out (λ p. accepted_calls p.made) o rounds passes.items) }
@@ -244,7 +236,7 @@ fn doors_of<'f, N: Named>(
     mut passes: Vec<Pass<N>>,
     doors: Vec<FrontDoor<'f, N>>,
 ) -> Vec<FrontDoor<'f, N>>
-    requires { (doors.items ≡ []) × (vec_len passes ≤ vec_capacity doors) }
+    requires { HasFreeRoom (vec_len passes) doors }
     ensures threads { map (λ d. d.thread) result.items ≡ map (λ p. p.thread) passes.items }
     ensures made { map (λ d. made_through d.hold) result.items ≡ map (λ p. accepted_calls p.made) passes.items }
     ensures count { vec_len result ≡ vec_len passes }
@@ -261,7 +253,7 @@ fn doors_of<'f, N: Named>(
 
 /// What the threads of these doors hold, in their order.
 fn holds_of<N: Named>(mut doors: Vec<FrontDoor<'_, N>>, holds: Vec<Held<N>>) -> Vec<Held<N>>
-    requires { (holds.items ≡ []) × (vec_len doors ≤ vec_capacity holds) }
+    requires { HasFreeRoom (vec_len doors) holds }
     ensures threads { map (λ h. (knowledge_of h).thread) result.items ≡ map (λ d. d.thread) doors.entry.items }
     ensures made { map calls_of_hold result.items ≡ map (λ d. made_through d.hold) doors.entry.items }
     ensures count { vec_len result ≡ vec_len doors.entry }

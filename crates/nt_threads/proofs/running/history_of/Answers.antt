@@ -3,7 +3,7 @@ use Rattle.std.specs.Prelude.{MatchResult, IfOk, is_ok}
 use Rattle.std.specs.declared.result.Result.{Result}
 use Rattle.std.proofs.lemmas.Result.{IfOk-weaker}
 use Rattle.nt_front.specs.declared.receipt.History.{History}
-use Rattle.nt_threads.specs.Reports.{ComesOfRun, IsCarriedOut}
+use Rattle.nt_threads.specs.Reports.{ComesOfRun, PlanIsCarriedOut}
 use Rattle.nt_threads.proofs.Planned.{told_of_workers}
 use Rattle.nt_threads.proofs.running.history_of.Given.{Over}
 use Rattle.nt_threads.proofs.running.history_of.Goals as goal
@@ -33,6 +33,6 @@ returns-clause-comes g c =
 pub returns-clause-whole : goal.returns-clause-whole
 returns-clause-whole g c =
     let threads = blank_threads g c in
-    let told : c.in_ok-ran.ran.whole ≡ true → IsCarriedOut c.args.workers c.args.rounds c.in_ok-ran.ran.history.entries.items
+    let told : c.in_ok-ran.ran.whole ≡ true → PlanIsCarriedOut c.args.workers c.args.rounds c.in_ok-ran.ran.history.entries.items
     = λ whole. told_of_workers c.in_ok-blank.blank.threads c.args.workers c.args.rounds c.in_ok-ran.ran.history.entries.items threads (c.in_ok-ran.ensures.whole whole) in
-    IfOk-weaker c.whole_history.result _ _ (λ history is. subst (λ (h : History). IsCarriedOut c.args.workers c.args.rounds h.entries.items) (sym is.1) (told is.0)) c.whole_history.ensures
+    IfOk-weaker c.whole_history.result _ _ (λ history is. subst (λ (h : History). PlanIsCarriedOut c.args.workers c.args.rounds h.entries.items) (sym is.1) (told is.0)) c.whole_history.ensures
