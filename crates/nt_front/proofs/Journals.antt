@@ -1,5 +1,5 @@
 -- The journal and the dispatcher, step by step.
-use Rattle.std.proofs.Common.{◌≡◌, ℕ, ◌+◌, ◌-◌, ◌^◌, min, ◌<◌, ◌≤◌, List, [], ◌∷◌, ◌++◌, length, length-append, map, Result, Ok, Err, Bool, true, false, cond, eqb, eq-eqb, ne_eqb, refl, sym, ap, ◌∙◌, subst, arith, append_assoc, ⊎_elim}
+use Rattle.std.proofs.Common.{◌≡◌, ℕ, ◌+◌, ◌-◌, min, ◌<◌, ◌≤◌, List, [], ◌∷◌, ◌++◌, length, length-append, map, Result, Ok, Err, Bool, true, false, cond, eqb, eq-eqb, ne_eqb, refl, sym, ap, ◌∙◌, subst, arith, append_assoc, ⊎_elim}
 use Rattle.std.specs.Prelude.{◌||◌, ◌↔◌, IfOk, nat_le}
 use Rattle.std.proofs.lemmas.Bool.Decides.{leb_tells}
 use Rattle.std.proofs.Math.ListN.{get_or}
@@ -22,6 +22,7 @@ use Rattle.nt_core.specs.Dispatcher.{Dispatcher, state}
 use Rattle.nt_core.specs.Lawful.{IsLawful}
 use Rattle.nt_core.specs.Renewals.{BeginsAgain}
 use Rattle.nt_life.specs.declared.renewal.Renewal.TheVariants.{Begin}
+use Rattle.nt_mail.specs.declared.word.TheConstants.{ENTRY_LIMIT}
 use Rattle.nt_mail.specs.declared.entry.Entry.{Entry}
 use Rattle.nt_mail.specs.declared.entry.Entry.TheVariants.{Called, Ticked, Granted, Renewed}
 use Rattle.nt_life.specs.Lasting.{WithSpare}
@@ -408,9 +409,9 @@ pub last_is : (es : List Entry) (e : Entry) (all : List Entry) (place : ℕ) (x 
 last_is es e all place x value is here = value ∙ (ap (λ (l : List Entry). get_or l place x) is ∙ (ap (λ n. get_or (es ++ e ∷ []) n x) here ∙ get_or-append_seam es e [] x))
 
 -- there is room for an entry, and one more for each pending wait, and so many numbers are left
-pub room_left : (entries room next pending : ℕ) (full : Bool) → (full ≡ true) ↔ (min (room - entries) (2 ^ 54 - next) < 1 + pending) → full ≡ false → (entries + 1 + pending ≤ room) × (next + 1 + pending ≤ 2 ^ 54)
+pub room_left : (entries room next pending : ℕ) (full : Bool) → (full ≡ true) ↔ (min (room - entries) (ENTRY_LIMIT - next) < 1 + pending) → full ≡ false → (entries + 1 + pending ≤ room) × (next + 1 + pending ≤ ENTRY_LIMIT)
 room_left entries room next pending full exactly free =
-    let left = min (room - entries) (2 ^ 54 - next) in
+    let left = min (room - entries) (ENTRY_LIMIT - next) in
     let enough : 1 + pending ≤ left = ⊎_elim
     (λ (more : (nat_le (1 + pending) left ≡ true) × (1 + pending ≤ left)). more.1)
     (λ (less : (nat_le (1 + pending) left ≡ false) × (left < 1 + pending)). absurd (false≢true (sym free ∙ exactly.1 less.1)))

@@ -16,7 +16,7 @@ use Rattle.nt_core.specs.Dispatcher.{state}
 use Rattle.nt_core.specs.Lawful.{IsLawful}
 use Rattle.nt_core.proofs.Accepting.{free_caller}
 use Rattle.nt_core.proofs.Judging.{undenied}
-use Rattle.nt_answers.specs.Answers.{is_handle, created_reply as reply_of}
+use Rattle.nt_answers.specs.Answers.{is_done, is_handle, created_reply as reply_of}
 use Rattle.nt_answers.specs.Kinds.{Kind, act_kind, kind_of, tells_kind, is_answer}
 use Rattle.nt_answers.proofs.Telling.{call_told}
 use Rattle.nt_life.specs.Lasting.{Spares, WithSpare, IsUnchanged, KeepsPace, MakesCall, MayBeginThis, MayPop, MayStack, gives}
@@ -25,14 +25,51 @@ use Rattle.nt_life.specs.declared.renewal.Renewal.{Renewal}
 use Rattle.nt_life.specs.declared.renewal.Renewal.TheVariants.{Create, CreateAdded, Unadded, Duplicate, Begin}
 use Rattle.nt_mail.specs.declared.entry.Entry.{Entry}
 use Rattle.nt_mail.specs.declared.entry.Entry.TheVariants.{Called, Renewed}
-use Rattle.nt_mail.specs.Entries.{created_reply}
+use Rattle.nt_mail.specs.Entries.{handle_reply}
+use Rattle.nt_mail.specs.Packed.{CanHand, hands_apc}
 use Rattle.nt_mail.specs.Journals.{IsDeed, is_renewal}
 use Rattle.nt_front.specs.Books.{IsOfCall, IsCarriedOut}
 
 -- the words of both crates for a handle's reply are the same
-pub same_reply : (told : Result ℕ Refusal) → created_reply told ≡ reply_of told
+pub same_reply : (told : Result ℕ Refusal) → handle_reply told ≡ reply_of told
 same_reply (Ok handle) = refl
 same_reply (Err cause) = refl
+
+-- ---- who is answered an APC
+
+pub can_hand : (call : Call) (result : Result Reply Refusal) → IsTrue (is_answer call result) → CanHand call result
+can_hand call (Err cause) is hands = absurd (false≢true hands)
+can_hand call (Ok Reply.Done) is hands = absurd (false≢true hands)
+can_hand call (Ok (Reply.Handle h)) is hands = absurd (false≢true hands)
+can_hand call (Ok (Reply.Previous n)) is hands = absurd (false≢true hands)
+can_hand call (Ok (Reply.Status s)) is hands = absurd (false≢true hands)
+can_hand call (Ok Reply.Pended) is hands = absurd (false≢true hands)
+can_hand (Call.Act Act.NextApc) (Ok (Reply.Apc apc)) is hands = refl
+can_hand (Call.Act (Act.CreateEvent flags)) (Ok (Reply.Apc apc)) is hands = absurd (false≢true is)
+can_hand (Call.Act (Act.CreateSemaphore initial maximum)) (Ok (Reply.Apc apc)) is hands = absurd (false≢true is)
+can_hand (Call.Act (Act.CreateMutex flags)) (Ok (Reply.Apc apc)) is hands = absurd (false≢true is)
+can_hand (Call.Act (Act.SetEvent h)) (Ok (Reply.Apc apc)) is hands = absurd (false≢true is)
+can_hand (Call.Act (Act.ResetEvent h)) (Ok (Reply.Apc apc)) is hands = absurd (false≢true is)
+can_hand (Call.Act (Act.PulseEvent h)) (Ok (Reply.Apc apc)) is hands = absurd (false≢true is)
+can_hand (Call.Act (Act.ReleaseSemaphore h n)) (Ok (Reply.Apc apc)) is hands = absurd (false≢true is)
+can_hand (Call.Act (Act.ReleaseMutex h)) (Ok (Reply.Apc apc)) is hands = absurd (false≢true is)
+can_hand (Call.Act (Act.CreateTimer flags)) (Ok (Reply.Apc apc)) is hands = absurd (false≢true is)
+can_hand (Call.Act (Act.SetTimer h due period routine)) (Ok (Reply.Apc apc)) is hands = absurd (false≢true is)
+can_hand (Call.Act (Act.CancelTimer h)) (Ok (Reply.Apc apc)) is hands = absurd (false≢true is)
+can_hand (Call.Act (Act.QueueApc h routine arg)) (Ok (Reply.Apc apc)) is hands = absurd (false≢true is)
+can_hand (Call.Act (Act.Duplicate h access)) (Ok (Reply.Apc apc)) is hands = absurd (false≢true is)
+can_hand (Call.Act (Act.Close h)) (Ok (Reply.Apc apc)) is hands = absurd (false≢true is)
+can_hand (Call.Wait wait) (Ok (Reply.Apc apc)) is hands = absurd (false≢true is)
+can_hand Call.Exit (Ok (Reply.Apc apc)) is hands = absurd (false≢true is)
+
+pub no_apc_done : (result : Result Reply Refusal) → IsTrue (is_done result) → hands_apc result ≡ false
+no_apc_done (Err cause) is = refl
+no_apc_done (Ok Reply.Done) is = refl
+no_apc_done (Ok (Reply.Handle h)) is = refl
+no_apc_done (Ok (Reply.Previous n)) is = refl
+no_apc_done (Ok (Reply.Status s)) is = refl
+no_apc_done (Ok Reply.Pended) is = refl
+no_apc_done (Ok (Reply.Apc apc)) is = absurd (false≢true is)
 
 -- ---- a renewal that is accepted answers a handle
 
@@ -107,7 +144,7 @@ waits_before old who call told (Err cause) grants new is same = ap (λ (s : Stat
 pub own_deed : (old : State) (who : ℕ) (call : Call) (result : Result Reply Refusal) (grants : List Grant) (new : State) → Tells old who call None result grants new → IsDeed old (record { entry = Called who call result; grants = grants }) new
 own_deed old who call result grants new is = (refl, (new, is, refl))
 
-pub renewal_deed : (old : State) (who : ℕ) (call : Call) (renewal : Renewal) (told : Result ℕ Refusal) (result : Result Reply Refusal) (grants : List Grant) (new : State) → Tells old who call (Some renewal) result grants new → created_reply told ≡ result
+pub renewal_deed : (old : State) (who : ℕ) (call : Call) (renewal : Renewal) (told : Result ℕ Refusal) (result : Result Reply Refusal) (grants : List Grant) (new : State) → Tells old who call (Some renewal) result grants new → handle_reply told ≡ result
     → IsDeed old (record { entry = Renewed who renewal told; grants = grants }) new
 renewal_deed old who call renewal told result grants new is same =
     subst (λ (r : Result Reply Refusal). IsRenewed old who renewal r grants new) (sym same) is.1
@@ -170,7 +207,7 @@ pub carried_own : (old new : WithSpare) (who : ℕ) (call : Call) (result : Resu
 carried_own old new who call result told_is makes stacked pace unchanged lawful =
     carried old new who call None result (Called who call result) (refl, refl, refl) (own_deed (state old.core) who call result new.core.grants (state new.core) told_is) (λ once. refl) told_is makes stacked pace unchanged lawful
 
-pub carried_renewal : (old new : WithSpare) (who : ℕ) (call : Call) (renewal : Renewal) (told : Result ℕ Refusal) (result : Result Reply Refusal) → created_reply told ≡ result → (gives old.spare call ≡ false → Some renewal ≡ None) → Tells (state old.core) who call (Some renewal) result new.core.grants (state new.core)
+pub carried_renewal : (old new : WithSpare) (who : ℕ) (call : Call) (renewal : Renewal) (told : Result ℕ Refusal) (result : Result Reply Refusal) → handle_reply told ≡ result → (gives old.spare call ≡ false → Some renewal ≡ None) → Tells (state old.core) who call (Some renewal) result new.core.grants (state new.core)
     → MakesCall (state old.core) old.spare who call result new.core.grants (state new.core) → MayStack call result old.spare new.spare → KeepsPace (state old.core) who call result new.core.grants (state new.core) → IsUnchanged (state old.core) result new.core.grants (state new.core) → IsLawful new.core
     → IsCarriedOut old who call result (Renewed who renewal told) new
 carried_renewal old new who call renewal told result same own told_is makes stacked pace unchanged lawful =

@@ -1,5 +1,5 @@
 -- What contracts see of a book.
-use Rattle.std.specs.Prelude.{◌≡◌, ◌⊎◌, ℕ, Bool, ◌+◌, ◌-◌, ◌<◌, ◌≤◌, ◌^◌, ◌&&◌, nat_le, min, List, [], ◌∷◌, ◌++◌, map, length, true, false, is_some, is_err, IsTrue, MatchOption, Option, Result, Ok}
+use Rattle.std.specs.Prelude.{◌≡◌, ◌⊎◌, ℕ, Bool, ◌+◌, ◌-◌, ◌<◌, ◌≤◌, ◌&&◌, nat_le, min, List, [], ◌∷◌, ◌++◌, map, length, true, false, is_some, is_err, IsTrue, MatchOption, Option, Result, Ok}
 use Rattle.std.specs.FinMap.{len}
 use Rattle.nt_status.specs.declared.limits.TheConstants.{MAX_THREADS}
 use Rattle.nt_status.specs.declared.refusal.Refusal.{Refusal}
@@ -14,16 +14,21 @@ use Rattle.nt_answers.specs.Kinds.{is_answer}
 use Rattle.nt_life.specs.Lasting.{Spares, WithSpare, MakesCall}
 use Rattle.nt_life.specs.Renewals.{IsFor}
 use Rattle.nt_life.specs.declared.renewal.Renewal.TheVariants.{Begin}
+use Rattle.nt_mail.specs.declared.word.TheConstants.{ENTRY_LIMIT}
 use Rattle.nt_mail.specs.declared.entry.Entry.{Entry}
 use Rattle.nt_mail.specs.declared.entry.Entry.TheVariants.{Called, Ticked, Renewed}
 use Rattle.nt_mail.specs.Journals.{granted, Deed, IsDeed, is_renewal}
 use Rattle.nt_mail.specs.declared.knowledge.Knowledge.{Knowledge}
 use Rattle.nt_mail.specs.Entries.{accepted, handle_reply}
-use Rattle.nt_mail.specs.Knowledge.{newcomers}
+use Rattle.nt_mail.specs.declared.knowledge.Asked.{Asked}
+use Rattle.nt_mail.specs.Knowledge.{newcomers, IsEarlier}
 use Rattle.nt_mail.specs.Rule.{IsTold}
 use Rattle.nt_mail.specs.Seats.{Dispatcher as Seat, Gathered}
+use Rattle.nt_front.specs.declared.blank.TheConstants.{MAX_ROOM}
 use Rattle.nt_front.specs.Names.{Prepared}
 use Rattle.nt_front.specs.declared.receipt.Part.{Part}
+use Rattle.nt_front.specs.declared.receipt.Receipt.{Receipt}
+use Rattle.nt_front.specs.Holds.{with_made}
 use Rattle.nt_front.specs.Runs.{IsHistoryFrom, LeadTo, Agree}
 
 -- the dispatcher with the numbers that are spare, if it lasts, and the base: the same dispatcher as it was when the journal was last handed
@@ -109,9 +114,15 @@ pub record IsCarriedOut (old : WithSpare) (who : ℕ) (call : Call) (result : Re
 abbrev pub next_number : Ledger → ℕ
 next_number b = b.first + length b.journal
 
--- how many entries there is a place for, and a number below 2^54
+-- a thread's call, tick or beginning is the next entry, numbered above all that the thread knew, and is all that the thread knows anew
+pub record IsEntered (old : Ledger) (before : Knowledge) (asked : Asked) (receipt : Receipt) (after : Knowledge) : Type 0 where
+  pub next : receipt.entry ≡ next_number old
+  pub earlier : IsEarlier receipt.entry before
+  pub made : after ≡ with_made before receipt.entry asked receipt.result
+
+-- how many entries there is a place for, and a number
 abbrev pub room_left : Ledger → ℕ
-room_left b = min (b.room - length b.journal) (2 ^ 54 - next_number b)
+room_left b = min (b.room - length b.journal) (ENTRY_LIMIT - next_number b)
 
 -- the room left is too small for an entry and one more for each pending wait
 abbrev pub IsFull : Ledger → Type 0
@@ -160,7 +171,7 @@ pub record WasTaken (front : Prepared) (k : Knowledge) : Type 0 where
 
 -- so many threads and so much room are lawful
 abbrev pub is_lawful_front : ℕ → ℕ → Bool
-is_lawful_front threads room = nat_le 1 threads && nat_le threads MAX_THREADS && nat_le 1 room && nat_le room 1048576
+is_lawful_front threads room = nat_le 1 threads && nat_le threads MAX_THREADS && nat_le 1 room && nat_le room MAX_ROOM
 
 -- what a front without a name keeps: the seats of new threads, a dispatcher at its opening, and an empty journal with places for its room
 pub record IsBlank (b : Prepared) (all : Gathered) (life : WithSpare) (journal : List Entry) (capacity : ℕ) : Type 0 where
@@ -183,6 +194,6 @@ pub record IsBook (b : Ledger) (count capacity : ℕ) (dispatcher : Seat) (front
   pub lasts : gives_again b ≡ front.lasts
   pub places : b.room ≤ capacity
   pub next : length b.written + 1 ≡ next_number b
-  pub numbers : next_number b ≤ 2 ^ 54
+  pub numbers : next_number b ≤ ENTRY_LIMIT
   pub seat : dispatcher ≡ record { table = front.table; written = b.written; published = accepted b.written }
   pub words : front.table.words ≡ count + 1

@@ -2,10 +2,8 @@
 ghost use Rattle.std.specs.Prelude.{◌≡◌, ◌↔◌, true, IfOk, IfErr, OnErr, Ok, Err};
 ghost use Rattle.nt_calls.specs.declared.call.Reply.{Reply};
 ghost use Rattle.nt_mail.specs.declared.knowledge.Asked.{Asked};
-ghost use Rattle.nt_mail.specs.Knowledge.{IsEarlier};
 ghost use Rattle.nt_front.specs.Again.{IsUnbegun};
-ghost use Rattle.nt_front.specs.Books.{IsFull, WritesBegin, next_number};
-ghost use Rattle.nt_front.specs.Holds.{with_made};
+ghost use Rattle.nt_front.specs.Books.{IsEntered, IsFull, WritesBegin};
 ghost use Rattle.nt_front.specs.Polls.{IsBegunAgain};
 ghost use Rattle.nt_front.specs.declared.again.Unbegun.TheVariants.{NoRoom};
 
@@ -17,7 +15,7 @@ use crate::receipt::Receipt;
 use crate::write::tell;
 use nt_core::Reply;
 use nt_life::Renewal;
-use nt_mail::{Entry, Mail};
+use nt_mail::{Mail, PackedEntry};
 use nt_status::Handle;
 use std::sync::Wait;
 
@@ -58,10 +56,8 @@ impl<N: Named> Book<N> {
         requires mail { mail.now ≡ N.front.table }
         ensures book { IfOk result (λ b. WritesBegin self.old caller.old.thread b.handle self.new) }
         ensures lasts { IfOk result (λ b. N.front.lasts ≡ true) }
-        ensures entry { IfOk result (λ b. b.entry ≡ next_number self.old) }
-        ensures made { IfOk result (λ b. caller.new
-            ≡ with_made caller.old b.entry Asked.Begin (Ok (Reply.Handle b.handle))) }
-        ensures earlier { IfOk result (λ b. IsEarlier b.entry caller.old) }
+        ensures entered { IfOk result (λ b. IsEntered self.old caller.old Asked.Begin
+            (record { entry = b.entry; result = Ok (Reply.Handle b.handle) }) caller.new) }
         ensures full { (result ≡ Err NoRoom) ↔ IsFull self.old }
         ensures unbegun { IfErr result (IsUnbegun N.front caller.old) }
         ensures kept { OnErr result (caller.new ≡ caller.old) }
@@ -79,11 +75,7 @@ impl<N: Named> Book<N> {
             mail.look(&mut self.dispatcher, &mut caller.seat);
             return Err(Unbegun::Taken);
         };
-        self.journal.push_reserved(Entry::Renewed {
-            who,
-            renewal: Renewal::Begin(handle),
-            result: Ok(handle),
-        });
+        self.journal.push_reserved(PackedEntry::renewed(who, Renewal::Begin(handle), Ok(handle)));
         tell(
             mail,
             &mut self.dispatcher,

@@ -16,21 +16,21 @@ use crate::named::Named;
 use crate::wake::Bells;
 use nt_core::Core;
 use nt_life::Lasting;
-use nt_mail::{Entry, JoinedSeats, Mail, Opened};
+use nt_mail::{JoinedSeats, Mail, Opened, PackedEntry};
 use nt_status::{MAX_THREADS, Moment, Refusal, ThreadId};
 use std::alloc::Global;
 use std::marker::{Model, PhantomData};
 use std::mem::ManuallyDrop;
 
-/// The most entries that a journal may have.
-const MOST_ENTRIES: usize = 1_048_576;
+/// The most entries that a journal may have room for.
+pub const MAX_ROOM: usize = 1_048_576;
 
 /// A front that no name stands for yet.
 pub struct Blank {
     mail: Mail,
     seats: JoinedSeats,
     life: Lasting,
-    journal: Vec<Entry>,
+    journal: Vec<PackedEntry>,
     threads: u32,
     room: usize,
     lasts: bool,
@@ -66,7 +66,7 @@ impl Model for Blank {
 
 /// Makes what a front for these threads needs, with this room in its journal.
 ///
-/// Refused with 87 unless there are 1 to `MAX_THREADS` threads and room for 1 to 1048576 entries, and with 8 where memory is
+/// Refused with 87 unless there are 1 to `MAX_THREADS` threads and room for 1 to `MAX_ROOM` entries, and with 8 where memory is
 /// refused.
 pub fn prepare(alloc: Global, threads: u32, journal_room: usize) -> Result<Blank, Refusal>
     ensures ok { IfOk result (λ b. (b.threads ≡ threads) × (b.room ≡ journal_room)
@@ -175,7 +175,7 @@ fn make_rest<N: Named>(alloc: Global, blank: &Blank) -> Result<Made<N>, Refusal>
 fn is_lawful(threads: u32, room: usize) -> bool
     ensures { result ≡ is_lawful_front threads room }
 {
-    1 <= threads && threads <= MAX_THREADS && 1 <= room && room <= MOST_ENTRIES
+    1 <= threads && threads <= MAX_THREADS && 1 <= room && room <= MAX_ROOM
 }
 
 /// Makes what a front needs that lasts, or does not.

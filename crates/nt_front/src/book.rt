@@ -1,5 +1,5 @@
 //! What lies behind the lock.
-ghost use Rattle.std.specs.Prelude.{◌≡◌, ◌+◌, ◌-◌, ◌^◌, ◌<◌, ◌≤◌, ◌↔◌, [], length, min, vec_capacity, true, false, IfOk, IfErr, OnErr, Err, is_err, is_some, IsTrue, ◌&&◌};
+ghost use Rattle.std.specs.Prelude.{◌≡◌, ◌+◌, ◌-◌, ◌<◌, ◌≤◌, ◌↔◌, [], length, min, vec_capacity, true, false, IfOk, IfErr, OnErr, Err, is_err, is_some, IsTrue, ◌&&◌};
 ghost use Rattle.std.specs.FinMap as map;
 ghost use Rattle.nt_status.specs.declared.refusal.Refusal.TheVariants.{JournalFull, Memory};
 ghost use Rattle.nt_calls.specs.State.{opening, pends};
@@ -8,10 +8,9 @@ ghost use Rattle.nt_core.specs.Lawful.{IsLawful};
 ghost use Rattle.nt_calls.specs.Moves.{pended, is_wait};
 ghost use Rattle.nt_answers.specs.Answers.{is_done};
 ghost use Rattle.nt_answers.specs.Kinds.{is_answer};
+ghost use Rattle.nt_mail.specs.declared.knowledge.Asked.{Asked};
 ghost use Rattle.nt_mail.specs.Entries.{accepted};
-ghost use Rattle.nt_mail.specs.Knowledge.{IsEarlier};
-ghost use Rattle.nt_front.specs.Books.{Stands, WritesCall, WritesTick, IsFull, WasFull, HandsOut, WasHandedOut, gives_again, ledger, next_number};
-ghost use Rattle.nt_front.specs.Holds.{with_call, with_tick};
+ghost use Rattle.nt_front.specs.Books.{Stands, WritesCall, WritesTick, IsEntered, IsFull, WasFull, HandsOut, WasHandedOut, gives_again, ledger};
 ghost use Rattle.nt_front.specs.Wakes.{Wakes};
 
 use crate::hold::Hold;
@@ -22,13 +21,10 @@ use crate::wake::ToWake;
 use crate::write::{publish, send, tell, write_call};
 use nt_core::{Call, Core, Reply};
 use nt_life::Lasting;
-use nt_mail::{DispatcherSeat, Entry, Mail};
+use nt_mail::{DispatcherSeat, ENTRY_LIMIT, Mail, PackedEntry};
 use nt_status::{Moment, Refusal, ThreadId};
 use std::marker::{Model, PhantomData};
 use std::mem;
-
-/// The most entries that have numbers, and one more.
-const NUMBERS: u64 = 1 << 54;
 
 /// The dispatcher, its journal with the dispatcher that it begins at, and the seat that knows all entries. Only `open` makes one.
 ///
@@ -39,7 +35,7 @@ pub(crate) struct Book<N: Named> {
     pub(crate) life: Lasting,
     base: Core,
     pub(crate) first: u64,
-    pub(crate) journal: Vec<Entry>,
+    pub(crate) journal: Vec<PackedEntry>,
     pub(crate) room: usize,
     threads: u32,
     pub(crate) dispatcher: DispatcherSeat,
@@ -76,16 +72,13 @@ impl<N: Named> Book<N> {
     ) -> Result<(Receipt, ToWake), Refusal>
         requires mail { mail.now ≡ N.front.table }
         ensures book { IfOk result (λ r. WritesCall self.old caller.old.thread call r.0.result self.new) }
-        ensures entry { IfOk result (λ r. r.0.entry ≡ next_number self.old) }
-        ensures made { IfOk result (λ r. caller.new ≡ with_call caller.old r.0.entry call r.0.result) }
-        ensures earlier { IfOk result (λ r. IsEarlier r.0.entry caller.old) }
+        ensures entered { IfOk result (λ r. IsEntered self.old caller.old (Asked.Call call) r.0 caller.new) }
         ensures answer { IfOk result (λ r. IsTrue (is_answer call r.0.result)) }
         ensures waits { IfOk result (λ r. pended r.0.result ≡ true → is_wait call ≡ true) }
         ensures wakes { IfOk result (λ r. Wakes r.1 self.new.core.grants) }
         ensures full { (result ≡ Err JournalFull) ↔ IsFull self.old }
-        ensures only { IfErr result (λ r. r ≡ JournalFull) }
-        ensures told { OnErr result (WasFull N.front caller.old) }
-        ensures err { OnErr result ((self.new ≡ self.old) × (caller.new ≡ caller.old)) }
+        ensures err { IfErr result (λ r. (r ≡ JournalFull) × WasFull N.front caller.old
+            × (self.new ≡ self.old) × (caller.new ≡ caller.old)) }
     {
         let place = self.journal.len();
         let entry = self.first + place as u64;
@@ -127,16 +120,13 @@ impl<N: Named> Book<N> {
     ) -> Result<(Receipt, ToWake), Refusal>
         requires mail { mail.now ≡ N.front.table }
         ensures book { IfOk result (λ r. WritesTick self.old caller.old.thread moment r.0.result self.new) }
-        ensures entry { IfOk result (λ r. r.0.entry ≡ next_number self.old) }
-        ensures made { IfOk result (λ r. caller.new ≡ with_tick caller.old r.0.entry moment r.0.result) }
-        ensures earlier { IfOk result (λ r. IsEarlier r.0.entry caller.old) }
+        ensures entered { IfOk result (λ r. IsEntered self.old caller.old (Asked.Tick moment) r.0 caller.new) }
         ensures answer { IfOk result (λ r. IsTrue (is_done r.0.result)) }
         ensures waits { IfOk result (λ r. pended r.0.result ≡ false) }
         ensures wakes { IfOk result (λ r. Wakes r.1 self.new.core.grants) }
         ensures full { (result ≡ Err JournalFull) ↔ IsFull self.old }
-        ensures only { IfErr result (λ r. r ≡ JournalFull) }
-        ensures told { OnErr result (WasFull N.front caller.old) }
-        ensures err { OnErr result ((self.new ≡ self.old) × (caller.new ≡ caller.old)) }
+        ensures err { IfErr result (λ r. (r ≡ JournalFull) × WasFull N.front caller.old
+            × (self.new ≡ self.old) × (caller.new ≡ caller.old)) }
     {
         let place = self.journal.len();
         let entry = self.first + place as u64;
@@ -147,7 +137,7 @@ impl<N: Named> Book<N> {
         let armed = self.life.core().is_waiting(u32::from(by.get()));
         let result = self.life.tick(moment);
         self.journal
-            .push_reserved(Entry::Ticked { by, moment, result });
+            .push_reserved(PackedEntry::ticked(by, moment, result));
         tell(
             mail,
             &mut self.dispatcher,
@@ -187,7 +177,7 @@ impl<N: Named> Book<N> {
     }
 
     /// Puts this journal and this base in the places of the old ones, and hands those out.
-    fn hand_out(&mut self, journal: Vec<Entry>, base: Core) -> Part
+    fn hand_out(&mut self, journal: Vec<PackedEntry>, base: Core) -> Part
         requires journal { (journal.items ≡ []) × (self.old.room ≤ vec_capacity journal) }
         requires base { base ≡ self.old.core }
         ensures part { HandsOut self.old result self.new }
@@ -205,7 +195,7 @@ impl<N: Named> Book<N> {
     }
 
     /// An empty journal of the full room, and a copy of the dispatcher.
-    fn anew(&self) -> Result<(Vec<Entry>, Core), Refusal>
+    fn anew(&self) -> Result<(Vec<PackedEntry>, Core), Refusal>
         ensures journal { IfOk result (λ r. (r.0.items ≡ []) × (self.now.room ≤ vec_capacity r.0)) }
         ensures base { IfOk result (λ r. r.1 ≡ self.now.core) }
         ensures memory { IfErr result (λ r. r ≡ Memory) }
@@ -233,7 +223,7 @@ impl<N: Named> Book<N> {
         life: Lasting,
         base: Core,
         threads: u32,
-        journal: Vec<Entry>,
+        journal: Vec<PackedEntry>,
         room: usize,
         dispatcher: DispatcherSeat,
     ) -> Book<N>
@@ -297,11 +287,11 @@ impl<N: Named> Book<N> {
 /// There is no place, or no number, for one entry and one more for each pending wait.
 #[inline(always)]
 pub(crate) fn is_full(entries: usize, room: usize, next: u64, pending: usize) -> bool
-    requires { next ≤ 2 ^ 54 }
-    ensures { (result ≡ true) ↔ (min (room - entries) (2 ^ 54 - next) < 1 + pending) }
+    requires { next ≤ ENTRY_LIMIT }
+    ensures { (result ≡ true) ↔ (min (room - entries) (ENTRY_LIMIT - next) < 1 + pending) }
 {
     let places = room.saturating_sub(entries) as u64;
-    let numbers = NUMBERS - next;
+    let numbers = ENTRY_LIMIT - next;
     places.min(numbers) <= pending as u64
 }
 

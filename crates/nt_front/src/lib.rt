@@ -56,13 +56,13 @@ mod wake;
 mod write;
 
 pub use again::BegunAgain;
-pub use blank::{Blank, open, prepare, prepare_lasting};
+pub use blank::{Blank, MAX_ROOM, open, prepare, prepare_lasting};
 pub use calls::{Begun, Exited};
 pub use carried::{Carried, LetGo};
 pub use front::Front;
 pub use hold::{Ended, Held, Pass, Sleeper};
 pub use named::Named;
-pub use nt_mail::Entry;
+pub use nt_mail::{Entry, PackedEntry, ReadEntry};
 pub use polls::Polled;
 pub use receipt::{History, Part, Receipt};
 pub use waits::Waited;

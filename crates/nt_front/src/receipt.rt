@@ -2,7 +2,7 @@
 ghost use Rattle.std.specs.Prelude.{◌≡◌};
 
 use nt_core::{Core, Reply};
-use nt_mail::Entry;
+use nt_mail::PackedEntry;
 use nt_status::Refusal;
 
 /// The number of an entry, and the result that stands there.
@@ -19,7 +19,7 @@ pub struct Part {
     pub first: u64,
     /// The dispatcher as it was before the first of the entries, from which they can be made again.
     pub base: Core,
-    pub entries: Vec<Entry>,
+    pub entries: Vec<PackedEntry>,
 }
 
 /// Written by hand, so that whoever lets a part go has one function to call, and nothing to prove of its entries.
@@ -35,7 +35,7 @@ impl Drop for Part {
 
 impl Part {
     /// The dispatcher as it was before the first of the entries, and these.
-    pub fn into_run(self) -> (Core, Vec<Entry>)
+    pub fn into_run(self) -> (Core, Vec<PackedEntry>)
         ensures { (result.0 ≡ self.base) × (result.1 ≡ self.entries) }
     {
         let Part {
@@ -53,7 +53,7 @@ pub struct History {
     pub first: u64,
     /// The dispatcher as it was before the first of the entries, from which they can be made again.
     pub base: Core,
-    pub entries: Vec<Entry>,
+    pub entries: Vec<PackedEntry>,
 }
 
 impl Drop for History {
@@ -68,7 +68,7 @@ impl Drop for History {
 
 impl History {
     /// The dispatcher as it was before the first of the entries, and these.
-    pub fn into_run(self) -> (Core, Vec<Entry>)
+    pub fn into_run(self) -> (Core, Vec<PackedEntry>)
         ensures { (result.0 ≡ self.base) × (result.1 ≡ self.entries) }
     {
         let History {

@@ -1,5 +1,5 @@
 //! How entries are written, and told to their threads.
-ghost use Rattle.std.specs.Prelude.{◌≡◌, ◌+◌, ◌-◌, ◌^◌, ◌<◌, ◌≤◌, ◌++◌, ◌∷◌, [], length, map, vec_len, vec_capacity, ℕ, Result, IfOk, IsTrue};
+ghost use Rattle.std.specs.Prelude.{◌≡◌, ◌+◌, ◌-◌, ◌<◌, ◌≤◌, ◌++◌, ◌∷◌, [], length, map, vec_len, vec_capacity, ℕ, Result, IfOk, IsTrue};
 ghost use Rattle.nt_status.specs.declared.refusal.Refusal.{Refusal};
 ghost use Rattle.nt_calls.specs.Moves.{one_if};
 ghost use Rattle.nt_answers.specs.Answers.{is_handle};
@@ -14,14 +14,14 @@ ghost use Rattle.nt_front.specs.Books.{IsCarriedOut};
 use nt_answers::handle_told;
 use nt_core::{Call, Grant, Reply};
 use nt_life::{Lasting, Renewal};
-use nt_mail::{DispatcherSeat, Entry, Mail, ThreadSeat};
+use nt_mail::{DispatcherSeat, ENTRY_LIMIT, Mail, PackedEntry, ThreadSeat};
 use nt_status::{Moment, Refusal, ThreadId};
 
 /// Carries the call out, and writes it with its result, or which numbers were given again for it.
 #[inline(always)]
 pub(crate) fn write_call(
     life: &mut Lasting,
-    journal: &mut Vec<Entry>,
+    journal: &mut Vec<PackedEntry>,
     who: ThreadId,
     call: Call,
 ) -> Result<Reply, Refusal>
@@ -35,7 +35,7 @@ pub(crate) fn write_call(
     let result = life.call_told(u32::from(who.get()), &call, &mut renewal);
     let told = result;
     match renewal {
-        None => journal.push_reserved(Entry::Called { who, call, result }),
+        None => journal.push_reserved(PackedEntry::called(who, call, result)),
         Some(renewal) => write_renewal(journal, who, renewal, result),
     }
     told
@@ -44,7 +44,7 @@ pub(crate) fn write_call(
 /// Writes which numbers were given again, with the answer.
 #[inline(never)]
 fn write_renewal(
-    journal: &mut Vec<Entry>,
+    journal: &mut Vec<PackedEntry>,
     who: ThreadId,
     renewal: Renewal,
     answer: Result<Reply, Refusal>,
@@ -57,11 +57,7 @@ fn write_renewal(
         × (vec_capacity journal.new ≡ vec_capacity journal.old) }
 {
     let result = handle_told(answer);
-    journal.push_reserved(Entry::Renewed {
-        who,
-        renewal,
-        result,
-    });
+    journal.push_reserved(PackedEntry::renewed(who, renewal, result));
 }
 
 /// Tells the thread of its entry, and whether a wait of it is pending.
@@ -70,7 +66,7 @@ pub(crate) fn tell(
     mail: &Mail,
     dispatcher: &mut DispatcherSeat,
     caller: &mut ThreadSeat,
-    entry: &Entry,
+    entry: &PackedEntry,
     number: u64,
     armed: bool,
 )
@@ -78,7 +74,7 @@ pub(crate) fn tell(
     requires entry { IsOwn caller.old.known.thread entry.now }
     requires armed { one_if (is_armed caller.old.known.thread dispatcher.old.written) + one_if (arms entry.now)
         ≡ one_if armed }
-    requires number { (number ≡ length dispatcher.old.written + 1) × (number < 2 ^ 54) }
+    requires number { (number ≡ length dispatcher.old.written + 1) × (number < ENTRY_LIMIT) }
     ensures written { dispatcher.new ≡ record dispatcher.old { written = dispatcher.old.written ++ entry.now ∷ [] } }
     ensures made { caller.new ≡ seated mail.now (with_call number entry.now caller.old.known) }
     ensures earlier { IsEarlier number caller.old.known }
@@ -112,14 +108,14 @@ pub(crate) fn publish(
 pub(crate) fn send(
     mail: &Mail,
     dispatcher: &mut DispatcherSeat,
-    journal: &mut Vec<Entry>,
+    journal: &mut Vec<PackedEntry>,
     next: u64,
     grants: &[Grant],
 )
     requires table { dispatcher.old.table ≡ mail.now }
     requires next { next ≡ length dispatcher.old.written + 1 }
     requires room { (vec_len journal.old + length grants.now ≤ vec_capacity journal.old)
-        × (next + length grants.now ≤ 2 ^ 54) }
+        × (next + length grants.now ≤ ENTRY_LIMIT) }
     requires armed { AreArmed (mail.now.words - 1) dispatcher.old.written grants.now }
     ensures journal { journal.new.items ≡ journal.old.items ++ map granted grants.now }
     ensures capacity { vec_capacity journal.new ≡ vec_capacity journal.old }
@@ -136,14 +132,14 @@ pub(crate) fn send(
 fn send_all(
     mail: &Mail,
     dispatcher: &mut DispatcherSeat,
-    journal: &mut Vec<Entry>,
+    journal: &mut Vec<PackedEntry>,
     next: u64,
     grants: &[Grant],
 )
     requires table { dispatcher.old.table ≡ mail.now }
     requires next { next ≡ length dispatcher.old.written + 1 }
     requires room { (vec_len journal.old + length grants.now ≤ vec_capacity journal.old)
-        × (next + length grants.now ≤ 2 ^ 54) }
+        × (next + length grants.now ≤ ENTRY_LIMIT) }
     requires armed { AreArmed (mail.now.words - 1) dispatcher.old.written grants.now }
     ensures journal { journal.new.items ≡ journal.old.items ++ map granted grants.now }
     ensures capacity { vec_capacity journal.new ≡ vec_capacity journal.old }
@@ -153,10 +149,7 @@ fn send_all(
     let mut number = next;
     for grant in grants {
         let Grant { thread, status } = *grant;
-        journal.push_reserved(Entry::Granted {
-            who: thread,
-            status,
-        });
+        journal.push_reserved(PackedEntry::granted(thread, status));
         mail.grant(dispatcher, thread, status, number);
         number += 1;
     }

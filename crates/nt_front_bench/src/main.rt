@@ -17,7 +17,7 @@ mod told;
 mod workers;
 
 use measure::measure;
-use nt_front::Entry;
+use nt_front::PackedEntry;
 use shapes::{SHAPES, Shape, shape_named};
 use std::alloc::Global;
 use std::env;
@@ -78,7 +78,7 @@ fn run_each<R: Threads + Wait + Clock + Sync>(
     alloc: Global,
     out: &mut impl Write,
 ) -> Result<(), Fault> {
-    let bytes = size_of::<Entry>();
+    let bytes = size_of::<PackedEntry>();
     let printed = writeln!(out, "an entry takes {bytes} bytes");
     printed.map_err(|_| Fault::Output)?;
     for shape in SHAPES {

@@ -11,7 +11,7 @@ use crate::shapes::{Company, Kind, Shape};
 use crate::told::{Fault, Told};
 use crate::workers::{Back, Objects, with_all};
 use nt_core::{Act, Call};
-use nt_front::{Blank, Carried, Entry, Front, Held, History, Named, Pass, open, prepare};
+use nt_front::{Blank, Carried, Front, Held, History, Named, Pass, ReadEntry, open, prepare};
 use nt_status::Handle;
 use std::alloc::{AllocError, Global};
 use std::marker::Brand;
@@ -194,11 +194,11 @@ fn the_plan<R: Threads + Wait + Clock + Sync>(
 fn releases(history: &History) -> u64 {
     let mut releases = 0_u64;
     for entry in &history.entries {
-        if let Entry::Called {
+        if let ReadEntry::Called {
             call: Call::Act(Act::ReleaseSemaphore { .. }),
             result: Ok(_),
             ..
-        } = entry
+        } = entry.read()
         {
             releases = releases.wrapping_add(1);
         }

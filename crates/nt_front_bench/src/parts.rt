@@ -1,8 +1,11 @@
 //! What a call of the front is made of: the dispatcher's own work, the journal's entry, and the lock.
+ghost use Rattle.std.specs.Prelude.{◌≡◌};
+ghost use Rattle.nt_mail.specs.Packed.{hands_apc};
+
 use crate::moves::{nanos_since, now, objects};
 use crate::told::{Fault, Told};
 use nt_core::{Act, Call, Core, Reply};
-use nt_front::Entry;
+use nt_front::PackedEntry;
 use nt_status::{Handle, Refusal, Status, ThreadId};
 use std::alloc::Global;
 use std::sync::{Mutex, Wait};
@@ -33,20 +36,27 @@ fn core_rounds(core: &mut Core, alloc: Global, rounds: u32, told: &mut Told) -> 
     Ok(())
 }
 
+/// Whether an APC is answered, as these shapes ask for none.
+fn is_apc(answer: &Result<Reply, Refusal>) -> bool
+    ensures { result ≡ hands_apc answer.now }
+{
+    matches!(answer, Ok(Reply::Apc(_)))
+}
+
 /// Carries the call out, and writes it with its result.
 #[inline(always)]
 fn write(
     core: &mut Core,
-    journal: &mut Vec<Entry>,
+    journal: &mut Vec<PackedEntry>,
     call: Call,
 ) -> Result<Result<Reply, Refusal>, Fault> {
     let result = core.call(0, &call);
+    if is_apc(&result) {
+        drop(call);
+        return Err(Fault::Wrong);
+    }
     let told = result;
-    let entry = Entry::Called {
-        who: ThreadId::new(0),
-        call,
-        result,
-    };
+    let entry = PackedEntry::called(ThreadId::new(0), call, result);
     match journal.push(entry) {
         Ok(()) => Ok(told),
         Err(_) => Err(Fault::Memory),
@@ -55,7 +65,7 @@ fn write(
 
 fn written_rounds(
     core: &mut Core,
-    journal: &mut Vec<Entry>,
+    journal: &mut Vec<PackedEntry>,
     alloc: Global,
     rounds: u32,
     told: &mut Told,
@@ -87,7 +97,7 @@ fn time_core<R: Clock>(rt: &R, core: &mut Core, alloc: Global, rounds: u32) -> R
 fn time_both<R: Clock>(
     rt: &R,
     core: &mut Core,
-    journal: &mut Vec<Entry>,
+    journal: &mut Vec<PackedEntry>,
     alloc: Global,
     rounds: u32,
 ) -> Result<Told, Fault> {
@@ -117,7 +127,7 @@ fn core_beside<R: Clock>(
     rt: &R,
     alloc: Global,
     rounds: u32,
-    journal: &mut Vec<Entry>,
+    journal: &mut Vec<PackedEntry>,
 ) -> Result<Told, Fault> {
     let mut core = Core::new(alloc, 1)?;
     let told = time_both(rt, &mut core, journal, alloc, rounds);

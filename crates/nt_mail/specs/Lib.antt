@@ -1,5 +1,6 @@
 pub mod Entries
 pub mod Journals
+pub mod Packed
 pub mod Words
 pub mod Knowledge
 pub mod Views

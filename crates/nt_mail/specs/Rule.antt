@@ -11,6 +11,7 @@ use Rattle.nt_mail.specs.declared.knowledge.Knowledge.{Knowledge}
 use Rattle.nt_mail.specs.declared.knowledge.View.{View}
 use Rattle.nt_mail.specs.declared.knowledge.Got.{Got}
 use Rattle.nt_mail.specs.Entries.{Each, given, calls_of, grants_of, is_armed, last_of, pended_in, last_pended, last_number, AreBelow, AreMadeBelow}
+use Rattle.nt_mail.specs.declared.word.TheConstants.{STATES}
 use Rattle.nt_mail.specs.Words.{idle_word, armed_word, granted_word}
 use Rattle.nt_mail.specs.Knowledge.{latest, IsFree, IsWaiting}
 
@@ -71,7 +72,7 @@ pub record IsPart (words : List ℕ) (log : List Entry) (published : List ℕ) (
   pub made : k.made ≡ calls_of k.thread log
   pub taken : IsTaken k.got (grants_of k.thread log)
   pub word : IsReplyWord (is_armed k.thread log) (slice_index words (k.thread + 1)) (last_of k.thread log) k.got (grants_of k.thread log)
-  pub number : WasLast k.thread (slice_index words (k.thread + 1) / 1024) log
+  pub number : WasLast k.thread (slice_index words (k.thread + 1) / STATES) log
   pub moments : AreReadFrom published k.moments
 
 -- what a seat knows is true: the dispatcher's has all entries written and all moments published, and each part is true

@@ -3,6 +3,7 @@ use Rattle.std.specs.Prelude.{ℕ, suc, ◌%◌, ◌==◌, List, [], ◌∷◌, 
 use Rattle.nt_mail.specs.declared.entry.Entry.{Entry}
 use Rattle.nt_mail.specs.declared.knowledge.Knowledge.{Knowledge}
 use Rattle.nt_mail.specs.declared.knowledge.View.{View}
+use Rattle.nt_mail.specs.declared.word.TheConstants.{STATES}
 use Rattle.nt_mail.specs.Knowledge.{newcomers, with_call}
 
 -- the dispatcher's view: all entries written, the moments published, and the parts of threads that are joined to it
@@ -49,7 +50,7 @@ with_entry e v = record { keeps = v.keeps; written = v.written ++ e ∷ []; publ
 
 -- the dispatcher wrote this entry where the word that it found is idle, and else nothing
 abbrev pub with_entry_if_idle : ℕ → Entry → View → View
-with_entry_if_idle found e v = if found % 1024 == 0 then with_entry e v else v
+with_entry_if_idle found e v = if found % STATES == 0 then with_entry e v else v
 
 -- the dispatcher published this moment
 abbrev pub with_published : ℕ → View → View

@@ -1,9 +1,10 @@
-//! The entries of the journal.
+//! What the entries of the journal say.
 use nt_core::{Call, Reply};
 use nt_life::Renewal;
 use nt_status::{Handle, Moment, Refusal, Status, ThreadId};
 
-/// One entry of the journal. Entries are numbered from 1.
+/// One entry of the journal. Entries are numbered from 1. No value of this type is made: contracts speak of it, and a journal keeps
+/// `PackedEntry`s.
 pub enum Entry {
     /// A thread's call, with its answer.
     Called {
@@ -53,6 +54,3 @@ impl Drop for Entry {
         }
     }
 }
-
-// Writing it is the largest part of what a call of the front costs beside the core's own.
-const _: () = prove!(size_of::<Entry>() <= 112);

@@ -55,6 +55,7 @@
 mod entry;
 mod knowledge;
 mod mail;
+mod packed;
 mod rule;
 mod seat;
 mod steps;
@@ -63,5 +64,6 @@ mod word;
 pub use entry::Entry;
 pub use knowledge::{Asked, Got, Knowledge, Made, View};
 pub use mail::{Mail, Opened};
+pub use packed::{PackedEntry, ReadEntry};
 pub use seat::{DispatcherSeat, JoinedSeats, ThreadSeat};
-pub use word::{Word, told_by};
+pub use word::{ENTRY_LIMIT, STATES, Word, told_by};

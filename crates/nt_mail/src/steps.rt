@@ -10,14 +10,14 @@ ghost use Rattle.nt_mail.specs.Rule.{IsTold, IsWordFor};
 ghost use Rattle.nt_mail.specs.Views.{keeper, with_entry};
 ghost use Rattle.nt_mail.specs.Seats.{seated, known_in};
 
-use crate::entry::Entry;
 use crate::mail::Mail;
+use crate::packed::PackedEntry;
 use crate::rule::{
     Apart, Letters, Looks, Place, Polls, Publishes, Reads, Spare, Takes, Together, Writes,
     WritesIfIdle, Writing,
 };
 use crate::seat::{DispatcherSeat, ThreadSeat};
-use crate::word::{Word, idle_of};
+use crate::word::{ENTRY_LIMIT, STATES, Word, idle_of};
 use nt_status::{Moment, Status, ThreadId};
 use std::marker::Brand;
 use std::mem;
@@ -30,13 +30,13 @@ impl Mail {
         &self,
         dispatcher: &mut DispatcherSeat,
         caller: &mut ThreadSeat,
-        entry: &Entry,
+        entry: &PackedEntry,
         number: u64,
     )
         requires table { (dispatcher.old.table ≡ self.now) × (caller.old.table ≡ self.now) }
         requires entry { IsOwn caller.old.known.thread entry.now }
         requires idle { (is_armed caller.old.known.thread dispatcher.old.written ≡ false) × (arms entry.now ≡ false) }
-        requires number { (number ≡ length dispatcher.old.written + 1) × (number < 2 ^ 54) }
+        requires number { (number ≡ length dispatcher.old.written + 1) × (number < ENTRY_LIMIT) }
         ensures written { dispatcher.new
             ≡ record dispatcher.old { written = dispatcher.old.written ++ entry.now ∷ [] } }
         ensures made { caller.new ≡ seated self.now (with_call number entry.now caller.old.known) }
@@ -51,14 +51,14 @@ impl Mail {
         &self,
         dispatcher: &mut DispatcherSeat,
         caller: &mut ThreadSeat,
-        entry: &Entry,
+        entry: &PackedEntry,
         number: u64,
     )
         requires table { (dispatcher.old.table ≡ self.now) × (caller.old.table ≡ self.now) }
         requires entry { IsOwn caller.old.known.thread entry.now }
         requires pending { one_if (is_armed caller.old.known.thread dispatcher.old.written) + one_if (arms entry.now)
             ≡ 1 }
-        requires number { (number ≡ length dispatcher.old.written + 1) × (number < 2 ^ 54) }
+        requires number { (number ≡ length dispatcher.old.written + 1) × (number < ENTRY_LIMIT) }
         ensures written { dispatcher.new
             ≡ record dispatcher.old { written = dispatcher.old.written ++ entry.now ∷ [] } }
         ensures made { caller.new ≡ seated self.now (with_call number entry.now caller.old.known) }
@@ -73,7 +73,7 @@ impl Mail {
         &self,
         dispatcher: &mut DispatcherSeat,
         caller: &mut ThreadSeat,
-        entry: &Entry,
+        entry: &PackedEntry,
         number: u64,
         armed: bool,
     )
@@ -81,7 +81,7 @@ impl Mail {
         requires entry { IsOwn caller.old.known.thread entry.now }
         requires armed { one_if (is_armed caller.old.known.thread dispatcher.old.written) + one_if (arms entry.now)
             ≡ one_if armed }
-        requires number { (number ≡ length dispatcher.old.written + 1) × (number < 2 ^ 54) }
+        requires number { (number ≡ length dispatcher.old.written + 1) × (number < ENTRY_LIMIT) }
         ensures written { dispatcher.new
             ≡ record dispatcher.old { written = dispatcher.old.written ++ entry.now ∷ [] } }
         ensures made { caller.new ≡ seated self.now (with_call number entry.now caller.old.known) }
@@ -112,7 +112,7 @@ impl Mail {
     )
         requires table { (dispatcher.old.table ≡ self.now) × (thread + 1 < self.now.words) }
         requires armed { is_armed thread dispatcher.old.written ≡ true }
-        requires number { (number ≡ length dispatcher.old.written + 1) × (number < 2 ^ 54) }
+        requires number { (number ≡ length dispatcher.old.written + 1) × (number < ENTRY_LIMIT) }
         ensures { dispatcher.new
             ≡ record dispatcher.old { written = dispatcher.old.written ++ Granted thread status ∷ [] } }
     {
@@ -160,7 +160,7 @@ impl Mail {
     /// answers the word that it found. It tries once.
     pub fn take(&self, seat: &mut ThreadSeat, word: u64) -> Result<(), u64>
         requires table { seat.old.table ≡ self.now }
-        requires granted { 2 ≤ word % 1024 }
+        requires granted { 2 ≤ word % STATES }
         ensures ok { OnOk result (seat.new ≡ seated self.now (with_got (grant_in word) seat.old.known)) }
         ensures err { IfErr result (λ found. (found ≢ word)
             × (seat.new ≡ seated self.now (with_polled found seat.old.known))) }
@@ -194,7 +194,7 @@ fn store_unless_idle<W: Writing>(
     table: &Letters,
     seat: &mut Place,
     thread: usize,
-    entry: &Entry,
+    entry: &PackedEntry,
     number: u64,
     armed: bool,
 )
@@ -208,7 +208,7 @@ fn store_unless_idle<W: Writing>(
     ) }
     requires caller { (known_in seat.old.me.0).thread ≡ thread }
     requires armed { one_if (is_armed thread seat.old.me.0.written) + one_if (arms entry.now) ≡ one_if armed }
-    requires number { (number ≡ length seat.old.me.0.written + 1) × (number < 2 ^ 54) }
+    requires number { (number ≡ length seat.old.me.0.written + 1) × (number < ENTRY_LIMIT) }
     ensures table { (seat.new.table_id ≡ seat.old.table_id) × (seat.new.id ≡ seat.old.id) }
     ensures view { seat.new.me ≡ (with_entry entry.now seat.old.me.0, []) }
     ensures earlier { IsEarlier number (known_in seat.old.me.0) }
@@ -222,7 +222,12 @@ fn store_unless_idle<W: Writing>(
 
 // One load. Where the word is idle, that writes the call or tick that `W` names, and the word stays. Answers whether it is.
 #[inline(always)]
-fn note_if_idle<W: Writing>(table: &Letters, seat: &mut Place, thread: usize, entry: &Entry) -> bool
+fn note_if_idle<W: Writing>(
+    table: &Letters,
+    seat: &mut Place,
+    thread: usize,
+    entry: &PackedEntry,
+) -> bool
     requires table { (seat.old.table_id ≡ table.now.shared.table_id) × (thread + 1 < seat.old.table_id.words) }
     requires thread { thread < 2 ^ 16 }
     requires entry { (entry.now ≡ W.entry) × IsOwn thread entry.now }
@@ -238,7 +243,7 @@ fn note_if_idle<W: Writing>(table: &Letters, seat: &mut Place, thread: usize, en
     ensures earlier { IsEarlier (suc (length seat.old.me.0.written)) (known_in seat.old.me.0) }
 {
     let word = table.shared.load::<WritesIfIdle<W>>(seat, word_of(thread));
-    word % 1024 == 0
+    word % STATES == 0
 }
 
 // One store, which writes the call or tick that `W` names.
@@ -247,7 +252,7 @@ fn store_call<W: Writing>(
     table: &Letters,
     seat: &mut Place,
     thread: usize,
-    entry: &Entry,
+    entry: &PackedEntry,
     number: u64,
     armed: bool,
 )
@@ -261,7 +266,7 @@ fn store_call<W: Writing>(
     ) }
     requires caller { (known_in seat.old.me.0).thread ≡ thread }
     requires armed { one_if (is_armed thread seat.old.me.0.written) + one_if (arms entry.now) ≡ one_if armed }
-    requires number { (number ≡ length seat.old.me.0.written + 1) × (number < 2 ^ 54) }
+    requires number { (number ≡ length seat.old.me.0.written + 1) × (number < ENTRY_LIMIT) }
     ensures table { (seat.new.table_id ≡ seat.old.table_id) × (seat.new.id ≡ seat.old.id) }
     ensures view { seat.new.me ≡ (with_entry entry.now seat.old.me.0, []) }
     ensures earlier { IsEarlier number (known_in seat.old.me.0) }
@@ -283,7 +288,7 @@ fn store_grant<W: Writing>(
     requires entry { W.entry ≡ Granted thread status }
     requires view { seat.old.me ≡ (keeper seat.old.me.0.written seat.old.me.0.published [], []) }
     requires armed { is_armed thread seat.old.me.0.written ≡ true }
-    requires number { (number ≡ length seat.old.me.0.written + 1) × (number < 2 ^ 54) }
+    requires number { (number ≡ length seat.old.me.0.written + 1) × (number < ENTRY_LIMIT) }
     ensures table { (seat.new.table_id ≡ seat.old.table_id) × (seat.new.id ≡ seat.old.id) }
     ensures view { seat.new.me ≡ (with_entry (Granted thread status) seat.old.me.0, []) }
 {
@@ -316,12 +321,12 @@ fn word_of(thread: usize) -> usize
 
 // The word that a call or tick leaves.
 fn call_word(number: u64, armed: bool) -> u64
-    requires { (0 < number) × (number < 2 ^ 54) }
+    requires { (0 < number) × (number < ENTRY_LIMIT) }
     ensures { result ≡ called_word armed number }
 {
     if armed {
-        number * 1024 + 1
+        number * STATES + 1
     } else {
-        number * 1024
+        number * STATES
     }
 }

@@ -6,6 +6,15 @@ ghost use Rattle.nt_mail.specs.Words.{IsLawfulWord, TellsGrant, bits_of, granted
 use nt_core::Reply;
 use nt_status::Status;
 
+/// How many states the low 10 bits of a word can tell.
+pub const STATES: u64 = 1 << 10;
+
+/// The numbers of entries are below this: the high 54 bits of a word have no greater.
+pub const ENTRY_LIMIT: u64 = 1 << 54;
+
+// A word has no other bits.
+const _: () = prove!(ENTRY_LIMIT - 1 == u64::MAX / STATES);
+
 /// A thread's reply word: the number of an entry of the thread, and how its wait stands.
 #[derive(Clone, Copy, PartialEq, Eq, Debug)]
 pub enum Word {
@@ -26,9 +35,9 @@ impl Word {
         ensures { result ≡ bits_of self }
     {
         match self {
-            Word::Idle(entry) => entry * 1024,
-            Word::Armed(entry) => entry * 1024 + 1,
-            Word::Granted(entry, status) => entry * 1024 + 2 + u64::from(status.code()),
+            Word::Idle(entry) => entry * STATES,
+            Word::Armed(entry) => entry * STATES + 1,
+            Word::Granted(entry, status) => entry * STATES + 2 + u64::from(status.code()),
         }
     }
 
@@ -38,7 +47,7 @@ impl Word {
         ensures some { IfSome result (λ word. IsLawfulWord word × (bits_of word ≡ bits)) }
         ensures none { IfNone result ((word : Word) → IsLawfulWord word → bits_of word ≢ bits) }
     {
-        let (entry, low) = (bits / 1024, bits % 1024);
+        let (entry, low) = (bits / STATES, bits % STATES);
         if low == 0 {
             return Some(Word::Idle(entry));
         }
@@ -57,9 +66,9 @@ impl Word {
 
 /// The idle word with the same number.
 pub(crate) fn idle_of(bits: u64) -> u64
-    ensures { result ≡ idle_word (bits / 1024) }
+    ensures { result ≡ idle_word (bits / STATES) }
 {
-    bits / 1024 * 1024
+    bits / STATES * STATES
 }
 
 /// The entry's number and the reply that a granted word tells. None where the bits are of no granted word.
@@ -68,7 +77,7 @@ pub fn told_by(bits: u64) -> Option<(u64, Reply)>
     ensures none { IfNone result ((n status : ℕ) → IsLawfulWord (Word.Granted n status)
         → granted_word n status ≢ bits) }
 {
-    let (entry, low) = (bits / 1024, bits % 1024);
+    let (entry, low) = (bits / STATES, bits % STATES);
     if entry == 0 || low < 2 {
         return None;
     }

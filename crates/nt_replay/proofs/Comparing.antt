@@ -10,6 +10,9 @@ use Rattle.nt_calls.specs.State.{State}
 use Rattle.nt_core.specs.Dispatcher.{Dispatcher, state}
 use Rattle.nt_laws.specs.Lives.{LivesOneWay}
 use Rattle.nt_mail.specs.declared.entry.Entry.{Entry}
+use Rattle.nt_mail.specs.declared.entry.Entry.TheVariants.{Granted}
+use Rattle.nt_mail.specs.declared.packed.ReadEntry.{ReadEntry}
+use Rattle.nt_mail.specs.Packed.{read_entry}
 use Rattle.nt_mail.specs.Journals.{granted, written, IsDeed, IsLifeFrom}
 use Rattle.nt_mail.proofs.Lives.{deeds-append, written-append}
 use Rattle.nt_replay.specs.Replays.{IsReached, LifeBegins, IsFirstToDiffer, IsForMemory, IsUnreplayed, AreReplayed, EntryIsDone, IsUndone}
@@ -41,6 +44,14 @@ grant_compared base es place e compared d g inside is grant next r =
           ∙ (sym (append_assoc (take place es) (e ∷ []) (map granted (drop (compared + 1) d.grants)))
           ∙ ap (λ l. l ++ map granted (drop (compared + 1) d.grants)) (sym (one_more es place e inside is))))) r.life;
     }
+
+-- what is read as a grant is one
+pub read_grant : (read : ReadEntry) (who status : ℕ) → read_entry read ≡ Granted who status → read ≡ ReadEntry.Granted who status
+read_grant (ReadEntry.Granted thread ended) who status e = (cc)
+read_grant (ReadEntry.Called thread call result) who status e = (cc)
+read_grant (ReadEntry.Handed thread apc) who status e = (cc)
+read_grant (ReadEntry.Ticked thread moment result) who status e = (cc)
+read_grant (ReadEntry.Renewed thread renewal result) who status e = (cc)
 
 -- no grant is left
 none_left : (es : List Entry) (compared : ℕ) (d : Dispatcher) → length d.grants ≤ compared → es ++ map granted (drop compared d.grants) ≡ es

@@ -8,16 +8,16 @@ ghost use Rattle.nt_replay.specs.Replays.{ReplayGoesOn, StopsFor, IsUnreplayed, 
 
 use crate::renewing::renew_again;
 use crate::unreplayed::Unreplayed;
-use nt_core::{Core, Grant, Reply};
+use nt_core::{Act, Call, Core, Grant, Reply};
 use nt_laws::lives_one_way;
-use nt_mail::Entry;
+use nt_mail::{PackedEntry, ReadEntry};
 use nt_status::Refusal;
 
 /// Does again on the base what the entries tell, compares every result, number and grant, and answers the machine after them.
 ///
 /// It answers it exactly where the entries are a life from the base, unless memory is refused. A life in which no number was given again
 /// is a run.
-pub fn replay(base: Core, entries: &[Entry]) -> Result<Core, Unreplayed>
+pub fn replay(base: Core, entries: &[PackedEntry]) -> Result<Core, Unreplayed>
     ensures life { IfOk result (λ core. IsLifeFrom (state base) entries.now (state core)) }
     ensures run { IfOk result (λ core. list_any is_renewal entries.now ≡ false
         → IsRunFrom (state base) entries.now (state core)) }
@@ -36,7 +36,7 @@ pub fn replay(base: Core, entries: &[Entry]) -> Result<Core, Unreplayed>
 
 /// Does again on this machine what all entries tell.
 #[tactic(auto, using(crate::proofs::Comparing::none_replayed, crate::proofs::Comparing::life_replayed, crate::proofs::Comparing::grants_lacking_at))]
-fn replay_all(core: &mut Core, entries: &[Entry]) -> Result<(), Unreplayed>
+fn replay_all(core: &mut Core, entries: &[PackedEntry]) -> Result<(), Unreplayed>
     ensures life { OnOk result (IsLifeFrom (state core.old) entries.now (state core.new)) }
     ensures unreplayed { IfErr result (IsUnreplayed (state core.old) entries.now) }
 {
@@ -59,7 +59,7 @@ fn replay_all(core: &mut Core, entries: &[Entry]) -> Result<(), Unreplayed>
 fn replay_entry(
     core: &mut Core,
     compared: usize,
-    entries: &[Entry],
+    entries: &[PackedEntry],
     place: usize,
 ) -> Result<usize, Unreplayed>
     requires { place < length entries.now }
@@ -67,10 +67,10 @@ fn replay_entry(
     ensures err { IfErr result (StopsFor entries.now place compared core.old) }
 {
     lives_one_way();
-    if let Entry::Granted { who, status } = &entries[place] {
+    if let ReadEntry::Granted { who, status } = entries[place].read() {
         let grant = Grant {
-            thread: *who,
-            status: *status,
+            thread: who,
+            status,
         };
         return if is_next(core.grants(), compared, grant) {
             Ok(compared + 1)
@@ -85,22 +85,27 @@ fn replay_entry(
 }
 
 /// Does again what the entry tells, unless it is a grant. No grant of it was compared yet.
-fn do_again(core: &mut Core, entry: &Entry, place: usize) -> Result<usize, Unreplayed>
+fn do_again(core: &mut Core, entry: &PackedEntry, place: usize) -> Result<usize, Unreplayed>
     ensures ok { IfOk result (λ now. (now ≡ 0) × EntryIsDone entry.now core.old core.new) }
     ensures err { IfErr result (IsUndone (state core.old) entry.now place) }
 {
     lives_one_way();
-    match entry {
-        Entry::Called { who, call, result } => {
-            compare_call(core.call(u32::from(who.get()), call), *result, place)
+    match entry.read() {
+        ReadEntry::Called { who, call, result } => {
+            compare_call(core.call(u32::from(who.get()), call), result, place)
         }
-        Entry::Ticked { moment, result, .. } => compare(core.tick(*moment), *result, place),
-        Entry::Renewed {
+        ReadEntry::Handed { who, apc } => {
+            let call = Call::Act(Act::NextApc);
+            let made = core.call(u32::from(who.get()), &call);
+            compare_call(made, Ok(Reply::Apc(apc)), place)
+        }
+        ReadEntry::Ticked { moment, result, .. } => compare(core.tick(moment), result, place),
+        ReadEntry::Renewed {
             who,
             renewal,
             result,
-        } => renew_again(core, *who, renewal, *result, place),
-        Entry::Granted { .. } => Err(Unreplayed::Differs(place)),
+        } => renew_again(core, who, renewal, result, place),
+        ReadEntry::Granted { .. } => Err(Unreplayed::Differs(place)),
     }
 }
 

@@ -4,7 +4,7 @@ ghost use Rattle.nt_calls.specs.Moves.{one_if};
 ghost use Rattle.nt_threads.specs.Counts.{abandoned, acquired, acquires, ends_abandoned, is_release, is_taken, is_wait_for, posted, posts_in, mutex_releases, tells_abandoned, waiting_after};
 
 use nt_core::{Act, Call, Reply, WaitCall};
-use nt_mail::Entry;
+use nt_mail::{PackedEntry, ReadEntry};
 use nt_status::{Handle, Refusal, Status, ThreadId};
 use std::alloc::{AllocError, Global};
 
@@ -27,7 +27,7 @@ pub fn counts_of(
     alloc: Global,
     threads: u32,
     mutex: Handle,
-    entries: &[Entry],
+    entries: &[PackedEntry],
 ) -> Result<Counts, AllocError>
     ensures acquired { IfOk result (λ c. c.acquired ≡ acquired threads mutex entries.now) }
     ensures released { IfOk result (λ c. c.released ≡ mutex_releases entries.now) }
@@ -61,11 +61,11 @@ fn one_if(is: bool) -> u64
 }
 
 /// Whether the entry tells of a mutex release that was not refused.
-fn is_release(entry: &Entry) -> bool
+fn is_release(entry: &PackedEntry) -> bool
     ensures { result ≡ is_release entry.now }
 {
-    match entry {
-        Entry::Called {
+    match entry.read() {
+        ReadEntry::Called {
             who: _,
             call: Call::Act(Act::ReleaseMutex(_)),
             result,
@@ -75,11 +75,11 @@ fn is_release(entry: &Entry) -> bool
 }
 
 /// By how much the entry tells that a semaphore was released.
-fn posts_in(entry: &Entry) -> u32
+fn posts_in(entry: &PackedEntry) -> u32
     ensures { result ≡ posts_in entry.now }
 {
-    match entry {
-        Entry::Called {
+    match entry.read() {
+        ReadEntry::Called {
             who: _,
             call: Call::Act(
                 Act::ReleaseSemaphore {
@@ -114,16 +114,19 @@ fn tells_abandoned(status: Status) -> bool
 }
 
 /// Whether the entry tells of a wait that ended with an abandoned mutex.
-fn is_abandoned(entry: &Entry) -> bool
+fn is_abandoned(entry: &PackedEntry) -> bool
     ensures { result ≡ ends_abandoned entry.now }
 {
-    match entry {
-        Entry::Called {
+    match entry.read() {
+        ReadEntry::Called {
             who: _,
             call: _,
-            result: Ok(Reply::Status(status)),
-        } => tells_abandoned(*status),
-        Entry::Granted { who: _, status } => tells_abandoned(*status),
+            result,
+        } => match &result {
+            Ok(Reply::Status(status)) => tells_abandoned(*status),
+            _ => false,
+        },
+        ReadEntry::Granted { who: _, status } => tells_abandoned(status),
         _ => false,
     }
 }
@@ -160,28 +163,26 @@ fn is_waiting(waiting: &[bool], who: ThreadId) -> bool
 }
 
 /// Whether the entry tells that a worker acquired the mutex. It notes who waits for it.
-fn acquires(mutex: Handle, waiting: &mut Vec<bool>, entry: &Entry) -> bool
+fn acquires(mutex: Handle, waiting: &mut Vec<bool>, entry: &PackedEntry) -> bool
     ensures acquires { result ≡ acquires mutex waiting.old.items entry.now }
     ensures waiting { waiting.new.items ≡ waiting_after mutex waiting.old.items entry.now }
 {
-    match entry {
-        Entry::Called { who, call, result } => match result {
+    match entry.read() {
+        ReadEntry::Called { who, call, result } => match &result {
             Ok(Reply::Status(status)) => {
                 who.get() > 0 && is_wait_for(mutex, call) && is_taken(*status)
             }
             Ok(Reply::Pended) => {
-                note(waiting, *who, is_wait_for(mutex, call));
+                note(waiting, who, is_wait_for(mutex, call));
                 false
             }
             _ => false,
         },
-        Entry::Granted { who, status } => {
-            let acquires = who.get() > 0
-                && is_waiting(waiting.as_slice(), *who)
-                && is_taken(*status);
-            note(waiting, *who, false);
+        ReadEntry::Granted { who, status } => {
+            let acquires = who.get() > 0 && is_waiting(waiting.as_slice(), who) && is_taken(status);
+            note(waiting, who, false);
             acquires
         }
-        Entry::Ticked { .. } | Entry::Renewed { .. } => false,
+        ReadEntry::Handed { .. } | ReadEntry::Ticked { .. } | ReadEntry::Renewed { .. } => false,
     }
 }

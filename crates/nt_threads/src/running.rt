@@ -15,7 +15,7 @@ use crate::driving::{Driven, drive};
 use crate::front_door::FrontDoor;
 use crate::report::lines_of;
 use nt_front::{Blank, Front, Held, History, Named, Pass, open, prepare};
-use nt_mail::Entry;
+use nt_mail::PackedEntry;
 use nt_status::{Handle, Refusal};
 use std::alloc::{AllocError, Global};
 use std::marker::Brand;
@@ -119,7 +119,7 @@ fn told_of(
     alloc: Global,
     workers: u32,
     rounds: u32,
-    entries: &[Entry],
+    entries: &[PackedEntry],
 ) -> Result<Vec<u8>, AllocError>
     requires workers { workers ≤ 64 }
     requires comes { ComesOfRun (workers + 1) entries.now }

@@ -1,5 +1,5 @@
 //! The mail: the bits of reply words, and each step once.
-ghost use Rattle.std.specs.Prelude.{◌≡◌, ◌+◌, ◌<◌, ◌≤◌, ◌^◌, ◌++◌, ◌∷◌, [], length, true, false, IfOk, Ok};
+ghost use Rattle.std.specs.Prelude.{◌≡◌, ◌+◌, ◌<◌, ◌≤◌, ◌++◌, ◌∷◌, [], length, true, false, IfOk, Ok};
 ghost use Rattle.nt_calls.specs.declared.call.Call.{Call};
 ghost use Rattle.nt_calls.specs.declared.call.Reply.{Reply};
 ghost use Rattle.nt_calls.specs.declared.call.WaitCall.{WaitCall};
@@ -7,11 +7,14 @@ ghost use Rattle.nt_calls.specs.Moves.{pended};
 ghost use Rattle.nt_mail.specs.declared.entry.Entry.TheVariants.{Called};
 ghost use Rattle.nt_mail.specs.Entries.{is_armed};
 ghost use Rattle.nt_mail.specs.Knowledge.{knows, newcomers};
+ghost use Rattle.nt_mail.specs.Packed.{hands_apc};
 ghost use Rattle.nt_mail.specs.Seats.{seated};
 
 use crate::refused::{Host, tell_refused};
 use nt_core::{Act, Call, Reply, WaitCall};
-use nt_mail::{DispatcherSeat, Entry, Mail, Opened, ThreadSeat, Word, told_by};
+use nt_mail::{
+    DispatcherSeat, ENTRY_LIMIT, Mail, Opened, PackedEntry, STATES, ThreadSeat, Word, told_by,
+};
 use nt_status::{Handle, Handles, Moment, Status, ThreadId};
 use std::alloc::AllocError;
 use std::test::Fail;
@@ -112,9 +115,9 @@ fn note(
     number: u64,
 )
     requires table { (dispatcher.old.table ≡ mail.now) × (caller.old.table ≡ mail.now) }
-    requires reply { pended (Ok reply) ≡ false }
+    requires reply { (pended (Ok reply) ≡ false) × (hands_apc (Ok reply) ≡ false) }
     requires idle { is_armed caller.old.known.thread dispatcher.old.written ≡ false }
-    requires number { (number ≡ length dispatcher.old.written + 1) × (number < 2 ^ 54) }
+    requires number { (number ≡ length dispatcher.old.written + 1) × (number < ENTRY_LIMIT) }
     ensures written { dispatcher.new
         ≡ record dispatcher.old {
           written = dispatcher.old.written ++ Called caller.old.known.thread (Call.Act act)
@@ -122,11 +125,7 @@ fn note(
         } }
     ensures caller { (caller.new.table ≡ mail.now) × (caller.new.known.thread ≡ caller.old.known.thread) }
 {
-    let entry = Entry::Called {
-        who: caller.thread(),
-        call: Call::Act(act),
-        result: Ok(reply),
-    };
+    let entry = PackedEntry::called(caller.thread(), Call::Act(act), Ok(reply));
     mail.note(dispatcher, caller, &entry, number);
 }
 
@@ -140,7 +139,7 @@ fn arm(
 )
     requires table { (dispatcher.old.table ≡ mail.now) × (caller.old.table ≡ mail.now) }
     requires idle { is_armed caller.old.known.thread dispatcher.old.written ≡ false }
-    requires number { (number ≡ length dispatcher.old.written + 1) × (number < 2 ^ 54) }
+    requires number { (number ≡ length dispatcher.old.written + 1) × (number < ENTRY_LIMIT) }
     ensures written { dispatcher.new
         ≡ record dispatcher.old {
           written = dispatcher.old.written ++ Called caller.old.known.thread (Call.Wait wait)
@@ -148,11 +147,7 @@ fn arm(
         } }
     ensures caller { (caller.new.table ≡ mail.now) × (caller.new.known.thread ≡ caller.old.known.thread) }
 {
-    let entry = Entry::Called {
-        who: caller.thread(),
-        call: Call::Wait(wait),
-        result: Ok(Reply::Pended),
-    };
+    let entry = PackedEntry::called(caller.thread(), Call::Wait(wait), Ok(Reply::Pended));
     mail.arm(dispatcher, caller, &entry, number);
 }
 
@@ -163,7 +158,7 @@ fn take_twice(mail: &Mail, waiter: &mut ThreadSeat, told: &mut Told)
 {
     let granted = mail.poll(waiter);
     told.words[2] = granted;
-    if granted % 1024 < 2 {
+    if granted % STATES < 2 {
         return;
     }
     told.takes[0] = mail.take(waiter, granted);
@@ -227,11 +222,7 @@ fn tick(
     requires waiter { (waiter.old.known.thread ≡ 1) × (is_armed 1 dispatcher.old.written ≡ false) }
     ensures { (dispatcher.new.table ≡ mail.now) × (waiter.new.table ≡ mail.now) }
 {
-    let entry = Entry::Ticked {
-        by: waiter.thread(),
-        moment,
-        result: Ok(Reply::Done),
-    };
+    let entry = PackedEntry::ticked(waiter.thread(), moment, Ok(Reply::Done));
     mail.note(dispatcher, waiter, &entry, 5);
     told.words[4] = mail.poll(waiter);
     mail.publish_moment(dispatcher, moment);

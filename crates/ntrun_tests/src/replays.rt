@@ -1,8 +1,11 @@
 //! Entries made again on the dispatcher that they began at, and such as are not those that it writes.
+ghost use Rattle.std.specs.Prelude.{◌≡◌, false};
+ghost use Rattle.nt_mail.specs.Packed.{hands_apc};
+
 use crate::refused::{is_refusing, tell_refused};
 use nt_core::{Act, Call, Core, Reply, WaitCall};
 use nt_life::Renewal;
-use nt_mail::Entry;
+use nt_mail::PackedEntry;
 use nt_replay::{Unreplayed, replay};
 use nt_status::{Handle, Moment, ObjectNumber, Refusal, Status, ThreadId};
 use std::alloc::{AllocError, Global};
@@ -237,25 +240,20 @@ const ROWS: &[(&str, &[Told], Option<Unreplayed>)] = &[
 ];
 
 /// The first thread's act.
-fn act_of(act: Act, answer: Result<Reply, Refusal>) -> Entry {
-    Entry::Called {
-        who: ThreadId::new(0),
-        call: Call::Act(act),
-        result: answer,
-    }
+fn act_of(act: Act, answer: Result<Reply, Refusal>) -> PackedEntry
+    requires { hands_apc answer ≡ false }
+{
+    PackedEntry::called(ThreadId::new(0), Call::Act(act), answer)
 }
 
 /// Numbers given again to this thread.
-fn renewed(thread: u16, renewal: Renewal, answer: Result<u32, Refusal>) -> Entry {
-    Entry::Renewed {
-        who: ThreadId::new(thread),
-        renewal,
-        result: answer.map(|handle| Handle::new(handle)),
-    }
+fn renewed(thread: u16, renewal: Renewal, answer: Result<u32, Refusal>) -> PackedEntry {
+    let result = answer.map(|handle| Handle::new(handle));
+    PackedEntry::renewed(ThreadId::new(thread), renewal, result)
 }
 
 /// The entry of numbers that are given again.
-fn renewal_of(told: Told) -> Entry {
+fn renewal_of(told: Told) -> PackedEntry {
     let act = Act::CreateEvent(0);
     match told {
         CreatesAt(object, handle, result) => {
@@ -298,30 +296,22 @@ fn renewal_of(told: Told) -> Entry {
 }
 
 /// The entry that is told, by threads 0 and 1.
-fn entry_of(told: Told) -> Entry {
+fn entry_of(told: Told) -> PackedEntry {
     let (first, second) = (ThreadId::new(0), ThreadId::new(1));
     match told {
-        Sleeps => Entry::Called {
-            who: second,
-            call: Call::Wait(WaitCall::Sleep {
+        Sleeps => {
+            let sleep = WaitCall::Sleep {
                 ms: 1,
                 alertable: false,
-            }),
-            result: Ok(Reply::Pended),
-        },
-        Passes(result) => Entry::Ticked {
-            by: first,
-            moment: Moment::new(10_000).unwrap_or(Moment::ZERO),
-            result: result.map(|()| Reply::Done),
-        },
-        Wakes => Entry::Granted {
-            who: second,
-            status: Status::object(0),
-        },
-        TimesOut => Entry::Granted {
-            who: second,
-            status: Status::TIMEOUT,
-        },
+            };
+            PackedEntry::called(second, Call::Wait(sleep), Ok(Reply::Pended))
+        }
+        Passes(result) => {
+            let moment = Moment::new(10_000).unwrap_or(Moment::ZERO);
+            PackedEntry::ticked(first, moment, result.map(|()| Reply::Done))
+        }
+        Wakes => PackedEntry::granted(second, Status::object(0)),
+        TimesOut => PackedEntry::granted(second, Status::TIMEOUT),
         Creates(result) => act_of(
             Act::CreateEvent(0),
             result.map(|handle| Reply::Handle(Handle::new(handle))),
@@ -334,11 +324,7 @@ fn entry_of(told: Told) -> Entry {
             Ok(Reply::Handle(Handle::new(handle))),
         ),
         Closes(handle) => act_of(Act::Close(Handle::new(handle)), Ok(Reply::Done)),
-        Ends => Entry::Called {
-            who: second,
-            call: Call::Exit,
-            result: Ok(Reply::Done),
-        },
+        Ends => PackedEntry::called(second, Call::Exit, Ok(Reply::Done)),
         _ => renewal_of(told),
     }
 }
@@ -358,7 +344,7 @@ fn stop_of(alloc: Global, told: &[Told]) -> Result<Option<Unreplayed>, Refusal> 
 }
 
 /// Why the entries are not replayed from this base.
-fn stop(base: Core, entries: &[Entry]) -> Option<Unreplayed> {
+fn stop(base: Core, entries: &[PackedEntry]) -> Option<Unreplayed> {
     match replay(base, entries) {
         Ok(core) => {
             drop(core);

@@ -9,8 +9,8 @@ use crate::front::told::let_go;
 use crate::refused::is_refusing;
 use nt_core::{Act, Reply};
 use nt_front::{
-    BegunAgain, Blank, Entry, Front, Held, History, Named, Part, Pass, Receipt, open, prepare,
-    prepare_lasting,
+    BegunAgain, Blank, Front, Held, History, Named, PackedEntry, Part, Pass, ReadEntry, Receipt,
+    open, prepare, prepare_lasting,
 };
 use nt_front_calls::Calls;
 use nt_life::Renewal;
@@ -271,12 +271,12 @@ fn told(answer: &Result<Handle, Refusal>) -> Result<u32, u32> {
 }
 
 /// Whether this entry tells that numbers were given again, and if so, whether it tells just this.
-fn is_told(number: u64, entry: &Entry, expected: Option<&Renewed>) -> Option<bool> {
-    let Entry::Renewed {
+fn is_told(number: u64, entry: &PackedEntry, expected: Option<&Renewed>) -> Option<bool> {
+    let ReadEntry::Renewed {
         who,
         renewal,
         result,
-    } = entry
+    } = entry.read()
     else {
         return None;
     };
@@ -287,12 +287,12 @@ fn is_told(number: u64, entry: &Entry, expected: Option<&Renewed>) -> Option<boo
         *at == number
             && *thread == who.get()
             && renewal_of(*gives) == Some(*renewal)
-            && told(result) == *answer,
+            && told(&result) == *answer,
     )
 }
 
 /// How many of the expected renewals stand in the entries up to these, where so many stand before; none if another one does.
-fn read(expected: &[Renewed], before: usize, first: u64, entries: &[Entry]) -> Option<usize> {
+fn read(expected: &[Renewed], before: usize, first: u64, entries: &[PackedEntry]) -> Option<usize> {
     let mut count = before;
     for i in 0..entries.len() {
         let number = first.wrapping_add(i as u64);

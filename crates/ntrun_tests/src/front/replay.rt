@@ -1,6 +1,6 @@
 //! A journal is made again, call by call.
 use nt_core::Core;
-use nt_front::{Entry, History, Part};
+use nt_front::{History, PackedEntry, Part};
 use nt_replay::{Unreplayed, replay};
 use nt_status::Refusal;
 use std::alloc::Global;
@@ -15,7 +15,7 @@ struct Follower {
 impl Follower {
     /// Makes the calls of the next entries too, as does a copy of the dispatcher that they begin at, which is to be like this one. Answers
     /// the number of the first entry that one of them does not give, or that is missing.
-    fn follow(self, first: u64, base: &Core, entries: &[Entry]) -> Result<Follower, u64> {
+    fn follow(self, first: u64, base: &Core, entries: &[PackedEntry]) -> Result<Follower, u64> {
         match self.precedes(first, base, entries) {
             Ok(()) => self.go_on(first, entries),
             Err(number) => {
@@ -27,7 +27,7 @@ impl Follower {
 
     /// Whether these entries go on from here, and a copy of the dispatcher that they begin at gives them. Else the number of the first that
     /// it does not give, or that is missing.
-    fn precedes(&self, first: u64, base: &Core, entries: &[Entry]) -> Result<(), u64> {
+    fn precedes(&self, first: u64, base: &Core, entries: &[PackedEntry]) -> Result<(), u64> {
         if self.core.is_like(base) {
             follows(self.next, first, base, entries)
         } else {
@@ -36,7 +36,7 @@ impl Follower {
     }
 
     /// Makes the calls of these entries too.
-    fn go_on(self, first: u64, entries: &[Entry]) -> Result<Follower, u64> {
+    fn go_on(self, first: u64, entries: &[PackedEntry]) -> Result<Follower, u64> {
         let Follower { core, .. } = self;
         let core = made_again(core, first, entries)?;
         let next = first.wrapping_add(entries.len() as u64);
@@ -46,7 +46,7 @@ impl Follower {
 
 /// Whether these entries are those from number `next` on, and a copy of the dispatcher that they begin at gives them. Else the number of
 /// the first that it does not give, or that is missing.
-fn follows(next: u64, first: u64, base: &Core, entries: &[Entry]) -> Result<(), u64> {
+fn follows(next: u64, first: u64, base: &Core, entries: &[PackedEntry]) -> Result<(), u64> {
     if first != next {
         return Err(next);
     }
@@ -60,7 +60,7 @@ fn follows(next: u64, first: u64, base: &Core, entries: &[Entry]) -> Result<(), 
 }
 
 /// The dispatcher after the calls of these entries, which are numbered from `first` on.
-fn made_again(core: Core, first: u64, entries: &[Entry]) -> Result<Core, u64> {
+fn made_again(core: Core, first: u64, entries: &[PackedEntry]) -> Result<Core, u64> {
     match replay(core, entries) {
         Ok(core) => Ok(core),
         Err(Unreplayed::Differs(place) | Unreplayed::Memory(place)) => {

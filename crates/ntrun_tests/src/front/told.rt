@@ -1,6 +1,6 @@
 //! What a thread was told, and the same read off the journal.
 use nt_core::Reply;
-use nt_front::{Blank, Entry, History, Part, Receipt};
+use nt_front::{Blank, History, PackedEntry, Part, ReadEntry, Receipt};
 use nt_status::{Status, ThreadId};
 
 /// Drops a front that was never opened.
@@ -92,17 +92,18 @@ impl Told {
     }
 
     /// Adds what these entries, numbered from `first` on, say of this thread.
-    pub fn read_all(&mut self, thread: ThreadId, first: u64, entries: &[Entry]) {
+    pub fn read_all(&mut self, thread: ThreadId, first: u64, entries: &[PackedEntry]) {
         for i in 0..entries.len() {
             self.read(thread, &entries[i], first.wrapping_add(i as u64));
         }
     }
 
-    fn read(&mut self, thread: ThreadId, entry: &Entry, number: u64) {
-        match entry {
-            Entry::Called { who, .. } if *who == thread => self.calls.add(number),
-            Entry::Ticked { by, .. } if *by == thread => self.calls.add(number),
-            Entry::Granted { who, status } if *who == thread => self.grant(number, *status),
+    fn read(&mut self, thread: ThreadId, entry: &PackedEntry, number: u64) {
+        match entry.read() {
+            ReadEntry::Called { who, .. } if who == thread => self.calls.add(number),
+            ReadEntry::Handed { who, .. } if who == thread => self.calls.add(number),
+            ReadEntry::Ticked { by, .. } if by == thread => self.calls.add(number),
+            ReadEntry::Granted { who, status } if who == thread => self.grant(number, status),
             _ => {}
         }
     }

@@ -1,7 +1,7 @@
 //! The journal of a run by real threads, written as a script: the script's run has the same answers and grants.
 use crate::refused::is_refusing;
 use nt_core::Reply;
-use nt_mail::Entry;
+use nt_mail::{PackedEntry, ReadEntry};
 use nt_script::{Counted, Summary, run};
 use nt_status::Refusal;
 use nt_threads::history_of;
@@ -11,11 +11,11 @@ use std::process::Abort;
 use std::test::Fail;
 
 /// The calls of the entries, each a line, after the line of the three threads.
-fn script_of(alloc: Global, entries: &[Entry]) -> Result<Vec<u8>, Unwritten> {
+fn script_of(alloc: Global, entries: &[PackedEntry]) -> Result<Vec<u8>, Unwritten> {
     let mut script = b"threads 3\n".to_vec(alloc)?;
     for entry in entries {
-        if let Entry::Called { who, call, result } = entry {
-            write_line(&mut script, *who, call, result)?;
+        if let ReadEntry::Called { who, call, result } = entry.read() {
+            write_line(&mut script, who, call, &result)?;
         }
     }
     Ok(script)
@@ -35,26 +35,27 @@ fn answer_text(alloc: Global, answer: &Result<Reply, Refusal>) -> Result<String,
 }
 
 /// What a transcript says of this entry. So many lines of the script have come, this one's included.
-fn entry_text(alloc: Global, line: u32, entry: &Entry) -> Result<String, AllocError> {
-    match entry {
-        Entry::Called { result, .. } => {
-            let answer = answer_text(alloc, result)?;
+fn entry_text(alloc: Global, line: u32, entry: &PackedEntry) -> Result<String, AllocError> {
+    match entry.read() {
+        ReadEntry::Called { result, .. } => {
+            let answer = answer_text(alloc, &result)?;
             format!(in alloc; "{line}: {answer}\n")
         }
-        Entry::Granted { who, status } => {
+        ReadEntry::Handed { .. } => format!(in alloc; "{line}: an APC\n"),
+        ReadEntry::Granted { who, status } => {
             format!(in alloc; "{line}: t{} status 0x{:08x}\n", who.get(), status.code())
         }
-        Entry::Ticked { .. } => format!(in alloc; "{line}: a tick\n"),
-        Entry::Renewed { .. } => format!(in alloc; "{line}: numbers given again\n"),
+        ReadEntry::Ticked { .. } => format!(in alloc; "{line}: a tick\n"),
+        ReadEntry::Renewed { .. } => format!(in alloc; "{line}: numbers given again\n"),
     }
 }
 
 /// The transcript that has the answers and grants of the entries, and at whose end no thread waits.
-fn transcript_of(alloc: Global, entries: &[Entry]) -> Result<String, AllocError> {
+fn transcript_of(alloc: Global, entries: &[PackedEntry]) -> Result<String, AllocError> {
     let mut transcript = String::new(alloc);
     let mut line = 1u32;
     for entry in entries {
-        if let Entry::Called { .. } = entry {
+        if let ReadEntry::Called { .. } = entry.read() {
             line = line.saturating_add(1);
         }
         transcript.push_str(entry_text(alloc, line, entry)?.as_str())?;
@@ -75,7 +76,7 @@ fn run_script(alloc: Global, script: &[u8]) -> Result<(Vec<u8>, Summary), Fail> 
 }
 
 /// The entries, as a script, are carried out with their answers and grants.
-fn check(rt: &(impl Abort + AllocGlobal), entries: &[Entry]) -> Result<(), Fail> {
+fn check(rt: &(impl Abort + AllocGlobal), entries: &[PackedEntry]) -> Result<(), Fail> {
     let script = script_of(rt.alloc(), entries)?;
     let wanted = transcript_of(rt.alloc(), entries)?;
     let (written, summary) = run_script(rt.alloc(), script.as_slice())?;

@@ -72,7 +72,7 @@ invariant_of-self-2 g c =
     let waited = subst (λ (x : ℕ). c.is_waiting-armed.result ≡ pends old x) number (c.is_waiting-armed.ensures ∙ ap (λ (d : Core). pends (state d) c.from-number.result) c.core-2.ensures) in
     let known = below life.core n kept.stands.lawful kept.agree.threads in
     let here : c.len-place.result ≡ length held = search rules in
-    let grown = c.push_reserved.ensures.items in
+    let grown = (c.push_reserved.ensures.items ∙ ap (λ (x : Entry). c.self.inside.journal.items ++ x ∷ []) c.renewed.ensures) in
     let entry : c.index.result.now ≡ e = last_is held e c.push_reserved.new.self.items c.len-place.result c.index.result.now c.index.ensures grown here in
     let longer : c.tell.new.dispatcher.written ≡ es ++ e ∷ [] = ap (λ (d : Dispatcher). d.written) c.tell.ensures.written ∙ ap (λ (x : Entry). es ++ x ∷ []) entry in
     let sent = c.tell.ensures.written ∙ ap (λ (d : Dispatcher). record d { written = d.written ++ c.index.result.now ∷ [] }) kept.seat in
@@ -108,7 +108,7 @@ invariant_of-caller-2 g c =
     let t = c.thread-who.result in
     let es = c.self.inside.journal.items in
     let here : c.len-place.result ≡ length es = search rules in
-    let entry = last_is es (Renewed t (Begin h) (Ok h)) c.push_reserved.new.self.items c.len-place.result c.index.result.now c.index.ensures c.push_reserved.ensures.items here in
+    let entry = last_is es (Renewed t (Begin h) (Ok h)) c.push_reserved.new.self.items c.len-place.result c.index.result.now c.index.ensures (c.push_reserved.ensures.items ∙ ap (λ (x : Entry). c.self.inside.journal.items ++ x ∷ []) c.renewed.ensures) here in
     let becomes : c.tell.new.caller.known ≡ with_made known number Asked.Begin (Ok (Reply.Handle h)) =
     ap (λ (s : Seated). s.known) c.tell.ensures.made ∙ (ap (entry_known number c.index.result.now) same ∙ made_again known number c.index.result.now t h entry (c.thread-who.ensures ∙ ap (λ (k : Knowledge). k.thread) (sym c.caller.view_is))) in
     let count = c.caller.invariant.calls in record {
@@ -132,7 +132,7 @@ returns-clause-book g c =
     let both = begun_this old life.spare c.from-number.result h after.core.grants new c.in-Some.ensures.begun in
     let begun = subst (λ (x : ℕ). BeginsAgain old x h (Ok (Reply.Handle h)) after.core.grants new) (c.from-number.ensures ∙ c.get.ensures) both.1 in
     let here : c.len-place.result ≡ length held = search rules in
-    let grown = c.push_reserved.ensures.items in
+    let grown = (c.push_reserved.ensures.items ∙ ap (λ (x : Entry). c.self.inside.journal.items ++ x ∷ []) c.renewed.ensures) in
     let entry : c.index.result.now ≡ e = last_is held e c.push_reserved.new.self.items c.len-place.result c.index.result.now c.index.ensures grown here in
     let longer : c.tell.new.dispatcher.written ≡ es ++ e ∷ [] = ap (λ (d : Dispatcher). d.written) c.tell.ensures.written ∙ ap (λ (x : Entry). es ++ x ∷ []) entry in
     subst (λ (x : Ledger × ℕ). Writes x.0 (record { entry = Renewed x.1 (Begin h) (Ok h); grants = [] }) (ledger after c.self.inside.base c.tell.new.dispatcher.written c.self.inside.first c.push_reserved.new.self.items c.self.inside.room))
@@ -147,3 +147,18 @@ returns-clause-book g c =
       first = refl;
       room = refl;
     })
+
+pub returns-clause-entered : goal.returns-clause-entered
+returns-clause-entered g c =
+    let known = c.caller.inside.seat.value.known in
+    let number = c.self.inside.first + c.len-place.result in
+    let same = ap (λ (s : Seated). s.known) c.deref_mut-2.ensures.value in
+    let h = c.in-Some.handle in
+    let t = c.thread-who.result in
+    let es = c.self.inside.journal.items in
+    let here : c.len-place.result ≡ length es = search rules in
+    let pushed = c.push_reserved.ensures.items ∙ ap (λ (x : Entry). es ++ x ∷ []) c.renewed.ensures in
+    let entry = last_is es (Renewed t (Begin h) (Ok h)) c.push_reserved.new.self.items c.len-place.result c.index.result.now c.index.ensures pushed here in
+    let becomes : c.tell.new.caller.known ≡ with_made known number Asked.Begin (Ok (Reply.Handle h)) =
+    ap (λ (s : Seated). s.known) c.tell.ensures.made ∙ (ap (entry_known number c.index.result.now) same ∙ made_again known number c.index.result.now t h entry (c.thread-who.ensures ∙ ap (λ (k : Knowledge). k.thread) (sym c.caller.view_is))) in
+    record { next = search rules; earlier = search rules; made = becomes ∙ ap (λ (k : Knowledge). with_made k number Asked.Begin (Ok (Reply.Handle h))) c.caller.view_is }

@@ -189,3 +189,17 @@ returns-clause-book g c =
       writes = record { step = done.step; once = done.once; lasts = done.lasts; journal = grown; written = longer; base = refl; first = refl; room = refl };
       makes = done.makes;
     })
+
+pub returns-clause-entered : goal.returns-clause-entered
+returns-clause-entered g c =
+    let out = c.write_call-result.ensures.carried_out in
+    let known = c.caller.inside.seat.value.known in
+    let result = c.write_call-result.result in
+    let es = c.self.inside.journal.items in
+    let here : c.len-place.result ≡ length es = search rules in
+    let entry = last_is es out.0 c.write_call-result.new.journal.items c.len-place.result c.index.result.now c.index.ensures out.1 here in
+    let number = c.self.inside.first + c.len-place.result in
+    let same = ap (λ (s : Seated). s.known) c.deref_mut.ensures.value in
+    let becomes : c.tell.new.caller.known ≡ with_call known number c.args.call result =
+    ap (λ (s : Seated). s.known) c.tell.ensures.made ∙ (ap (entry_known number c.index.result.now) same ∙ ap (λ (x : Entry). entry_known number x known) entry ∙ made_call known number out.0 c.thread-who.result c.args.call result out.2.of (c.thread-who.ensures ∙ ap (λ (k : Knowledge). k.thread) (sym c.caller.view_is))) in
+    record { next = search rules; earlier = search rules; made = becomes ∙ ap (λ (k : Knowledge). with_call k number c.args.call result) c.caller.view_is }

@@ -16,6 +16,7 @@ use Rattle.nt_front.specs.Runs.{Agree, AreArmed, granted}
 use Rattle.nt_front.specs.Books.{Ledger, ledger, Writes}
 use Rattle.nt_front.specs.Holds.{floor_of, moment_if, with_tick, AreNumbered}
 use Rattle.nt_front.proofs.Journals.{below, done_stays, stands_after, tick_sends, agree_after_tick, accepted-step, journal_is, written_count, last_is, room_left}
+use Rattle.nt_front.proofs.Told.{no_apc_done}
 use Rattle.nt_front.proofs.Floors.{fewer_calls, floor_ticks, calls_made, numbered_made, made_tick}
 use Rattle.std.specs.Prelude.{max}
 use Rattle.nt_answers.proofs.Telling.{tick_told}
@@ -29,6 +30,10 @@ overflow_add-caller g c =
     let fewer = fewer_calls known number c.caller.invariant.numbered (omega arith) earlier in
     let count = c.caller.invariant.calls in
     omega (arith, fewer, count)
+
+pub ticked-requires : goal.ticked-requires
+ticked-requires g c =
+    no_apc_done c.tick-result.result (tick_told (state c.self.inside.life.core) (state c.tick-result.new.self.core) c.args.moment c.tick-result.result c.tick-result.new.self.core.grants c.tick-result.ensures.ticked)
 
 pub send-requires-clause-armed : goal.send-requires-clause-armed
 send-requires-clause-armed g c =
@@ -45,7 +50,7 @@ send-requires-clause-armed g c =
     let known = below c.self.inside.life.core n c.self.invariant.stands.lawful c.self.invariant.agree.threads in
     let e = Ticked c.thread-by.result c.args.moment c.tick-result.result in
     let here : c.len-place.result ≡ length c.self.inside.journal.items = search rules in
-    let entry : c.index.result.now ≡ e = last_is c.self.inside.journal.items e c.push_reserved.new.self.items c.len-place.result c.index.result.now c.index.ensures c.push_reserved.ensures.items here in
+    let entry : c.index.result.now ≡ e = last_is c.self.inside.journal.items e c.push_reserved.new.self.items c.len-place.result c.index.result.now c.index.ensures (c.push_reserved.ensures.items ∙ ap (λ (x : Entry). c.self.inside.journal.items ++ x ∷ []) c.ticked.ensures) here in
     let told : c.tell.new.dispatcher.written ≡ es ++ e ∷ [] = ap (λ (d : Dispatcher). d.written) c.tell.ensures.written ∙ ap (λ (x : Entry). es ++ x ∷ []) entry in
     subst (λ (x : ℕ × List Entry × List Grant). AreArmed x.0 x.1 x.2) (λ i. (sym count i, sym told i, sym (c.grants.ensures ∙ ap (λ (d : Core). d.grants) c.core-3.ensures) i))
     (tick_sends n es old c.thread-by.result c.args.moment c.tick-result.result grants new c.is_waiting-armed.result c.self.invariant.agree known stays (done.moves c.thread-by.result) waited)
@@ -69,9 +74,9 @@ invariant_of-self g c =
     let sent_are = c.grants.ensures ∙ ap (λ (d : Core). d.grants) c.core-3.ensures in
     let held = c.self.inside.journal.items in
     let next = c.send.new.journal.items in
-    let grown : next ≡ held ++ (e ∷ map granted grants) = journal_is held c.push_reserved.new.self.items next e grants c.grants.result.now c.push_reserved.ensures.items c.send.ensures.journal sent_are in
+    let grown : next ≡ held ++ (e ∷ map granted grants) = journal_is held c.push_reserved.new.self.items next e grants c.grants.result.now (c.push_reserved.ensures.items ∙ ap (λ (x : Entry). c.self.inside.journal.items ++ x ∷ []) c.ticked.ensures) c.send.ensures.journal sent_are in
     let here : c.len-place.result ≡ length held = search rules in
-    let entry : c.index.result.now ≡ e = last_is held e c.push_reserved.new.self.items c.len-place.result c.index.result.now c.index.ensures c.push_reserved.ensures.items here in
+    let entry : c.index.result.now ≡ e = last_is held e c.push_reserved.new.self.items c.len-place.result c.index.result.now c.index.ensures (c.push_reserved.ensures.items ∙ ap (λ (x : Entry). c.self.inside.journal.items ++ x ∷ []) c.ticked.ensures) here in
     let told : c.tell.new.dispatcher.written ≡ es ++ e ∷ [] = ap (λ (d : Dispatcher). d.written) c.tell.ensures.written ∙ ap (λ (x : Entry). es ++ x ∷ []) entry in
     let more = c.send.new.dispatcher.written in
     let longer : more ≡ es ++ (e ∷ map granted grants) = journal_is es c.tell.new.dispatcher.written more e grants c.grants.result.now told (ap (λ (d : Dispatcher). d.written) c.send.ensures.written) sent_are in
@@ -112,7 +117,7 @@ invariant_of-caller g c =
     let result = c.tick-result.result in
     let es = c.self.inside.journal.items in
     let here : c.len-place.result ≡ length es = search rules in
-    let entry = last_is es (Ticked c.thread-by.result moment result) c.push_reserved.new.self.items c.len-place.result c.index.result.now c.index.ensures c.push_reserved.ensures.items here in
+    let entry = last_is es (Ticked c.thread-by.result moment result) c.push_reserved.new.self.items c.len-place.result c.index.result.now c.index.ensures (c.push_reserved.ensures.items ∙ ap (λ (x : Entry). c.self.inside.journal.items ++ x ∷ []) c.ticked.ensures) here in
     let becomes : c.tell.new.caller.known ≡ with_tick known number moment result =
     ap (λ (s : Seated). s.known) c.tell.ensures.made ∙ (ap (entry_known number c.index.result.now) same ∙ made_tick known number c.index.result.now c.thread-by.result moment result entry (c.thread-by.ensures ∙ ap (λ (k : Knowledge). k.thread) (sym c.caller.view_is))) in
     let count = c.caller.invariant.calls in record {
@@ -138,9 +143,9 @@ returns-clause-book g c =
     let sent_are = c.grants.ensures ∙ ap (λ (d : Core). d.grants) c.core-3.ensures in
     let held = c.self.inside.journal.items in
     let next = c.send.new.journal.items in
-    let grown : next ≡ held ++ e ∷ map granted grants = journal_is held c.push_reserved.new.self.items next e grants c.grants.result.now c.push_reserved.ensures.items c.send.ensures.journal sent_are in
+    let grown : next ≡ held ++ e ∷ map granted grants = journal_is held c.push_reserved.new.self.items next e grants c.grants.result.now (c.push_reserved.ensures.items ∙ ap (λ (x : Entry). c.self.inside.journal.items ++ x ∷ []) c.ticked.ensures) c.send.ensures.journal sent_are in
     let here : c.len-place.result ≡ length held = search rules in
-    let entry : c.index.result.now ≡ e = last_is held e c.push_reserved.new.self.items c.len-place.result c.index.result.now c.index.ensures c.push_reserved.ensures.items here in
+    let entry : c.index.result.now ≡ e = last_is held e c.push_reserved.new.self.items c.len-place.result c.index.result.now c.index.ensures (c.push_reserved.ensures.items ∙ ap (λ (x : Entry). c.self.inside.journal.items ++ x ∷ []) c.ticked.ensures) here in
     let told : c.tell.new.dispatcher.written ≡ es ++ e ∷ [] = ap (λ (d : Dispatcher). d.written) c.tell.ensures.written ∙ ap (λ (x : Entry). es ++ x ∷ []) entry in
     let more = c.send.new.dispatcher.written in
     let longer : more ≡ es ++ e ∷ map granted grants = journal_is es c.tell.new.dispatcher.written more e grants c.grants.result.now told (ap (λ (d : Dispatcher). d.written) c.send.ensures.written) sent_are in
@@ -148,3 +153,18 @@ returns-clause-book g c =
     subst (λ (x : Ledger × ℕ). Writes x.0 (record { entry = Ticked x.1 moment result; grants = grants }) (ledger after c.self.inside.base c.publish.new.dispatcher.written c.self.inside.first next c.self.inside.room))
     {x = (ledger c.self.inside.life c.self.inside.base es c.self.inside.first held c.self.inside.room, by)} {y = (c.args.self.now, c.args.caller.now.thread)} (λ i. (c.self.view_is i, c.thread-by.ensures i))
     (record { step = (refl, (state after.core, done.ticked, refl)); once = λ none. refl; lasts = ap is_some done.spare; journal = grown; written = last; base = refl; first = refl; room = refl })
+
+pub returns-clause-entered : goal.returns-clause-entered
+returns-clause-entered g c =
+    let known = c.caller.inside.seat.value.known in
+    let number = c.self.inside.first + c.len-place.result in
+    let same = ap (λ (s : Seated). s.known) c.deref_mut.ensures.value in
+    let moment = c.args.moment in
+    let result = c.tick-result.result in
+    let es = c.self.inside.journal.items in
+    let here : c.len-place.result ≡ length es = search rules in
+    let pushed = c.push_reserved.ensures.items ∙ ap (λ (x : Entry). es ++ x ∷ []) c.ticked.ensures in
+    let entry = last_is es (Ticked c.thread-by.result moment result) c.push_reserved.new.self.items c.len-place.result c.index.result.now c.index.ensures pushed here in
+    let becomes : c.tell.new.caller.known ≡ with_tick known number moment result =
+    ap (λ (s : Seated). s.known) c.tell.ensures.made ∙ (ap (entry_known number c.index.result.now) same ∙ made_tick known number c.index.result.now c.thread-by.result moment result entry (c.thread-by.ensures ∙ ap (λ (k : Knowledge). k.thread) (sym c.caller.view_is))) in
+    record { next = search rules; earlier = search rules; made = becomes ∙ ap (λ (k : Knowledge). with_tick k number moment result) c.caller.view_is }

@@ -6,12 +6,12 @@ use Rattle.nt_front.proofs.front.Front.wait.Goals as goal
 
 pub invariant_of-sleep : goal.invariant_of-sleep
 invariant_of-sleep g c =
-    subst IsWaiting (sym c.in-Ok.ensures.made)
-    (waits_after c.pass.inside.hold c.in-Ok.begun.entry (Call.Wait c.args.wait) c.in-Ok.begun.result (sym c.has_pended.ensures ∙ c.if-has_pended.true) c.pass.invariant c.in-Ok.ensures.earlier)
+    subst IsWaiting (sym c.in-Ok.ensures.entered.made)
+    (waits_after c.pass.inside.hold c.in-Ok.begun.entry (Call.Wait c.args.wait) c.in-Ok.begun.result (sym c.has_pended.ensures ∙ c.if-has_pended.true) c.pass.invariant c.in-Ok.ensures.entered.earlier)
 
 pub invariant_of-result-2 : goal.invariant_of-result-2
 invariant_of-result-2 g c =
-    subst IsFree (sym c.in-Ok.ensures.made)
+    subst IsFree (sym c.in-Ok.ensures.entered.made)
     (free_after c.pass.inside.hold c.in-Ok.begun.entry (Call.Wait c.args.wait) c.in-Ok.begun.result (sym c.has_pended.ensures ∙ c.if-has_pended.false) c.pass.invariant)
 
 pub returns-then-has_pended : goal.returns-then-has_pended
