@@ -6,8 +6,7 @@ use Rattle.nt_objects.specs.declared.object.Object.{Object}
 use Rattle.nt_objects.specs.declared.object.Object.TheVariants.{Event, Semaphore, Mutex, Thread}
 use Rattle.nt_objects.specs.declared.object.Armed.{Armed}
 use Rattle.nt_objects.specs.declared.object.Routine.{Routine}
-use Rattle.nt_objects.specs.Object.{event_of, mutex_of, timer_of, with_set, released, unlocked, abandoned_by, unset_by, armed_with, setting_of, due_of, rearmed, count_of}
-use Rattle.nt_objects.specs.Handles.{full_access}
+use Rattle.nt_objects.specs.Object.{event_of, mutex_of, timer_of, with_set, released, unlocked, abandoned_by, unset_by, armed_with, setting_of, due_of, rearmed, count_of, full_access}
 use Rattle.nt_apc.specs.declared.apc.Queued.{Queued}
 use Rattle.nt_apc.specs.Queues.{apc_queue_of, has_apc, is_queued, pushed, withdrawn, cleared, oldest, oldest_taken, apc_of}
 use Rattle.nt_calls.specs.declared.call.Call.{Call}

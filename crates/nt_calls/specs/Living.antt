@@ -1,7 +1,7 @@
 -- When an object lives, and what becomes of one that nothing keeps any more.
 use Rattle.std.specs.Prelude.{◌≡◌, ℕ, Bool, true, not, ◌&&◌, ◌||◌, nat_lt, List, [], ◌∷◌, length, slice_set, count_by}
 use Rattle.nt_objects.specs.declared.object.Object.TheVariants.{Gone}
-use Rattle.nt_objects.specs.Handles.{count_named}
+use Rattle.nt_tables.specs.Handles.{count_named}
 use Rattle.nt_objects.specs.Object.{has_ended, is_gone}
 use Rattle.nt_apc.specs.Queues.{withdrawn}
 use Rattle.nt_calls.specs.Rising.{AreRising}

@@ -2,7 +2,7 @@
 use Rattle.std.specs.Prelude.{ℕ, Bool, false, not, ◌&&◌, ◌||◌, List, Option}
 use Rattle.std.specs.List.{list_any}
 use Rattle.nt_status.specs.Access.{synchronize, modify_state, set_context}
-use Rattle.nt_objects.specs.declared.handles.Opened.{Opened}
+use Rattle.nt_tables.specs.declared.handles.Opened.{Opened}
 use Rattle.nt_objects.specs.declared.object.Object.{Object}
 use Rattle.nt_objects.specs.Object.{is_mutex}
 use Rattle.nt_calls.specs.declared.call.Call.{Call}

@@ -6,12 +6,12 @@ use Rattle.std.specs.FinMap.{FinMap, empty, get, insert, remove}
 use Rattle.std.specs.declared.option.Option.{Option}
 use Rattle.std.specs.declared.option.Option.TheVariants.{None, Some}
 use Rattle.nt_status.specs.declared.limits.TheConstants.{INFINITE}
-use Rattle.nt_objects.specs.Object.{units}
+use Rattle.nt_objects.specs.Object.{units, full_access}
 use Rattle.nt_objects.specs.declared.object.Object.{Object}
 use Rattle.nt_objects.specs.declared.object.Object.TheVariants.{Thread}
-use Rattle.nt_objects.specs.declared.handles.Opened.{Opened}
-use Rattle.nt_objects.specs.Handles.{own_handles, full_access}
-pub use Rattle.nt_owners.specs.Objects.{object_at}
+use Rattle.nt_tables.specs.declared.handles.Opened.{Opened}
+use Rattle.nt_tables.specs.Handles.{own_handles}
+pub use Rattle.nt_tables.specs.Objects.{object_at}
 use Rattle.nt_waits.specs.declared.wait.Wait.{Wait}
 use Rattle.nt_waits.specs.Waits.{others}
 use Rattle.nt_apc.specs.declared.apc.Queued.{Queued}

@@ -8,8 +8,9 @@ ghost use Rattle.nt_calls.specs.State.{object_at};
 ghost use Rattle.nt_calls.specs.Naming.{object_named, lacks};
 
 use arrayvec::ArrayVec;
-use nt_objects::{HandleTable, Object};
+use nt_objects::Object;
 use nt_status::{Handle, MAX_HANDLES, MAX_WAIT_OBJECTS, ObjectNumber};
+use nt_tables::HandleTable;
 
 /// A number that no object has: the numbers of objects are below it.
 const NO_OBJECT: u32 = MAX_HANDLES as u32;

@@ -8,9 +8,8 @@ use crate::refusals::{
     apc_refusal, arm_refusal, duplicate_refusal, is_no_event, is_no_timer, judged, kind_refusal,
     release_refusal, unlock_refusal,
 };
-use nt_objects::HandleTable;
-use nt_owners::ObjectTable;
 use nt_status::{Handle, ObjectNumber, Refusal, ThreadId};
+use nt_tables::{HandleTable, ObjectTable};
 
 /// The number of the object that a handle names, or why the call is refused.
 pub type Judged = Result<ObjectNumber, Refusal>;

@@ -5,8 +5,9 @@ ghost use Rattle.nt_objects.specs.Object.{is_event, is_timer};
 ghost use Rattle.nt_calls.specs.Refusals.{first_of_causes, apc_causes, arm_causes, close_causes, duplicate_causes, is_no, is_unknown, release_causes, unlock_causes};
 
 use crate::handles::named;
-use nt_objects::{HandleTable, Object};
+use nt_objects::Object;
 use nt_status::{Access, Handle, MAX_HANDLES, ObjectNumber, Refusal, ThreadId};
+use nt_tables::HandleTable;
 
 /// The number of the object, or why it is refused.
 pub(crate) fn judged(

@@ -7,8 +7,8 @@ ghost use Rattle.nt_calls.specs.State.{object_at};
 ghost use Rattle.nt_calls.specs.Serving.{is_ready, is_abandoned_at, status_at, take_at, take_each, wait_on, CanTake, IsTried};
 
 use nt_objects::{Object, Taken};
-use nt_owners::ObjectTable;
 use nt_status::{MAX_WAIT_OBJECTS, ObjectNumber, Status, ThreadId};
+use nt_tables::ObjectTable;
 
 /// Whether the object of this number is signaled for the thread. A number that no object has is not.
 pub fn is_ready(objects: &[Object], thread: ThreadId, number: ObjectNumber) -> bool

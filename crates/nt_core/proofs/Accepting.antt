@@ -10,7 +10,7 @@ use Rattle.nt_waits.specs.declared.wait.Wait.{Wait}
 use Rattle.nt_waits.specs.Waits.{Waits, Agrees, Names}
 use Rattle.nt_objects.specs.declared.object.Object.{Object}
 use Rattle.nt_objects.specs.declared.object.Object.TheVariants.{Thread}
-use Rattle.nt_objects.specs.Object.{due_of, setter_of, is_thread, taken, IsLawfulObject}
+use Rattle.nt_objects.specs.Object.{due_of, setter_of, is_thread, taken, IsLawfulObject, full_access}
 use Rattle.nt_alarms.specs.Alarms.{alarm_at}
 use Rattle.nt_marks.specs.Marks.{is_marked}
 use Rattle.nt_apc.specs.Queues.{place_of}
@@ -24,8 +24,8 @@ use Rattle.nt_core.specs.Dispatcher.{Dispatcher, state}
 use Rattle.nt_calls.specs.Serving.{satisfied, wait_granted, take_at, take_each, objects_taken, least, IsChanged, Grants, Serve, IsAlerted, Alert}
 use Rattle.nt_calls.specs.Change.{change}
 use Rattle.nt_calls.specs.Steps.{IsAwaited, NothingDue, after_serving, answered}
-use Rattle.nt_objects.specs.declared.handles.Opened.{Opened}
-use Rattle.nt_objects.specs.Handles.{own_handles, full_access}
+use Rattle.nt_tables.specs.declared.handles.Opened.{Opened}
+use Rattle.nt_tables.specs.Handles.{own_handles}
 use Rattle.nt_core.specs.Lawful.{IsSettled, IsSteady, HandlesAgree}
 use Rattle.nt_core.proofs.Handling.{handles_along, own_agree}
 use Rattle.nt_core.proofs.Marking.{marks_along, marks_opening, named_member}

@@ -7,7 +7,7 @@ use Rattle.std.proofs.lemmas.List.{get_or-set_other, length-set}
 use Rattle.nt_waits.specs.declared.wait.Wait.{Wait}
 use Rattle.nt_objects.specs.declared.object.Object.{Object}
 use Rattle.nt_objects.specs.declared.object.Object.TheVariants.{Event, Semaphore, Mutex, Timer, Thread, Gone}
-use Rattle.nt_objects.specs.Object.{signaled, is_event, is_thread, is_gone, has_ended, has_room, owned_by, due_of, setter_of, IsLawfulObject}
+use Rattle.nt_objects.specs.Object.{signaled, is_event, is_thread, is_gone, has_ended, has_room, owned_by, due_of, setter_of, IsLawfulObject, full_access}
 use Rattle.nt_calls.specs.Rising.{AreRising}
 use Rattle.nt_calls.specs.State.{State, object_at}
 use Rattle.nt_core.specs.Dispatcher.{Dispatcher, state, with_created, with_object_added}
@@ -15,11 +15,10 @@ use Rattle.nt_calls.specs.Refusals.{is_at_limit, is_full}
 use Rattle.nt_calls.specs.Serving.{is_ready, fits, satisfied, is_due, IsChanged, sequence, IsServed}
 use Rattle.nt_core.specs.Visits.{FitOnlyIn}
 use Rattle.nt_calls.specs.Steps.{NothingDue}
-use Rattle.nt_objects.specs.declared.handles.Opened.{Opened}
+use Rattle.nt_tables.specs.declared.handles.Opened.{Opened}
 use Rattle.nt_core.specs.Lawful.{IsMachineSound, HandlesAgree, MarksAgreeBut, MayReplace}
 use Rattle.nt_core.proofs.Taking.{fits_kept}
 use Rattle.nt_core.proofs.Handling.{handles_along, handles_created}
-use Rattle.nt_objects.specs.Handles.{full_access}
 use Rattle.nt_core.proofs.Keeping.{timers_kept, own_kept, idle_kept, no_thread_idle}
 use Rattle.nt_core.proofs.Marking.{marks_same, marks_created}
 use Rattle.nt_alarms.specs.Alarms.{alarm_at}

@@ -6,8 +6,8 @@ use Rattle.std.proofs.lemmas.Bool.Decides.{nat_tests}
 use Rattle.std.proofs.lemmas.List.{length-set, get_or-set_same, get_or-set_other}
 use Rattle.nt_status.proofs.Lists.{contains_none, contains_cases}
 use Rattle.nt_status.specs.declared.refusal.Refusal.TheVariants.{InvalidHandle}
-use Rattle.nt_objects.specs.declared.handles.Opened.{Opened}
-use Rattle.nt_objects.specs.Handles.{opened_at, count_named, names}
+use Rattle.nt_tables.specs.declared.handles.Opened.{Opened}
+use Rattle.nt_tables.specs.Handles.{opened_at, count_named, names}
 use Rattle.nt_objects.specs.Object.{is_gone}
 use Rattle.nt_marks.specs.Marks.{is_marked}
 use Rattle.nt_calls.specs.declared.call.Call.{Call}

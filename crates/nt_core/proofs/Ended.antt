@@ -6,10 +6,10 @@ use Rattle.std.proofs.lemmas.Bool.{cases_eq, false≢true}
 use Rattle.std.proofs.lemmas.Bool.Decides.{nat_tests}
 use Rattle.std.proofs.lemmas.List.{length-set, get_or-set_other}
 use Rattle.nt_status.proofs.Lists.{contains_none, contains_first}
-use Rattle.nt_objects.specs.declared.handles.Opened.{Opened}
+use Rattle.nt_tables.specs.declared.handles.Opened.{Opened}
 use Rattle.nt_objects.specs.declared.object.Object.{Object}
 use Rattle.nt_objects.specs.declared.object.Object.TheVariants.{Gone}
-use Rattle.nt_objects.specs.Handles.{opened_at, names}
+use Rattle.nt_tables.specs.Handles.{opened_at, names}
 use Rattle.nt_objects.specs.Object.{IsLawfulObject, has_ended, is_gone, is_thread, due_of, setter_of}
 use Rattle.nt_waits.specs.declared.wait.Wait.{Wait}
 use Rattle.nt_waits.specs.Waits.{Names, queue_of}

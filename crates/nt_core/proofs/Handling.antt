@@ -1,8 +1,8 @@
 -- Handles name objects that there are.
 use Rattle.std.proofs.Common.{◌≡◌, ℕ, zero, suc, ◌+◌, ◌<◌, ◌≤◌, List, [], ◌∷◌, ◌++◌, length, length-append, refl, sym, ap, ◌∙◌, subst, arith, Option, Some, None, inl, inr, ◌⊎◌}
 use Rattle.nt_status.specs.declared.limits.TheConstants.{MAX_HANDLES, MAX_MANY_THREADS}
-use Rattle.nt_objects.specs.declared.handles.Opened.{Opened}
-use Rattle.nt_objects.specs.Handles.{opened_at, own_handles}
+use Rattle.nt_tables.specs.declared.handles.Opened.{Opened}
+use Rattle.nt_tables.specs.Handles.{opened_at, own_handles}
 use Rattle.nt_calls.specs.Naming.{object_in}
 use Rattle.nt_core.specs.Lawful.{HandlesAgree}
 

@@ -3,10 +3,10 @@ use Rattle.std.proofs.Common.{◌≡◌, ℕ, zero, suc, ◌<◌, ◌==◌, Bool
 use Rattle.std.specs.Prelude.{nat_lt}
 use Rattle.std.proofs.lemmas.Bool.{false≢true}
 use Rattle.std.proofs.lemmas.Bool.Decides.{nat_tests}
-use Rattle.nt_objects.specs.declared.handles.Opened.{Opened}
+use Rattle.nt_tables.specs.declared.handles.Opened.{Opened}
 use Rattle.nt_objects.specs.declared.object.Object.{Object}
 use Rattle.nt_objects.specs.declared.object.Object.TheVariants.{Event, Semaphore, Mutex, Timer, Thread, Gone}
-use Rattle.nt_objects.specs.Handles.{opened_at, count_named, names}
+use Rattle.nt_tables.specs.Handles.{opened_at, count_named, names}
 use Rattle.nt_objects.specs.Object.{has_ended, is_gone}
 use Rattle.nt_waits.specs.Waits.{queue_of}
 use Rattle.nt_calls.specs.State.{State, object_at}

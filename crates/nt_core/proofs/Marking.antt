@@ -6,11 +6,11 @@ use Rattle.std.proofs.lemmas.Bool.{cases_eq, false≢true}
 use Rattle.std.proofs.lemmas.Bool.Decides.{nat_tests}
 use Rattle.std.proofs.lemmas.List.{length-replicate, length-set, get_or-set_same, get_or-set_other}
 use Rattle.std.proofs.lemmas.List.Elements.{at_from_Contains}
-use Rattle.nt_objects.specs.declared.handles.Opened.{Opened}
+use Rattle.nt_tables.specs.declared.handles.Opened.{Opened}
 use Rattle.nt_objects.specs.declared.object.Object.{Object}
 use Rattle.nt_objects.specs.declared.object.Object.TheVariants.{Thread}
-use Rattle.nt_objects.specs.Handles.{opened_at, count_named, full_access}
-use Rattle.nt_objects.specs.Object.{has_ended, is_gone}
+use Rattle.nt_tables.specs.Handles.{opened_at, count_named}
+use Rattle.nt_objects.specs.Object.{has_ended, is_gone, full_access}
 use Rattle.nt_waits.specs.declared.wait.Wait.{Wait}
 use Rattle.nt_status.proofs.Lists.{contains_none, contains_at, contains_or_not}
 use Rattle.nt_waits.specs.Waits.{Names, Waits, queue_of, others}

@@ -26,7 +26,7 @@ use Rattle.nt_calls.specs.Refusals.{Cause, first_of_causes, refusal, call_causes
 use Rattle.nt_status.specs.declared.refusal.Refusal.TheVariants.{UnknownThread, ThreadEnded, ThreadWaiting}
 use Rattle.nt_objects.specs.Object.{has_ended}
 use Rattle.nt_calls.specs.Naming.{call_named}
-use Rattle.nt_objects.specs.declared.handles.Opened.{Opened}
+use Rattle.nt_tables.specs.declared.handles.Opened.{Opened}
 use Rattle.nt_calls.specs.State.{State, Pending, pends, pending_too, with_handing, wait_over, waits_over, object_at}
 use Rattle.nt_calls.specs.Serving.{fits, status, wait_granted, Grants, Alert, TimeOut, ending, taken_by, is_sleep, late_status, sleeps}
 use Rattle.nt_calls.specs.Change.{change, act_reply, may_take, armed_anew, timer_set, expired, expired_as, all_expired}

@@ -4,8 +4,8 @@ use Rattle.std.proofs.lemmas.Bool.Decides.{nat_tests}
 use Rattle.std.proofs.lemmas.List.{get_or_past}
 use Rattle.nt_objects.specs.declared.object.Object.{Object}
 use Rattle.nt_objects.specs.Object.{owned_by}
-use Rattle.nt_owners.specs.Owned.{list_of}
-use Rattle.nt_owners.specs.Objects.{object_at, OwnersAgree}
+use Rattle.nt_tables.specs.Owned.{list_of}
+use Rattle.nt_tables.specs.Objects.{object_at, OwnersAgree}
 
 none_inside : (m : ℕ) → Contains {X = ℕ} [] m → {P : Type 0} → P
 none_inside m has = let below = has.1 in absurd (omega (arith, below))

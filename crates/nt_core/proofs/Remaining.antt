@@ -8,8 +8,8 @@ use Rattle.nt_status.proofs.Lists.{contains_none, contains_first, contains_later
 use Rattle.nt_objects.specs.declared.object.Object.{Object}
 use Rattle.nt_objects.specs.declared.object.Object.TheVariants.{Thread, Gone}
 use Rattle.nt_objects.specs.Object.{has_ended, is_gone}
-use Rattle.nt_objects.specs.declared.handles.Opened.{Opened}
-use Rattle.nt_objects.specs.Handles.{opened_at, count_named}
+use Rattle.nt_tables.specs.declared.handles.Opened.{Opened}
+use Rattle.nt_tables.specs.Handles.{opened_at, count_named}
 use Rattle.nt_calls.specs.State.{State, object_at}
 use Rattle.nt_calls.specs.Living.{is_opened, is_awaited, runs, is_kept, lives, is_forgotten, gone, all_gone, Ends, LivesWhileKept}
 

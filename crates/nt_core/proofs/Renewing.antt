@@ -13,12 +13,12 @@ use Rattle.std.proofs.lemmas.Bool.{cases_eq, false≢true}
 use Rattle.std.proofs.lemmas.Bool.Decides.{nat_tests}
 use Rattle.std.proofs.lemmas.List.{length-set, append-nil}
 use Rattle.nt_status.proofs.Lists.{contains_none}
-use Rattle.nt_objects.specs.declared.handles.Opened.{Opened}
+use Rattle.nt_tables.specs.declared.handles.Opened.{Opened}
 use Rattle.nt_objects.specs.declared.object.Object.{Object}
 use Rattle.nt_objects.specs.declared.object.Object.TheVariants.{Event, Semaphore, Mutex, Timer, Thread, Gone}
-use Rattle.nt_objects.specs.Handles.{opened_at, count_named, full_access}
-use Rattle.nt_objects.specs.Object.{is_gone, is_thread, has_ended, due_of, setter_of, IsLawfulObject, owned_by, has_room, event_of, mutex_of, timer_of, may_count}
-use Rattle.nt_objects.proofs.Counting.{weight, counted_again}
+use Rattle.nt_tables.specs.Handles.{opened_at, count_named}
+use Rattle.nt_objects.specs.Object.{is_gone, is_thread, has_ended, due_of, setter_of, IsLawfulObject, owned_by, has_room, event_of, mutex_of, timer_of, may_count, full_access}
+use Rattle.nt_tables.proofs.Counting.{weight, counted_again}
 use Rattle.nt_calls.specs.Naming.{object_in, access_in, lacks}
 use Rattle.nt_calls.specs.Refusals.{Cause, first_of_causes, refusal}
 use Rattle.nt_calls.specs.Serving.{is_due, sequence}

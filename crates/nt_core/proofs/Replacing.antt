@@ -28,7 +28,7 @@ use Rattle.nt_status.specs.Flags.{only_known}
 use Rattle.nt_status.specs.declared.refusal.Refusal.TheVariants.{AccessDenied, HandleLimit, InvalidHandle}
 use Rattle.nt_core.proofs.Handling.{handles_opened}
 use Rattle.nt_core.proofs.Marking.{marks_opened, mark_created}
-use Rattle.nt_objects.specs.declared.handles.Opened.{Opened}
+use Rattle.nt_tables.specs.declared.handles.Opened.{Opened}
 use Rattle.nt_calls.specs.Refusals.{duplicate_causes, first_of_causes, is_full, is_unknown}
 use Rattle.nt_core.specs.Visits.{FitOnlyIn}
 use Rattle.nt_core.specs.Lawful.{IsMachineSound, IsSteady, MayReplace, IsUnmarked}

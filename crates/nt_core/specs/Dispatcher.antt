@@ -4,9 +4,8 @@ use Rattle.nt_waits.specs.Waits.{Waits, queue_of}
 use Rattle.nt_apc.specs.declared.apc.Queued.{Queued}
 use Rattle.nt_apc.specs.Queues.{Apcs}
 use Rattle.nt_objects.specs.declared.object.Object.{Object}
-use Rattle.nt_objects.specs.declared.handles.Opened.{Opened}
-use Rattle.nt_objects.specs.Handles.{full_access}
-use Rattle.nt_objects.specs.Object.{setter_of}
+use Rattle.nt_tables.specs.declared.handles.Opened.{Opened}
+use Rattle.nt_objects.specs.Object.{setter_of, full_access}
 use Rattle.nt_marks.specs.Marks.{with_mark}
 use Rattle.nt_calls.specs.declared.call.Grant.{Grant}
 use Rattle.nt_calls.specs.State.{State, object_at}

@@ -5,9 +5,9 @@ use Rattle.std.specs.FinMap as map
 use Rattle.std.specs.FinMap.{get}
 use Rattle.nt_status.specs.declared.limits.TheConstants.{MAX_HANDLES, MAX_MANY_THREADS, MAX_WAIT_OBJECTS}
 use Rattle.nt_objects.specs.declared.object.Object.{Object}
-use Rattle.nt_objects.specs.declared.handles.Opened.{Opened}
-use Rattle.nt_objects.specs.Handles.{opened_at, count_named}
-use Rattle.nt_owners.specs.Objects.{OwnersAgree}
+use Rattle.nt_tables.specs.declared.handles.Opened.{Opened}
+use Rattle.nt_tables.specs.Handles.{opened_at, count_named}
+use Rattle.nt_tables.specs.Objects.{OwnersAgree}
 use Rattle.nt_objects.specs.Object.{IsLawfulObject, owned_by, has_room, has_ended, is_thread, is_gone, due_of, setter_of}
 use Rattle.nt_waits.specs.declared.wait.Wait.{Wait}
 use Rattle.std.specs.List.{Contains}

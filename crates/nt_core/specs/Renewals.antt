@@ -7,8 +7,8 @@ use Rattle.nt_status.specs.declared.refusal.Refusal.{Refusal}
 use Rattle.nt_status.specs.declared.refusal.Refusal.TheVariants.{AccessDenied, HandleLimit, InvalidHandle, InvalidParameter, Memory}
 use Rattle.nt_objects.specs.declared.object.Object.{Object}
 use Rattle.nt_objects.specs.declared.object.Object.TheVariants.{Semaphore, Thread, Gone}
-use Rattle.nt_objects.specs.Handles.{opened_at, full_access}
-use Rattle.nt_objects.specs.Object.{event_of, mutex_of, timer_of, may_count, is_gone}
+use Rattle.nt_tables.specs.Handles.{opened_at}
+use Rattle.nt_objects.specs.Object.{event_of, mutex_of, timer_of, may_count, is_gone, full_access}
 use Rattle.nt_apc.specs.Queues.{has_apc, is_queued}
 use Rattle.nt_calls.specs.declared.call.Call.{Call}
 use Rattle.nt_calls.specs.declared.call.Act.{Act}

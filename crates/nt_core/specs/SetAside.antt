@@ -2,7 +2,7 @@
 -- call of the machine does this by itself; whoever drives it asks for it, and says which number.
 use Rattle.std.specs.Prelude.{◌≡◌, ℕ, Bool, not, ◌&&◌, ◌==◌, nat_lt, List, [], map, slice_set, Option, Some, None, if◌then◌else◌}
 use Rattle.nt_objects.specs.declared.object.Object.TheVariants.{Gone}
-use Rattle.nt_objects.specs.declared.handles.Opened.{Opened}
+use Rattle.nt_tables.specs.declared.handles.Opened.{Opened}
 use Rattle.nt_objects.specs.Object.{has_ended, is_gone}
 use Rattle.nt_apc.specs.Queues.{has_apc}
 use Rattle.nt_calls.specs.declared.call.Grant.{Grant}

@@ -16,8 +16,8 @@ use crate::standing::Standing;
 use nt_alarms::Alarms;
 use nt_calls::is_set_by;
 use nt_marks::Marks;
-use nt_owners::ObjectTable;
 use nt_status::{ObjectNumber, ThreadId};
+use nt_tables::ObjectTable;
 
 /// Stops the timer, and marks it.
 fn stop(objects: &mut ObjectTable, alarms: &mut Alarms, changed: &mut Marks, timer: ObjectNumber)

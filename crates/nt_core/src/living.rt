@@ -11,8 +11,9 @@ ghost use Rattle.nt_calls.specs.declared.call.Act.{Act};
 use crate::machine::{Answer, Machine};
 use nt_calls::{Reply, close_refusal};
 use nt_marks::Marks;
-use nt_objects::{HandleTable, Object};
+use nt_objects::Object;
 use nt_status::{Handle, ObjectNumber};
+use nt_tables::HandleTable;
 
 /// Marks those of the objects of a wait, which ends, that no handle names.
 pub(crate) fn let_go(handles: &HandleTable, leaving: &mut Marks, ended: &[ObjectNumber])

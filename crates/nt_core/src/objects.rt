@@ -14,8 +14,9 @@ use crate::machine::{Answer, Machine};
 use nt_alarms::Alarms;
 use nt_calls::{Reply, object_to_share};
 use nt_marks::Marks;
-use nt_objects::{Object, Opened};
+use nt_objects::Object;
 use nt_status::{Access, Handle, MAX_HANDLES, ObjectNumber, Refusal};
+use nt_tables::Opened;
 use nt_waits::WaitTable;
 use std::alloc::AllocError;
 

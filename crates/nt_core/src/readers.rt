@@ -7,13 +7,14 @@ ghost use Rattle.nt_core.specs.Lawful.{IsLawful};
 ghost use Rattle.nt_calls.specs.Naming.{object_named};
 ghost use Rattle.nt_calls.specs.State.{object_at};
 ghost use Rattle.nt_objects.specs.Object.{owned_by};
-ghost use Rattle.nt_objects.specs.Handles.{opened_at, count_named};
+ghost use Rattle.nt_tables.specs.Handles.{opened_at, count_named};
 ghost use Rattle.nt_calls.specs.Steps.{IsNextMoment, NothingDue};
 
 use crate::dispatcher::Core;
 use nt_calls::{named, object_named};
-use nt_objects::{Object, Opened};
+use nt_objects::Object;
 use nt_status::{Handle, Moment, ObjectNumber, ThreadId};
+use nt_tables::Opened;
 use nt_waits::Wait;
 
 impl Core {

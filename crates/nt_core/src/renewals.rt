@@ -2,7 +2,7 @@
 ghost use Rattle.std.specs.Prelude.{◌≡◌, ◌<◌, ◌≤◌, ◌-◌, ◌^◌, ◌&&◌, ℕ, true, false, Some, IsTrue, IfSome, IfOk, IfErr, OnOk, OnErr, length, slice_set};
 ghost use Rattle.nt_apc.specs.Queues.{is_queued};
 ghost use Rattle.nt_objects.specs.Object.{owned_by, IsLawfulObject};
-ghost use Rattle.nt_objects.specs.Handles.{opened_at};
+ghost use Rattle.nt_tables.specs.Handles.{opened_at};
 ghost use Rattle.nt_calls.specs.Living.{is_opened, LivesWhileKept};
 ghost use Rattle.nt_status.specs.declared.refusal.Refusal.TheVariants.{Memory};
 ghost use Rattle.nt_objects.specs.declared.object.Object.TheVariants.{Gone};
@@ -16,10 +16,11 @@ use crate::machine::{Answer, Machine};
 use crate::objects::add_places;
 use crate::standing::Standing;
 use nt_calls::{Act, Reply};
-use nt_objects::{Object, Opened};
+use nt_objects::Object;
 use nt_status::{
     Access, EventFlags, Handle, MutexFlags, ObjectNumber, Refusal, ThreadId, TimerFlags,
 };
+use nt_tables::Opened;
 
 /// What the act creates for its thread; none where it is no creation, or its arguments are not lawful.
 fn creation(thread: ThreadId, act: &Act) -> Option<Object>

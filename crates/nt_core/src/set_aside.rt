@@ -1,7 +1,7 @@
 //! Ended threads that handles still name: their objects are set aside, so that their places can be given to other threads.
 ghost use Rattle.std.specs.Prelude.{◌≡◌, ◌<◌, ◌≤◌, ◌-◌, ◌^◌, ℕ, false, length, map, slice_set};
 ghost use Rattle.nt_objects.specs.declared.object.Object.TheVariants.{Gone};
-ghost use Rattle.nt_objects.specs.Handles.{opened_at};
+ghost use Rattle.nt_tables.specs.Handles.{opened_at};
 ghost use Rattle.nt_objects.specs.Object.{owned_by};
 ghost use Rattle.nt_calls.specs.Living.{LivesWhileKept};
 ghost use Rattle.nt_calls.specs.State.{object_at};
@@ -11,8 +11,9 @@ ghost use Rattle.nt_core.specs.SetAside.{is_movable, can_set_aside, named_instea
 
 use crate::dispatcher::Core;
 use crate::machine::Machine;
-use nt_objects::{HandleTable, Object, Opened};
+use nt_objects::Object;
 use nt_status::{Handle, ObjectNumber, ThreadId};
+use nt_tables::{HandleTable, Opened};
 
 /// If this handle names the one object, it names the other from now on.
 fn rename(handles: &mut HandleTable, handle: Handle, from: ObjectNumber, to: ObjectNumber)

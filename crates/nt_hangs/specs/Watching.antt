@@ -2,7 +2,7 @@
 use Rattle.std.specs.Prelude.{◌≡◌, ℕ, ◌+◌, ◌==◌, ◌<◌, ◌++◌, List, [], ◌∷◌, length, take, replicate, position, unwrap_or, option_map, slice_index_or, Bool, false, nat_eq, codes, Option, Some, None, if◌then◌else◌}
 use Rattle.std.specs.List.{starts_with}
 use Rattle.nt_status.specs.declared.limits.TheConstants.{MAX_THREADS}
-use Rattle.nt_objects.specs.Handles.{opened_at}
+use Rattle.nt_tables.specs.Handles.{opened_at}
 use Rattle.nt_calls.specs.State.{pends}
 use Rattle.nt_calls.specs.Runs.{Turn}
 use Rattle.nt_grammar.specs.Scope.{handle_in}

@@ -10,8 +10,8 @@ use Rattle.nt_status.specs.declared.refusal.Refusal.TheVariants.{UnknownThread, 
 use Rattle.nt_objects.specs.declared.object.Object.{Object}
 use Rattle.nt_objects.specs.declared.object.Object.TheVariants.{Event, Semaphore, Mutex, Timer, Thread, Gone}
 use Rattle.nt_objects.specs.declared.object.Armed.{Armed}
-use Rattle.nt_objects.specs.declared.handles.Opened.{Opened}
-use Rattle.nt_objects.specs.Handles.{opened_at}
+use Rattle.nt_tables.specs.declared.handles.Opened.{Opened}
+use Rattle.nt_tables.specs.Handles.{opened_at}
 use Rattle.nt_objects.specs.Object.{is_gone, has_ended, setting_of, rearmed, event_of, mutex_of, timer_of, with_set, released, unlocked, armed_with, abandoned_by, unset_by, set_by}
 use Rattle.nt_apc.specs.Queues.{oldest_taken, withdrawn}
 use Rattle.nt_apc.specs.declared.apc.Queued.{Queued}

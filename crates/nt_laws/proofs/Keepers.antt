@@ -14,9 +14,9 @@ use Rattle.nt_status.specs.declared.refusal.Refusal.TheVariants.{AccessDenied, I
 use Rattle.nt_waits.specs.declared.wait.Wait.{Wait}
 use Rattle.nt_waits.specs.Waits.{Names}
 use Rattle.nt_objects.specs.declared.object.Object.TheVariants.{Thread}
-use Rattle.nt_objects.specs.declared.handles.Opened.{Opened}
-use Rattle.nt_objects.specs.Handles.{opened_at, own_handles, full_access, count_named}
-use Rattle.nt_objects.specs.Object.{is_gone, has_ended, overflows}
+use Rattle.nt_tables.specs.declared.handles.Opened.{Opened}
+use Rattle.nt_tables.specs.Handles.{opened_at, own_handles, count_named}
+use Rattle.nt_objects.specs.Object.{is_gone, has_ended, overflows, full_access}
 use Rattle.nt_status.specs.declared.limits.TheConstants.{MAX_WAIT_OBJECTS}
 use Rattle.nt_calls.specs.declared.call.Call.{Call}
 use Rattle.nt_calls.specs.declared.call.WaitCall.{WaitCall}

@@ -9,8 +9,8 @@ use Rattle.nt_status.specs.Flags.{has_flag, only_known, event_bits, mutex_bits, 
 use Rattle.nt_status.specs.declared.refusal.Refusal.TheVariants.{AccessDenied, InvalidHandle, InvalidParameter}
 use Rattle.nt_objects.specs.declared.object.Object.{Object}
 use Rattle.nt_objects.specs.declared.object.Object.TheVariants.{Semaphore, Mutex, Thread}
-use Rattle.nt_objects.specs.declared.handles.Opened.{Opened}
-use Rattle.nt_objects.specs.Handles.{opened_at}
+use Rattle.nt_tables.specs.declared.handles.Opened.{Opened}
+use Rattle.nt_tables.specs.Handles.{opened_at}
 use Rattle.nt_objects.specs.Object.{is_gone, event_of, mutex_of, timer_of, may_count}
 use Rattle.nt_apc.specs.Queues.{has_apc, is_queued}
 use Rattle.nt_calls.specs.declared.call.Act.{Act}

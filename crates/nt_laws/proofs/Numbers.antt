@@ -9,8 +9,9 @@ use Rattle.std.proofs.lemmas.Nat.{and_assoc}
 use Rattle.std.proofs.lemmas.List.{length-replicate, length-set, get_or-set_other}
 use Rattle.std.proofs.lemmas.Bool.Decides.{nat_tests}
 use Rattle.nt_status.specs.Flags.{has_flag}
-use Rattle.nt_objects.specs.declared.handles.Opened.{Opened}
-use Rattle.nt_objects.specs.Handles.{opened_at, full_access}
+use Rattle.nt_tables.specs.declared.handles.Opened.{Opened}
+use Rattle.nt_objects.specs.Object.{full_access}
+use Rattle.nt_tables.specs.Handles.{opened_at}
 use Rattle.nt_objects.specs.declared.object.Object.TheVariants.{Thread}
 use Rattle.nt_core.proofs.Handling.{own_count}
 use Rattle.nt_calls.specs.declared.call.Call.{Call}

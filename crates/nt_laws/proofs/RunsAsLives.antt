@@ -3,8 +3,8 @@ use Rattle.std.proofs.Common.{◌≡◌, ℕ, ◌+◌, ◌≤◌, ◌<◌, true,
 use Rattle.std.specs.Prelude.{◌↔◌, pos, ◌+ℤ◌, count_by}
 use Rattle.std.specs.List.{list_any}
 use Rattle.nt_objects.specs.Object.{is_semaphore, is_mutex, count_of, IsLawfulObject}
-use Rattle.nt_objects.specs.declared.handles.Opened.{Opened}
-use Rattle.nt_objects.specs.Handles.{opened_at}
+use Rattle.nt_tables.specs.declared.handles.Opened.{Opened}
+use Rattle.nt_tables.specs.Handles.{opened_at}
 use Rattle.nt_calls.specs.Living.{lives}
 use Rattle.nt_calls.specs.State.{State, opening, object_at}
 use Rattle.nt_calls.specs.Runs.{Turn, Turns, Run}

@@ -6,9 +6,10 @@ use Rattle.std.specs.declared.result.Result.TheVariants.{Ok, Err}
 use Rattle.std.proofs.lemmas.Bool.{false≢true}
 use Rattle.std.proofs.lemmas.Bool.Decides.{nat_tests}
 use Rattle.std.proofs.lemmas.List.{length-set, length-map, get_or-set_other}
-use Rattle.nt_objects.specs.declared.handles.Opened.{Opened}
+use Rattle.nt_tables.specs.declared.handles.Opened.{Opened}
 use Rattle.nt_objects.specs.declared.object.Object.TheVariants.{Thread, Gone}
-use Rattle.nt_objects.specs.Handles.{opened_at, full_access}
+use Rattle.nt_objects.specs.Object.{full_access}
+use Rattle.nt_tables.specs.Handles.{opened_at}
 use Rattle.nt_calls.specs.Naming.{object_named, object_in, access_in, lacks}
 use Rattle.nt_calls.specs.declared.call.Call.{Call}
 use Rattle.nt_calls.specs.Refusals.{first_of_causes, refusal}

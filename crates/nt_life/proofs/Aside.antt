@@ -4,10 +4,10 @@ use Rattle.std.specs.Prelude.{nat_lt, nat_le, is_none}
 use Rattle.std.proofs.lemmas.Bool.{cases_eq}
 use Rattle.std.proofs.lemmas.Bool.Decides.{nat_tests}
 use Rattle.std.proofs.lemmas.List.{length-map, length-set}
-use Rattle.nt_objects.specs.declared.handles.Opened.{Opened}
+use Rattle.nt_tables.specs.declared.handles.Opened.{Opened}
 use Rattle.nt_objects.specs.declared.object.Object.TheVariants.{Gone}
-use Rattle.nt_objects.specs.Handles.{opened_at}
-use Rattle.nt_objects.proofs.Counting.{weight}
+use Rattle.nt_tables.specs.Handles.{opened_at}
+use Rattle.nt_tables.proofs.Counting.{weight}
 use Rattle.nt_calls.specs.declared.call.Grant.{Grant}
 use Rattle.nt_calls.specs.Living.{is_opened}
 use Rattle.nt_calls.specs.State.{State, object_at}

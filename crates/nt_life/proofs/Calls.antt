@@ -9,9 +9,9 @@ use Rattle.std.proofs.lemmas.Bool.Decides.{nat_tests}
 use Rattle.std.proofs.lemmas.List.{length-set}
 use Rattle.nt_status.specs.declared.limits.TheConstants.{MAX_HANDLES}
 use Rattle.nt_status.specs.declared.refusal.Refusal.{Refusal}
-use Rattle.nt_objects.specs.declared.handles.Opened.{Opened}
-use Rattle.nt_objects.specs.Handles.{opened_at, full_access}
-use Rattle.nt_objects.specs.Object.{is_gone}
+use Rattle.nt_tables.specs.declared.handles.Opened.{Opened}
+use Rattle.nt_tables.specs.Handles.{opened_at}
+use Rattle.nt_objects.specs.Object.{is_gone, full_access}
 use Rattle.nt_calls.specs.declared.call.Act.{Act}
 use Rattle.nt_calls.specs.declared.call.Call.{Call}
 use Rattle.nt_calls.specs.declared.call.Reply.{Reply}
@@ -30,7 +30,7 @@ use Rattle.nt_laws.proofs.CallKinds.{Kind, change_kind}
 use Rattle.nt_laws.proofs.Numbers.{called_numbers}
 use Rattle.nt_life.specs.Lasting.{Spares, IsSpare, times, is_unnamed, is_creation, last_closed}
 use Rattle.nt_life.proofs.Times.{place_of, stands, bounded, times_end, other_weight}
-use Rattle.nt_objects.proofs.Counting.{weight}
+use Rattle.nt_tables.proofs.Counting.{weight}
 use Rattle.nt_life.proofs.Spares.{spare_created, spare_duplicated, spare_same, named_not, weight_most, handles_closed, objects_closed, objects_kept, few_closed}
 
 -- ---- a call that closes nothing leaves the spare numbers

@@ -3,7 +3,7 @@ use Rattle.std.proofs.Common.{◌≡◌, ◌≤◌, ◌<◌, ℕ, ◌+◌, Bool,
 use Rattle.std.specs.Prelude.{nat_lt, nat_le}
 use Rattle.std.proofs.lemmas.Bool.{cases_eq}
 use Rattle.std.proofs.lemmas.Bool.Decides.{nat_tests}
-use Rattle.nt_objects.proofs.Counting.{weight}
+use Rattle.nt_tables.proofs.Counting.{weight}
 use Rattle.nt_calls.specs.State.{State}
 use Rattle.nt_core.specs.Renewals.{is_closed}
 use Rattle.nt_core.proofs.Remaining.{both}

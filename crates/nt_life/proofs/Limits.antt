@@ -11,8 +11,8 @@ use Rattle.nt_status.specs.declared.refusal.Refusal.TheVariants.{AccessDenied, H
 use Rattle.nt_status.specs.Access.{access_bits}
 use Rattle.nt_status.specs.Flags.{only_known, event_bits, mutex_bits, timer_bits}
 use Rattle.nt_objects.specs.declared.object.Object.{Object}
-use Rattle.nt_objects.specs.declared.handles.Opened.{Opened}
-use Rattle.nt_objects.specs.Handles.{opened_at}
+use Rattle.nt_tables.specs.declared.handles.Opened.{Opened}
+use Rattle.nt_tables.specs.Handles.{opened_at}
 use Rattle.nt_objects.specs.declared.object.Object.TheVariants.{Semaphore}
 use Rattle.nt_objects.specs.Object.{event_of, mutex_of, timer_of, may_count, has_ended}
 use Rattle.nt_calls.specs.declared.call.Act.{Act}

@@ -10,15 +10,15 @@ use Rattle.nt_status.specs.Access.{access_bits}
 use Rattle.nt_status.specs.Flags.{only_known}
 use Rattle.nt_status.specs.declared.refusal.Refusal.{Refusal}
 use Rattle.nt_status.specs.declared.refusal.Refusal.TheVariants.{AccessDenied, InvalidHandle, InvalidParameter}
-use Rattle.nt_objects.specs.declared.handles.Opened.{Opened}
+use Rattle.nt_tables.specs.declared.handles.Opened.{Opened}
 use Rattle.nt_objects.specs.declared.object.Object.TheVariants.{Thread}
-use Rattle.nt_objects.specs.Handles.{opened_at, count_named, full_access, own_handles}
-use Rattle.nt_objects.proofs.Counting.{weight, counted_again}
+use Rattle.nt_tables.specs.Handles.{opened_at, count_named, own_handles}
+use Rattle.nt_tables.proofs.Counting.{weight, counted_again}
 use Rattle.nt_calls.specs.declared.call.Act.{Act}
 use Rattle.nt_calls.specs.declared.call.Call.{Call}
 use Rattle.nt_calls.specs.declared.call.Reply.{Reply}
 use Rattle.nt_calls.specs.declared.call.Grant.{Grant}
-use Rattle.nt_objects.specs.Object.{is_gone}
+use Rattle.nt_objects.specs.Object.{is_gone, full_access}
 use Rattle.nt_apc.specs.Queues.{has_apc}
 use Rattle.nt_calls.specs.State.{State, opening, object_at}
 use Rattle.nt_calls.specs.Naming.{object_named, object_in, lacks}

@@ -4,9 +4,9 @@ use Rattle.std.specs.Prelude.{nat_lt, nat_le, is_none}
 use Rattle.std.proofs.lemmas.Bool.{cases_eq}
 use Rattle.std.proofs.lemmas.Bool.Decides.{nat_tests}
 use Rattle.std.proofs.lemmas.List.{length-set, get_or-set_other, get_or-set_same}
-use Rattle.nt_objects.specs.declared.handles.Opened.{Opened}
-use Rattle.nt_objects.specs.Handles.{opened_at, count_named}
-use Rattle.nt_objects.proofs.Counting.{weight, counted_again, counted_more, counted_less}
+use Rattle.nt_tables.specs.declared.handles.Opened.{Opened}
+use Rattle.nt_tables.specs.Handles.{opened_at, count_named}
+use Rattle.nt_tables.proofs.Counting.{weight, counted_again, counted_more, counted_less}
 use Rattle.nt_calls.specs.State.{State}
 use Rattle.nt_calls.specs.Living.{is_opened}
 use Rattle.nt_core.specs.Renewals.{is_closed}

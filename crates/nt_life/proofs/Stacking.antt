@@ -7,8 +7,8 @@ use Rattle.std.proofs.lemmas.Bool.{false≢true}
 use Rattle.std.proofs.lemmas.Bool.Decides.{nat_tests}
 use Rattle.nt_status.specs.declared.refusal.Refusal.{Refusal}
 use Rattle.nt_status.specs.declared.refusal.Refusal.TheVariants.{InvalidHandle}
-use Rattle.nt_objects.specs.declared.handles.Opened.{Opened}
-use Rattle.nt_objects.specs.Handles.{opened_at}
+use Rattle.nt_tables.specs.declared.handles.Opened.{Opened}
+use Rattle.nt_tables.specs.Handles.{opened_at}
 use Rattle.nt_calls.specs.declared.call.Act.{Act}
 use Rattle.nt_calls.specs.declared.call.Call.{Call}
 use Rattle.nt_calls.specs.declared.call.Reply.{Reply}

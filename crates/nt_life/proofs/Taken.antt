@@ -13,7 +13,7 @@ use Rattle.nt_status.specs.declared.refusal.Refusal.TheVariants.{AccessDenied, H
 use Rattle.nt_status.specs.Access.{access_bits}
 use Rattle.nt_status.specs.Flags.{only_known, event_bits, mutex_bits, timer_bits}
 use Rattle.nt_objects.specs.declared.object.Object.{Object}
-use Rattle.nt_objects.specs.declared.handles.Opened.{Opened}
+use Rattle.nt_tables.specs.declared.handles.Opened.{Opened}
 use Rattle.nt_objects.specs.Object.{may_count}
 use Rattle.nt_calls.specs.declared.call.Act.{Act}
 use Rattle.nt_calls.specs.declared.call.Call.{Call}

@@ -7,7 +7,7 @@ use Rattle.std.proofs.lemmas.Bool.Decides.{nat_tests}
 use Rattle.std.proofs.lemmas.List.Sums.{sum_by-swap_remove}
 use Rattle.std.proofs.lemmas.Map.Steps.{length-le_from_distinct_below}
 use Rattle.std.proofs.lemmas.List.Recursion.{is_count_by}
-use Rattle.nt_objects.proofs.Counting.{weight}
+use Rattle.nt_tables.proofs.Counting.{weight}
 use Rattle.nt_life.specs.Lasting.{times}
 
 pub same_weight : (k n : ℕ) → k ≡ n → weight (k == n) ≡ 1

@@ -8,7 +8,7 @@ use Rattle.nt_status.specs.declared.refusal.Refusal.TheVariants.{InvalidHandle, 
 use Rattle.nt_objects.specs.declared.object.Object.{Object}
 use Rattle.nt_objects.specs.declared.object.Object.TheVariants.{Event, Semaphore, Mutex, Timer, Thread, Gone}
 use Rattle.nt_objects.specs.declared.object.Armed.{Armed}
-use Rattle.nt_objects.specs.Object.{signaled, taken, is_mutex, owned_by, has_ended, overflows, with_set, released, unlocked, armed_with, unset_by, setting_of, rearmed, event_of, mutex_of, timer_of, is_thread, is_gone}
+use Rattle.nt_objects.specs.Object.{signaled, taken, is_mutex, owned_by, has_ended, overflows, with_set, released, unlocked, armed_with, unset_by, setting_of, rearmed, event_of, mutex_of, timer_of, is_thread, is_gone, full_access}
 use Rattle.nt_waits.specs.declared.wait.Wait.{Wait}
 use Rattle.nt_calls.specs.declared.call.Call.{Call}
 use Rattle.nt_calls.specs.declared.call.Act.{Act}
@@ -22,8 +22,8 @@ use Rattle.nt_calls.specs.Steps.{after_serving}
 use Rattle.nt_core.proofs.Accepting.{next_causes}
 use Rattle.nt_core.proofs.Changing.{object_at-append}
 use Rattle.nt_core.proofs.Exiting.{left, mapped_at}
-use Rattle.nt_objects.specs.declared.handles.Opened.{Opened}
-use Rattle.nt_objects.specs.Handles.{opened_at, names, count_named, full_access}
+use Rattle.nt_tables.specs.declared.handles.Opened.{Opened}
+use Rattle.nt_tables.specs.Handles.{opened_at, names, count_named}
 use Rattle.nt_apc.specs.Queues.{oldest_taken}
 use Rattle.nt_calls.specs.Naming.{act_named, call_named, object_named, object_in, no_object}
 use Rattle.nt_core.proofs.Lives.{counted_opened}

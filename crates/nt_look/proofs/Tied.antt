@@ -22,7 +22,7 @@ use Rattle.nt_core.proofs.Lengths.{length_taken}
 use Rattle.nt_core.proofs.Walks.{get_other}
 use Rattle.nt_look.specs.Hangs.{IsKnot, IsTied, held_at}
 use Rattle.nt_look.proofs.Parts.{not_second, any_kept, all_kept, all_against, any_against}
-use Rattle.nt_objects.specs.Handles.{count_named}
+use Rattle.nt_tables.specs.Handles.{count_named}
 use Rattle.nt_calls.specs.Living.{is_opened}
 use Rattle.nt_calls.specs.Naming.{no_object}
 use Rattle.nt_look.proofs.Holding.{firm, firm_holds, firm_unready, holds_freer, none_named, named_by_none, Kept, taken_kept}

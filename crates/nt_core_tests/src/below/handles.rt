@@ -4,8 +4,9 @@ ghost use Rattle.std.specs.Prelude.{◌≡◌, ◌<◌, length, OnOk};
 
 use crate::expect::{expect_equal, expect_step};
 use crate::tests::memory::{Host, tell_refused};
-use nt_objects::{HandleTable, Object, Opened};
+use nt_objects::Object;
 use nt_status::{Access, EventFlags, Handle, MutexFlags, ObjectNumber, ThreadId, TimerFlags};
+use nt_tables::{HandleTable, Opened};
 use std::alloc::AllocError;
 use std::test::Fail;
 

@@ -6,8 +6,8 @@ use crate::expect::expect;
 use crate::tests::memory::{Host, tell_refused};
 use nt_marks::Marks;
 use nt_objects::Object;
-use nt_owners::{ObjectTable, Owners};
 use nt_status::{MutexFlags, ThreadId};
+use nt_tables::{ObjectTable, Owners};
 use std::alloc::AllocError;
 use std::test::Fail;
 

@@ -2,7 +2,7 @@ use Rattle.std.proofs.Common.{◌≡◌, ◌<◌, ◌+◌, ℕ, List, [], ◌∷
 use Rattle.std.proofs.lemmas.Bool.{false≢true}
 use Rattle.nt_objects.specs.declared.object.Object.{Object}
 use Rattle.nt_objects.specs.Object.{armed_with}
-use Rattle.nt_owners.specs.Objects.{Objects}
+use Rattle.nt_tables.specs.Objects.{Objects}
 use Rattle.nt_calls.specs.State.{object_at}
 use Rattle.nt_core.specs.Accepts.{IsSetBy}
 use Rattle.nt_core.proofs.Listing.{one_more}

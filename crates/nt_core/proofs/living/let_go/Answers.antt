@@ -2,7 +2,7 @@ use Rattle.std.proofs.Common.{◌≡◌, ◌∷◌, ◌+◌, ℕ, true, List, se
 use Rattle.std.specs.Prelude.{drop, nat_lt}
 use Rattle.std.proofs.lemmas.Bool.Decides.{nat_tests}
 use Rattle.std.proofs.lemmas.List.{at_drop_more}
-use Rattle.nt_objects.specs.Handles.{count_named}
+use Rattle.nt_tables.specs.Handles.{count_named}
 use Rattle.nt_core.specs.Lawful.{LetsGoBut}
 use Rattle.nt_core.proofs.LettingGo.{let_go_named, let_go_marked, dropped_member}
 use Rattle.nt_core.proofs.living.let_go.Goals as goal

@@ -1,6 +1,6 @@
 use Rattle.std.proofs.Common.{◌≡◌, ◌+◌, ◌<◌, suc, ℕ, List, Option, length, set, ap, ◌∙◌, arith, refl}
-use Rattle.nt_objects.specs.declared.handles.Opened.{Opened}
-use Rattle.nt_objects.specs.Handles.{opened_at}
+use Rattle.nt_tables.specs.declared.handles.Opened.{Opened}
+use Rattle.nt_tables.specs.Handles.{opened_at}
 use Rattle.nt_core.specs.SetAside.{named_instead}
 use Rattle.nt_core.proofs.Renumbering.{so_far, far_length, far_next, far_all}
 use Rattle.nt_core.proofs.set_aside.rename_all.Goals as goal

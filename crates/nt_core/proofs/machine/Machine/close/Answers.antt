@@ -1,5 +1,5 @@
 use Rattle.std.proofs.Common.{◌≡◌, ◌<◌, ℕ, false, length, set, sym, ap, ◌∙◌, arith, List, Option, None, subst, true}
-use Rattle.nt_objects.specs.Handles.{opened_at}
+use Rattle.nt_tables.specs.Handles.{opened_at}
 use Rattle.nt_calls.specs.declared.call.Act.{Act}
 use Rattle.nt_calls.specs.declared.call.Call.{Call}
 use Rattle.nt_calls.specs.declared.call.Reply.{Reply}
@@ -8,7 +8,7 @@ use Rattle.nt_calls.specs.Refusals.{first_of_causes, close_causes}
 use Rattle.nt_core.proofs.Closing.{close_free, opened_of, closed_accepted}
 use Rattle.nt_core.proofs.Making.{refused_made, accepted_made}
 use Rattle.nt_core.specs.contracts.machine.Machine.{the_view}
-use Rattle.nt_objects.specs.declared.handles.Opened.{Opened}
+use Rattle.nt_tables.specs.declared.handles.Opened.{Opened}
 use Rattle.std.specs.Prelude.{IsSome}
 use Rattle.nt_core.proofs.machine.Machine.close.Goals as goal
 

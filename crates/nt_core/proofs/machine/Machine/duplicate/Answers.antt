@@ -14,7 +14,7 @@ use Rattle.nt_core.proofs.Making.{refused_with, unmade_with, accepted_made}
 use Rattle.nt_calls.specs.Refusals.{IsJudged, duplicate_causes}
 use Rattle.nt_core.specs.Dispatcher.{Dispatcher}
 use Rattle.nt_core.specs.contracts.machine.Machine.{the_view}
-use Rattle.nt_objects.specs.declared.handles.Opened.{Opened}
+use Rattle.nt_tables.specs.declared.handles.Opened.{Opened}
 use Rattle.nt_core.proofs.machine.Machine.duplicate.Goals as goal
 
 pub returns-in_err-object : goal.returns-in_err-object

@@ -7,8 +7,8 @@ use Rattle.nt_core.specs.Dispatcher.{Dispatcher, state}
 use Rattle.nt_core.specs.Lawful.{IsSteady}
 use Rattle.nt_status.specs.Flags.{only_known, has_flag}
 use Rattle.nt_status.specs.Access.{access_bits}
-use Rattle.nt_objects.specs.declared.handles.Opened.{Opened}
-use Rattle.nt_objects.specs.Handles.{opened_at}
+use Rattle.nt_tables.specs.declared.handles.Opened.{Opened}
+use Rattle.nt_tables.specs.Handles.{opened_at}
 use Rattle.std.specs.Prelude.{is_none}
 use Rattle.nt_calls.specs.Naming.{object_in, lacks}
 use Rattle.nt_core.proofs.Making.{unknown_bits}

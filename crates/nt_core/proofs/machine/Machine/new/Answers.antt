@@ -3,7 +3,8 @@ use Rattle.std.proofs.lemmas.List.{length-replicate}
 use Rattle.std.specs.Prelude.{slice_index_or}
 use Rattle.nt_waits.specs.Waits.{queue_of}
 use Rattle.nt_objects.specs.declared.object.Object.TheVariants.{Thread}
-use Rattle.nt_objects.specs.Handles.{own_handles, full_access}
+use Rattle.nt_objects.specs.Object.{full_access}
+use Rattle.nt_tables.specs.Handles.{own_handles}
 use Rattle.nt_calls.specs.State.{opening, object_at}
 use Rattle.nt_core.specs.Dispatcher.{state, dispatcher_of}
 use Rattle.nt_core.proofs.Visiting.{state_same}

@@ -1,7 +1,7 @@
 use Rattle.std.proofs.Common.{◌≡◌, ◌+◌, ◌≤◌, ◌<◌, ◌^◌, ℕ, List, [], Some, None, length, sym, subst, ap, ◌∙◌, arith, false, set, Contains}
 use Rattle.std.specs.FinMap as map
 use Rattle.std.specs.Vec.{vec_capacity}
-use Rattle.nt_owners.specs.Objects.{Objects}
+use Rattle.nt_tables.specs.Objects.{Objects}
 use Rattle.nt_waits.specs.Waits.{Waits, queue_of, others}
 use Rattle.nt_core.specs.declared.standing.Standing.TheVariants.{Free}
 use Rattle.nt_core.specs.Dispatcher.{Dispatcher, dispatcher_of}

@@ -1,6 +1,0 @@
-pub mod ListLemmas
-pub mod ChainLemmas
-pub mod SoundLemmas
-pub mod PassLemmas
-pub mod AbandonLemmas
-pub mod KeptLemmas

@@ -1,3 +1,0 @@
-pub mod Owned
-pub mod Links
-pub mod Objects

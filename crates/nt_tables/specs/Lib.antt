@@ -1,0 +1,4 @@
+pub mod Handles
+pub mod Owned
+pub mod Links
+pub mod Objects
