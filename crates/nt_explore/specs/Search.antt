@@ -35,7 +35,7 @@ HasLoss verdict.None = Unit {0}
 HasLoss (verdict.Met level) = Unit {0}
 
 -- what a verdict says of all orders from here
-abbrev pub Tells : Plan → Point → Verdict → Type 0
-Tells plan start (verdict.Hangs lanes loss) = IsShortestHang plan start lanes.items × TellsLoss plan start loss
-Tells plan start verdict.None = NoneHangs plan start
-Tells plan start (verdict.Met level) = NoneHangsWithin plan start level
+abbrev pub TellsVerdict : Plan → Point → Verdict → Type 0
+TellsVerdict plan start (verdict.Hangs lanes loss) = IsShortestHang plan start lanes.items × TellsLoss plan start loss
+TellsVerdict plan start verdict.None = NoneHangs plan start
+TellsVerdict plan start (verdict.Met level) = NoneHangsWithin plan start level

@@ -2,7 +2,7 @@
 ghost use Rattle.std.specs.Prelude.{◌≡◌, ◌<◌, ◌≤◌, ◌^◌, ℕ, length, Option, None, Some, IsSome, IfOk, OnOk};
 ghost use Rattle.std.specs.Option.{ForSome, option_map};
 ghost use Rattle.nt_explore.specs.declared.loss.Edges.{Edges};
-ghost use Rattle.nt_explore.specs.Search.{start_of, Tells, TellsLoss, HasLoss};
+ghost use Rattle.nt_explore.specs.Search.{start_of, TellsVerdict, TellsLoss, HasLoss};
 ghost use Rattle.nt_explore.specs.Walk.{point_of, AreBehind, LeadsTo, TriesAt, TriesLaneAt, TriesLaneTo};
 ghost use Rattle.nt_explore.specs.Levels.{LooksOn, OfSearch, first_then};
 
@@ -195,7 +195,7 @@ fn judge_hang(
     requires behind { AreBehind entries.now }
     requires first { first < length entries.now }
     ensures told { IfOk result (λ verdict.
-        OfSearch entries.now edges.now looked (Some first) (λ plan start. Tells plan start verdict)) }
+        OfSearch entries.now edges.now looked (Some first) (λ plan start. TellsVerdict plan start verdict)) }
     ensures whole { IfOk result (λ verdict.
         OfSearch entries.now edges.now looked (Some first) (λ plan start. length entries.now ≤ looked → HasLoss verdict)) }
 {
@@ -211,7 +211,7 @@ fn judge_rest(alloc: Global, entries: &[Entry], looked: usize) -> Result<Verdict
     requires some { 0 < looked }
     requires within { looked ≤ length entries.now }
     ensures told { IfOk result (λ verdict. (edges : Edges)
-        → OfSearch entries.now edges looked None (λ plan start. Tells plan start verdict)) }
+        → OfSearch entries.now edges looked None (λ plan start. TellsVerdict plan start verdict)) }
     ensures whole { IfOk result HasLoss }
 {
     if looked == entries.len() {
@@ -235,7 +235,7 @@ fn judge(
     requires within { looked ≤ length entries.now }
     requires first { ForSome first (λ h. h < looked) }
     ensures told { IfOk result (λ verdict.
-        OfSearch entries.now edges.now looked first (λ plan start. Tells plan start verdict)) }
+        OfSearch entries.now edges.now looked first (λ plan start. TellsVerdict plan start verdict)) }
     ensures whole { IfOk result (λ verdict.
         OfSearch entries.now edges.now looked first (λ plan start. length entries.now ≤ looked → HasLoss verdict)) }
 {
@@ -253,7 +253,7 @@ pub fn explore<W: Watcher>(
     most: usize,
     watcher: &mut W,
 ) -> Result<Explored, AllocError>
-    ensures told { IfOk result (λ explored. Tells plan.now (start_of plan.now start.now) explored.verdict) }
+    ensures told { IfOk result (λ explored. TellsVerdict plan.now (start_of plan.now start.now) explored.verdict) }
     ensures whole { IfOk result (λ explored. explored.states ≤ most → HasLoss explored.verdict) }
 {
     let mut met = Met::new(alloc)?;

@@ -18,7 +18,7 @@ use Rattle.nt_life.specs.declared.renewal.Renewal.TheVariants.{Create, CreateAdd
 use Rattle.nt_front.specs.Books.{IsOfCall}
 use Rattle.nt_mail.specs.Knowledge.{knows, with_call as entry_known, latest, with_moment, IsFree, IsWaiting, IsEarlier}
 use Rattle.nt_mail.proofs.Taken.{latest-push}
-use Rattle.nt_front.specs.Holds.{floor_of, ticked_to, moment_if, with_made, with_tick, with_call, last_made, AreNumbered}
+use Rattle.nt_front.specs.Holds.{floor_of, ticked_to, moment_if, with_made, with_tick, with_made_call, last_made, AreNumbered}
 
 greater : (word read ticks : ℕ) → read ≤ word → max word ticks ≡ max word (max read ticks)
 greater word read ticks le = omega arith
@@ -60,17 +60,17 @@ floor_made k n asked result none =
     later (latest 0 k.moments) (ticked_to k.made) 0 _ (push ∙ ap (λ (m : ℕ). max (ticked_to k.made) m) none) ∙ omega arith
 
 -- a call moves no moment
-pub floor_calls : (k : Knowledge) (n : ℕ) (call : Call) (result : Result Reply Refusal) → floor_of (with_call k n call result) ≡ floor_of k
+pub floor_calls : (k : Knowledge) (n : ℕ) (call : Call) (result : Result Reply Refusal) → floor_of (with_made_call k n call result) ≡ floor_of k
 floor_calls k n call result = floor_made k n (Asked.Call call) result refl
 
 -- a call that pended, and one that did not
-pub waits_after : (k : Knowledge) (n : ℕ) (call : Call) (result : Result Reply Refusal) → pended result ≡ true → IsFree k → IsEarlier n k → IsWaiting (with_call k n call result)
+pub waits_after : (k : Knowledge) (n : ℕ) (call : Call) (result : Result Reply Refusal) → pended result ≡ true → IsFree k → IsEarlier n k → IsWaiting (with_made_call k n call result)
 waits_after k n call result p free early = (
   (let a = pended_in-push k.made (item n (Asked.Call call) result) in let b = ap one_if p in omega (arith, free)),
   subst (λ (x : ℕ). AreBelow x k.got) (sym (last_pended-push 0 k.made (item n (Asked.Call call) result) p)) early.got,
 )
 
-pub free_after : (k : Knowledge) (n : ℕ) (call : Call) (result : Result Reply Refusal) → pended result ≡ false → IsFree k → IsFree (with_call k n call result)
+pub free_after : (k : Knowledge) (n : ℕ) (call : Call) (result : Result Reply Refusal) → pended result ≡ false → IsFree k → IsFree (with_made_call k n call result)
 free_after k n call result stays free = free_made k n (Asked.Call call) result stays free
 
 -- who begins again is as free as before
@@ -78,7 +78,7 @@ pub free_begins : (k : Knowledge) (n h : ℕ) → IsFree k → IsFree (with_made
 free_begins k n h free = free_made k n Asked.Begin (Ok (Reply.Handle h)) refl free
 
 -- who makes a call that may not pend is as free as before
-pub free_unless_waits : (k : Knowledge) (n : ℕ) (call : Call) (result : Result Reply Refusal) → is_wait call ≡ false → (pended result ≡ true → is_wait call ≡ true) → IsFree k → IsFree (with_call k n call result)
+pub free_unless_waits : (k : Knowledge) (n : ℕ) (call : Call) (result : Result Reply Refusal) → is_wait call ≡ false → (pended result ≡ true → is_wait call ≡ true) → IsFree k → IsFree (with_made_call k n call result)
 free_unless_waits k n call result no_wait waits free = free_after k n call result (by (pended result) refl) free
   where
     by : (b : Bool) → pended result ≡ b → pended result ≡ false
@@ -98,8 +98,8 @@ made_own : (k : Knowledge) (n who : ℕ) (asked : Asked) (result : Result Reply 
     → knows k.thread (k.made ++ cond (eqb who k.thread) (item n asked result ∷ []) []) k.got k.polled k.moments ≡ with_made k n asked result
 made_own k n who asked result own = ap (λ (b : Bool). knows k.thread (k.made ++ cond b (item n asked result ∷ []) []) k.got k.polled k.moments) (eq-eqb who k.thread own)
 
-pub made_call : (k : Knowledge) (n : ℕ) (e : Entry) (who : ℕ) (call : Call) (result : Result Reply Refusal) → IsOfCall who call result e → who ≡ k.thread → entry_known n e k ≡ with_call k n call result
-made_call k n (Called by asked answer) who call result of own = made_own k n by (Asked.Call asked) answer (of.0 ∙ own) ∙ (λ i. with_call k n (of.1 i) (of.2 i))
+pub made_call : (k : Knowledge) (n : ℕ) (e : Entry) (who : ℕ) (call : Call) (result : Result Reply Refusal) → IsOfCall who call result e → who ≡ k.thread → entry_known n e k ≡ with_made_call k n call result
+made_call k n (Called by asked answer) who call result of own = made_own k n by (Asked.Call asked) answer (of.0 ∙ own) ∙ (λ i. with_made_call k n (of.1 i) (of.2 i))
 made_call k n (Renewed by renewal answer) who call result of own =
     made_own k n by (asked_of renewal) (handle_reply answer) (of.0 ∙ own) ∙ (λ i. with_made k n (asked_for renewal call of.1 i) (of.2 i))
 made_call k n _ who call result of own = absurd of

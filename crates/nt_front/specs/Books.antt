@@ -23,7 +23,7 @@ use Rattle.nt_mail.specs.Entries.{accepted, handle_reply}
 use Rattle.nt_mail.specs.declared.knowledge.Asked.{Asked}
 use Rattle.nt_mail.specs.Knowledge.{newcomers, IsEarlier}
 use Rattle.nt_mail.specs.Rule.{IsTold}
-use Rattle.nt_mail.specs.Seats.{Dispatcher as Seat, Gathered}
+use Rattle.nt_mail.specs.Seats.{DispatcherSeated as Seat, Gathered}
 use Rattle.nt_front.specs.declared.blank.TheConstants.{MAX_ROOM}
 use Rattle.nt_front.specs.Names.{Prepared}
 use Rattle.nt_front.specs.declared.receipt.Part.{Part}

@@ -15,8 +15,8 @@ use Rattle.nt_mail.specs.Knowledge.{knows, latest}
 abbrev pub with_made : Knowledge → ℕ → Asked → Result Reply Refusal → Knowledge
 with_made k number asked result = knows k.thread (k.made ++ item number asked result ∷ []) k.got k.polled k.moments
 
-abbrev pub with_call : Knowledge → ℕ → Call → Result Reply Refusal → Knowledge
-with_call k number call result = with_made k number (Asked.Call call) result
+abbrev pub with_made_call : Knowledge → ℕ → Call → Result Reply Refusal → Knowledge
+with_made_call k number call result = with_made k number (Asked.Call call) result
 
 abbrev pub with_tick : Knowledge → ℕ → ℕ → Result Reply Refusal → Knowledge
 with_tick k number moment result = with_made k number (Asked.Tick moment) result

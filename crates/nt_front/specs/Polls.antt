@@ -19,7 +19,7 @@ use Rattle.nt_mail.specs.Words.{IsLawfulWord, TellsGrant, granted_word}
 use Rattle.nt_mail.specs.Knowledge.{with_got, with_polled, IsEarlier}
 use Rattle.nt_front.specs.Names.{Prepared}
 use Rattle.nt_front.specs.Books.{WasFull, WasTaken}
-use Rattle.nt_front.specs.Holds.{IsGiven, with_call, with_made}
+use Rattle.nt_front.specs.Holds.{IsGiven, with_made_call, with_made}
 
 -- the word tells no grant
 abbrev pub IsUngranted : ℕ → Type 0
@@ -49,12 +49,12 @@ IsPolled old (Polled.Still new) = IsStill old new
 
 -- the call was written under a number above all that the thread had, with a result that it can have
 abbrev pub IsMade : Knowledge → Call → ℕ → Result Reply Refusal → Knowledge → Type 0
-IsMade old call number result new = (new ≡ with_call old number call result) × IsEarlier number old × IsTrue (is_answer call result)
+IsMade old call number result new = (new ≡ with_made_call old number call result) × IsEarlier number old × IsTrue (is_answer call result)
 
-abbrev pub IsBegun : {X : Type 0} → Prepared → Knowledge → WaitCall → Begun X → Type 0
-IsBegun front old wait (Begun.Done new receipt) = IsMade old (Call.Wait wait) receipt.entry receipt.result new × (pended receipt.result ≡ false)
-IsBegun front old wait (Begun.Pended new receipt) = IsMade old (Call.Wait wait) receipt.entry receipt.result new × (pended receipt.result ≡ true)
-IsBegun front old wait (Begun.NoRoom new) = (new ≡ old) × WasFull front old
+abbrev pub IsWaitBegun : {X : Type 0} → Prepared → Knowledge → WaitCall → Begun X → Type 0
+IsWaitBegun front old wait (Begun.Done new receipt) = IsMade old (Call.Wait wait) receipt.entry receipt.result new × (pended receipt.result ≡ false)
+IsWaitBegun front old wait (Begun.Pended new receipt) = IsMade old (Call.Wait wait) receipt.entry receipt.result new × (pended receipt.result ≡ true)
+IsWaitBegun front old wait (Begun.NoRoom new) = (new ≡ old) × WasFull front old
 
 -- the wait ended at once; or it pended, and then the thread, asleep, was given its grant
 abbrev pub IsWaited : {X : Type 0} → Prepared → Knowledge → WaitCall → Waited X → Type 0

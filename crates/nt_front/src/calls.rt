@@ -13,7 +13,7 @@ ghost use Rattle.nt_front.specs.Held.{IsAllOf};
 ghost use Rattle.nt_front.specs.Runs.{IsLawfulHistory, IsLawfulRun, LeadTo};
 ghost use Rattle.nt_mail.specs.declared.entry.Entry.{Entry};
 ghost use Rattle.nt_front.specs.Holds.{with_tick};
-ghost use Rattle.nt_front.specs.Polls.{IsMade, IsBegun, IsExited};
+ghost use Rattle.nt_front.specs.Polls.{IsMade, IsWaitBegun, IsExited};
 
 use crate::book::has_pended;
 use crate::front::Front;
@@ -101,7 +101,7 @@ impl<N: Named> Front<N> {
     /// Begins a wait. The journal takes it in; nothing of it is copied. Where the journal is full it is dropped.
     #[inline(always)]
     pub fn begin(&self, rt: &impl Wait, pass: Pass<N>, wait: WaitCall) -> Begun<N>
-        ensures { IsBegun N.front pass wait result }
+        ensures { IsWaitBegun N.front pass wait result }
     {
         let Pass { mut hold } = pass;
         match self.make(rt, &mut hold, Call::Wait(wait)) {

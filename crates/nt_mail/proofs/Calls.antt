@@ -10,7 +10,7 @@ use Rattle.nt_mail.specs.declared.knowledge.Made.{Made}
 use Rattle.nt_mail.specs.declared.knowledge.Got.{Got}
 use Rattle.nt_mail.specs.declared.knowledge.Asked.{Asked}
 use Rattle.nt_calls.specs.Moves.{pended}
-use Rattle.nt_mail.specs.Entries.{item, asked_of, handle_reply, last_number, given, call_at, calls_from, calls_of, grant_at, grants_from, grants_of, armed_by, armed_from, is_armed, last_from, last_of, pended_in, last_pended_from, last_pended, thread_of, AreBelow, AreMadeBelow, IsOwn, arms}
+use Rattle.nt_mail.specs.Entries.{item, asked_of, handle_reply, last_number, given, call_at, calls_from, calls_of, grant_at, grants_from, grants_of, armed_by, armed_from, is_armed, last_from, last_of, pended_in, last_pended_from, last_pended, entry_thread, AreBelow, AreMadeBelow, IsOwn, arms}
 use Rattle.nt_mail.specs.Rule.{IsCounted, WasLast}
 
 -- the entries before the rest, and the rest
@@ -30,7 +30,7 @@ armed_from-append t b (x ∷ xs) ys = armed_from-append t (armed_by t b x) xs ys
 
 last_from-append : (t n last : ℕ) (xs ys : List Entry) (m : ℕ) → m ≡ n + length xs → last_from t n last (xs ++ ys) ≡ last_from t m (last_from t n last xs) ys
 last_from-append t n last [] ys m e = ap (λ (k : ℕ). last_from t k last ys) (omega arith)
-last_from-append t n last (x ∷ xs) ys m e = last_from-append t (suc n) (cond (eqb (thread_of x) t) n last) xs ys m (omega arith)
+last_from-append t n last (x ∷ xs) ys m e = last_from-append t (suc n) (cond (eqb (entry_thread x) t) n last) xs ys m (omega arith)
 
 pub calls_of-push : (t : ℕ) (log : List Entry) (e : Entry) → calls_of t (log ++ e ∷ []) ≡ calls_of t log ++ call_at t (suc (length log)) e
 calls_of-push t log e = calls_from-append t 1 log (e ∷ []) (suc (length log)) (omega arith) ∙ ap (λ l. calls_of t log ++ l) (append-nil (call_at t (suc (length log)) e))
@@ -41,7 +41,7 @@ grants_of-push t log e = grants_from-append t 1 log (e ∷ []) (suc (length log)
 pub is_armed-push : (t : ℕ) (log : List Entry) (e : Entry) → is_armed t (log ++ e ∷ []) ≡ armed_by t (is_armed t log) e
 is_armed-push t log e = armed_from-append t false log (e ∷ [])
 
-pub last_of-push : (t : ℕ) (log : List Entry) (e : Entry) → last_of t (log ++ e ∷ []) ≡ cond (eqb (thread_of e) t) (suc (length log)) (last_of t log)
+pub last_of-push : (t : ℕ) (log : List Entry) (e : Entry) → last_of t (log ++ e ∷ []) ≡ cond (eqb (entry_thread e) t) (suc (length log)) (last_of t log)
 last_of-push t log e = last_from-append t 1 0 log (e ∷ []) (suc (length log)) (omega arith)
 
 -- what was the thread's last entry at some time was so later too
@@ -59,27 +59,27 @@ pub record SameOf (t : ℕ) (log now : List Entry) : Type 0 where
   pub last : last_of t now ≡ last_of t log
   pub was_last : (n : ℕ) → WasLast t n log → WasLast t n now
 
-no_call_at : (t n : ℕ) (e : Entry) → eqb (thread_of e) t ≡ false → call_at t n e ≡ []
+no_call_at : (t n : ℕ) (e : Entry) → eqb (entry_thread e) t ≡ false → call_at t n e ≡ []
 no_call_at t n (Called who call result) b = ap (λ x. cond x (item n (Asked.Call call) result ∷ []) []) b
 no_call_at t n (Ticked by moment result) b = ap (λ x. cond x (item n (Asked.Tick moment) result ∷ []) []) b
 no_call_at t n (Granted who status) b = refl
 no_call_at t n (Renewed who renewal result) b = ap (λ x. cond x (item n (asked_of renewal) (handle_reply result) ∷ []) []) b
 
-no_grant_at : (t n : ℕ) (e : Entry) → eqb (thread_of e) t ≡ false → grant_at t n e ≡ []
+no_grant_at : (t n : ℕ) (e : Entry) → eqb (entry_thread e) t ≡ false → grant_at t n e ≡ []
 no_grant_at t n (Called who call result) b = refl
 no_grant_at t n (Ticked by moment result) b = refl
 no_grant_at t n (Granted who status) b = ap (λ x. cond x (given n status ∷ []) []) b
 no_grant_at t n (Renewed who renewal result) b = refl
 
-armed_as_before : (t : ℕ) (before : Bool) (e : Entry) → eqb (thread_of e) t ≡ false → armed_by t before e ≡ before
+armed_as_before : (t : ℕ) (before : Bool) (e : Entry) → eqb (entry_thread e) t ≡ false → armed_by t before e ≡ before
 armed_as_before t before (Called who call result) b = ap (λ x. cond x (pended result || before) before) b
 armed_as_before t before (Ticked by moment result) b = ap (λ x. cond x (pended result || before) before) b
 armed_as_before t before (Granted who status) b = ap (λ x. cond x false before) b
 armed_as_before t before (Renewed who renewal result) b = ap (λ x. cond x (pended (handle_reply result) || before) before) b
 
-pub same_push : (t : ℕ) (log : List Entry) (e : Entry) → thread_of e ≢ t → SameOf t log (log ++ e ∷ [])
+pub same_push : (t : ℕ) (log : List Entry) (e : Entry) → entry_thread e ≢ t → SameOf t log (log ++ e ∷ [])
 same_push t log e ne =
-    let b : eqb (thread_of e) t ≡ false = ne_eqb (thread_of e) t ne in
+    let b : eqb (entry_thread e) t ≡ false = ne_eqb (entry_thread e) t ne in
     let n = suc (length log) in
     record {
       calls = calls_of-push t log e ∙ ap (λ l. calls_of t log ++ l) (no_call_at t n e b) ∙ append-nil (calls_of t log);
@@ -96,7 +96,7 @@ pub record AfterCall (t : ℕ) (log : List Entry) (e : Entry) (now : List Entry)
   pub armed : is_armed t now ≡ (arms e || is_armed t log)
   pub last : last_of t now ≡ suc (length log)
 
-pub own_thread : (t : ℕ) (e : Entry) → IsOwn t e → thread_of e ≡ t
+pub own_thread : (t : ℕ) (e : Entry) → IsOwn t e → entry_thread e ≡ t
 own_thread t (Called who call result) own = own
 own_thread t (Ticked by moment result) own = own
 own_thread t (Granted who status) own = absurd own
@@ -116,7 +116,7 @@ call_arms t before (Renewed who renewal result) own = ap (λ x. cond x (pended (
 
 pub after_call : (t : ℕ) (log : List Entry) (e : Entry) → IsOwn t e → AfterCall t log e (log ++ e ∷ [])
 after_call t log e own =
-    let b : eqb (thread_of e) t ≡ true = eq-eqb (thread_of e) t (own_thread t e own) in
+    let b : eqb (entry_thread e) t ≡ true = eq-eqb (entry_thread e) t (own_thread t e own) in
     let n = suc (length log) in
     record {
       calls = calls_of-push t log e;

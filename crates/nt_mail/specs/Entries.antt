@@ -39,11 +39,11 @@ abbrev pub given : ℕ → ℕ → Got
 given n status = record { number = n; status = status }
 
 -- the entry's thread
-abbrev pub thread_of : Entry → ℕ
-thread_of (Called who call result) = who
-thread_of (Ticked by moment result) = by
-thread_of (Granted who status) = who
-thread_of (Renewed who renewal result) = who
+abbrev pub entry_thread : Entry → ℕ
+entry_thread (Called who call result) = who
+entry_thread (Ticked by moment result) = by
+entry_thread (Granted who status) = who
+entry_thread (Renewed who renewal result) = who
 
 -- the entry is a call, a tick or a renewal of thread t
 abbrev pub IsOwn : ℕ → Entry → Type 0
@@ -110,7 +110,7 @@ is_armed t es = armed_from t false es
 -- the number of thread t's last entry among those that are numbered from n on, and else `last`
 abbrev pub last_from : ℕ → ℕ → ℕ → List Entry → ℕ
 last_from t n last [] = last
-last_from t n last (e ∷ es) = last_from t (suc n) (if thread_of e == t then n else last) es
+last_from t n last (e ∷ es) = last_from t (suc n) (if entry_thread e == t then n else last) es
 
 -- the number of the last entry of thread t, 0 where it has none
 abbrev pub last_of : ℕ → List Entry → ℕ

@@ -28,16 +28,16 @@ read_entry (ReadEntry.Granted who status) = Granted who status
 read_entry (ReadEntry.Renewed who renewal result) = Renewed who renewal.now result
 
 -- the reply that is kept so
-abbrev pub reply_of : ShortReply → Reply
-reply_of ShortReply.Done = Reply.Done
-reply_of (ShortReply.Handle handle) = Reply.Handle handle
-reply_of (ShortReply.Previous count) = Reply.Previous count
-reply_of (ShortReply.Status status) = Reply.Status status
-reply_of ShortReply.Pended = Reply.Pended
+abbrev pub long_reply : ShortReply → Reply
+long_reply ShortReply.Done = Reply.Done
+long_reply (ShortReply.Handle handle) = Reply.Handle handle
+long_reply (ShortReply.Previous count) = Reply.Previous count
+long_reply (ShortReply.Status status) = Reply.Status status
+long_reply ShortReply.Pended = Reply.Pended
 
 -- the result that is kept so
 abbrev pub result_of : Result ShortReply Refusal → Result Reply Refusal
-result_of (Ok short) = Ok (reply_of short)
+result_of (Ok short) = Ok (long_reply short)
 result_of (Err cause) = Err cause
 
 -- the entry that is kept so

@@ -7,7 +7,7 @@ use Rattle.nt_mail.specs.declared.knowledge.View.{View}
 use Rattle.nt_mail.specs.Knowledge.{knows}
 
 -- the dispatcher's seat: all entries written, and the moments published
-pub record Dispatcher : Type 0 where
+pub record DispatcherSeated : Type 0 where
   pub table : TableId
   pub written : List Entry
   pub published : List ℕ

@@ -1,7 +1,7 @@
 //! Entries as journals keep them.
 ghost use Rattle.std.specs.Prelude.{◌≡◌, false, Ok};
 ghost use Rattle.nt_mail.specs.declared.entry.Entry.TheVariants.{Called, Ticked, Granted, Renewed};
-ghost use Rattle.nt_mail.specs.Packed.{CanHand, hands_apc, reply_of, result_of, read_entry};
+ghost use Rattle.nt_mail.specs.Packed.{CanHand, hands_apc, long_reply, result_of, read_entry};
 
 use nt_apc::Apc;
 use nt_core::{Call, Reply};
@@ -235,7 +235,7 @@ fn short_of(answer: Result<Reply, Refusal>) -> Result<ShortReply, Refusal>
 #[inline(always)]
 fn short_reply(reply: Reply) -> ShortReply
     requires { hands_apc (Ok reply) ≡ false }
-    ensures { reply_of result ≡ reply }
+    ensures { long_reply result ≡ reply }
 {
     let _inside: Option<Apc> = None;
     match reply {
@@ -260,7 +260,7 @@ fn result_of(short: Result<ShortReply, Refusal>) -> Result<Reply, Refusal>
 
 /// The reply that was kept in few bytes.
 fn reply_of(short: ShortReply) -> Reply
-    ensures { result ≡ reply_of short }
+    ensures { result ≡ long_reply short }
 {
     let _inside: Option<Apc> = None;
     match short {

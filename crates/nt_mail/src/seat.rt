@@ -14,10 +14,10 @@ pub struct DispatcherSeat {
 
 impl Model for DispatcherSeat {
     ghost use Rattle.std.specs.Prelude.{◌≡◌, []};
-    ghost use Rattle.nt_mail.specs.Seats.{Dispatcher};
+    ghost use Rattle.nt_mail.specs.Seats.{DispatcherSeated};
     ghost use Rattle.nt_mail.specs.Views.{keeper};
 
-    ghost Value = { Dispatcher };
+    ghost Value = { DispatcherSeated };
 
     ghost view = { λ s. record {
       table = s.seat.table_id;

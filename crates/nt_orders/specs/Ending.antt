@@ -4,7 +4,7 @@ use Rattle.std.specs.Io.KnownBytes.{Keeps}
 use Rattle.nt_devices.specs.Device.{Reading, Says, Writing, one_more}
 use Rattle.nt_calls.specs.State.{State}
 use Rattle.nt_look.specs.Orders.{Plan}
-use Rattle.nt_explore.specs.Search.{Tells, beginning}
+use Rattle.nt_explore.specs.Search.{TellsVerdict, beginning}
 use Rattle.nt_explore.specs.declared.explored.Verdict.{Verdict}
 use Rattle.nt_explore.specs.declared.explored.Verdict.TheVariants as verdict
 use Rattle.nt_script.specs.Running.{Has}
@@ -26,7 +26,7 @@ verdict_code (verdict.Met level) = 4
 
 -- The exit status is that of a verdict on all orders of the plan from this state.
 abbrev pub PlanIsJudged : Plan → State → ℕ → Type 0
-PlanIsJudged plan s code = (found : Verdict) × Tells plan (beginning plan s) found × (code ≡ verdict_code found)
+PlanIsJudged plan s code = (found : Verdict) × TellsVerdict plan (beginning plan s) found × (code ≡ verdict_code found)
 
 -- This is the script's first fault: in its head; that it has no `threads` line; or in a lane. Or memory was refused.
 abbrev pub IsFirstFault : List ℕ → OrdersFault → Type 0

@@ -14,7 +14,7 @@ use Rattle.nt_mail.specs.declared.knowledge.Knowledge.{Knowledge}
 use Rattle.nt_mail.specs.Entries.{accepted}
 use Rattle.nt_mail.specs.Knowledge.{IsEarlier, with_call as entry_known}
 use Rattle.nt_mail.specs.Rule.{IsTold}
-use Rattle.nt_mail.specs.Seats.{Dispatcher, Seated}
+use Rattle.nt_mail.specs.Seats.{DispatcherSeated, Seated}
 use Rattle.nt_front.specs.Books.{Ledger, ledger, Writes}
 use Rattle.nt_front.specs.Runs.{Agree}
 use Rattle.nt_front.specs.Holds.{floor_of, with_made, AreNumbered}
@@ -32,7 +32,7 @@ returns-in_default-clause-unbegun g c =
     let new = state c.begin_this.new.self.core in
     let none = begun_none old life.spare c.from-number.result grants new (subst (λ (r : Option ℕ). MayBeginThis old life.spare c.from-number.result r grants new) c.in_default.is c.begin_this.ensures.begun) in
     let known = ap (λ (s : Seated). s.known) c.deref_mut.ensures.value ∙ c.caller.view_is in
-    let published = ap (λ (d : Dispatcher). d.published) kept.seat in record {
+    let published = ap (λ (d : DispatcherSeated). d.published) kept.seat in record {
       book = ledger life c.self.inside.base c.self.inside.dispatcher.written c.self.inside.first c.self.inside.journal.items c.self.inside.room;
       stands = kept.stands;
       threads = kept.agree.threads ∙ kept.threads;
@@ -74,9 +74,9 @@ invariant_of-self-2 g c =
     let here : c.len-place.result ≡ length held = search rules in
     let grown = (c.push_reserved.ensures.items ∙ ap (λ (x : Entry). c.self.inside.journal.items ++ x ∷ []) c.renewed.ensures) in
     let entry : c.index.result.now ≡ e = last_is held e c.push_reserved.new.self.items c.len-place.result c.index.result.now c.index.ensures grown here in
-    let longer : c.tell.new.dispatcher.written ≡ es ++ e ∷ [] = ap (λ (d : Dispatcher). d.written) c.tell.ensures.written ∙ ap (λ (x : Entry). es ++ x ∷ []) entry in
-    let sent = c.tell.ensures.written ∙ ap (λ (d : Dispatcher). record d { written = d.written ++ c.index.result.now ∷ [] }) kept.seat in
-    let written = ap (λ (d : Dispatcher). d.written) sent in
+    let longer : c.tell.new.dispatcher.written ≡ es ++ e ∷ [] = ap (λ (d : DispatcherSeated). d.written) c.tell.ensures.written ∙ ap (λ (x : Entry). es ++ x ∷ []) entry in
+    let sent = c.tell.ensures.written ∙ ap (λ (d : DispatcherSeated). record d { written = d.written ++ c.index.result.now ∷ [] }) kept.seat in
+    let written = ap (λ (d : DispatcherSeated). d.written) sent in
     let now = ap accepted longer ∙ (accepted-append es (e ∷ []) ∙ append-nil (accepted es)) in
     let one = ap length grown in
     let two = ap length longer in
@@ -134,7 +134,7 @@ returns-clause-book g c =
     let here : c.len-place.result ≡ length held = search rules in
     let grown = (c.push_reserved.ensures.items ∙ ap (λ (x : Entry). c.self.inside.journal.items ++ x ∷ []) c.renewed.ensures) in
     let entry : c.index.result.now ≡ e = last_is held e c.push_reserved.new.self.items c.len-place.result c.index.result.now c.index.ensures grown here in
-    let longer : c.tell.new.dispatcher.written ≡ es ++ e ∷ [] = ap (λ (d : Dispatcher). d.written) c.tell.ensures.written ∙ ap (λ (x : Entry). es ++ x ∷ []) entry in
+    let longer : c.tell.new.dispatcher.written ≡ es ++ e ∷ [] = ap (λ (d : DispatcherSeated). d.written) c.tell.ensures.written ∙ ap (λ (x : Entry). es ++ x ∷ []) entry in
     subst (λ (x : Ledger × ℕ). Writes x.0 (record { entry = Renewed x.1 (Begin h) (Ok h); grants = [] }) (ledger after c.self.inside.base c.tell.new.dispatcher.written c.self.inside.first c.push_reserved.new.self.items c.self.inside.room))
     {x = (ledger life c.self.inside.base es c.self.inside.first held c.self.inside.room, t)} {y = (c.args.self.now, c.args.caller.now.thread)} (λ i. (c.self.view_is i, c.thread-who.ensures i))
     (record {

@@ -12,10 +12,10 @@ use Rattle.nt_mail.specs.declared.knowledge.Asked.{Asked}
 use Rattle.nt_mail.specs.declared.knowledge.Knowledge.{Knowledge}
 use Rattle.nt_mail.specs.Entries.{accepted, arms, is_armed, IsOwn}
 use Rattle.nt_mail.specs.Knowledge.{IsEarlier, with_call as entry_known}
-use Rattle.nt_mail.specs.Seats.{Dispatcher, Seated}
+use Rattle.nt_mail.specs.Seats.{DispatcherSeated, Seated}
 use Rattle.nt_front.specs.Books.{Ledger, ledger, WritesCall}
 use Rattle.nt_front.specs.Runs.{Agree, AreArmed, granted}
-use Rattle.nt_front.specs.Holds.{floor_of, with_call, AreNumbered}
+use Rattle.nt_front.specs.Holds.{floor_of, with_made_call, AreNumbered}
 use Rattle.nt_front.proofs.Journals.{below, own_of, accepted_of, stands_after, call_arms, call_sends, agree_after_call, arms_of, accepted-step, journal_is, written_count, last_is, room_left}
 use Rattle.nt_front.proofs.Floors.{fewer_calls, floor_calls, calls_made, numbered_made, made_call}
 use Rattle.nt_front.proofs.book.Book.call.Goals as goal
@@ -84,7 +84,7 @@ send-requires-clause-armed g c =
     let known = below c.self.inside.life.core n c.self.invariant.stands.lawful c.self.invariant.agree.threads in
     let here : c.len-place.result ≡ length c.self.inside.journal.items = search rules in
     let entry : c.index.result.now ≡ e = last_is c.self.inside.journal.items e c.write_call-result.new.journal.items c.len-place.result c.index.result.now c.index.ensures out.1 here in
-    let told : c.tell.new.dispatcher.written ≡ es ++ e ∷ [] = ap (λ (d : Dispatcher). d.written) c.tell.ensures.written ∙ ap (λ (x : Entry). es ++ x ∷ []) entry in
+    let told : c.tell.new.dispatcher.written ≡ es ++ e ∷ [] = ap (λ (d : DispatcherSeated). d.written) c.tell.ensures.written ∙ ap (λ (x : Entry). es ++ x ∷ []) entry in
     let grants = c.grants.ensures ∙ ap (λ (d : Core). d.grants) c.core-3.ensures in
     subst (λ (x : ℕ × List Entry × List Grant). AreArmed x.0 x.1 x.2) (λ i. (sym count i, sym told i, sym grants i))
     (call_sends n es old c.thread-who.result c.args.call result e after.grants (state after) c.waited_before-waited.result c.self.invariant.agree known done.moves waited done.of)
@@ -109,11 +109,11 @@ invariant_of-self g c =
     let grown : next ≡ held ++ e ∷ map granted grants = journal_is held c.write_call-result.new.journal.items next e grants c.grants.result.now out.1 c.send.ensures.journal sent in
     let here : c.len-place.result ≡ length held = search rules in
     let entry : c.index.result.now ≡ e = last_is held e c.write_call-result.new.journal.items c.len-place.result c.index.result.now c.index.ensures out.1 here in
-    let told : c.tell.new.dispatcher.written ≡ es ++ e ∷ [] = ap (λ (d : Dispatcher). d.written) c.tell.ensures.written ∙ ap (λ (x : Entry). es ++ x ∷ []) entry in
+    let told : c.tell.new.dispatcher.written ≡ es ++ e ∷ [] = ap (λ (d : DispatcherSeated). d.written) c.tell.ensures.written ∙ ap (λ (x : Entry). es ++ x ∷ []) entry in
     let more = c.send.new.dispatcher.written in
-    let longer : more ≡ es ++ e ∷ map granted grants = journal_is es c.tell.new.dispatcher.written more e grants c.grants.result.now told (ap (λ (d : Dispatcher). d.written) c.send.ensures.written) sent in
-    let kept = c.send.ensures.written ∙ ap (λ (d : Dispatcher). record d { written = d.written ++ map granted c.grants.result.now }) (c.tell.ensures.written ∙ ap (λ (d : Dispatcher). record d { written = d.written ++ c.index.result.now ∷ [] }) c.self.invariant.seat) in
-    let written = ap (λ (d : Dispatcher). d.written) kept in
+    let longer : more ≡ es ++ e ∷ map granted grants = journal_is es c.tell.new.dispatcher.written more e grants c.grants.result.now told (ap (λ (d : DispatcherSeated). d.written) c.send.ensures.written) sent in
+    let kept = c.send.ensures.written ∙ ap (λ (d : DispatcherSeated). record d { written = d.written ++ map granted c.grants.result.now }) (c.tell.ensures.written ∙ ap (λ (d : DispatcherSeated). record d { written = d.written ++ c.index.result.now ∷ [] }) c.self.invariant.seat) in
+    let written = ap (λ (d : DispatcherSeated). d.written) kept in
     let now = ap accepted longer ∙ (accepted-step es e grants ∙ (ap (λ l. accepted es ++ l) (accepted_of c.thread-who.result c.args.call result e done.of) ∙ append-nil (accepted es))) in
     let one = ap length grown in
     let two = ap length longer in
@@ -148,7 +148,7 @@ invariant_of-caller g c =
     let number = c.self.inside.first + c.len-place.result in
     let same = ap (λ (s : Seated). s.known) c.deref_mut.ensures.value in
     let earlier = subst (IsEarlier number) same c.tell.ensures.earlier in
-    let becomes : c.tell.new.caller.known ≡ with_call known number c.args.call result =
+    let becomes : c.tell.new.caller.known ≡ with_made_call known number c.args.call result =
     ap (λ (s : Seated). s.known) c.tell.ensures.made ∙ (ap (entry_known number c.index.result.now) same ∙ ap (λ (x : Entry). entry_known number x known) entry ∙ made_call known number out.0 c.thread-who.result c.args.call result out.2.of (c.thread-who.ensures ∙ ap (λ (k : Knowledge). k.thread) (sym c.caller.view_is))) in
     let count = c.caller.invariant.calls in record {
       table = ap (λ (s : Seated). s.table) c.tell.ensures.made ∙ c.requires.mail;
@@ -178,9 +178,9 @@ returns-clause-book g c =
     let grown : next ≡ held ++ e ∷ map granted grants = journal_is held c.write_call-result.new.journal.items next e grants c.grants.result.now out.1 c.send.ensures.journal sent in
     let here : c.len-place.result ≡ length held = search rules in
     let entry : c.index.result.now ≡ e = last_is held e c.write_call-result.new.journal.items c.len-place.result c.index.result.now c.index.ensures out.1 here in
-    let told : c.tell.new.dispatcher.written ≡ es ++ e ∷ [] = ap (λ (d : Dispatcher). d.written) c.tell.ensures.written ∙ ap (λ (x : Entry). es ++ x ∷ []) entry in
+    let told : c.tell.new.dispatcher.written ≡ es ++ e ∷ [] = ap (λ (d : DispatcherSeated). d.written) c.tell.ensures.written ∙ ap (λ (x : Entry). es ++ x ∷ []) entry in
     let more = c.send.new.dispatcher.written in
-    let longer : more ≡ es ++ e ∷ map granted grants = journal_is es c.tell.new.dispatcher.written more e grants c.grants.result.now told (ap (λ (d : Dispatcher). d.written) c.send.ensures.written) sent in
+    let longer : more ≡ es ++ e ∷ map granted grants = journal_is es c.tell.new.dispatcher.written more e grants c.grants.result.now told (ap (λ (d : DispatcherSeated). d.written) c.send.ensures.written) sent in
     subst (λ (x : Ledger × ℕ). WritesCall x.0 x.1 c.args.call result (ledger after c.self.inside.base more c.self.inside.first next c.self.inside.room))
     {x = (ledger c.self.inside.life c.self.inside.base es c.self.inside.first held c.self.inside.room, c.thread-who.result)} {y = (c.args.self.now, c.args.caller.now.thread)} (λ i. (c.self.view_is i, c.thread-who.ensures i))
     (record {
@@ -200,6 +200,6 @@ returns-clause-entered g c =
     let entry = last_is es out.0 c.write_call-result.new.journal.items c.len-place.result c.index.result.now c.index.ensures out.1 here in
     let number = c.self.inside.first + c.len-place.result in
     let same = ap (λ (s : Seated). s.known) c.deref_mut.ensures.value in
-    let becomes : c.tell.new.caller.known ≡ with_call known number c.args.call result =
+    let becomes : c.tell.new.caller.known ≡ with_made_call known number c.args.call result =
     ap (λ (s : Seated). s.known) c.tell.ensures.made ∙ (ap (entry_known number c.index.result.now) same ∙ ap (λ (x : Entry). entry_known number x known) entry ∙ made_call known number out.0 c.thread-who.result c.args.call result out.2.of (c.thread-who.ensures ∙ ap (λ (k : Knowledge). k.thread) (sym c.caller.view_is))) in
-    record { next = search rules; earlier = search rules; made = becomes ∙ ap (λ (k : Knowledge). with_call k number c.args.call result) c.caller.view_is }
+    record { next = search rules; earlier = search rules; made = becomes ∙ ap (λ (k : Knowledge). with_made_call k number c.args.call result) c.caller.view_is }

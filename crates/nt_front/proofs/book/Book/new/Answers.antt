@@ -3,13 +3,13 @@ use Rattle.std.specs.Prelude.{List}
 use Rattle.nt_core.specs.Dispatcher.{state}
 use Rattle.nt_mail.specs.declared.entry.Entry.{Entry}
 use Rattle.nt_mail.specs.Entries.{accepted}
-use Rattle.nt_mail.specs.Seats.{Dispatcher}
+use Rattle.nt_mail.specs.Seats.{DispatcherSeated}
 use Rattle.nt_front.proofs.Journals.{stands_at_first, agree_at_first}
 use Rattle.nt_front.proofs.book.Book.new.Goals as goal
 
 pub invariant_of-result : goal.invariant_of-result
 invariant_of-result g c =
-    let none : c.args.dispatcher.written ≡ [] = ap (λ (d : Dispatcher). d.written) c.requires.dispatcher in
+    let none : c.args.dispatcher.written ≡ [] = ap (λ (d : DispatcherSeated). d.written) c.requires.dispatcher in
     let unwritten = ap length none in
     let empty = ap length c.requires.journal.0 in record {
       stands = stands_at_first c.args.life c.args.base c.args.threads c.args.room c.args.dispatcher.written c.args.journal.items c.requires.life.0 c.requires.life.1 c.requires.base none c.requires.journal.0;

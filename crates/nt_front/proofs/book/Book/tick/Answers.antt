@@ -11,7 +11,7 @@ use Rattle.nt_mail.specs.declared.knowledge.Asked.{Asked}
 use Rattle.nt_mail.specs.declared.knowledge.Knowledge.{Knowledge}
 use Rattle.nt_mail.specs.Entries.{accepted, accepted_if}
 use Rattle.nt_mail.specs.Knowledge.{IsEarlier, with_call as entry_known}
-use Rattle.nt_mail.specs.Seats.{Dispatcher, Seated}
+use Rattle.nt_mail.specs.Seats.{DispatcherSeated, Seated}
 use Rattle.nt_front.specs.Runs.{Agree, AreArmed, granted}
 use Rattle.nt_front.specs.Books.{Ledger, ledger, Writes}
 use Rattle.nt_front.specs.Holds.{floor_of, moment_if, with_tick, AreNumbered}
@@ -51,7 +51,7 @@ send-requires-clause-armed g c =
     let e = Ticked c.thread-by.result c.args.moment c.tick-result.result in
     let here : c.len-place.result ≡ length c.self.inside.journal.items = search rules in
     let entry : c.index.result.now ≡ e = last_is c.self.inside.journal.items e c.push_reserved.new.self.items c.len-place.result c.index.result.now c.index.ensures (c.push_reserved.ensures.items ∙ ap (λ (x : Entry). c.self.inside.journal.items ++ x ∷ []) c.ticked.ensures) here in
-    let told : c.tell.new.dispatcher.written ≡ es ++ e ∷ [] = ap (λ (d : Dispatcher). d.written) c.tell.ensures.written ∙ ap (λ (x : Entry). es ++ x ∷ []) entry in
+    let told : c.tell.new.dispatcher.written ≡ es ++ e ∷ [] = ap (λ (d : DispatcherSeated). d.written) c.tell.ensures.written ∙ ap (λ (x : Entry). es ++ x ∷ []) entry in
     subst (λ (x : ℕ × List Entry × List Grant). AreArmed x.0 x.1 x.2) (λ i. (sym count i, sym told i, sym (c.grants.ensures ∙ ap (λ (d : Core). d.grants) c.core-3.ensures) i))
     (tick_sends n es old c.thread-by.result c.args.moment c.tick-result.result grants new c.is_waiting-armed.result c.self.invariant.agree known stays (done.moves c.thread-by.result) waited)
 
@@ -77,13 +77,13 @@ invariant_of-self g c =
     let grown : next ≡ held ++ (e ∷ map granted grants) = journal_is held c.push_reserved.new.self.items next e grants c.grants.result.now (c.push_reserved.ensures.items ∙ ap (λ (x : Entry). c.self.inside.journal.items ++ x ∷ []) c.ticked.ensures) c.send.ensures.journal sent_are in
     let here : c.len-place.result ≡ length held = search rules in
     let entry : c.index.result.now ≡ e = last_is held e c.push_reserved.new.self.items c.len-place.result c.index.result.now c.index.ensures (c.push_reserved.ensures.items ∙ ap (λ (x : Entry). c.self.inside.journal.items ++ x ∷ []) c.ticked.ensures) here in
-    let told : c.tell.new.dispatcher.written ≡ es ++ e ∷ [] = ap (λ (d : Dispatcher). d.written) c.tell.ensures.written ∙ ap (λ (x : Entry). es ++ x ∷ []) entry in
+    let told : c.tell.new.dispatcher.written ≡ es ++ e ∷ [] = ap (λ (d : DispatcherSeated). d.written) c.tell.ensures.written ∙ ap (λ (x : Entry). es ++ x ∷ []) entry in
     let more = c.send.new.dispatcher.written in
-    let longer : more ≡ es ++ (e ∷ map granted grants) = journal_is es c.tell.new.dispatcher.written more e grants c.grants.result.now told (ap (λ (d : Dispatcher). d.written) c.send.ensures.written) sent_are in
-    let sent = c.send.ensures.written ∙ ap (λ (d : Dispatcher). record d { written = d.written ++ map granted c.grants.result.now }) (c.tell.ensures.written ∙ ap (λ (d : Dispatcher). record d { written = d.written ++ c.index.result.now ∷ [] }) c.self.invariant.seat) in
-    let kept = c.publish.ensures ∙ ap (λ (d : Dispatcher). record d { published = d.published ++ accepted_if c.args.moment result }) sent in
-    let written = ap (λ (d : Dispatcher). d.written) kept in
-    let last = ap (λ (d : Dispatcher). d.written) c.publish.ensures ∙ longer in
+    let longer : more ≡ es ++ (e ∷ map granted grants) = journal_is es c.tell.new.dispatcher.written more e grants c.grants.result.now told (ap (λ (d : DispatcherSeated). d.written) c.send.ensures.written) sent_are in
+    let sent = c.send.ensures.written ∙ ap (λ (d : DispatcherSeated). record d { written = d.written ++ map granted c.grants.result.now }) (c.tell.ensures.written ∙ ap (λ (d : DispatcherSeated). record d { written = d.written ++ c.index.result.now ∷ [] }) c.self.invariant.seat) in
+    let kept = c.publish.ensures ∙ ap (λ (d : DispatcherSeated). record d { published = d.published ++ accepted_if c.args.moment result }) sent in
+    let written = ap (λ (d : DispatcherSeated). d.written) kept in
+    let last = ap (λ (d : DispatcherSeated). d.written) c.publish.ensures ∙ longer in
     let now = ap accepted last ∙ accepted-step es e grants in
     let one = ap length grown in
     let two = ap length last in
@@ -146,10 +146,10 @@ returns-clause-book g c =
     let grown : next ≡ held ++ e ∷ map granted grants = journal_is held c.push_reserved.new.self.items next e grants c.grants.result.now (c.push_reserved.ensures.items ∙ ap (λ (x : Entry). c.self.inside.journal.items ++ x ∷ []) c.ticked.ensures) c.send.ensures.journal sent_are in
     let here : c.len-place.result ≡ length held = search rules in
     let entry : c.index.result.now ≡ e = last_is held e c.push_reserved.new.self.items c.len-place.result c.index.result.now c.index.ensures (c.push_reserved.ensures.items ∙ ap (λ (x : Entry). c.self.inside.journal.items ++ x ∷ []) c.ticked.ensures) here in
-    let told : c.tell.new.dispatcher.written ≡ es ++ e ∷ [] = ap (λ (d : Dispatcher). d.written) c.tell.ensures.written ∙ ap (λ (x : Entry). es ++ x ∷ []) entry in
+    let told : c.tell.new.dispatcher.written ≡ es ++ e ∷ [] = ap (λ (d : DispatcherSeated). d.written) c.tell.ensures.written ∙ ap (λ (x : Entry). es ++ x ∷ []) entry in
     let more = c.send.new.dispatcher.written in
-    let longer : more ≡ es ++ e ∷ map granted grants = journal_is es c.tell.new.dispatcher.written more e grants c.grants.result.now told (ap (λ (d : Dispatcher). d.written) c.send.ensures.written) sent_are in
-    let last = ap (λ (d : Dispatcher). d.written) c.publish.ensures ∙ longer in
+    let longer : more ≡ es ++ e ∷ map granted grants = journal_is es c.tell.new.dispatcher.written more e grants c.grants.result.now told (ap (λ (d : DispatcherSeated). d.written) c.send.ensures.written) sent_are in
+    let last = ap (λ (d : DispatcherSeated). d.written) c.publish.ensures ∙ longer in
     subst (λ (x : Ledger × ℕ). Writes x.0 (record { entry = Ticked x.1 moment result; grants = grants }) (ledger after c.self.inside.base c.publish.new.dispatcher.written c.self.inside.first next c.self.inside.room))
     {x = (ledger c.self.inside.life c.self.inside.base es c.self.inside.first held c.self.inside.room, by)} {y = (c.args.self.now, c.args.caller.now.thread)} (λ i. (c.self.view_is i, c.thread-by.ensures i))
     (record { step = (refl, (state after.core, done.ticked, refl)); once = λ none. refl; lasts = ap is_some done.spare; journal = grown; written = last; base = refl; first = refl; room = refl })

@@ -2,7 +2,7 @@ use Rattle.std.proofs.Common.{◌≡◌, [], ◌∷◌, ℕ, List, rules, ap, su
 use Rattle.nt_mail.specs.declared.entry.Entry.{Entry}
 use Rattle.nt_mail.specs.Entries.{Each, accepted}
 use Rattle.nt_mail.specs.Rule.{IsTold}
-use Rattle.nt_mail.specs.Seats.{Dispatcher, Gathered, Seated}
+use Rattle.nt_mail.specs.Seats.{DispatcherSeated, Gathered, Seated}
 use Rattle.nt_front.specs.Held.{IsAccounted}
 use Rattle.nt_front.proofs.Closing.{AreJoined, none_joined, one_joined, all_accounted}
 use Rattle.nt_front.proofs.Since.{runs_from, ungiven_runs, led_from, all_written}
@@ -42,8 +42,8 @@ returns-clause-told g c =
     let book = c.into_inner.result in
     let history = c.into_history-history.ensures.history in
     let empty : c.loop-hold.holds.items ≡ [] = search rules in
-    let written : c.loop-hold.all.written ≡ book.written = c.loop-hold.invariant.written ∙ (ap (λ (j : Gathered). j.written) c.gather-all.ensures ∙ ap (λ (d : Dispatcher). d.written) c.into_history-history.ensures.seat) in
-    let published : c.loop-hold.all.published ≡ accepted book.written = c.loop-hold.invariant.published ∙ (ap (λ (j : Gathered). j.published) c.gather-all.ensures ∙ ap (λ (d : Dispatcher). d.published) c.into_history-history.ensures.seat) in
+    let written : c.loop-hold.all.written ≡ book.written = c.loop-hold.invariant.written ∙ (ap (λ (j : Gathered). j.written) c.gather-all.ensures ∙ ap (λ (d : DispatcherSeated). d.written) c.into_history-history.ensures.seat) in
+    let published : c.loop-hold.all.published ≡ accepted book.written = c.loop-hold.invariant.published ∙ (ap (λ (j : Gathered). j.published) c.gather-all.ensures ∙ ap (λ (d : DispatcherSeated). d.published) c.into_history-history.ensures.seat) in
     let told = subst (λ (x : List Entry × List ℕ). Each (IsTold x.0 x.1) c.loop-hold.all.parts) (λ i. (written i, published i)) c.close.ensures in
     let joined = subst (λ left. AreJoined c.args.holds.items left c.loop-hold.all.parts) empty c.loop-hold.invariant.joined in
     let stands = c.into_history-history.ensures.stands in
