@@ -42,8 +42,10 @@ fn explain_fault<F: AllocGlobal + Files, E: Sink>(
 /// Does what the words ask for, and answers the exit status.
 fn start<R: AllocGlobal + Env + Files + Print, E: Sink>(rt: &R, errors: &mut E) -> u8 {
     match asked(rt) {
-        Ok((words, Some(told))) => explain_fault(rt, words.as_slice(), &told, errors),
-        Ok((words, None)) => carry_out(rt, words.as_slice(), errors),
+        Ok((words, told)) => match told {
+            Some(told) => explain_fault(rt, words.as_slice(), &told, errors),
+            None => carry_out(rt, words.as_slice(), errors),
+        },
         Err(AllocError) => lacks_memory(errors),
     }
 }

@@ -45,8 +45,10 @@ where
     R: AllocGlobal + Env + Files + Print + Threads + Wait + Sync,
 {
     match asked(rt) {
-        Ok((words, Some(told))) => explain_fault(rt, words.as_slice(), &told, errors),
-        Ok((words, None)) => carry_out(rt, plan_of(rt.alloc(), words.as_slice()), errors),
+        Ok((words, told)) => match told {
+            Some(told) => explain_fault(rt, words.as_slice(), &told, errors),
+            None => carry_out(rt, plan_of(rt.alloc(), words.as_slice()), errors),
+        },
         Err(AllocError) => carry_out(rt, Err(PlanFault::Memory), errors),
     }
 }
