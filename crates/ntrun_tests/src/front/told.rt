@@ -1,6 +1,7 @@
 //! What a thread was told, and the same read off the journal.
 use nt_core::Reply;
 use nt_front::{Blank, History, PackedEntry, Part, ReadEntry, Receipt};
+use nt_life::Renewal;
 use nt_status::{Status, ThreadId};
 
 /// Drops a front that was never opened.
@@ -99,11 +100,13 @@ impl Told {
     }
 
     fn read(&mut self, thread: ThreadId, entry: &PackedEntry, number: u64) {
-        match entry.read() {
-            ReadEntry::Called { who, .. } if who == thread => self.calls.add(number),
-            ReadEntry::Handed { who, .. } if who == thread => self.calls.add(number),
-            ReadEntry::Ticked { by, .. } if by == thread => self.calls.add(number),
-            ReadEntry::Granted { who, status } if who == thread => self.grant(number, status),
+        // (The checker has to be told of the type that an entry may borrow.)
+        let _inside: Option<Renewal> = None;
+        match &entry.read() {
+            ReadEntry::Called { who, .. } if *who == thread => self.calls.add(number),
+            ReadEntry::Handed { who, .. } if *who == thread => self.calls.add(number),
+            ReadEntry::Ticked { by, .. } if *by == thread => self.calls.add(number),
+            ReadEntry::Granted { who, status } if *who == thread => self.grant(number, *status),
             _ => {}
         }
     }
