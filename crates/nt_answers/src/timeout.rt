@@ -1,6 +1,7 @@
 //! How long a wait may pend.
 ghost use Rattle.std.specs.Prelude.{◌≡◌};
 
+use nt_calls::WaitMode;
 use nt_status::INFINITE;
 use std::marker::Model;
 
@@ -37,5 +38,15 @@ impl Timeout {
         ensures { result ≡ self }
     {
         self.0
+    }
+
+    /// The mode of a wait with this timeout, alertable or not.
+    pub fn mode(self, alertable: bool) -> WaitMode
+        ensures { result ≡ record { ms = self; alertable = alertable } }
+    {
+        WaitMode {
+            ms: self.0,
+            alertable,
+        }
     }
 }

@@ -1,7 +1,7 @@
 //! What is timed.
 
 use crate::turns::Turn;
-use nt_core::{Act, Call, WaitCall};
+use nt_core::{Act, Call, WaitCall, WaitMode};
 use nt_status::{Handle, Handles, INFINITE};
 use std::alloc::{AllocError, Global};
 use std::ops::Range;
@@ -98,12 +98,11 @@ fn wait(
     for number in objects {
         handles.push(Handle::new(number))?;
     }
-    let wait = WaitCall::Objects {
-        handles,
-        all,
+    let mode = WaitMode {
         ms,
         alertable: false,
     };
+    let wait = WaitCall::Objects { handles, all, mode };
     Ok(Turn {
         who,
         call: Call::Wait(wait),
@@ -199,8 +198,10 @@ fn signal_and_wait(alloc: Global) -> Result<Shape, AllocError> {
     let call = Call::Wait(WaitCall::Swap {
         signal: Handle::new(2),
         object: Handle::new(3),
-        ms: INFINITE,
-        alertable: false,
+        mode: WaitMode {
+            ms: INFINITE,
+            alertable: false,
+        },
     });
     shape.round.push(Turn { who: 1, call })?;
     shape.then(0, set(3))

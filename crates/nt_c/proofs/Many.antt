@@ -14,6 +14,7 @@ use Rattle.nt_calls.specs.declared.call.Call.{Call}
 use Rattle.nt_calls.specs.declared.call.Grant.{Grant}
 use Rattle.nt_calls.specs.declared.call.Reply.{Reply}
 use Rattle.nt_calls.specs.declared.call.WaitCall.{WaitCall}
+use Rattle.nt_calls.specs.declared.call.WaitMode.{WaitMode}
 use Rattle.nt_calls.specs.Naming.{object_named, call_named}
 use Rattle.nt_calls.specs.Refusals.{Cause, IsRefusal, causes, first_of_causes, is_unknown, has_twice, is_at_limit, refusal, grows}
 use Rattle.nt_calls.specs.Rights.{is_denied}
@@ -45,18 +46,18 @@ some_cause s who = first_after (causes s who false Call.Exit) InvalidParameter
 abbrev IsUnlawful : List ℕ → Type 0
 IsUnlawful named = (length named == 0 || nat_lt MAX_WAIT_OBJECTS (length named)) ≡ true
 
-refused : (s : State) (who : ℕ) (denied all alertable : Bool) (ms : ℕ) (named : List ℕ) → IsUnlawful named → refusal s who denied (Call.Wait (WaitCall.Objects all alertable ms named)) ≡ why s who
-refused s who denied all alertable ms named unlawful =
+refused : (s : State) (who : ℕ) (denied : Bool) (named : List ℕ) (all : Bool) (mode : WaitMode) → IsUnlawful named → refusal s who denied (Call.Wait (WaitCall.Objects named all mode)) ≡ why s who
+refused s who denied named all mode unlawful =
     ap (λ (b : Bool). first_of_causes (callers s who ((b, InvalidParameter) ∷ (list_any (is_unknown s.objects) named, InvalidHandle) ∷ (denied, AccessDenied) ∷ (has_twice named, InvalidParameter) ∷ (list_any (is_at_limit s.objects who) named, RecursionLimit) ∷ []))) unlawful
 
 -- the wait for these handles
-abbrev wait_for : Bool → Bool → ℕ → List ℕ → Call
-wait_for all alertable ms handles = Call.Wait (WaitCall.Objects all alertable ms handles)
+abbrev wait_for : List ℕ → Bool → WaitMode → Call
+wait_for handles all mode = Call.Wait (WaitCall.Objects handles all mode)
 
 -- the refusal of such a wait, whose handles are these
-refused_named : (s : State) (who : ℕ) (all alertable : Bool) (ms : ℕ) (handles : List ℕ) → IsUnlawful (map (object_named s.handles) handles) → refusal s who (is_denied s (wait_for all alertable ms handles)) (call_named s.handles (wait_for all alertable ms handles)) ≡ why s who
-refused_named s who all alertable ms handles unlawful =
-    refused s who (is_denied s (wait_for all alertable ms handles)) all alertable ms (map (object_named s.handles) handles) unlawful
+refused_named : (s : State) (who : ℕ) (handles : List ℕ) (all : Bool) (mode : WaitMode) → IsUnlawful (map (object_named s.handles) handles) → refusal s who (is_denied s (wait_for handles all mode)) (call_named s.handles (wait_for handles all mode)) ≡ why s who
+refused_named s who handles all mode unlawful =
+    refused s who (is_denied s (wait_for handles all mode)) (map (object_named s.handles) handles) all mode unlawful
 
 many_unlawful : (s : State) (handles : List ℕ) → MAX_WAIT_OBJECTS < length handles → IsUnlawful (map (object_named s.handles) handles)
 many_unlawful s handles many =
@@ -104,15 +105,15 @@ asked_alike (Some old) new who wait wait' result why_both (core, is, made) =
     let both = why_both old in (core, is, makes_alike old core who wait wait' both.0 result both.1 both.2 made)
 
 -- both waits are refused for one cause
-refused_both : (s : State) (who : ℕ) (all alertable : Bool) (ms : ℕ) (handles : List ℕ) → MAX_WAIT_OBJECTS < length handles → (cause : Refusal) × IsRefusedFor s who (wait_for all alertable ms []) cause × IsRefusedFor s who (wait_for all alertable ms handles) cause
-refused_both s who all alertable ms handles many =
+refused_both : (s : State) (who : ℕ) (handles : List ℕ) (all : Bool) (mode : WaitMode) → MAX_WAIT_OBJECTS < length handles → (cause : Refusal) × IsRefusedFor s who (wait_for [] all mode) cause × IsRefusedFor s who (wait_for handles all mode) cause
+refused_both s who handles all mode many =
     let cause = some_cause s who in
-    (cause.0, refused_named s who all alertable ms [] refl ∙ cause.1, refused_named s who all alertable ms handles (many_unlawful s handles many) ∙ cause.1)
+    (cause.0, refused_named s who [] all mode refl ∙ cause.1, refused_named s who handles all mode (many_unlawful s handles many) ∙ cause.1)
 
 -- the wait for these handles is asked as one for all of them, or for none where they are too many
-pub asked_of : (held new : Option Sleeping) (who : ℕ) (all alertable : Bool) (ms : ℕ) (handles these : List ℕ) (result : Result Reply Refusal) → (length handles ≤ MAX_WAIT_OBJECTS → these ≡ handles) → (MAX_WAIT_OBJECTS < length handles → these ≡ []) → Asked held who (Call.Wait (WaitCall.Objects all alertable ms these)) result new → Asked held who (Call.Wait (WaitCall.Objects all alertable ms handles)) result new
-asked_of held new who all alertable ms handles these result few many asked =
+pub asked_of : (held new : Option Sleeping) (who : ℕ) (handles these : List ℕ) (all : Bool) (mode : WaitMode) (result : Result Reply Refusal) → (length handles ≤ MAX_WAIT_OBJECTS → these ≡ handles) → (MAX_WAIT_OBJECTS < length handles → these ≡ []) → Asked held who (Call.Wait (WaitCall.Objects these all mode)) result new → Asked held who (Call.Wait (WaitCall.Objects handles all mode)) result new
+asked_of held new who handles these all mode result few many asked =
     elim (cases_lt MAX_WAIT_OBJECTS (length handles)) [
-      | inl above ↦ asked_alike held new who (WaitCall.Objects all alertable ms []) (WaitCall.Objects all alertable ms handles) result (λ (old : Sleeping). refused_both (state old.core) who all alertable ms handles above) (subst (λ (list : List ℕ). Asked held who (wait_for all alertable ms list) result new) (many above) asked)
-      | inr within ↦ subst (λ (list : List ℕ). Asked held who (wait_for all alertable ms list) result new) (few within) asked
+      | inl above ↦ asked_alike held new who (WaitCall.Objects [] all mode) (WaitCall.Objects handles all mode) result (λ (old : Sleeping). refused_both (state old.core) who handles all mode above) (subst (λ (list : List ℕ). Asked held who (wait_for list all mode) result new) (many above) asked)
+      | inr within ↦ subst (λ (list : List ℕ). Asked held who (wait_for list all mode) result new) (few within) asked
     ]

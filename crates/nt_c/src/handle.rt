@@ -4,7 +4,7 @@ ghost use Rattle.nt_calls.specs.declared.call.WaitCall.{WaitCall};
 ghost use Rattle.nt_c.specs.Asks.{IsFit, Asked, TickAsked};
 
 use crate::cell::Cell;
-use nt_core::{Call, Reply};
+use nt_core::{Call, Reply, WaitMode};
 use nt_status::{Handle, Moment, Refusal};
 
 /// A handle in C's hands: a pointer to room for a dispatcher, and whether there is one.
@@ -36,20 +36,17 @@ impl Nt {
         who: u32,
         these: &[Handle],
         all: bool,
-        alertable: bool,
-        ms: u32,
+        mode: WaitMode,
     ) -> Result<Reply, Refusal>
         requires fit { IsFit self.old }
         ensures fit { IsFit self.new }
-        ensures asked { Asked self.old.cell.held who (Call.Wait (WaitCall.Objects all alertable ms these.now))
+        ensures asked { Asked self.old.cell.held who (Call.Wait (WaitCall.Objects these.now all mode))
             result self.new.cell.held }
     {
         if !self.live {
             return Err(Refusal::InvalidHandle);
         }
-        self.cell
-            .held_mut()
-            .wait_objects(who, these, all, alertable, ms)
+        self.cell.held_mut().wait_objects(who, these, all, mode)
     }
 
     /// Lets the moments up to `m` pass.

@@ -7,7 +7,7 @@ ghost use Rattle.nt_c.specs.Asks.{IsFit, Asked, WaitsWith};
 use crate::handle::Nt;
 use crate::reply::{NtReply, tell};
 use arrayvec::ArrayVec;
-use nt_core::{Call, Reply, WaitCall};
+use nt_core::{Call, Reply, WaitCall, WaitMode};
 use nt_status::{Handle, Handles, MAX_WAIT_OBJECTS, Refusal};
 use std::alloc::Global;
 
@@ -56,17 +56,16 @@ fn wait_for_few(
     who: u32,
     numbers: &[u32],
     all: bool,
-    alertable: bool,
-    ms: u32,
+    mode: WaitMode,
 ) -> Result<Reply, Refusal>
     requires fit { IsFit nt.old }
     requires few { length numbers.now ≤ FEW }
     ensures fit { IsFit nt.new }
-    ensures asked { Asked nt.old.cell.held who (Call.Wait (WaitCall.Objects all alertable ms numbers.now))
+    ensures asked { Asked nt.old.cell.held who (Call.Wait (WaitCall.Objects numbers.now all mode))
         result nt.new.cell.held }
 {
     let these = few_handles_of(numbers);
-    nt.wait(who, these.as_slice(), all, alertable, ms)
+    nt.wait(who, these.as_slice(), all, mode)
 }
 
 /// The wait for the objects that the handles with these numbers name.
@@ -75,16 +74,15 @@ fn wait_for_many(
     who: u32,
     numbers: &[u32],
     all: bool,
-    alertable: bool,
-    ms: u32,
+    mode: WaitMode,
 ) -> Result<Reply, Refusal>
     requires fit { IsFit nt.old }
     ensures fit { IsFit nt.new }
-    ensures asked { Asked nt.old.cell.held who (Call.Wait (WaitCall.Objects all alertable ms numbers.now))
+    ensures asked { Asked nt.old.cell.held who (Call.Wait (WaitCall.Objects numbers.now all mode))
         result nt.new.cell.held }
 {
     let these = handles_of(numbers);
-    nt.wait(who, these.as_slice(), all, alertable, ms)
+    nt.wait(who, these.as_slice(), all, mode)
 }
 
 /// WaitForMultipleObjectsEx: for any of the objects, or for all. The timeout is in milliseconds, 0xFFFFFFFF for INFINITE.
@@ -101,12 +99,14 @@ pub extern "C" fn nt_wait_objects(
     requires fit { IsFit nt.old }
     ensures fit { IsFit nt.new }
     ensures answers { WaitsWith nt.old who
-        (WaitCall.Objects all alertable ms handles.now) result out.old out.new nt.new }
+        (WaitCall.Objects handles.now all (record { ms = ms; alertable = alertable }))
+        result out.old out.new nt.new }
 {
+    let mode = WaitMode { ms, alertable };
     let asked = if handles.len() <= FEW {
-        wait_for_few(nt, who, handles, all, alertable, ms)
+        wait_for_few(nt, who, handles, all, mode)
     } else {
-        wait_for_many(nt, who, handles, all, alertable, ms)
+        wait_for_many(nt, who, handles, all, mode)
     };
     tell(asked, out)
 }
@@ -125,13 +125,13 @@ pub extern "C" fn nt_wait_object(
     requires fit { IsFit nt.old }
     ensures fit { IsFit nt.new }
     ensures answers { WaitsWith nt.old who
-        (WaitCall.Objects false alertable ms (handle ∷ [])) result out.old out.new nt.new }
+        (WaitCall.Objects (handle ∷ []) false (record { ms = ms; alertable = alertable }))
+        result out.old out.new nt.new }
 {
     let wait = WaitCall::Objects {
         handles: Handles::from_one(alloc, Handle::new(handle)),
         all: false,
-        ms,
-        alertable,
+        mode: WaitMode { ms, alertable },
     };
     tell(nt.ask(who, &Call::Wait(wait)), out)
 }
@@ -147,9 +147,10 @@ pub extern "C" fn nt_sleep(
 ) -> u32
     requires fit { IsFit nt.old }
     ensures fit { IsFit nt.new }
-    ensures answers { WaitsWith nt.old who (WaitCall.Sleep ms alertable) result out.old out.new nt.new }
+    ensures answers { WaitsWith nt.old who
+        (WaitCall.Sleep (record { ms = ms; alertable = alertable })) result out.old out.new nt.new }
 {
-    let wait = WaitCall::Sleep { ms, alertable };
+    let wait = WaitCall::Sleep(WaitMode { ms, alertable });
     tell(nt.ask(who, &Call::Wait(wait)), out)
 }
 
@@ -166,13 +167,13 @@ pub extern "C" fn nt_swap(
 ) -> u32
     requires fit { IsFit nt.old }
     ensures fit { IsFit nt.new }
-    ensures answers { WaitsWith nt.old who (WaitCall.Swap signal object ms alertable) result out.old out.new nt.new }
+    ensures answers { WaitsWith nt.old who
+        (WaitCall.Swap signal object (record { ms = ms; alertable = alertable })) result out.old out.new nt.new }
 {
     let wait = WaitCall::Swap {
         signal: Handle::new(signal),
         object: Handle::new(object),
-        ms,
-        alertable,
+        mode: WaitMode { ms, alertable },
     };
     tell(nt.ask(who, &Call::Wait(wait)), out)
 }

@@ -148,9 +148,9 @@ act_change s t (Act.Duplicate object access) = opened_too s object access
 act_change s t (Act.Close h) = handle_closed s h
 
 abbrev pub wait_change : State → WaitCall → State
-wait_change s (WaitCall.Swap h object ms alertable) = at s h signal
-wait_change s (WaitCall.Objects all alertable ms named) = s
-wait_change s (WaitCall.Sleep ms alertable) = s
+wait_change s (WaitCall.Swap h object mode) = at s h signal
+wait_change s (WaitCall.Objects named all mode) = s
+wait_change s (WaitCall.Sleep mode) = s
 
 -- what a call changes before waits are served
 abbrev pub change : State → ℕ → Call → State

@@ -148,9 +148,9 @@ act_causes handles objects t denied (Act.Duplicate object access) = duplicate_ca
 act_causes handles objects t denied (Act.Close h) = close_causes handles h
 
 abbrev pub wait_causes : List Object → ℕ → Bool → WaitCall → List Cause
-wait_causes objects t denied (WaitCall.Objects all alertable ms named) = objects_causes objects t denied named
-wait_causes objects t denied (WaitCall.Sleep ms alertable) = []
-wait_causes objects t denied (WaitCall.Swap h object ms alertable) = swap_causes objects t denied h object
+wait_causes objects t denied (WaitCall.Objects named all mode) = objects_causes objects t denied named
+wait_causes objects t denied (WaitCall.Sleep mode) = []
+wait_causes objects t denied (WaitCall.Swap h object mode) = swap_causes objects t denied h object
 
 abbrev pub call_causes : State → ℕ → Bool → Call → List Cause
 call_causes s t denied (Call.Act act) = act_causes s.handles s.objects t denied act

@@ -36,9 +36,9 @@ signal_denied handles objects h = not (is_mutex (object_at objects (object_named
 
 -- each object that is waited for needs a right
 abbrev pub wait_denied : List (Option Opened) → List Object → WaitCall → Bool
-wait_denied handles objects (WaitCall.Objects all alertable ms hs) = list_any (lacks synchronize handles) hs
-wait_denied handles objects (WaitCall.Sleep ms alertable) = false
-wait_denied handles objects (WaitCall.Swap h object ms alertable) = signal_denied handles objects h || lacks synchronize handles object
+wait_denied handles objects (WaitCall.Objects hs all mode) = list_any (lacks synchronize handles) hs
+wait_denied handles objects (WaitCall.Sleep mode) = false
+wait_denied handles objects (WaitCall.Swap h object mode) = signal_denied handles objects h || lacks synchronize handles object
 
 -- whether a handle of the call lacks a right that the call needs
 abbrev pub is_denied : State → Call → Bool

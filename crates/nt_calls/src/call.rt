@@ -90,27 +90,31 @@ impl Act {
     }
 }
 
-/// A call that may pend. Timeouts are in milliseconds; `INFINITE` has no deadline.
+/// How long a wait lasts at most, and what else ends it.
+#[derive(Clone, Copy, PartialEq, Eq, Debug)]
+pub struct WaitMode {
+    /// In milliseconds: it ends at once at 0, and has no deadline at `INFINITE`.
+    pub ms: u32,
+    /// Whether APCs that are queued for the thread end the wait.
+    pub alertable: bool,
+}
+
+/// A call that may pend.
 #[derive(Debug)]
 pub enum WaitCall {
     /// WaitForMultipleObjectsEx: for any of the objects, or for all.
     Objects {
-        all: bool,
-        alertable: bool,
-        ms: u32,
         handles: Handles,
+        all: bool,
+        mode: WaitMode,
     },
     /// SleepEx.
-    Sleep {
-        ms: u32,
-        alertable: bool,
-    },
+    Sleep(WaitMode),
     /// SignalObjectAndWait: signals one object, and waits for the other, or for the same.
     Swap {
         signal: Handle,
         object: Handle,
-        ms: u32,
-        alertable: bool,
+        mode: WaitMode,
     },
 }
 
@@ -119,20 +123,15 @@ impl Drop for WaitCall {
     fn drop(self) {
         match self {
             WaitCall::Objects {
-                all: _,
-                alertable: _,
-                ms: _,
                 handles: _,
+                all: _,
+                mode: _,
             } => {}
-            WaitCall::Sleep {
-                ms: _,
-                alertable: _,
-            } => {}
+            WaitCall::Sleep(_) => {}
             WaitCall::Swap {
                 signal: _,
                 object: _,
-                ms: _,
-                alertable: _,
+                mode: _,
             } => {}
         }
     }
@@ -146,31 +145,20 @@ impl Clone for WaitCall {
 
     fn clone(&self) -> Result<Self, AllocError> {
         match self {
-            WaitCall::Objects {
-                all,
-                alertable,
-                ms,
-                handles,
-            } => Ok(WaitCall::Objects {
-                all: *all,
-                alertable: *alertable,
-                ms: *ms,
+            WaitCall::Objects { handles, all, mode } => Ok(WaitCall::Objects {
                 handles: handles.clone()?,
+                all: *all,
+                mode: *mode,
             }),
-            WaitCall::Sleep { ms, alertable } => Ok(WaitCall::Sleep {
-                ms: *ms,
-                alertable: *alertable,
-            }),
+            WaitCall::Sleep(mode) => Ok(WaitCall::Sleep(*mode)),
             WaitCall::Swap {
                 signal,
                 object,
-                ms,
-                alertable,
+                mode,
             } => Ok(WaitCall::Swap {
                 signal: *signal,
                 object: *object,
-                ms: *ms,
-                alertable: *alertable,
+                mode: *mode,
             }),
         }
     }

@@ -39,6 +39,7 @@ use Rattle.nt_status.specs.declared.refusal.Refusal.{Refusal}
 use Rattle.nt_status.specs.declared.refusal.Refusal.TheVariants.{InvalidHandle, InvalidParameter, ThreadWaiting, ThreadEnded, UnknownThread, RecursionLimit}
 use Rattle.nt_objects.specs.Object.{has_ended, is_gone}
 use Rattle.nt_calls.specs.declared.call.WaitCall.{WaitCall}
+use Rattle.nt_calls.specs.declared.call.WaitMode.{WaitMode}
 use Rattle.nt_calls.specs.Calls.{timeout_of}
 use Rattle.nt_calls.specs.State.{pends}
 use Rattle.nt_calls.specs.Serving.{wait_on}
@@ -335,10 +336,10 @@ all_unless_any p [] e j below = absurd (omega (arith, below))
 all_unless_any p (x ∷ xs) e zero below = (or_false (p x) (list_any p xs) e).0
 all_unless_any p (x ∷ xs) e (suc j) below = all_unless_any p xs (or_false (p x) (list_any p xs) e).1 j (omega (arith, below))
 
-pub sound_objects : (s : State) (t : ℕ) (handles : List ℕ) (all alertable : Bool) (ms : ℕ) → ((h : ℕ) → Contains handles h → h < length s.objects → is_gone (object_at s.objects h) ≡ false) → refusal s t false (Call.Wait (WaitCall.Objects all alertable ms handles)) ≡ None → IsSoundWait s.threads s.objects t (wait_on handles all)
-sound_objects s t handles all alertable ms alive none =
-    let caller = free_caller s t (Call.Wait (WaitCall.Objects all alertable ms handles)) none in
-    let own = own_causes s t (Call.Wait (WaitCall.Objects all alertable ms handles)) none in
+pub sound_objects : (s : State) (t : ℕ) (handles : List ℕ) (all : Bool) (mode : WaitMode) → ((h : ℕ) → Contains handles h → h < length s.objects → is_gone (object_at s.objects h) ≡ false) → refusal s t false (Call.Wait (WaitCall.Objects handles all mode)) ≡ None → IsSoundWait s.threads s.objects t (wait_on handles all)
+sound_objects s t handles all mode alive none =
+    let caller = free_caller s t (Call.Wait (WaitCall.Objects handles all mode)) none in
+    let own = own_causes s t (Call.Wait (WaitCall.Objects handles all mode)) none in
     let first = next_causes (length handles == 0 || nat_lt MAX_WAIT_OBJECTS (length handles)) InvalidParameter ((list_any (is_unknown s.objects) handles, InvalidHandle) ∷ (has_twice handles, InvalidParameter) ∷ (list_any (is_at_limit s.objects t) handles, RecursionLimit) ∷ []) own in
     let second = next_causes (list_any (is_unknown s.objects) handles) InvalidHandle ((has_twice handles, InvalidParameter) ∷ (list_any (is_at_limit s.objects t) handles, RecursionLimit) ∷ []) first.1 in
     let third = next_causes (has_twice handles) InvalidParameter ((list_any (is_at_limit s.objects t) handles, RecursionLimit) ∷ []) second.1 in

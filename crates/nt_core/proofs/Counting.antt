@@ -89,7 +89,7 @@ change-len : (s : State) (t : ℕ) (call : Call) → map.len (change s t call).w
 change-len s t (Call.Act (Act.CreateEvent flags)) = refl
 change-len s t (Call.Act Act.NextApc) = either-len (may_take s t) (map.len s.waits) _ _ refl refl
 change-len s t (Call.Act (Act.SetTimer h due period routine)) = either-len _ (map.len s.waits) _ _ (ap (λ (p : Pending). map.len p) (expired-waits s.now _ h)) refl
-change-len s t (Call.Wait (WaitCall.Swap signal object ms alertable)) = refl
+change-len s t (Call.Wait (WaitCall.Swap signal object mode)) = refl
 change-len s t call = refl
 
 after-len : (call : Call) (s : State) → map.len (after_serving call s).waits ≡ map.len s.waits

@@ -61,11 +61,11 @@ undenied s who true (Call.Act (Act.CreateTimer flags)) none = none
 undenied s who true (Call.Act (Act.ReleaseMutex h)) none = none
 undenied s who true (Call.Act Act.NextApc) none = none
 undenied s who true (Call.Act (Act.Close h)) none = none
-undenied s who true (Call.Wait (WaitCall.Sleep ms alertable)) none = none
-undenied s who true (Call.Wait (WaitCall.Objects all alertable ms named)) none =
+undenied s who true (Call.Wait (WaitCall.Sleep mode)) none = none
+undenied s who true (Call.Wait (WaitCall.Objects named all mode)) none =
     first_there (callers s who ((length named == 0 || nat_lt MAX_WAIT_OBJECTS (length named), InvalidParameter) ∷ (list_any (is_unknown s.objects) named, InvalidHandle) ∷ []))
     ((has_twice named, InvalidParameter) ∷ (list_any (is_at_limit s.objects who) named, RecursionLimit) ∷ []) AccessDenied none
-undenied s who true (Call.Wait (WaitCall.Swap h object ms alertable)) none =
+undenied s who true (Call.Wait (WaitCall.Swap h object mode)) none =
     first_there (callers s who ((is_no may_signal s.objects h, InvalidHandle) ∷ (is_unknown s.objects object, InvalidHandle) ∷ []))
     ((is_foreign s.objects who h, NotOwner) ∷ (overflows (pos 1) (object_at s.objects h), TooManyPosts) ∷ (is_at_limit s.objects who object, RecursionLimit) ∷ []) AccessDenied none
 undenied s who true Call.Exit none = none

@@ -157,7 +157,7 @@ change_idle : (s : State) (t : ℕ) (call : Call) → IsIdle s (change s t call)
 change_idle s t (Call.Act Act.NextApc) = either_idle (may_take s t) s _ _ (record { same = refl; waits = refl }) (record { same = refl; waits = refl })
 change_idle s t (Call.Act (Act.SetTimer h due period routine)) = timer_set_idle s h _
 change_idle s t (Call.Act act) = record { same = refl; waits = refl }
-change_idle s t (Call.Wait (WaitCall.Swap signal object ms alertable)) = record { same = refl; waits = refl }
+change_idle s t (Call.Wait (WaitCall.Swap signal object mode)) = record { same = refl; waits = refl }
 change_idle s t (Call.Wait wait) = record { same = refl; waits = refl }
 change_idle s t Call.Exit = record { same = refl; waits = refl }
 

@@ -14,6 +14,7 @@ use Rattle.nt_objects.specs.Object.{is_mutex, owned_by, overflows, has_ended, is
 use Rattle.nt_waits.specs.declared.wait.Wait.{Wait}
 use Rattle.nt_calls.specs.declared.call.Call.{Call}
 use Rattle.nt_calls.specs.declared.call.WaitCall.{WaitCall}
+use Rattle.nt_calls.specs.declared.call.WaitMode.{WaitMode}
 use Rattle.nt_calls.specs.declared.call.Reply.{Reply}
 use Rattle.nt_calls.specs.declared.call.Grant.{Grant}
 use Rattle.nt_calls.specs.State.{State, object_at}
@@ -57,9 +58,9 @@ pub record MaySwap (objects : List Object) (t h object : ℕ) : Type 0 where
   pub within : overflows (pos 1) (object_at objects h) ≡ false
   pub below : is_at_limit objects t object ≡ false
 
-pub may_swap : (s : State) (t h object ms : ℕ) (alertable : Bool) → refusal s t false (Call.Wait (WaitCall.Swap h object ms alertable)) ≡ None → MaySwap s.objects t h object
-may_swap s t h object ms alertable none =
-    let own = own_causes s t (Call.Wait (WaitCall.Swap h object ms alertable)) none in
+pub may_swap : (s : State) (t h object : ℕ) (mode : WaitMode) → refusal s t false (Call.Wait (WaitCall.Swap h object mode)) ≡ None → MaySwap s.objects t h object
+may_swap s t h object mode none =
+    let own = own_causes s t (Call.Wait (WaitCall.Swap h object mode)) none in
     let first = next_causes (is_no may_signal s.objects h) InvalidHandle ((is_unknown s.objects object, InvalidHandle) ∷ (is_foreign s.objects t h, NotOwner) ∷ (overflows (pos 1) (object_at s.objects h), TooManyPosts) ∷ (is_at_limit s.objects t object, RecursionLimit) ∷ []) own in
     let second = next_causes (is_unknown s.objects object) InvalidHandle ((is_foreign s.objects t h, NotOwner) ∷ (overflows (pos 1) (object_at s.objects h), TooManyPosts) ∷ (is_at_limit s.objects t object, RecursionLimit) ∷ []) first.1 in
     let third = next_causes (is_foreign s.objects t h) NotOwner ((overflows (pos 1) (object_at s.objects h), TooManyPosts) ∷ (is_at_limit s.objects t object, RecursionLimit) ∷ []) second.1 in
@@ -157,16 +158,16 @@ lawful_signal (Timer manual set armed) within lawful = lawful
 lawful_signal (Thread ended) within lawful = lawful
 lawful_signal Gone within lawful = lawful
 
-module _ (old calm : Dispatcher) (t h object ms : ℕ) (alertable : Bool)
+module _ (old calm : Dispatcher) (t h object : ℕ) (mode : WaitMode)
     (fresh : IsFresh old)
-    (free : refusal (state old) t false (Call.Wait (WaitCall.Swap h object ms alertable)) ≡ None)
+    (free : refusal (state old) t false (Call.Wait (WaitCall.Swap h object mode)) ≡ None)
     (living : object < length old.objects → is_gone (object_at old.objects object) ≡ false)
     (served : IsServedAfter old (at (state old) h signal) calm) where
   caller : (t < old.threads) × (has_ended (object_at old.objects t) ≡ false) × (fin.get old.table.pending t ≡ None)
-  caller = free_caller (state old) t (Call.Wait (WaitCall.Swap h object ms alertable)) free
+  caller = free_caller (state old) t (Call.Wait (WaitCall.Swap h object mode)) free
 
   may : MaySwap old.objects t h object
-  may = may_swap (state old) t h object ms alertable free
+  may = may_swap (state old) t h object mode free
 
   replaced : MayReplace (object_at old.objects h) (signal (object_at old.objects h))
   replaced = let lawful = fresh.steady.sound.objects h in signal_may_replace (object_at old.objects h) t may.may may.owner lawful (lawful_signal (object_at old.objects h) may.within lawful)
@@ -211,7 +212,7 @@ module _ (old calm : Dispatcher) (t h object ms : ℕ) (alertable : Bool)
       omega (arith, room, fewer, threads)
 
   -- the whole call
-  pub swap_accepted : (new : Dispatcher) (reply : Reply) → new.grants ≡ calm.grants → new.table.looked ≡ calm.table.looked → IsSteady new → (reply, state new) ≡ begun (state calm) t (asked_wait calm.now (WaitCall.Swap h object ms alertable)) ms → Accepts old new t (Call.Wait (WaitCall.Swap h object ms alertable)) reply
+  pub swap_accepted : (new : Dispatcher) (reply : Reply) → new.grants ≡ calm.grants → new.table.looked ≡ calm.table.looked → IsSteady new → (reply, state new) ≡ begun (state calm) t (asked_wait calm.now (WaitCall.Swap h object mode)) mode.ms → Accepts old new t (Call.Wait (WaitCall.Swap h object mode)) reply
   swap_accepted new reply same looked steady answers = record {
     step = record {
       numbers = served.numbers;

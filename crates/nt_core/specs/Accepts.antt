@@ -23,8 +23,7 @@ use Rattle.nt_calls.specs.Change.{change, all_expired, exited, IsTimerDue}
 use Rattle.nt_calls.specs.Naming.{act_named, wait_named}
 use Rattle.nt_calls.specs.Rights.{act_denied, wait_denied}
 use Rattle.nt_calls.specs.Refusals.{first_of_causes, call_causes, refusal}
-use Rattle.nt_calls.specs.Steps.{Step, MomentPasses, Made, begun, asked_wait}
-use Rattle.nt_core.specs.declared.waiting.Mode.{Mode}
+use Rattle.nt_calls.specs.Steps.{Step, MomentPasses, Made, begun, asked_wait, timeout_of}
 use Rattle.nt_core.specs.Dispatcher.{Dispatcher, state}
 use Rattle.nt_core.specs.Due.{due_weight, total_weight}
 use Rattle.nt_core.specs.Lawful.{IsMachineSound, IsSoundWait, IsSteady, IsUnmarked}
@@ -159,13 +158,9 @@ pub record IsFresh (d : Dispatcher) : Type 0 where
   pub no_grants : d.grants ≡ []
   pub untested : d.table.looked ≡ 0
 
--- the wait for these objects that is asked for in this way
-abbrev pub objects_call : Mode → List ℕ → WaitCall
-objects_call mode named = WaitCall.Objects mode.all mode.alertable mode.ms named
-
--- the thread's wait for these objects pends from now on, or memory was refused and nothing has changed
-pub record HasPended (old new : Dispatcher) (t : ℕ) (named : List ℕ) (mode : Mode) (result : Result ⊤ Refusal) : Type 0 where
-  pub state : OnOk result (state new ≡ pending_too (state old) t (asked_wait old.now (objects_call mode named)))
+-- the wait that the thread asks for pends from now on, or memory was refused and nothing has changed
+pub record HasPended (old new : Dispatcher) (t : ℕ) (wait : WaitCall) (result : Result ⊤ Refusal) : Type 0 where
+  pub state : OnOk result (state new ≡ pending_too (state old) t (asked_wait old.now wait))
   pub sound : IsMachineSound new
   pub grants : new.grants ≡ old.grants
   pub looked : new.table.looked ≡ old.table.looked
@@ -183,9 +178,9 @@ abbrev pub replied : Result (Option ℕ) Refusal → Result Reply Refusal
 replied (Ok ended) = Ok (reply_of ended)
 replied (Err refusal) = Err refusal
 
--- a wait for these objects has begun, and this is its reply
-abbrev pub HasBegun : State → State → ℕ → List ℕ → Mode → Reply → Type 0
-HasBegun old new t named mode reply = (reply, new) ≡ begun old t (asked_wait old.now (objects_call mode named)) mode.ms
+-- the wait that the thread asks for has begun, and this is its reply
+abbrev pub HasBegun : State → State → ℕ → WaitCall → Reply → Type 0
+HasBegun old new t wait reply = (reply, new) ≡ begun old t (asked_wait old.now wait) (timeout_of wait)
 
 -- the thread is known, runs, and waits for nothing
 pub record IsRunning (d : Dispatcher) (t : ℕ) : Type 0 where

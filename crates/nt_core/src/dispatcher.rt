@@ -13,7 +13,7 @@ ghost use Rattle.nt_core.specs.Accepts.{IsLocal, IsTickLocal};
 ghost use Rattle.nt_calls.specs.Moves.{Moves, IsMomentAfter, pended, is_wait};
 
 use crate::machine::Machine;
-use nt_calls::{Call, Grant, Reply, count_living};
+use nt_calls::{Call, Grant, Reply, WaitMode, count_living};
 use nt_status::{Handle, MAX_MANY_THREADS, MAX_THREADS, Moment, Refusal};
 use nt_waits::Reader;
 use std::alloc::Global;
@@ -121,20 +121,18 @@ impl Core {
     }
 
     /// The call `WaitCall::Objects` of this thread, for a caller whose handles stand in a slice: it takes no list of them.
-    /// The timeout is in milliseconds, and has no end at 0xFFFFFFFF.
     pub fn wait_objects(
         &mut self,
         who: u32,
         handles: &[Handle],
         all: bool,
-        alertable: bool,
-        ms: u32,
+        mode: WaitMode,
     ) -> Result<Reply, Refusal>
-        ensures called { Called (state self.old) who (Call.Wait (WaitCall.Objects all alertable ms handles.now))
+        ensures called { Called (state self.old) who (Call.Wait (WaitCall.Objects handles.now all mode))
             result self.new.grants (state self.new) }
         ensures lawful { IsLawful self.new }
         ensures local { OnOk result (IsLocal (state self.old) who
-            (call_named self.old.handles (Call.Wait (WaitCall.Objects all alertable ms handles.now)))
+            (call_named self.old.handles (Call.Wait (WaitCall.Objects handles.now all mode)))
             self.new.table.looked self.new.grants) }
         ensures most { length self.new.grants ≤ map.len (state self.old).waits }
         ensures few { length self.new.grants + map.len (state self.new).waits ≤ map.len (state self.old).waits + 1 }
@@ -142,7 +140,7 @@ impl Core {
         ensures moment { (state self.new).now ≡ (state self.old).now }
         ensures untested { OnErr result (self.new.table.looked ≡ 0) }
     {
-        let result = self.machine.wait_objects(who, handles, all, alertable, ms);
+        let result = self.machine.wait_objects(who, handles, all, mode);
         let machine = &self.machine;
         machine.objects.agree();
         result

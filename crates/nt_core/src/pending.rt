@@ -1,13 +1,13 @@
 //! How a wait comes to pend: for one object, as most do, or for any number.
 ghost use Rattle.std.specs.Prelude.{◌∷◌, ◌==◌, [], length, not, IsTrue, Ok, OnErr};
 ghost use Rattle.nt_calls.specs.Serving.{wait_on};
+ghost use Rattle.nt_calls.specs.declared.call.WaitCall.{WaitCall};
 ghost use Rattle.nt_core.specs.Lawful.{IsMachineSound};
 ghost use Rattle.nt_core.specs.Accepts.{HasPended, CanBegin};
 
 use crate::machine::Machine;
 use crate::standing::Standing;
-use crate::waiting::Mode;
-use nt_calls::deadline_after;
+use nt_calls::{WaitMode, deadline_after};
 use nt_status::{ObjectNumber, Refusal, ThreadId};
 use nt_waits::About;
 
@@ -26,8 +26,8 @@ impl Machine {
     )
         requires can { CanBegin self.old thread (wait_on (object ∷ []) all) }
         requires sound { IsMachineSound self.old }
-        ensures { HasPended self.old self.new thread (object ∷ [])
-            (record { all = all; alertable = alertable; ms = ms }) (Ok tt) }
+        ensures { HasPended self.old self.new thread
+            (WaitCall.Objects (object ∷ []) all (record { ms = ms; alertable = alertable })) (Ok tt) }
     {
         let about = About {
             alertable,
@@ -49,8 +49,8 @@ impl Machine {
     ) -> Result<(), Refusal>
         requires can { CanBegin self.old thread (wait_on objects.now all) }
         requires sound { IsMachineSound self.old }
-        ensures { HasPended self.old self.new thread objects.now
-            (record { all = all; alertable = alertable; ms = ms }) result }
+        ensures { HasPended self.old self.new thread
+            (WaitCall.Objects objects.now all (record { ms = ms; alertable = alertable })) result }
     {
         let about = About {
             alertable,
@@ -67,19 +67,20 @@ impl Machine {
         &mut self,
         thread: ThreadId,
         objects: &[ObjectNumber],
-        mode: Mode,
+        all: bool,
+        mode: WaitMode,
     ) -> Result<(), Refusal>
-        requires can { CanBegin self.old thread (wait_on objects.now mode.all) }
+        requires can { CanBegin self.old thread (wait_on objects.now all) }
         requires sound { IsMachineSound self.old }
-        ensures pended { HasPended self.old self.new thread objects.now mode result }
+        ensures pended { HasPended self.old self.new thread (WaitCall.Objects objects.now all mode) result }
         ensures several { OnErr result (IsTrue (not (length objects.now == 1))) }
     {
         match objects {
             [object] => {
-                self.pend_one(thread, *object, mode.all, mode.ms, mode.alertable);
+                self.pend_one(thread, *object, all, mode.ms, mode.alertable);
                 Ok(())
             }
-            _ => self.pend_any(thread, objects, mode.all, mode.ms, mode.alertable),
+            _ => self.pend_any(thread, objects, all, mode.ms, mode.alertable),
         }
     }
 }

@@ -14,8 +14,8 @@ ghost use Rattle.nt_calls.specs.declared.call.Call.{Call};
 ghost use Rattle.nt_calls.specs.declared.call.WaitCall.{WaitCall};
 
 use crate::machine::{Answer, Machine};
-use crate::waiting::{Mode, replied};
-use nt_calls::{MODIFY_STATE, SYNCHRONIZE, is_swap_denied, opened, swap_refusal};
+use crate::waiting::replied;
+use nt_calls::{MODIFY_STATE, SYNCHRONIZE, WaitMode, is_swap_denied, opened, swap_refusal};
 use nt_status::{Handle, ObjectNumber, Status, ThreadId};
 
 impl Machine {
@@ -45,17 +45,15 @@ impl Machine {
         thread: ThreadId,
         signal: ObjectNumber,
         object: ObjectNumber,
-        mode: Mode,
+        mode: WaitMode,
     ) -> Option<Status>
         requires fresh { IsFresh self.old }
-        requires free { refusal (state self.old) thread false
-            (Call.Wait (WaitCall.Swap signal object mode.ms mode.alertable)) ≡ None }
+        requires free { refusal (state self.old) thread false (Call.Wait (WaitCall.Swap signal object mode)) ≡ None }
         requires living { object < length self.old.objects → is_gone (object_at self.old.objects object) ≡ false }
-        ensures { Accepts self.old self.new thread (Call.Wait (WaitCall.Swap signal object mode.ms mode.alertable))
-            (reply_of result) }
+        ensures { Accepts self.old self.new thread (Call.Wait (WaitCall.Swap signal object mode)) (reply_of result) }
     {
         self.signal(thread, signal);
-        if let Some(status) = self.end_at_once(thread, &[object], Mode { all: false, ..mode }) {
+        if let Some(status) = self.end_at_once(thread, &[object], false, mode) {
             return Some(status);
         }
         self.pend_one(thread, object, false, mode.ms, mode.alertable);
@@ -68,11 +66,11 @@ impl Machine {
         thread: ThreadId,
         signal: Handle,
         object: Handle,
-        mode: Mode,
+        mode: WaitMode,
     ) -> Answer
         requires fresh { IsFresh self.old }
         requires caller { IsFreeToCall (state self.old) thread }
-        ensures { IsWaitMade self.old self.new thread (WaitCall.Swap signal object mode.ms mode.alertable) result }
+        ensures { IsWaitMade self.old self.new thread (WaitCall.Swap signal object mode) result }
     {
         let (signaled, no_signal) = opened(&self.handles, signal, MODIFY_STATE);
         let (awaited, no_wait) = opened(&self.handles, object, SYNCHRONIZE);

@@ -16,36 +16,14 @@ ghost use Rattle.nt_calls.specs.declared.call.Call.{Call};
 ghost use Rattle.nt_calls.specs.declared.call.WaitCall.{WaitCall};
 ghost use Rattle.nt_core.specs.Lawful.{IsMachineSound, IsSteady};
 ghost use Rattle.nt_calls.specs.declared.call.Reply.{Reply};
-ghost use Rattle.nt_core.specs.Accepts.{IsFresh, IsFreeToCall, HasBegun, reply_of, replied, objects_call, IsLocal, IsCallMade, IsWaitMade, CanBegin, KeepsWaits};
+ghost use Rattle.nt_core.specs.Accepts.{IsFresh, IsFreeToCall, HasBegun, reply_of, replied, IsLocal, IsCallMade, IsWaitMade, CanBegin, KeepsWaits};
 
 use crate::machine::{Answer, Machine};
 use nt_calls::{
-    NamedObjects, Reply, SYNCHRONIZE, WaitCall, late_status, name_all, objects_refusal, opened,
-    try_wait,
+    NamedObjects, Reply, SYNCHRONIZE, WaitCall, WaitMode, late_status, name_all, objects_refusal,
+    opened, try_wait,
 };
 use nt_status::{Handle, Handles, MAX_WAIT_OBJECTS, ObjectNumber, Refusal, Status, ThreadId};
-use nt_waits::About;
-
-/// How a thread asks to wait.
-#[derive(Clone, Copy)]
-pub(crate) struct Mode {
-    /// For all of the objects at once, or for any of them.
-    pub(crate) all: bool,
-    /// Whether APCs that are queued for the thread end the wait.
-    pub(crate) alertable: bool,
-    /// For how many milliseconds at most: for none at 0, and to no end at INFINITE, which is 0xFFFFFFFF.
-    pub(crate) ms: u32,
-}
-
-impl Mode {
-    /// The parts of a waiting call that say how.
-    #[inline(always)]
-    fn new(all: bool, ms: u32, alertable: bool) -> Mode
-        ensures { result ≡ record { all = all; alertable = alertable; ms = ms } }
-    {
-        Mode { all, alertable, ms }
-    }
-}
 
 /// The status with which a wait ended at once, or none where it pends. What begins a wait answers no more than that: a reply is large, and
 /// a function that may get one clears room for it at each call.
@@ -106,19 +84,21 @@ impl Machine {
         &mut self,
         thread: ThreadId,
         objects: &[ObjectNumber],
-        mode: Mode,
+        all: bool,
+        mode: WaitMode,
     ) -> Option<Status>
-        requires can { CanBegin self.old thread (wait_on objects.now mode.all) }
+        requires can { CanBegin self.old thread (wait_on objects.now all) }
         requires steady { IsSteady self.old }
         ensures begun { IfSome result (λ code.
-            HasBegun (state self.old) (state self.new) thread objects.now mode (Reply.Status code)) }
-        ensures pends { IfNone result ((fits self.old.objects thread (wait_on objects.now mode.all) ≡ false)
+            HasBegun (state self.old) (state self.new) thread
+                (WaitCall.Objects objects.now all mode) (Reply.Status code)) }
+        ensures pends { IfNone result ((fits self.old.objects thread (wait_on objects.now all) ≡ false)
             × ((mode.alertable && has_apc self.old.apcs.queues thread) ≡ false) × (mode.ms ≢ 0)) }
         ensures steady { IsSteady self.new }
         ensures kept { KeepsWaits self.old self.new }
         ensures none { IfNone result (self.new ≡ self.old) }
     {
-        if let Some(status) = self.take_now(thread, objects, mode.all) {
+        if let Some(status) = self.take_now(thread, objects, all) {
             return Some(status);
         }
         if self.is_alerted(thread, mode.alertable) {
@@ -135,22 +115,29 @@ impl Machine {
     /// Begins the caller's wait for these objects, none for a sleep: it ends at once, with a status, or pends. Where memory is
     /// refused nothing changes.
     #[inline(always)]
-    fn begin_wait(&mut self, thread: ThreadId, objects: &[ObjectNumber], mode: Mode) -> Begun
-        requires can { CanBegin self.old thread (wait_on objects.now mode.all) }
+    fn begin_wait(
+        &mut self,
+        thread: ThreadId,
+        objects: &[ObjectNumber],
+        all: bool,
+        mode: WaitMode,
+    ) -> Begun
+        requires can { CanBegin self.old thread (wait_on objects.now all) }
         requires steady { IsSteady self.old }
         ensures begun { IfOk result (λ ended.
-            HasBegun (state self.old) (state self.new) thread objects.now mode (reply_of ended)) }
+            HasBegun (state self.old) (state self.new) thread
+                (WaitCall.Objects objects.now all mode) (reply_of ended)) }
         ensures steady { IsSteady self.new }
         ensures grants { self.new.grants ≡ self.old.grants }
         ensures looked { self.new.table.looked ≡ self.old.table.looked }
         ensures grows { OnErr result (IsTrue (grows (state self.old) thread
-            (Call.Wait (objects_call mode objects.now)))) }
+            (Call.Wait (WaitCall.Objects objects.now all mode)))) }
         ensures refused { IfErr result (λ refusal. (refusal ≡ Memory) × (self.new ≡ self.old)) }
     {
-        if let Some(status) = self.end_at_once(thread, objects, mode) {
+        if let Some(status) = self.end_at_once(thread, objects, all, mode) {
             return Ok(Some(status));
         }
-        self.pend(thread, objects, mode)?;
+        self.pend(thread, objects, all, mode)?;
         Ok(None)
     }
 
@@ -161,56 +148,76 @@ impl Machine {
         thread: ThreadId,
         denied: bool,
         numbers: &[ObjectNumber],
-        mode: Mode,
+        all: bool,
+        mode: WaitMode,
     ) -> Begun
         requires fresh { IsFresh self.old }
         requires caller { IsFreeToCall (state self.old) thread }
         requires living { (h : ℕ) → Contains numbers.now h → h < length self.old.objects
             → is_gone (object_at self.old.objects h) ≡ false }
-        ensures { IsCallMade self.old self.new thread denied (Call.Wait (objects_call mode numbers.now)) (replied result) }
+        ensures { IsCallMade self.old self.new thread denied (Call.Wait (WaitCall.Objects numbers.now all mode))
+            (replied result) }
     {
         match objects_refusal(self.objects.as_slice(), thread, denied, numbers) {
             Some(refusal) => Err(refusal),
-            None => self.begin_wait(thread, numbers, mode),
+            None => self.begin_wait(thread, numbers, all, mode),
         }
     }
 
     /// The caller's wait for the object that this handle names, begun or refused by its own causes.
     #[inline(always)]
-    fn wait_for_one(&mut self, thread: ThreadId, handle: Handle, mode: Mode) -> Answer
+    fn wait_for_one(
+        &mut self,
+        thread: ThreadId,
+        handle: Handle,
+        all: bool,
+        mode: WaitMode,
+    ) -> Answer
         requires fresh { IsFresh self.old }
         requires caller { IsFreeToCall (state self.old) thread }
-        ensures { IsWaitMade self.old self.new thread (objects_call mode (handle ∷ [])) result }
+        ensures { IsWaitMade self.old self.new thread (WaitCall.Objects (handle ∷ []) all mode) result }
     {
         let (object, denied) = opened(&self.handles, handle, SYNCHRONIZE);
-        replied(self.wait_for(thread, denied, &[object], mode))
+        replied(self.wait_for(thread, denied, &[object], all, mode))
     }
 
     /// The same for the handles of a slice.
     #[inline(always)]
-    fn wait_for_objects(&mut self, thread: ThreadId, these: &[Handle], mode: Mode) -> Answer
+    fn wait_for_objects(
+        &mut self,
+        thread: ThreadId,
+        these: &[Handle],
+        all: bool,
+        mode: WaitMode,
+    ) -> Answer
         requires fresh { IsFresh self.old }
         requires caller { IsFreeToCall (state self.old) thread }
-        ensures { IsWaitMade self.old self.new thread (objects_call mode these.now) result }
+        ensures { IsWaitMade self.old self.new thread (WaitCall.Objects these.now all mode) result }
     {
         match these {
-            [handle] => self.wait_for_one(thread, *handle, mode),
-            _ => replied(self.wait_for_several(thread, these, mode.all, mode.ms, mode.alertable)),
+            [handle] => self.wait_for_one(thread, *handle, all, mode),
+            _ => replied(self.wait_for_several(thread, these, all, mode.ms, mode.alertable)),
         }
     }
 
     /// The same for the handles of a list.
     #[inline(always)]
-    fn wait_for_listed(&mut self, thread: ThreadId, these: &Handles, mode: Mode) -> Answer
+    fn wait_for_listed(
+        &mut self,
+        thread: ThreadId,
+        these: &Handles,
+        all: bool,
+        mode: WaitMode,
+    ) -> Answer
         requires fresh { IsFresh self.old }
         requires caller { IsFreeToCall (state self.old) thread }
-        ensures { IsWaitMade self.old self.new thread (objects_call mode these.now) result }
+        ensures { IsWaitMade self.old self.new thread (WaitCall.Objects these.now all mode) result }
     {
         match these.alone() {
-            Some(handle) => self.wait_for_one(thread, handle, mode),
+            Some(handle) => self.wait_for_one(thread, handle, all, mode),
             None => {
                 let slice = these.as_slice();
-                replied(self.wait_for_several(thread, slice, mode.all, mode.ms, mode.alertable))
+                replied(self.wait_for_several(thread, slice, all, mode.ms, mode.alertable))
             }
         }
     }
@@ -228,15 +235,16 @@ impl Machine {
     ) -> Begun
         requires fresh { IsFresh self.old }
         requires caller { IsFreeToCall (state self.old) thread }
-        ensures { IsWaitMade self.old self.new thread (WaitCall.Objects all alertable ms these.now) (replied result) }
+        ensures { IsWaitMade self.old self.new thread
+            (WaitCall.Objects these.now all (record { ms = ms; alertable = alertable })) (replied result) }
     {
         if these.len() > MAX_WAIT_OBJECTS {
             return Err(Refusal::InvalidParameter);
         }
         let mut numbers = NamedObjects::new();
         let denied = name_all(&self.handles, these, &mut numbers);
-        let mode = Mode { all, alertable, ms };
-        self.wait_for(thread, denied, numbers.as_slice(), mode)
+        let mode = WaitMode { ms, alertable };
+        self.wait_for(thread, denied, numbers.as_slice(), all, mode)
     }
 
     /// A waiting call, begun or refused by its own causes.
@@ -247,35 +255,29 @@ impl Machine {
         ensures { IsWaitMade self.old self.new thread call.now result }
     {
         match call {
-            WaitCall::Objects {
-                handles,
-                all,
-                ms,
-                alertable,
-            } => self.wait_for_listed(thread, handles, Mode::new(*all, *ms, *alertable)),
-            WaitCall::Sleep { ms, alertable } => {
-                replied(self.begin_wait(thread, &[], Mode::new(false, *ms, *alertable)))
+            WaitCall::Objects { handles, all, mode } => {
+                self.wait_for_listed(thread, handles, *all, *mode)
             }
+            WaitCall::Sleep(mode) => replied(self.begin_wait(thread, &[], false, *mode)),
             WaitCall::Swap {
                 signal,
                 object,
-                ms,
-                alertable,
-            } => self.signal_and_wait(thread, *signal, *object, Mode::new(false, *ms, *alertable)),
+                mode,
+            } => self.signal_and_wait(thread, *signal, *object, *mode),
         }
     }
 
     /// Makes this thread's wait for the objects that these handles name, or refuses it, and ends no object.
     #[inline(always)]
-    fn make_wait(&mut self, who: u32, these: &[Handle], mode: Mode) -> Answer
+    fn make_wait(&mut self, who: u32, these: &[Handle], all: bool, mode: WaitMode) -> Answer
         requires steady { IsSteady self.old }
-        ensures { IsWaitMade self.old self.new who (objects_call mode these.now) result }
+        ensures { IsWaitMade self.old self.new who (WaitCall.Objects these.now all mode) result }
     {
         self.tell_anew();
         if let Some(refusal) = self.caller_refusal(who) {
             return Err(refusal);
         }
-        self.wait_for_objects(ThreadId::new(who as u16), these, mode)
+        self.wait_for_objects(ThreadId::new(who as u16), these, all, mode)
     }
 
     /// `call` of this thread's wait for the objects that these handles name.
@@ -285,21 +287,20 @@ impl Machine {
         who: u32,
         these: &[Handle],
         all: bool,
-        alertable: bool,
-        ms: u32,
+        mode: WaitMode,
     ) -> Answer
         requires steady { IsSteady self.old }
         requires living { LivesWhileKept (state self.old) }
-        ensures called { Called (state self.old) who (Call.Wait (WaitCall.Objects all alertable ms these.now))
+        ensures called { Called (state self.old) who (Call.Wait (WaitCall.Objects these.now all mode))
             result self.new.grants (state self.new) }
         ensures steady { IsSteady self.new }
         ensures living { LivesWhileKept (state self.new) }
         ensures local { OnOk result (IsLocal (state self.old) who
-            (call_named self.old.handles (Call.Wait (WaitCall.Objects all alertable ms these.now)))
+            (call_named self.old.handles (Call.Wait (WaitCall.Objects these.now all mode)))
             self.new.table.looked self.new.grants) }
         ensures untested { OnErr result (self.new.table.looked ≡ 0) }
     {
-        let reply = self.make_wait(who, these, Mode { all, alertable, ms })?;
+        let reply = self.make_wait(who, these, all, mode)?;
         self.end_forgotten();
         Ok(reply)
     }

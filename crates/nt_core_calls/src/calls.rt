@@ -112,7 +112,7 @@ pub trait Calls {
         alertable: bool,
     ) -> Result<Began, Refusal>
         ensures { IsCalled (dispatcher self.old) who
-            (Call.Wait (WaitCall.Objects false alertable timeout (handle ∷ [])))
+            (Call.Wait (WaitCall.Objects (handle ∷ []) false (record { ms = timeout; alertable = alertable })))
             (began_reply result) (dispatcher self.new) };
 
     /// WaitForMultipleObjectsEx, for any of the objects. It takes no list of the handles.
@@ -124,7 +124,7 @@ pub trait Calls {
         alertable: bool,
     ) -> Result<Began, Refusal>
         ensures { IsCalled (dispatcher self.old) who
-            (Call.Wait (WaitCall.Objects false alertable timeout handles.now))
+            (Call.Wait (WaitCall.Objects handles.now false (record { ms = timeout; alertable = alertable })))
             (began_reply result) (dispatcher self.new) };
 
     /// WaitForMultipleObjectsEx, for all of the objects. It takes no list of the handles.
@@ -136,12 +136,13 @@ pub trait Calls {
         alertable: bool,
     ) -> Result<Began, Refusal>
         ensures { IsCalled (dispatcher self.old) who
-            (Call.Wait (WaitCall.Objects true alertable timeout handles.now))
+            (Call.Wait (WaitCall.Objects handles.now true (record { ms = timeout; alertable = alertable })))
             (began_reply result) (dispatcher self.new) };
 
     /// SleepEx.
     fn sleep(&mut self, who: u32, timeout: Timeout, alertable: bool) -> Result<Began, Refusal>
-        ensures { IsCalled (dispatcher self.old) who (Call.Wait (WaitCall.Sleep timeout alertable))
+        ensures { IsCalled (dispatcher self.old) who
+            (Call.Wait (WaitCall.Sleep (record { ms = timeout; alertable = alertable })))
             (began_reply result) (dispatcher self.new) };
 
     /// SignalObjectAndWait: signals one object, and waits for the other, or for the same.
@@ -154,7 +155,7 @@ pub trait Calls {
         alertable: bool,
     ) -> Result<Began, Refusal>
         ensures { IsCalled (dispatcher self.old) who
-            (Call.Wait (WaitCall.Swap signal object timeout alertable))
+            (Call.Wait (WaitCall.Swap signal object (record { ms = timeout; alertable = alertable })))
             (began_reply result) (dispatcher self.new) };
 
     /// The calling thread ends.

@@ -8,7 +8,7 @@ ghost use Rattle.nt_answers.specs.Kinds.{Kind, act_kind, is_answer};
 ghost use Rattle.nt_core_calls.specs.Called.{IsCalled, IsTicked};
 
 use nt_answers::{Apc, Began, apc_told, began_told, done_told, handle_told, previous_told};
-use nt_core::{Act, Call, Core, Reply, WaitCall};
+use nt_core::{Act, Call, Core, Reply, WaitCall, WaitMode};
 use nt_status::{Handle, Moment, Refusal};
 
 /// Makes a call. All that `Core::call` says of it stands in one clause here, and what it can be answered in another.
@@ -69,13 +69,12 @@ pub(crate) fn wait_for(
     who: u32,
     handles: &[Handle],
     all: bool,
-    alertable: bool,
-    ms: u32,
+    mode: WaitMode,
 ) -> Result<Began, Refusal>
-    ensures { IsCalled core.old who (Call.Wait (WaitCall.Objects all alertable ms handles.now))
+    ensures { IsCalled core.old who (Call.Wait (WaitCall.Objects handles.now all mode))
         (began_reply result) core.new }
 {
-    began_told(core.wait_objects(who, handles, all, alertable, ms))
+    began_told(core.wait_objects(who, handles, all, mode))
 }
 
 /// Ends the thread.

@@ -111,7 +111,7 @@ impl Calls for Core {
         timeout: Timeout,
         alertable: bool,
     ) -> Result<Began, Refusal> {
-        wait_for(self, who, &[handle], false, alertable, timeout.ms())
+        wait_for(self, who, &[handle], false, timeout.mode(alertable))
     }
 
     fn wait_any(
@@ -121,7 +121,7 @@ impl Calls for Core {
         timeout: Timeout,
         alertable: bool,
     ) -> Result<Began, Refusal> {
-        wait_for(self, who, handles, false, alertable, timeout.ms())
+        wait_for(self, who, handles, false, timeout.mode(alertable))
     }
 
     fn wait_all(
@@ -131,12 +131,11 @@ impl Calls for Core {
         timeout: Timeout,
         alertable: bool,
     ) -> Result<Began, Refusal> {
-        wait_for(self, who, handles, true, alertable, timeout.ms())
+        wait_for(self, who, handles, true, timeout.mode(alertable))
     }
 
     fn sleep(&mut self, who: u32, timeout: Timeout, alertable: bool) -> Result<Began, Refusal> {
-        let ms = timeout.ms();
-        make_wait(self, who, WaitCall::Sleep { ms, alertable })
+        make_wait(self, who, WaitCall::Sleep(timeout.mode(alertable)))
     }
 
     fn signal_and_wait(
@@ -150,8 +149,7 @@ impl Calls for Core {
         let wait = WaitCall::Swap {
             signal,
             object,
-            ms: timeout.ms(),
-            alertable,
+            mode: timeout.mode(alertable),
         };
         make_wait(self, who, wait)
     }

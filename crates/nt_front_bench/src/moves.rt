@@ -1,6 +1,6 @@
 //! Calls of a thread, counted.
 use crate::told::Told;
-use nt_core::{Act, Reply, WaitCall};
+use nt_core::{Act, Reply, WaitCall, WaitMode};
 use nt_front::{Begun, Front, Named, Pass, Waited};
 use nt_status::{Handle, Handles, INFINITE, Status};
 use std::alloc::Global;
@@ -40,12 +40,11 @@ pub fn call<N: Named, R: Wait>(
 #[inline(always)]
 pub fn objects(alloc: Global, handles: &[Handle], all: bool, ms: u32) -> Option<WaitCall> {
     let handles = Handles::from_slice(alloc, handles).ok()?;
-    Some(WaitCall::Objects {
-        all,
-        alertable: false,
+    let mode = WaitMode {
         ms,
-        handles,
-    })
+        alertable: false,
+    };
+    Some(WaitCall::Objects { handles, all, mode })
 }
 
 /// Waits for the object until it is granted.

@@ -10,8 +10,8 @@ ghost use Rattle.nt_front_calls.specs.Answers.{FindsMemory, WaitHasBegun, IsWoke
 
 use crate::calls::Calls;
 use crate::told::{Began, Polled, Refused, Told, WaitEnd, told_at};
-use nt_answers::{Began as Begins, Timeout, began_told};
-use nt_core::{Reply, WaitCall};
+use nt_answers::{Began as Begins, began_told};
+use nt_core::{Reply, WaitCall, WaitMode};
 use nt_front::{Begun, Named, Pass, Polled as Found, Receipt, Sleeper, Waited};
 use nt_status::{Handle, Handles, Refusal, Status};
 use std::alloc::{Alloc, Global};
@@ -89,21 +89,15 @@ impl<'f, 'r, N: Named, R: Wait + Alloc<A = Global>> Calls<'f, 'r, N, R> {
         pass: Pass<N>,
         handles: &[Handle],
         all: bool,
-        timeout: Timeout,
-        alertable: bool,
+        mode: WaitMode,
     ) -> Began<N>
-        ensures { WaitHasBegun N.front pass (WaitCall.Objects all alertable timeout handles.now) result }
+        ensures { WaitHasBegun N.front pass (WaitCall.Objects handles.now all mode) result }
     {
         let handles = match Handles::from_slice(self.rt.alloc(), handles) {
             Ok(handles) => handles,
             Err(_) => return Began::Refused(pass, Refused::NoMemory),
         };
-        let wait = WaitCall::Objects {
-            all,
-            alertable,
-            ms: timeout.ms(),
-            handles,
-        };
+        let wait = WaitCall::Objects { handles, all, mode };
         self.begin(pass, wait)
     }
 
@@ -113,21 +107,15 @@ impl<'f, 'r, N: Named, R: Wait + Alloc<A = Global>> Calls<'f, 'r, N, R> {
         pass: Pass<N>,
         handles: &[Handle],
         all: bool,
-        timeout: Timeout,
-        alertable: bool,
+        mode: WaitMode,
     ) -> (Pass<N>, Result<WaitEnd, Refused>)
-        ensures { IsWaitedFor N.front pass (WaitCall.Objects all alertable timeout handles.now) result.1 result.0 }
+        ensures { IsWaitedFor N.front pass (WaitCall.Objects handles.now all mode) result.1 result.0 }
     {
         let handles = match Handles::from_slice(self.rt.alloc(), handles) {
             Ok(handles) => handles,
             Err(_) => return (pass, Err(Refused::NoMemory)),
         };
-        let wait = WaitCall::Objects {
-            all,
-            alertable,
-            ms: timeout.ms(),
-            handles,
-        };
+        let wait = WaitCall::Objects { handles, all, mode };
         self.wait(pass, wait)
     }
 }

@@ -21,9 +21,10 @@ impl<'f, 'r, N: Named, R: Wait + Alloc<A = Global>> Calls<'f, 'r, N, R> {
         timeout: Timeout,
         alertable: bool,
     ) -> (Pass<N>, Result<WaitEnd, Refused>)
-        ensures { IsWaitedFor N.front pass (WaitCall.Objects false alertable timeout (handle ∷ [])) result.1 result.0 }
+        ensures { IsWaitedFor N.front pass
+            (WaitCall.Objects (handle ∷ []) false (record { ms = timeout; alertable = alertable })) result.1 result.0 }
     {
-        self.wait_for(pass, &[handle], false, timeout, alertable)
+        self.wait_for(pass, &[handle], false, timeout.mode(alertable))
     }
 
     /// WaitForMultipleObjectsEx, for any of the objects: waits until it has ended.
@@ -34,9 +35,10 @@ impl<'f, 'r, N: Named, R: Wait + Alloc<A = Global>> Calls<'f, 'r, N, R> {
         timeout: Timeout,
         alertable: bool,
     ) -> (Pass<N>, Result<WaitEnd, Refused>)
-        ensures { IsWaitedFor N.front pass (WaitCall.Objects false alertable timeout handles.now) result.1 result.0 }
+        ensures { IsWaitedFor N.front pass
+            (WaitCall.Objects handles.now false (record { ms = timeout; alertable = alertable })) result.1 result.0 }
     {
-        self.wait_for(pass, handles, false, timeout, alertable)
+        self.wait_for(pass, handles, false, timeout.mode(alertable))
     }
 
     /// WaitForMultipleObjectsEx, for all of the objects: waits until it has ended.
@@ -47,9 +49,10 @@ impl<'f, 'r, N: Named, R: Wait + Alloc<A = Global>> Calls<'f, 'r, N, R> {
         timeout: Timeout,
         alertable: bool,
     ) -> (Pass<N>, Result<WaitEnd, Refused>)
-        ensures { IsWaitedFor N.front pass (WaitCall.Objects true alertable timeout handles.now) result.1 result.0 }
+        ensures { IsWaitedFor N.front pass
+            (WaitCall.Objects handles.now true (record { ms = timeout; alertable = alertable })) result.1 result.0 }
     {
-        self.wait_for(pass, handles, true, timeout, alertable)
+        self.wait_for(pass, handles, true, timeout.mode(alertable))
     }
 
     /// WaitForSingleObjectEx: begins the wait.
@@ -60,9 +63,10 @@ impl<'f, 'r, N: Named, R: Wait + Alloc<A = Global>> Calls<'f, 'r, N, R> {
         timeout: Timeout,
         alertable: bool,
     ) -> Began<N>
-        ensures { WaitHasBegun N.front pass (WaitCall.Objects false alertable timeout (handle ∷ [])) result }
+        ensures { WaitHasBegun N.front pass
+            (WaitCall.Objects (handle ∷ []) false (record { ms = timeout; alertable = alertable })) result }
     {
-        self.begin_for(pass, &[handle], false, timeout, alertable)
+        self.begin_for(pass, &[handle], false, timeout.mode(alertable))
     }
 
     /// WaitForMultipleObjectsEx, for any of the objects: begins the wait.
@@ -73,9 +77,10 @@ impl<'f, 'r, N: Named, R: Wait + Alloc<A = Global>> Calls<'f, 'r, N, R> {
         timeout: Timeout,
         alertable: bool,
     ) -> Began<N>
-        ensures { WaitHasBegun N.front pass (WaitCall.Objects false alertable timeout handles.now) result }
+        ensures { WaitHasBegun N.front pass
+            (WaitCall.Objects handles.now false (record { ms = timeout; alertable = alertable })) result }
     {
-        self.begin_for(pass, handles, false, timeout, alertable)
+        self.begin_for(pass, handles, false, timeout.mode(alertable))
     }
 
     /// WaitForMultipleObjectsEx, for all of the objects: begins the wait.
@@ -86,9 +91,10 @@ impl<'f, 'r, N: Named, R: Wait + Alloc<A = Global>> Calls<'f, 'r, N, R> {
         timeout: Timeout,
         alertable: bool,
     ) -> Began<N>
-        ensures { WaitHasBegun N.front pass (WaitCall.Objects true alertable timeout handles.now) result }
+        ensures { WaitHasBegun N.front pass
+            (WaitCall.Objects handles.now true (record { ms = timeout; alertable = alertable })) result }
     {
-        self.begin_for(pass, handles, true, timeout, alertable)
+        self.begin_for(pass, handles, true, timeout.mode(alertable))
     }
 }
 
@@ -100,10 +106,10 @@ impl<'f, 'r, N: Named, R: Wait> Calls<'f, 'r, N, R> {
         timeout: Timeout,
         alertable: bool,
     ) -> (Pass<N>, Result<WaitEnd, Refused>)
-        ensures { IsWaitedFor N.front pass (WaitCall.Sleep timeout alertable) result.1 result.0 }
+        ensures { IsWaitedFor N.front pass
+            (WaitCall.Sleep (record { ms = timeout; alertable = alertable })) result.1 result.0 }
     {
-        let ms = timeout.ms();
-        self.wait(pass, WaitCall::Sleep { ms, alertable })
+        self.wait(pass, WaitCall::Sleep(timeout.mode(alertable)))
     }
 
     /// SignalObjectAndWait: signals one object, and waits for the other, or for the same, until the wait has ended.
@@ -115,24 +121,23 @@ impl<'f, 'r, N: Named, R: Wait> Calls<'f, 'r, N, R> {
         timeout: Timeout,
         alertable: bool,
     ) -> (Pass<N>, Result<WaitEnd, Refused>)
-        ensures { IsWaitedFor N.front pass (WaitCall.Swap signal object timeout alertable) result.1 result.0 }
+        ensures { IsWaitedFor N.front pass
+            (WaitCall.Swap signal object (record { ms = timeout; alertable = alertable })) result.1 result.0 }
     {
-        let ms = timeout.ms();
         let swap = WaitCall::Swap {
             signal,
             object,
-            ms,
-            alertable,
+            mode: timeout.mode(alertable),
         };
         self.wait(pass, swap)
     }
 
     /// SleepEx: begins the wait.
     pub fn begin_sleep(&self, pass: Pass<N>, timeout: Timeout, alertable: bool) -> Began<N>
-        ensures { WaitHasBegun N.front pass (WaitCall.Sleep timeout alertable) result }
+        ensures { WaitHasBegun N.front pass
+            (WaitCall.Sleep (record { ms = timeout; alertable = alertable })) result }
     {
-        let ms = timeout.ms();
-        self.begin(pass, WaitCall::Sleep { ms, alertable })
+        self.begin(pass, WaitCall::Sleep(timeout.mode(alertable)))
     }
 
     /// SignalObjectAndWait: signals one object, and begins the wait for the other, or for the same.
@@ -144,14 +149,13 @@ impl<'f, 'r, N: Named, R: Wait> Calls<'f, 'r, N, R> {
         timeout: Timeout,
         alertable: bool,
     ) -> Began<N>
-        ensures { WaitHasBegun N.front pass (WaitCall.Swap signal object timeout alertable) result }
+        ensures { WaitHasBegun N.front pass
+            (WaitCall.Swap signal object (record { ms = timeout; alertable = alertable })) result }
     {
-        let ms = timeout.ms();
         let swap = WaitCall::Swap {
             signal,
             object,
-            ms,
-            alertable,
+            mode: timeout.mode(alertable),
         };
         self.begin(pass, swap)
     }

@@ -115,14 +115,14 @@ row Keyword.Apc = record { shape = only (ObjectPlace ∷ ValuePlace ∷ ValuePla
 -- any object
 row Keyword.Close = record { shape = only (ObjectPlace ∷ []); made = λ who handle given. act_by who (Act.Close handle) }
 -- how long, whether alertable, and objects
-row Keyword.Any = record { shape = shape (TimePlace ∷ ModePlace ∷ []) (Each ObjectPlace); made = λ who ms alertable handles. wait_by who (WaitCall.Objects false alertable ms handles) }
-row Keyword.All = record { shape = shape (TimePlace ∷ ModePlace ∷ []) (Each ObjectPlace); made = λ who ms alertable handles. wait_by who (WaitCall.Objects true alertable ms handles) }
+row Keyword.Any = record { shape = shape (TimePlace ∷ ModePlace ∷ []) (Each ObjectPlace); made = λ who ms alertable handles. wait_by who (WaitCall.Objects handles false (record { ms = ms; alertable = alertable })) }
+row Keyword.All = record { shape = shape (TimePlace ∷ ModePlace ∷ []) (Each ObjectPlace); made = λ who ms alertable handles. wait_by who (WaitCall.Objects handles true (record { ms = ms; alertable = alertable })) }
 -- how long, and whether alertable
-row Keyword.Sleep = record { shape = only (TimePlace ∷ ModePlace ∷ []); made = λ who ms alertable given. wait_by who (WaitCall.Sleep ms alertable) }
+row Keyword.Sleep = record { shape = only (TimePlace ∷ ModePlace ∷ []); made = λ who ms alertable given. wait_by who (WaitCall.Sleep (record { ms = ms; alertable = alertable })) }
 -- the object to signal, the object to wait for, how long, and whether alertable
 row Keyword.Swap = record {
   shape = only (ObjectPlace ∷ ObjectPlace ∷ TimePlace ∷ ModePlace ∷ []);
-  made = λ who signal object ms alertable given. wait_by who (WaitCall.Swap signal object ms alertable);
+  made = λ who signal object ms alertable given. wait_by who (WaitCall.Swap signal object (record { ms = ms; alertable = alertable }));
 }
 -- nothing more
 row Keyword.Next = record { shape = only []; made = λ who given. act_by who Act.NextApc }

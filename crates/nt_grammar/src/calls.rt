@@ -11,7 +11,7 @@ use crate::parser::{Name, Statement};
 use crate::places::object_of;
 use crate::scope::Bindings;
 use crate::words::Words;
-use nt_calls::{Act, Call, WaitCall};
+use nt_calls::{Act, Call, WaitCall, WaitMode};
 use nt_status::Handles;
 use std::alloc::Global;
 
@@ -286,8 +286,7 @@ fn wait_for_any(
     let wait = WaitCall::Objects {
         handles,
         all: false,
-        ms,
-        alertable,
+        mode: WaitMode { ms, alertable },
     };
     Ok(wait_of(who, wait))
 }
@@ -308,8 +307,7 @@ fn wait_for_all(
     let wait = WaitCall::Objects {
         handles,
         all: true,
-        ms,
-        alertable,
+        mode: WaitMode { ms, alertable },
     };
     Ok(wait_of(who, wait))
 }
@@ -336,7 +334,7 @@ fn sleep_for(who: u32, mut words: Words) -> Result<Statement, LineFault>
     let ms = words.time()?;
     let alertable = words.mode()?;
     words.end()?;
-    Ok(wait_of(who, WaitCall::Sleep { ms, alertable }))
+    Ok(wait_of(who, WaitCall::Sleep(WaitMode { ms, alertable })))
 }
 
 /// The object to signal, the object to wait for, how long, and whether alertable.
@@ -352,8 +350,7 @@ fn signal_and_wait(bindings: &Bindings, who: u32, mut words: Words) -> Result<St
     let wait = WaitCall::Swap {
         signal,
         object,
-        ms,
-        alertable,
+        mode: WaitMode { ms, alertable },
     };
     Ok(wait_of(who, wait))
 }

@@ -13,6 +13,7 @@ use Rattle.nt_apc.specs.Queues.{oldest_taken}
 use Rattle.nt_calls.specs.declared.call.Call.{Call}
 use Rattle.nt_calls.specs.declared.call.Act.{Act}
 use Rattle.nt_calls.specs.declared.call.WaitCall.{WaitCall}
+use Rattle.nt_calls.specs.declared.call.WaitMode.{WaitMode}
 use Rattle.nt_calls.specs.State.{State, object_at, with_object, with_handing}
 use Rattle.nt_calls.specs.Change.{created, signal, change, act_change, may_take, expired, expired_as, armed_anew, timer_set, timer_cancelled, due_moment, routine_for, exited}
 use Rattle.nt_calls.specs.Refusals.{Cause, first_of_causes, refusal, is_no, is_unknown, is_foreign, is_at_limit, may_signal}
@@ -152,9 +153,9 @@ pub record IsJudged (s : State) (t g : ℕ) : Type 0 where
   pub fits : overflows (pos 1) (object_at s.objects g) ≡ false
   pub foreign : is_foreign s.objects t g ≡ false
 
-pub swap_judged : (s : State) (t g object ms : ℕ) (alertable : Bool) → refusal s t false (Call.Wait (WaitCall.Swap g object ms alertable)) ≡ None → IsJudged s t g
-swap_judged s t g object ms alertable none =
-    let own = own_causes s t (Call.Wait (WaitCall.Swap g object ms alertable)) none in
+pub swap_judged : (s : State) (t g object : ℕ) (mode : WaitMode) → refusal s t false (Call.Wait (WaitCall.Swap g object mode)) ≡ None → IsJudged s t g
+swap_judged s t g object mode none =
+    let own = own_causes s t (Call.Wait (WaitCall.Swap g object mode)) none in
     let last : List Cause = (is_at_limit s.objects t object, RecursionLimit) ∷ [] in
     let full : List Cause = (overflows (pos 1) (object_at s.objects g), TooManyPosts) ∷ last in
     let owned : List Cause = (is_foreign s.objects t g, NotOwner) ∷ full in
@@ -244,22 +245,22 @@ exited_object s t h plain = elim (cases_eq h t) [
 -- what a call does to the object at h before waits are served
 abbrev pub changed_at : ℕ → ℕ → Call → ℕ → Object → Object
 changed_at n t (Call.Act act) h o = acted n t act h o
-changed_at n t (Call.Wait (WaitCall.Swap g object ms alertable)) h o = cond (g == h) (signal o) o
+changed_at n t (Call.Wait (WaitCall.Swap g object mode)) h o = cond (g == h) (signal o) o
 changed_at n t Call.Exit h o = left t o
 changed_at n t _ h o = o
 
 pub change_object : (s : State) (t : ℕ) (call : Call) (h : ℕ) → refusal s t false call ≡ None → is_plain (object_at (change s t call).objects h) ≡ true → object_at (change s t call).objects h ≡ changed_at (length s.objects) t call h (object_at s.objects h)
 change_object s t (Call.Act act) h none plain = act_object s t act h none plain
-change_object s t (Call.Wait (WaitCall.Objects all alertable ms handles)) h none plain = refl
-change_object s t (Call.Wait (WaitCall.Sleep ms alertable)) h none plain = refl
-change_object s t (Call.Wait (WaitCall.Swap g object ms alertable)) h none plain = with_object_at s.objects g h signal refl
+change_object s t (Call.Wait (WaitCall.Objects handles all mode)) h none plain = refl
+change_object s t (Call.Wait (WaitCall.Sleep mode)) h none plain = refl
+change_object s t (Call.Wait (WaitCall.Swap g object mode)) h none plain = with_object_at s.objects g h signal refl
 change_object s t Call.Exit h none plain = exited_object s t h plain
 
 pub change_waits : (s : State) (t : ℕ) (call : Call) → (change s t call).waits ≡ s.waits
 change_waits s t (Call.Act act) = act_waits s t act
-change_waits s t (Call.Wait (WaitCall.Objects all alertable ms handles)) = refl
-change_waits s t (Call.Wait (WaitCall.Sleep ms alertable)) = refl
-change_waits s t (Call.Wait (WaitCall.Swap g object ms alertable)) = refl
+change_waits s t (Call.Wait (WaitCall.Objects handles all mode)) = refl
+change_waits s t (Call.Wait (WaitCall.Sleep mode)) = refl
+change_waits s t (Call.Wait (WaitCall.Swap g object mode)) = refl
 change_waits s t Call.Exit = refl
 
 -- what becomes of the object at h once waits are served

@@ -215,8 +215,8 @@ act_gains s t _ h none is = same_gains (object_at s.objects h) is
 
 call_gains : (s : State) (t : ℕ) (call : Call) (h : ℕ) → refusal s t false call ≡ None → counts (changed_at (length s.objects) t call h (object_at s.objects h)) ≡ true → Gains (object_at s.objects h) (changed_at (length s.objects) t call h (object_at s.objects h)) (call_gives h (length s.objects) call) 0
 call_gains s t (Call.Act act) h none is = act_gains s t act h none is
-call_gains s t (Call.Wait (WaitCall.Swap g object ms alertable)) h none is =
-    let judged = swap_judged s t g object ms alertable none in
+call_gains s t (Call.Wait (WaitCall.Swap g object mode)) h none is =
+    let judged = swap_judged s t g object mode none in
     here_or_not (g == h) (object_at s.objects h) (signal (object_at s.objects h)) (pos 1)
     (λ here other.
     let same = sym (eqb-true g h here) in

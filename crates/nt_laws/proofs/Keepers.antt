@@ -63,21 +63,21 @@ each_living s (h ∷ hs) sound has zero below = handle_living s h sound (neither
 each_living s (h ∷ hs) sound has (suc j) below = each_living s hs sound (neither (lacks synchronize s.handles h) (list_any (lacks synchronize s.handles) hs) has).1 j (omega (arith, below))
 
 wait_living : (s : State) (t : ℕ) (wait : WaitCall) → Stands s → refusal s t (is_denied s (Call.Wait wait)) (call_named s.handles (Call.Wait wait)) ≡ None → (now o : ℕ) → Names (asked_wait now (wait_named s.handles wait)) o → is_living s.objects o ≡ true
-wait_living s t (WaitCall.Objects all alertable ms hs) sound none now o named =
+wait_living s t (WaitCall.Objects hs all mode) sound none now o named =
     let denied : Bool = list_any (lacks synchronize s.handles) hs in
     let objects : List ℕ = map (object_named s.handles) hs in
-    let own = call_causes_none s t denied (Call.Wait (WaitCall.Objects all alertable ms objects)) none in
+    let own = call_causes_none s t denied (Call.Wait (WaitCall.Objects objects all mode)) none in
     let last : List Cause = (has_twice objects, InvalidParameter) ∷ (list_any (is_at_limit s.objects t) objects, RecursionLimit) ∷ [] in
     let few = next_causes (length objects == 0 || nat_lt MAX_WAIT_OBJECTS (length objects)) InvalidParameter ((list_any (is_unknown s.objects) objects, InvalidHandle) ∷ (denied, AccessDenied) ∷ last) own in
     let known = next_causes (list_any (is_unknown s.objects) objects) InvalidHandle ((denied, AccessDenied) ∷ last) few.1 in
     let allowed = next_causes denied AccessDenied last known.1 in
     subst (λ k. is_living s.objects k ≡ true) named.2 (each_living s hs sound allowed.0 named.0 named.1)
-wait_living s t (WaitCall.Sleep ms alertable) sound none now o named = absurd (omega (arith, named.1))
-wait_living s t (WaitCall.Swap h object ms alertable) sound none now o named =
+wait_living s t (WaitCall.Sleep mode) sound none now o named = absurd (omega (arith, named.1))
+wait_living s t (WaitCall.Swap h object mode) sound none now o named =
     let denied : Bool = signal_denied s.handles s.objects h || lacks synchronize s.handles object in
     let signals : ℕ = object_named s.handles h in
     let waits : ℕ = object_named s.handles object in
-    let own = call_causes_none s t denied (Call.Wait (WaitCall.Swap signals waits ms alertable)) none in
+    let own = call_causes_none s t denied (Call.Wait (WaitCall.Swap signals waits mode)) none in
     let last : List Cause = (is_foreign s.objects t signals, NotOwner) ∷ (overflows (pos 1) (object_at s.objects signals), TooManyPosts) ∷ (is_at_limit s.objects t waits, RecursionLimit) ∷ [] in
     let first = next_causes (is_no may_signal s.objects signals) InvalidHandle ((is_unknown s.objects waits, InvalidHandle) ∷ (denied, AccessDenied) ∷ last) own in
     let known = next_causes (is_unknown s.objects waits) InvalidHandle ((denied, AccessDenied) ∷ last) first.1 in

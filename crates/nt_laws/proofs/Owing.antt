@@ -262,8 +262,8 @@ act_owing t s who _ h none is = same_owes t (object_at s.objects h) is
 
 call_owing : (t : ℕ) (s : State) (who : ℕ) (call : Call) (h : ℕ) → refusal s who false call ≡ None → owns (changed_at (length s.objects) who call h (object_at s.objects h)) ≡ true → Owes t (object_at s.objects h) (changed_at (length s.objects) who call h (object_at s.objects h)) (λ k. call_owes h (length s.objects) t who call k)
 call_owing t s who (Call.Act act) h none is = act_owing t s who act h none is
-call_owing t s who (Call.Wait (WaitCall.Swap g object ms alertable)) h none is =
-    let judged = swap_judged s who g object ms alertable none in
+call_owing t s who (Call.Wait (WaitCall.Swap g object mode)) h none is =
+    let judged = swap_judged s who g object mode none in
     here_or_not t (g == h) (who == t) (object_at s.objects h) (signal (object_at s.objects h)) (λ k. k - 1)
     (λ here other.
     let same = sym (eqb-true g h here) in

@@ -189,8 +189,8 @@ act_setting s t _ h is = same_sets (object_at s.objects h) 0 is
 
 call_setting : (s : State) (t : ℕ) (call : Call) (h : ℕ) → refusal s t false call ≡ None → resets (changed_at (length s.objects) t call h (object_at s.objects h)) ≡ true → Sets (object_at s.objects h) (changed_at (length s.objects) t call h (object_at s.objects h)) (one_if (call_sets h (length s.objects) call)) 0
 call_setting s t (Call.Act act) h none is = act_setting s t act h is
-call_setting s t (Call.Wait (WaitCall.Swap g object ms alertable)) h none is =
-    let judged = swap_judged s t g object ms alertable none in
+call_setting s t (Call.Wait (WaitCall.Swap g object mode)) h none is =
+    let judged = swap_judged s t g object mode none in
     here_or_not (g == h) (object_at s.objects h) (signal (object_at s.objects h)) (λ here other. signal_sets (object_at s.objects h) (ap (λ x. may_signal (object_at s.objects x)) (sym (eqb-true g h here)) ∙ judged.may) other) is
 call_setting s t Call.Exit h none is = left_sets t (object_at s.objects h) is
 call_setting s t _ h none is = same_sets (object_at s.objects h) 0 is

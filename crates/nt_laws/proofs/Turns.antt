@@ -76,8 +76,8 @@ begun_fair s t w ms reply new fair all is = go (fits s.objects t w) (w.alertable
 
 -- a wait that no cause refuses is fair
 fair_call : (s : State) (t : ℕ) (wait : WaitCall) (now : ℕ) → refusal s t false (Call.Wait wait) ≡ None → IsFair (asked_wait now wait)
-fair_call s t (WaitCall.Objects all alertable ms handles) now none =
-    let own = own_causes s t (Call.Wait (WaitCall.Objects all alertable ms handles)) none in
+fair_call s t (WaitCall.Objects handles all mode) now none =
+    let own = own_causes s t (Call.Wait (WaitCall.Objects handles all mode)) none in
     let last : List Cause = (list_any (is_at_limit s.objects t) handles, RecursionLimit) ∷ [] in
     let apart : List Cause = (has_twice handles, InvalidParameter) ∷ last in
     let first = next_causes (length handles == 0 || nat_lt MAX_WAIT_OBJECTS (length handles)) InvalidParameter ((list_any (is_unknown s.objects) handles, InvalidHandle) ∷ apart) own in
@@ -88,13 +88,13 @@ fair_call s t (WaitCall.Objects all alertable ms handles) now none =
     few : (none : Bool) → (none || nat_lt MAX_WAIT_OBJECTS (length handles)) ≡ false → length handles ≤ MAX_WAIT_OBJECTS
     few true e = absurd (false≢true (sym e))
     few false e = grind (arith, nat_tests, e)
-fair_call s t (WaitCall.Sleep ms alertable) now none = (omega arith, distinct_handles [] refl)
-fair_call s t (WaitCall.Swap g object ms alertable) now none = (omega arith, distinct_handles (object ∷ []) refl)
+fair_call s t (WaitCall.Sleep mode) now none = (omega arith, distinct_handles [] refl)
+fair_call s t (WaitCall.Swap g object mode) now none = (omega arith, distinct_handles (object ∷ []) refl)
 
 same_handles : (t now then : ℕ) (wait : WaitCall) (reply : Reply) → reply_took t (asked_wait now wait) reply ≡ reply_took t (asked_wait then wait) reply
-same_handles t now then (WaitCall.Objects all alertable ms handles) (Reply.Status code) = refl
-same_handles t now then (WaitCall.Sleep ms alertable) (Reply.Status code) = refl
-same_handles t now then (WaitCall.Swap g object ms alertable) (Reply.Status code) = refl
+same_handles t now then (WaitCall.Objects handles all mode) (Reply.Status code) = refl
+same_handles t now then (WaitCall.Sleep mode) (Reply.Status code) = refl
+same_handles t now then (WaitCall.Swap g object mode) (Reply.Status code) = refl
 same_handles t now then wait Reply.Done = refl
 same_handles t now then wait (Reply.Handle handle) = refl
 same_handles t now then wait (Reply.Previous count) = refl

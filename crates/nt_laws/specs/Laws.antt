@@ -67,7 +67,7 @@ act_gives h n _ = pos 0
 -- and a swap that signals it gives one
 abbrev pub call_gives : ℕ → ℕ → Call → ℤ
 call_gives h n (Call.Act act) = act_gives h n act
-call_gives h n (Call.Wait (WaitCall.Swap g object ms alertable)) = if g == h then pos 1 else pos 0
+call_gives h n (Call.Wait (WaitCall.Swap g object mode)) = if g == h then pos 1 else pos 0
 call_gives h n _ = pos 0
 
 -- by whichever handle
@@ -101,7 +101,7 @@ act_owes h n t who _ owed = owed
 -- and a swap that signals it releases it, and a thread that ends owes none
 abbrev pub call_owes : ℕ → ℕ → ℕ → ℕ → Call → ℕ → ℕ
 call_owes h n t who (Call.Act act) owed = act_owes h n t who act owed
-call_owes h n t who (Call.Wait (WaitCall.Swap g object ms alertable)) owed = if g == h && who == t then owed - 1 else owed
+call_owes h n t who (Call.Wait (WaitCall.Swap g object mode)) owed = if g == h && who == t then owed - 1 else owed
 call_owes h n t who Call.Exit owed = if who == t then 0 else owed
 call_owes h n t who _ owed = owed
 
@@ -140,7 +140,7 @@ act_sets h n _ = false
 -- and so does a swap that signals it
 abbrev pub call_sets : ℕ → ℕ → Call → Bool
 call_sets h n (Call.Act act) = act_sets h n act
-call_sets h n (Call.Wait (WaitCall.Swap g object ms alertable)) = g == h
+call_sets h n (Call.Wait (WaitCall.Swap g object mode)) = g == h
 call_sets h n _ = false
 
 abbrev pub turn_sets : ℕ → State → Turn → Bool

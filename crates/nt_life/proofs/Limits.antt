@@ -77,9 +77,9 @@ other_act hs os t denied act other = refl
 
 other_wait : (os : List Object) (t : ℕ) (denied : Bool) (wait : WaitCall) → has_limit (wait_causes os t denied wait) ≡ false
 unfolding is_limit has_limit
-other_wait os t denied (WaitCall.Objects all alertable ms named) = refl
-other_wait os t denied (WaitCall.Sleep ms alertable) = refl
-other_wait os t denied (WaitCall.Swap h object ms alertable) = refl
+other_wait os t denied (WaitCall.Objects named all mode) = refl
+other_wait os t denied (WaitCall.Sleep mode) = refl
+other_wait os t denied (WaitCall.Swap h object mode) = refl
 
 other_call : (s : State) (t : ℕ) (denied : Bool) (call : Call) → wants_number call ≡ false → has_limit (call_causes s t denied (call_named s.handles call)) ≡ false
 unfolding is_limit has_limit wants_number

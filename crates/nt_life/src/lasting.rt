@@ -21,7 +21,7 @@ use crate::giving::{gives, make_call};
 use crate::renewal::Renewal;
 use crate::set_aside::set_aside_with;
 use crate::spare::{Spare, copy_of};
-use nt_core::{Call, Core, Reply};
+use nt_core::{Call, Core, Reply, WaitMode};
 use nt_status::{Handle, Moment, ObjectNumber, Refusal};
 use std::alloc::Global;
 use std::marker::Model;
@@ -161,19 +161,18 @@ impl Lasting {
         who: u32,
         handles: &[Handle],
         all: bool,
-        alertable: bool,
-        ms: u32,
+        mode: WaitMode,
     ) -> Result<Reply, Refusal>
-        ensures called { Called (state self.old.core) who (Call.Wait (WaitCall.Objects all alertable ms handles.now))
+        ensures called { Called (state self.old.core) who (Call.Wait (WaitCall.Objects handles.now all mode))
             result self.new.core.grants (state self.new.core) }
-        ensures pace { KeepsPace (state self.old.core) who (Call.Wait (WaitCall.Objects all alertable ms handles.now))
+        ensures pace { KeepsPace (state self.old.core) who (Call.Wait (WaitCall.Objects handles.now all mode))
             result self.new.core.grants (state self.new.core) }
-        ensures looks { LooksAt self.old.core who (Call.Wait (WaitCall.Objects all alertable ms handles.now))
+        ensures looks { LooksAt self.old.core who (Call.Wait (WaitCall.Objects handles.now all mode))
             result self.new.core }
         ensures lawful { IsLawful self.new.core }
         ensures spare { self.new.spare ≡ self.old.spare }
     {
-        self.core.wait_objects(who, handles, all, alertable, ms)
+        self.core.wait_objects(who, handles, all, mode)
     }
 
     /// Lets all moments up to `m`, counted in 100 ns, pass, as `Core::tick` does.

@@ -506,12 +506,12 @@ act_kept n knot free t o who s denied Act.NextApc known others out none = go (ma
 pub change_kept : (n : ℕ) (knot : ℕ → Bool) (free : Bool) (t o who : ℕ) (s : State) (denied : Bool) (call : Call) → s.threads ≡ n → o < no_object → (free ≡ true → count_named s.handles o ≡ 0) → knot who ≡ false
     → refusal s who denied (call_named s.handles call) ≡ None → IsKept n knot free t o s (change s who (call_named s.handles call))
 change_kept n knot free t o who s denied (Call.Act act) count known still out none = act_kept n knot free t o who s denied act known (λ h is free_is. unnamed_here s o h known (still free_is) is) out none
-change_kept n knot free t o who s denied (Call.Wait (WaitCall.Objects all alertable ms handles)) count known still out none = kept_all (λ x. firm n knot free t o x ≡ true) o s
-change_kept n knot free t o who s denied (Call.Wait (WaitCall.Sleep ms alertable)) count known still out none = kept_all (λ x. firm n knot free t o x ≡ true) o s
-change_kept n knot free t o who s denied (Call.Wait (WaitCall.Swap h waited ms alertable)) count known still out none =
+change_kept n knot free t o who s denied (Call.Wait (WaitCall.Objects handles all mode)) count known still out none = kept_all (λ x. firm n knot free t o x ≡ true) o s
+change_kept n knot free t o who s denied (Call.Wait (WaitCall.Sleep mode)) count known still out none = kept_all (λ x. firm n knot free t o x ≡ true) o s
+change_kept n knot free t o who s denied (Call.Wait (WaitCall.Swap h waited mode)) count known still out none =
     let g = object_named s.handles h in
     let object = object_named s.handles waited in
-    let own = call_own s who denied (Call.Wait (WaitCall.Swap g object ms alertable)) none in
+    let own = call_own s who denied (Call.Wait (WaitCall.Swap g object mode)) none in
     let last : List Cause = (overflows (pos 1) (object_at s.objects g), TooManyPosts) ∷ (is_at_limit s.objects who object, RecursionLimit) ∷ [] in
     let first = next_causes (is_no may_signal s.objects g) InvalidHandle ((is_unknown s.objects object, InvalidHandle) ∷ (denied, AccessDenied) ∷ (is_foreign s.objects who g, NotOwner) ∷ last) own in
     let second = next_causes (is_unknown s.objects object) InvalidHandle ((denied, AccessDenied) ∷ (is_foreign s.objects who g, NotOwner) ∷ last) first.1 in

@@ -71,7 +71,7 @@ change_waits : (s : State) (t : ℕ) (call : Call) → (change s t call).waits �
 change_waits s t (Call.Act Act.NextApc) = either_waits (may_take s t) s _ _ refl refl
 change_waits s t (Call.Act (Act.SetTimer h due period routine)) = timer_set_waits s h _
 change_waits s t (Call.Act act) = refl
-change_waits s t (Call.Wait (WaitCall.Swap signal object ms alertable)) = refl
+change_waits s t (Call.Wait (WaitCall.Swap signal object mode)) = refl
 change_waits s t (Call.Wait wait) = refl
 change_waits s t Call.Exit = refl
 

@@ -16,7 +16,7 @@ ghost use Rattle.nt_sleepers.specs.Sleepers.{LetsSleep, StopsSleeping, Watches, 
 use crate::life::{is_idle, is_still, settle, settle_all, stop, watch};
 use crate::told::Told;
 use nt_alarms::Alarms;
-use nt_core::{Call, Core, Reply};
+use nt_core::{Call, Core, Reply, WaitMode};
 use nt_life::{Begun, Lasting};
 use nt_status::{Handle, MAX_MANY_THREADS, MAX_THREADS, Moment, ObjectNumber, Refusal};
 use std::alloc::Global;
@@ -148,26 +148,24 @@ impl Sleepers {
     }
 
     /// The call `WaitCall::Objects` of this thread, for a caller whose handles stand in a slice: it takes no list of them.
-    /// The timeout is in milliseconds, and has no end at 0xFFFFFFFF.
     pub fn wait_objects(
         &mut self,
         who: u32,
         handles: &[Handle],
         all: bool,
-        alertable: bool,
-        ms: u32,
+        mode: WaitMode,
     ) -> Result<Reply, Refusal>
-        ensures called { Called (state self.old.core) who (Call.Wait (WaitCall.Objects all alertable ms handles.now))
+        ensures called { Called (state self.old.core) who (Call.Wait (WaitCall.Objects handles.now all mode))
             result self.new.core.grants (state self.new.core) }
         ensures lawful { IsLawful self.new.core }
-        ensures looks { LooksAt self.old.core who (Call.Wait (WaitCall.Objects all alertable ms handles.now))
+        ensures looks { LooksAt self.old.core who (Call.Wait (WaitCall.Objects handles.now all mode))
             result self.new.core }
         ensures woke { Woke self.old who (pended result) self.new }
         ensures nobody { OnErr result (self.new.called ≡ None) }
         ensures spare { self.new.spare ≡ self.old.spare }
     {
         let was_idle = is_idle(&self.life);
-        let result = self.life.wait_objects(who, handles, all, alertable, ms);
+        let result = self.life.wait_objects(who, handles, all, mode);
         let began = has_pended(&result);
         settle(
             &self.life,

@@ -60,8 +60,8 @@ is_alone m (h ∷ g ∷ hs) = false
 
 -- the call waits for this object alone
 abbrev pub is_wait_for : ℕ → Call → Bool
-is_wait_for m (Call.Wait (WaitCall.Objects all alertable ms handles)) = is_alone m handles
-is_wait_for m (Call.Wait (WaitCall.Swap signal object ms alertable)) = object == m
+is_wait_for m (Call.Wait (WaitCall.Objects handles all mode)) = is_alone m handles
+is_wait_for m (Call.Wait (WaitCall.Swap signal object mode)) = object == m
 is_wait_for m other = false
 
 -- which threads have a pending wait for mutex m, after the entry

@@ -5,7 +5,7 @@ ghost use Rattle.nt_calls.specs.declared.call.Call.{Call};
 ghost use Rattle.nt_threads.specs.Plans.{creations, lead_of, rounds_of, round_of, endless_wait_for, endless_wait_for_all, work_of, workers};
 
 use crate::door::Door;
-use nt_core::{Act, Reply, WaitCall};
+use nt_core::{Act, Reply, WaitCall, WaitMode};
 use nt_status::{EventFlags, Handle, Handles, INFINITE, MutexFlags, Refusal};
 use std::alloc::{AllocError, Global};
 use std::sync::Wait;
@@ -89,8 +89,10 @@ fn wait_for<D: Door, R: Wait>(
     let wait = WaitCall::Objects {
         handles: Handles::from_slice(alloc, &[object])?,
         all: false,
-        ms: INFINITE,
-        alertable: false,
+        mode: WaitMode {
+            ms: INFINITE,
+            alertable: false,
+        },
     };
     door.wait(rt, wait)?;
     Ok(())
@@ -120,8 +122,10 @@ fn wait_for_workers<D: Door, R: Wait>(
     let wait = WaitCall::Objects {
         handles: worker_handles(alloc, count)?,
         all: true,
-        ms: INFINITE,
-        alertable: false,
+        mode: WaitMode {
+            ms: INFINITE,
+            alertable: false,
+        },
     };
     door.wait(rt, wait)?;
     Ok(())

@@ -11,6 +11,7 @@ use Rattle.nt_lines.specs.Words.{is_name, is_name_byte, is_digit}
 use Rattle.nt_calls.specs.declared.call.Call.{Call}
 use Rattle.nt_calls.specs.declared.call.Act.{Act}
 use Rattle.nt_calls.specs.declared.call.WaitCall.{WaitCall}
+use Rattle.nt_calls.specs.declared.call.WaitMode.{WaitMode}
 use Rattle.nt_grammar.specs.Scope.{Scope}
 use Rattle.nt_grammar.specs.Naming.{NamesFree}
 use Rattle.nt_grammar.specs.Grammar.{bit_if, act_by, wait_by, Line, Nothing, Moment, Called, called, said_by, Values, ValuesAfter, places_of, after_of, word_if, each_parts}
@@ -141,17 +142,17 @@ pub says_apc : (scope : Scope) (who thread routine arg : ℕ) → who < 2 ^ 16 �
 says_apc scope who thread routine arg w h r a =
     (Called who Keyword.Apc (thread, (routine, (arg, tt))) tt, refl, (is_caller who w, (tt, (h, (within routine 64 r, (within arg 64 a, tt))))))
 
-pub says_sleep : (scope : Scope) (who ms : ℕ) (alertable : Bool) → who < 2 ^ 16 → ms < 2 ^ 32 → CanBeSaid scope (wait_by who (WaitCall.Sleep ms alertable))
-says_sleep scope who ms alertable w m = (Called who Keyword.Sleep (ms, (alertable, tt)) tt, refl, (is_caller who w, (tt, (m, (tt, tt)))))
+pub says_sleep : (scope : Scope) (who : ℕ) (mode : WaitMode) → who < 2 ^ 16 → mode.ms < 2 ^ 32 → CanBeSaid scope (wait_by who (WaitCall.Sleep mode))
+says_sleep scope who mode w m = (Called who Keyword.Sleep (mode.ms, (mode.alertable, tt)) tt, refl, (is_caller who w, (tt, (m, (tt, tt)))))
 
-pub says_swap : (scope : Scope) (who signal object ms : ℕ) (alertable : Bool) → who < 2 ^ 16 → signal < 2 ^ 32 → object < 2 ^ 32 → ms < 2 ^ 32 → CanBeSaid scope (wait_by who (WaitCall.Swap signal object ms alertable))
-says_swap scope who signal object ms alertable w s o m =
-    (Called who Keyword.Swap (signal, (object, (ms, (alertable, tt)))) tt, refl, (is_caller who w, (tt, (s, (o, (m, (tt, tt)))))))
+pub says_swap : (scope : Scope) (who signal object : ℕ) (mode : WaitMode) → who < 2 ^ 16 → signal < 2 ^ 32 → object < 2 ^ 32 → mode.ms < 2 ^ 32 → CanBeSaid scope (wait_by who (WaitCall.Swap signal object mode))
+says_swap scope who signal object mode w s o m =
+    (Called who Keyword.Swap (signal, (object, (mode.ms, (mode.alertable, tt)))) tt, refl, (is_caller who w, (tt, (s, (o, (m, (tt, tt)))))))
 
-pub says_objects : (scope : Scope) (who : ℕ) (all alertable : Bool) (ms : ℕ) (handles : List ℕ) → who < 2 ^ 16 → ms < 2 ^ 32 → AreHandles handles →
-    CanBeSaid scope (wait_by who (WaitCall.Objects all alertable ms handles))
-says_objects scope who false alertable ms handles w m h = (Called who Keyword.Any (ms, (alertable, tt)) handles, refl, (is_caller who w, (tt, (m, (tt, says_each scope handles h)))))
-says_objects scope who true alertable ms handles w m h = (Called who Keyword.All (ms, (alertable, tt)) handles, refl, (is_caller who w, (tt, (m, (tt, says_each scope handles h)))))
+pub says_objects : (scope : Scope) (who : ℕ) (handles : List ℕ) (all : Bool) (mode : WaitMode) → who < 2 ^ 16 → mode.ms < 2 ^ 32 → AreHandles handles →
+    CanBeSaid scope (wait_by who (WaitCall.Objects handles all mode))
+says_objects scope who handles false mode w m h = (Called who Keyword.Any (mode.ms, (mode.alertable, tt)) handles, refl, (is_caller who w, (tt, (m, (tt, says_each scope handles h)))))
+says_objects scope who handles true mode w m h = (Called who Keyword.All (mode.ms, (mode.alertable, tt)) handles, refl, (is_caller who w, (tt, (m, (tt, says_each scope handles h)))))
 
 -- ---- an act on one object alone, and one on none
 
@@ -191,15 +192,15 @@ objects_put old first front (handle ∷ handles) =
     ∙ objects_put old first (front ++ decimal handle ∷ []) handles
     ∙ ap (λ words. old ++ join_with_byte 32 (first ∷ words)) (append_assoc front (decimal handle ∷ []) (map plain (each_parts ObjectPlace handles)))
 
-pub objects_wait_put : (old : Text) (who ms : ℕ) (all alertable : Bool) (handles : List ℕ) →
-    (((old ++ (caller_word who ++ 32 ∷ wait_word all)) ++ 32 ∷ time_word ms) ++ 32 ∷ mode_word alertable) ++ objects_text handles
-    ≡ old ++ statement_text (wait_by who (WaitCall.Objects all alertable ms handles))
-objects_wait_put old who ms false alertable handles =
-    ap (λ text. text ++ objects_text handles) (all_put old (caller_word who) (codes "any" ∷ []) (time_word ms ∷ mode_word alertable ∷ []))
-    ∙ objects_put old (caller_word who) (codes "any" ∷ time_word ms ∷ mode_word alertable ∷ []) handles
-objects_wait_put old who ms true alertable handles =
-    ap (λ text. text ++ objects_text handles) (all_put old (caller_word who) (codes "all" ∷ []) (time_word ms ∷ mode_word alertable ∷ []))
-    ∙ objects_put old (caller_word who) (codes "all" ∷ time_word ms ∷ mode_word alertable ∷ []) handles
+pub objects_wait_put : (old : Text) (who : ℕ) (handles : List ℕ) (all : Bool) (mode : WaitMode) →
+    (((old ++ (caller_word who ++ 32 ∷ wait_word all)) ++ 32 ∷ time_word mode.ms) ++ 32 ∷ mode_word mode.alertable) ++ objects_text handles
+    ≡ old ++ statement_text (wait_by who (WaitCall.Objects handles all mode))
+objects_wait_put old who handles false mode =
+    ap (λ text. text ++ objects_text handles) (all_put old (caller_word who) (codes "any" ∷ []) (time_word mode.ms ∷ mode_word mode.alertable ∷ []))
+    ∙ objects_put old (caller_word who) (codes "any" ∷ time_word mode.ms ∷ mode_word mode.alertable ∷ []) handles
+objects_wait_put old who handles true mode =
+    ap (λ text. text ++ objects_text handles) (all_put old (caller_word who) (codes "all" ∷ []) (time_word mode.ms ∷ mode_word mode.alertable ∷ []))
+    ∙ objects_put old (caller_word who) (codes "all" ∷ time_word mode.ms ∷ mode_word mode.alertable ∷ []) handles
 
 -- ---- the name of what was created
 
@@ -226,17 +227,17 @@ words_long first (handle ∷ handles) =
     let longer : length handles ≤ length rest = words_long (decimal handle) handles in
     omega (arith, longer, length-append first (32 ∷ rest))
 
-objects_long : (who ms : ℕ) (all alertable : Bool) (handles : List ℕ) → length handles ≤ length (statement_text (wait_by who (WaitCall.Objects all alertable ms handles)))
-objects_long who ms false alertable handles =
-    let last = join_with_byte 32 (mode_word alertable ∷ map plain (each_parts ObjectPlace handles)) in
-    let time = time_word ms ++ 32 ∷ last in
+objects_long : (who : ℕ) (handles : List ℕ) (all : Bool) (mode : WaitMode) → length handles ≤ length (statement_text (wait_by who (WaitCall.Objects handles all mode)))
+objects_long who handles false mode =
+    let last = join_with_byte 32 (mode_word mode.alertable ∷ map plain (each_parts ObjectPlace handles)) in
+    let time = time_word mode.ms ++ 32 ∷ last in
     let keyword = codes "any" ++ 32 ∷ time in
-    omega (arith, words_long (mode_word alertable) handles, length-append (time_word ms) (32 ∷ last), length-append (codes "any") (32 ∷ time), length-append (caller_word who) (32 ∷ keyword))
-objects_long who ms true alertable handles =
-    let last = join_with_byte 32 (mode_word alertable ∷ map plain (each_parts ObjectPlace handles)) in
-    let time = time_word ms ++ 32 ∷ last in
+    omega (arith, words_long (mode_word mode.alertable) handles, length-append (time_word mode.ms) (32 ∷ last), length-append (codes "any") (32 ∷ time), length-append (caller_word who) (32 ∷ keyword))
+objects_long who handles true mode =
+    let last = join_with_byte 32 (mode_word mode.alertable ∷ map plain (each_parts ObjectPlace handles)) in
+    let time = time_word mode.ms ++ 32 ∷ last in
     let keyword = codes "all" ++ 32 ∷ time in
-    omega (arith, words_long (mode_word alertable) handles, length-append (time_word ms) (32 ∷ last), length-append (codes "all") (32 ∷ time), length-append (caller_word who) (32 ∷ keyword))
+    omega (arith, words_long (mode_word mode.alertable) handles, length-append (time_word mode.ms) (32 ∷ last), length-append (codes "all") (32 ∷ time), length-append (caller_word who) (32 ∷ keyword))
 
 pub refused_is_name : is_name (codes "refused") ≡ true
 unfolding is_name
@@ -244,9 +245,9 @@ refused_is_name = refl
 
 pub many_long : (who : ℕ) (call : Call) (created : Option ℕ) → objects_in call ≤ length (statement_text (statement_for who call created))
 many_long who (Call.Act act) created = omega arith
-many_long who (Call.Wait (WaitCall.Objects all alertable ms handles)) created = objects_long who ms all alertable handles
-many_long who (Call.Wait (WaitCall.Sleep ms alertable)) created = omega arith
-many_long who (Call.Wait (WaitCall.Swap signal object ms alertable)) created = omega arith
+many_long who (Call.Wait (WaitCall.Objects handles all mode)) created = objects_long who handles all mode
+many_long who (Call.Wait (WaitCall.Sleep mode)) created = omega arith
+many_long who (Call.Wait (WaitCall.Swap signal object mode)) created = omega arith
 many_long who Call.Exit created = omega arith
 
 -- ---- a line that was written

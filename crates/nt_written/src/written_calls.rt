@@ -13,7 +13,7 @@ use crate::written_words::{
     put_count, put_creation, put_due, put_flag, put_keyword, put_mode, put_object, put_objects,
     put_on, put_time, put_value, put_wait_keyword,
 };
-use nt_calls::{Act, Call, WaitCall};
+use nt_calls::{Act, Call, WaitCall, WaitMode};
 use nt_grammar::{Keyword, MANUAL, OWNED, SET};
 use nt_status::{Handle, ThreadId};
 
@@ -202,70 +202,52 @@ fn put_wait(out: &mut Vec<u8>, who: ThreadId, wait: &WaitCall)
     ensures room { vec_capacity out.old ≤ vec_capacity out.new }
 {
     match wait {
-        WaitCall::Objects {
-            all,
-            alertable,
-            ms,
-            handles,
-        } => put_objects_wait(out, who, *all, *alertable, *ms, handles.as_slice()),
-        WaitCall::Sleep { ms, alertable } => put_sleep(out, who, *ms, *alertable),
+        WaitCall::Objects { handles, all, mode } => {
+            put_objects_wait(out, who, handles.as_slice(), *all, *mode)
+        }
+        WaitCall::Sleep(mode) => put_sleep(out, who, *mode),
         WaitCall::Swap {
             signal,
             object,
-            ms,
-            alertable,
-        } => put_swap(out, who, *signal, *object, *ms, *alertable),
+            mode,
+        } => put_swap(out, who, *signal, *object, *mode),
     }
 }
 
 /// How long, whether alertable, and the objects.
-fn put_objects_wait(
-    out: &mut Vec<u8>,
-    who: ThreadId,
-    all: bool,
-    alertable: bool,
-    ms: u32,
-    handles: &[Handle],
-)
+fn put_objects_wait(out: &mut Vec<u8>, who: ThreadId, handles: &[Handle], all: bool, mode: WaitMode)
     requires { vec_len out.old + FEW_BYTES + NUMBER_BYTES * length handles.now ≤ vec_capacity out.old }
-    ensures put { IsPut out.old.items (wait_by who (WaitCall.Objects all alertable ms handles.now)) out.new.items }
+    ensures put { IsPut out.old.items (wait_by who (WaitCall.Objects handles.now all mode)) out.new.items }
     ensures len { vec_len out.new < vec_len out.old + FEW_BYTES + NUMBER_BYTES * length handles.now }
     ensures room { vec_capacity out.old ≤ vec_capacity out.new }
 {
     put_wait_keyword(out, who, all);
-    put_time(out, ms);
-    put_mode(out, alertable);
+    put_time(out, mode.ms);
+    put_mode(out, mode.alertable);
     put_objects(out, handles);
 }
 
 /// How long, and whether alertable.
-fn put_sleep(out: &mut Vec<u8>, who: ThreadId, ms: u32, alertable: bool)
+fn put_sleep(out: &mut Vec<u8>, who: ThreadId, mode: WaitMode)
     requires { vec_len out.old + FEW_BYTES ≤ vec_capacity out.old }
-    ensures put { IsPut out.old.items (wait_by who (WaitCall.Sleep ms alertable)) out.new.items }
+    ensures put { IsPut out.old.items (wait_by who (WaitCall.Sleep mode)) out.new.items }
     ensures len { vec_len out.new < vec_len out.old + FEW_BYTES }
     ensures room { vec_capacity out.old ≤ vec_capacity out.new }
 {
     put_keyword(out, who, Keyword::Sleep);
-    put_time(out, ms);
-    put_mode(out, alertable);
+    put_time(out, mode.ms);
+    put_mode(out, mode.alertable);
 }
 
 /// The object to signal, the object to wait for, how long, and whether alertable.
-fn put_swap(
-    out: &mut Vec<u8>,
-    who: ThreadId,
-    signal: Handle,
-    object: Handle,
-    ms: u32,
-    alertable: bool,
-)
+fn put_swap(out: &mut Vec<u8>, who: ThreadId, signal: Handle, object: Handle, mode: WaitMode)
     requires { vec_len out.old + FEW_BYTES ≤ vec_capacity out.old }
-    ensures put { IsPut out.old.items (wait_by who (WaitCall.Swap signal object ms alertable)) out.new.items }
+    ensures put { IsPut out.old.items (wait_by who (WaitCall.Swap signal object mode)) out.new.items }
     ensures len { vec_len out.new < vec_len out.old + FEW_BYTES }
     ensures room { vec_capacity out.old ≤ vec_capacity out.new }
 {
     put_on(out, who, Keyword::Swap, signal);
     put_object(out, object);
-    put_time(out, ms);
-    put_mode(out, alertable);
+    put_time(out, mode.ms);
+    put_mode(out, mode.alertable);
 }

@@ -11,7 +11,7 @@ ghost use Rattle.nt_mail.specs.Packed.{hands_apc};
 ghost use Rattle.nt_mail.specs.Seats.{seated};
 
 use crate::refused::{Host, tell_refused};
-use nt_core::{Act, Call, Reply, WaitCall};
+use nt_core::{Act, Call, Reply, WaitCall, WaitMode};
 use nt_mail::{
     DispatcherSeat, ENTRY_LIMIT, Mail, Opened, PackedEntry, STATES, ThreadSeat, Word, told_by,
 };
@@ -268,8 +268,10 @@ fn a_grant_is_taken_once(rt: HostRuntime) -> Result<(), Fail> {
     let wait = WaitCall::Objects {
         handles: Handles::from_slice(rt.alloc(), &[Handle::new(EVENT)])?,
         all: false,
-        ms: INFINITE,
-        alertable: false,
+        mode: WaitMode {
+            ms: INFINITE,
+            alertable: false,
+        },
     };
     let told = told_on(open(&rt)?, wait, moment);
     let is = Told {

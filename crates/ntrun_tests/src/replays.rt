@@ -3,7 +3,7 @@ ghost use Rattle.std.specs.Prelude.{◌≡◌, false};
 ghost use Rattle.nt_mail.specs.Packed.{hands_apc};
 
 use crate::refused::{is_refusing, tell_refused};
-use nt_core::{Act, Call, Core, Reply, WaitCall};
+use nt_core::{Act, Call, Core, Reply, WaitCall, WaitMode};
 use nt_life::Renewal;
 use nt_mail::PackedEntry;
 use nt_replay::{Unreplayed, replay};
@@ -300,10 +300,10 @@ fn entry_of(told: Told) -> PackedEntry {
     let (first, second) = (ThreadId::new(0), ThreadId::new(1));
     match told {
         Sleeps => {
-            let sleep = WaitCall::Sleep {
+            let sleep = WaitCall::Sleep(WaitMode {
                 ms: 1,
                 alertable: false,
-            };
+            });
             PackedEntry::called(second, Call::Wait(sleep), Ok(Reply::Pended))
         }
         Passes(result) => {

@@ -1,7 +1,7 @@
 //! Calls, written as the lines of a script.
 
 use crate::refused::{Host, tell_refused};
-use nt_core::{Act, Call, Reply, WaitCall};
+use nt_core::{Act, Call, Reply, WaitCall, WaitMode};
 use nt_status::{Handle, Handles, Refusal, ThreadId};
 use nt_written::{Unwritten, write_line};
 use std::alloc::{AllocError, Global};
@@ -158,23 +158,12 @@ fn act_of(said: Said) -> Option<Act> {
 }
 
 /// A wait for these handles.
-fn objects(
-    alloc: Global,
-    all: bool,
-    ms: u32,
-    alertable: bool,
-    numbers: &[u32],
-) -> Result<Call, AllocError> {
+fn objects(alloc: Global, numbers: &[u32], all: bool, mode: WaitMode) -> Result<Call, AllocError> {
     let mut handles = Handles::new(alloc);
     for number in numbers {
         handles.push(Handle::new(*number))?;
     }
-    Ok(Call::Wait(WaitCall::Objects {
-        all,
-        alertable,
-        ms,
-        handles,
-    }))
+    Ok(Call::Wait(WaitCall::Objects { handles, all, mode }))
 }
 
 /// A wait for any of so many handles.
@@ -184,24 +173,31 @@ fn many(alloc: Global, count: u32) -> Result<Call, AllocError> {
         handles.push(Handle::new(65535))?;
     }
     Ok(Call::Wait(WaitCall::Objects {
-        all: false,
-        alertable: false,
-        ms: 0,
         handles,
+        all: false,
+        mode: WaitMode {
+            ms: 0,
+            alertable: false,
+        },
     }))
 }
 
 fn call_of(alloc: Global, said: Said) -> Result<Call, AllocError> {
     match said {
-        Said::Any(ms, alertable, numbers) => objects(alloc, false, ms, alertable, numbers),
-        Said::All(ms, alertable, numbers) => objects(alloc, true, ms, alertable, numbers),
+        Said::Any(ms, alertable, numbers) => {
+            objects(alloc, numbers, false, WaitMode { ms, alertable })
+        }
+        Said::All(ms, alertable, numbers) => {
+            objects(alloc, numbers, true, WaitMode { ms, alertable })
+        }
         Said::Many(count) => many(alloc, count),
-        Said::Sleep(ms, alertable) => Ok(Call::Wait(WaitCall::Sleep { ms, alertable })),
+        Said::Sleep(ms, alertable) => {
+            Ok(Call::Wait(WaitCall::Sleep(WaitMode { ms, alertable })))
+        }
         Said::Swap(signal, object, ms, alertable) => Ok(Call::Wait(WaitCall::Swap {
             signal: Handle::new(signal),
             object: Handle::new(object),
-            ms,
-            alertable,
+            mode: WaitMode { ms, alertable },
         })),
         said => Ok(act_of(said).map_or(Call::Exit, Call::Act)),
     }

@@ -1,7 +1,7 @@
 //! Calls as the dispatcher takes them, from what a scenario asks, and answers as a scenario tells them.
 use crate::tests::script::{Answer, Ask, Ended};
 use nt_apc::Apc;
-use nt_core::{Act, Call, Grant, Reply, WaitCall};
+use nt_core::{Act, Call, Grant, Reply, WaitCall, WaitMode};
 use nt_status::{Handle, Handles, Refusal};
 use std::alloc::{AllocError, Global};
 
@@ -24,16 +24,12 @@ fn wait_for(
     for number in objects {
         handles.push(Handle::new(*number))?;
     }
-    Ok(Call::Wait(WaitCall::Objects {
-        handles,
-        all,
-        ms,
-        alertable,
-    }))
+    let mode = WaitMode { ms, alertable };
+    Ok(Call::Wait(WaitCall::Objects { handles, all, mode }))
 }
 
 fn sleep_for(ms: u32, alertable: bool) -> Call {
-    Call::Wait(WaitCall::Sleep { ms, alertable })
+    Call::Wait(WaitCall::Sleep(WaitMode { ms, alertable }))
 }
 
 fn swap_for(objects: &[u32], ms: u32, alertable: bool) -> Call {
@@ -44,8 +40,7 @@ fn swap_for(objects: &[u32], ms: u32, alertable: bool) -> Call {
     Call::Wait(WaitCall::Swap {
         signal,
         object,
-        ms,
-        alertable,
+        mode: WaitMode { ms, alertable },
     })
 }
 

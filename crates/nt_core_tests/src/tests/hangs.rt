@@ -2,7 +2,7 @@
 use crate::expect::expect;
 use crate::tests::memory::{Host, tell_refusal};
 use nt_apc::Apc;
-use nt_core::{Act, Call, Core, WaitCall};
+use nt_core::{Act, Call, Core, WaitCall, WaitMode};
 use nt_look::why;
 use nt_status::{Handle, Handles, MAX_MOMENT, Moment, Refusal};
 use std::alloc::Global;
@@ -167,12 +167,11 @@ fn wait_for(alloc: Global, numbers: &[u32], all: bool, ms: u32) -> Result<Call, 
     for number in numbers {
         handles.push(Handle::new(*number))?;
     }
-    Ok(Call::Wait(WaitCall::Objects {
-        handles,
-        all,
+    let mode = WaitMode {
         ms,
         alertable: false,
-    }))
+    };
+    Ok(Call::Wait(WaitCall::Objects { handles, all, mode }))
 }
 
 fn call_of(alloc: Global, does: Does) -> Result<Call, Refusal> {

@@ -119,14 +119,9 @@ const ROWS: &[(&str, u32, &[Does])] = &[
 /// Makes the call, and hands the handles of a wait for objects over as a slice.
 pub fn made(life: &mut Lasting, who: u32, call: &Call) -> Result<Reply, Refusal> {
     match call {
-        Call::Wait(
-            WaitCall::Objects {
-                handles,
-                all,
-                ms,
-                alertable,
-            },
-        ) => life.wait_objects(who, handles.as_slice(), *all, *alertable, *ms),
+        Call::Wait(WaitCall::Objects { handles, all, mode }) => {
+            life.wait_objects(who, handles.as_slice(), *all, *mode)
+        }
         _ => life.call(who, call),
     }
 }

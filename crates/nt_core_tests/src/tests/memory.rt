@@ -92,14 +92,9 @@ fn call_at_last(rt: &impl Host, core: &mut Core, who: u32, call: &Call) -> Answe
 /// Makes the call, and hands the handles of a wait for objects over as a slice.
 fn call_by_slice(core: &mut Core, who: u32, call: &Call) -> Result<Reply, Refusal> {
     match call {
-        Call::Wait(
-            WaitCall::Objects {
-                handles,
-                all,
-                ms,
-                alertable,
-            },
-        ) => core.wait_objects(who, handles.as_slice(), *all, *alertable, *ms),
+        Call::Wait(WaitCall::Objects { handles, all, mode }) => {
+            core.wait_objects(who, handles.as_slice(), *all, *mode)
+        }
         _ => core.call(who, call),
     }
 }

@@ -3,7 +3,7 @@
 use crate::expect::expect;
 use crate::tests::memory::{Host, tell_refusal};
 use nt_apc::Apc;
-use nt_core::{Act, Call, Core, WaitCall};
+use nt_core::{Act, Call, Core, WaitCall, WaitMode};
 use nt_explore::{Ask, Explored, Loss, Plan, Verdict, Watcher, explore};
 use nt_status::{Handle, Handles, INFINITE, Refusal};
 use std::alloc::Global;
@@ -112,8 +112,10 @@ fn call_of(alloc: Global, does: Does) -> Result<Call, Refusal> {
             Ok(Call::Wait(WaitCall::Objects {
                 handles,
                 all: false,
-                ms: INFINITE,
-                alertable: false,
+                mode: WaitMode {
+                    ms: INFINITE,
+                    alertable: false,
+                },
             }))
         }
         Gives(lock) => Ok(Call::Act(Act::ReleaseMutex(Handle::new(lock)))),

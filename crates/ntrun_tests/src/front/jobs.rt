@@ -2,7 +2,7 @@
 use crate::front::crew::Crew;
 use crate::front::plan::{lead, toil};
 use crate::front::roams::roam;
-use crate::front::steps::{INFINITE, objects};
+use crate::front::steps::{ENDLESS, objects};
 use crate::front::told::Told;
 use crate::front::wakes::{self, Way, wake};
 use nt_core::{Act, WaitCall};
@@ -227,7 +227,7 @@ pub fn wait_for<N: Named>(
     object: Handle,
     told: &mut Told,
 ) -> Pass<N> {
-    let Ok(asked) = objects(crew.alloc, &[object], false, INFINITE, false) else {
+    let Ok(asked) = objects(crew.alloc, &[object], false, ENDLESS) else {
         told.lost();
         return pass;
     };
@@ -350,7 +350,7 @@ fn poll<N: Named>(
     polls: u32,
     told: &mut Told,
 ) -> Held<N> {
-    match objects(crew.alloc, &[event], false, INFINITE, false) {
+    match objects(crew.alloc, &[event], false, ENDLESS) {
         Ok(asked) => wait(rt, front, crew, pass, asked, Manner::Polling(polls), told),
         Err(_) => {
             told.lost();

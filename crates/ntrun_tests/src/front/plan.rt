@@ -2,7 +2,7 @@
 use crate::front::crew::Crew;
 use crate::front::jobs::{Manner, call, wait, wait_for};
 use crate::front::roams::end;
-use crate::front::steps::{Creation, INFINITE, objects};
+use crate::front::steps::{Creation, ENDLESS, objects};
 use crate::front::told::Told;
 use nt_core::Act;
 use nt_front::{Front, Held, Named, Pass};
@@ -42,7 +42,7 @@ pub fn lead<N: Named>(
     );
     crew.parts.take(rt, front, &mut pass, told);
     let workers = [Handle::new(1), Handle::new(2)];
-    let Ok(asked) = objects(crew.alloc, &workers, true, INFINITE, false) else {
+    let Ok(asked) = objects(crew.alloc, &workers, true, ENDLESS) else {
         told.lost();
         return Held::Pass(pass);
     };

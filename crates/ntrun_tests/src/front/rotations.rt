@@ -2,7 +2,7 @@
 ghost use Rattle.std.specs.Prelude.{◌≡◌, ◌+◌, ◌≤◌, vec_len, vec_capacity};
 
 use crate::front::replay::first_difference;
-use crate::front::steps::{INFINITE, objects};
+use crate::front::steps::{ENDLESS, objects};
 use crate::front::told::{Span, let_go};
 use crate::refused::is_refusing;
 use nt_core::{Act, Reply};
@@ -62,7 +62,7 @@ fn begin<N: Named>(
     other: Pass<N>,
 ) -> Held<N> {
     let _ = front.call(rt, first, Act::CreateEvent(0));
-    let Ok(asked) = objects(alloc, &[Handle::new(EVENT)], false, INFINITE, false) else {
+    let Ok(asked) = objects(alloc, &[Handle::new(EVENT)], false, ENDLESS) else {
         return Held::Pass(other);
     };
     match front.begin(rt, other, asked) {

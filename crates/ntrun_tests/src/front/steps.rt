@@ -1,7 +1,7 @@
 //! What threads that roam ask for, drawn by a plain generator of numbers.
 ghost use Rattle.std.specs.Prelude.{◌<◌};
 
-use nt_core::{Act, WaitCall};
+use nt_core::{Act, WaitCall, WaitMode};
 use nt_status::{Handle, Handles};
 use std::alloc::{AllocError, Global};
 
@@ -133,22 +133,22 @@ impl Draws {
 
     /// A wait that ends by itself, at the latest after 3 ms of the dispatcher's moments.
     pub fn wait(&mut self, alloc: Global) -> Result<WaitCall, AllocError> {
-        let ms = self.below(4) as u32;
-        let alertable = self.below(2) == 0;
+        let mode = WaitMode {
+            ms: self.below(4) as u32,
+            alertable: self.below(2) == 0,
+        };
         match self.below(6) {
-            0 => Ok(WaitCall::Sleep { ms, alertable }),
+            0 => Ok(WaitCall::Sleep(mode)),
             1 => Ok(WaitCall::Swap {
                 signal: Handle::new(MUTEX),
                 object: self.object(),
-                ms,
-                alertable,
+                mode,
             }),
             2 => objects(
                 alloc,
                 &[Handle::new(AUTO_RESET), Handle::new(SEMAPHORE)],
                 true,
-                ms,
-                alertable,
+                mode,
             ),
             3 => objects(
                 alloc,
@@ -158,16 +158,14 @@ impl Draws {
                     Handle::new(TIMER),
                 ],
                 true,
-                ms,
-                alertable,
+                mode,
             ),
-            4 => objects(alloc, &[self.object()], false, ms, alertable),
+            4 => objects(alloc, &[self.object()], false, mode),
             _ => objects(
                 alloc,
                 &[Handle::new(GATE_TIMER), self.thread(), Handle::new(MUTEX)],
                 false,
-                ms,
-                alertable,
+                mode,
             ),
         }
     }
@@ -178,21 +176,21 @@ impl Draws {
     }
 }
 
+/// A wait without a deadline, which no APC ends.
+pub const ENDLESS: WaitMode = WaitMode {
+    ms: INFINITE,
+    alertable: false,
+};
+
 /// A wait for any or all of these objects.
 pub fn objects(
     alloc: Global,
     handles: &[Handle],
     all: bool,
-    ms: u32,
-    alertable: bool,
+    mode: WaitMode,
 ) -> Result<WaitCall, AllocError> {
     match Handles::from_slice(alloc, handles) {
-        Ok(handles) => Ok(WaitCall::Objects {
-            handles,
-            all,
-            ms,
-            alertable,
-        }),
+        Ok(handles) => Ok(WaitCall::Objects { handles, all, mode }),
         Err(_) => Err(AllocError),
     }
 }

@@ -2,10 +2,10 @@
 use crate::front::crew::Crew;
 use crate::front::jobs::{Job, call};
 use crate::front::runs::{NEVER, Roll, man_all};
-use crate::front::steps::{Creation, INFINITE, objects};
+use crate::front::steps::{Creation, ENDLESS, INFINITE, objects};
 use crate::front::told::Told;
 use crate::refused::is_refusing;
-use nt_core::{Act, WaitCall};
+use nt_core::{Act, WaitCall, WaitMode};
 use nt_front::{Begun, Exited, Front, Held, Named, Pass, Waited};
 use nt_status::{Handle, Moment};
 use std::alloc::Global;
@@ -49,11 +49,11 @@ pub fn sleep<N: Named>(
     told: &mut Told,
 ) -> Held<N> {
     let asked = match object {
-        Some(object) => objects(crew.alloc, &[Handle::new(object)], false, INFINITE, false),
-        None => Ok(WaitCall::Sleep {
+        Some(object) => objects(crew.alloc, &[Handle::new(object)], false, ENDLESS),
+        None => Ok(WaitCall::Sleep(WaitMode {
             ms: 1,
             alertable: false,
-        }),
+        })),
     };
     crew.awaited.store(true, Ordering::SeqCst);
     let Ok(asked) = asked else {
@@ -124,8 +124,10 @@ fn swap(ms: u32) -> WaitCall {
     WaitCall::Swap {
         signal: Handle::new(STARTS),
         object: Handle::new(ANSWERS),
-        ms,
-        alertable: false,
+        mode: WaitMode {
+            ms,
+            alertable: false,
+        },
     }
 }
 

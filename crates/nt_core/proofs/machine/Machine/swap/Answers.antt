@@ -15,13 +15,13 @@ use Rattle.nt_core.proofs.machine.Machine.swap.Goals.{After-signal}
 -- once the object is signaled the wait can begin
 can : (c : After-signal) → CanBegin c.signal.new.self c.args.thread (wait_on (c.args.object ∷ []) false)
 can c = record {
-  idle = calm_idle c.args.self.now c.signal.new.self c.args.thread c.args.signal c.args.object c.args.mode.ms c.args.mode.alertable c.requires.fresh c.requires.free c.requires.living c.signal.ensures;
-  able = calm_able c.args.self.now c.signal.new.self c.args.thread c.args.signal c.args.object c.args.mode.ms c.args.mode.alertable c.requires.fresh c.requires.free c.requires.living c.signal.ensures (wait_on (c.args.object ∷ []) false) refl;
-  room = calm_room c.args.self.now c.signal.new.self c.args.thread c.args.signal c.args.object c.args.mode.ms c.args.mode.alertable c.requires.fresh c.requires.free c.requires.living c.signal.ensures;
+  idle = calm_idle c.args.self.now c.signal.new.self c.args.thread c.args.signal c.args.object c.args.mode c.requires.fresh c.requires.free c.requires.living c.signal.ensures;
+  able = calm_able c.args.self.now c.signal.new.self c.args.thread c.args.signal c.args.object c.args.mode c.requires.fresh c.requires.free c.requires.living c.signal.ensures (wait_on (c.args.object ∷ []) false) refl;
+  room = calm_room c.args.self.now c.signal.new.self c.args.thread c.args.signal c.args.object c.args.mode c.requires.fresh c.requires.free c.requires.living c.signal.ensures;
 }
 
 steady : (c : After-signal) → IsSteady c.signal.new.self
-steady c = calm_steady c.args.self.now c.signal.new.self c.args.thread c.args.signal c.args.object c.args.mode.ms c.args.mode.alertable c.requires.fresh c.requires.free c.requires.living c.signal.ensures
+steady c = calm_steady c.args.self.now c.signal.new.self c.args.thread c.args.signal c.args.object c.args.mode c.requires.fresh c.requires.free c.requires.living c.signal.ensures
 
 pub end_at_once-requires-clause-can : goal.end_at_once-requires-clause-can
 end_at_once-requires-clause-can c = can (goal.at.end_at_once-requires-clause-can c).After-signal
@@ -32,7 +32,7 @@ end_at_once-requires-clause-steady c = steady (goal.at.end_at_once-requires-clau
 -- the wait ended at once
 pub returns-in-Some : goal.returns-in-Some
 returns-in-Some c =
-    swap_accepted c.args.self.now c.signal.new.self c.args.thread c.args.signal c.args.object c.args.mode.ms c.args.mode.alertable c.requires.fresh c.requires.free c.requires.living c.signal.ensures c.end_at_once.new.self (Reply.Status c.in-Some.status)
+    swap_accepted c.args.self.now c.signal.new.self c.args.thread c.args.signal c.args.object c.args.mode c.requires.fresh c.requires.free c.requires.living c.signal.ensures c.end_at_once.new.self (Reply.Status c.in-Some.status)
     c.end_at_once.ensures.kept.grants (ap (λ v. v.looked) c.end_at_once.ensures.kept.table) c.end_at_once.ensures.steady c.in-Some.ensures.begun
 
 pub pend_one-requires-clause-can : goal.pend_one-requires-clause-can
@@ -53,5 +53,5 @@ returns c =
     done.state ∙ (λ i. pending_too (state (same i)) t (record { objects = c.args.object ∷ []; all = false; alertable = c.args.mode.alertable; deadline = deadline_after (same i).now c.args.mode.ms })) in
     let settled : IsSteady new = began_pending calm new t c.args.mode.ms w (steady (goal.at.returns c).After-signal) pends.0 pends.1 pends.2 refl becomes done.sound (done.marked ∙ ap (λ (d : Dispatcher). d.marked) same) in
     let answers : (Reply.Pended, state new) ≡ begun (state calm) t w c.args.mode.ms = ap (λ (s : State). (Reply.Pended, s)) becomes ∙ sym (begun_pends (state calm) t w c.args.mode.ms pends.0 pends.1 pends.2) in
-    swap_accepted c.args.self.now calm t c.args.signal c.args.object c.args.mode.ms c.args.mode.alertable c.requires.fresh c.requires.free c.requires.living c.signal.ensures new Reply.Pended
+    swap_accepted c.args.self.now calm t c.args.signal c.args.object c.args.mode c.requires.fresh c.requires.free c.requires.living c.signal.ensures new Reply.Pended
     (done.grants ∙ c.end_at_once.ensures.kept.grants) (done.looked ∙ ap (λ v. v.looked) c.end_at_once.ensures.kept.table) settled answers
