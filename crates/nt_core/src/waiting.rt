@@ -1,5 +1,5 @@
 //! How a thread's own wait begins.
-ghost use Rattle.std.specs.Prelude.{ℕ, ◌≡◌, ◌≢◌, ◌&&◌, ◌∷◌, ◌<◌, [], None, false, OnOk, OnErr, IfOk, IfErr, is_some, IfSome, IfNone, IsTrue, length, slice_set};
+ghost use Rattle.std.specs.Prelude.{ℕ, ◌≡◌, ◌≢◌, ◌≤◌, ◌&&◌, ◌∷◌, ◌<◌, [], None, false, OnOk, OnErr, IfOk, IfErr, is_some, IfSome, IfNone, IsTrue, length, slice_set};
 ghost use Rattle.std.specs.Option.{OnSome};
 ghost use Rattle.nt_status.specs.declared.refusal.Refusal.TheVariants.{Memory};
 ghost use Rattle.std.specs.List.{Contains};
@@ -20,8 +20,8 @@ ghost use Rattle.nt_core.specs.Accepts.{IsFresh, IsFreeToCall, HasBegun, reply_o
 
 use crate::machine::{Answer, Machine};
 use nt_calls::{
-    NamedObjects, Reply, SYNCHRONIZE, WaitCall, late_status, name_all, objects_refusal, opened,
-    try_wait,
+    FEW_OBJECTS, NamedObjects, Reply, SYNCHRONIZE, WaitCall, late_status, name_all,
+    objects_refusal, opened, try_wait,
 };
 use nt_status::{Handle, Handles, MAX_WAIT_OBJECTS, ObjectNumber, Refusal, Status, ThreadId};
 use nt_waits::About;
@@ -215,9 +215,8 @@ impl Machine {
         }
     }
 
-    /// The same for any number of handles. It stands apart, since the list of their objects lies in its own frame, and the parts of the mode
-    /// come one by one, as to `pend_one`.
-    #[inline(never)]
+    /// The same for none or several handles. A list of few objects has less room to clear.
+    #[inline(always)]
     fn wait_for_several(
         &mut self,
         thread: ThreadId,
@@ -230,10 +229,53 @@ impl Machine {
         requires caller { IsFreeToCall (state self.old) thread }
         ensures { IsWaitMade self.old self.new thread (WaitCall.Objects all alertable ms these.now) (replied result) }
     {
-        if these.len() > MAX_WAIT_OBJECTS {
-            return Err(Refusal::InvalidParameter);
+        if these.len() <= FEW_OBJECTS {
+            self.wait_for_few(thread, these, all, ms, alertable)
+        } else if these.len() > MAX_WAIT_OBJECTS {
+            Err(Refusal::InvalidParameter)
+        } else {
+            self.wait_for_many(thread, these, all, ms, alertable)
         }
-        let mut numbers = NamedObjects::new();
+    }
+
+    /// The same for at most `FEW_OBJECTS`. It stands apart, since the list of their objects lies in its own frame, and the parts of the mode
+    /// come one by one, as to `pend_one`.
+    #[inline(never)]
+    fn wait_for_few(
+        &mut self,
+        thread: ThreadId,
+        these: &[Handle],
+        all: bool,
+        ms: u32,
+        alertable: bool,
+    ) -> Begun
+        requires few { length these.now ≤ FEW_OBJECTS }
+        requires fresh { IsFresh self.old }
+        requires caller { IsFreeToCall (state self.old) thread }
+        ensures { IsWaitMade self.old self.new thread (WaitCall.Objects all alertable ms these.now) (replied result) }
+    {
+        let mut few = NamedObjects::<FEW_OBJECTS>::new();
+        let denied = name_all(&self.handles, these, &mut few);
+        let mode = Mode { all, alertable, ms };
+        self.wait_for(thread, denied, few.as_slice(), mode)
+    }
+
+    /// The same for at most `MAX_WAIT_OBJECTS`.
+    #[inline(never)]
+    fn wait_for_many(
+        &mut self,
+        thread: ThreadId,
+        these: &[Handle],
+        all: bool,
+        ms: u32,
+        alertable: bool,
+    ) -> Begun
+        requires few { length these.now ≤ MAX_WAIT_OBJECTS }
+        requires fresh { IsFresh self.old }
+        requires caller { IsFreeToCall (state self.old) thread }
+        ensures { IsWaitMade self.old self.new thread (WaitCall.Objects all alertable ms these.now) (replied result) }
+    {
+        let mut numbers = NamedObjects::<MAX_WAIT_OBJECTS>::new();
         let denied = name_all(&self.handles, these, &mut numbers);
         let mode = Mode { all, alertable, ms };
         self.wait_for(thread, denied, numbers.as_slice(), mode)
