@@ -7,7 +7,7 @@ ghost use Rattle.nt_c.specs.Asks.{IsFit, Asked, WaitsWith};
 use crate::handle::Nt;
 use crate::reply::{NtReply, tell};
 use arrayvec::ArrayVec;
-use nt_core::{Call, Reply, WaitCall, WaitMode};
+use nt_core::{Call, FEW_OBJECTS, Reply, WaitCall, WaitMode};
 use nt_status::{Handle, Handles, MAX_WAIT_OBJECTS, Refusal};
 use std::alloc::Global;
 
@@ -30,16 +30,13 @@ fn handles_of(numbers: &[u32]) -> WaitedHandles
     handles
 }
 
-/// Up to how many handles a wait's few may be.
-const FEW: usize = 8;
-
 /// The handles of a wait that names few, of which less has to be cleared.
-type FewHandles = ArrayVec<Handle, FEW>;
+type FewHandles = ArrayVec<Handle, FEW_OBJECTS>;
 
 /// The handles with these numbers, in this order.
 #[inline(always)]
 fn few_handles_of(numbers: &[u32]) -> FewHandles
-    requires { length numbers.now ≤ FEW }
+    requires { length numbers.now ≤ FEW_OBJECTS }
     ensures { result.items ≡ numbers.now }
 {
     let mut handles = FewHandles::new();
@@ -59,7 +56,7 @@ fn wait_for_few(
     mode: WaitMode,
 ) -> Result<Reply, Refusal>
     requires fit { IsFit nt.old }
-    requires few { length numbers.now ≤ FEW }
+    requires few { length numbers.now ≤ FEW_OBJECTS }
     ensures fit { IsFit nt.new }
     ensures asked { Asked nt.old.cell.held who (Call.Wait (WaitCall.Objects numbers.now all mode))
         result nt.new.cell.held }
@@ -103,7 +100,7 @@ pub extern "C" fn nt_wait_objects(
         result out.old out.new nt.new }
 {
     let mode = WaitMode { ms, alertable };
-    let asked = if handles.len() <= FEW {
+    let asked = if handles.len() <= FEW_OBJECTS {
         wait_for_few(nt, who, handles, all, mode)
     } else {
         wait_for_many(nt, who, handles, all, mode)

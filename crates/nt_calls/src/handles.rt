@@ -2,14 +2,13 @@
 ghost use Rattle.std.specs.Prelude.{◌≡◌, ◌≤◌, ◌||◌, false, [], length, nat_lt, is_some, map, slice_get, IfNone};
 ghost use Rattle.std.specs.List.{list_any};
 ghost use Rattle.std.specs.Option.{option_copied};
-ghost use Rattle.nt_status.specs.declared.limits.TheConstants.{MAX_WAIT_OBJECTS};
 ghost use Rattle.nt_objects.specs.declared.object.Object.TheVariants.{Thread};
 ghost use Rattle.nt_calls.specs.State.{object_at};
 ghost use Rattle.nt_calls.specs.Naming.{object_named, lacks};
 
 use arrayvec::ArrayVec;
 use nt_objects::Object;
-use nt_status::{Handle, MAX_HANDLES, MAX_WAIT_OBJECTS, ObjectNumber};
+use nt_status::{Handle, MAX_HANDLES, ObjectNumber};
 use nt_tables::HandleTable;
 
 /// A number that no object has: the numbers of objects are below it.
@@ -24,8 +23,11 @@ pub const MODIFY_STATE: u32 = 0x0002;
 /// THREAD_SET_CONTEXT.
 pub const SET_CONTEXT: u32 = 0x0010;
 
-/// The numbers of the objects that a wait names, at most as many as it may name. They lie in the value itself.
-pub type NamedObjects = ArrayVec<ObjectNumber, MAX_WAIT_OBJECTS>;
+/// The most objects of a wait for few: most waits for several objects name no more, and need less room for a list of them.
+pub const FEW_OBJECTS: usize = 8;
+
+/// The numbers of the objects that a wait names, at most `N`. They lie in the value itself.
+pub type NamedObjects<const N: usize> = ArrayVec<ObjectNumber, N>;
 
 /// The number of the object that the handle names, and one that no object has where it names none.
 pub fn object_named(handles: &HandleTable, handle: Handle) -> ObjectNumber
@@ -51,8 +53,12 @@ pub fn opened(handles: &HandleTable, handle: Handle, access: u32) -> (ObjectNumb
 }
 
 /// Lists the numbers of the objects that the handles name, in this order. Answers whether one of the handles may not be waited for.
-pub fn name_all(handles: &HandleTable, these: &[Handle], named: &mut NamedObjects) -> bool
-    requires few { length these.now ≤ MAX_WAIT_OBJECTS }
+pub fn name_all<const N: usize>(
+    handles: &HandleTable,
+    these: &[Handle],
+    named: &mut NamedObjects<N>,
+) -> bool
+    requires few { length these.now ≤ N }
     requires empty { named.old.items ≡ [] }
     ensures denied { result ≡ list_any (lacks 0x00100000 handles.now.opened) these.now }
     ensures items { named.new.items ≡ map (object_named handles.now.opened) these.now }

@@ -23,7 +23,9 @@ mod timing;
 mod trying;
 
 pub use call::{Act, Call, Grant, Reply, WaitCall, WaitMode};
-pub use handles::{MODIFY_STATE, NamedObjects, SYNCHRONIZE, name_all, named, object_named, opened};
+pub use handles::{
+    FEW_OBJECTS, MODIFY_STATE, NamedObjects, SYNCHRONIZE, name_all, named, object_named, opened,
+};
 pub use judging::{
     event_named, mutex_named, object_to_share, running_thread, semaphore_named, timer_named,
     timer_to_arm,

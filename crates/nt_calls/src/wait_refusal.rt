@@ -1,6 +1,7 @@
 //! Whether a wait for objects is refused, and by which cause.
-ghost use Rattle.std.specs.Prelude.{ℕ, ◌≡◌, ◌==◌, ◌≤◌, [], ◌∷◌, true, false};
+ghost use Rattle.std.specs.Prelude.{ℕ, ◌≡◌, ◌==◌, ◌≤◌, ◌&&◌, ◌||◌, not, [], ◌∷◌, true, false};
 ghost use Rattle.std.specs.List.{list_any};
+ghost use Rattle.nt_objects.specs.Object.{has_room, owned_by};
 ghost use Rattle.nt_calls.specs.Refusals.{first_of_causes, objects_causes, is_unknown, has_twice, is_at_limit};
 
 use crate::handles::named;
@@ -15,12 +16,19 @@ fn has_unknown(objects: &[Object], numbers: &[ObjectNumber]) -> bool
     numbers.iter().any(|number| is_unknown(objects, *number))
 }
 
-/// Whether the object of this number is a mutex which the thread holds at the greatest depth.
+/// Whether it is a mutex which the thread holds at the greatest depth.
+fn is_held_to_limit(object: &Object, thread: ThreadId) -> bool
+    ensures { result ≡ (owned_by object.now thread && not (has_room object.now)) }
+{
+    object.is_owned_by(thread) && !object.has_room()
+}
+
+/// The same of the object of this number.
 pub fn is_at_limit(objects: &[Object], thread: ThreadId, number: ObjectNumber) -> bool
     ensures { result ≡ is_at_limit objects.now thread number }
 {
     match named(objects, number) {
-        Some(object) => object.is_owned_by(thread) && !object.has_room(),
+        Some(object) => is_held_to_limit(object, thread),
         None => false,
     }
 }
@@ -44,24 +52,49 @@ fn has_twice(numbers: &[ObjectNumber]) -> bool
     }
 }
 
-/// Whether the numbers rise, the first from above this one: then none of them stands twice.
-fn rises_from(below: ObjectNumber, numbers: &[ObjectNumber]) -> bool
-    ensures above { result ≡ true → (x : ℕ) → x ≤ below → list_any (λ other. other == x) numbers.now ≡ false }
-    ensures apart { result ≡ true → has_twice numbers.now ≡ false }
+/// Whether a wait of the thread can't name this number: no object has it, or a mutex which the thread holds at the greatest depth.
+fn is_barred(objects: &[Object], thread: ThreadId, number: ObjectNumber) -> bool
+    ensures { result ≡ (is_unknown objects.now number || is_at_limit objects.now thread number) }
 {
-    match numbers {
-        [] => true,
-        [first, rest @ ..] => below < *first && rises_from(*first, rest),
+    match named(objects, number) {
+        Some(object) => is_held_to_limit(object, thread),
+        None => true,
     }
 }
 
-/// Whether a number stands twice. Where the numbers rise, one look at each tells.
-fn names_twice(numbers: &[ObjectNumber]) -> bool
-    ensures { result ≡ has_twice numbers.now }
+/// Whether the numbers rise, the first from above this one, and the thread's wait can name each: then none of them stands twice.
+fn rises_free_from(
+    objects: &[Object],
+    thread: ThreadId,
+    below: ObjectNumber,
+    numbers: &[ObjectNumber],
+) -> bool
+    ensures above { result ≡ true → (x : ℕ) → x ≤ below → list_any (λ other. other == x) numbers.now ≡ false }
+    ensures apart { result ≡ true → has_twice numbers.now ≡ false }
+    ensures known { result ≡ true → list_any (is_unknown objects.now) numbers.now ≡ false }
+    ensures limit { result ≡ true → list_any (is_at_limit objects.now thread) numbers.now ≡ false }
 {
     match numbers {
-        [] => false,
-        [first, rest @ ..] => !rises_from(*first, rest) && has_twice(numbers),
+        [] => true,
+        [first, rest @ ..] => {
+            below < *first
+                && !is_barred(objects, thread, *first)
+                && rises_free_from(objects, thread, *first, rest)
+        }
+    }
+}
+
+/// Whether one look at each number tells that the thread's wait can name all of them.
+fn is_plain(objects: &[Object], thread: ThreadId, numbers: &[ObjectNumber]) -> bool
+    ensures apart { result ≡ true → has_twice numbers.now ≡ false }
+    ensures known { result ≡ true → list_any (is_unknown objects.now) numbers.now ≡ false }
+    ensures limit { result ≡ true → list_any (is_at_limit objects.now thread) numbers.now ≡ false }
+{
+    match numbers {
+        [] => true,
+        [first, rest @ ..] => {
+            !is_barred(objects, thread, *first) && rises_free_from(objects, thread, *first, rest)
+        }
     }
 }
 
@@ -79,7 +112,7 @@ fn object_refusal(
     };
     if denied {
         Some(Refusal::AccessDenied)
-    } else if there.is_owned_by(thread) && !there.has_room() {
+    } else if is_held_to_limit(there, thread) {
         Some(Refusal::RecursionLimit)
     } else {
         None
@@ -97,11 +130,13 @@ fn list_refusal(
 {
     if numbers.is_empty() || numbers.len() > MAX_WAIT_OBJECTS {
         Some(Refusal::InvalidParameter)
+    } else if !denied && is_plain(objects, thread, numbers) {
+        None
     } else if has_unknown(objects, numbers) {
         Some(Refusal::InvalidHandle)
     } else if denied {
         Some(Refusal::AccessDenied)
-    } else if names_twice(numbers) {
+    } else if has_twice(numbers) {
         Some(Refusal::InvalidParameter)
     } else if has_limit(objects, thread, numbers) {
         Some(Refusal::RecursionLimit)

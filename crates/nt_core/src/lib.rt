@@ -46,4 +46,4 @@ mod set_aside;
 mod ticks;
 
 pub use dispatcher::Core;
-pub use nt_calls::{Act, Call, Grant, Reply, WaitCall, WaitMode};
+pub use nt_calls::{Act, Call, FEW_OBJECTS, Grant, Reply, WaitCall, WaitMode};

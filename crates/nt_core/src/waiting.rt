@@ -1,5 +1,5 @@
 //! How a thread's own wait begins.
-ghost use Rattle.std.specs.Prelude.{ℕ, ◌≡◌, ◌≢◌, ◌&&◌, ◌∷◌, ◌<◌, [], None, false, OnOk, OnErr, IfOk, IfErr, is_some, IfSome, IfNone, IsTrue, length, slice_set};
+ghost use Rattle.std.specs.Prelude.{ℕ, ◌≡◌, ◌≢◌, ◌≤◌, ◌&&◌, ◌∷◌, ◌<◌, [], None, false, OnOk, OnErr, IfOk, IfErr, is_some, IfSome, IfNone, IsTrue, length, slice_set};
 ghost use Rattle.std.specs.Option.{OnSome};
 ghost use Rattle.nt_status.specs.declared.refusal.Refusal.TheVariants.{Memory};
 ghost use Rattle.std.specs.List.{Contains};
@@ -20,8 +20,8 @@ ghost use Rattle.nt_core.specs.Accepts.{IsFresh, IsFreeToCall, HasBegun, reply_o
 
 use crate::machine::{Answer, Machine};
 use nt_calls::{
-    NamedObjects, Reply, SYNCHRONIZE, WaitCall, WaitMode, late_status, name_all, objects_refusal,
-    opened, try_wait,
+    FEW_OBJECTS, NamedObjects, Reply, SYNCHRONIZE, WaitCall, WaitMode, late_status,
+    name_all, objects_refusal, opened, try_wait,
 };
 use nt_status::{Handle, Handles, MAX_WAIT_OBJECTS, ObjectNumber, Refusal, Status, ThreadId};
 
@@ -196,7 +196,7 @@ impl Machine {
     {
         match these {
             [handle] => self.wait_for_one(thread, *handle, all, mode),
-            _ => replied(self.wait_for_several(thread, these, all, mode.ms, mode.alertable)),
+            _ => replied(self.wait_for_several(thread, these, all, mode)),
         }
     }
 
@@ -215,17 +215,36 @@ impl Machine {
     {
         match these.alone() {
             Some(handle) => self.wait_for_one(thread, handle, all, mode),
-            None => {
-                let slice = these.as_slice();
-                replied(self.wait_for_several(thread, slice, all, mode.ms, mode.alertable))
-            }
+            None => replied(self.wait_for_several(thread, these.as_slice(), all, mode)),
         }
     }
 
-    /// The same for any number of handles. It stands apart, since the list of their objects lies in its own frame, and the parts of the mode
+    /// The same for none or several handles. A list of few objects has less room to clear.
+    #[inline(always)]
+    fn wait_for_several(
+        &mut self,
+        thread: ThreadId,
+        these: &[Handle],
+        all: bool,
+        mode: WaitMode,
+    ) -> Begun
+        requires fresh { IsFresh self.old }
+        requires caller { IsFreeToCall (state self.old) thread }
+        ensures { IsWaitMade self.old self.new thread (WaitCall.Objects these.now all mode) (replied result) }
+    {
+        if these.len() <= FEW_OBJECTS {
+            self.wait_for_few(thread, these, all, mode.ms, mode.alertable)
+        } else if these.len() > MAX_WAIT_OBJECTS {
+            Err(Refusal::InvalidParameter)
+        } else {
+            self.wait_for_many(thread, these, all, mode.ms, mode.alertable)
+        }
+    }
+
+    /// The same for at most `FEW_OBJECTS`. It stands apart, since the list of their objects lies in its own frame, and the parts of the mode
     /// come one by one, as to `pend_one`.
     #[inline(never)]
-    fn wait_for_several(
+    fn wait_for_few(
         &mut self,
         thread: ThreadId,
         these: &[Handle],
@@ -233,15 +252,35 @@ impl Machine {
         ms: u32,
         alertable: bool,
     ) -> Begun
+        requires few { length these.now ≤ FEW_OBJECTS }
         requires fresh { IsFresh self.old }
         requires caller { IsFreeToCall (state self.old) thread }
         ensures { IsWaitMade self.old self.new thread
             (WaitCall.Objects these.now all (record { ms = ms; alertable = alertable })) (replied result) }
     {
-        if these.len() > MAX_WAIT_OBJECTS {
-            return Err(Refusal::InvalidParameter);
-        }
-        let mut numbers = NamedObjects::new();
+        let mut few = NamedObjects::<FEW_OBJECTS>::new();
+        let denied = name_all(&self.handles, these, &mut few);
+        let mode = WaitMode { ms, alertable };
+        self.wait_for(thread, denied, few.as_slice(), all, mode)
+    }
+
+    /// The same for at most `MAX_WAIT_OBJECTS`.
+    #[inline(never)]
+    fn wait_for_many(
+        &mut self,
+        thread: ThreadId,
+        these: &[Handle],
+        all: bool,
+        ms: u32,
+        alertable: bool,
+    ) -> Begun
+        requires few { length these.now ≤ MAX_WAIT_OBJECTS }
+        requires fresh { IsFresh self.old }
+        requires caller { IsFreeToCall (state self.old) thread }
+        ensures { IsWaitMade self.old self.new thread
+            (WaitCall.Objects these.now all (record { ms = ms; alertable = alertable })) (replied result) }
+    {
+        let mut numbers = NamedObjects::<MAX_WAIT_OBJECTS>::new();
         let denied = name_all(&self.handles, these, &mut numbers);
         let mode = WaitMode { ms, alertable };
         self.wait_for(thread, denied, numbers.as_slice(), all, mode)

@@ -1,17 +1,13 @@
-use Rattle.std.proofs.Common.{◌≡◌, ◌<◌, ◌||◌, ◌==◌, ℕ, Bool, List, ◌∷◌, [], length, map, nat_lt, true, false, ap, sym, ◌∙◌, subst, arith, Contains}
+use Rattle.std.proofs.Common.{◌≡◌, ◌||◌, ◌==◌, ℕ, Bool, List, ◌∷◌, [], length, map, nat_lt, true, ap, arith}
 use Rattle.std.specs.List.{list_any}
 use Rattle.std.proofs.lemmas.List.{length-map}
 use Rattle.std.proofs.lemmas.Bool.Decides.{nat_tests}
 use Rattle.nt_status.specs.declared.limits.TheConstants.{MAX_WAIT_OBJECTS}
 use Rattle.nt_status.specs.declared.refusal.Refusal.TheVariants.{AccessDenied, InvalidHandle, InvalidParameter, RecursionLimit}
-use Rattle.nt_objects.specs.Object.{is_gone}
-use Rattle.nt_calls.specs.State.{object_at}
-use Rattle.nt_core.specs.Dispatcher.{Dispatcher}
 use Rattle.nt_calls.specs.Naming.{object_named, lacks}
 use Rattle.nt_calls.specs.Refusals.{first_of_causes, is_unknown, has_twice, is_at_limit}
 use Rattle.nt_calls.specs.declared.call.Call.{Call}
 use Rattle.nt_calls.specs.declared.call.WaitCall.{WaitCall}
-use Rattle.nt_core.proofs.Closing.{all_living}
 use Rattle.nt_core.proofs.Making.{refused_made}
 use Rattle.nt_core.proofs.machine.Machine.wait_for_several.Goals as goal
 
@@ -24,12 +20,5 @@ returns-then-these-gt-MAX_WAIT_OBJECTS c =
     let as_many : length named ≡ length c.args.these.now = length-map c.args.these.now (object_named d.handles) in
     let above = c.if-these-gt-MAX_WAIT_OBJECTS.true in
     let many : (length named == 0 || nat_lt MAX_WAIT_OBJECTS (length named)) ≡ true = grind (arith, nat_tests, as_many, above) in
-    refused_made d c.args.thread denied (Call.Wait (WaitCall.Objects named c.args.all (record { ms = c.args.ms; alertable = c.args.alertable }))) InvalidParameter c.requires.fresh c.requires.caller
+    refused_made d c.args.thread denied (Call.Wait (WaitCall.Objects named c.args.all c.args.mode)) InvalidParameter c.requires.fresh c.requires.caller
     (ap (λ (b : Bool). first_of_causes ((b, InvalidParameter) ∷ (list_any (is_unknown d.objects) named, InvalidHandle) ∷ (denied, AccessDenied) ∷ (has_twice named, InvalidParameter) ∷ (list_any (is_at_limit d.objects c.args.thread) named, RecursionLimit) ∷ [])) many)
-
-pub wait_for-requires-clause-living : goal.wait_for-requires-clause-living
-wait_for-requires-clause-living c =
-    let d = c.args.self.now in
-    let numbers : c.as_slice.result.now ≡ map (object_named d.handles) c.args.these.now =
-    c.as_slice.ensures.value ∙ (c.name_all-denied.ensures.items ∙ ap (λ (x : Dispatcher). map (object_named x.handles) c.args.these.now) c.self.view_is) in
-    subst (λ (list : List ℕ). (h : ℕ) → Contains list h → h < length d.objects → is_gone (object_at d.objects h) ≡ false) (sym numbers) (all_living d c.args.these.now c.requires.fresh.steady.sound)
