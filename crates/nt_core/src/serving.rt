@@ -112,7 +112,7 @@ impl Machine {
     /// Visits the waits on this object, the first of which is this thread's, in the order in which they began, until its object is
     /// signaled for none that is left. The caller knows that a wait that fits needs this object.
     #[inline(never)]
-    fn serve_first(&mut self, object: ObjectNumber, first: ThreadId)
+    fn serve_one_slow(&mut self, object: ObjectNumber, first: ThreadId)
         requires sound { IsMachineSound self.old }
         requires first { slice_get ((state self.old).queues object) 0 ≡ Some first }
         requires needed { FitOnlyBy object (state self.old) }
@@ -146,7 +146,7 @@ impl Machine {
             × (self.new.table.looked ≤ length (sequence (state self.old) (object ∷ []))) }
     {
         if let Some(first) = self.waits.first_on(object) {
-            self.serve_first(object, first);
+            self.serve_one_slow(object, first);
         }
     }
 }

@@ -121,14 +121,14 @@ impl Bells {
     pub(crate) fn ring(&self, threads: ToWake) {
         let ToWake { marks } = threads;
         match marks {
-            Some(marks) => self.ring_all(marks),
+            Some(marks) => self.ring_slow(marks),
             None => {}
         }
     }
 
     /// Wakes the threads that have a mark.
     #[inline(never)]
-    fn ring_all(&self, mut marks: FewMarks) {
+    fn ring_slow(&self, mut marks: FewMarks) {
         while let Some(thread) = marks.take_first() {
             if let Some(bell) = self.all.get(thread) {
                 bell.rung.notify_one();

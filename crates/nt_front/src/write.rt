@@ -123,13 +123,13 @@ pub(crate) fn send(
         ≡ record dispatcher.old { written = dispatcher.old.written ++ map granted grants.now } }
 {
     if !grants.is_empty() {
-        send_all(mail, dispatcher, journal, next, grants);
+        send_slow(mail, dispatcher, journal, next, grants);
     }
 }
 
 /// Writes the grants one by one.
 #[inline(never)]
-fn send_all(
+fn send_slow(
     mail: &Mail,
     dispatcher: &mut DispatcherSeat,
     journal: &mut Vec<PackedEntry>,

@@ -74,7 +74,7 @@ impl ObjectNumbers {
             return Ok(());
         }
         if self.items.len() != objects.len() {
-            return self.replace(objects);
+            return self.copy_from_slow(objects);
         }
         self.items.as_mut_slice().copy_from_slice(objects);
         self.one = None;
@@ -91,7 +91,7 @@ impl ObjectNumbers {
 
     /// A new list of these objects in the place of its own. It stands apart, since mostly there are as many as before.
     #[inline(never)]
-    fn replace(&mut self, objects: &[ObjectNumber]) -> Result<(), AllocError>
+    fn copy_from_slow(&mut self, objects: &[ObjectNumber]) -> Result<(), AllocError>
         ensures ok { OnOk result (self.new ≡ objects.now) }
         ensures err { OnErr result (self.new ≡ self.old) }
     {

@@ -67,12 +67,12 @@ fn make_numbers(numbers: &mut SmallVec<BlockNumber, 4>, count: usize) -> Result<
     if numbers.len() == count {
         return Ok(());
     }
-    remake_numbers(numbers, count)
+    make_numbers_slow(numbers, count)
 }
 
 /// Makes the list anew, so long. It stands apart, since a wait mostly names as many objects as its thread's last one.
 #[inline(never)]
-fn remake_numbers(numbers: &mut SmallVec<BlockNumber, 4>, count: usize) -> Result<(), AllocError>
+fn make_numbers_slow(numbers: &mut SmallVec<BlockNumber, 4>, count: usize) -> Result<(), AllocError>
     ensures { OnOk result (length numbers.new.items ≡ count) }
 {
     *numbers = SmallVec::from_elem(*numbers.allocator(), BlockNumber::default(), count)?;

@@ -6,22 +6,22 @@ use Rattle.nt_core.proofs.Stopping.{one_served, one_most, one_least, one_countab
 use Rattle.nt_core.proofs.Walks.{at_first, at_end}
 use Rattle.nt_core.proofs.machine.Machine.serve_one.Goals as goal
 
-pub serve_first-requires-clause-first : goal.serve_first-requires-clause-first
-serve_first-requires-clause-first c =
+pub serve_one_slow-requires-clause-first : goal.serve_one_slow-requires-clause-first
+serve_one_slow-requires-clause-first c =
     sym (ap (λ (d : Dispatcher). slice_get ((state d).queues c.args.object) 0) c.self.view_is) ∙ (sym c.first_on.ensures.first ∙ c.in-Some.is)
 
-pub serve_first-requires-clause-countable : goal.serve_first-requires-clause-countable
-serve_first-requires-clause-countable c = one_countable c.args.self.now c.args.object c.requires.untold.1 (one_few c.args.self.now c.args.object c.requires.sound)
+pub serve_one_slow-requires-clause-countable : goal.serve_one_slow-requires-clause-countable
+serve_one_slow-requires-clause-countable c = one_countable c.args.self.now c.args.object c.requires.untold.1 (one_few c.args.self.now c.args.object c.requires.sound)
 
 pub returns-in-Some-clause-served : goal.returns-in-Some-clause-served
-returns-in-Some-clause-served c = one_served c.args.self.now c.serve_first.new.self c.args.object c.requires.untold.0 c.requires.local c.serve_first.ensures.visits
+returns-in-Some-clause-served c = one_served c.args.self.now c.serve_one_slow.new.self c.args.object c.requires.untold.0 c.requires.local c.serve_one_slow.ensures.visits
 
 pub returns-in-Some-clause-tested : goal.returns-in-Some-clause-tested
 returns-in-Some-clause-tested c =
     let old = c.args.self.now in
-    let new = c.serve_first.new.self in (
-      one_least old new c.args.object c.requires.untold.0 c.requires.untold.1 c.serve_first.ensures.visits,
-      one_most old new c.args.object c.requires.untold.1 c.serve_first.ensures.visits,
+    let new = c.serve_one_slow.new.self in (
+      one_least old new c.args.object c.requires.untold.0 c.requires.untold.1 c.serve_one_slow.ensures.visits,
+      one_most old new c.args.object c.requires.untold.1 c.serve_one_slow.ensures.visits,
     )
 
 pub returns-in_default-clause-served : goal.returns-in_default-clause-served

@@ -1,6 +1,6 @@
 use Rattle.std.proofs.Common.{◌<◌, Bool, List, sym, subst}
 use Rattle.nt_marks.proofs.Counting.{marks_left, marks_less}
-use Rattle.nt_front.proofs.wake.Bells.ring_all.Goals as goal
+use Rattle.nt_front.proofs.wake.Bells.ring_slow.Goals as goal
 
 pub loop-thread-smaller-in-Some-get : goal.loop-thread-smaller-in-Some-get
 loop-thread-smaller-in-Some-get c =

@@ -1,7 +1,7 @@
 use Rattle.std.proofs.Common.{◌≡◌, ◌+◌, ◌-◌, ◌++◌, length, take, drop, map}
 use Rattle.std.specs.Prelude.{vec_len, vec_capacity}
 use Rattle.nt_front.specs.Runs.{granted, AreArmed}
-use Rattle.nt_front.proofs.write.send_all.Given as goal
+use Rattle.nt_front.proofs.write.send_slow.Given as goal
 
 abbrev pub invariant-loop-grant : goal.invariant-loop-grant
 invariant-loop-grant l = record {

@@ -4,8 +4,8 @@ use Rattle.nt_calls.specs.Serving.{is_ready}
 use Rattle.nt_objects.specs.declared.object.Object.{Object}
 use Rattle.nt_core.proofs.Stopping.{by_visited, by_none, at_stop}
 use Rattle.nt_core.proofs.Walks.{IsAt, at_first, at_next, at_end, at_member, at_countable, looked_visited}
-use Rattle.nt_core.proofs.machine.Machine.serve_first.Goals as goal
-use Rattle.nt_core.proofs.machine.Machine.serve_first.Goals.{In-Some}
+use Rattle.nt_core.proofs.machine.Machine.serve_one_slow.Goals as goal
+use Rattle.nt_core.proofs.machine.Machine.serve_one_slow.Goals.{In-Some}
 
 -- the walk comes to this thread
 here : (c : In-Some) → IsAt c.args.object c.args.self.now c.loop-next.self (Some c.in-Some.thread)

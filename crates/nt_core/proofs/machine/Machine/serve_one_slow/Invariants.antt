@@ -2,7 +2,7 @@ use Rattle.std.proofs.Common.{◌+◌, ◌-◌, length}
 use Rattle.nt_core.specs.Dispatcher.{state}
 use Rattle.nt_core.specs.Visits.{FitOnlyBy}
 use Rattle.nt_core.proofs.Walks.{IsAt}
-use Rattle.nt_core.proofs.machine.Machine.serve_first.Given as goal
+use Rattle.nt_core.proofs.machine.Machine.serve_one_slow.Given as goal
 
 abbrev pub invariant-loop-next : goal.invariant-loop-next
 invariant-loop-next l = IsAt l.object l.initial.self l.self l.next × FitOnlyBy l.object (state l.self)
