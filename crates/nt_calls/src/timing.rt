@@ -5,7 +5,7 @@ ghost use Rattle.nt_calls.specs.Change.{due_moment, routine_for};
 ghost use Rattle.nt_calls.specs.Serving.{late_status};
 
 use nt_objects::Routine;
-use nt_status::{INFINITE, Moment, Status, ThreadId};
+use nt_status::{INFINITE, Moment, Status, ThreadId, UNITS_PER_MS};
 
 /// The deadline of a wait that begins at this moment with a timeout in milliseconds.
 pub fn deadline_after(now: Moment, ms: u32) -> Option<u64>
@@ -14,7 +14,7 @@ pub fn deadline_after(now: Moment, ms: u32) -> Option<u64>
     if ms == INFINITE {
         None
     } else {
-        Some(now.get() + 10_000 * ms as u64)
+        Some(now.get() + UNITS_PER_MS * ms as u64)
     }
 }
 

@@ -8,6 +8,7 @@ use Rattle.std.proofs.lemmas.Bool.{le-leb, leb-true, ltb-true}
 use Rattle.std.proofs.lemmas.Fmt.{length-decimal-le}
 use Rattle.std.proofs.lemmas.Slice.Eq.{bytes_eq-Decides}
 use Rattle.nt_status.specs.declared.limits.TheConstants.{INFINITE}
+use Rattle.nt_lines.specs.declared.words.TheConstants.{MAX_DIGITS}
 use Rattle.nt_lines.specs.Words.{is_digit, are_digits, is_name, is_name_byte, digits_number, up_to}
 use Rattle.nt_grammar.specs.Plain.{plain_word}
 use Rattle.nt_grammar.specs.Scope.{Scope, bound_in}
@@ -52,7 +53,7 @@ is_sound_after (Both first second) = is_sound_place first && is_sound_place seco
 
 number_in-decimal : (least most n : ℕ) → least ≤ n → n ≤ most → n < 2 ^ 64 → number_in least most (decimal n) ≡ Some n
 number_in-decimal least most n low high fits =
-    let read = number_of-decimal 20 n fits (length-decimal-le 20 n (omega arith) (omega arith) fits) in
+    let read = number_of-decimal MAX_DIGITS n fits (length-decimal-le MAX_DIGITS n (omega arith) (omega arith) fits) in
     let up : nat_le n most ≡ true = le-leb _ _ high in
     let down : nat_le least n ≡ true = le-leb _ _ low in
     ap (λ (o : Option ℕ). at_least least (up_to most o)) read ∙ (rw up (rw down refl))
@@ -66,7 +67,7 @@ at_least_is least n (Some m) e = by (nat_le least m) refl
     by false is = let none : None ≡ Some n = rw is at e in absurd (cc)
 
 in_numeral : (least most n : ℕ) (word : List ℕ) → number_in least most word ≡ Some n → Numeral n word
-in_numeral least most n word e = numeral 20 n word (up_to_is most n (digits_number 20 word) (at_least_is least n (up_to most (digits_number 20 word)) e)).0
+in_numeral least most n word e = numeral MAX_DIGITS n word (up_to_is most n (digits_number MAX_DIGITS word) (at_least_is least n (up_to most (digits_number MAX_DIGITS word)) e)).0
 
 plain_number : (least most n : ℕ) (word : List ℕ) → number_in least most word ≡ Some n → plain_word word ≡ decimal n
 plain_number least most n word e = plain_numeral n word (in_numeral least most n word e)

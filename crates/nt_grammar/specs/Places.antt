@@ -2,6 +2,7 @@
 use Rattle.std.specs.Prelude.{ℕ, ℤ, pos, neg_ℤ, ◌-◌, ◌^◌, ◌&&◌, ◌==◌, nat_lt, nat_le, is_some, not, option_map, drop, Bool, true, false, List, [], ◌∷◌, Option, Some, None, if◌then◌else◌}
 use Rattle.std.specs.Str.{bytes_eq}
 use Rattle.nt_status.specs.declared.limits.TheConstants.{INFINITE, MAX_MOMENT}
+use Rattle.nt_lines.specs.declared.words.TheConstants.{MAX_DIGITS}
 use Rattle.nt_lines.specs.Words.{is_digit, are_digits, digits_number, caller_of, is_name, up_to}
 use Rattle.nt_grammar.specs.Keywords.{AlertableWord, EndlessWord, PlainWord, other_text}
 use Rattle.nt_grammar.specs.Scope.{Scope, bound_in}
@@ -15,9 +16,9 @@ abbrev pub at_least : ℕ → Option ℕ → Option ℕ
 at_least least None = None
 at_least least (Some n) = if nat_le least n then Some n else None
 
--- a number in one to twenty digits, leading zeros allowed
+-- a number in one digit or more, and MAX_DIGITS of them at most, leading zeros allowed
 abbrev pub number_in : ℕ → ℕ → List ℕ → Option ℕ
-number_in least most word = at_least least (up_to most (digits_number 20 word))
+number_in least most word = at_least least (up_to most (digits_number MAX_DIGITS word))
 
 -- a lawful name that stands for nothing yet
 abbrev pub free_name_in : Scope → List ℕ → Option (List ℕ)

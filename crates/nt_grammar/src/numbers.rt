@@ -4,14 +4,14 @@ ghost use Rattle.std.specs.Prelude.{◌≡◌, ◌+◌, ◌≤◌, ◌++◌, vec
 ghost use Rattle.std.specs.Fmt.{signed_decimal};
 
 use itoa::Buffer;
-use nt_lines::put;
+use nt_lines::{MAX_DIGITS, put};
 
 /// Puts a number in decimal, where there is room for the most digits.
 #[tactic(auto, using(crate::proofs::Digits::length_most))]
 pub fn put_number(out: &mut Vec<u8>, number: u64)
-    requires { vec_len out.old + 20 ≤ vec_capacity out.old }
+    requires { vec_len out.old + MAX_DIGITS ≤ vec_capacity out.old }
     ensures items { out.new.items ≡ out.old.items ++ decimal number }
-    ensures len { vec_len out.new ≤ vec_len out.old + 20 }
+    ensures len { vec_len out.new ≤ vec_len out.old + MAX_DIGITS }
     ensures room { vec_capacity out.old ≤ vec_capacity out.new }
 {
     let mut buffer = Buffer::new();
@@ -31,9 +31,9 @@ pub fn put_signed(out: &mut Vec<u8>, count: i32)
 
 /// Puts a number of 64 bits, which may be negative, in decimal, where there is room for the most digits.
 pub fn put_signed64(out: &mut Vec<u8>, value: i64)
-    requires { vec_len out.old + 20 ≤ vec_capacity out.old }
+    requires { vec_len out.old + MAX_DIGITS ≤ vec_capacity out.old }
     ensures items { out.new.items ≡ out.old.items ++ signed_decimal value }
-    ensures len { vec_len out.new ≤ vec_len out.old + 20 }
+    ensures len { vec_len out.new ≤ vec_len out.old + MAX_DIGITS }
     ensures room { vec_capacity out.old ≤ vec_capacity out.new }
 {
     let mut buffer = Buffer::new();

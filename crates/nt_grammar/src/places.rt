@@ -9,7 +9,7 @@ use crate::fault::ScriptFault;
 use crate::keyword::{ALERTABLE, INF, PLAIN};
 use crate::scope::Bindings;
 use crate::words::Words;
-use nt_lines::{are_digits, caller_of, name_of, number_of};
+use nt_lines::{MAX_DIGITS, are_digits, caller_of, name_of, number_of};
 use nt_status::{Handle, INFINITE};
 
 impl<'a> Words<'a> {
@@ -111,7 +111,7 @@ fn number_in(word: &[u8], least: u64, most: u64) -> Option<u64>
     ensures exact { result ≡ number_in least most word.now }
     ensures range { IfSome result (λ n. (least ≤ n) × (n ≤ most)) }
 {
-    match number_of(word, 20) {
+    match number_of(word, MAX_DIGITS) {
         Some(n) if least <= n && n <= most => Some(n),
         _ => None,
     }

@@ -14,4 +14,6 @@ mod words;
 
 pub use input::{Ending, Input, MAX_LINE, ReadFault};
 pub use text::put;
-pub use words::{MAX_CALLER, are_digits, caller_of, first_word, name_of, number_of, text_of};
+pub use words::{
+    MAX_CALLER, MAX_DIGITS, are_digits, caller_of, first_word, name_of, number_of, text_of,
+};

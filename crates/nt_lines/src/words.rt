@@ -71,6 +71,9 @@ fn value_of(digits: &[u8]) -> Option<u64>
     Some(value)
 }
 
+/// The most digits of a number of 64 bits. One with a sign takes no more bytes.
+pub const MAX_DIGITS: usize = 20;
+
 /// A number of at most `most` digits.
 #[tactic(auto, unfolding(crate::specs::Words::digits_number))]
 pub fn number_of(word: &[u8], most: usize) -> Option<u64>

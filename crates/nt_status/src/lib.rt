@@ -37,7 +37,7 @@ pub use limits::{
     INFINITE, MAX_HANDLES, MAX_INLINE_HANDLES, MAX_MANY_THREADS, MAX_MOMENT, MAX_THREADS,
     MAX_WAIT_OBJECTS,
 };
-pub use moment::Moment;
+pub use moment::{Moment, UNITS_PER_MS};
 pub use mutex_flags::MutexFlags;
 pub use object_numbers::{ObjectNumber, ObjectNumbers};
 pub use optional_moment::OptionalMoment;

@@ -3,6 +3,9 @@ ghost use Rattle.std.specs.Prelude.{◌≡◌, ◌≤◌, ◌↔◌, ◌+◌, �
 use crate::limits::MAX_MOMENT;
 use std::marker::Model;
 
+/// The units of 100 ns of a millisecond.
+pub const UNITS_PER_MS: u64 = 10_000;
+
 /// A moment, in units of 100 ns since the dispatcher's moment 0. The greatest is `MAX_MOMENT`.
 #[derive(Clone, Copy, PartialEq, Eq, PartialOrd, Ord, Debug)]
 pub struct Moment(u64);
@@ -48,9 +51,9 @@ impl Moment {
     }
     /// The moment that is this many milliseconds later. None above `MAX_MOMENT`.
     pub fn after_ms(self, ms: u32) -> Option<Self>
-        ensures valid { IsSome result ↔ (self + 10000 * ms ≤ MAX_MOMENT) }
-        ensures value { IfSome result (λ m. m ≡ self + 10000 * ms) }
+        ensures valid { IsSome result ↔ (self + UNITS_PER_MS * ms ≤ MAX_MOMENT) }
+        ensures value { IfSome result (λ m. m ≡ self + UNITS_PER_MS * ms) }
     {
-        Moment::new(self.0 + 10_000 * u64::from(ms))
+        Moment::new(self.0 + UNITS_PER_MS * u64::from(ms))
     }
 }

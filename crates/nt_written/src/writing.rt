@@ -11,7 +11,7 @@ ghost use Rattle.nt_written.specs.declared.writing.Unwritten.TheVariants.{Memory
 use crate::written_calls::put_call;
 use nt_calls::{Act, Call, Reply, WaitCall};
 use nt_grammar::handle_of;
-use nt_lines::{MAX_LINE, put};
+use nt_lines::{MAX_DIGITS, MAX_LINE, put};
 use nt_status::{Refusal, ThreadId};
 use std::alloc::AllocError;
 
@@ -38,7 +38,7 @@ impl From<AllocError> for Unwritten {
 const FEW_BYTES: usize = 192;
 
 /// The most bytes of a number, with the space before it.
-const NUMBER_BYTES: usize = 21;
+const NUMBER_BYTES: usize = 1 + MAX_DIGITS;
 
 /// Writes a thread's call, which answered this, as a line after what `out` has; where it can't, `out` has what it had.
 ///
