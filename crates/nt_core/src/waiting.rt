@@ -20,8 +20,8 @@ ghost use Rattle.nt_core.specs.Accepts.{IsFresh, IsFreeToCall, HasBegun, reply_o
 
 use crate::machine::{Answer, Machine};
 use nt_calls::{
-    FEW_OBJECTS, NamedObjects, Reply, SYNCHRONIZE, WaitCall, WaitMode, late_status,
-    name_all, objects_refusal, opened, try_wait,
+    FEW_OBJECTS, NamedObjects, Reply, SYNCHRONIZE, WaitCall, WaitMode, late_status, name_all,
+    objects_refusal, opened, try_wait,
 };
 use nt_status::{Handle, Handles, MAX_WAIT_OBJECTS, ObjectNumber, Refusal, Status, ThreadId};
 
@@ -91,7 +91,7 @@ impl Machine {
         requires steady { IsSteady self.old }
         ensures begun { IfSome result (λ code.
             HasBegun (state self.old) (state self.new) thread
-                (WaitCall.Objects objects.now all mode) (Reply.Status code)) }
+            (WaitCall.Objects objects.now all mode) (Reply.Status code)) }
         ensures pends { IfNone result ((fits self.old.objects thread (wait_on objects.now all) ≡ false)
             × ((mode.alertable && has_apc self.old.apcs.queues thread) ≡ false) × (mode.ms ≢ 0)) }
         ensures steady { IsSteady self.new }
@@ -126,7 +126,7 @@ impl Machine {
         requires steady { IsSteady self.old }
         ensures begun { IfOk result (λ ended.
             HasBegun (state self.old) (state self.new) thread
-                (WaitCall.Objects objects.now all mode) (reply_of ended)) }
+            (WaitCall.Objects objects.now all mode) (reply_of ended)) }
         ensures steady { IsSteady self.new }
         ensures grants { self.new.grants ≡ self.old.grants }
         ensures looked { self.new.table.looked ≡ self.old.table.looked }
@@ -321,13 +321,7 @@ impl Machine {
 
     /// `call` of this thread's wait for the objects that these handles name.
     #[inline(always)]
-    pub fn wait_objects(
-        &mut self,
-        who: u32,
-        these: &[Handle],
-        all: bool,
-        mode: WaitMode,
-    ) -> Answer
+    pub fn wait_objects(&mut self, who: u32, these: &[Handle], all: bool, mode: WaitMode) -> Answer
         requires steady { IsSteady self.old }
         requires living { LivesWhileKept (state self.old) }
         ensures called { Called (state self.old) who (Call.Wait (WaitCall.Objects these.now all mode))

@@ -7,4 +7,4 @@ use Rattle.nt_core.proofs.machine.Machine.wait_for_listed.Goals as goal
 pub returns-in-None : goal.returns-in-None
 returns-in-None c =
     rw c.replied.ensures (subst (λ (hs : List ℕ). IsWaitMade c.args.self.now c.wait_for_several.new.self c.args.thread (WaitCall.Objects hs c.args.all c.args.mode) (replied c.wait_for_several.result))
-    c.as_slice-slice.ensures c.wait_for_several.ensures)
+    c.as_slice.ensures c.wait_for_several.ensures)
