@@ -205,7 +205,7 @@ pub record IsNewDispatcher (spare : Option Spares) (threads : ℕ) (s : Sleeping
   pub grants : s.core.grants ≡ []
   pub looked : s.core.table.looked ≡ 0
   pub alarms : s.alarms ≡ replicate threads None
-  pub watchers : s.watchers ≡ replicate threads None
+  pub watchers : s.watchers ≡ replicate threads false
   pub called : s.called ≡ None
 
 -- a dispatcher for so many threads, of whom none sleeps, is opened where there is none; refused with 87 where there is one, and for no

@@ -42,7 +42,7 @@ back_set places place t u x here there = elim (cases_eq t place) [
 none_soon : (u : ℕ) → IsSoon None u
 none_soon u = inl refl
 
-back_woken : (gs : List Grant) (places : List (Option ℕ)) (t u : ℕ) → IsBack places t u → IsBack (without_woken gs places) t u
+back_woken : (gs : List Grant) (places : List (Option ℕ)) (t u : ℕ) → IsBack places t u → IsBack (without_woken None gs places) t u
 back_woken [] places t u back = back
 back_woken (g ∷ gs) places t u back = back_woken gs (slice_set places g.thread None) t u (back_set places g.thread t u None (λ same. none_soon u) (λ apart. back))
 
@@ -62,11 +62,11 @@ pending_of (Some w) u is = (w, refl, is)
 
 -- ---- after a call or tick
 
-pub deadlines_after : (old new : State) (who : ℕ) (began : Bool) (gs : List Grant) (own called : Option ℕ) (alarms alarms' : List (Option ℕ)) → StayedOrBegan old who began new → (began ≡ true → own ≡ time_out_of (get new.waits who)) → MeetsDeadlines old alarms → alarms' ≡ with_called called (set_if began who own (without_woken gs alarms)) → MeetsDeadlines new alarms'
+pub deadlines_after : (old new : State) (who : ℕ) (began : Bool) (gs : List Grant) (own called : Option ℕ) (alarms alarms' : List (Option ℕ)) → StayedOrBegan old who began new → (began ≡ true → own ≡ time_out_of (get new.waits who)) → MeetsDeadlines old alarms → alarms' ≡ with_called called (set_if began who own (without_woken None gs alarms)) → MeetsDeadlines new alarms'
 deadlines_after old new who began gs own called alarms alarms' stayed own-is meets alarms-are t u due =
     subst (λ (xs : List (Option ℕ)). IsBack xs t u) (sym alarms-are)
-    (back_called called (set_if began who own (without_woken gs alarms)) t u
-    (back_set_if began who own (without_woken gs alarms) t u
+    (back_called called (set_if began who own (without_woken None gs alarms)) t u
+    (back_set_if began who own (without_woken None gs alarms) t u
     (λ both. inr (u, own-is both.0 ∙ ap (λ (k : ℕ). time_out_of (get new.waits k)) (sym both.1) ∙ due, omega arith))
     (λ not. (let pending = pending_of (get new.waits t) u due in elim (stayed t pending.0 pending.1) [
       | inl both ↦ absurd (not (both.1, both.0))
@@ -131,7 +131,7 @@ stopped alarms t u none back = elim back [
   | inr some ↦ (let later = none t some.0 some.1 in let soon = some.2 in absurd (omega (arith, later, soon)))
 ]
 
-pub in_time : (s : State) (alarms watchers : List (Option ℕ)) → MeetsDeadlines s alarms → IsWatched s alarms watchers → IsInTime s alarms watchers
+pub in_time : (s : State) (alarms : List (Option ℕ)) (watchers : List Bool) → MeetsDeadlines s alarms → IsWatched s alarms watchers → IsInTime s alarms watchers
 in_time s alarms watchers meets watched u low awaited = elim (watched u low awaited) [
   | inl quiet ↦ elim (sleeps_or_none alarms u) [
     | inl some ↦ inl some
@@ -140,7 +140,7 @@ in_time s alarms watchers meets watched u low awaited = elim (watched u low awai
   | inr some ↦ inl some
 ]
 
-pub watched : (s : State) (alarms watchers : List (Option ℕ)) → IsInTime s alarms watchers → IsWatched s alarms watchers
+pub watched : (s : State) (alarms : List (Option ℕ)) (watchers : List Bool) → IsInTime s alarms watchers → IsWatched s alarms watchers
 watched s alarms watchers in_time u low awaited = elim (in_time u low awaited) [
   | inl some ↦ inr some
   | inr none ↦ inl none.0

@@ -6,7 +6,8 @@ use Rattle.nt_core.specs.Dispatcher.{Dispatcher, state}
 use Rattle.std.proofs.lemmas.List.{length-replicate}
 use Rattle.nt_status.specs.declared.limits.TheConstants.{MAX_MOMENT, MAX_MANY_THREADS}
 use Rattle.nt_status.specs.declared.refusal.Refusal.{Refusal}
-use Rattle.nt_alarms.specs.Alarms.{alarm_at, IsQuiet, IsEarliest, IsLowestAt}
+use Rattle.nt_alarms.specs.Alarms.{alarm_at, IsQuiet, IsEarliest}
+use Rattle.nt_marks.specs.Marks.{is_marked, NoneMarked, IsFirstMarked}
 use Rattle.nt_calls.specs.declared.call.Grant.{Grant}
 use Rattle.nt_calls.specs.declared.call.Reply.{Reply}
 use Rattle.std.specs.Ordering.{nat_cmp}
@@ -16,16 +17,19 @@ use Rattle.nt_calls.specs.declared.call.Call.{Call}
 use Rattle.nt_calls.specs.Steps.{IsNextMoment, NothingDue, Called, Ticked}
 use Rattle.nt_calls.specs.Moves.{Moves, pended, one_if, granted_to}
 use Rattle.nt_life.specs.Lasting.{IsUnchanged}
-use Rattle.nt_sleepers.specs.Sleepers.{Sleeping, Woke, Watches, TimeIsKept, CalledWaits, IsWatched, MeetsDeadlines, IsShortEnough, IsCalledToLook, SleepsUpTo, NoneUpTo, OnlyWaiting, without_woken, set_if, with_called, settled, time_out_of, SleepsTo}
+use Rattle.nt_sleepers.specs.Sleepers.{Sleeping, Woke, Watches, TimeIsKept, CalledWaits, IsWatched, MeetsDeadlines, IsShortEnough, IsCalledToLook, SleepsUpTo, NoneUpTo, OnlyWaitingSleep, OnlyWaitingWatch, without_woken, set_if, with_called, settled, time_out_of, SleepsTo}
 use Rattle.nt_sleepers.proofs.Staying.{StayedOrBegan}
 use Rattle.nt_sleepers.proofs.Deadlines.{deadlines_after, deadlines_watch, deadlines_stop, in_time, watched}
-use Rattle.nt_sleepers.proofs.Counts.{other_stands, woken_length, set_if_length, called_length, begun_waits, woken_waiting, set_waiting, set_if_waiting}
+use Rattle.nt_sleepers.proofs.Counts.{other_stands, other_marked, woken_length, set_if_length, called_length, begun_waits, woken_waiting, woken_watching, set_waiting, set_watching, set_if_waiting}
 
-inside : (alarms : List (Option ℕ)) (place m : ℕ) → alarm_at alarms place ≡ Some m → place < length alarms
-inside [] zero m is = absurd (cc)
-inside [] (suc place) m is = absurd (cc)
-inside (x ∷ alarms) zero m is = omega arith
-inside (x ∷ alarms) (suc place) m is = (let below = inside alarms place m is in omega (arith, below))
+inside : (watchers : List Bool) (place : ℕ) → is_marked watchers place ≡ true → place < length watchers
+inside [] zero is = absurd (cc)
+inside [] (suc place) is = absurd (cc)
+inside (x ∷ watchers) zero is = omega arith
+inside (x ∷ watchers) (suc place) is = (let below = inside watchers place is in omega (arith, below))
+
+pub marked_inside : (watchers : List Bool) (place : ℕ) → IsFirstMarked watchers place → place < length watchers
+marked_inside watchers place first = inside watchers place first.here
 
 -- ---- whether some sleeper sleeps short enough
 
@@ -40,18 +44,18 @@ some_up_to alarms u first earliest soon = (earliest.set.0, first, earliest.set.1
 
 -- ---- who is called
 
-pub in_time_quiet : (s : State) (alarms watchers : List (Option ℕ)) → IsQuiet watchers → IsWatched s alarms watchers
+pub in_time_quiet : (s : State) (alarms : List (Option ℕ)) (watchers : List Bool) → NoneMarked watchers → IsWatched s alarms watchers
 in_time_quiet s alarms watchers quiet u low awaited = inl quiet
 
-pub in_time_idle : (s : State) (alarms watchers : List (Option ℕ)) (up_to : ℕ) → up_to ≡ MAX_MOMENT → NothingDue s up_to → IsWatched s alarms watchers
+pub in_time_idle : (s : State) (alarms : List (Option ℕ)) (watchers : List Bool) (up_to : ℕ) → up_to ≡ MAX_MOMENT → NothingDue s up_to → IsWatched s alarms watchers
 in_time_idle s alarms watchers up_to is none u low awaited = (let late = none u awaited in absurd (omega (arith, is, low, late)))
 
-pub in_time_soon : (s : State) (alarms watchers : List (Option ℕ)) (up_to due : ℕ) → IsNextMoment s up_to due → SleepsUpTo alarms due → IsWatched s alarms watchers
+pub in_time_soon : (s : State) (alarms : List (Option ℕ)) (watchers : List Bool) (up_to due : ℕ) → IsNextMoment s up_to due → SleepsUpTo alarms due → IsWatched s alarms watchers
 in_time_soon s alarms watchers up_to due next (t, m, is, soon) u low awaited = (let least = next.2 u awaited in inr (t, m, is, omega (arith, soon, least)))
 
-pub in_time_called : (s : State) (alarms watchers : List (Option ℕ)) (place mark : ℕ) → length watchers ≡ length alarms → IsLowestAt watchers mark place → IsWatched s (slice_set alarms place (Some 0)) watchers
-in_time_called s alarms watchers place mark same lowest u low awaited =
-    let near = inside watchers place mark lowest.here in
+pub in_time_called : (s : State) (alarms : List (Option ℕ)) (watchers : List Bool) (place : ℕ) → length watchers ≡ length alarms → IsFirstMarked watchers place → IsWatched s (slice_set alarms place (Some 0)) watchers
+in_time_called s alarms watchers place same first u low awaited =
+    let near = inside watchers place first.here in
     inr (place, 0, get_or-set_same alarms place (Some 0) None (omega (arith, near, same)), omega arith)
 
 -- ---- a watcher's moment
@@ -73,60 +77,72 @@ none_at_first zero (suc place) = refl
 none_at_first (suc count) zero = refl
 none_at_first (suc count) (suc place) = none_at_first count place
 
-none_waits : (s : State) (count : ℕ) → OnlyWaiting s (replicate count None)
+none_waits : (s : State) (count : ℕ) → OnlyWaitingSleep s (replicate count None)
 none_waits s count t m is = (let none = none_at_first count t in absurd (cc (none, is)))
+
+unmarked_at_first : (count place : ℕ) → is_marked (replicate count false) place ≡ false
+unmarked_at_first zero zero = refl
+unmarked_at_first zero (suc place) = refl
+unmarked_at_first (suc count) zero = refl
+unmarked_at_first (suc count) (suc place) = unmarked_at_first count place
+
+none_marked : (count : ℕ) → NoneMarked (replicate count false)
+none_marked count place is = (let not = unmarked_at_first count place in absurd (cc (not, is)))
+
+none_watches : (s : State) (count : ℕ) → OnlyWaitingWatch s (replicate count false)
+none_watches s count t is = absurd (none_marked count t is)
 
 -- nobody sleeps at first
 back_at_first : (s : State) (count : ℕ) → MeetsDeadlines s (replicate count None)
 back_at_first s count t u due = inl (none_at_first count t)
 
-kept_at_first : (s : State) (count : ℕ) → count ≤ MAX_MANY_THREADS → s.threads ≡ count → TimeIsKept s (replicate count None) (replicate count None)
+kept_at_first : (s : State) (count : ℕ) → count ≤ MAX_MANY_THREADS → s.threads ≡ count → TimeIsKept s (replicate count None) (replicate count false)
 kept_at_first s count few all = record {
   few = (let as_many = length-replicate {A = Option ℕ} count None in omega (arith, few, as_many));
   places = length-replicate {A = Option ℕ} count None ∙ sym all;
-  count = refl;
+  count = length-replicate {A = Bool} count false ∙ sym (length-replicate {A = Option ℕ} count None);
   asleep = none_waits s count;
-  watching = none_waits s count;
+  watching = none_watches s count;
   deadlines = back_at_first s count;
-  in_time = in_time s (replicate count None) (replicate count None) (back_at_first s count) (in_time_quiet s (replicate count None) (replicate count None) (none_at_first count));
+  in_time = in_time s (replicate count None) (replicate count false) (back_at_first s count) (in_time_quiet s (replicate count None) (replicate count false) (none_marked count));
 }
 
-pub kept_first : (s : State) (count : ℕ) (alarms watchers : List (Option ℕ)) → count ≤ MAX_MANY_THREADS → s.threads ≡ count → alarms ≡ replicate count None → watchers ≡ replicate count None → TimeIsKept s alarms watchers
+pub kept_first : (s : State) (count : ℕ) (alarms : List (Option ℕ)) (watchers : List Bool) → count ≤ MAX_MANY_THREADS → s.threads ≡ count → alarms ≡ replicate count None → watchers ≡ replicate count false → TimeIsKept s alarms watchers
 kept_first s count alarms watchers few all alarms-are watchers-are =
     subst (λ (xs : List (Option ℕ)). TimeIsKept s xs watchers) (sym alarms-are)
-    (subst (λ (xs : List (Option ℕ)). TimeIsKept s (replicate count None) xs) (sym watchers-are) (kept_at_first s count few all))
+    (subst (λ (xs : List Bool). TimeIsKept s (replicate count None) xs) (sym watchers-are) (kept_at_first s count few all))
 
-called_waiting : (s : State) (settled alarms watchers : List (Option ℕ)) (called : Option ℕ) → OnlyWaiting s watchers → IsCalledToLook s settled watchers called → OnlyWaiting s alarms → OnlyWaiting s (with_called called alarms)
+called_waiting : (s : State) (settled alarms : List (Option ℕ)) (watchers : List Bool) (called : Option ℕ) → OnlyWaitingWatch s watchers → IsCalledToLook s settled watchers called → OnlyWaitingSleep s alarms → OnlyWaitingSleep s (with_called called alarms)
 called_waiting s settled alarms watchers None watching is before = before
-called_waiting s settled alarms watchers (Some t) watching is before = set_waiting s t (Some 0) alarms (watching t is.0 is.2) before
+called_waiting s settled alarms watchers (Some t) watching is before = set_waiting s t (Some 0) alarms (watching t is.1) before
 
 -- after a call or tick; the caller's alarm is this where its wait began
-pub kept_after : (old new : State) (who : ℕ) (began : Bool) (gs : List Grant) (own called : Option ℕ) (alarms watchers alarms' watchers' : List (Option ℕ)) → Moves old who began gs new → StayedOrBegan old who began new → (began ≡ true → own ≡ time_out_of (map.get new.waits who)) → TimeIsKept old alarms watchers → alarms' ≡ with_called called (set_if began who own (without_woken gs alarms)) → watchers' ≡ without_woken gs watchers → IsCalledToLook new (set_if began who own (without_woken gs alarms)) watchers' called → IsWatched new alarms' watchers' → TimeIsKept new alarms' watchers'
+pub kept_after : (old new : State) (who : ℕ) (began : Bool) (gs : List Grant) (own called : Option ℕ) (alarms : List (Option ℕ)) (watchers : List Bool) (alarms' : List (Option ℕ)) (watchers' : List Bool) → Moves old who began gs new → StayedOrBegan old who began new → (began ≡ true → own ≡ time_out_of (map.get new.waits who)) → TimeIsKept old alarms watchers → alarms' ≡ with_called called (set_if began who own (without_woken None gs alarms)) → watchers' ≡ without_woken false gs watchers → IsCalledToLook new (set_if began who own (without_woken None gs alarms)) watchers' called → IsWatched new alarms' watchers' → TimeIsKept new alarms' watchers'
 kept_after old new who began gs own called alarms watchers alarms' watchers' moves stayed own-is kept alarms-are watchers-are is watched =
-    let settled = set_if began who own (without_woken gs alarms) in
-    let watching : OnlyWaiting new watchers' = subst (OnlyWaiting new) (sym watchers-are) (woken_waiting old new who began gs watchers moves kept.watching) in
-    let waits : OnlyWaiting new settled = set_if_waiting new began who own (without_woken gs alarms) (λ b. begun_waits old new who gs (subst (λ (x : Bool). Moves old who x gs new) b moves)) (woken_waiting old new who began gs alarms moves kept.asleep) in
-    let few = ap length alarms-are ∙ called_length called settled ∙ set_if_length began who own (without_woken gs alarms) ∙ woken_length gs alarms in
+    let settled = set_if began who own (without_woken None gs alarms) in
+    let watching : OnlyWaitingWatch new watchers' = subst (OnlyWaitingWatch new) (sym watchers-are) (woken_watching old new who began gs watchers moves kept.watching) in
+    let waits : OnlyWaitingSleep new settled = set_if_waiting new began who own (without_woken None gs alarms) (λ b. begun_waits old new who gs (subst (λ (x : Bool). Moves old who x gs new) b moves)) (woken_waiting old new who began gs alarms moves kept.asleep) in
+    let few = ap length alarms-are ∙ called_length called settled ∙ set_if_length began who own (without_woken None gs alarms) ∙ woken_length None gs alarms in
     let enough = kept.few in
     let back = deadlines_after old new who began gs own called alarms alarms' stayed own-is kept.deadlines alarms-are in
     record {
       few = omega (arith, few, enough);
       places = few ∙ kept.places ∙ sym moves.threads;
-      count = ap length watchers-are ∙ woken_length gs watchers ∙ kept.count ∙ sym few;
-      asleep = subst (OnlyWaiting new) (sym alarms-are) (called_waiting new settled settled watchers' called watching is waits);
+      count = ap length watchers-are ∙ woken_length false gs watchers ∙ kept.count ∙ sym few;
+      asleep = subst (OnlyWaitingSleep new) (sym alarms-are) (called_waiting new settled settled watchers' called watching is waits);
       watching = watching;
       deadlines = back;
       in_time = in_time new alarms' watchers' back watched;
     }
 
 -- a watcher more
-pub kept_watch : (s : State) (alarms watchers alarms' watchers' : List (Option ℕ)) (t : ℕ) (moment : Option ℕ) → pends s t ≡ true → t < length alarms → TimeIsKept s alarms watchers → SleepsTo s (time_out_of (map.get s.waits t)) moment → alarms' ≡ slice_set alarms t moment → watchers' ≡ slice_set watchers t (Some 0) → IsShortEnough s (slice_set alarms t None) moment → TimeIsKept s alarms' watchers'
+pub kept_watch : (s : State) (alarms : List (Option ℕ)) (watchers : List Bool) (alarms' : List (Option ℕ)) (watchers' : List Bool) (t : ℕ) (moment : Option ℕ) → pends s t ≡ true → t < length alarms → TimeIsKept s alarms watchers → SleepsTo s (time_out_of (map.get s.waits t)) moment → alarms' ≡ slice_set alarms t moment → watchers' ≡ slice_set watchers t true → IsShortEnough s (slice_set alarms t None) moment → TimeIsKept s alarms' watchers'
 kept_watch s alarms watchers alarms' watchers' t moment waits near kept sleeps alarms-are watchers-are short = record {
   few = (let as_many = ap length alarms-are ∙ length-set alarms t moment in let enough = kept.few in omega (arith, as_many, enough));
   places = ap length alarms-are ∙ length-set alarms t moment ∙ kept.places;
-  count = ap length watchers-are ∙ length-set watchers t (Some 0) ∙ kept.count ∙ sym (ap length alarms-are ∙ length-set alarms t moment);
-  asleep = subst (OnlyWaiting s) (sym alarms-are) (set_waiting s t moment alarms waits kept.asleep);
-  watching = subst (OnlyWaiting s) (sym watchers-are) (set_waiting s t (Some 0) watchers waits kept.watching);
+  count = ap length watchers-are ∙ length-set watchers t true ∙ kept.count ∙ sym (ap length alarms-are ∙ length-set alarms t moment);
+  asleep = subst (OnlyWaitingSleep s) (sym alarms-are) (set_waiting s t moment alarms waits kept.asleep);
+  watching = subst (OnlyWaitingWatch s) (sym watchers-are) (set_watching s t true watchers waits kept.watching);
   deadlines = deadlines_watch s alarms alarms' t moment sleeps kept.deadlines alarms-are;
   in_time = λ u low awaited. inl (subst (λ (xs : List (Option ℕ)). SleepsUpTo xs u) (sym alarms-are) (elim (short u low awaited) [
     | inl itself ↦ (t, itself.0, get_or-set_same alarms t moment None near ∙ itself.1, itself.2)
@@ -134,31 +150,30 @@ kept_watch s alarms watchers alarms' watchers' t moment waits near kept sleeps a
   ]));
 }
 
-still_waiting : (s : State) (places : List (Option ℕ)) (t : ℕ) → OnlyWaiting s places → OnlyWaiting s (slice_set places t None)
+still_waiting : (s : State) (places : List (Option ℕ)) (t : ℕ) → OnlyWaitingSleep s places → OnlyWaitingSleep s (slice_set places t None)
 still_waiting s places t before o m is = before o m (other_stands places t o m is).1
 
+still_watching : (s : State) (watchers : List Bool) (t : ℕ) → OnlyWaitingWatch s watchers → OnlyWaitingWatch s (slice_set watchers t false)
+still_watching s watchers t before o is = before o (other_marked watchers t o is).1
+
 -- a sleeper less
-pub kept_stop : (s : State) (alarms watchers alarms' watchers' : List (Option ℕ)) (t : ℕ) (called : Option ℕ) → TimeIsKept s alarms watchers → alarms' ≡ with_called called (slice_set alarms t None) → watchers' ≡ slice_set watchers t None → IsCalledToLook s (slice_set alarms t None) watchers' called → IsWatched s alarms' watchers' → TimeIsKept s alarms' watchers'
+pub kept_stop : (s : State) (alarms : List (Option ℕ)) (watchers : List Bool) (alarms' : List (Option ℕ)) (watchers' : List Bool) (t : ℕ) (called : Option ℕ) → TimeIsKept s alarms watchers → alarms' ≡ with_called called (slice_set alarms t None) → watchers' ≡ slice_set watchers t false → IsCalledToLook s (slice_set alarms t None) watchers' called → IsWatched s alarms' watchers' → TimeIsKept s alarms' watchers'
 kept_stop s alarms watchers alarms' watchers' t called kept alarms-are watchers-are is watched =
-    let watching : OnlyWaiting s watchers' = subst (OnlyWaiting s) (sym watchers-are) (still_waiting s watchers t kept.watching) in
+    let watching : OnlyWaitingWatch s watchers' = subst (OnlyWaitingWatch s) (sym watchers-are) (still_watching s watchers t kept.watching) in
     let as_many = ap length alarms-are ∙ called_length called (slice_set alarms t None) ∙ length-set alarms t None in
     let enough = kept.few in
     let back = deadlines_stop s alarms alarms' t called kept.deadlines alarms-are in
     record {
       few = omega (arith, as_many, enough);
       places = as_many ∙ kept.places;
-      count = ap length watchers-are ∙ length-set watchers t None ∙ kept.count ∙ sym (ap length alarms-are ∙ called_length called (slice_set alarms t None) ∙ length-set alarms t None);
-      asleep = subst (OnlyWaiting s) (sym alarms-are) (called_waiting s (slice_set alarms t None) (slice_set alarms t None) watchers' called watching is (still_waiting s alarms t kept.asleep));
+      count = ap length watchers-are ∙ length-set watchers t false ∙ kept.count ∙ sym (ap length alarms-are ∙ called_length called (slice_set alarms t None) ∙ length-set alarms t None);
+      asleep = subst (OnlyWaitingSleep s) (sym alarms-are) (called_waiting s (slice_set alarms t None) (slice_set alarms t None) watchers' called watching is (still_waiting s alarms t kept.asleep));
       watching = watching;
       deadlines = back;
       in_time = in_time s alarms' watchers' back watched;
     }
 
 -- ---- nothing pended
-
-none_of : (o : Option ℕ) → ((m : ℕ) → o ≡ Some m → ⊥) → o ≡ None
-none_of None never = refl
-none_of (Some m) never = absurd (never m refl)
 
 no_grants : (gs : List Grant) → length gs ≤ 0 → gs ≡ []
 no_grants [] few = refl
@@ -169,12 +184,11 @@ none_pends : (s : State) (t : ℕ) → map.len s.waits ≡ 0 → pends s t ≡ f
 none_pends s t none = ap (λ (p : Pending). is_some (map.get p t)) (map.empty_of_len s.waits none) ∙ ap (λ (o : Option Wait). is_some o) (map.get-empty nat_cmp t)
 
 -- no wait pends, so nobody watches
-idle_quiet : (s : State) (watchers : List (Option ℕ)) → map.len s.waits ≡ 0 → OnlyWaiting s watchers → IsQuiet watchers
-idle_quiet s watchers none waiting t =
-    none_of (alarm_at watchers t) (λ m is.
-    let waits = waiting t m is in
+idle_quiet : (s : State) (watchers : List Bool) → map.len s.waits ≡ 0 → OnlyWaitingWatch s watchers → NoneMarked watchers
+idle_quiet s watchers none watching t is =
+    let waits = watching t is in
     let not = none_pends s t none in
-    absurd (cc (waits, not)))
+    absurd (cc (waits, not))
 
 -- no wait pends, so nobody is called
 idle_called : (s : State) (called : Option ℕ) → map.len s.waits ≡ 0 → CalledWaits s called → called ≡ None
@@ -183,56 +197,56 @@ idle_called s (Some t) none waits =
     let not = none_pends s t none in
     absurd (cc (waits, not))
 
-pub idle : (s : State) (gs : List Grant) (watchers : List (Option ℕ)) (called : Option ℕ) → map.len s.waits ≡ 0 → length gs ≤ map.len s.waits → OnlyWaiting s watchers → CalledWaits s called → (gs ≡ []) × IsQuiet watchers × (called ≡ None)
+pub idle : (s : State) (gs : List Grant) (watchers : List Bool) (called : Option ℕ) → map.len s.waits ≡ 0 → length gs ≤ map.len s.waits → OnlyWaitingWatch s watchers → CalledWaits s called → (gs ≡ []) × NoneMarked watchers × (called ≡ None)
 idle s gs watchers called none few waiting waits = (no_grants gs (omega (arith, none, few)), idle_quiet s watchers none waiting, idle_called s called none waits)
 
 -- who is called watches, and so waits
-pub called_waits : (s : State) (settled watchers : List (Option ℕ)) (called : Option ℕ) → OnlyWaiting s watchers → IsCalledToLook s settled watchers called → CalledWaits s called
+pub called_waits : (s : State) (settled : List (Option ℕ)) (watchers : List Bool) (called : Option ℕ) → OnlyWaitingWatch s watchers → IsCalledToLook s settled watchers called → CalledWaits s called
 called_waits s settled watchers None watching is = tt
-called_waits s settled watchers (Some t) watching is = watching t is.0 is.2
+called_waits s settled watchers (Some t) watching is = watching t is.1
 
 -- no wait ended, and none began
 pub idle_alarms : (alarms : List (Option ℕ)) (who : ℕ) (began : Bool) (d : Dispatcher) → began ≡ false → d.grants ≡ [] → alarms ≡ settled alarms who began d
 idle_alarms alarms who began d not none =
-    sym (ap (λ (b : Bool). set_if b who (time_out_of (map.get (state d).waits who)) (without_woken d.grants alarms)) not ∙ ap (λ gs. without_woken gs alarms) none)
+    sym (ap (λ (b : Bool). set_if b who (time_out_of (map.get (state d).waits who)) (without_woken None d.grants alarms)) not ∙ ap (λ gs. without_woken None gs alarms) none)
 
-pub idle_watchers : (watchers : List (Option ℕ)) (gs : List Grant) → gs ≡ [] → watchers ≡ without_woken gs watchers
-idle_watchers watchers gs none = sym (ap (λ xs. without_woken xs watchers) none)
+pub idle_watchers : (watchers : List Bool) (gs : List Grant) → gs ≡ [] → watchers ≡ without_woken false gs watchers
+idle_watchers watchers gs none = sym (ap (λ xs. without_woken false xs watchers) none)
 
 -- ---- a refused call calls nobody
 
-not_called : (s : State) (alarms watchers : List (Option ℕ)) (called : Option ℕ) → IsWatched s alarms watchers → IsCalledToLook s alarms watchers called → called ≡ None
+not_called : (s : State) (alarms : List (Option ℕ)) (watchers : List Bool) (called : Option ℕ) → IsWatched s alarms watchers → IsCalledToLook s alarms watchers called → called ≡ None
 not_called s alarms watchers None in_time is = refl
-not_called s alarms watchers (Some t) in_time (mark, u, here, low, awaited, none) =
+not_called s alarms watchers (Some t) in_time (u, here, low, awaited, none) =
     elim (in_time u low awaited) [
-      | inl quiet ↦ (let nothing = quiet t in absurd (cc (nothing, here)))
+      | inl quiet ↦ absurd (quiet t here)
       | inr (o, m, is, soon) ↦ (let later = none o m is in absurd (omega (arith, soon, later)))
     ]
 
 -- nothing has changed but that, and nobody is called
-nobody_called : (new : State) (who : ℕ) (began : Bool) (gs : List Grant) (own called : Option ℕ) (alarms watchers watchers' : List (Option ℕ)) → gs ≡ [] → began ≡ false → TimeIsKept new alarms watchers → watchers' ≡ without_woken gs watchers → IsCalledToLook new (set_if began who own (without_woken gs alarms)) watchers' called → called ≡ None
+nobody_called : (new : State) (who : ℕ) (began : Bool) (gs : List Grant) (own called : Option ℕ) (alarms : List (Option ℕ)) (watchers watchers' : List Bool) → gs ≡ [] → began ≡ false → TimeIsKept new alarms watchers → watchers' ≡ without_woken false gs watchers → IsCalledToLook new (set_if began who own (without_woken None gs alarms)) watchers' called → called ≡ None
 nobody_called new who began gs own called alarms watchers watchers' none not kept watchers-are is =
-    let alarms-are : set_if began who own (without_woken gs alarms) ≡ alarms = ap (λ (b : Bool). set_if b who own (without_woken gs alarms)) not ∙ ap (λ xs. without_woken xs alarms) none in
-    let as_before : watchers' ≡ watchers = watchers-are ∙ ap (λ xs. without_woken xs watchers) none in
+    let alarms-are : set_if began who own (without_woken None gs alarms) ≡ alarms = ap (λ (b : Bool). set_if b who own (without_woken None gs alarms)) not ∙ ap (λ xs. without_woken None xs alarms) none in
+    let as_before : watchers' ≡ watchers = watchers-are ∙ ap (λ xs. without_woken false xs watchers) none in
     not_called new alarms watchers called (watched new alarms watchers kept.in_time)
-    (subst (λ (xs : List (Option ℕ)). IsCalledToLook new alarms xs called) as_before
+    (subst (λ (xs : List Bool). IsCalledToLook new alarms xs called) as_before
     (subst (λ (xs : List (Option ℕ)). IsCalledToLook new xs watchers' called) alarms-are is))
 
-pub kept_same : (old new : State) (alarms watchers : List (Option ℕ)) → new ≡ old → TimeIsKept old alarms watchers → TimeIsKept new alarms watchers
+pub kept_same : (old new : State) (alarms : List (Option ℕ)) (watchers : List Bool) → new ≡ old → TimeIsKept old alarms watchers → TimeIsKept new alarms watchers
 kept_same old new alarms watchers same kept = subst (λ (s : State). TimeIsKept s alarms watchers) (sym same) kept
 
-pub nobody_by_call : (old new : State) (who : ℕ) (call : Call) (result : Result Reply Refusal) (began : Bool) (gs : List Grant) (own called : Option ℕ) (alarms watchers watchers' : List (Option ℕ)) → Called old who call result gs new → began ≡ pended result → TimeIsKept old alarms watchers → watchers' ≡ without_woken gs watchers → IsCalledToLook new (set_if began who own (without_woken gs alarms)) watchers' called → OnErr result (called ≡ None)
+pub nobody_by_call : (old new : State) (who : ℕ) (call : Call) (result : Result Reply Refusal) (began : Bool) (gs : List Grant) (own called : Option ℕ) (alarms : List (Option ℕ)) (watchers watchers' : List Bool) → Called old who call result gs new → began ≡ pended result → TimeIsKept old alarms watchers → watchers' ≡ without_woken false gs watchers → IsCalledToLook new (set_if began who own (without_woken None gs alarms)) watchers' called → OnErr result (called ≡ None)
 nobody_by_call old new who call (Ok reply) began gs own called alarms watchers watchers' made b kept watchers-are is = tt
 nobody_by_call old new who call (Err r) began gs own called alarms watchers watchers' made b kept watchers-are is =
     nobody_called new who began gs own called alarms watchers watchers' made.1 b (kept_same old new alarms watchers made.2 kept) watchers-are is
 
 -- the same where numbers may be given again
-pub nobody_by_renewal : (old new : State) (who : ℕ) (result : Result Reply Refusal) (began : Bool) (gs : List Grant) (own called : Option ℕ) (alarms watchers watchers' : List (Option ℕ)) → IsUnchanged old result gs new → began ≡ pended result → TimeIsKept old alarms watchers → watchers' ≡ without_woken gs watchers → IsCalledToLook new (set_if began who own (without_woken gs alarms)) watchers' called → OnErr result (called ≡ None)
+pub nobody_by_renewal : (old new : State) (who : ℕ) (result : Result Reply Refusal) (began : Bool) (gs : List Grant) (own called : Option ℕ) (alarms : List (Option ℕ)) (watchers watchers' : List Bool) → IsUnchanged old result gs new → began ≡ pended result → TimeIsKept old alarms watchers → watchers' ≡ without_woken false gs watchers → IsCalledToLook new (set_if began who own (without_woken None gs alarms)) watchers' called → OnErr result (called ≡ None)
 nobody_by_renewal old new who (Ok reply) began gs own called alarms watchers watchers' made b kept watchers-are is = tt
 nobody_by_renewal old new who (Err r) began gs own called alarms watchers watchers' made b kept watchers-are is =
     nobody_called new who began gs own called alarms watchers watchers' made.0 b (kept_same old new alarms watchers made.1 kept) watchers-are is
 
-pub nobody_by_tick : (old new : State) (m : ℕ) (result : Result Reply Refusal) (gs : List Grant) (own called : Option ℕ) (alarms watchers watchers' : List (Option ℕ)) → Ticked old m result gs new → TimeIsKept old alarms watchers → watchers' ≡ without_woken gs watchers → IsCalledToLook new (without_woken gs alarms) watchers' called → OnErr result (called ≡ None)
+pub nobody_by_tick : (old new : State) (m : ℕ) (result : Result Reply Refusal) (gs : List Grant) (own called : Option ℕ) (alarms : List (Option ℕ)) (watchers watchers' : List Bool) → Ticked old m result gs new → TimeIsKept old alarms watchers → watchers' ≡ without_woken false gs watchers → IsCalledToLook new (without_woken None gs alarms) watchers' called → OnErr result (called ≡ None)
 nobody_by_tick old new m (Ok reply) gs own called alarms watchers watchers' ticked kept watchers-are is = tt
 nobody_by_tick old new m (Err r) gs own called alarms watchers watchers' ticked kept watchers-are is =
     nobody_called new 0 false gs own called alarms watchers watchers' ticked.2 refl (kept_same old new alarms watchers ticked.3 kept) watchers-are is
@@ -284,7 +298,7 @@ idle_back s alarms none t u due =
     absurd (cc (not, due))
 
 -- no wait pends, and none has ended: so none pended
-pub still : (old new : State) (who : ℕ) (began : Bool) (gs : List Grant) (called : Option ℕ) (alarms watchers : List (Option ℕ)) → Moves old who began gs new → gs ≡ [] → map.len new.waits ≡ 0 → TimeIsKept old alarms watchers → CalledWaits old called → (began ≡ false) × (called ≡ None) × TimeIsKept new alarms watchers
+pub still : (old new : State) (who : ℕ) (began : Bool) (gs : List Grant) (called : Option ℕ) (alarms : List (Option ℕ)) (watchers : List Bool) → Moves old who began gs new → gs ≡ [] → map.len new.waits ≡ 0 → TimeIsKept old alarms watchers → CalledWaits old called → (began ≡ false) × (called ≡ None) × TimeIsKept new alarms watchers
 still old new who began gs called alarms watchers moves none left kept waits = (
   none_began old new who began gs moves left,
   nobody_before old new who began gs called moves none left waits,
@@ -293,9 +307,9 @@ still old new who began gs called alarms watchers moves none left kept waits = (
     places = kept.places ∙ sym moves.threads;
     count = kept.count;
     asleep = λ t m is. (let was = kept.asleep t m is in let not = none_before old new who began gs t moves none left in absurd (cc (was, not)));
-    watching = λ t m is. (let was = kept.watching t m is in let not = none_before old new who began gs t moves none left in absurd (cc (was, not)));
+    watching = λ t is. (let was = kept.watching t is in let not = none_before old new who began gs t moves none left in absurd (cc (was, not)));
     deadlines = idle_back new alarms left;
-    in_time = in_time new alarms watchers (idle_back new alarms left) (in_time_quiet new alarms watchers (λ t. none_of (alarm_at watchers t) (λ m is. (let was = kept.watching t m is in let not = none_before old new who began gs t moves none left in absurd (cc (was, not))))));
+    in_time = in_time new alarms watchers (idle_back new alarms left) (in_time_quiet new alarms watchers (λ t is. (let was = kept.watching t is in let not = none_before old new who began gs t moves none left in absurd (cc (was, not)))));
   },
 )
 

@@ -29,7 +29,7 @@ use Rattle.nt_sleepers.proofs.Staying.{StayedOrBegan, call_stayed, same_stayed}
 
 -- ---- the same waits, and no object with a moment that had none
 
-keeps_time : (old new : State) (alarms watchers : List (Option ℕ)) → new.waits ≡ old.waits → new.threads ≡ old.threads → ((u : ℕ) → IsAwaited new u → IsAwaited old u) → TimeIsKept old alarms watchers → TimeIsKept new alarms watchers
+keeps_time : (old new : State) (alarms : List (Option ℕ)) (watchers : List Bool) → new.waits ≡ old.waits → new.threads ≡ old.threads → ((u : ℕ) → IsAwaited new u → IsAwaited old u) → TimeIsKept old alarms watchers → TimeIsKept new alarms watchers
 keeps_time old new alarms watchers waits threads fewer kept =
     let due : (t : ℕ) → time_out_of (map.get old.waits t) ≡ time_out_of (map.get new.waits t) = λ t. ap (λ (p : Pending). time_out_of (map.get p t)) (sym waits) in
     record {
@@ -37,7 +37,7 @@ keeps_time old new alarms watchers waits threads fewer kept =
       places = kept.places ∙ sym threads;
       count = kept.count;
       asleep = λ t m is. ap (λ (p : Pending). is_some (map.get p t)) waits ∙ kept.asleep t m is;
-      watching = λ t m is. ap (λ (p : Pending). is_some (map.get p t)) waits ∙ kept.watching t m is;
+      watching = λ t is. ap (λ (p : Pending). is_some (map.get p t)) waits ∙ kept.watching t is;
       deadlines = λ t u is. kept.deadlines t u (due t ∙ is);
       in_time = λ u low awaited. elim (kept.in_time u low (fewer u awaited)) [
         | inl soon ↦ inl soon
@@ -50,7 +50,7 @@ more_awaits : (s : State) (u : ℕ) → IsAwaited (record s { objects = s.object
 more_awaits s u (inl due) = inl (due.0, sym (reading_created due_of s.objects Gone refl due.0) ∙ due.1)
 more_awaits s u (inr late) = inr late
 
-kept_added : (old new : State) (o : ℕ) (alarms watchers : List (Option ℕ)) → AddsVacant old (Ok o) [] new → TimeIsKept old alarms watchers → TimeIsKept new alarms watchers
+kept_added : (old new : State) (o : ℕ) (alarms : List (Option ℕ)) (watchers : List Bool) → AddsVacant old (Ok o) [] new → TimeIsKept old alarms watchers → TimeIsKept new alarms watchers
 kept_added old new o alarms watchers adds kept =
     subst (λ (s : State). TimeIsKept s alarms watchers) (sym adds.3)
     (keeps_time old (record old { objects = old.objects ++ Gone ∷ [] }) alarms watchers refl refl (more_awaits old) kept)
@@ -73,7 +73,7 @@ left_gone s t h none = go (nat_lt t s.threads) (is_gone (object_at s.objects t))
     go true false c d e = absurd (cc)
     go false false c d e = absurd (cc)
 
-pub kept_begun : (old new : State) (spare : Option Spares) (begun : Option Begun) (gs : List Grant) (alarms watchers : List (Option ℕ)) → MayBegin old spare begun gs new → TimeIsKept old alarms watchers → TimeIsKept new alarms watchers
+pub kept_begun : (old new : State) (spare : Option Spares) (begun : Option Begun) (gs : List Grant) (alarms : List (Option ℕ)) (watchers : List Bool) → MayBegin old spare begun gs new → TimeIsKept old alarms watchers → TimeIsKept new alarms watchers
 kept_begun old new None begun gs alarms watchers is kept = subst (λ (s : State). TimeIsKept s alarms watchers) (sym is.1) kept
 kept_begun old new (Some spare) None gs alarms watchers is kept = subst (λ (s : State). TimeIsKept s alarms watchers) (sym is.1) kept
 kept_begun old new (Some spare) (Some begun) gs alarms watchers is kept =
@@ -86,20 +86,20 @@ aside_awaits : (s : State) (t o u : ℕ) → MayMove s t o → IsAwaited (set_as
 aside_awaits s t o u may (inl due) = inl (due.0, sym (read_aside due_of s.objects t o may.ended may.vacant refl due.0) ∙ due.1)
 aside_awaits s t o u may (inr late) = inr late
 
-kept_moved : (old new : State) (t o : ℕ) (result : Result ℕ Refusal) (gs : List Grant) (alarms watchers : List (Option ℕ)) → MovesAside old t o result gs new → TimeIsKept old alarms watchers → TimeIsKept new alarms watchers
+kept_moved : (old new : State) (t o : ℕ) (result : Result ℕ Refusal) (gs : List Grant) (alarms : List (Option ℕ)) (watchers : List Bool) → MovesAside old t o result gs new → TimeIsKept old alarms watchers → TimeIsKept new alarms watchers
 kept_moved old new t o result gs alarms watchers is kept =
     subst (λ (s : State). TimeIsKept s alarms watchers) (sym is.1.2)
     (keeps_time old (set_aside old t o) alarms watchers refl refl (λ u. aside_awaits old t o u (may_move old t o (sym is.1.0))) kept)
 
-kept_beside : (added : Result ℕ Refusal) (old mid new : State) (t : ℕ) (result : Result ℕ Refusal) (gs : List Grant) (alarms watchers : List (Option ℕ)) → AddsVacant old added [] mid → AsideBeside added old mid t result gs new → TimeIsKept old alarms watchers → TimeIsKept new alarms watchers
+kept_beside : (added : Result ℕ Refusal) (old mid new : State) (t : ℕ) (result : Result ℕ Refusal) (gs : List Grant) (alarms : List (Option ℕ)) (watchers : List Bool) → AddsVacant old added [] mid → AsideBeside added old mid t result gs new → TimeIsKept old alarms watchers → TimeIsKept new alarms watchers
 kept_beside (Ok o) old mid new t result gs alarms watchers adds is kept = kept_moved mid new t o result gs alarms watchers is (kept_added old mid o alarms watchers adds kept)
 kept_beside (Err cause) old mid new t result gs alarms watchers adds is kept = subst (λ (s : State). TimeIsKept s alarms watchers) (sym is.1) kept
 
-kept_found : (old new : State) (t : ℕ) (result : Result ℕ Refusal) (gs : List Grant) (alarms watchers : List (Option ℕ)) → FindsNumber old t result gs new → TimeIsKept old alarms watchers → TimeIsKept new alarms watchers
+kept_found : (old new : State) (t : ℕ) (result : Result ℕ Refusal) (gs : List Grant) (alarms : List (Option ℕ)) (watchers : List Bool) → FindsNumber old t result gs new → TimeIsKept old alarms watchers → TimeIsKept new alarms watchers
 kept_found old new t result gs alarms watchers (inl spare) kept = kept_moved old new t spare.0 result gs alarms watchers spare.2 kept
 kept_found old new t result gs alarms watchers (inr more) kept = kept_beside more.1.0 old more.1.1 new t result gs alarms watchers more.1.2 more.1.3 kept
 
-pub kept_aside : (old new : State) (spare : Option Spares) (t : ℕ) (result : Result ℕ Refusal) (gs : List Grant) (alarms watchers : List (Option ℕ)) → MaySetAside old spare t result gs new → TimeIsKept old alarms watchers → TimeIsKept new alarms watchers
+pub kept_aside : (old new : State) (spare : Option Spares) (t : ℕ) (result : Result ℕ Refusal) (gs : List Grant) (alarms : List (Option ℕ)) (watchers : List Bool) → MaySetAside old spare t result gs new → TimeIsKept old alarms watchers → TimeIsKept new alarms watchers
 kept_aside old new None t result gs alarms watchers is kept = subst (λ (s : State). TimeIsKept s alarms watchers) (sym is.1) kept
 kept_aside old new (Some spare) t result gs alarms watchers is kept = go (is_movable old t) is
   where

@@ -1,14 +1,15 @@
 //! How the time is kept: whose alarms are cleared, who is called, and to which moment a thread sleeps.
-ghost use Rattle.std.specs.Prelude.{◌≡◌, ◌≤◌, Bool, true, false, [], Some, None, MatchBool, length, slice_set};
+ghost use Rattle.std.specs.Prelude.{◌≡◌, ◌≤◌, Bool, true, false, [], None, MatchBool, length, slice_set};
 ghost use Rattle.std.specs.FinMap as map;
 ghost use Rattle.nt_status.specs.declared.limits.TheConstants.{MAX_MANY_THREADS};
-ghost use Rattle.nt_alarms.specs.Alarms.{IsQuiet};
+ghost use Rattle.nt_marks.specs.Marks.{NoneMarked};
 ghost use Rattle.nt_calls.specs.State.{pends};
 ghost use Rattle.nt_core.specs.Dispatcher.{state};
 ghost use Rattle.nt_sleepers.specs.Sleepers.{IsCalledToLook, IsShortEnough, IsWatched, NoneUpTo, SleepsTo, SleepsUpTo, TimeIsKept, time_out_of, set_if, settled, with_called, without_woken};
 
 use nt_alarms::Alarms;
 use nt_core::{Core, Grant};
+use nt_marks::Marks;
 use nt_status::{MAX_MOMENT, Moment};
 
 /// Nothing stands at this place any more. If nothing did, one look tells.
@@ -33,13 +34,33 @@ fn put(places: &mut Alarms, place: usize, moment: Option<u64>)
     }
 }
 
-/// None of these threads sleeps, or watches, any more.
+/// This thread no longer watches. Past the last place nothing is done.
+#[tactic(auto, using(std::proofs::lemmas::List::set_past))]
+fn unmark(watchers: &mut Marks, place: usize)
+    ensures { watchers.new ≡ slice_set watchers.old place false }
+{
+    if place < watchers.places() {
+        watchers.clear(place);
+    }
+}
+
+/// None of these threads sleeps any more.
 #[tactic(auto, using(crate::proofs::Waking::woken_first, crate::proofs::Waking::woken_next, crate::proofs::Waking::woken_all))]
-fn clear_all(places: &mut Alarms, grants: &[Grant])
-    ensures { places.new ≡ without_woken grants.now places.old }
+fn clear_all(alarms: &mut Alarms, grants: &[Grant])
+    ensures { alarms.new ≡ without_woken None grants.now alarms.old }
 {
     for grant in grants {
-        clear(places, usize::from(grant.thread.get()));
+        clear(alarms, usize::from(grant.thread.get()));
+    }
+}
+
+/// None of these threads watches any more.
+#[tactic(auto, using(crate::proofs::Waking::woken_first, crate::proofs::Waking::woken_next, crate::proofs::Waking::woken_all))]
+fn unmark_all(watchers: &mut Marks, grants: &[Grant])
+    ensures { watchers.new ≡ without_woken false grants.now watchers.old }
+{
+    for grant in grants {
+        unmark(watchers, usize::from(grant.thread.get()));
     }
 }
 
@@ -71,39 +92,38 @@ fn sleeps_up_to(alarms: &Alarms, u: u64) -> bool
 }
 
 /// Calls a watcher if nobody sleeps short enough, and returns which.
-#[tactic(auto, using(crate::proofs::Kept::in_time_quiet))]
-fn call_one(core: &Core, alarms: &mut Alarms, watchers: &Alarms) -> Option<u32>
+#[tactic(auto, using(crate::proofs::Kept::in_time_quiet, crate::proofs::Kept::marked_inside))]
+fn call_one(core: &Core, alarms: &mut Alarms, watchers: &Marks) -> Option<u32>
     requires count { length watchers.now ≡ length alarms.old }
     requires few { length alarms.old ≤ MAX_MANY_THREADS }
     ensures in_time { IsWatched (state core.now) alarms.new watchers.now }
     ensures alarms { alarms.new ≡ with_called result alarms.old }
     ensures called { IsCalledToLook (state core.now) alarms.old watchers.now result }
 {
-    let mark = watchers.earliest()?;
+    let watcher = watchers.first()?;
     let due = core.due(Moment::new(MAX_MOMENT)?)?;
     if sleeps_up_to(alarms, due.get()) {
         return None;
     }
-    let watcher = watchers.first_at(mark)?;
     alarms.set(watcher, 0);
     Some(watcher as u32)
 }
 
 /// Whether nothing becomes of alarms and watchers: no wait began, none has ended, and nobody watches.
 #[inline(always)]
-fn is_quiet(core: &Core, watchers: &Alarms, began: bool) -> bool
+fn is_quiet(core: &Core, watchers: &Marks, began: bool) -> bool
     ensures began { result ≡ true → began ≡ false }
     ensures ended { result ≡ true → core.now.grants ≡ [] }
-    ensures watched { result ≡ true → IsQuiet watchers.now }
+    ensures watched { result ≡ true → NoneMarked watchers.now }
 {
-    !began && core.grants().is_empty() && watchers.earliest().is_none()
+    !began && core.grants().is_empty() && watchers.is_empty()
 }
 
 /// As `settle_all`, step by step.
 fn settle_each(
     core: &Core,
     alarms: &mut Alarms,
-    watchers: &mut Alarms,
+    watchers: &mut Marks,
     who: u32,
     began: bool,
 ) -> Option<u32>
@@ -111,11 +131,11 @@ fn settle_each(
     requires few { length alarms.old ≤ MAX_MANY_THREADS }
     ensures in_time { IsWatched (state core.now) alarms.new watchers.new }
     ensures alarms { alarms.new ≡ with_called result (settled alarms.old who began core.now) }
-    ensures watchers { watchers.new ≡ without_woken core.now.grants watchers.old }
+    ensures watchers { watchers.new ≡ without_woken false core.now.grants watchers.old }
     ensures called { IsCalledToLook (state core.now) (settled alarms.old who began core.now) watchers.new result }
 {
     clear_all(alarms, core.grants());
-    clear_all(watchers, core.grants());
+    unmark_all(watchers, core.grants());
     begin(core, alarms, who, began);
     call_one(core, alarms, watchers)
 }
@@ -125,7 +145,7 @@ fn settle_each(
 pub(crate) fn settle_all(
     core: &Core,
     alarms: &mut Alarms,
-    watchers: &mut Alarms,
+    watchers: &mut Marks,
     who: u32,
     began: bool,
 ) -> Option<u32>
@@ -133,7 +153,7 @@ pub(crate) fn settle_all(
     requires few { length alarms.old ≤ MAX_MANY_THREADS }
     ensures in_time { IsWatched (state core.now) alarms.new watchers.new }
     ensures alarms { alarms.new ≡ with_called result (settled alarms.old who began core.now) }
-    ensures watchers { watchers.new ≡ without_woken core.now.grants watchers.old }
+    ensures watchers { watchers.new ≡ without_woken false core.now.grants watchers.old }
     ensures called { IsCalledToLook (state core.now) (settled alarms.old who began core.now) watchers.new result }
 {
     if is_quiet(core, watchers, began) {
@@ -147,7 +167,7 @@ pub(crate) fn settle_all(
 pub(crate) fn settle(
     core: &Core,
     alarms: &mut Alarms,
-    watchers: &mut Alarms,
+    watchers: &mut Marks,
     called: &mut Option<u32>,
     who: u32,
     began: bool,
@@ -155,10 +175,10 @@ pub(crate) fn settle(
 )
     requires count { length watchers.old ≡ length alarms.old }
     requires few { length alarms.old ≤ MAX_MANY_THREADS }
-    requires idle { was_idle ≡ true → (core.now.grants ≡ []) × IsQuiet watchers.old × (called.old ≡ None) }
+    requires idle { was_idle ≡ true → (core.now.grants ≡ []) × NoneMarked watchers.old × (called.old ≡ None) }
     ensures in_time { IsWatched (state core.now) alarms.new watchers.new }
     ensures alarms { alarms.new ≡ with_called called.new (settled alarms.old who began core.now) }
-    ensures watchers { watchers.new ≡ without_woken core.now.grants watchers.old }
+    ensures watchers { watchers.new ≡ without_woken false core.now.grants watchers.old }
     ensures called { IsCalledToLook (state core.now) (settled alarms.old who began core.now) watchers.new called.new }
 {
     if was_idle {
@@ -188,17 +208,12 @@ fn moment_beside(core: &Core, others: &Alarms, own: Option<u64>) -> Option<u64>
 }
 
 /// The thread watches from now on, if its wait pends. Returns to which moment it sleeps.
-pub(crate) fn watch(
-    core: &Core,
-    alarms: &mut Alarms,
-    watchers: &mut Alarms,
-    who: u32,
-) -> Option<u64>
+pub(crate) fn watch(core: &Core, alarms: &mut Alarms, watchers: &mut Marks, who: u32) -> Option<u64>
     requires kept { TimeIsKept (state core.now) alarms.old watchers.old }
     ensures kept { TimeIsKept (state core.now) alarms.new watchers.new }
     ensures sleeps { SleepsTo (state core.now) (time_out_of (map.get (state core.now).waits who)) result }
     ensures alarms { alarms.new ≡ set_if (pends (state core.now) who) who result alarms.old }
-    ensures watchers { watchers.new ≡ set_if (pends (state core.now) who) who (Some 0) watchers.old }
+    ensures watchers { watchers.new ≡ set_if (pends (state core.now) who) who true watchers.old }
 {
     let own = core.waits_for(who)?.deadline;
     let place = who as usize;
@@ -208,20 +223,20 @@ pub(crate) fn watch(
     clear(alarms, place);
     let moment = moment_beside(core, alarms, own);
     put(alarms, place, moment);
-    watchers.set(place, 0);
+    watchers.set(place);
     moment
 }
 
-/// The thread sleeps and watches no more. Returns who is called in its place.
+/// The thread no longer sleeps or watches. Returns who is called in its place.
 #[tactic(auto, using(crate::proofs::Kept::kept_stop))]
-pub(crate) fn stop(core: &Core, alarms: &mut Alarms, watchers: &mut Alarms, who: u32) -> Option<u32>
+pub(crate) fn stop(core: &Core, alarms: &mut Alarms, watchers: &mut Marks, who: u32) -> Option<u32>
     requires kept { TimeIsKept (state core.now) alarms.old watchers.old }
     ensures kept { TimeIsKept (state core.now) alarms.new watchers.new }
     ensures alarms { alarms.new ≡ with_called result (slice_set alarms.old who None) }
-    ensures watchers { watchers.new ≡ slice_set watchers.old who None }
+    ensures watchers { watchers.new ≡ slice_set watchers.old who false }
     ensures called { IsCalledToLook (state core.now) (slice_set alarms.old who None) watchers.new result }
 {
     clear(alarms, who as usize);
-    clear(watchers, who as usize);
+    unmark(watchers, who as usize);
     call_one(core, alarms, watchers)
 }

@@ -1,8 +1,8 @@
 //! How the time is kept by a dispatcher that may give numbers again: as `keeping` has it.
-ghost use Rattle.std.specs.Prelude.{◌≡◌, ◌≤◌, true, [], Some, None, length, slice_set};
+ghost use Rattle.std.specs.Prelude.{◌≡◌, ◌≤◌, true, false, [], None, length, slice_set};
 ghost use Rattle.std.specs.FinMap as map;
 ghost use Rattle.nt_status.specs.declared.limits.TheConstants.{MAX_MANY_THREADS};
-ghost use Rattle.nt_alarms.specs.Alarms.{IsQuiet};
+ghost use Rattle.nt_marks.specs.Marks.{NoneMarked};
 ghost use Rattle.nt_calls.specs.State.{pends};
 ghost use Rattle.nt_core.specs.Dispatcher.{state};
 ghost use Rattle.nt_sleepers.specs.Sleepers.{IsCalledToLook, IsWatched, SleepsTo, TimeIsKept, time_out_of, set_if, settled, with_called, without_woken};
@@ -10,6 +10,7 @@ ghost use Rattle.nt_sleepers.specs.Sleepers.{IsCalledToLook, IsWatched, SleepsTo
 use crate::keeping;
 use nt_alarms::Alarms;
 use nt_life::Lasting;
+use nt_marks::Marks;
 
 /// Whether no wait pends, and none has ended.
 #[inline(always)]
@@ -33,7 +34,7 @@ pub(crate) fn is_idle(life: &Lasting) -> bool
 pub(crate) fn settle_all(
     life: &Lasting,
     alarms: &mut Alarms,
-    watchers: &mut Alarms,
+    watchers: &mut Marks,
     who: u32,
     began: bool,
 ) -> Option<u32>
@@ -41,7 +42,7 @@ pub(crate) fn settle_all(
     requires few { length alarms.old ≤ MAX_MANY_THREADS }
     ensures in_time { IsWatched (state life.now.core) alarms.new watchers.new }
     ensures alarms { alarms.new ≡ with_called result (settled alarms.old who began life.now.core) }
-    ensures watchers { watchers.new ≡ without_woken life.now.core.grants watchers.old }
+    ensures watchers { watchers.new ≡ without_woken false life.now.core.grants watchers.old }
     ensures called { IsCalledToLook (state life.now.core) (settled alarms.old who began life.now.core) watchers.new result }
 {
     keeping::settle_all(life.core(), alarms, watchers, who, began)
@@ -52,7 +53,7 @@ pub(crate) fn settle_all(
 pub(crate) fn settle(
     life: &Lasting,
     alarms: &mut Alarms,
-    watchers: &mut Alarms,
+    watchers: &mut Marks,
     called: &mut Option<u32>,
     who: u32,
     began: bool,
@@ -60,10 +61,10 @@ pub(crate) fn settle(
 )
     requires count { length watchers.old ≡ length alarms.old }
     requires few { length alarms.old ≤ MAX_MANY_THREADS }
-    requires idle { was_idle ≡ true → (life.now.core.grants ≡ []) × IsQuiet watchers.old × (called.old ≡ None) }
+    requires idle { was_idle ≡ true → (life.now.core.grants ≡ []) × NoneMarked watchers.old × (called.old ≡ None) }
     ensures in_time { IsWatched (state life.now.core) alarms.new watchers.new }
     ensures alarms { alarms.new ≡ with_called called.new (settled alarms.old who began life.now.core) }
-    ensures watchers { watchers.new ≡ without_woken life.now.core.grants watchers.old }
+    ensures watchers { watchers.new ≡ without_woken false life.now.core.grants watchers.old }
     ensures called { IsCalledToLook (state life.now.core) (settled alarms.old who began life.now.core) watchers.new called.new }
 {
     keeping::settle(life.core(), alarms, watchers, called, who, began, was_idle);
@@ -73,29 +74,29 @@ pub(crate) fn settle(
 pub(crate) fn watch(
     life: &Lasting,
     alarms: &mut Alarms,
-    watchers: &mut Alarms,
+    watchers: &mut Marks,
     who: u32,
 ) -> Option<u64>
     requires kept { TimeIsKept (state life.now.core) alarms.old watchers.old }
     ensures kept { TimeIsKept (state life.now.core) alarms.new watchers.new }
     ensures sleeps { SleepsTo (state life.now.core) (time_out_of (map.get (state life.now.core).waits who)) result }
     ensures alarms { alarms.new ≡ set_if (pends (state life.now.core) who) who result alarms.old }
-    ensures watchers { watchers.new ≡ set_if (pends (state life.now.core) who) who (Some 0) watchers.old }
+    ensures watchers { watchers.new ≡ set_if (pends (state life.now.core) who) who true watchers.old }
 {
     keeping::watch(life.core(), alarms, watchers, who)
 }
 
-/// The thread sleeps and watches no more. Returns who is called in its place.
+/// The thread no longer sleeps or watches. Returns who is called in its place.
 pub(crate) fn stop(
     life: &Lasting,
     alarms: &mut Alarms,
-    watchers: &mut Alarms,
+    watchers: &mut Marks,
     who: u32,
 ) -> Option<u32>
     requires kept { TimeIsKept (state life.now.core) alarms.old watchers.old }
     ensures kept { TimeIsKept (state life.now.core) alarms.new watchers.new }
     ensures alarms { alarms.new ≡ with_called result (slice_set alarms.old who None) }
-    ensures watchers { watchers.new ≡ slice_set watchers.old who None }
+    ensures watchers { watchers.new ≡ slice_set watchers.old who false }
     ensures called { IsCalledToLook (state life.now.core) (slice_set alarms.old who None) watchers.new result }
 {
     keeping::stop(life.core(), alarms, watchers, who)

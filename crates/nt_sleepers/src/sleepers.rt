@@ -18,16 +18,17 @@ use crate::told::Told;
 use nt_alarms::Alarms;
 use nt_core::{Call, Core, Reply, WaitMode};
 use nt_life::{Begun, Lasting};
+use nt_marks::Marks;
 use nt_status::{Handle, MAX_MANY_THREADS, MAX_THREADS, Moment, ObjectNumber, Refusal};
 use std::alloc::Global;
 use std::marker::Model;
 
-/// A dispatcher, and to which moment each thread sleeps by itself.
+/// A dispatcher, to which moment each thread sleeps by itself, and which threads watch.
 #[derive(Drop)]
 pub struct Sleepers {
     life: Lasting,
     alarms: Alarms,
-    watchers: Alarms,
+    watchers: Marks,
     called: Option<u32>,
 }
 
@@ -73,7 +74,7 @@ impl Sleepers {
         ensures ok { IfOk result (λ s. (1 ≤ threads) × (threads ≤ MAX_THREADS) × (state s.core ≡ opening threads)
             × (s.core.grants ≡ [])) }
         ensures spare { IfOk result (λ s. s.spare ≡ None) }
-        ensures asleep { IfOk result (λ s. (s.alarms ≡ replicate threads None) × (s.watchers ≡ replicate threads None)
+        ensures asleep { IfOk result (λ s. (s.alarms ≡ replicate threads None) × (s.watchers ≡ replicate threads false)
             × (s.called ≡ None)) }
         ensures untested { IfOk result (λ s. s.core.table.looked ≡ 0) }
         ensures lawful { IfOk result (λ s. IsLawful s.core) }
@@ -85,7 +86,7 @@ impl Sleepers {
             return Err(Refusal::InvalidParameter);
         }
         let alarms = Alarms::with_places(alloc, threads as usize)?;
-        let watchers = Alarms::with_places(alloc, threads as usize)?;
+        let watchers = Marks::with_places(alloc, threads as usize)?;
         let life = Lasting::once(alloc, threads)?;
         Ok(Sleepers {
             life,
@@ -100,7 +101,7 @@ impl Sleepers {
         ensures ok { IfOk result (λ s. (1 ≤ threads) × (threads ≤ MAX_MANY_THREADS) × (state s.core ≡ opening threads)
             × (s.core.grants ≡ [])) }
         ensures spare { IfOk result (λ s. s.spare ≡ Some no_spares) }
-        ensures asleep { IfOk result (λ s. (s.alarms ≡ replicate threads None) × (s.watchers ≡ replicate threads None)
+        ensures asleep { IfOk result (λ s. (s.alarms ≡ replicate threads None) × (s.watchers ≡ replicate threads false)
             × (s.called ≡ None)) }
         ensures untested { IfOk result (λ s. s.core.table.looked ≡ 0) }
         ensures lawful { IfOk result (λ s. IsLawful s.core) }
@@ -112,7 +113,7 @@ impl Sleepers {
             return Err(Refusal::InvalidParameter);
         }
         let alarms = Alarms::with_places(alloc, threads as usize)?;
-        let watchers = Alarms::with_places(alloc, threads as usize)?;
+        let watchers = Marks::with_places(alloc, threads as usize)?;
         let life = Lasting::new(alloc, threads)?;
         Ok(Sleepers {
             life,

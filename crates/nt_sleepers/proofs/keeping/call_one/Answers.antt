@@ -15,4 +15,4 @@ returns-then-sleeps_up_to-clause-in_time c =
 pub returns-clause-in_time : goal.returns-clause-in_time
 returns-clause-in_time c =
     subst (λ (xs : List (Option ℕ)). IsWatched (state c.args.core.now) xs c.args.watchers.now) (sym c.set.ensures)
-    (in_time_called (state c.args.core.now) _ _ c.in_ok-watcher.watcher c.in_ok-mark.mark c.requires.count c.in_ok-watcher.ensures)
+    (in_time_called (state c.args.core.now) _ _ c.in_ok-watcher.watcher c.requires.count c.in_ok-watcher.ensures)

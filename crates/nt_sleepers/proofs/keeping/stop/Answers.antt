@@ -7,8 +7,8 @@ use Rattle.nt_sleepers.proofs.keeping.stop.Goals as goal
 pub returns-clause-kept : goal.returns-clause-kept
 returns-clause-kept c =
     let s = state c.args.core.now in let called = c.call_one.result in
-    kept_stop s c.args.alarms.now c.args.watchers.now c.call_one.new.alarms c.clear-2.new.places c.args.who called c.requires.kept
+    kept_stop s c.args.alarms.now c.args.watchers.now c.call_one.new.alarms c.unmark.new.watchers c.args.who called c.requires.kept
     (c.call_one.ensures.alarms ∙ ap (with_called called) c.clear.ensures)
-    c.clear-2.ensures
-    (subst (λ (xs : List (Option ℕ)). IsCalledToLook s xs c.clear-2.new.places called) c.clear.ensures c.call_one.ensures.called)
+    c.unmark.ensures
+    (subst (λ (xs : List (Option ℕ)). IsCalledToLook s xs c.unmark.new.watchers called) c.clear.ensures c.call_one.ensures.called)
     c.call_one.ensures.in_time

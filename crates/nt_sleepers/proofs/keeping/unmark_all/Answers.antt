@@ -1,0 +1,9 @@
+use Rattle.std.proofs.Common.{◌∙◌, false, arith}
+use Rattle.std.proofs.lemmas.Bool.Decides.{nat_tests}
+use Rattle.nt_sleepers.proofs.Waking.{woken_next}
+use Rattle.nt_sleepers.proofs.keeping.unmark_all.Goals as goal
+
+pub loop-grant-preserved : goal.loop-grant-preserved
+loop-grant-preserved c =
+    woken_next false c.args.watchers.now c.loop-grant.watchers _ c.args.grants.now c.loop-grant.grant-index c.from.result c.grant-item.result
+    (grind (arith, nat_tests, c.loop-grant-test.true)) c.grant-item.is (c.from.ensures ∙ c.get.ensures) c.loop-grant.invariant c.unmark.ensures
