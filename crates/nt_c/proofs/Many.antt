@@ -46,13 +46,13 @@ some_cause s who = first_after (causes s who false Call.Exit) InvalidParameter
 abbrev IsUnlawful : List ℕ → Type 0
 IsUnlawful named = (length named == 0 || nat_lt MAX_WAIT_OBJECTS (length named)) ≡ true
 
-refused : (s : State) (who : ℕ) (denied : Bool) (named : List ℕ) (all : Bool) (mode : WaitMode) → IsUnlawful named → refusal s who denied (Call.Wait (WaitCall.Objects named all mode)) ≡ why s who
+refused : (s : State) (who : ℕ) (denied : Bool) (named : List ℕ) (all : Bool) (mode : WaitMode) → IsUnlawful named → refusal s who denied (Call.Wait (WaitCall.Objects all mode named)) ≡ why s who
 refused s who denied named all mode unlawful =
     ap (λ (b : Bool). first_of_causes (callers s who ((b, InvalidParameter) ∷ (list_any (is_unknown s.objects) named, InvalidHandle) ∷ (denied, AccessDenied) ∷ (has_twice named, InvalidParameter) ∷ (list_any (is_at_limit s.objects who) named, RecursionLimit) ∷ []))) unlawful
 
 -- the wait for these handles
 abbrev wait_for : List ℕ → Bool → WaitMode → Call
-wait_for handles all mode = Call.Wait (WaitCall.Objects handles all mode)
+wait_for handles all mode = Call.Wait (WaitCall.Objects all mode handles)
 
 -- the refusal of such a wait, whose handles are these
 refused_named : (s : State) (who : ℕ) (handles : List ℕ) (all : Bool) (mode : WaitMode) → IsUnlawful (map (object_named s.handles) handles) → refusal s who (is_denied s (wait_for handles all mode)) (call_named s.handles (wait_for handles all mode)) ≡ why s who
@@ -111,9 +111,9 @@ refused_both s who handles all mode many =
     (cause.0, refused_named s who [] all mode refl ∙ cause.1, refused_named s who handles all mode (many_unlawful s handles many) ∙ cause.1)
 
 -- the wait for these handles is asked as one for all of them, or for none where they are too many
-pub asked_of : (held new : Option Sleeping) (who : ℕ) (handles these : List ℕ) (all : Bool) (mode : WaitMode) (result : Result Reply Refusal) → (length handles ≤ MAX_WAIT_OBJECTS → these ≡ handles) → (MAX_WAIT_OBJECTS < length handles → these ≡ []) → Asked held who (Call.Wait (WaitCall.Objects these all mode)) result new → Asked held who (Call.Wait (WaitCall.Objects handles all mode)) result new
+pub asked_of : (held new : Option Sleeping) (who : ℕ) (handles these : List ℕ) (all : Bool) (mode : WaitMode) (result : Result Reply Refusal) → (length handles ≤ MAX_WAIT_OBJECTS → these ≡ handles) → (MAX_WAIT_OBJECTS < length handles → these ≡ []) → Asked held who (Call.Wait (WaitCall.Objects all mode these)) result new → Asked held who (Call.Wait (WaitCall.Objects all mode handles)) result new
 asked_of held new who handles these all mode result few many asked =
     elim (cases_lt MAX_WAIT_OBJECTS (length handles)) [
-      | inl above ↦ asked_alike held new who (WaitCall.Objects [] all mode) (WaitCall.Objects handles all mode) result (λ (old : Sleeping). refused_both (state old.core) who handles all mode above) (subst (λ (list : List ℕ). Asked held who (wait_for list all mode) result new) (many above) asked)
+      | inl above ↦ asked_alike held new who (WaitCall.Objects all mode []) (WaitCall.Objects all mode handles) result (λ (old : Sleeping). refused_both (state old.core) who handles all mode above) (subst (λ (list : List ℕ). Asked held who (wait_for list all mode) result new) (many above) asked)
       | inr within ↦ subst (λ (list : List ℕ). Asked held who (wait_for list all mode) result new) (few within) asked
     ]

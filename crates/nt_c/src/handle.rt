@@ -40,7 +40,7 @@ impl Nt {
     ) -> Result<Reply, Refusal>
         requires fit { IsFit self.old }
         ensures fit { IsFit self.new }
-        ensures asked { Asked self.old.cell.held who (Call.Wait (WaitCall.Objects these.now all mode))
+        ensures asked { Asked self.old.cell.held who (Call.Wait (WaitCall.Objects all mode these.now))
             result self.new.cell.held }
     {
         if !self.live {

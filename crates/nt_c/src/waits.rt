@@ -58,7 +58,7 @@ fn wait_for_few(
     requires fit { IsFit nt.old }
     requires few { length numbers.now ≤ FEW_OBJECTS }
     ensures fit { IsFit nt.new }
-    ensures asked { Asked nt.old.cell.held who (Call.Wait (WaitCall.Objects numbers.now all mode))
+    ensures asked { Asked nt.old.cell.held who (Call.Wait (WaitCall.Objects all mode numbers.now))
         result nt.new.cell.held }
 {
     let these = few_handles_of(numbers);
@@ -75,7 +75,7 @@ fn wait_for_many(
 ) -> Result<Reply, Refusal>
     requires fit { IsFit nt.old }
     ensures fit { IsFit nt.new }
-    ensures asked { Asked nt.old.cell.held who (Call.Wait (WaitCall.Objects numbers.now all mode))
+    ensures asked { Asked nt.old.cell.held who (Call.Wait (WaitCall.Objects all mode numbers.now))
         result nt.new.cell.held }
 {
     let these = handles_of(numbers);
@@ -96,7 +96,7 @@ pub extern "C" fn nt_wait_objects(
     requires fit { IsFit nt.old }
     ensures fit { IsFit nt.new }
     ensures answers { WaitsWith nt.old who
-        (WaitCall.Objects handles.now all (record { ms = ms; alertable = alertable }))
+        (WaitCall.Objects all (record { ms = ms; alertable = alertable }) handles.now)
         result out.old out.new nt.new }
 {
     let mode = WaitMode { ms, alertable };
@@ -122,7 +122,7 @@ pub extern "C" fn nt_wait_object(
     requires fit { IsFit nt.old }
     ensures fit { IsFit nt.new }
     ensures answers { WaitsWith nt.old who
-        (WaitCall.Objects (handle ∷ []) false (record { ms = ms; alertable = alertable }))
+        (WaitCall.Objects false (record { ms = ms; alertable = alertable }) (handle ∷ []))
         result out.old out.new nt.new }
 {
     let wait = WaitCall::Objects {

@@ -25,12 +25,12 @@ act_grows (Act.Close h) = false
 
 -- the timeout that a waiting call names, in milliseconds
 abbrev pub timeout_of : WaitCall → ℕ
-timeout_of (WaitCall.Objects handles all mode) = mode.ms
+timeout_of (WaitCall.Objects all mode handles) = mode.ms
 timeout_of (WaitCall.Sleep mode) = mode.ms
 timeout_of (WaitCall.Swap h object mode) = mode.ms
 
 -- the wait that a waiting call asks for at this moment
 abbrev pub asked_wait : ℕ → WaitCall → Wait
-asked_wait now (WaitCall.Objects named all mode) = record { objects = named; all = all; alertable = mode.alertable; deadline = deadline_after now mode.ms }
+asked_wait now (WaitCall.Objects all mode named) = record { objects = named; all = all; alertable = mode.alertable; deadline = deadline_after now mode.ms }
 asked_wait now (WaitCall.Sleep mode) = record { objects = []; all = false; alertable = mode.alertable; deadline = deadline_after now mode.ms }
 asked_wait now (WaitCall.Swap h object mode) = record { objects = object ∷ []; all = false; alertable = mode.alertable; deadline = deadline_after now mode.ms }

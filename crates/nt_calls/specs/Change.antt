@@ -149,7 +149,7 @@ act_change s t (Act.Close h) = handle_closed s h
 
 abbrev pub wait_change : State → WaitCall → State
 wait_change s (WaitCall.Swap h object mode) = at s h signal
-wait_change s (WaitCall.Objects named all mode) = s
+wait_change s (WaitCall.Objects all mode named) = s
 wait_change s (WaitCall.Sleep mode) = s
 
 -- what a call changes before waits are served

@@ -52,7 +52,7 @@ act_named handles (Act.Close h) = Act.Close h
 
 -- the wait, with the numbers of the objects in the place of their handles
 abbrev pub wait_named : List (Option Opened) → WaitCall → WaitCall
-wait_named handles (WaitCall.Objects hs all mode) = WaitCall.Objects (map (object_named handles) hs) all mode
+wait_named handles (WaitCall.Objects all mode hs) = WaitCall.Objects all mode (map (object_named handles) hs)
 wait_named handles (WaitCall.Sleep mode) = WaitCall.Sleep mode
 wait_named handles (WaitCall.Swap h object mode) = WaitCall.Swap (object_named handles h) (object_named handles object) mode
 

@@ -148,7 +148,7 @@ act_causes handles objects t denied (Act.Duplicate object access) = duplicate_ca
 act_causes handles objects t denied (Act.Close h) = close_causes handles h
 
 abbrev pub wait_causes : List Object → ℕ → Bool → WaitCall → List Cause
-wait_causes objects t denied (WaitCall.Objects named all mode) = objects_causes objects t denied named
+wait_causes objects t denied (WaitCall.Objects all mode named) = objects_causes objects t denied named
 wait_causes objects t denied (WaitCall.Sleep mode) = []
 wait_causes objects t denied (WaitCall.Swap h object mode) = swap_causes objects t denied h object
 

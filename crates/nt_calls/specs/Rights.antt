@@ -36,7 +36,7 @@ signal_denied handles objects h = not (is_mutex (object_at objects (object_named
 
 -- each object that is waited for needs a right
 abbrev pub wait_denied : List (Option Opened) → List Object → WaitCall → Bool
-wait_denied handles objects (WaitCall.Objects hs all mode) = list_any (lacks synchronize handles) hs
+wait_denied handles objects (WaitCall.Objects all mode hs) = list_any (lacks synchronize handles) hs
 wait_denied handles objects (WaitCall.Sleep mode) = false
 wait_denied handles objects (WaitCall.Swap h object mode) = signal_denied handles objects h || lacks synchronize handles object
 

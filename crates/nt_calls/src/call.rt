@@ -104,9 +104,9 @@ pub struct WaitMode {
 pub enum WaitCall {
     /// WaitForMultipleObjectsEx: for any of the objects, or for all.
     Objects {
-        handles: Handles,
         all: bool,
         mode: WaitMode,
+        handles: Handles,
     },
     /// SleepEx.
     Sleep(WaitMode),

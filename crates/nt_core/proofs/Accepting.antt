@@ -336,10 +336,10 @@ all_unless_any p [] e j below = absurd (omega (arith, below))
 all_unless_any p (x ∷ xs) e zero below = (or_false (p x) (list_any p xs) e).0
 all_unless_any p (x ∷ xs) e (suc j) below = all_unless_any p xs (or_false (p x) (list_any p xs) e).1 j (omega (arith, below))
 
-pub sound_objects : (s : State) (t : ℕ) (handles : List ℕ) (all : Bool) (mode : WaitMode) → ((h : ℕ) → Contains handles h → h < length s.objects → is_gone (object_at s.objects h) ≡ false) → refusal s t false (Call.Wait (WaitCall.Objects handles all mode)) ≡ None → IsSoundWait s.threads s.objects t (wait_on handles all)
+pub sound_objects : (s : State) (t : ℕ) (handles : List ℕ) (all : Bool) (mode : WaitMode) → ((h : ℕ) → Contains handles h → h < length s.objects → is_gone (object_at s.objects h) ≡ false) → refusal s t false (Call.Wait (WaitCall.Objects all mode handles)) ≡ None → IsSoundWait s.threads s.objects t (wait_on handles all)
 sound_objects s t handles all mode alive none =
-    let caller = free_caller s t (Call.Wait (WaitCall.Objects handles all mode)) none in
-    let own = own_causes s t (Call.Wait (WaitCall.Objects handles all mode)) none in
+    let caller = free_caller s t (Call.Wait (WaitCall.Objects all mode handles)) none in
+    let own = own_causes s t (Call.Wait (WaitCall.Objects all mode handles)) none in
     let first = next_causes (length handles == 0 || nat_lt MAX_WAIT_OBJECTS (length handles)) InvalidParameter ((list_any (is_unknown s.objects) handles, InvalidHandle) ∷ (has_twice handles, InvalidParameter) ∷ (list_any (is_at_limit s.objects t) handles, RecursionLimit) ∷ []) own in
     let second = next_causes (list_any (is_unknown s.objects) handles) InvalidHandle ((has_twice handles, InvalidParameter) ∷ (list_any (is_at_limit s.objects t) handles, RecursionLimit) ∷ []) first.1 in
     let third = next_causes (has_twice handles) InvalidParameter ((list_any (is_at_limit s.objects t) handles, RecursionLimit) ∷ []) second.1 in

@@ -62,7 +62,7 @@ undenied s who true (Call.Act (Act.ReleaseMutex h)) none = none
 undenied s who true (Call.Act Act.NextApc) none = none
 undenied s who true (Call.Act (Act.Close h)) none = none
 undenied s who true (Call.Wait (WaitCall.Sleep mode)) none = none
-undenied s who true (Call.Wait (WaitCall.Objects named all mode)) none =
+undenied s who true (Call.Wait (WaitCall.Objects all mode named)) none =
     first_there (callers s who ((length named == 0 || nat_lt MAX_WAIT_OBJECTS (length named), InvalidParameter) ∷ (list_any (is_unknown s.objects) named, InvalidHandle) ∷ []))
     ((has_twice named, InvalidParameter) ∷ (list_any (is_at_limit s.objects who) named, RecursionLimit) ∷ []) AccessDenied none
 undenied s who true (Call.Wait (WaitCall.Swap h object mode)) none =

@@ -128,11 +128,11 @@ impl Core {
         all: bool,
         mode: WaitMode,
     ) -> Result<Reply, Refusal>
-        ensures called { Called (state self.old) who (Call.Wait (WaitCall.Objects handles.now all mode))
+        ensures called { Called (state self.old) who (Call.Wait (WaitCall.Objects all mode handles.now))
             result self.new.grants (state self.new) }
         ensures lawful { IsLawful self.new }
         ensures local { OnOk result (IsLocal (state self.old) who
-            (call_named self.old.handles (Call.Wait (WaitCall.Objects handles.now all mode)))
+            (call_named self.old.handles (Call.Wait (WaitCall.Objects all mode handles.now)))
             self.new.table.looked self.new.grants) }
         ensures most { length self.new.grants ≤ map.len (state self.old).waits }
         ensures few { length self.new.grants + map.len (state self.new).waits ≤ map.len (state self.old).waits + 1 }

@@ -27,7 +27,7 @@ impl Machine {
         requires can { CanBegin self.old thread (wait_on (object ∷ []) all) }
         requires sound { IsMachineSound self.old }
         ensures { HasPended self.old self.new thread
-            (WaitCall.Objects (object ∷ []) all (record { ms = ms; alertable = alertable })) (Ok tt) }
+            (WaitCall.Objects all (record { ms = ms; alertable = alertable }) (object ∷ [])) (Ok tt) }
     {
         let about = About {
             alertable,
@@ -50,7 +50,7 @@ impl Machine {
         requires can { CanBegin self.old thread (wait_on objects.now all) }
         requires sound { IsMachineSound self.old }
         ensures { HasPended self.old self.new thread
-            (WaitCall.Objects objects.now all (record { ms = ms; alertable = alertable })) result }
+            (WaitCall.Objects all (record { ms = ms; alertable = alertable }) objects.now) result }
     {
         let about = About {
             alertable,
@@ -72,7 +72,7 @@ impl Machine {
     ) -> Result<(), Refusal>
         requires can { CanBegin self.old thread (wait_on objects.now all) }
         requires sound { IsMachineSound self.old }
-        ensures pended { HasPended self.old self.new thread (WaitCall.Objects objects.now all mode) result }
+        ensures pended { HasPended self.old self.new thread (WaitCall.Objects all mode objects.now) result }
         ensures several { OnErr result (IsTrue (not (length objects.now == 1))) }
     {
         match objects {

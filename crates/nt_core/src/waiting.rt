@@ -91,7 +91,7 @@ impl Machine {
         requires steady { IsSteady self.old }
         ensures begun { IfSome result (λ code.
             HasBegun (state self.old) (state self.new) thread
-            (WaitCall.Objects objects.now all mode) (Reply.Status code)) }
+            (WaitCall.Objects all mode objects.now) (Reply.Status code)) }
         ensures pends { IfNone result ((fits self.old.objects thread (wait_on objects.now all) ≡ false)
             × ((mode.alertable && has_apc self.old.apcs.queues thread) ≡ false) × (mode.ms ≢ 0)) }
         ensures steady { IsSteady self.new }
@@ -126,12 +126,12 @@ impl Machine {
         requires steady { IsSteady self.old }
         ensures begun { IfOk result (λ ended.
             HasBegun (state self.old) (state self.new) thread
-            (WaitCall.Objects objects.now all mode) (reply_of ended)) }
+            (WaitCall.Objects all mode objects.now) (reply_of ended)) }
         ensures steady { IsSteady self.new }
         ensures grants { self.new.grants ≡ self.old.grants }
         ensures looked { self.new.table.looked ≡ self.old.table.looked }
         ensures grows { OnErr result (IsTrue (grows (state self.old) thread
-            (Call.Wait (WaitCall.Objects objects.now all mode)))) }
+            (Call.Wait (WaitCall.Objects all mode objects.now)))) }
         ensures refused { IfErr result (λ refusal. (refusal ≡ Memory) × (self.new ≡ self.old)) }
     {
         if let Some(status) = self.end_at_once(thread, objects, all, mode) {
@@ -155,7 +155,7 @@ impl Machine {
         requires caller { IsFreeToCall (state self.old) thread }
         requires living { (h : ℕ) → Contains numbers.now h → h < length self.old.objects
             → is_gone (object_at self.old.objects h) ≡ false }
-        ensures { IsCallMade self.old self.new thread denied (Call.Wait (WaitCall.Objects numbers.now all mode))
+        ensures { IsCallMade self.old self.new thread denied (Call.Wait (WaitCall.Objects all mode numbers.now))
             (replied result) }
     {
         match objects_refusal(self.objects.as_slice(), thread, denied, numbers) {
@@ -175,7 +175,7 @@ impl Machine {
     ) -> Answer
         requires fresh { IsFresh self.old }
         requires caller { IsFreeToCall (state self.old) thread }
-        ensures { IsWaitMade self.old self.new thread (WaitCall.Objects (handle ∷ []) all mode) result }
+        ensures { IsWaitMade self.old self.new thread (WaitCall.Objects all mode (handle ∷ [])) result }
     {
         let (object, denied) = opened(&self.handles, handle, SYNCHRONIZE);
         replied(self.wait_for(thread, denied, &[object], all, mode))
@@ -192,7 +192,7 @@ impl Machine {
     ) -> Answer
         requires fresh { IsFresh self.old }
         requires caller { IsFreeToCall (state self.old) thread }
-        ensures { IsWaitMade self.old self.new thread (WaitCall.Objects these.now all mode) result }
+        ensures { IsWaitMade self.old self.new thread (WaitCall.Objects all mode these.now) result }
     {
         match these {
             [handle] => self.wait_for_one(thread, *handle, all, mode),
@@ -211,7 +211,7 @@ impl Machine {
     ) -> Answer
         requires fresh { IsFresh self.old }
         requires caller { IsFreeToCall (state self.old) thread }
-        ensures { IsWaitMade self.old self.new thread (WaitCall.Objects these.now all mode) result }
+        ensures { IsWaitMade self.old self.new thread (WaitCall.Objects all mode these.now) result }
     {
         match these.alone() {
             Some(handle) => self.wait_for_one(thread, handle, all, mode),
@@ -230,7 +230,7 @@ impl Machine {
     ) -> Begun
         requires fresh { IsFresh self.old }
         requires caller { IsFreeToCall (state self.old) thread }
-        ensures { IsWaitMade self.old self.new thread (WaitCall.Objects these.now all mode) (replied result) }
+        ensures { IsWaitMade self.old self.new thread (WaitCall.Objects all mode these.now) (replied result) }
     {
         if these.len() <= FEW_OBJECTS {
             self.wait_for_few(thread, these, all, mode.ms, mode.alertable)
@@ -256,7 +256,7 @@ impl Machine {
         requires fresh { IsFresh self.old }
         requires caller { IsFreeToCall (state self.old) thread }
         ensures { IsWaitMade self.old self.new thread
-            (WaitCall.Objects these.now all (record { ms = ms; alertable = alertable })) (replied result) }
+            (WaitCall.Objects all (record { ms = ms; alertable = alertable }) these.now) (replied result) }
     {
         let mut few = NamedObjects::<FEW_OBJECTS>::new();
         let denied = name_all(&self.handles, these, &mut few);
@@ -278,7 +278,7 @@ impl Machine {
         requires fresh { IsFresh self.old }
         requires caller { IsFreeToCall (state self.old) thread }
         ensures { IsWaitMade self.old self.new thread
-            (WaitCall.Objects these.now all (record { ms = ms; alertable = alertable })) (replied result) }
+            (WaitCall.Objects all (record { ms = ms; alertable = alertable }) these.now) (replied result) }
     {
         let mut numbers = NamedObjects::<MAX_WAIT_OBJECTS>::new();
         let denied = name_all(&self.handles, these, &mut numbers);
@@ -310,7 +310,7 @@ impl Machine {
     #[inline(always)]
     fn make_wait(&mut self, who: u32, these: &[Handle], all: bool, mode: WaitMode) -> Answer
         requires steady { IsSteady self.old }
-        ensures { IsWaitMade self.old self.new who (WaitCall.Objects these.now all mode) result }
+        ensures { IsWaitMade self.old self.new who (WaitCall.Objects all mode these.now) result }
     {
         self.tell_anew();
         if let Some(refusal) = self.caller_refusal(who) {
@@ -324,12 +324,12 @@ impl Machine {
     pub fn wait_objects(&mut self, who: u32, these: &[Handle], all: bool, mode: WaitMode) -> Answer
         requires steady { IsSteady self.old }
         requires living { LivesWhileKept (state self.old) }
-        ensures called { Called (state self.old) who (Call.Wait (WaitCall.Objects these.now all mode))
+        ensures called { Called (state self.old) who (Call.Wait (WaitCall.Objects all mode these.now))
             result self.new.grants (state self.new) }
         ensures steady { IsSteady self.new }
         ensures living { LivesWhileKept (state self.new) }
         ensures local { OnOk result (IsLocal (state self.old) who
-            (call_named self.old.handles (Call.Wait (WaitCall.Objects these.now all mode)))
+            (call_named self.old.handles (Call.Wait (WaitCall.Objects all mode these.now)))
             self.new.table.looked self.new.grants) }
         ensures untested { OnErr result (self.new.table.looked ≡ 0) }
     {

@@ -112,7 +112,7 @@ pub trait Calls {
         alertable: bool,
     ) -> Result<Began, Refusal>
         ensures { IsCalled (dispatcher self.old) who
-            (Call.Wait (WaitCall.Objects (handle ∷ []) false (record { ms = timeout; alertable = alertable })))
+            (Call.Wait (WaitCall.Objects false (record { ms = timeout; alertable = alertable }) (handle ∷ [])))
             (began_reply result) (dispatcher self.new) };
 
     /// WaitForMultipleObjectsEx, for any of the objects. It takes no list of the handles.
@@ -124,7 +124,7 @@ pub trait Calls {
         alertable: bool,
     ) -> Result<Began, Refusal>
         ensures { IsCalled (dispatcher self.old) who
-            (Call.Wait (WaitCall.Objects handles.now false (record { ms = timeout; alertable = alertable })))
+            (Call.Wait (WaitCall.Objects false (record { ms = timeout; alertable = alertable }) handles.now))
             (began_reply result) (dispatcher self.new) };
 
     /// WaitForMultipleObjectsEx, for all of the objects. It takes no list of the handles.
@@ -136,7 +136,7 @@ pub trait Calls {
         alertable: bool,
     ) -> Result<Began, Refusal>
         ensures { IsCalled (dispatcher self.old) who
-            (Call.Wait (WaitCall.Objects handles.now true (record { ms = timeout; alertable = alertable })))
+            (Call.Wait (WaitCall.Objects true (record { ms = timeout; alertable = alertable }) handles.now))
             (began_reply result) (dispatcher self.new) };
 
     /// SleepEx.

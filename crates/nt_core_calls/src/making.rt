@@ -71,7 +71,7 @@ pub(crate) fn wait_for(
     all: bool,
     mode: WaitMode,
 ) -> Result<Began, Refusal>
-    ensures { IsCalled core.old who (Call.Wait (WaitCall.Objects handles.now all mode))
+    ensures { IsCalled core.old who (Call.Wait (WaitCall.Objects all mode handles.now))
         (began_reply result) core.new }
 {
     began_told(core.wait_objects(who, handles, all, mode))

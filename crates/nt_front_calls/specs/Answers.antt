@@ -22,7 +22,7 @@ use Rattle.nt_front_calls.specs.declared.told.Polled.{Polled}
 
 -- the call is a wait for more objects than a list of handles has in itself, which takes no memory
 abbrev pub TakesMemory : Call → Type 0
-TakesMemory (Call.Wait (WaitCall.Objects handles all mode)) = MAX_INLINE_HANDLES < length handles
+TakesMemory (Call.Wait (WaitCall.Objects all mode handles)) = MAX_INLINE_HANDLES < length handles
 TakesMemory _ = ⊥
 
 -- the call was refused: by the dispatcher, and so written; or the journal was full; or a wait's list of handles found no memory. Nothing was

@@ -91,7 +91,7 @@ impl<'f, 'r, N: Named, R: Wait + Alloc<A = Global>> Calls<'f, 'r, N, R> {
         all: bool,
         mode: WaitMode,
     ) -> Began<N>
-        ensures { WaitHasBegun N.front pass (WaitCall.Objects handles.now all mode) result }
+        ensures { WaitHasBegun N.front pass (WaitCall.Objects all mode handles.now) result }
     {
         let handles = match Handles::from_slice(self.rt.alloc(), handles) {
             Ok(handles) => handles,
@@ -109,7 +109,7 @@ impl<'f, 'r, N: Named, R: Wait + Alloc<A = Global>> Calls<'f, 'r, N, R> {
         all: bool,
         mode: WaitMode,
     ) -> (Pass<N>, Result<WaitEnd, Refused>)
-        ensures { IsWaitedFor N.front pass (WaitCall.Objects handles.now all mode) result.1 result.0 }
+        ensures { IsWaitedFor N.front pass (WaitCall.Objects all mode handles.now) result.1 result.0 }
     {
         let handles = match Handles::from_slice(self.rt.alloc(), handles) {
             Ok(handles) => handles,

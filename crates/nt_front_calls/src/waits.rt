@@ -22,7 +22,7 @@ impl<'f, 'r, N: Named, R: Wait + Alloc<A = Global>> Calls<'f, 'r, N, R> {
         alertable: bool,
     ) -> (Pass<N>, Result<WaitEnd, Refused>)
         ensures { IsWaitedFor N.front pass
-            (WaitCall.Objects (handle ∷ []) false (record { ms = timeout; alertable = alertable })) result.1 result.0 }
+            (WaitCall.Objects false (record { ms = timeout; alertable = alertable }) (handle ∷ [])) result.1 result.0 }
     {
         self.wait_for(pass, &[handle], false, timeout.mode(alertable))
     }
@@ -36,7 +36,7 @@ impl<'f, 'r, N: Named, R: Wait + Alloc<A = Global>> Calls<'f, 'r, N, R> {
         alertable: bool,
     ) -> (Pass<N>, Result<WaitEnd, Refused>)
         ensures { IsWaitedFor N.front pass
-            (WaitCall.Objects handles.now false (record { ms = timeout; alertable = alertable })) result.1 result.0 }
+            (WaitCall.Objects false (record { ms = timeout; alertable = alertable }) handles.now) result.1 result.0 }
     {
         self.wait_for(pass, handles, false, timeout.mode(alertable))
     }
@@ -50,7 +50,7 @@ impl<'f, 'r, N: Named, R: Wait + Alloc<A = Global>> Calls<'f, 'r, N, R> {
         alertable: bool,
     ) -> (Pass<N>, Result<WaitEnd, Refused>)
         ensures { IsWaitedFor N.front pass
-            (WaitCall.Objects handles.now true (record { ms = timeout; alertable = alertable })) result.1 result.0 }
+            (WaitCall.Objects true (record { ms = timeout; alertable = alertable }) handles.now) result.1 result.0 }
     {
         self.wait_for(pass, handles, true, timeout.mode(alertable))
     }
@@ -64,7 +64,7 @@ impl<'f, 'r, N: Named, R: Wait + Alloc<A = Global>> Calls<'f, 'r, N, R> {
         alertable: bool,
     ) -> Began<N>
         ensures { WaitHasBegun N.front pass
-            (WaitCall.Objects (handle ∷ []) false (record { ms = timeout; alertable = alertable })) result }
+            (WaitCall.Objects false (record { ms = timeout; alertable = alertable }) (handle ∷ [])) result }
     {
         self.begin_for(pass, &[handle], false, timeout.mode(alertable))
     }
@@ -78,7 +78,7 @@ impl<'f, 'r, N: Named, R: Wait + Alloc<A = Global>> Calls<'f, 'r, N, R> {
         alertable: bool,
     ) -> Began<N>
         ensures { WaitHasBegun N.front pass
-            (WaitCall.Objects handles.now false (record { ms = timeout; alertable = alertable })) result }
+            (WaitCall.Objects false (record { ms = timeout; alertable = alertable }) handles.now) result }
     {
         self.begin_for(pass, handles, false, timeout.mode(alertable))
     }
@@ -92,7 +92,7 @@ impl<'f, 'r, N: Named, R: Wait + Alloc<A = Global>> Calls<'f, 'r, N, R> {
         alertable: bool,
     ) -> Began<N>
         ensures { WaitHasBegun N.front pass
-            (WaitCall.Objects handles.now true (record { ms = timeout; alertable = alertable })) result }
+            (WaitCall.Objects true (record { ms = timeout; alertable = alertable }) handles.now) result }
     {
         self.begin_for(pass, handles, true, timeout.mode(alertable))
     }

@@ -115,8 +115,8 @@ row Keyword.Apc = record { shape = only (ObjectPlace ∷ ValuePlace ∷ ValuePla
 -- any object
 row Keyword.Close = record { shape = only (ObjectPlace ∷ []); made = λ who handle given. act_by who (Act.Close handle) }
 -- how long, whether alertable, and objects
-row Keyword.Any = record { shape = shape (TimePlace ∷ ModePlace ∷ []) (Each ObjectPlace); made = λ who ms alertable handles. wait_by who (WaitCall.Objects handles false (record { ms = ms; alertable = alertable })) }
-row Keyword.All = record { shape = shape (TimePlace ∷ ModePlace ∷ []) (Each ObjectPlace); made = λ who ms alertable handles. wait_by who (WaitCall.Objects handles true (record { ms = ms; alertable = alertable })) }
+row Keyword.Any = record { shape = shape (TimePlace ∷ ModePlace ∷ []) (Each ObjectPlace); made = λ who ms alertable handles. wait_by who (WaitCall.Objects false (record { ms = ms; alertable = alertable }) handles) }
+row Keyword.All = record { shape = shape (TimePlace ∷ ModePlace ∷ []) (Each ObjectPlace); made = λ who ms alertable handles. wait_by who (WaitCall.Objects true (record { ms = ms; alertable = alertable }) handles) }
 -- how long, and whether alertable
 row Keyword.Sleep = record { shape = only (TimePlace ∷ ModePlace ∷ []); made = λ who ms alertable given. wait_by who (WaitCall.Sleep (record { ms = ms; alertable = alertable })) }
 -- the object to signal, the object to wait for, how long, and whether alertable

@@ -73,8 +73,8 @@ act_line who _ = None
 
 -- the line of a waiting call
 abbrev pub wait_line : ℕ → WaitCall → Line
-wait_line who (WaitCall.Objects handles false mode) = Called who Keyword.Any (mode.ms, (mode.alertable, tt)) handles
-wait_line who (WaitCall.Objects handles true mode) = Called who Keyword.All (mode.ms, (mode.alertable, tt)) handles
+wait_line who (WaitCall.Objects false mode handles) = Called who Keyword.Any (mode.ms, (mode.alertable, tt)) handles
+wait_line who (WaitCall.Objects true mode handles) = Called who Keyword.All (mode.ms, (mode.alertable, tt)) handles
 wait_line who (WaitCall.Sleep mode) = Called who Keyword.Sleep (mode.ms, (mode.alertable, tt)) tt
 wait_line who (WaitCall.Swap signal handle mode) = Called who Keyword.Swap (signal, (handle, (mode.ms, (mode.alertable, tt)))) tt
 

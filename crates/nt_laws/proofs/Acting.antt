@@ -251,14 +251,14 @@ changed_at n t _ h o = o
 
 pub change_object : (s : State) (t : ℕ) (call : Call) (h : ℕ) → refusal s t false call ≡ None → is_plain (object_at (change s t call).objects h) ≡ true → object_at (change s t call).objects h ≡ changed_at (length s.objects) t call h (object_at s.objects h)
 change_object s t (Call.Act act) h none plain = act_object s t act h none plain
-change_object s t (Call.Wait (WaitCall.Objects handles all mode)) h none plain = refl
+change_object s t (Call.Wait (WaitCall.Objects all mode handles)) h none plain = refl
 change_object s t (Call.Wait (WaitCall.Sleep mode)) h none plain = refl
 change_object s t (Call.Wait (WaitCall.Swap g object mode)) h none plain = with_object_at s.objects g h signal refl
 change_object s t Call.Exit h none plain = exited_object s t h plain
 
 pub change_waits : (s : State) (t : ℕ) (call : Call) → (change s t call).waits ≡ s.waits
 change_waits s t (Call.Act act) = act_waits s t act
-change_waits s t (Call.Wait (WaitCall.Objects handles all mode)) = refl
+change_waits s t (Call.Wait (WaitCall.Objects all mode handles)) = refl
 change_waits s t (Call.Wait (WaitCall.Sleep mode)) = refl
 change_waits s t (Call.Wait (WaitCall.Swap g object mode)) = refl
 change_waits s t Call.Exit = refl

@@ -265,7 +265,7 @@ change_kind s t (Call.Act (Act.CancelTimer h)) enough none = inl (record { none 
 change_kind s t (Call.Act (Act.QueueApc h routine arg)) enough none = inl (record { none = λ h. refl }, inr (inr (record { life = life_same s.objects; handles = refl; threads = refl; waits = refl; queues = refl })))
 change_kind s t (Call.Act Act.NextApc) enough none = inl (record { none = λ h. refl }, inr (inr (apc_taken_same s t)))
 change_kind s t (Call.Act (Act.Close h)) enough none = inr (record { handle = h; closes = λ g. refl; is = refl })
-change_kind s t (Call.Wait (WaitCall.Objects handles all mode)) enough none = inl (record { none = λ h. refl }, inr (inr (nothing_changed s)))
+change_kind s t (Call.Wait (WaitCall.Objects all mode handles)) enough none = inl (record { none = λ h. refl }, inr (inr (nothing_changed s)))
 change_kind s t (Call.Wait (WaitCall.Sleep mode)) enough none = inl (record { none = λ h. refl }, inr (inr (nothing_changed s)))
 change_kind s t (Call.Wait (WaitCall.Swap h object mode)) enough none = inl (record { none = λ h. refl }, inr (inr (changed_one s (object_named s.handles h) signal signal_life)))
 change_kind s t Call.Exit enough none =

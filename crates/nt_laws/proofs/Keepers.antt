@@ -63,10 +63,10 @@ each_living s (h ∷ hs) sound has zero below = handle_living s h sound (neither
 each_living s (h ∷ hs) sound has (suc j) below = each_living s hs sound (neither (lacks synchronize s.handles h) (list_any (lacks synchronize s.handles) hs) has).1 j (omega (arith, below))
 
 wait_living : (s : State) (t : ℕ) (wait : WaitCall) → Stands s → refusal s t (is_denied s (Call.Wait wait)) (call_named s.handles (Call.Wait wait)) ≡ None → (now o : ℕ) → Names (asked_wait now (wait_named s.handles wait)) o → is_living s.objects o ≡ true
-wait_living s t (WaitCall.Objects hs all mode) sound none now o named =
+wait_living s t (WaitCall.Objects all mode hs) sound none now o named =
     let denied : Bool = list_any (lacks synchronize s.handles) hs in
     let objects : List ℕ = map (object_named s.handles) hs in
-    let own = call_causes_none s t denied (Call.Wait (WaitCall.Objects objects all mode)) none in
+    let own = call_causes_none s t denied (Call.Wait (WaitCall.Objects all mode objects)) none in
     let last : List Cause = (has_twice objects, InvalidParameter) ∷ (list_any (is_at_limit s.objects t) objects, RecursionLimit) ∷ [] in
     let few = next_causes (length objects == 0 || nat_lt MAX_WAIT_OBJECTS (length objects)) InvalidParameter ((list_any (is_unknown s.objects) objects, InvalidHandle) ∷ (denied, AccessDenied) ∷ last) own in
     let known = next_causes (list_any (is_unknown s.objects) objects) InvalidHandle ((denied, AccessDenied) ∷ last) few.1 in

@@ -76,8 +76,8 @@ begun_fair s t w ms reply new fair all is = go (fits s.objects t w) (w.alertable
 
 -- a wait that no cause refuses is fair
 fair_call : (s : State) (t : ℕ) (wait : WaitCall) (now : ℕ) → refusal s t false (Call.Wait wait) ≡ None → IsFair (asked_wait now wait)
-fair_call s t (WaitCall.Objects handles all mode) now none =
-    let own = own_causes s t (Call.Wait (WaitCall.Objects handles all mode)) none in
+fair_call s t (WaitCall.Objects all mode handles) now none =
+    let own = own_causes s t (Call.Wait (WaitCall.Objects all mode handles)) none in
     let last : List Cause = (list_any (is_at_limit s.objects t) handles, RecursionLimit) ∷ [] in
     let apart : List Cause = (has_twice handles, InvalidParameter) ∷ last in
     let first = next_causes (length handles == 0 || nat_lt MAX_WAIT_OBJECTS (length handles)) InvalidParameter ((list_any (is_unknown s.objects) handles, InvalidHandle) ∷ apart) own in
@@ -92,7 +92,7 @@ fair_call s t (WaitCall.Sleep mode) now none = (omega arith, distinct_handles []
 fair_call s t (WaitCall.Swap g object mode) now none = (omega arith, distinct_handles (object ∷ []) refl)
 
 same_handles : (t now then : ℕ) (wait : WaitCall) (reply : Reply) → reply_took t (asked_wait now wait) reply ≡ reply_took t (asked_wait then wait) reply
-same_handles t now then (WaitCall.Objects handles all mode) (Reply.Status code) = refl
+same_handles t now then (WaitCall.Objects all mode handles) (Reply.Status code) = refl
 same_handles t now then (WaitCall.Sleep mode) (Reply.Status code) = refl
 same_handles t now then (WaitCall.Swap g object mode) (Reply.Status code) = refl
 same_handles t now then wait Reply.Done = refl

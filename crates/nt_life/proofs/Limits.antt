@@ -77,7 +77,7 @@ other_act hs os t denied act other = refl
 
 other_wait : (os : List Object) (t : ℕ) (denied : Bool) (wait : WaitCall) → has_limit (wait_causes os t denied wait) ≡ false
 unfolding is_limit has_limit
-other_wait os t denied (WaitCall.Objects named all mode) = refl
+other_wait os t denied (WaitCall.Objects all mode named) = refl
 other_wait os t denied (WaitCall.Sleep mode) = refl
 other_wait os t denied (WaitCall.Swap h object mode) = refl
 

@@ -163,11 +163,11 @@ impl Lasting {
         all: bool,
         mode: WaitMode,
     ) -> Result<Reply, Refusal>
-        ensures called { Called (state self.old.core) who (Call.Wait (WaitCall.Objects handles.now all mode))
+        ensures called { Called (state self.old.core) who (Call.Wait (WaitCall.Objects all mode handles.now))
             result self.new.core.grants (state self.new.core) }
-        ensures pace { KeepsPace (state self.old.core) who (Call.Wait (WaitCall.Objects handles.now all mode))
+        ensures pace { KeepsPace (state self.old.core) who (Call.Wait (WaitCall.Objects all mode handles.now))
             result self.new.core.grants (state self.new.core) }
-        ensures looks { LooksAt self.old.core who (Call.Wait (WaitCall.Objects handles.now all mode))
+        ensures looks { LooksAt self.old.core who (Call.Wait (WaitCall.Objects all mode handles.now))
             result self.new.core }
         ensures lawful { IsLawful self.new.core }
         ensures spare { self.new.spare ≡ self.old.spare }

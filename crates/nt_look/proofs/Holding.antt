@@ -506,7 +506,7 @@ act_kept n knot free t o who s denied Act.NextApc known others out none = go (ma
 pub change_kept : (n : ℕ) (knot : ℕ → Bool) (free : Bool) (t o who : ℕ) (s : State) (denied : Bool) (call : Call) → s.threads ≡ n → o < no_object → (free ≡ true → count_named s.handles o ≡ 0) → knot who ≡ false
     → refusal s who denied (call_named s.handles call) ≡ None → IsKept n knot free t o s (change s who (call_named s.handles call))
 change_kept n knot free t o who s denied (Call.Act act) count known still out none = act_kept n knot free t o who s denied act known (λ h is free_is. unnamed_here s o h known (still free_is) is) out none
-change_kept n knot free t o who s denied (Call.Wait (WaitCall.Objects handles all mode)) count known still out none = kept_all (λ x. firm n knot free t o x ≡ true) o s
+change_kept n knot free t o who s denied (Call.Wait (WaitCall.Objects all mode handles)) count known still out none = kept_all (λ x. firm n knot free t o x ≡ true) o s
 change_kept n knot free t o who s denied (Call.Wait (WaitCall.Sleep mode)) count known still out none = kept_all (λ x. firm n knot free t o x ≡ true) o s
 change_kept n knot free t o who s denied (Call.Wait (WaitCall.Swap h waited mode)) count known still out none =
     let g = object_named s.handles h in

@@ -156,10 +156,10 @@ impl Sleepers {
         all: bool,
         mode: WaitMode,
     ) -> Result<Reply, Refusal>
-        ensures called { Called (state self.old.core) who (Call.Wait (WaitCall.Objects handles.now all mode))
+        ensures called { Called (state self.old.core) who (Call.Wait (WaitCall.Objects all mode handles.now))
             result self.new.core.grants (state self.new.core) }
         ensures lawful { IsLawful self.new.core }
-        ensures looks { LooksAt self.old.core who (Call.Wait (WaitCall.Objects handles.now all mode))
+        ensures looks { LooksAt self.old.core who (Call.Wait (WaitCall.Objects all mode handles.now))
             result self.new.core }
         ensures woke { Woke self.old who (pended result) self.new }
         ensures nobody { OnErr result (self.new.called ≡ None) }

@@ -60,7 +60,7 @@ is_alone m (h ∷ g ∷ hs) = false
 
 -- the call waits for this object alone
 abbrev pub is_wait_for : ℕ → Call → Bool
-is_wait_for m (Call.Wait (WaitCall.Objects handles all mode)) = is_alone m handles
+is_wait_for m (Call.Wait (WaitCall.Objects all mode handles)) = is_alone m handles
 is_wait_for m (Call.Wait (WaitCall.Swap signal object mode)) = object == m
 is_wait_for m other = false
 

@@ -8,11 +8,11 @@ use Rattle.nt_threads.specs.declared.plan.Objects.{Objects}
 
 -- a wait for this object, without a deadline
 abbrev pub endless_wait_for : ℕ → Call
-endless_wait_for object = Call.Wait (WaitCall.Objects (object ∷ []) false (record { ms = INFINITE; alertable = false }))
+endless_wait_for object = Call.Wait (WaitCall.Objects false (record { ms = INFINITE; alertable = false }) (object ∷ []))
 
 -- a wait for all of these objects, without a deadline
 abbrev pub endless_wait_for_all : List ℕ → Call
-endless_wait_for_all objects = Call.Wait (WaitCall.Objects objects true (record { ms = INFINITE; alertable = false }))
+endless_wait_for_all objects = Call.Wait (WaitCall.Objects true (record { ms = INFINITE; alertable = false }) objects)
 
 -- a round: the mutex is acquired, the semaphore is released by one, the mutex is released
 abbrev pub round_of : Objects → List Call

@@ -150,7 +150,7 @@ says_swap scope who signal object mode w s o m =
     (Called who Keyword.Swap (signal, (object, (mode.ms, (mode.alertable, tt)))) tt, refl, (is_caller who w, (tt, (s, (o, (m, (tt, tt)))))))
 
 pub says_objects : (scope : Scope) (who : ℕ) (handles : List ℕ) (all : Bool) (mode : WaitMode) → who < 2 ^ 16 → mode.ms < 2 ^ 32 → AreHandles handles →
-    CanBeSaid scope (wait_by who (WaitCall.Objects handles all mode))
+    CanBeSaid scope (wait_by who (WaitCall.Objects all mode handles))
 says_objects scope who handles false mode w m h = (Called who Keyword.Any (mode.ms, (mode.alertable, tt)) handles, refl, (is_caller who w, (tt, (m, (tt, says_each scope handles h)))))
 says_objects scope who handles true mode w m h = (Called who Keyword.All (mode.ms, (mode.alertable, tt)) handles, refl, (is_caller who w, (tt, (m, (tt, says_each scope handles h)))))
 
@@ -194,7 +194,7 @@ objects_put old first front (handle ∷ handles) =
 
 pub objects_wait_put : (old : Text) (who : ℕ) (handles : List ℕ) (all : Bool) (mode : WaitMode) →
     (((old ++ (caller_word who ++ 32 ∷ wait_word all)) ++ 32 ∷ time_word mode.ms) ++ 32 ∷ mode_word mode.alertable) ++ objects_text handles
-    ≡ old ++ statement_text (wait_by who (WaitCall.Objects handles all mode))
+    ≡ old ++ statement_text (wait_by who (WaitCall.Objects all mode handles))
 objects_wait_put old who handles false mode =
     ap (λ text. text ++ objects_text handles) (all_put old (caller_word who) (codes "any" ∷ []) (time_word mode.ms ∷ mode_word mode.alertable ∷ []))
     ∙ objects_put old (caller_word who) (codes "any" ∷ time_word mode.ms ∷ mode_word mode.alertable ∷ []) handles
@@ -227,7 +227,7 @@ words_long first (handle ∷ handles) =
     let longer : length handles ≤ length rest = words_long (decimal handle) handles in
     omega (arith, longer, length-append first (32 ∷ rest))
 
-objects_long : (who : ℕ) (handles : List ℕ) (all : Bool) (mode : WaitMode) → length handles ≤ length (statement_text (wait_by who (WaitCall.Objects handles all mode)))
+objects_long : (who : ℕ) (handles : List ℕ) (all : Bool) (mode : WaitMode) → length handles ≤ length (statement_text (wait_by who (WaitCall.Objects all mode handles)))
 objects_long who handles false mode =
     let last = join_with_byte 32 (mode_word mode.alertable ∷ map plain (each_parts ObjectPlace handles)) in
     let time = time_word mode.ms ++ 32 ∷ last in
@@ -245,7 +245,7 @@ refused_is_name = refl
 
 pub many_long : (who : ℕ) (call : Call) (created : Option ℕ) → objects_in call ≤ length (statement_text (statement_for who call created))
 many_long who (Call.Act act) created = omega arith
-many_long who (Call.Wait (WaitCall.Objects handles all mode)) created = objects_long who handles all mode
+many_long who (Call.Wait (WaitCall.Objects all mode handles)) created = objects_long who handles all mode
 many_long who (Call.Wait (WaitCall.Sleep mode)) created = omega arith
 many_long who (Call.Wait (WaitCall.Swap signal object mode)) created = omega arith
 many_long who Call.Exit created = omega arith

@@ -48,7 +48,7 @@ pub record IsPut (old : List ℕ) (statement : Statement) (new : List ℕ) : Typ
 
 -- how many objects a call's line ends with
 abbrev pub objects_in : Call → ℕ
-objects_in (Call.Wait (WaitCall.Objects handles all mode)) = length handles
+objects_in (Call.Wait (WaitCall.Objects all mode handles)) = length handles
 objects_in _ = 0
 
 -- the most bytes of a call's line

@@ -217,7 +217,7 @@ fn put_wait(out: &mut Vec<u8>, who: ThreadId, wait: &WaitCall)
 /// How long, whether alertable, and the objects.
 fn put_objects_wait(out: &mut Vec<u8>, who: ThreadId, handles: &[Handle], all: bool, mode: WaitMode)
     requires { vec_len out.old + FEW_BYTES + NUMBER_BYTES * length handles.now ≤ vec_capacity out.old }
-    ensures put { IsPut out.old.items (wait_by who (WaitCall.Objects handles.now all mode)) out.new.items }
+    ensures put { IsPut out.old.items (wait_by who (WaitCall.Objects all mode handles.now)) out.new.items }
     ensures len { vec_len out.new < vec_len out.old + FEW_BYTES + NUMBER_BYTES * length handles.now }
     ensures room { vec_capacity out.old ≤ vec_capacity out.new }
 {

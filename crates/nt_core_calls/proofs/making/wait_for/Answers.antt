@@ -6,4 +6,4 @@ use Rattle.nt_core_calls.proofs.making.wait_for.Goals as goal
 
 pub began_told-requires : goal.began_told-requires
 began_told-requires c =
-    call_told (state c.args.core.now) (state c.wait_objects.new.self) c.args.who (Call.Wait (WaitCall.Objects c.args.handles.now c.args.all c.args.mode)) c.wait_objects.result c.wait_objects.new.self.grants c.wait_objects.ensures.called
+    call_told (state c.args.core.now) (state c.wait_objects.new.self) c.args.who (Call.Wait (WaitCall.Objects c.args.all c.args.mode c.args.handles.now)) c.wait_objects.result c.wait_objects.new.self.grants c.wait_objects.ensures.called

@@ -16,7 +16,7 @@ pub returns : goal.returns
 returns c =
     let d = c.tell_anew.new.self in
     let new = c.wait_for_objects.new.self in
-    let wait = WaitCall.Objects c.args.these.now c.args.all c.args.mode in
+    let wait = WaitCall.Objects c.args.all c.args.mode c.args.these.now in
     let made = c.wait_for_objects.ensures.made in
     let local = c.wait_for_objects.ensures.local in
     let by = subst (λ (t : ℕ). Made (state d) t (wait_denied d.handles d.objects wait) (Call.Wait (wait_named d.handles wait)) c.wait_for_objects.result new.grants (state new)) c.new.ensures made in
@@ -31,7 +31,7 @@ returns c =
 pub returns-in-Some : goal.returns-in-Some
 returns-in-Some c =
     let d = c.tell_anew.new.self in
-    let wait = WaitCall.Objects c.args.these.now c.args.all c.args.mode in
+    let wait = WaitCall.Objects c.args.all c.args.mode c.args.these.now in
     let answers = subst (λ (s : State). IsRefusal s c.args.who (wait_denied s.handles s.objects wait) (Call.Wait (wait_named s.handles wait)) c.in-Some.refusal) c.tell_anew.ensures.state
     (is_refusal (state d) c.args.who (wait_denied d.handles d.objects wait) (Call.Wait (wait_named d.handles wait)) c.in-Some.refusal (c.in-Some.ensures.refused (wait_denied d.handles d.objects wait) (Call.Wait (wait_named d.handles wait)))) in
     record {

@@ -32,8 +32,8 @@ returns c =
     let room : length d.grants + fin.len d.table.pending < d.threads = subst (λ (x : Dispatcher). length x.grants + fin.len x.table.pending < x.threads) (sym c.self.view_is) c.requires.can.room in
     let done : Begins d.table c.begin.new.self c.args.thread w =
     subst (λ (o : Option ℕ). Begins d.table c.begin.new.self c.args.thread (record { objects = c.args.objects.now; all = c.args.all; alertable = c.args.alertable; deadline = o })) c.deadline_after.ensures c.in_ok-begin.ensures.begins in
-    subst (λ (k : ℕ). HasPended c.args.self.now (record d { table = c.begin.new.self; standings = set d.standings k Waiting }) c.args.thread (WaitCall.Objects c.args.objects.now c.args.all (record { ms = c.args.ms; alertable = c.args.alertable })) (Ok tt)) (sym c.get.ensures)
-    (subst (λ (x : Dispatcher). HasPended x (record d { table = c.begin.new.self; standings = set d.standings c.args.thread Waiting }) c.args.thread (WaitCall.Objects c.args.objects.now c.args.all (record { ms = c.args.ms; alertable = c.args.alertable })) (Ok tt)) c.self.view_is
+    subst (λ (k : ℕ). HasPended c.args.self.now (record d { table = c.begin.new.self; standings = set d.standings k Waiting }) c.args.thread (WaitCall.Objects c.args.all (record { ms = c.args.ms; alertable = c.args.alertable }) c.args.objects.now) (Ok tt)) (sym c.get.ensures)
+    (subst (λ (x : Dispatcher). HasPended x (record d { table = c.begin.new.self; standings = set d.standings c.args.thread Waiting }) c.args.thread (WaitCall.Objects c.args.all (record { ms = c.args.ms; alertable = c.args.alertable }) c.args.objects.now) (Ok tt)) c.self.view_is
     (record {
       state = pends_too d c.begin.new.self c.args.thread w done.pending done.joined done.queues_kept;
       sound = sound_begun d c.begin.new.self c.args.thread w sound able idle room done.pending c.in_ok-begin.ensures.agrees (queues_longer d.table c.begin.new.self c.args.thread w done.joined done.queues_kept);

@@ -17,7 +17,7 @@ use Rattle.nt_core.proofs.machine.Machine.wait_for.Goals as goal
 pub begin_wait-requires-clause-can : goal.begin_wait-requires-clause-can
 begin_wait-requires-clause-can c =
     let d = c.args.self.now in
-    let call = Call.Wait (WaitCall.Objects c.args.numbers.now c.args.all c.args.mode) in
+    let call = Call.Wait (WaitCall.Objects c.args.all c.args.mode c.args.numbers.now) in
     let judged = c.objects_refusal.ensures ∙ (ap (λ (os : List Object). first_of_causes (objects_causes os c.args.thread c.args.denied c.args.numbers.now)) c.as_slice.ensures ∙ ap (λ (x : Dispatcher). first_of_causes (objects_causes x.objects c.args.thread c.args.denied c.args.numbers.now)) c.self.view_is) in
     let free : refusal (state d) c.args.thread false call ≡ None = undenied (state d) c.args.thread c.args.denied call (c.requires.caller c.args.denied call ∙ (sym judged ∙ c.in-None.is)) in
     free_can d c.args.thread (wait_on c.args.numbers.now c.args.all) c.requires.fresh c.requires.caller (sound_objects (state d) c.args.thread c.args.numbers.now c.args.all c.args.mode c.requires.living free)
@@ -25,7 +25,7 @@ begin_wait-requires-clause-can c =
 pub returns-in-Some : goal.returns-in-Some
 returns-in-Some c =
     let d = c.args.self.now in
-    let call = Call.Wait (WaitCall.Objects c.args.numbers.now c.args.all c.args.mode) in
+    let call = Call.Wait (WaitCall.Objects c.args.all c.args.mode c.args.numbers.now) in
     let judged = c.objects_refusal.ensures ∙ (ap (λ (os : List Object). first_of_causes (objects_causes os c.args.thread c.args.denied c.args.numbers.now)) c.as_slice.ensures ∙ ap (λ (x : Dispatcher). first_of_causes (objects_causes x.objects c.args.thread c.args.denied c.args.numbers.now)) c.self.view_is) in
     refused_made d c.args.thread c.args.denied call c.in-Some.refusal c.requires.fresh c.requires.caller (sym judged ∙ c.in-Some.is)
 
@@ -35,7 +35,7 @@ returns-in-None c =
     let new = c.begin_wait.new.self in
     let t = c.args.thread in
     let began = c.begin_wait.ensures in
-    let asked = WaitCall.Objects c.args.numbers.now c.args.all c.args.mode in
+    let asked = WaitCall.Objects c.args.all c.args.mode c.args.numbers.now in
     let judged = c.objects_refusal.ensures ∙ (ap (λ (os : List Object). first_of_causes (objects_causes os t c.args.denied c.args.numbers.now)) c.as_slice.ensures ∙ ap (λ (x : Dispatcher). first_of_causes (objects_causes x.objects t c.args.denied c.args.numbers.now)) c.self.view_is) in
     waited_made old new t c.args.denied (Call.Wait asked) c.begin_wait.result c.requires.fresh c.requires.caller (sym judged ∙ c.in-None.is)
     (ok_then

@@ -20,5 +20,5 @@ returns-then-these-gt-MAX_WAIT_OBJECTS c =
     let as_many : length named ≡ length c.args.these.now = length-map c.args.these.now (object_named d.handles) in
     let above = c.if-these-gt-MAX_WAIT_OBJECTS.true in
     let many : (length named == 0 || nat_lt MAX_WAIT_OBJECTS (length named)) ≡ true = grind (arith, nat_tests, as_many, above) in
-    refused_made d c.args.thread denied (Call.Wait (WaitCall.Objects named c.args.all c.args.mode)) InvalidParameter c.requires.fresh c.requires.caller
+    refused_made d c.args.thread denied (Call.Wait (WaitCall.Objects c.args.all c.args.mode named)) InvalidParameter c.requires.fresh c.requires.caller
     (ap (λ (b : Bool). first_of_causes ((b, InvalidParameter) ∷ (list_any (is_unknown d.objects) named, InvalidHandle) ∷ (denied, AccessDenied) ∷ (has_twice named, InvalidParameter) ∷ (list_any (is_at_limit d.objects c.args.thread) named, RecursionLimit) ∷ [])) many)

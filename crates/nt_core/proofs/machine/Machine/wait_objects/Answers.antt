@@ -17,5 +17,5 @@ pub returns-clause-called : goal.returns-clause-called
 returns-clause-called c =
     let old = c.args.self.now in
     let left = state c.make_wait.new.self in
-    let made = subst (λ (gs : List Grant). Made (state old) c.args.who (is_denied (state old) (Call.Wait (WaitCall.Objects c.args.these.now c.args.all c.args.mode))) (call_named old.handles (Call.Wait (WaitCall.Objects c.args.these.now c.args.all c.args.mode))) (Ok c.in_ok-reply.reply) gs left) (sym c.end_forgotten.ensures.grants) c.in_ok-reply.ensures.made in
+    let made = subst (λ (gs : List Grant). Made (state old) c.args.who (is_denied (state old) (Call.Wait (WaitCall.Objects c.args.all c.args.mode c.args.these.now))) (call_named old.handles (Call.Wait (WaitCall.Objects c.args.all c.args.mode c.args.these.now))) (Ok c.in_ok-reply.reply) gs left) (sym c.end_forgotten.ensures.grants) c.in_ok-reply.ensures.made in
     (left, made, c.end_forgotten.ensures.ends)
