@@ -39,7 +39,6 @@ pub(crate) struct Mode {
 
 impl Mode {
     /// The parts of a waiting call that say how.
-    #[inline(always)]
     fn new(all: bool, ms: u32, alertable: bool) -> Mode
         ensures { result ≡ record { all = all; alertable = alertable; ms = ms } }
     {
@@ -187,7 +186,6 @@ impl Machine {
     }
 
     /// The same for the handles of a slice.
-    #[inline(always)]
     fn wait_for_objects(&mut self, thread: ThreadId, these: &[Handle], mode: Mode) -> Answer
         requires fresh { IsFresh self.old }
         requires caller { IsFreeToCall (state self.old) thread }
@@ -266,7 +264,6 @@ impl Machine {
     }
 
     /// Makes this thread's wait for the objects that these handles name, or refuses it, and ends no object.
-    #[inline(always)]
     fn make_wait(&mut self, who: u32, these: &[Handle], mode: Mode) -> Answer
         requires steady { IsSteady self.old }
         ensures { IsWaitMade self.old self.new who (objects_call mode these.now) result }
@@ -279,7 +276,6 @@ impl Machine {
     }
 
     /// `call` of this thread's wait for the objects that these handles name.
-    #[inline(always)]
     pub fn wait_objects(
         &mut self,
         who: u32,

@@ -12,7 +12,6 @@ use nt_alarms::Alarms;
 use nt_life::Lasting;
 
 /// Whether no wait pends, and none has ended.
-#[inline(always)]
 pub(crate) fn is_still(life: &Lasting) -> bool
     ensures { result ≡ true → (life.now.core.grants ≡ []) × (map.len (state life.now.core).waits ≡ 0) }
 {
@@ -21,7 +20,6 @@ pub(crate) fn is_still(life: &Lasting) -> bool
 }
 
 /// Whether no wait pends.
-#[inline(always)]
 pub(crate) fn is_idle(life: &Lasting) -> bool
     ensures { result ≡ true → map.len (state life.now.core).waits ≡ 0 }
 {
@@ -29,7 +27,6 @@ pub(crate) fn is_idle(life: &Lasting) -> bool
 }
 
 /// What becomes of alarms and watchers after a call of this thread, whose wait began or did not, or after a tick. Returns who is called.
-#[inline(always)]
 pub(crate) fn settle_all(
     life: &Lasting,
     alarms: &mut Alarms,
@@ -48,7 +45,6 @@ pub(crate) fn settle_all(
 }
 
 /// The same for who is called. If no wait pended before and none began, one look tells that nothing becomes of them.
-#[inline(always)]
 pub(crate) fn settle(
     life: &Lasting,
     alarms: &mut Alarms,
