@@ -30,7 +30,6 @@ impl Nt {
     }
 
     /// Makes the wait of this thread for any of the objects that these handles name, or for all.
-    #[inline(always)]
     pub(crate) fn wait(
         &mut self,
         who: u32,

@@ -24,7 +24,6 @@ pub struct NtReply {
 }
 
 /// A reply that tells a number, or none.
-#[inline(always)]
 fn plain(kind: u32, number: u32) -> NtReply
     ensures { result
         ≡ record { kind = kind; number = number; previous = pos 0; timed = false; routine = 0; arg = 0; at = 0 } }
@@ -41,7 +40,6 @@ fn plain(kind: u32, number: u32) -> NtReply
 }
 
 /// The reply in numbers.
-#[inline(always)]
 fn in_numbers(reply: &Reply) -> NtReply
     ensures { result ≡ reply_in reply.now }
 {
@@ -70,7 +68,6 @@ fn in_numbers(reply: &Reply) -> NtReply
 }
 
 /// Tells C a result: 0 and the reply, or the number of the refusal.
-#[inline(always)]
 pub(crate) fn tell(asked: Result<Reply, Refusal>, out: &mut NtReply) -> u32
     ensures number { result ≡ error_of asked }
     ensures reply { out.new ≡ reply_after out.old asked }

@@ -16,7 +16,6 @@ type WaitedHandles = ArrayVec<Handle, MAX_WAIT_OBJECTS>;
 
 /// The handles with these numbers, in this order; none where they are more than a wait may name, since a wait for none is refused as
 /// such a wait is.
-#[inline(always)]
 fn handles_of(numbers: &[u32]) -> WaitedHandles
     ensures few { length numbers.now ≤ MAX_WAIT_OBJECTS → result.items ≡ numbers.now }
     ensures many { MAX_WAIT_OBJECTS < length numbers.now → result.items ≡ [] }
@@ -34,7 +33,6 @@ fn handles_of(numbers: &[u32]) -> WaitedHandles
 type FewHandles = ArrayVec<Handle, FEW_OBJECTS>;
 
 /// The handles with these numbers, in this order.
-#[inline(always)]
 fn few_handles_of(numbers: &[u32]) -> FewHandles
     requires { length numbers.now ≤ FEW_OBJECTS }
     ensures { result.items ≡ numbers.now }
@@ -47,7 +45,6 @@ fn few_handles_of(numbers: &[u32]) -> FewHandles
 }
 
 /// The wait for the few objects that the handles with these numbers name.
-#[inline(always)]
 fn wait_for_few(
     nt: &mut Nt,
     who: u32,

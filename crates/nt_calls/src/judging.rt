@@ -27,7 +27,6 @@ pub fn event_named(handles: &HandleTable, objects: &ObjectTable, handle: Handle)
 }
 
 /// The timer that the handle names, to be cancelled.
-#[inline(always)]
 pub fn timer_named(handles: &HandleTable, objects: &ObjectTable, handle: Handle) -> Judged
     ensures { IsJudged handles.now.opened handle modify_state (kind_causes is_timer objects.now.items) result }
 {
@@ -39,7 +38,6 @@ pub fn timer_named(handles: &HandleTable, objects: &ObjectTable, handle: Handle)
 }
 
 /// The timer that the handle names, to be armed with this period.
-#[inline(always)]
 pub fn timer_to_arm(
     handles: &HandleTable,
     objects: &ObjectTable,
@@ -57,7 +55,6 @@ pub fn timer_to_arm(
 }
 
 /// The semaphore that the handle names, for a release by this count.
-#[inline(always)]
 pub fn semaphore_named(
     handles: &HandleTable,
     objects: &ObjectTable,
@@ -88,7 +85,6 @@ pub fn mutex_named(
 }
 
 /// The object of the running thread that the handle names, for an APC.
-#[inline(always)]
 pub fn running_thread(handles: &HandleTable, objects: &ObjectTable, handle: Handle) -> Judged
     ensures { IsJudged handles.now.opened handle set_context (apc_causes objects.now.items) result }
 {
@@ -97,7 +93,6 @@ pub fn running_thread(handles: &HandleTable, objects: &ObjectTable, handle: Hand
 }
 
 /// The object that the handle names, for one handle more with these rights.
-#[inline(always)]
 pub fn object_to_share(
     handles: &HandleTable,
     objects: &ObjectTable,

@@ -116,7 +116,6 @@ impl Machine {
     }
 
     /// Ends each object that nothing keeps any more, and looks at none that has no mark.
-    #[inline(always)]
     pub(crate) fn end_forgotten(&mut self)
         requires steady { IsSteady self.old }
         ensures ends { Ends (state self.old) (state self.new) }

@@ -62,7 +62,6 @@ impl Machine {
     }
 
     /// The thread's wait for these objects pends from now on. Where memory is refused, as it can be unless there is one, nothing changes.
-    #[inline(always)]
     pub(crate) fn pend(
         &mut self,
         thread: ThreadId,

@@ -132,7 +132,6 @@ impl Machine {
 
     /// Grants what fits after the object at this object alone changed: mostly no wait is on it. The caller knows that a wait that
     /// fits names it, and needs it.
-    #[inline(always)]
     pub(crate) fn serve_one(&mut self, object: ObjectNumber)
         requires sound { IsMachineSound self.old }
         requires local { FitOnlyIn (sequence (state self.old) (object ∷ [])) (state self.old) }

@@ -182,7 +182,6 @@ impl Machine {
     }
 
     /// The same for the handles of a slice.
-    #[inline(always)]
     fn wait_for_objects(
         &mut self,
         thread: ThreadId,
@@ -220,7 +219,6 @@ impl Machine {
     }
 
     /// The same for none or several handles. A list of few objects has less room to clear.
-    #[inline(always)]
     fn wait_for_several(
         &mut self,
         thread: ThreadId,
@@ -307,7 +305,6 @@ impl Machine {
     }
 
     /// Makes this thread's wait for the objects that these handles name, or refuses it, and ends no object.
-    #[inline(always)]
     fn make_wait(&mut self, who: u32, these: &[Handle], all: bool, mode: WaitMode) -> Answer
         requires steady { IsSteady self.old }
         ensures { IsWaitMade self.old self.new who (WaitCall.Objects all mode these.now) result }
@@ -320,7 +317,6 @@ impl Machine {
     }
 
     /// `call` of this thread's wait for the objects that these handles name.
-    #[inline(always)]
     pub fn wait_objects(&mut self, who: u32, these: &[Handle], all: bool, mode: WaitMode) -> Answer
         requires steady { IsSteady self.old }
         requires living { LivesWhileKept (state self.old) }

@@ -285,7 +285,6 @@ impl<N: Named> Book<N> {
 }
 
 /// There is no place, or no number, for one entry and one more for each pending wait.
-#[inline(always)]
 pub(crate) fn is_full(entries: usize, room: usize, next: u64, pending: usize) -> bool
     requires { next ≤ ENTRY_LIMIT }
     ensures { (result ≡ true) ↔ (min (room - entries) (ENTRY_LIMIT - next) < 1 + pending) }
@@ -297,7 +296,6 @@ pub(crate) fn is_full(entries: usize, room: usize, next: u64, pending: usize) ->
 
 /// Whether a wait of the thread pended before its call, which was answered so. A call is accepted of a thread alone that waits for
 /// nothing, and a refused one changes no wait: so mostly nothing is looked at.
-#[inline(always)]
 fn waited_before(core: &Core, who: ThreadId, answer: &Result<Reply, Refusal>) -> bool
     ensures { result ≡ (is_err answer.now && pends (state core.now) who) }
 {

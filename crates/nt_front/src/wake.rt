@@ -117,7 +117,6 @@ impl Bells {
     }
 
     /// Wakes these threads, and no others.
-    #[inline(always)]
     pub(crate) fn ring(&self, threads: ToWake) {
         let ToWake { marks } = threads;
         match marks {

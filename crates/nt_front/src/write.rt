@@ -104,7 +104,6 @@ pub(crate) fn publish(
 }
 
 /// Writes the grants, from this number on, and sends them. Mostly there are none.
-#[inline(always)]
 pub(crate) fn send(
     mail: &Mail,
     dispatcher: &mut DispatcherSeat,

@@ -1,4 +1,4 @@
-//! Calls of a thread, counted.
+//! Calls of a thread, counted. Each is inlined into its shape's loop, so that a round has no calls of the bench's own.
 use crate::told::Told;
 use nt_core::{Act, Reply, WaitCall, WaitMode};
 use nt_front::{Begun, Front, Named, Pass, Waited};

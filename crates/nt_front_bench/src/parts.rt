@@ -43,7 +43,7 @@ fn is_apc(answer: &Result<Reply, Refusal>) -> bool
     matches!(answer, Ok(Reply::Apc(_)))
 }
 
-/// Carries the call out, and writes it with its result.
+/// Carries the call out, and writes it with its result. It is inlined, as those of `moves` are.
 #[inline(always)]
 fn write(
     core: &mut Core,

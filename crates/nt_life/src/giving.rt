@@ -260,7 +260,6 @@ pub(crate) fn make_act(
 }
 
 /// Whether the call takes a number or gives one back.
-#[inline(always)]
 fn is_numbered(call: &Call) -> bool
     ensures { result ≡ is_numbered call.now }
 {
@@ -292,7 +291,6 @@ fn call_giving(
 }
 
 /// Whether the call takes a number or gives one back that may be given again.
-#[inline(always)]
 pub(crate) fn gives(spare: &Option<Spare>, call: &Call) -> bool
     ensures { result ≡ gives spare.now call.now }
 {

@@ -92,7 +92,6 @@ impl Lasting {
     }
 
     /// The dispatcher, to be read: its grants, its present moment, whether a thread waits, and so on.
-    #[inline(always)]
     pub fn core(&self) -> &Core
         ensures { result.now ≡ self.now.core }
     {

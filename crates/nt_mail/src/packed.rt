@@ -131,7 +131,6 @@ pub enum ReadEntry<'e> {
 
 impl PackedEntry {
     /// The entry of a call.
-    #[inline(always)]
     pub fn called(who: ThreadId, call: Call, answer: Result<Reply, Refusal>) -> PackedEntry
         requires { CanHand call answer }
         ensures { result ≡ Called who call answer }
@@ -220,7 +219,6 @@ impl PackedEntry {
 }
 
 /// The same answer, in few bytes.
-#[inline(always)]
 fn short_of(answer: Result<Reply, Refusal>) -> Result<ShortReply, Refusal>
     requires { hands_apc answer ≡ false }
     ensures { result_of result ≡ answer }
@@ -232,7 +230,6 @@ fn short_of(answer: Result<Reply, Refusal>) -> Result<ShortReply, Refusal>
 }
 
 /// The same reply, in few bytes.
-#[inline(always)]
 fn short_reply(reply: Reply) -> ShortReply
     requires { hands_apc (Ok reply) ≡ false }
     ensures { long_reply result ≡ reply }

@@ -25,7 +25,6 @@ use std::mem;
 impl Mail {
     /// Writes a call or tick of the thread after which no wait of it is pending: its word becomes idle, or stays as it is if it is
     /// idle already.
-    #[inline(always)]
     pub fn note(
         &self,
         dispatcher: &mut DispatcherSeat,
@@ -68,7 +67,6 @@ impl Mail {
     }
 
     // The caller's seat is joined for the one store, and parted again.
-    #[inline(always)]
     fn write_call(
         &self,
         dispatcher: &mut DispatcherSeat,
@@ -189,7 +187,6 @@ impl Mail {
 }
 
 // Writes the call or tick that `W` names: by a store, or, where no wait is pending and the word is idle, by a load, which leaves it.
-#[inline(always)]
 fn store_unless_idle<W: Writing>(
     table: &Letters,
     seat: &mut Place,
@@ -221,7 +218,6 @@ fn store_unless_idle<W: Writing>(
 }
 
 // One load. Where the word is idle, that writes the call or tick that `W` names, and the word stays. Answers whether it is.
-#[inline(always)]
 fn note_if_idle<W: Writing>(
     table: &Letters,
     seat: &mut Place,
@@ -247,7 +243,6 @@ fn note_if_idle<W: Writing>(
 }
 
 // One store, which writes the call or tick that `W` names.
-#[inline(always)]
 fn store_call<W: Writing>(
     table: &Letters,
     seat: &mut Place,

@@ -3,7 +3,6 @@ ghost use Rattle.std.specs.Prelude.{◌≡◌, ◌≢◌, ◌<◌, ◌/◌, ◌+
 ghost use Rattle.nt_marks.specs.Bits.{ChangesBit, IsLowestBit};
 
 /// Sets this bit.
-#[inline(always)]
 pub fn set_bit(words: &mut [u64], bit: usize)
     requires { bit / 64 < length words.old }
     ensures { ChangesBit words.old words.new bit 1 }
@@ -12,7 +11,6 @@ pub fn set_bit(words: &mut [u64], bit: usize)
 }
 
 /// Clears this bit. Returns whether its word is 0 now.
-#[inline(always)]
 pub fn clear_bit(words: &mut [u64], bit: usize) -> bool
     requires { bit / 64 < length words.old }
     ensures changes { ChangesBit words.old words.new bit 0 }
@@ -25,7 +23,6 @@ pub fn clear_bit(words: &mut [u64], bit: usize) -> bool
 }
 
 /// The lowest bit that is set. It is in this word, and all words before it are 0.
-#[inline(always)]
 pub fn lowest_bit(words: &[u64], word: usize) -> usize
     requires few { word < 2 ^ 32 }
     requires here { slice_index words.now word ≢ 0 }

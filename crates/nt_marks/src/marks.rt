@@ -143,7 +143,6 @@ impl Marks {
     }
 
     /// Marks this place.
-    #[inline(always)]
     pub fn set(&mut self, place: usize)
         requires { place < length self.old }
         ensures { self.new ≡ slice_set self.old place true }
@@ -154,7 +153,6 @@ impl Marks {
     }
 
     /// Takes the mark of this place away, if it has one.
-    #[inline(always)]
     pub fn clear(&mut self, place: usize)
         requires { place < length self.old }
         ensures { self.new ≡ slice_set self.old place false }
@@ -169,7 +167,6 @@ impl Marks {
     }
 
     /// The lowest place that is marked, if one is.
-    #[inline(always)]
     pub fn first(&self) -> Option<usize>
         ensures { MatchOption result (NoneMarked self.now) (λ place. IsFirstMarked self.now place) }
     {
@@ -182,7 +179,6 @@ impl Marks {
     }
 
     /// Takes away the mark of the lowest place that is marked, if one is, and returns the place.
-    #[inline(always)]
     pub fn take_first(&mut self) -> Option<usize>
         ensures first { MatchOption result (NoneMarked self.old) (λ place. IsFirstMarked self.old place) }
         ensures rest { MatchOption result (self.new ≡ self.old) (λ place. self.new ≡ slice_set self.old place false) }
@@ -193,7 +189,6 @@ impl Marks {
     }
 
     /// Whether no place is marked.
-    #[inline(always)]
     pub fn is_empty(&self) -> bool
         ensures { IsTrue result ↔ NoneMarked self.now }
     {

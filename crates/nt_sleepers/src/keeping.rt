@@ -110,7 +110,6 @@ fn call_one(core: &Core, alarms: &mut Alarms, watchers: &Marks) -> Option<u32>
 }
 
 /// Whether nothing becomes of alarms and watchers: no wait began, none has ended, and nobody watches.
-#[inline(always)]
 fn is_quiet(core: &Core, watchers: &Marks, began: bool) -> bool
     ensures began { result ≡ true → began ≡ false }
     ensures ended { result ≡ true → core.now.grants ≡ [] }
@@ -141,7 +140,6 @@ fn settle_each(
 }
 
 /// What becomes of alarms and watchers after a call of this thread, whose wait began or did not, or after a tick. Returns who is called.
-#[inline(always)]
 pub(crate) fn settle_all(
     core: &Core,
     alarms: &mut Alarms,
@@ -163,7 +161,6 @@ pub(crate) fn settle_all(
 }
 
 /// The same for who is called. If no wait pended before and none began, one look tells that nothing becomes of them.
-#[inline(always)]
 pub(crate) fn settle(
     core: &Core,
     alarms: &mut Alarms,

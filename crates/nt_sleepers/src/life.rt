@@ -13,7 +13,6 @@ use nt_life::Lasting;
 use nt_marks::Marks;
 
 /// Whether no wait pends, and none has ended.
-#[inline(always)]
 pub(crate) fn is_still(life: &Lasting) -> bool
     ensures { result ≡ true → (life.now.core.grants ≡ []) × (map.len (state life.now.core).waits ≡ 0) }
 {
@@ -22,7 +21,6 @@ pub(crate) fn is_still(life: &Lasting) -> bool
 }
 
 /// Whether no wait pends.
-#[inline(always)]
 pub(crate) fn is_idle(life: &Lasting) -> bool
     ensures { result ≡ true → map.len (state life.now.core).waits ≡ 0 }
 {
@@ -30,7 +28,6 @@ pub(crate) fn is_idle(life: &Lasting) -> bool
 }
 
 /// What becomes of alarms and watchers after a call of this thread, whose wait began or did not, or after a tick. Returns who is called.
-#[inline(always)]
 pub(crate) fn settle_all(
     life: &Lasting,
     alarms: &mut Alarms,
@@ -49,7 +46,6 @@ pub(crate) fn settle_all(
 }
 
 /// The same for who is called. If no wait pended before and none began, one look tells that nothing becomes of them.
-#[inline(always)]
 pub(crate) fn settle(
     life: &Lasting,
     alarms: &mut Alarms,

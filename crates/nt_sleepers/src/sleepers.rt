@@ -48,7 +48,6 @@ impl Model for Sleepers {
 }
 
 /// Whether the caller's wait pends from now on.
-#[inline(always)]
 fn has_pended(asked: &Result<Reply, Refusal>) -> bool
     ensures { result ≡ pended asked.now }
 {
@@ -56,7 +55,6 @@ fn has_pended(asked: &Result<Reply, Refusal>) -> bool
 }
 
 /// Whether the call was refused, so that it has changed nothing.
-#[inline(always)]
 fn was_refused(asked: &Result<Reply, Refusal>) -> bool
     ensures { result ≡ true → (r : Refusal) × (asked.now ≡ Err r) }
 {

@@ -80,7 +80,6 @@ impl Handles {
     }
 
     /// These handles, in this order. Only those past `MAX_INLINE_HANDLES` may find no memory.
-    #[inline(always)]
     pub fn from_slice(alloc: Global, handles: &[Handle]) -> Result<Self, AllocError>
         ensures ok { IfOk result (λ these. these ≡ handles.now) }
         ensures err { OnErr result (MAX_INLINE_HANDLES < length handles.now) }
@@ -93,7 +92,6 @@ impl Handles {
     }
 
     /// This handle alone. It takes no memory.
-    #[inline(always)]
     pub fn from_one(alloc: Global, handle: Handle) -> Self
         ensures { result ≡ handle ∷ [] }
     {
@@ -155,7 +153,6 @@ impl Handles {
     }
 
     /// The handle, if there is one alone.
-    #[inline(always)]
     pub fn alone(&self) -> Option<Handle>
         ensures { MatchOption result (length self.now ≢ 1) (λ handle. self.now ≡ handle ∷ []) }
     {

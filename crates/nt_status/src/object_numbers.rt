@@ -64,7 +64,6 @@ impl ObjectNumbers {
 
     /// These objects in the place of those that it has. Where they are as many, it takes no memory; where memory is refused, nothing
     /// changes.
-    #[inline(always)]
     pub fn copy_from(&mut self, objects: &[ObjectNumber]) -> Result<(), AllocError>
         ensures ok { OnOk result (self.new ≡ objects.now) }
         ensures err { OnErr result (self.new ≡ self.old) }
@@ -82,7 +81,6 @@ impl ObjectNumbers {
     }
 
     /// This object alone in the place of those that it has. It takes no memory.
-    #[inline(always)]
     pub fn put_one(&mut self, object: ObjectNumber)
         ensures { self.new ≡ object ∷ [] }
     {

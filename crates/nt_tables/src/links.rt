@@ -71,7 +71,6 @@ fn set_previous(links: &mut [Link], at: OptionalMutex, to: OptionalMutex)
 }
 
 /// Puts a mutex that is in no list into the thread's list, first.
-#[inline(always)]
 pub fn enter(
     firsts: &mut [OptionalMutex],
     links: &mut [Link],

@@ -57,7 +57,6 @@ impl Owners {
     }
 
     /// The thread owns this mutex, which nobody owned, from now on.
-    #[inline(always)]
     pub fn add(&mut self, thread: ThreadId, mutex: ObjectNumber)
         requires thread { thread < length self.old.lists }
         requires room { mutex < self.old.room }

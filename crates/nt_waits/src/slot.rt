@@ -60,7 +60,6 @@ fn no_wait(alloc: Global) -> Wait {
 }
 
 /// Makes the list so long. What the numbers are does not matter yet.
-#[inline(always)]
 fn make_numbers(numbers: &mut SmallVec<BlockNumber, 4>, count: usize) -> Result<(), AllocError>
     ensures { OnOk result (length numbers.new.items ≡ count) }
 {
@@ -80,7 +79,6 @@ fn make_numbers_slow(numbers: &mut SmallVec<BlockNumber, 4>, count: usize) -> Re
 }
 
 /// Makes the list one long. What the number is does not matter yet. It takes no memory.
-#[inline(always)]
 fn make_one_number(numbers: &mut SmallVec<BlockNumber, 4>)
     ensures { length numbers.new.items ≡ 1 }
 {
@@ -133,7 +131,6 @@ impl Slot {
     }
 
     /// The wait with its blocks, if there is one.
-    #[inline(always)]
     pub fn get(&self) -> Option<&Pending>
         ensures { option_copied result ≡ self.now }
     {
@@ -145,7 +142,6 @@ impl Slot {
     }
 
     /// The wait with its blocks, which there is.
-    #[inline(always)]
     pub fn filled(&self) -> &Pending
         requires { IsSome self.now }
         ensures { Some result.now ≡ self.now }
@@ -155,7 +151,6 @@ impl Slot {
 
     /// The thread's wait for these objects, all below `count`, stands here from now on, with a block at the end of each of their queues.
     /// Where memory is refused nothing changes.
-    #[inline(always)]
     pub fn fill(
         &mut self,
         queues: &mut Queues,
@@ -182,7 +177,6 @@ impl Slot {
     }
 
     /// The thread's wait for this object stands here from now on, with a block at the end of its queue. It takes no memory.
-    #[inline(always)]
     pub fn fill_one(
         &mut self,
         queues: &mut Queues,
@@ -212,7 +206,6 @@ impl Slot {
     }
 
     /// Takes the blocks of its wait out of their queues. The place is empty then.
-    #[inline(always)]
     pub fn empty(&mut self, queues: &mut Queues)
         requires there { IsSome self.old }
         requires linked { ForSome self.old (λ p. (t : ℕ) × IsLinked queues.old t p) }
@@ -230,7 +223,6 @@ impl Slot {
     }
 
     /// The same for a wait for this object alone. Answers the thread of the block after its own.
-    #[inline(always)]
     pub fn empty_one(&mut self, queues: &mut Queues, object: ObjectNumber) -> Option<ThreadId>
         requires there { IsSome self.old }
         requires one { ForSome self.old (λ p. p.wait.objects ≡ object ∷ []) }

@@ -157,7 +157,6 @@ impl WaitTable {
 
     /// Begins the thread's wait for these objects, last in the queue of each. It is written where it will lie. Refused only where memory
     /// is, and then nothing changes.
-    #[inline(always)]
     pub fn begin(
         &mut self,
         t: ThreadId,
@@ -189,7 +188,6 @@ impl WaitTable {
     }
 
     /// Begins the thread's wait for this object alone, as `begin` does. There is room for it, so it takes no memory, and nothing is refused.
-    #[inline(always)]
     pub fn begin_one(&mut self, t: ThreadId, object: ObjectNumber, all: bool, about: About)
         requires free { wait_of self.old t ≡ None }
         requires place { t < self.old.room.threads }
@@ -204,7 +202,6 @@ impl WaitTable {
     }
 
     /// Ends the thread's wait where it lies. The other threads keep their order in every queue.
-    #[inline(always)]
     pub fn end_in_place(&mut self, t: ThreadId)
         requires { IsSome (wait_of self.old t) }
         ensures ended { EndsWait self.old self.new t }
@@ -233,7 +230,6 @@ impl WaitTable {
     }
 
     /// Ends the thread's wait, and hands it back. The other threads keep their order in every queue.
-    #[inline(always)]
     pub fn end(&mut self, t: ThreadId) -> Wait
         requires { IsSome (wait_of self.old t) }
         ensures wait { wait_of self.old t ≡ Some result }
@@ -256,7 +252,6 @@ impl WaitTable {
 
     /// The object of the thread's pending wait, where it names one alone, and whether the wait is for all: this counts as a look. None
     /// where the wait names several, which `get` shows.
-    #[inline(always)]
     pub fn look(&mut self, t: ThreadId) -> Option<(ObjectNumber, bool)>
         requires there { IsSome (wait_of self.old t) }
         requires countable { self.old.looked + 1 < 2 ^ 64 }

@@ -14,7 +14,6 @@ use crate::wait::Wait;
 use nt_status::{ObjectNumber, ThreadId};
 
 /// Ends the thread's wait where it lies: its blocks leave their queues, and its place is empty.
-#[inline(always)]
 pub fn end_wait(queues: &mut Queues, waits: &mut Vec<Slot>, t: ThreadId)
     requires table { IsTable queues.old waits.old.items }
     requires there { IsSome (slot_at waits.old.items t) }
@@ -26,7 +25,6 @@ pub fn end_wait(queues: &mut Queues, waits: &mut Vec<Slot>, t: ThreadId)
 }
 
 /// The same for a wait for this object alone. Answers the thread whose wait on the object began next.
-#[inline(always)]
 pub fn end_one_wait(
     queues: &mut Queues,
     waits: &mut Vec<Slot>,
@@ -45,7 +43,6 @@ pub fn end_one_wait(
 }
 
 /// Ends the thread's wait as `end_wait` does, and hands it back.
-#[inline(always)]
 pub fn take_wait(queues: &mut Queues, waits: &mut Vec<Slot>, t: ThreadId) -> Wait
     requires table { IsTable queues.old waits.old.items }
     requires there { IsSome (slot_at waits.old.items t) }
