@@ -3,6 +3,7 @@ use Rattle.std.specs.Prelude.{◌≡◌, ℕ, ◌==◌, ◌&&◌, nat_le, Bool, 
 use Rattle.std.specs.Str.{bytes_eq}
 use Rattle.nt_lines.specs.Options.{ends_options, is_operand}
 use Rattle.nt_lines.specs.Words.{digits_number}
+use Rattle.nt_threads.specs.declared.plan.TheConstants.{MOST_ROUNDS, MOST_WORKERS}
 use Rattle.nt_commands.specs.declared.plan.Plan.{Plan}
 use Rattle.nt_commands.specs.declared.plan.Plan.TheVariants.{Script, Threads}
 use Rattle.nt_commands.specs.declared.plan.PlanFault.{PlanFault}
@@ -36,7 +37,7 @@ option_count most word = option_and_then (λ n. if nat_le 1 n && nat_le n most t
 
 -- how many workers and rounds two words tell
 abbrev pub two_counts : List ℕ → List ℕ → Option (ℕ × ℕ)
-two_counts first second = option_and_then (λ workers. option_map (λ rounds. (workers, rounds)) (option_count 1000 second)) (option_count 64 first)
+two_counts first second = option_and_then (λ workers. option_map (λ rounds. (workers, rounds)) (option_count MOST_ROUNDS second)) (option_count MOST_WORKERS first)
 
 -- the workers and rounds of three words, one of which is `--`
 abbrev pub counts_of_three : List ℕ → List ℕ → List ℕ → Option (ℕ × ℕ)
@@ -63,7 +64,7 @@ threads_asked words = counts_after (drop 1 words)
 
 -- there may be so many workers and rounds
 abbrev pub are_lawful_counts : ℕ → ℕ → Bool
-are_lawful_counts workers rounds = nat_le 1 workers && nat_le workers 64 && nat_le 1 rounds && nat_le rounds 1000
+are_lawful_counts workers rounds = nat_le 1 workers && nat_le workers MOST_WORKERS && nat_le 1 rounds && nat_le rounds MOST_ROUNDS
 
 -- ---- the plan
 

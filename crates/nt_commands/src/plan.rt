@@ -8,13 +8,8 @@ ghost use Rattle.nt_commands.specs.Command.{command_line, file_found};
 use clap::error::ErrorKind;
 use clap::{Arg, ArgAction, ArgMatches, Command};
 use nt_lines::number_of;
+use nt_threads::{MOST_ROUNDS, MOST_WORKERS};
 use std::alloc::{AllocError, Global};
-
-/// The most threads beside the first one.
-pub(crate) const MOST_WORKERS: u32 = 64;
-
-/// The most rounds of each.
-pub(crate) const MOST_ROUNDS: u32 = 1000;
 
 /// What the program is to do.
 #[derive(Debug, Drop)]

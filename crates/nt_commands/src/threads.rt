@@ -5,9 +5,8 @@ ghost use Rattle.nt_commands.specs.Telling.{TellsLines, ThreadsEnd};
 ghost use Rattle.nt_commands.specs.CommandLine.{are_lawful_counts};
 
 use crate::errors::{OUT_OF_MEMORY, USAGE, say};
-use crate::plan::{MOST_ROUNDS, MOST_WORKERS};
 use nt_devices::{Sink, write_and_flush};
-use nt_threads::report_of;
+use nt_threads::{MOST_ROUNDS, MOST_WORKERS, report_of};
 use std::alloc::Global;
 use std::sync::Wait;
 use std::thread::Threads;

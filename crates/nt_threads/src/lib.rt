@@ -26,5 +26,5 @@ pub use counts::{Counts, counts_of};
 pub use door::Door;
 pub use driving::{Driven, drive};
 pub use front_door::FrontDoor;
-pub use plan::Objects;
+pub use plan::{MOST_ROUNDS, MOST_WORKERS, Objects};
 pub use running::{history_of, report_of};

@@ -6,10 +6,19 @@ ghost use Rattle.nt_threads.specs.Plans.{creations, lead_of, rounds_of, round_of
 
 use crate::door::Door;
 use nt_core::{Act, Reply, WaitCall, WaitMode};
-use nt_status::{EventFlags, Handle, Handles, INFINITE, MutexFlags, Refusal};
+use nt_status::{EventFlags, Handle, Handles, INFINITE, MAX_WAIT_OBJECTS, MutexFlags, Refusal};
 use std::alloc::{AllocError, Global};
 use std::sync::Wait;
 use std::sync::atomic::{AtomicBool, Ordering};
+
+/// The most workers: the first thread waits for all of them in one wait.
+pub const MOST_WORKERS: u32 = MAX_WAIT_OBJECTS as u32;
+
+/// The most rounds of each worker.
+pub const MOST_ROUNDS: u32 = 1000;
+
+/// The most threads: the workers and the first.
+pub(crate) const MOST_THREADS: u32 = MOST_WORKERS + 1;
 
 /// The objects that the threads of the plan share.
 #[derive(Clone, Copy)]

@@ -13,6 +13,7 @@ ghost use Rattle.nt_threads.specs.Reports.{PlanIsCarriedOut, IsThreadsReport, Co
 use crate::counts::counts_of;
 use crate::driving::{Driven, drive};
 use crate::front_door::FrontDoor;
+use crate::plan::{MOST_ROUNDS, MOST_THREADS, MOST_WORKERS};
 use crate::report::lines_of;
 use nt_front::{Blank, Front, Held, History, Named, Pass, open, prepare};
 use nt_mail::PackedEntry;
@@ -84,8 +85,8 @@ pub fn history_of<R: Threads + Wait + Sync>(
     workers: u32,
     rounds: u32,
 ) -> Result<History, AllocError>
-    requires workers { workers ≤ 64 }
-    requires rounds { rounds ≤ 1000 }
+    requires workers { workers ≤ MOST_WORKERS }
+    requires rounds { rounds ≤ MOST_ROUNDS }
     ensures comes { IfOk result (λ history. ComesOfRun (workers + 1) history.entries.items) }
     ensures whole { IfOk result (λ history. PlanIsCarriedOut workers rounds history.entries.items) }
 {
@@ -104,8 +105,8 @@ pub fn report_of<R: Threads + Wait + Sync>(
     workers: u32,
     rounds: u32,
 ) -> Result<Vec<u8>, AllocError>
-    requires workers { workers ≤ 64 }
-    requires rounds { rounds ≤ 1000 }
+    requires workers { workers ≤ MOST_WORKERS }
+    requires rounds { rounds ≤ MOST_ROUNDS }
     ensures { IfOk result (λ lines. IsThreadsReport workers rounds lines.items) }
 {
     let history = history_of(rt, alloc, workers, rounds)?;
@@ -121,7 +122,7 @@ fn told_of(
     rounds: u32,
     entries: &[PackedEntry],
 ) -> Result<Vec<u8>, AllocError>
-    requires workers { workers ≤ 64 }
+    requires workers { workers ≤ MOST_WORKERS }
     requires comes { ComesOfRun (workers + 1) entries.now }
     requires whole { PlanIsCarriedOut workers rounds entries.now }
     ensures { IfOk result (λ lines. IsThreadsReport workers rounds lines.items) }
@@ -140,13 +141,13 @@ fn run<N: Named + Send + Sync, R: Threads + Wait + Sync>(
 ) -> Result<Ran, AllocError>
     requires front { blank ≡ N.front }
     requires once { blank.lasts ≡ false }
-    requires threads { (0 < blank.threads) × (blank.threads ≤ 65) }
-    requires rounds { rounds ≤ 1000 }
+    requires threads { (0 < blank.threads) × (blank.threads ≤ MOST_THREADS) }
+    requires rounds { rounds ≤ MOST_ROUNDS }
     ensures comes { IfOk result (λ r. r.whole ≡ true → ComesOfRun blank.threads r.history.entries.items) }
     ensures whole { IfOk result (λ r. r.whole ≡ true
         → PlanIsCarriedOut (blank.threads - 1) rounds r.history.entries.items) }
 {
-    match Room::new(alloc, 65) {
+    match Room::new(alloc, MOST_THREADS as usize) {
         Ok(room) => run_in::<N, R>(rt, alloc, blank, room, rounds),
         Err(refused) => {
             drop(blank);
@@ -165,9 +166,9 @@ fn run_in<N: Named + Send + Sync, R: Threads + Wait + Sync>(
 ) -> Result<Ran, AllocError>
     requires front { blank ≡ N.front }
     requires once { blank.lasts ≡ false }
-    requires threads { (0 < blank.threads) × (blank.threads ≤ 65) }
-    requires rounds { rounds ≤ 1000 }
-    requires room { HasFreeRoom 65 room.doors × HasFreeRoom 65 room.back × HasFreeRoom 65 room.holds }
+    requires threads { (0 < blank.threads) × (blank.threads ≤ MOST_THREADS) }
+    requires rounds { rounds ≤ MOST_ROUNDS }
+    requires room { HasFreeRoom MOST_THREADS room.doors × HasFreeRoom MOST_THREADS room.back × HasFreeRoom MOST_THREADS room.holds }
     ensures comes { IfOk result (λ r. r.whole ≡ true → ComesOfRun blank.threads r.history.entries.items) }
     ensures whole { IfOk result (λ r. r.whole ≡ true
         → PlanIsCarriedOut (blank.threads - 1) rounds r.history.entries.items) }
@@ -192,8 +193,8 @@ fn run_on<N: Named + Send + Sync, R: Threads + Wait + Sync>(
 ) -> Ran
     requires passes { (passes.items ≡ new_threads N.front.threads) × (0 < N.front.threads) }
     requires once { N.front.lasts ≡ false }
-    requires threads { vec_len passes ≤ 65 }
-    requires rounds { rounds ≤ 1000 }
+    requires threads { vec_len passes ≤ MOST_THREADS }
+    requires rounds { rounds ≤ MOST_ROUNDS }
     requires room { HasFreeRoom (vec_len passes) room.doors × HasFreeRoom (vec_len passes) room.back × HasFreeRoom (vec_len passes) room.holds }
     ensures comes { result.whole ≡ true → ComesOfRun N.front.threads result.history.entries.items }
     ensures whole { result.whole ≡ true → PlanIsCarriedOut (N.front.threads - 1) rounds result.history.entries.items }
@@ -217,8 +218,8 @@ fn drive_on<'f, N: Named + Send + Sync, R: Threads + Wait + Sync>(
     room: Room<'f, N>,
     rounds: u32,
 ) -> (Vec<Held<N>>, bool)
-    requires threads { vec_len passes ≤ 65 }
-    requires rounds { rounds ≤ 1000 }
+    requires threads { vec_len passes ≤ MOST_THREADS }
+    requires rounds { rounds ≤ MOST_ROUNDS }
     requires room { HasFreeRoom (vec_len passes) room.doors × HasFreeRoom (vec_len passes) room.back × HasFreeRoom (vec_len passes) room.holds }
     ensures threads { map (λ h. (knowledge_of h).thread) result.0.items ≡ map (λ p. p.thread) passes.items }
     ensures whole { result.1 ≡ true → (o : Objects)
