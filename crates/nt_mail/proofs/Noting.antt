@@ -7,6 +7,7 @@ use Rattle.nt_calls.specs.Moves.{one_if}
 use Rattle.nt_mail.specs.declared.entry.Entry.{Entry}
 use Rattle.nt_mail.specs.declared.knowledge.View.{View}
 use Rattle.nt_mail.specs.declared.knowledge.Knowledge.{Knowledge}
+use Rattle.nt_mail.specs.declared.word.TheConstants.{STATES}
 use Rattle.nt_mail.specs.Entries.{Each, is_armed, arms, IsOwn}
 use Rattle.nt_mail.specs.Knowledge.{IsEarlier}
 use Rattle.nt_mail.specs.Views.{keeper, with_entry, with_entry_if_idle}
@@ -24,14 +25,14 @@ notes slots id log ms k held e own none s h sizes at fits64 =
     let v = keeper log ms (k ∷ []) in
     let same = (h.2.seats id v at).0 refl in
     let kept = subst (λ (x : List Entry × List ℕ). IsMailOf s.words s.views x.0 x.1) (λ i. (sym same.0 i, sym same.1 i)) h.2 in
-    found kept (eqb (slice_index s.words (k.thread + 1) % 1024) 0) refl
+    found kept (eqb (slice_index s.words (k.thread + 1) % STATES) 0) refl
   where
     Step : Bool → Type 0
     Step b = (w : View) × (a : Act (Unit {0})) × Valid s.homes held a
         × IsMail (stepped s (k.thread + 1) (slice_index s.words (k.thread + 1)) id held w a)
         × (◌≡◌ {A = Me (Unit {0}) View} (w, carried_after held a) (cond b (with_entry e (keeper log ms (k ∷ []))) (keeper log ms (k ∷ [])), held) × Each (IsEarlier (suc (length log))) (k ∷ []))
 
-    found : IsMailOf s.words s.views log ms → (b : Bool) → eqb (slice_index s.words (k.thread + 1) % 1024) 0 ≡ b → Step b
+    found : IsMailOf s.words s.views log ms → (b : Bool) → eqb (slice_index s.words (k.thread + 1) % STATES) 0 ≡ b → Step b
     found kept true is =
         let v = keeper log ms (k ∷ []) in
         let t = k.thread in
@@ -40,7 +41,7 @@ notes slots id log ms k held e own none s h sizes at fits64 =
         let p = (kept.seats id v at).1.0 in
         let same : now ≡ s.words = set-get_or s.words (t + 1) 0 in
         let word : slice_index now (t + 1) ≡ n = ap (λ l. slice_index l (t + 1)) same in
-        let low : n % 1024 ≡ 0 = eqb-true _ _ is in (
+        let low : n % STATES ≡ 0 = eqb-true _ _ is in (
           with_entry e v,
           keeps,
           tt,
@@ -50,8 +51,8 @@ notes slots id log ms k held e own none s h sizes at fits64 =
             written_call s.words now s.views id log ms k e false own none at kept
                 (ap length same)
                 (λ x ne. ap (λ l. slice_index l x) same)
-                (inl (n / 1024, omega (arith, word, low)))
-                (number_same t n (slice_index now (t + 1)) (log ++ e ∷ []) word (was_last-push t (n / 1024) log e p.number)),
+                (inl (n / STATES, omega (arith, word, low)))
+                (number_same t n (slice_index now (t + 1)) (log ++ e ∷ []) word (was_last-push t (n / STATES) log e p.number)),
           ),
           (refl, (earlier s.words log ms k kept.counted p, tt)),
         )

@@ -9,6 +9,7 @@ use Rattle.nt_mail.specs.declared.entry.Entry.{Entry}
 use Rattle.nt_mail.specs.declared.knowledge.View.{View}
 use Rattle.nt_mail.specs.declared.knowledge.Got.{Got}
 use Rattle.nt_mail.specs.declared.knowledge.Knowledge.{Knowledge}
+use Rattle.nt_mail.specs.declared.word.TheConstants.{STATES}
 use Rattle.nt_mail.specs.Entries.{Each}
 use Rattle.nt_mail.specs.Rule.{IsTaken, IsReplyWord, IsPart, IsTrueView, WasLast, keeping, parts_of}
 use Rattle.nt_mail.proofs.Calls.{SameOf}
@@ -24,8 +25,8 @@ fits_set words log ms views i w others mine j u e =
 pub word_same : (b b' : Bool) (w w' l l' : ℕ) (g s s' : List Got) → b' ≡ b → w' ≡ w → l' ≡ l → s' ≡ s → IsReplyWord b w l g s → IsReplyWord b' w' l' g s'
 word_same b b' w w' l l' g s s' p q r t h = subst (λ (x : Bool × ℕ × ℕ × List Got). IsReplyWord x.0 x.1 x.2 g x.3) (λ i. (sym p i, sym q i, sym r i, sym t i)) h
 
-pub number_same : (t w w' : ℕ) (log : List Entry) → w' ≡ w → WasLast t (w / 1024) log → WasLast t (w' / 1024) log
-number_same t w w' log is was = subst (λ (x : ℕ). WasLast t (x / 1024) log) (sym is) was
+pub number_same : (t w w' : ℕ) (log : List Entry) → w' ≡ w → WasLast t (w / STATES) log → WasLast t (w' / STATES) log
+number_same t w w' log is was = subst (λ (x : ℕ). WasLast t (x / STATES) log) (sym is) was
 
 pub part_kept : (words now : List ℕ) (log next : List Entry) (ms : List ℕ) (k : Knowledge) → length now ≡ length words → slice_index now (k.thread + 1) ≡ slice_index words (k.thread + 1) → SameOf k.thread log next → IsPart words log ms k → IsPart now next ms k
 part_kept words now log next ms k len at same p = record {

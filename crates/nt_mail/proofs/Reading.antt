@@ -13,6 +13,7 @@ use Rattle.nt_mail.specs.declared.entry.Entry.{Entry}
 use Rattle.nt_mail.specs.declared.knowledge.View.{View}
 use Rattle.nt_mail.specs.declared.knowledge.Got.{Got}
 use Rattle.nt_mail.specs.declared.knowledge.Knowledge.{Knowledge}
+use Rattle.nt_mail.specs.declared.word.TheConstants.{STATES}
 use Rattle.nt_mail.specs.Entries.{Each, given, grants_of, is_armed, last_of, pended_in}
 use Rattle.nt_mail.specs.Words.{idle_word, granted_word, grant_in}
 use Rattle.nt_mail.specs.Knowledge.{with_got, with_polled, with_moment, after_take, latest}
@@ -107,13 +108,13 @@ taken_word false n last e status g sent is small h taken = ⊎_elim
     (inl (e, refl), subst (λ (y : List Got × Got). IsTaken (g ++ y.1 ∷ []) y.0) (λ i. (sym sent_is i, named i)) (taken-both g before (given last s) old)))
     h
 
-pub takes : (slots id : ℕ) (k : Knowledge) (held : List (ℕ × Unit {0})) (old : ℕ) → 2 ≤ old % 1024
-    → Allows IsMail slots id (holder k, held) (k.thread + 1) (λ n. either (eqb n old) (idle_word (old / 1024)) n) (λ n after. (after ≡ (with_parts (after_take old n) (holder k), held)) × Each (λ x. IsWordFor x n) (k ∷ []))
+pub takes : (slots id : ℕ) (k : Knowledge) (held : List (ℕ × Unit {0})) (old : ℕ) → 2 ≤ old % STATES
+    → Allows IsMail slots id (holder k, held) (k.thread + 1) (λ n. either (eqb n old) (idle_word (old / STATES)) n) (λ n after. (after ≡ (with_parts (after_take old n) (holder k), held)) × Each (λ x. IsWordFor x n) (k ∷ []))
 takes slots id k held old granted s h sizes at fits64 = found (ℕ_discrete (slice_index s.words (k.thread + 1)) old)
   where
     Step : Bool → Type 0
     Step b = (w : View) × (a : Act (Unit {0})) × Valid s.homes held a
-        × IsMail (stepped s (k.thread + 1) (either b (idle_word (old / 1024)) (slice_index s.words (k.thread + 1))) id held w a)
+        × IsMail (stepped s (k.thread + 1) (either b (idle_word (old / STATES)) (slice_index s.words (k.thread + 1))) id held w a)
         × (◌≡◌ {A = Me (Unit {0}) View} (w, carried_after held a) (record { keeps = false; written = []; published = []; parts = map (cond b (with_got (grant_in old)) (with_polled (slice_index s.words (k.thread + 1)))) (k ∷ []) }, held) × Each (λ x. IsWordFor x (slice_index s.words (k.thread + 1))) (k ∷ []))
 
     found : Dec (slice_index s.words (k.thread + 1) ≡ old) → Step (eqb (slice_index s.words (k.thread + 1)) old)
@@ -122,9 +123,9 @@ takes slots id k held old granted s h sizes at fits64 = found (ℕ_discrete (sli
         let t = k.thread in
         let g = grant_in old in
         let n = slice_index s.words (t + 1) in
-        let is : n ≡ granted_word (old / 1024) (old % 1024 - 2) = omega (arith, e) in
-        let word = taken_word (is_armed t h.0) n (last_of t h.0) (old / 1024) (old % 1024 - 2) k.got (grants_of t h.0) is (omega arith) p.word p.taken in
-        let x = idle_word (old / 1024) in
+        let is : n ≡ granted_word (old / STATES) (old % STATES - 2) = omega (arith, e) in
+        let word = taken_word (is_armed t h.0) n (last_of t h.0) (old / STATES) (old % STATES - 2) k.got (grants_of t h.0) is (omega arith) p.word p.taken in
+        let x = idle_word (old / STATES) in
         let hit : Step true = (
           holder (with_got g k),
           keeps,
@@ -166,7 +167,7 @@ reads_as slots id me is =
     let P : Me (Unit {0}) View → Type 0 = λ x. Allows IsMail slots id x 0 (λ n. n) (λ n after. (after ≡ (with_parts (with_moment n) x.0, x.1)) × Each (λ x. latest 0 x.moments ≤ n) x.0.parts × (n ≤ MAX_MOMENT)) in
     subst P (sym is) (reads slots id (known_in me.0) [])
 
-pub takes_as : (slots id place old new : ℕ) (me : Me (Unit {0}) View) → me ≡ (holder (known_in me.0), []) → (known_in me.0).thread + 1 ≡ place → 2 ≤ old % 1024 → new ≡ idle_word (old / 1024)
+pub takes_as : (slots id place old new : ℕ) (me : Me (Unit {0}) View) → me ≡ (holder (known_in me.0), []) → (known_in me.0).thread + 1 ≡ place → 2 ≤ old % STATES → new ≡ idle_word (old / STATES)
     → Allows IsMail slots id me place (λ n. either (eqb n old) new n) (λ n after. (after ≡ (with_parts (after_take old n) me.0, me.1)) × Each (λ x. IsWordFor x n) me.0.parts)
 takes_as slots id place old new me is at granted bits =
     let P : (Me (Unit {0}) View × ℕ × ℕ) → Type 0 = λ x. Allows IsMail slots id x.0 x.1 (λ n. either (eqb n old) x.2 n) (λ n after. (after ≡ (with_parts (after_take old n) x.0.0, x.0.1)) × Each (λ k. IsWordFor k n) x.0.0.parts) in

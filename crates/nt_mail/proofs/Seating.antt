@@ -11,6 +11,7 @@ use Rattle.nt_calls.specs.Moves.{one_if}
 use Rattle.nt_mail.specs.declared.entry.Entry.{Entry}
 use Rattle.nt_mail.specs.declared.knowledge.View.{View}
 use Rattle.nt_mail.specs.declared.knowledge.Knowledge.{Knowledge}
+use Rattle.nt_mail.specs.declared.word.TheConstants.{STATES}
 use Rattle.nt_mail.specs.Entries.{Each}
 use Rattle.nt_mail.specs.Knowledge.{knows, newcomers}
 use Rattle.nt_mail.specs.Views.{nobody, first_view, rest_of, front_of, without_first, first_alone, together}
@@ -136,7 +137,7 @@ one_each t n m is false e = let ge = ltb-false t n e in let b : one_if (nat_lt (
 
 new_parts : (words : List ℕ) (k n : ℕ) → ((x : ℕ) → slice_index words x ≡ 0) → k + n < length words → Each (IsPart words [] []) (newcomers k n)
 new_parts words k zero none room = tt
-new_parts words k (suc n) none room = (record { inside = omega arith; made = refl; word = inl (0, none (k + 1)); number = ([], [], refl, ap (λ (x : ℕ). x / 1024) (none (k + 1))); taken = refl; moments = record { rising = tt; reached = omega arith; each = tt } }, new_parts words (suc k) n none (omega arith))
+new_parts words k (suc n) none room = (record { inside = omega arith; made = refl; word = inl (0, none (k + 1)); number = ([], [], refl, ap (λ (x : ℕ). x / STATES) (none (k + 1))); taken = refl; moments = record { rising = tt; reached = omega arith; each = tt } }, new_parts words (suc k) n none (omega arith))
 
 -- the mail at first
 pub begins : (words : List ℕ) (n : ℕ) → ((x : ℕ) → slice_index words x ≡ 0) → length words ≡ n + 1 → IsMail (opening words [] (first_view n))

@@ -13,6 +13,7 @@ use Rattle.nt_mail.specs.declared.entry.Entry.TheVariants.{Granted}
 use Rattle.nt_mail.specs.declared.knowledge.View.{View}
 use Rattle.nt_mail.specs.declared.knowledge.Got.{Got}
 use Rattle.nt_mail.specs.declared.knowledge.Knowledge.{Knowledge}
+use Rattle.nt_mail.specs.declared.word.TheConstants.{STATES}
 use Rattle.nt_mail.specs.Entries.{Each, given, call_at, grants_of, is_armed, last_of, AreMadeBelow, IsOwn, arms}
 use Rattle.nt_mail.specs.Words.{granted_word, called_word}
 use Rattle.nt_mail.specs.Knowledge.{latest, IsEarlier}
@@ -29,7 +30,7 @@ word_called : (b : Bool) (n : ℕ) (g s : List Got) → IsReplyWord b (called_wo
 word_called true n g s = refl
 word_called false n g s = inl (n, refl)
 
-number_called : (b : Bool) (n : ℕ) → called_word b n / 1024 ≡ n
+number_called : (b : Bool) (n : ℕ) → called_word b n / STATES ≡ n
 number_called true n = omega arith
 number_called false n = omega arith
 
@@ -45,7 +46,7 @@ earlier words log ms k counted p =
 -- a call or tick is written: of the words at most the caller's changes, and it is right
 pub written_call : (words now : List ℕ) (views : List View) (id : ℕ) (log : List Entry) (ms : List ℕ) (k : Knowledge) (e : Entry) (armed : Bool) → IsOwn k.thread e → one_if (is_armed k.thread log) + one_if (arms e) ≡ one_if armed
     → get_elem? views id ≡ some (keeper log ms (k ∷ [])) → IsMailOf words views log ms → length now ≡ length words → ((x : ℕ) → x ≢ k.thread + 1 → slice_index now x ≡ slice_index words x)
-    → IsReplyWord armed (slice_index now (k.thread + 1)) (suc (length log)) k.got (grants_of k.thread log) → WasLast k.thread (slice_index now (k.thread + 1) / 1024) (log ++ e ∷ [])
+    → IsReplyWord armed (slice_index now (k.thread + 1)) (suc (length log)) k.got (grants_of k.thread log) → WasLast k.thread (slice_index now (k.thread + 1) / STATES) (log ++ e ∷ [])
     → IsMailOf now (slice_set views id (with_entry e (keeper log ms (k ∷ [])))) (log ++ e ∷ []) ms
 written_call words now views id log ms k e armed own counts at kept len else right number =
     let v = keeper log ms (k ∷ []) in
@@ -116,7 +117,7 @@ calls slots id log ms k held e armed own counts s h sizes at fits64 =
             (length-set s.words (t + 1) word)
             (λ x ne. set_else s.words (t + 1) word x ne)
             (word_same armed armed word (slice_index now (t + 1)) n n k.got (grants_of t log) (grants_of t log) refl is refl refl (word_called armed n k.got (grants_of t log)))
-            (was_last-now t (slice_index now (t + 1) / 1024) next (ap (λ (x : ℕ). x / 1024) is ∙ number_called armed n ∙ sym a.last)),
+            (was_last-now t (slice_index now (t + 1) / STATES) next (ap (λ (x : ℕ). x / STATES) is ∙ number_called armed n ∙ sym a.last)),
       ),
       (refl, (earlier s.words log ms k kept.counted p, tt)),
     )
@@ -144,7 +145,7 @@ part_granted words now log ms t status k known is counted (yes same) p =
           a.last
           a.grants
           (inr (status, known, refl, (grants_of u log, refl), taken-below n k.got (grants_of u log) p.taken (counted u).grants));
-      number = was_last-now u (slice_index now (u + 1) / 1024) (log ++ Granted t status ∷ []) (let last = a.last in let small = code_small status known in omega arith);
+      number = was_last-now u (slice_index now (u + 1) / STATES) (log ++ Granted t status ∷ []) (let last = a.last in let small = code_small status known in omega arith);
       taken = subst (IsTaken k.got) (sym a.grants) (taken-sent k.got (grants_of u log) g p.taken);
       moments = p.moments;
     }
