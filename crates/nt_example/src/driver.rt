@@ -1,7 +1,7 @@
 //! Which guest goes on next.
 use nt_core::Core;
 use nt_core_calls::{Began, Calls, Timeout};
-use nt_status::{Handle, Moment, Refusal, Status};
+use nt_status::{Handle, Moment, Refusal, Status, UNITS_PER_MS};
 
 /// How many guests there are.
 pub const GUESTS: usize = 3;
@@ -64,7 +64,7 @@ impl Driver {
 
     /// The present moment, in milliseconds.
     pub fn ms(&self) -> u64 {
-        self.core.now().get() / 10_000
+        self.core.now().get() / UNITS_PER_MS
     }
 
     fn take_ended(&mut self) -> Option<(u32, Status)> {

@@ -1,7 +1,8 @@
 //! What may stand in a place of a line, as words for a reader.
 
 use nt_grammar::{ALERTABLE, Bindings, INF, Keyword, PLAIN};
-use nt_lines::{are_digits, caller_of, name_of, number_of};
+use nt_lines::{MAX_DIGITS, are_digits, caller_of, name_of, number_of};
+use nt_status::{MAX_MOMENT, MAX_THREADS};
 
 /// A place of a line.
 #[derive(Clone, Copy, Debug, PartialEq, Eq)]
@@ -35,14 +36,14 @@ pub(crate) enum Place {
 /// Whether the word is a number of at most `most`, or `-` and one of at most `least`.
 fn is_signed(word: &[u8], least: u64, most: u64) -> bool {
     match word {
-        [b'-', digits @ ..] => number_of(digits, 20).is_some_and(|n| n <= least),
-        _ => number_of(word, 20).is_some_and(|n| n <= most),
+        [b'-', digits @ ..] => number_of(digits, MAX_DIGITS).is_some_and(|n| n <= least),
+        _ => number_of(word, MAX_DIGITS).is_some_and(|n| n <= most),
     }
 }
 
 /// Whether the word is a number from `least` to `most`.
 fn is_number(word: &[u8], least: u64, most: u64) -> bool {
-    number_of(word, 20).is_some_and(|n| least <= n && n <= most)
+    number_of(word, MAX_DIGITS).is_some_and(|n| least <= n && n <= most)
 }
 
 /// Whether the word names an object, or is the number of a handle.
@@ -61,9 +62,9 @@ impl Place {
     pub(crate) fn fits(self, bindings: &Bindings, word: &[u8]) -> bool {
         match self {
             Place::Opening => word == b"threads".as_slice(),
-            Place::Threads => is_number(word, 1, 256),
+            Place::Threads => is_number(word, 1, u64::from(MAX_THREADS)),
             Place::First => word == b"tick".as_slice() || caller_of(word).is_some(),
-            Place::Moment => is_number(word, 0, 1 << 62),
+            Place::Moment => is_number(word, 0, MAX_MOMENT),
             Place::Keyword => Keyword::of(word).is_some(),
             Place::Name => name_of(word).is_some() && bindings.get(word).is_none(),
             Place::Object => is_object(bindings, word),

@@ -1,6 +1,6 @@
 //! A fault that was told, and of which more is asked for.
 
-use nt_lines::number_of;
+use nt_lines::{MAX_DIGITS, number_of};
 use std::alloc::AllocError;
 use std::env::{self, Env, VarError};
 
@@ -31,5 +31,5 @@ pub fn told_by<R: AllocGlobal + Env>(rt: &R) -> Result<Option<Told>, AllocError>
     ) else {
         return Ok(None);
     };
-    Ok(number_of(line.as_bytes(), 20).map(|line| Told { name, line, fault }))
+    Ok(number_of(line.as_bytes(), MAX_DIGITS).map(|line| Told { name, line, fault }))
 }

@@ -4,13 +4,10 @@ use crate::shapes::{Company, Kind, Shape};
 use crate::told::Told;
 use nt_core::Act;
 use nt_front::{Front, Named, Pass};
-use nt_status::{Handle, Moment, Status};
+use nt_status::{Handle, Moment, Status, UNITS_PER_MS};
 use std::alloc::Global;
 use std::sync::Wait;
 use std::time::Clock;
-
-/// The units of 100 ns of a millisecond.
-const UNITS: u64 = 10_000;
 
 /// Creates the crowd's events, and what the rounds use.
 pub fn set_stage<N: Named, R: Wait>(
@@ -95,7 +92,7 @@ fn arm<N: Named, R: Wait>(
     for number in 0..timers {
         let act = Act::SetTimer {
             timer: Handle::new(first.wrapping_add(number)),
-            due: (i64::from(number) + 1) * 10_000,
+            due: (i64::from(number) + 1) * UNITS_PER_MS as i64,
             period,
             routine: None,
         };
@@ -247,7 +244,7 @@ fn ticks<N: Named, R: Wait>(
     told: &mut Told,
 ) {
     for number in 0..rounds {
-        let Some(moment) = Moment::new((u64::from(number) + 1) * UNITS) else {
+        let Some(moment) = Moment::new((u64::from(number) + 1) * UNITS_PER_MS) else {
             told.wrong();
             return;
         };

@@ -3,9 +3,11 @@ use Rattle.std.specs.Prelude.{ℕ, ◌==◌, ◌&&◌, ◌||◌, nat_le, nat_lt,
 use Rattle.std.specs.Str.{bytes_eq}
 use Rattle.std.specs.Option.{option_copied}
 use Rattle.nt_lines.specs.Options.{ends_options, is_operand}
+use Rattle.nt_lines.specs.declared.words.TheConstants.{MAX_DIGITS}
 use Rattle.nt_lines.specs.Words.{caller_of, digits_number}
 use Rattle.nt_look_commands.specs.declared.command.Command.{Command}
 use Rattle.nt_look_commands.specs.declared.command.Command.TheVariants as command
+use Rattle.nt_look_commands.specs.declared.look.TheConstants.{MANY_STATES, MOST_STATES}
 use Rattle.nt_look_commands.specs.declared.look.Look.{Look}
 use Rattle.nt_look_commands.specs.declared.look.Look.TheVariants as look
 use Rattle.nt_look_commands.specs.Commands.{command_of, has_option}
@@ -54,7 +56,7 @@ look_asked (look.Explore file most) = AskedExplore file.now most
 
 -- the number of a line, from 1 on
 unfoldable pub line_number_in : List ℕ → Option ℕ
-line_number_in word = option_and_then (λ n. if nat_lt 0 n then Some n else None) (digits_number 20 word)
+line_number_in word = option_and_then (λ n. if nat_lt 0 n then Some n else None) (digits_number MAX_DIGITS word)
 
 -- an option that is left out, or its value where that is lawful
 abbrev pub told : {X : Type 0} → (List ℕ → Option X) → Option (List ℕ) → Option (Option X)
@@ -87,11 +89,11 @@ timeline_in file words =
 
 -- how many states may be met
 abbrev pub most_of : List ℕ → Option ℕ
-most_of word = option_and_then (λ n. if nat_lt 0 n && nat_le n 4000000000 then Some n else None) (digits_number 20 word)
+most_of word = option_and_then (λ n. if nat_lt 0 n && nat_le n MOST_STATES then Some n else None) (digits_number MAX_DIGITS word)
 
--- a million where that is left out
+-- the same of an option that may be left out
 abbrev pub most_told : Option (List ℕ) → Option ℕ
-most_told None = Some 1000000
+most_told None = Some MANY_STATES
 most_told (Some word) = most_of word
 
 abbrev pub most_in : List (List ℕ) → Option ℕ

@@ -6,7 +6,7 @@ ghost use Rattle.nt_look_commands.specs.Looks.{FindsLook};
 
 use crate::command::{Command, command_of};
 use crate::words::{are_lawful, file_in, value_in};
-use nt_lines::{caller_of, number_of};
+use nt_lines::{MAX_DIGITS, caller_of, number_of};
 use nt_timeline::Part;
 
 /// How many states may be met at the most.
@@ -41,7 +41,7 @@ pub enum Look<'a> {
 fn line_of(word: &[u8]) -> Option<u64>
     ensures { result ≡ line_number_in word.now }
 {
-    match number_of(word, 20) {
+    match number_of(word, MAX_DIGITS) {
         Some(line) if line > 0 => Some(line),
         _ => None,
     }
@@ -158,7 +158,7 @@ fn timeline_in<'a>(file: &'a str, words: &'a [String]) -> Option<Look<'a>>
 fn most_of(word: &str) -> Option<u64>
     ensures { result ≡ most_of word.now }
 {
-    match number_of(word.as_bytes(), 20) {
+    match number_of(word.as_bytes(), MAX_DIGITS) {
         Some(most) if 0 < most && most <= MOST_STATES => Some(most),
         _ => None,
     }

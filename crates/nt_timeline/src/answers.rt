@@ -2,7 +2,7 @@
 
 use crate::steps::Kind;
 use memchr::memchr;
-use nt_lines::number_of;
+use nt_lines::{MAX_DIGITS, number_of};
 use nt_status::{Refusal, Status};
 use std::alloc::{AllocError, Global};
 
@@ -85,7 +85,7 @@ pub(crate) fn told(
         return Ok((Kind::Pends, Vec::new(alloc)));
     }
     if let Some(number) = answer.strip_prefix(b"error ") {
-        let name = error_name(number_of(number, 20).unwrap_or(0));
+        let name = error_name(number_of(number, MAX_DIGITS).unwrap_or(0));
         return Ok((Kind::Refused, Vec::from_slice(alloc, name.as_bytes())?));
     }
     if let Some(digits) = answer.strip_prefix(b"status 0x") {
