@@ -39,3 +39,7 @@ holder_of (Some carried) = Some (knowledge_of carried.hold).thread
 -- nothing stands in the list, and it has room for so many
 abbrev pub HasFreeRoom : {A : Type 0} → ℕ → Vec A Global → Type 0
 HasFreeRoom most list = (list.items ≡ []) × (most ≤ vec_capacity list)
+
+-- the same of each of these lists
+abbrev pub HaveFreeRoom : {A B C : Type 0} → ℕ → Vec A Global → Vec B Global → Vec C Global → Type 0
+HaveFreeRoom most doors back holds = HasFreeRoom most doors × HasFreeRoom most back × HasFreeRoom most holds

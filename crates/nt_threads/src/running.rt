@@ -6,7 +6,7 @@ ghost use Rattle.nt_front.specs.Runs.{IsRun};
 ghost use Rattle.nt_front.specs.Held.{knowledge_of};
 ghost use Rattle.nt_front.specs.Holds.{new_threads};
 ghost use Rattle.nt_threads.specs.declared.plan.Objects.{Objects};
-ghost use Rattle.nt_threads.specs.Doors.{HasFreeRoom, accepted_calls, calls_of_hold, made_through};
+ghost use Rattle.nt_threads.specs.Doors.{HasFreeRoom, HaveFreeRoom, accepted_calls, calls_of_hold, made_through};
 ghost use Rattle.nt_threads.specs.Plans.{carried_out};
 ghost use Rattle.nt_threads.specs.Reports.{PlanIsCarriedOut, IsThreadsReport, ComesOfRun};
 
@@ -54,7 +54,7 @@ struct Room<'f, N: Named> {
 impl<'f, N: Named> Room<'f, N> {
     /// Room for so many threads.
     fn new(alloc: Global, threads: usize) -> Result<Room<'f, N>, AllocError>
-        ensures { IfOk result (λ r. HasFreeRoom threads r.doors × HasFreeRoom threads r.back × HasFreeRoom threads r.holds) }
+        ensures { IfOk result (λ r. HaveFreeRoom threads r.doors r.back r.holds) }
     {
         let doors = Vec::with_capacity(alloc, threads)?;
         let back = Vec::with_capacity(alloc, threads)?;
@@ -168,7 +168,7 @@ fn run_in<N: Named + Send + Sync, R: Threads + Wait + Sync>(
     requires once { blank.lasts ≡ false }
     requires threads { (0 < blank.threads) × (blank.threads ≤ MOST_THREADS) }
     requires rounds { rounds ≤ MOST_ROUNDS }
-    requires room { HasFreeRoom MOST_THREADS room.doors × HasFreeRoom MOST_THREADS room.back × HasFreeRoom MOST_THREADS room.holds }
+    requires room { HaveFreeRoom MOST_THREADS room.doors room.back room.holds }
     ensures comes { IfOk result (λ r. r.whole ≡ true → ComesOfRun blank.threads r.history.entries.items) }
     ensures whole { IfOk result (λ r. r.whole ≡ true
         → PlanIsCarriedOut (blank.threads - 1) rounds r.history.entries.items) }
@@ -195,7 +195,7 @@ fn run_on<N: Named + Send + Sync, R: Threads + Wait + Sync>(
     requires once { N.front.lasts ≡ false }
     requires threads { vec_len passes ≤ MOST_THREADS }
     requires rounds { rounds ≤ MOST_ROUNDS }
-    requires room { HasFreeRoom (vec_len passes) room.doors × HasFreeRoom (vec_len passes) room.back × HasFreeRoom (vec_len passes) room.holds }
+    requires room { HaveFreeRoom (vec_len passes) room.doors room.back room.holds }
     ensures comes { result.whole ≡ true → ComesOfRun N.front.threads result.history.entries.items }
     ensures whole { result.whole ≡ true → PlanIsCarriedOut (N.front.threads - 1) rounds result.history.entries.items }
 {
@@ -220,7 +220,7 @@ fn drive_on<'f, N: Named + Send + Sync, R: Threads + Wait + Sync>(
 ) -> (Vec<Held<N>>, bool)
     requires threads { vec_len passes ≤ MOST_THREADS }
     requires rounds { rounds ≤ MOST_ROUNDS }
-    requires room { HasFreeRoom (vec_len passes) room.doors × HasFreeRoom (vec_len passes) room.back × HasFreeRoom (vec_len passes) room.holds }
+    requires room { HaveFreeRoom (vec_len passes) room.doors room.back room.holds }
     ensures threads { map (λ h. (knowledge_of h).thread) result.0.items ≡ map (λ p. p.thread) passes.items }
     ensures whole { result.1 ≡ true → (o : Objects)
         × (map calls_of_hold result.0.items ≡ carried_out (λ p. accepted_calls p.made) o rounds passes.items) }
