@@ -140,6 +140,7 @@ fn settle_each(
 }
 
 /// What becomes of alarms and watchers after a call of this thread, whose wait began or did not, or after a tick. Returns who is called.
+#[inline(always)]
 pub(crate) fn settle_all(
     core: &Core,
     alarms: &mut Alarms,
