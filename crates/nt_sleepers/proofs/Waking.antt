@@ -1,7 +1,8 @@
 -- How those who are woken are cleared, one by one.
-use Rattle.std.proofs.Common.{◌≡◌, ℕ, ◌+◌, ◌<◌, ◌≤◌, List, [], ◌∷◌, ◌++◌, length, take, get_or, slice_set, refl, sym, ap, ◌∙◌}
+use Rattle.std.proofs.Common.{◌≡◌, ℕ, zero, suc, ◌+◌, ◌<◌, ◌≤◌, Bool, true, false, List, [], ◌∷◌, ◌++◌, length, take, get_or, slice_set, refl, sym, ap, ◌∙◌}
 use Rattle.std.proofs.lemmas.List.{take_all, take_more}
 use Rattle.nt_calls.specs.declared.call.Grant.{Grant}
+use Rattle.nt_marks.specs.Marks.{NoneMarked}
 use Rattle.nt_sleepers.specs.Sleepers.{without_woken}
 
 without_woken-push : {X : Type 0} (nothing : X) (gs : List Grant) (g : Grant) (places : List X) → without_woken nothing (gs ++ g ∷ []) places ≡ slice_set (without_woken nothing gs places) g.thread nothing
@@ -24,3 +25,14 @@ woken_next nothing old now new gs i n g inside is same before after =
 -- after the last
 pub woken_all : {X : Type 0} (nothing : X) (old now : List X) (gs : List Grant) (i : ℕ) → length gs ≤ i → now ≡ without_woken nothing (take i gs) old → now ≡ without_woken nothing gs old
 woken_all nothing old now gs i all before = before ∙ ap (λ xs. without_woken nothing xs old) (take_all i gs all)
+
+unmarked_stay : (marks : List Bool) (k : ℕ) → NoneMarked marks → marks ≡ slice_set marks k false
+unmarked_stay [] k none = refl
+unmarked_stay (false ∷ marks) zero none = refl
+unmarked_stay (true ∷ marks) zero none = absurd (none 0 refl)
+unmarked_stay (m ∷ marks) (suc k) none = ap (λ rest. m ∷ rest) (unmarked_stay marks k (λ t is. none (suc t) is))
+
+-- where nobody watches, nobody is woken from it
+pub none_woken : (marks : List Bool) (gs : List Grant) → NoneMarked marks → marks ≡ without_woken false gs marks
+none_woken marks [] none = refl
+none_woken marks (g ∷ gs) none = none_woken marks gs none ∙ ap (λ (now : List Bool). without_woken false gs now) (unmarked_stay marks g.thread none)
