@@ -5,6 +5,7 @@ mod threads;
 mod words;
 
 use crate::devices::{Given, Room, Taken};
+use crate::expect::expect;
 use crate::refused::{Host, before_refusal, is_refusing, tell_refused};
 use nt_commands::script_over;
 use nt_devices::Counted;
@@ -56,7 +57,8 @@ pub fn run_over(rt: &impl Host, given: Given<'_>, room: Room) -> Ran {
     tell_refused(rt, "a run");
     let again = run_once(rt.alloc(), given, room);
     let sure = before_refusal(ran.written.as_slice());
-    assert!(rt; again.written.as_slice().starts_with(sure));
+    let is_same = again.written.as_slice().starts_with(sure);
+    expect(rt, is_same, "what stands before a refusal");
     again
 }
 
@@ -103,7 +105,7 @@ fn is_ending(ran: &Ran, ending: Ending) -> bool {
 
 fn check(rt: &impl Host, given: Given<'_>, room: Room, ending: Ending) {
     let ran = run_over(rt, given, room);
-    assert!(rt; is_ending(&ran, ending), "{}", ending.said);
+    expect(rt, is_ending(&ran, ending), ending.said);
 }
 
 /// Scripts, and how they end.

@@ -7,6 +7,8 @@ mod commands;
 #[cfg(test)]
 mod devices;
 #[cfg(test)]
+mod expect;
+#[cfg(test)]
 mod front;
 #[cfg(test)]
 mod long_lines;

@@ -1,5 +1,6 @@
 //! Lines of 4096 bytes, the most that a line may have before its LF, and the same with a byte more.
 
+use crate::expect::expect;
 use crate::refused::{Host, tell_refused};
 use crate::scripts::outcome_of;
 use nt_grammar::ScriptFault;
@@ -210,11 +211,8 @@ fn check(
     let line = row.line;
     let expected = fault.map(|fault| RunFault::Script { line, fault });
     let is_written = found.written.as_slice() == written;
-    assert!(rt;
-        is_written && found.answer.err() == expected,
-        "{}, {bytes} bytes",
-        row.shows
-    );
+    let is_answered = found.answer.err() == expected;
+    expect(rt, is_written && is_answered, row.shows);
     Ok(())
 }
 

@@ -10,6 +10,7 @@ ghost use Rattle.nt_mail.specs.Knowledge.{knows, newcomers};
 ghost use Rattle.nt_mail.specs.Packed.{hands_apc};
 ghost use Rattle.nt_mail.specs.Seats.{seated};
 
+use crate::expect::{expect_at, expect_equal};
 use crate::refused::{Host, tell_refused};
 use nt_core::{Act, Call, Reply, WaitCall, WaitMode};
 use nt_mail::{
@@ -30,7 +31,8 @@ fn words_have_their_bits(rt: HostRuntime) {
         Word::Granted(4, Status::TIMEOUT).bits(),
         Word::Idle(18014398509481983).bits(),
     ];
-    assert_eq!(rt; bits, [0, 4096, 2049, 4098, 4356, 18446744073709550592]);
+    let expected = [0, 4096, 2049, 4098, 4356, 18446744073709550592];
+    expect_equal(&rt, bits, expected, "the bits of words");
 }
 
 #[test]
@@ -47,7 +49,7 @@ fn bits_are_those_of_one_word(rt: HostRuntime) {
         (4290, Word::Granted(4, Status::IO_COMPLETION)),
         (4356, Word::Granted(4, Status::TIMEOUT)),
     ] {
-        assert_eq!(rt; Word::from_bits(bits), Some(word), "bits {bits}");
+        expect_at(&rt, Word::from_bits(bits) == Some(word), "bits", bits);
     }
 }
 
@@ -55,11 +57,8 @@ fn bits_are_those_of_one_word(rt: HostRuntime) {
 #[test]
 fn other_bits_are_no_words(rt: HostRuntime) {
     for bits in [1, 2, 260, 4162, 4225, 4291, 4355, 4357, 5119] {
-        assert_eq!(rt;
-            (Word::from_bits(bits), told_by(bits)),
-            (None, None),
-            "bits {bits}"
-        );
+        let is_none = Word::from_bits(bits).is_none() && told_by(bits).is_none();
+        expect_at(&rt, is_none, "bits", bits);
     }
 }
 
@@ -72,7 +71,7 @@ fn granted_words_alone_tell(rt: HostRuntime) {
         (4098, Some((4, Reply::Status(Status::object(0))))),
         (4356, Some((4, Reply::Status(Status::TIMEOUT)))),
     ] {
-        assert_eq!(rt; told_by(bits), told, "bits {bits}");
+        expect_at(&rt, told_by(bits) == told, "bits", bits);
     }
 }
 
@@ -279,6 +278,6 @@ fn a_grant_is_taken_once(rt: HostRuntime) -> Result<(), Fail> {
         takes: [Ok(()), Err(4096)],
         moment,
     };
-    assert_eq!(rt; told, is);
+    expect_equal(&rt, told, is, "what a taken grant leaves");
     Ok(())
 }

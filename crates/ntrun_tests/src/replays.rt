@@ -2,6 +2,7 @@
 ghost use Rattle.std.specs.Prelude.{◌≡◌, false};
 ghost use Rattle.nt_mail.specs.Packed.{hands_apc};
 
+use crate::expect::expect;
 use crate::refused::{is_refusing, tell_refused};
 use nt_core::{Act, Call, Core, Reply, WaitCall, WaitMode};
 use nt_life::Renewal;
@@ -362,6 +363,6 @@ fn entries_are_made_again(rt: HostRuntime) {
             tell_refused(&rt, whose);
             seen = stop_of(rt.alloc(), told);
         }
-        assert_eq!(rt; seen, Ok(*stops), "{whose}");
+        expect(&rt, seen == Ok(*stops), whose);
     }
 }

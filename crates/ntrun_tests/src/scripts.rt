@@ -2,6 +2,7 @@
 //! are known from the Win32 reference are files, in `tests/scripts`.
 
 use crate::devices::{Given, Room, Taken};
+use crate::expect::{expect, expect_at};
 use crate::refused::{Host, before_refusal, is_refusing, tell_refused};
 use nt_script::{Counted, RunFault, Summary, run};
 use std::alloc::{AllocError, Global};
@@ -76,12 +77,19 @@ fn run_over(rt: &impl Host, given: Given<'_>, room: Room) -> Outcome {
     tell_refused(rt, "a run");
     let again = run_once(rt.alloc(), given, room);
     let sure = before_refusal(found.written.as_slice());
-    assert!(rt; again.written.as_slice().starts_with(sure));
+    let is_same = again.written.as_slice().starts_with(sure);
+    expect(rt, is_same, "what stands before a refusal");
     again
 }
 
 pub fn outcome_of(rt: &impl Host, script: &[u8]) -> Outcome {
     run_over(rt, Given::all(script), Room::ENDLESS)
+}
+
+/// The run of the script answers this.
+fn expect_answer(rt: &impl Host, script: &[u8], answer: Result<Summary, RunFault>) {
+    let is_answered = outcome_of(rt, script).answer == answer;
+    expect(rt, is_answered, "what a run answers");
 }
 
 #[test]
@@ -93,7 +101,7 @@ fn a_summary_counts_the_run(rt: HostRuntime) {
         granted: 2,
         pending: 0,
     };
-    assert_eq!(rt; outcome_of(&rt, HAND_OVER).answer, Ok(summary));
+    expect_answer(&rt, HAND_OVER, Ok(summary));
 }
 
 #[test]
@@ -106,7 +114,7 @@ fn a_summary_counts_refusals_and_pending_waits(rt: HostRuntime) {
         granted: 0,
         pending: 1,
     };
-    assert_eq!(rt; outcome_of(&rt, script).answer, Ok(summary));
+    expect_answer(&rt, script, Ok(summary));
 }
 
 /// How many lines come before the byte at this place.
@@ -132,7 +140,12 @@ fn check_failed_read(rt: &impl Host, script: &[u8], place: usize, whole: &[u8]) 
     let line = line_at(script, place);
     let is_told = found.answer == Err(RunFault::Read { line });
     let is_beginning = whole.starts_with(found.written.as_slice());
-    assert!(rt; is_told && is_beginning, "after {place} bytes");
+    expect_at(
+        rt,
+        is_told && is_beginning,
+        "read fails after",
+        place as u64,
+    );
 }
 
 fn check_reader_that_fails(rt: &impl Host, script: &[u8]) {
@@ -155,7 +168,12 @@ fn check_failed_write(rt: &impl Host, script: &[u8], room: usize, whole: &[u8]) 
     let is_told = matches!(found.answer, Err(RunFault::Write { .. }));
     let is_full = found.written.len() == room;
     let is_beginning = whole.starts_with(found.written.as_slice());
-    assert!(rt; is_told && is_full && is_beginning, "room for {room} bytes");
+    expect_at(
+        rt,
+        is_told && is_full && is_beginning,
+        "room for",
+        room as u64,
+    );
 }
 
 fn check_writer_that_fails(rt: &impl Host, script: &[u8]) {
@@ -177,7 +195,11 @@ fn check_one_by_one(rt: &impl Host, script: &[u8]) {
     let whole = outcome_of(rt, script);
     let found = run_over(rt, Given::one_by_one(script), Room::ONE_BY_ONE);
     let is_same = found.written.as_slice() == whole.written.as_slice();
-    assert!(rt; is_same && found.answer == whole.answer);
+    expect(
+        rt,
+        is_same && found.answer == whole.answer,
+        "bytes one by one",
+    );
 }
 
 #[test]
@@ -238,7 +260,8 @@ fn check_cut(rt: &impl Host, script: &[u8], place: usize, whole: &[u8]) {
         Some(rest) => may_stand_last(rest, line_at(script, place)),
         None => false,
     };
-    assert!(rt; may_stand && whole.starts_with(sure), "cut at {place}");
+    let is_beginning = whole.starts_with(sure);
+    expect_at(rt, may_stand && is_beginning, "cut at", place as u64);
 }
 
 #[test]
@@ -255,7 +278,8 @@ fn an_input_that_is_cut_writes_a_beginning_of_the_transcript(rt: HostRuntime) {
 fn a_write_of_no_bytes_is_a_failure(rt: HostRuntime) {
     let script = b"threads 1\nt0 next\nt0 event e\n";
     let found = run_over(&rt, Given::all(script), Room::NONE);
-    assert_eq!(rt; found.answer, Err(RunFault::Write { line: 2 }));
+    let is_told = found.answer == Err(RunFault::Write { line: 2 });
+    expect(&rt, is_told, "a write of no bytes");
 }
 
 /// `threads 1`, and so many events with a name of their own.
@@ -285,7 +309,8 @@ fn creations_at_last(rt: &impl Host, count: u32) -> Result<Vec<u8>, AllocError> 
 fn check_creations(rt: &impl Host, count: u32, end: &[u8]) -> Result<(), Fail> {
     let script = creations_at_last(rt, count)?;
     let found = outcome_of(rt, script.as_slice());
-    assert!(rt; found.written.as_slice().ends_with(end));
+    let is_ended = found.written.as_slice().ends_with(end);
+    expect(rt, is_ended, "the last creations");
     Ok(())
 }
 

@@ -1,5 +1,6 @@
 //! Calls, written as the lines of a script.
 
+use crate::expect::{expect, expect_equal};
 use crate::refused::{Host, tell_refused};
 use nt_core::{Act, Call, Reply, WaitCall, WaitMode};
 use nt_status::{Handle, Handles, Refusal, ThreadId};
@@ -232,7 +233,7 @@ fn check(rt: &impl Host, row: &Row) {
         (Err(why), Err(expected)) => *why == expected,
         _ => false,
     };
-    assert!(rt; is_right);
+    expect(rt, is_right, "the line of a call");
 }
 
 #[test]
@@ -246,9 +247,9 @@ fn calls_are_written_as_lines(rt: HostRuntime) {
 #[test]
 fn a_line_of_4094_bytes_is_written(rt: HostRuntime) {
     match written(rt.alloc(), 0, Said::Many(680), None) {
-        Ok(line) => assert!(rt; line.len() == 4095),
+        Ok(line) => expect_equal(&rt, line.len(), 4095, "the bytes of the line"),
         Err(why) => {
-            assert!(rt; why == Unwritten::Memory);
+            expect(&rt, why == Unwritten::Memory, "why no line is written");
             tell_refused(&rt, "a line");
         }
     }

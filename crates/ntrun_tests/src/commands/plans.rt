@@ -1,6 +1,7 @@
 //! What the words of a command line ask for, and what each plan comes to.
 
 use crate::devices::{Room, Taken};
+use crate::expect::expect;
 use crate::refused::{Host, is_refusing, tell_refused};
 use nt_commands::{Plan, PlanFault, carry_out, plan_of, run_file};
 use nt_devices::Counted;
@@ -61,11 +62,16 @@ fn runs_file(plan: &Result<Plan, PlanFault>, wanted: &str) -> bool {
     }
 }
 
+/// Fails the test, and tells the words, unless this holds of them.
+fn expect_of(rt: &impl Host, holds: bool, words: &[&str]) {
+    assert!(rt; holds, "{words:?}");
+}
+
 #[test]
 fn script_and_a_file_ask_for_a_run_of_it(rt: HostRuntime) -> Result<(), Fail> {
     for (words, wanted) in PLANS {
         let plan = plan_at_last(&rt, words)?;
-        assert!(rt; runs_file(&plan, wanted), "{words:?}");
+        expect_of(&rt, runs_file(&plan, wanted), words);
     }
     Ok(())
 }
@@ -92,7 +98,7 @@ fn runs_threads(plan: &Result<Plan, PlanFault>, wanted: (u32, u32)) -> bool {
 fn threads_and_two_counts_ask_for_a_run_of_them(rt: HostRuntime) -> Result<(), Fail> {
     for (words, workers, rounds) in COUNTS {
         let plan = plan_at_last(&rt, words)?;
-        assert!(rt; runs_threads(&plan, (*workers, *rounds)), "{words:?}");
+        expect_of(&rt, runs_threads(&plan, (*workers, *rounds)), words);
     }
     Ok(())
 }
@@ -143,7 +149,7 @@ const NO_SUBCOMMAND: &[&[&str]] = &[
 
 fn check_usage(rt: &impl Host, words: &[&str]) -> Result<(), Fail> {
     let usage = matches!(plan_at_last(rt, words)?, Err(PlanFault::Usage));
-    assert!(rt; usage, "{words:?}");
+    expect_of(rt, usage, words);
     Ok(())
 }
 
@@ -213,7 +219,7 @@ const NO_FILES: &[(&str, &str)] = &[
 fn a_file_that_can_not_be_run_is_told(rt: HostRuntime) {
     for (path, said) in NO_FILES {
         let ended = run_at_last(&rt, path);
-        assert!(rt; only_says(&ended, said, 1), "{path}");
+        expect(&rt, only_says(&ended, said, 1), path);
     }
 }
 
@@ -257,7 +263,7 @@ const NO_PLANS: &[(PlanFault, &str, u8)] = &[
 fn a_plan_that_can_not_be_made_is_told(rt: HostRuntime) {
     for (fault, said, status) in NO_PLANS {
         let ended = carry_fault(&rt, *fault);
-        assert!(rt; only_says(&ended, said, *status), "{fault:?}");
+        expect(&rt, only_says(&ended, said, *status), said);
     }
 }
 
@@ -288,7 +294,8 @@ fn carry_script<R: Host + Files + Threads + Wait + Sync>(
 #[test]
 fn a_planned_file_is_opened(rt: HostRuntime) -> Result<(), Fail> {
     let ended = carry_script(&rt, "there is no such file")?;
-    assert!(rt; only_says(&ended, "ntrun: cannot open\n", 1));
+    let is_told = only_says(&ended, "ntrun: cannot open\n", 1);
+    expect(&rt, is_told, "a planned file");
     Ok(())
 }
 
@@ -304,5 +311,5 @@ fn planned_threads_are_counted_first(rt: HostRuntime) {
         ended = carry_once(&rt, plan(), false);
     }
     let said = "ntrun: usage: ntrun script FILE or ntrun threads N ROUNDS\n";
-    assert!(rt; only_says(&ended, said, 2));
+    expect(&rt, only_says(&ended, said, 2), "planned threads");
 }

@@ -1,6 +1,7 @@
 //! What is told of threads that run.
 
 use crate::devices::{Room, Taken};
+use crate::expect::{expect, expect_at};
 use crate::refused::{Host, is_refusing, tell_refused};
 use nt_commands::threads_over;
 use nt_devices::Counted;
@@ -71,7 +72,7 @@ fn run_at_last<R: Host + Threads + Wait + Sync>(
 
 fn check<R: Host + Threads + Wait + Sync>(rt: &R, workers: u32, rounds: u32, lines: &str) {
     let told = run_at_last(rt, workers, rounds, Room::ENDLESS);
-    assert!(rt; told.is(lines, "", 0), "{workers} {rounds}");
+    expect(rt, told.is(lines, "", 0), lines);
 }
 
 /// Not made where growths are refused: whether the first thread's wait for both pends, and so grows, is a matter of when they end.
@@ -127,7 +128,7 @@ const NO_COUNTS: &[(u32, u32)] = &[
 fn other_counts_get_the_usage(rt: HostRuntime) {
     for (workers, rounds) in NO_COUNTS {
         let told = run_at_last(&rt, *workers, *rounds, Room::ENDLESS);
-        assert!(rt; told.is("", USAGE, 2), "{workers} {rounds}");
+        expect_at(&rt, told.is("", USAGE, 2), "workers", u64::from(*workers));
     }
 }
 
@@ -143,6 +144,7 @@ fn a_failed_write_is_told(rt: HostRuntime) {
         ),
     ] {
         let told = run_at_last(&rt, 1, 1, room);
-        assert!(rt; told.is(written, "ntrun: write failed\n", 1), "{written}");
+        let is_told = told.is(written, "ntrun: write failed\n", 1);
+        expect(&rt, is_told, written);
     }
 }

@@ -2,6 +2,7 @@
 
 use crate::commands::run_over;
 use crate::devices::{Given, Room};
+use crate::expect::expect;
 use crate::refused::{Host, tell_refused};
 use nt_grammar::ScriptFault;
 use nt_script::RunFault;
@@ -66,7 +67,7 @@ fn says(rt: &impl Host, script: &[u8], said: &str) -> bool {
 #[test]
 fn each_fault_of_a_script_has_its_words(rt: HostRuntime) {
     for (fault, script, said) in FAULTS {
-        assert!(rt; says(&rt, script.as_bytes(), said), "{fault:?}");
+        expect(&rt, says(&rt, script.as_bytes(), said), said);
     }
 }
 
@@ -101,7 +102,7 @@ fn words_of(rt: &impl Host, fault: RunFault) -> Result<String, Fail> {
 #[test]
 fn each_way_in_which_a_run_ends_has_its_words(rt: HostRuntime) -> Result<(), Fail> {
     for (fault, text) in ENDS {
-        assert_eq!(rt; words_of(&rt, *fault)?.as_str(), *text);
+        expect(&rt, words_of(&rt, *fault)?.as_str() == *text, text);
     }
     Ok(())
 }
@@ -140,7 +141,7 @@ fn a_failed_device_is_told_with_a_line_of_many_digits(rt: HostRuntime) -> Result
     let read = is_said(&rt, cut, Room::ENDLESS, "ntrun: line 20: read failed\n");
     let whole = Given::all(&script);
     let written = is_said(&rt, whole, Room::of(0), "ntrun: line 300: write failed\n");
-    assert!(rt; read && written);
+    expect(&rt, read && written, "lines 20 and 300");
     Ok(())
 }
 
@@ -180,7 +181,7 @@ fn a_line_that_is_too_long_is_told_wherever_it_stands(rt: HostRuntime) -> Result
         ("\nthreads 1\n", "ntrun: line 3: line too long\n"),
     ] {
         for (byte, last) in [(b' ', b' '), (b' ', b'\r'), (b';', b'x'), (b'x', b'\t')] {
-            assert!(rt; too_long_says(&rt, before, byte, last, said)?, "{said}");
+            expect(&rt, too_long_says(&rt, before, byte, last, said)?, said);
         }
     }
     Ok(())

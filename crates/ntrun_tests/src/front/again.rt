@@ -1,6 +1,7 @@
 //! A front that lasts: numbers that come back, threads that begin again, and what its journal tells of both.
 ghost use Rattle.std.specs.Prelude.{◌≡◌, ◌+◌, ◌≤◌, vec_len, vec_capacity};
 
+use crate::expect::expect_equal;
 use crate::front::again_rows::{Gives, LIVES, Life, Renewed};
 use crate::front::asks::{Ask, Makes, Row, ask_for};
 use crate::front::replay::first_difference;
@@ -347,7 +348,7 @@ fn numbers_come_back_to_a_front_that_lasts(rt: HostRuntime) -> Result<(), Fail> 
             rest: life.rest,
             difference: 0,
         };
-        assert_eq!(rt; seen_of(&rt, life)?, expected, "{}", life.shows);
+        expect_equal(&rt, seen_of(&rt, life)?, expected, life.shows);
     }
     Ok(())
 }

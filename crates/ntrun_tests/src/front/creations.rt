@@ -4,6 +4,7 @@
 //! `tests/growths/tests` refuses each allocation in turn.
 ghost use Rattle.std.specs.Prelude.{◌≡◌, ◌+◌, ◌≤◌, vec_len, vec_capacity, IfOk};
 
+use crate::expect::{expect, expect_equal};
 use crate::front::told::{Span, let_go};
 use crate::refused::{Host, tell_refused};
 use nt_core::{Act, Reply};
@@ -219,12 +220,12 @@ fn create_at_last(rt: &(impl Host + Wait), lasts: bool) -> Result<Created, Refus
 
 /// Looks whether the part has all entries, and the history none.
 fn expect_spans(rt: &impl Host, created: &Created, entries: u64) {
-    assert_eq!(rt; created.part, Span { first: 1, entries });
+    expect_equal(rt, created.part, Span { first: 1, entries }, "the part");
     let rest = Span {
         first: entries.saturating_add(1),
         entries: 0,
     };
-    assert_eq!(rt; created.history, rest);
+    expect_equal(rt, created.history, rest, "the history");
 }
 
 #[test]
@@ -237,7 +238,8 @@ fn a_refused_creation_stands_in_the_journal(rt: HostRuntime) -> Result<(), Fail>
         if created.unparted {
             tell_refused(&rt, "a part");
         }
-        assert!(rt; created.is_right && created.is_again == lasts);
+        let is_right = created.is_right && created.is_again == lasts;
+        expect(&rt, is_right, "a second try");
         let entries = 1 + u64::from(created.refused) + 2 * u64::from(lasts);
         expect_spans(&rt, &created, entries);
     }

@@ -1,6 +1,7 @@
 //! What two passes read of the moment, while the first of them is the clock.
 ghost use Rattle.std.specs.Prelude.{◌≡◌, ◌+◌, ◌≤◌, vec_len, vec_capacity};
 
+use crate::expect::{expect, expect_equal};
 use crate::front::told::{count_of, let_go};
 use crate::refused::is_refusing;
 use nt_core::Reply;
@@ -138,11 +139,9 @@ fn the_moment_never_goes_back(rt: HostRuntime) -> Result<(), Fail> {
         return Ok(());
     }
     let (read, entries) = read_in(&rt, rt.alloc())?;
-    assert!(rt; read.ticked && read.refused);
-    assert_eq!(rt;
-        (read.before, read.after, read.by_the_other, read.at_the_end),
-        (0, 70, 70, 70)
-    );
-    assert_eq!(rt; entries, 2);
+    expect(&rt, read.ticked && read.refused, "the ticks");
+    let moments = [read.before, read.after, read.by_the_other, read.at_the_end];
+    expect_equal(&rt, moments, [0, 70, 70, 70], "the moments");
+    expect_equal(&rt, entries, 2, "the entries");
     Ok(())
 }

@@ -1,6 +1,7 @@
 //! What a front's calls by their names answer.
 ghost use Rattle.std.specs.Prelude.{◌≡◌, ◌+◌, ◌≤◌, vec_len, vec_capacity};
 
+use crate::expect::expect_equal;
 use crate::front::asks::{Row, Scenario, ask_for};
 use crate::front::named_rows::SCENARIOS;
 use crate::front::says::Said;
@@ -135,12 +136,8 @@ fn each_call_by_its_name_is_answered(rt: HostRuntime) -> Result<(), Fail> {
     }
     for scenario in SCENARIOS {
         let (other, entries) = ask_in(&rt, scenario)?;
-        assert_eq!(rt;
-            (other, entries),
-            (None, scenario.entries),
-            "{}",
-            scenario.shows
-        );
+        expect_equal(&rt, other, None, scenario.shows);
+        expect_equal(&rt, entries, scenario.entries, scenario.shows);
     }
     Ok(())
 }

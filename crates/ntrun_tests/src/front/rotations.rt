@@ -1,6 +1,7 @@
 //! A journal that is handed out part by part.
 ghost use Rattle.std.specs.Prelude.{◌≡◌, ◌+◌, ◌≤◌, vec_len, vec_capacity};
 
+use crate::expect::expect_equal;
 use crate::front::replay::first_difference;
 use crate::front::steps::{ENDLESS, objects};
 use crate::front::told::{Span, let_go};
@@ -219,17 +220,16 @@ fn parts_are_handed_out(rt: HostRuntime) -> Result<(), Fail> {
         return Ok(());
     }
     let span = |first: u64, entries: u64| Span { first, entries };
-    assert_eq!(rt;
-        row_in(&rt, rt.alloc())?,
-        Row {
-            full: true,
-            set: true,
-            granted: true,
-            no_apc: true,
-            parts: [span(1, 2), span(3, 3), span(6, 0)],
-            history: span(6, 0),
-            difference: 0,
-        }
-    );
+    let expected = Row {
+        full: true,
+        set: true,
+        granted: true,
+        no_apc: true,
+        parts: [span(1, 2), span(3, 3), span(6, 0)],
+        history: span(6, 0),
+        difference: 0,
+    };
+    let row = row_in(&rt, rt.alloc())?;
+    expect_equal(&rt, row, expected, "what the parts have");
     Ok(())
 }

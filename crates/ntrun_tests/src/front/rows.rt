@@ -1,4 +1,5 @@
 //! Short histories, entry by entry.
+use crate::expect::expect_equal;
 use crate::front::jobs::Job;
 use crate::front::runs::{NEVER, Roll, man_all};
 use crate::front::seen::Seen;
@@ -39,11 +40,8 @@ fn refusal_of(alloc: Global, threads: u32, room: usize) -> Option<u32> {
 #[test]
 fn a_front_has_threads_and_room(rt: HostRuntime) {
     for (threads, room) in [(0, 4), (257, 4), (2, 0), (2, 1_048_577)] {
-        assert_eq!(rt;
-            refusal_of(rt.alloc(), threads, room),
-            Some(87),
-            "{threads} threads, room for {room}"
-        );
+        let refusal = refusal_of(rt.alloc(), threads, room);
+        expect_equal(&rt, refusal, Some(87), "threads or room that no front has");
     }
 }
 
@@ -65,19 +63,17 @@ fn room_is_kept_for_each_pending_wait(rt: HostRuntime) -> Result<(), Fail> {
     }
     let seen = man_all(&rt, rt.alloc(), hand_over(3, JOBS), 0)?;
     // both sets found no room, and the wait still pends
-    assert_eq!(rt;
-        seen,
-        Seen {
-            parts: 0,
-            entries: 2,
-            calls: Entries { count: 2, sum: 3 },
-            grants: Entries { count: 0, sum: 0 },
-            differ: 0,
-            sleeping: 1,
-            lost: 2,
-            difference: 0,
-        }
-    );
+    let expected = Seen {
+        parts: 0,
+        entries: 2,
+        calls: Entries { count: 2, sum: 3 },
+        grants: Entries { count: 0, sum: 0 },
+        differ: 0,
+        sleeping: 1,
+        lost: 2,
+        difference: 0,
+    };
+    expect_equal(&rt, seen, expected, "no room for a set");
     Ok(())
 }
 
@@ -98,18 +94,16 @@ fn a_poll_finds_the_grant(rt: HostRuntime) -> Result<(), Fail> {
         return Ok(());
     }
     let seen = man_all(&rt, rt.alloc(), hand_over(4, JOBS), 0)?;
-    assert_eq!(rt;
-        seen,
-        Seen {
-            parts: 0,
-            entries: 4,
-            calls: Entries { count: 3, sum: 6 },
-            grants: Entries { count: 1, sum: 4 },
-            differ: 0,
-            sleeping: 0,
-            lost: 1,
-            difference: 0,
-        }
-    );
+    let expected = Seen {
+        parts: 0,
+        entries: 4,
+        calls: Entries { count: 3, sum: 6 },
+        grants: Entries { count: 1, sum: 4 },
+        differ: 0,
+        sleeping: 0,
+        lost: 1,
+        difference: 0,
+    };
+    expect_equal(&rt, seen, expected, "room for one set");
     Ok(())
 }

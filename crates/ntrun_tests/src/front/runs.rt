@@ -1,5 +1,6 @@
 //! Crews at work: nobody is left asleep, each thread is told exactly what the history has of it, and a fresh dispatcher answers
 //! each call of the history as it was answered.
+use crate::expect::{expect, expect_equal};
 use crate::front::crew::{Crew, man};
 use crate::front::jobs::{Job, Manner};
 use crate::front::parts::Parts;
@@ -188,7 +189,7 @@ fn two_sleepers_hand_over(rt: HostRuntime) -> Result<(), Fail> {
     let seen = man_all(&rt, rt.alloc(), PAIR, 0)?;
     assert_whole(&rt, &seen);
     // two creations, and a set and a wait for each of the 200,000
-    assert_eq!(rt; seen.calls.count, 400_002);
+    expect_equal(&rt, seen.calls.count, 400_002, "the calls");
     Ok(())
 }
 
@@ -200,7 +201,7 @@ fn many_threads_share_a_mutex(rt: HostRuntime) -> Result<(), Fail> {
     let seen = man_all(&rt, rt.alloc(), LOCKERS, 0)?;
     assert_whole(&rt, &seen);
     // one creation, and a wait and a release for each of the 500 rounds of each of the 64 threads
-    assert_eq!(rt; seen.calls.count, 64_001);
+    expect_equal(&rt, seen.calls.count, 64_001, "the calls");
     Ok(())
 }
 
@@ -231,19 +232,17 @@ fn hold_until_answered(rt: HostRuntime) -> Result<(), Fail> {
     }
     let seen = man_all(&rt, rt.alloc(), HELD, 0)?;
     // the creation, the wait, the set, and the grant under the number after it
-    assert_eq!(rt;
-        seen,
-        Seen {
-            parts: 0,
-            entries: 4,
-            calls: Entries { count: 3, sum: 6 },
-            grants: Entries { count: 1, sum: 4 },
-            differ: 0,
-            sleeping: 0,
-            lost: 0,
-            difference: 0,
-        }
-    );
+    let expected = Seen {
+        parts: 0,
+        entries: 4,
+        calls: Entries { count: 3, sum: 6 },
+        grants: Entries { count: 1, sum: 4 },
+        differ: 0,
+        sleeping: 0,
+        lost: 0,
+        difference: 0,
+    };
+    expect_equal(&rt, seen, expected, "a wait that is held open");
     Ok(())
 }
 
@@ -256,10 +255,9 @@ fn chain(rt: HostRuntime) -> Result<(), Fail> {
     let seen = man_all(&rt, rt.alloc(), PLAN, 0)?;
     assert_whole(&rt, &seen);
     // three creations, the set, the wait and the end of the first thread; of each other a wait for the start, three calls a round, and its end
-    assert_eq!(rt;
-        (seen.parts, seen.calls.count),
-        (1, 6 + 2 * (1 + 3 * 3 + 1))
-    );
+    expect_equal(&rt, seen.parts, 1, "the parts");
+    let calls = 6 + 2 * (1 + 3 * 3 + 1);
+    expect_equal(&rt, seen.calls.count, calls, "the calls");
     Ok(())
 }
 
@@ -271,9 +269,7 @@ fn parts_follow_one_another(rt: HostRuntime) -> Result<(), Fail> {
     }
     let seen = man_all(&rt, rt.alloc(), ROTATE, 0)?;
     assert_whole(&rt, &seen);
-    assert!(rt;
-        seen.calls.count >= 100_000 && seen.parts >= 250,
-        "{seen:?}"
-    );
+    expect(&rt, seen.calls.count >= 100_000, "100,000 calls");
+    expect(&rt, seen.parts >= 250, "250 parts");
     Ok(())
 }

@@ -1,4 +1,5 @@
 //! Each public call that can grant a thread which sleeps wakes it: a body that forgets the bell leaves the sleeper asleep, and its test never ends.
+use crate::expect::expect_at;
 use crate::front::crew::Crew;
 use crate::front::jobs::{Job, call};
 use crate::front::runs::{NEVER, Roll, man_all};
@@ -260,7 +261,7 @@ fn each_call_wakes_whom_it_grants(rt: HostRuntime) -> Result<(), Fail> {
     }
     for (place, (jobs, calls, grants)) in WAYS.iter().enumerate() {
         let seen = calls_and_grants(&rt, rt.alloc(), jobs)?;
-        assert_eq!(rt; seen, (*calls, *grants), "way {place}");
+        expect_at(&rt, seen == (*calls, *grants), "way", place as u64);
     }
     Ok(())
 }

@@ -1,4 +1,5 @@
 //! Each thread of the plan runs beside the others: one is held in its first wait until another has come to its own.
+use crate::expect::expect;
 use crate::refused::tell_refused;
 use crate::threads::door::{Answering, MemoryDoor};
 use nt_core::{Act, Call, Reply};
@@ -82,7 +83,7 @@ fn carry_out<R: Threads + Wait + Sync>(
 fn hold_until_answered(rt: HostRuntime) -> Result<(), Fail> {
     let gate = Gate::new();
     match carry_out(&rt, rt.alloc(), &gate) {
-        Ok(true) => assert!(rt; !gate.in_vain.load(Ordering::SeqCst)),
+        Ok(true) => expect(&rt, !gate.in_vain.load(Ordering::SeqCst), "a held answer"),
         Ok(false) => tell_refused(&rt, "the plan"),
         Err(_) => tell_refused(&rt, "the test itself"),
     }

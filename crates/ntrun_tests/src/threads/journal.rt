@@ -1,4 +1,5 @@
 //! The journal of a run by real threads, written as a script: the script's run has the same answers and grants.
+use crate::expect::{expect, expect_equal};
 use crate::refused::is_refusing;
 use nt_core::Reply;
 use nt_mail::{PackedEntry, ReadEntry};
@@ -80,11 +81,9 @@ fn check(rt: &(impl Abort + AllocGlobal), entries: &[PackedEntry]) -> Result<(),
     let script = script_of(rt.alloc(), entries)?;
     let wanted = transcript_of(rt.alloc(), entries)?;
     let (written, summary) = run_script(rt.alloc(), script.as_slice())?;
-    assert!(rt; written.as_slice() == wanted.as_bytes(), "{wanted}");
-    assert_eq!(rt;
-        (summary.calls, summary.refused, summary.pending),
-        (28, 0, 0)
-    );
+    expect(rt, written.as_slice() == wanted.as_bytes(), wanted.as_str());
+    let counts = (summary.calls, summary.refused, summary.pending);
+    expect_equal(rt, counts, (28, 0, 0), "calls, refusals, pending waits");
     Ok(())
 }
 

@@ -1,6 +1,7 @@
 //! The plan over a dispatcher in memory.
 ghost use Rattle.std.specs.Prelude.{◌≤◌};
 
+use crate::expect::{expect, expect_at, expect_equal};
 use crate::refused::{Host, is_refusing, tell_refused};
 use crate::threads::door::MemoryDoor;
 use crate::threads::hall::{Hall, ToHall};
@@ -93,12 +94,13 @@ fn check<R: Host + Threads + Wait + Sync>(rt: &R, workers: u16, rounds: u32, wan
     let Ok(seen) = carry_out(rt, rt.alloc(), &hall, threads, rounds) else {
         return tell_refused(rt, "the test itself");
     };
-    assert!(rt; seen.in_order);
+    expect(rt, seen.in_order, "the order of the calls");
     for thread in 0..threads {
-        assert!(rt; hall.has_ended(rt, u32::from(thread)));
+        let has_ended = hall.has_ended(rt, u32::from(thread));
+        expect_at(rt, has_ended, "the end of thread", u64::from(thread));
     }
     if seen.whole {
-        assert_eq!(rt; seen.made, wanted);
+        expect_equal(rt, seen.made, wanted, "the calls");
     } else {
         tell_refused(rt, "the plan");
     }
