@@ -161,9 +161,26 @@ static void leave(struct seat *seat)
 enum { LEAVING_ROUNDS = PTHREAD_DESTRUCTOR_ITERATIONS - 1 };
 static char rounds[LEAVING_ROUNDS];
 
+/* A canceled thread's frames are gone, and what AddressSanitizer noted of them is not: it would find fault with the frames that come in
+ * their place. This takes the notes away. */
+#ifdef __has_feature
+#define HAS_ADDRESS_SANITIZER __has_feature(address_sanitizer)
+#elif defined __SANITIZE_ADDRESS__
+#define HAS_ADDRESS_SANITIZER 1
+#else
+#define HAS_ADDRESS_SANITIZER 0
+#endif
+#if HAS_ADDRESS_SANITIZER
+void __asan_handle_no_return(void);
+#define FORGET_FRAMES() __asan_handle_no_return()
+#else
+#define FORGET_FRAMES() ((void)0)
+#endif
+
 static void leave_last(void *round)
 {
     char *next = (char *)round + 1;
+    FORGET_FRAMES();
     own.end = NULL;
     if (own.seat != NULL && (next == rounds + LEAVING_ROUNDS || pthread_setspecific(process.leaving, next) != 0))
         leave(own.seat);
