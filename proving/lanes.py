@@ -16,12 +16,14 @@ OVER_KEPT = 0.7
 
 @dataclasses.dataclass
 class Task:
-    """What is called, once those tasks that it waits for have ended, with what all tasks so far gave, by key."""
+    """What is called, once those tasks that it waits for have ended, with what all tasks so far gave, by key. One that `fills` is begun only if no
+    other can be, and leaves a lane to the others until all of them have ended."""
 
     waits: list
     weight: float
     memory: float
     call: Callable
+    fills: bool = False
 
 
 def memory_of(crate):
@@ -58,24 +60,31 @@ def free_memory():
 
 
 def behind(tasks):
-    """The weight of each task with that of the heaviest chain of tasks behind it."""
+    """The weight of each task with that of the heaviest chain of tasks behind it, of such as fill lanes or of such as do not."""
     found = {key: it.weight for key, it in tasks.items()}
     # (a task comes after those that it waits for)
     for key in reversed(list(tasks)):
-        for it in tasks[key].waits:
+        for it in (it for it in tasks[key].waits if tasks[it].fills == tasks[key].fills):
             found[it] = max(found[it], tasks[it].weight + found[key])
     return found
+
+
+def open_to(task, tasks, left, begun, lanes):
+    """How many lanes are free for the task."""
+    filling = [it for it in begun if tasks[it].fills]
+    keeps_one = task.fills and lanes > 1 and any(not tasks[it].fills for it in [*left, *begun])
+    return lanes - 1 - len(filling) if keeps_one and len(filling) == len(begun) else lanes - len(begun)
 
 
 def run_all(tasks, at_once=None):
     """Runs the tasks, first those with the heaviest chain behind them. It returns what each gave, by key."""
     lanes, memory, chain = at_once or processors(), 0.85 * free_memory(), behind(tasks)
-    left, begun, given = sorted(tasks, key=lambda it: -chain[it]), {}, {}
+    left, begun, given = sorted(tasks, key=lambda it: (tasks[it].fills, -chain[it])), {}, {}
     with concurrent.futures.ThreadPoolExecutor(lanes) as pool:
         while left or begun:
             for key in [it for it in left if all(other in given for other in tasks[it].waits)]:
                 taken = sum(tasks[it].memory for it in begun.values())
-                if len(begun) < lanes and (not begun or taken + tasks[key].memory <= memory):
+                if open_to(tasks[key], tasks, left, begun.values(), lanes) > 0 and (not begun or taken + tasks[key].memory <= memory):
                     left.remove(key)
                     begun[pool.submit(tasks[key].call, given)] = key
             for it in concurrent.futures.wait(begun, return_when=concurrent.futures.FIRST_COMPLETED).done:

@@ -40,15 +40,19 @@ class Proofs:
         self.used = {it.name for crate in crates.values() for it in crate.uses}
 
     def run(self, names, runs=True, checked=None):
-        """Proves these crates and those below them, and runs their tests and programs where `runs`. It returns whether all passed. Crates that are
-        not among the `checked`, where these are given, are only built, where they are libraries."""
-        wanted = [it for it in self.crates.values() if any(it.name == name or it in self.crates[name].below() for name in names)]
-        self.progress.of, self.progress.total = "crates", len(wanted)
+        """Carries out the tasks of these crates, and returns whether all passed."""
+        tasks = self.tasks(names, runs, checked)
+        self.progress.of, self.progress.total = "crates", len(tasks)
+        return all(run_all(tasks).values())
+
+    def tasks(self, names, runs=True, checked=None):
+        """A task for each of these crates and those below them, by name: it proves the crate, runs its tests and its program where `runs`, and gives
+        whether all passed. Crates that are not among the `checked`, where these are given, are only built, where they are libraries."""
         tasks = {}
-        for it in wanted:
+        for it in (it for it in self.crates.values() if any(it.name == name or it in self.crates[name].below() for name in names)):
             waits, weight = [other.name for other in it.below()], it.lines() + it.lines(".antt")
             tasks[it.name] = Task(waits, weight, memory_of(it), lambda given, it=it: self.one(it, given, runs, checked is None or it.name in checked))
-        return all(run_all(tasks).values())
+        return tasks
 
     def one(self, crate, given, runs, checks):
         """Proves a crate, builds what those above it need, and runs what it has to run. It returns whether all passed."""
@@ -95,11 +99,12 @@ class Proofs:
         times = ", ".join(f"{part} {said.seconds:.0f} s ({said.of_processors:.0f} of processors)" for part, said in parts.items())
         self.progress.tell(f"{crate.name}: proved, {checked} modules checked, {taken} taken from work that was kept; {times}")
 
-    def tell_times(self):
-        """Tells the processor seconds of each part of the proofs, of all crates together."""
+    def tell_times(self, of_wrong_turns):
+        """Tells the processor seconds of each part of the proofs, of all crates together, and of wrong turns."""
         used = collections.Counter()
         for part, said in (it for parts in self.parts.values() for it in parts.items()):
             used[part] += said.of_processors
+        used["wrong turns"] = of_wrong_turns
         self.progress.tell("of processors: " + ", ".join(f"{part} {seconds:.0f} s" for part, seconds in used.items()))
 
 

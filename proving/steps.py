@@ -13,11 +13,12 @@ import kit
 from command import noted, run
 from crates import crates_of, text_of
 from edits import edits_in, edits_of, folder_of
+from lanes import run_all
 from pictures import rendered
 from proofs import Proofs, handles_of
 from rooms import fill_room
 from telling import COUNTED, Step
-from trial import Trial, try_edits
+from trial import Trial
 from tried import note_tried, share_of, stands_on
 
 # The crate whose check tells the rate of a machine.
@@ -78,34 +79,42 @@ def edits_apply(top, progress):
     return Step(0 if bad else 1, [it.partition(":")[0] for it in bad])
 
 
-def proofs_of_all(tree, work, held, progress):
-    """Proves each crate once, and runs tests and programs. What was made stands in the tree. The crates whose kept work was seen to serve are added
-    to `held`."""
+def proofs_and_wrong_turns(top, tree, work, tries_each, tries_all, progress):
+    """Proves each crate once, runs tests and programs, and tries wrong turns of each crate over what its proof kept: in lanes that the proofs leave.
+    What the proofs made stands in the tree."""
     proofs = Proofs(crates_of(tree), work, progress, handles_of(tree))
-    proofs.run(list(proofs.crates))
-    progress.tell(f"{proofs.checked} modules were checked in this run, and {proofs.taken} taken from work that checks on this machine had kept")
-    proofs.tell_times()
-    held |= proofs.held
-    return Step(len(proofs.passed), proofs.failed)
-
-
-def wrong_turns(top, tree, work, held, tries_all, progress):
-    """Tries wrong turns over what the proofs kept."""
     # (what cannot be applied was told, and counted, by a step before)
     found, bad = edits_in(tree)
-    chosen = found if tries_all else share_of(tree, found)
+    chosen = found if tries_each else share_of(tree, found)
     many = sum(map(len, chosen.values()))
-    progress.tell(f"{many} of {sum(map(len, found.values()))} edits are tried")
-    for crate in chosen:
-        if crate.name == RATED:
-            seconds = Trial(crate, [], work, progress).check({}).seconds
-            progress.tell(f"{RATED}, with nothing to do and nothing beside it: checked, {seconds:.0f} s")
-    failed = try_edits(chosen, work, progress, held)
-    if tries_all:
+    progress.tell(f"{many} of {sum(map(len, found.values()))} wrong turns are tried")
+    trials = [Trial(crate, edits, work, progress, proofs.held) for crate, edits in chosen.items()]
+    tasks = proofs.tasks(list(proofs.crates))
+    for it in trials:
+        tasks.update(it.tasks(after=[it.crate.name]))
+    progress.of, progress.total = "crates and checks", len(tasks) - len(trials)
+    run_all(tasks)
+    tell_costs(proofs, trials, work, progress)
+    failed, left_out = [name for it in trials for name in it.failed], [name for it in trials for name in it.left_out]
+    if tries_all and not proofs.failed:
         not_tried = {name.split("/")[-2] for name in [*failed, *(it.partition(":")[0] for it in bad)]}
         sums = {it.name: stands_on(it, folder_of(tree, it.name)) for it in found if it.name not in not_tried}
         note_tried(top, sums, crates_of(tree))
-    return Step(many - len(failed), failed)
+    passed = len(proofs.passed) + many - len(failed) - len(left_out)
+    return Step(passed, [*proofs.failed, *failed], is_made=not proofs.failed)
+
+
+def tell_costs(proofs, trials, work, progress):
+    """Tells what was proved and tried, the processor seconds of each part, and the rate of the machine."""
+    refused, left_out = sum(len(it.edits) - len(it.failed) - len(it.left_out) for it in trials), sum(len(it.left_out) for it in trials)
+    rest = f"; {left_out} of crates that are not proved were left out" if left_out else ""
+    progress.tell(f"{len(proofs.passed)} crates were proved, and {refused} wrong turns refused{rest}")
+    progress.tell(f"{proofs.checked} modules were checked in this run, and {proofs.taken} taken from work that checks on this machine had kept")
+    proofs.tell_times(sum(it.used for it in trials))
+    rated = next((it for it in proofs.crates.values() if it.name == RATED and it.name in proofs.passed), None)
+    if rated:
+        seconds = Trial(rated, [], work, progress).check({}).seconds
+        progress.tell(f"{RATED}, with nothing to do and nothing beside it: checked, {seconds:.0f} s")
 
 
 def unproved_build(top, progress):
@@ -202,10 +211,8 @@ def unproved(top):
 def proved(top, tree, work, tries_each, tries_all):
     """The steps with proofs: with each wrong turn, or a share; with every case and planted fault of C, or some."""
     scripts = [os.path.relpath(it, tree) for it in sorted(glob.glob(f"{tree}/examples/*.nts") + glob.glob(f"{tree}/tests/scripts/*/*.nts"))]
-    held = set()
     return [
-        ("proofs, tests and programs", functools.partial(proofs_of_all, tree, work, held), True),
-        ("wrong turns", functools.partial(wrong_turns, top, tree, work, held, tries_each), False),
+        ("proofs, tests, programs and wrong turns", functools.partial(proofs_and_wrong_turns, top, tree, work, tries_each, tries_all), True),
         ("the tests, each growth refused", command(tree, "tests/growths/tests"), False),
         ("object numbers and handles", command(tree, "tests/types"), False),
         ("what closed objects leave", command(tree, "tests/memory"), False),

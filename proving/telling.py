@@ -20,11 +20,13 @@ COUNTED = re.compile(r"^(\d+) passed, (\d+) failed$")
 
 
 class Step:
-    """What a step counted: how many passed, how many failed, and the names of those."""
+    """What a step counted: how many passed, how many failed, and the names of those; and whether it made what later steps run, as it did if nothing
+    failed and that is left out."""
 
-    def __init__(self, passed=0, failed=(), many=None):
+    def __init__(self, passed=0, failed=(), many=None, is_made=None):
         self.passed, self.failed = passed, list(failed)
         self.many = len(self.failed) if many is None else many
+        self.is_made = not self.failed if is_made is None else is_made
 
 
 class Gate:
@@ -55,7 +57,7 @@ class Gate:
         return f", by docs/GATE.md {found[1]} s" if found else ""
 
     def step(self, name, call):
-        """Runs a step, which gives a Step, and returns whether nothing failed in it."""
+        """Runs a step, which gives a Step, and returns whether it made what later steps run."""
         self.number += 1
         begun, before = time.monotonic(), processor_seconds()
         self.progress = Progress()
@@ -74,7 +76,7 @@ class Gate:
             f"gate: {self.number} of {self.total}, {name}: {found.passed} passed, {found.many} failed, "
             f"{took:.0f} s, {processor_seconds() - before:.0f} s of processors"
         )
-        return not found.failed
+        return found.is_made
 
     def end(self):
         """Tells what failed, by its names, and counts. It returns the exit status."""

@@ -37,26 +37,34 @@ def failing_answers(crate, functions):
 
 
 class Trial:
-    """The edits of one crate, and the folder of the rooms in which they are tried. `is_held` says that the crate, with no edit, was seen to be
-    proved over what its proof kept."""
+    """The edits of one crate, and the folder of the rooms in which they are tried. `held` has the crates that, with no edit, were seen to be
+    proved over what their proofs kept."""
 
-    def __init__(self, crate, edits, rooms, progress, is_held=False):
-        self.crate, self.edits, self.rooms, self.progress, self.is_held = crate, edits, rooms, progress, is_held
-        self.kept, self.number, self.used, self.failed = f"{crate.folder}/out", 0, 0, []
+    def __init__(self, crate, edits, rooms, progress, held=()):
+        self.crate, self.edits, self.rooms, self.progress, self.held = crate, edits, rooms, progress, held
+        self.kept, self.number, self.used, self.failed, self.left_out = f"{crate.folder}/out", 0, 0, [], []
         self.functions = functions_of(crate)
         for it in edits:
             it.find(self.functions)
         self.rounds = rounds_of([it for it in edits if it.changes()]) + [[it] for it in edits if not it.changes()]
 
-    def tasks(self):
-        """The check of the crate with no edit, and after it each round."""
-        memory, weight, first = OVER_KEPT * memory_of(self.crate), self.crate.lines(), (self.crate.name,)
-        tasks = {first: Task([], weight, memory, lambda given: self.holds())}
+    def tasks(self, after=()):
+        """The check of the crate with no edit, and after it each round. The edits are left out if one of the tasks that all this comes after, such as
+        the crate's proof, gave nothing."""
+        memory, weight, first = OVER_KEPT * memory_of(self.crate), self.crate.lines(), (self.crate.name, "with no edit")
+        tasks = {first: Task([*after], weight, memory, lambda given: all(given[it] for it in after) and self.holds(), fills=True)}
         for number, edits in enumerate(self.rounds):
-            call = lambda given, edits=edits: self.tries(edits) if given[first] else self.fail(edits, "")
-            tasks[(*first, number)] = Task([first], weight * len(edits), memory, call)
-        tasks[(*first, "ended")] = Task(list(tasks), 0, 0, lambda given: self.end())
+            call = lambda given, edits=edits: self.tries(edits) if given[first] else self.leave(edits, all(given[it] for it in after))
+            tasks[(self.crate.name, number)] = Task([first], weight * len(edits), memory, call, fills=True)
+        tasks[(self.crate.name, "ended")] = Task([*tasks], 0, 0, lambda given: self.end() if given[first] else None, fills=True)
         return tasks
+
+    def leave(self, edits, is_refuted):
+        """Notes that these edits are not tried: they fail if the crate was proved, but not over what its proof kept."""
+        if is_refuted:
+            self.fail(edits, "")
+        else:
+            self.left_out += [it.name for it in edits]
 
     def check(self, texts, only=()):
         """Checks a copy of the crate with these texts in place of its own, or these functions of it alone."""
@@ -83,17 +91,17 @@ class Trial:
 
     def holds(self):
         """Returns whether the crate is proved with no edit, nearly all of it taken from what its proof kept: else no edit tells anything."""
-        self.files, how = files_in(f"{self.kept}/{OWN_WORK}"), "was proved"
-        if not self.is_held:
+        self.files, how, is_held = files_in(f"{self.kept}/{OWN_WORK}"), "was proved", self.crate.name in self.held
+        if not is_held:
             said = self.check({})
             taken, checked = said.modules(self.crate.name) or (0, 1)
-            self.is_held = said.shows_kept(self.crate.name)
+            is_held = said.shows_kept(self.crate.name)
             refused = f"IS NOT PROVED, so no edit tells anything: status {said.status}, {checked} modules checked again, {taken} taken"
-            how = f"is proved, {said.seconds:.0f} s" if self.is_held else refused
+            how = f"is proved, {said.seconds:.0f} s" if is_held else refused
         self.progress.tell(f"{self.crate.name}: with no edit it {how}; {len(self.edits)} edits in {len(self.rounds)} rounds")
         for name, size in dear_functions(f"{self.kept}/{OWN_WORK}"):
             self.progress.tell(f"{self.crate.name}: {name} is dear to prove: its steps take {size / 1e6:.1f} MB, and 4 are the most that they should")
-        return self.is_held
+        return is_held
 
     def end(self):
         """Tells what the crate's checks took. It fails all where a round has written into a file of what was kept."""
@@ -157,7 +165,7 @@ def files_in(folder):
 def try_edits(chosen, rooms, progress, held=(), at_once=None):
     """Tries these edits, by crate, and returns the names of those that failed. Of the crates that are `held`, what the proof kept was seen to serve."""
     progress.of, tasks = "checks", {}
-    trials = [Trial(crate, edits, rooms, progress, crate.name in held) for crate, edits in chosen.items()]
+    trials = [Trial(crate, edits, rooms, progress, held) for crate, edits in chosen.items()]
     for it in trials:
         tasks.update(it.tasks())
     progress.total = len(tasks) - len(trials)
