@@ -76,15 +76,24 @@ def open_to(task, tasks, left, begun, lanes):
     return lanes - 1 - len(filling) if keeps_one and len(filling) == len(begun) else lanes - len(begun)
 
 
+def fits_beside(task, tasks, begun, memory):
+    """Whether the memory holds the task beside these. Where nothing is under way, any task fits."""
+    return not begun or sum(tasks[it].memory for it in begun) + task.memory <= memory
+
+
 def run_all(tasks, at_once=None):
     """Runs the tasks, first those with the heaviest chain behind them. It returns what each gave, by key."""
     lanes, memory, chain = at_once or processors(), 0.85 * free_memory(), behind(tasks)
     left, begun, given = sorted(tasks, key=lambda it: (tasks[it].fills, -chain[it])), {}, {}
     with concurrent.futures.ThreadPoolExecutor(lanes) as pool:
         while left or begun:
+            is_short = False
             for key in [it for it in left if all(other in given for other in tasks[it].waits)]:
-                taken = sum(tasks[it].memory for it in begun.values())
-                if open_to(tasks[key], tasks, left, begun.values(), lanes) > 0 and (not begun or taken + tasks[key].memory <= memory):
+                fits = fits_beside(tasks[key], tasks, begun.values(), memory)
+                # (what fills lanes takes no memory for which another task waits)
+                others = [it for it in begun.values() if not tasks[it].fills]
+                is_short = is_short or not fits and not tasks[key].fills and fits_beside(tasks[key], tasks, others, memory)
+                if fits and not (is_short and tasks[key].fills) and open_to(tasks[key], tasks, left, begun.values(), lanes) > 0:
                     left.remove(key)
                     begun[pool.submit(tasks[key].call, given)] = key
             for it in concurrent.futures.wait(begun, return_when=concurrent.futures.FIRST_COMPLETED).done:
