@@ -32,10 +32,12 @@ class Failed(Exception):
 
 
 class Proofs:
-    """The proofs of a tree's crates, in rooms below a folder. They begin with nothing, or with what another tree's out/ has."""
+    """The proofs of a tree's crates, in rooms below a folder. They begin with nothing, or with what another tree's out/ has. In those named in `searched`
+    a check has found no contract that no call can meet, and nothing has changed since: from nothing such a library is proved by its build."""
 
-    def __init__(self, crates, rooms, progress, handles, begin_with=None):
+    def __init__(self, crates, rooms, progress, handles, begin_with=None, searched=()):
         self.crates, self.rooms, self.progress, self.handles, self.begin_with = crates, rooms, progress, handles, begin_with
+        self.searched = searched
         self.checked, self.taken, self.failed, self.passed, self.parts, self.held = 0, 0, [], [], {}, set()
         self.used = {it.name for crate in crates.values() for it in crate.uses}
 
@@ -76,10 +78,7 @@ class Proofs:
         parts = {}
         try:
             # (of tests alone nothing is left for a check, and `rt test` proves them)
-            if checks and not (runs and crate.has_tests_alone()):
-                parts["check"] = prove(crate, folder, self.handles)
-            if crate.is_static or crate.name in self.used:
-                parts["lib"] = build_library(crate, folder)
+            parts.update(self.prove_and_build(crate, folder, checks and not (runs and crate.has_tests_alone())))
             if runs and crate.has_tests():
                 parts["test"] = pass_tests(crate, folder, self.handles)
             if runs and crate.is_program:
@@ -94,10 +93,25 @@ class Proofs:
         self.parts[crate.name] = parts
         # (what its first command kept serves the next one: the check of a library, its build)
         self.held |= {crate.name} if any(said.shows_kept(crate.name) for said in parts.values()) else set()
-        taken, checked = next(iter(parts.values())).modules(crate.name) or (0, 0)
+        taken, checked = next((it.modules(crate.name) for it in parts.values() if it.modules(crate.name)), (0, 0))
         self.taken, self.checked = self.taken + taken, self.checked + checked
         times = ", ".join(f"{part} {said.seconds:.0f} s ({said.of_processors:.0f} of processors)" for part, said in parts.items())
         self.progress.tell(f"{crate.name}: proved, {checked} modules checked, {taken} taken from work that was kept; {times}")
+
+    def prove_and_build(self, crate, folder, checks):
+        """Proves the crate where `checks`, and builds it where it is a library that is used. It returns what each command said, by its name."""
+        parts, is_built = {}, crate.is_static or crate.name in self.used
+        if checks and not (is_built and crate.name in self.searched):
+            parts["check"] = prove(crate, folder, self.handles)
+        if is_built:
+            parts["lib"] = build_library(crate, folder)
+        if checks and "check" not in parts:
+            if parts["lib"].last_line():
+                judge(parts["lib"], self.handles)
+            else:
+                # (a build says nothing if the library was there)
+                parts["check"] = prove(crate, folder, self.handles)
+        return parts
 
     def tell_times(self, of_wrong_turns):
         """Tells the processor seconds of each part of the proofs, of all crates together, and of wrong turns."""
@@ -114,18 +128,22 @@ def handles_of(top):
     return [] if not found or found[1] == "none" else found[1].split(", ")
 
 
-def prove(crate, folder, handles):
-    """Checks the crate, and returns what the check said."""
-    more = ["--empty-contracts"] if finds_empty_contracts(folder) else []
-    said = rt(folder, "check", *ONE_JOB, *more)
+def judge(said, handles):
+    """Returns what a check or a build said, if it shows that the crate is proved."""
     why = why_not_proved(said, handles)
     if why:
         raise Failed(why, said.text)
     return said
 
 
+def prove(crate, folder, handles):
+    """Checks the crate, and returns what the check said."""
+    more = ["--empty-contracts"] if finds_empty_contracts(folder) else []
+    return judge(rt(folder, "check", *ONE_JOB, *more), handles)
+
+
 def build_library(crate, folder):
-    """Builds the library, and returns what its build said."""
+    """Builds the library, and returns what its build said. (It proves what has to be proved, but does not search contracts.)"""
     built = rt(folder, "lib", *ONE_JOB)
     if built.status or not os.path.exists(f"{folder}/{crate.made}"):
         raise Failed(f"`rt lib` ended with status {built.status}", built.text)

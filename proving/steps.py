@@ -7,13 +7,14 @@ import re
 import signal
 import subprocess
 import tempfile
+from concurrent.futures import ThreadPoolExecutor
 
 import failures
 import kit
 from command import noted, run
 from crates import crates_of, text_of
 from edits import edits_in, edits_of, folder_of
-from lanes import run_all
+from lanes import processors, run_all
 from pictures import rendered
 from proofs import Proofs, handles_of
 from rooms import fill_room
@@ -55,15 +56,16 @@ def no_conflict_markers(top, progress):
     return Step(1) if said.status == 1 and not lines else Step(0, [it.split(":")[0] for it in lines] or [f"git grep: status {said.status}"])
 
 
+def laid_out_otherwise(crate, room):
+    """The files of the crate that `rt fmt` lays out otherwise. (It names each that it lays out anew, so this works on a copy.)"""
+    said = run([kit.find_rt(), "fmt"], fill_room(f"{room}/{crate.name}", crate, below=False))
+    names = re.findall(r"^rt: formatted (.*)$", said.text, re.M) or ([f"rt fmt: status {said.status}"] if said.status else [])
+    return [f"crates/{crate.name}/{it}" for it in names]
+
+
 def each_file_is_laid_out(top, progress):
-    """(rt names each file that it lays out anew, so this works on a copy.)"""
-    failed = []
-    with tempfile.TemporaryDirectory() as room:
-        for crate in crates_of(top).values():
-            folder = fill_room(f"{room}/{crate.name}", crate, below=False)
-            said = run([kit.find_rt(), "fmt"], folder)
-            names = re.findall(r"^rt: formatted (.*)$", said.text, re.M) or ([f"rt fmt: status {said.status}"] if said.status else [])
-            failed += [f"crates/{crate.name}/{it}" for it in names]
+    with tempfile.TemporaryDirectory() as room, ThreadPoolExecutor(processors()) as pool:
+        failed = sum(pool.map(lambda it: laid_out_otherwise(it, room), crates_of(top).values()), [])
     for it in failed:
         progress.tell(f"{it}: `rt fmt` lays it out otherwise")
     return Step(0 if failed else 1, failed)
@@ -82,11 +84,12 @@ def edits_apply(top, progress):
 def proofs_and_wrong_turns(top, tree, work, tries_each, tries_all, progress):
     """Proves each crate once, runs tests and programs, and tries wrong turns of each crate over what its proof kept: in lanes that the proofs leave.
     What the proofs made stands in the tree."""
-    proofs = Proofs(crates_of(tree), work, progress, handles_of(tree))
     # (what cannot be applied was told, and counted, by a step before)
     found, bad = edits_in(tree)
     chosen = found if tries_each else share_of(tree, found)
     many = sum(map(len, chosen.values()))
+    # (a crate whose edits are not tried is as it was when all were, and its contracts were searched)
+    proofs = Proofs(crates_of(tree), work, progress, handles_of(tree), searched={it.name for it in found if it not in chosen})
     progress.tell(f"{many} of {sum(map(len, found.values()))} wrong turns are tried")
     trials = [Trial(crate, edits, work, progress, proofs.held) for crate, edits in chosen.items()]
     tasks = proofs.tasks(list(proofs.crates))
@@ -139,6 +142,11 @@ ON_EXAMPLES = (
 PICTURES = (("examples/two_locks.nts", "docs/two_locks.svg"),)
 
 
+def is_there(script, ending):
+    """Whether what is written of this example stands beside it. (Each has a transcript, and fails without one.)"""
+    return ending == ".transcript" or os.path.exists(script.removesuffix(".nts") + ending)
+
+
 def example(top, script, words, ending, statuses):
     """Runs the words on an example, and answers what is told where it does not write the file beside it."""
     wanted = text_of(script.removesuffix(".nts") + ending)
@@ -164,17 +172,12 @@ def examples(top, progress):
     """What the launchers write of each example is the file beside it. Not each has a file of why its threads wait, a timeline, or orders. A picture of the docs
     is what `ntlook timeline` draws, and a browser draws it."""
     passed, failed = 0, []
-    for script in sorted(glob.glob(f"{top}/examples/*.nts")):
-        for words, ending, statuses in ON_EXAMPLES:
-            if ending != ".transcript" and not os.path.exists(script.removesuffix(".nts") + ending):
-                continue
-            told = example(top, script, words, ending, statuses)
+    runs = [(script, *how) for script in sorted(glob.glob(f"{top}/examples/*.nts")) for how in ON_EXAMPLES if is_there(script, how[1])]
+    with ThreadPoolExecutor(processors()) as pool:
+        for (script, *_), told in zip(runs, pool.map(lambda it: example(top, *it), runs)):
             for it in told:
                 progress.tell(it.replace(f"{top}/", ""))
-            if told:
-                failed.append(os.path.relpath(script, top))
-            else:
-                passed += 1
+            passed, failed = passed + (not told), failed + [os.path.relpath(script, top)] * bool(told)
     for script, picture in PICTURES:
         for same, told in (drawn(top, script, picture), rendered(f"{top}/{picture}")):
             for it in told:

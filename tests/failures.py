@@ -8,6 +8,7 @@ import inspect
 import os
 import re
 import sys
+import threading
 
 TOP = os.path.dirname(os.path.dirname(os.path.realpath(__file__)))
 
@@ -45,21 +46,24 @@ def transcript_failure(script, wanted, found, found_name, ending=".transcript"):
 
 
 class Count:
-    """Counts tests. Those are tried whose names have one of these parts, or all."""
+    """Counts tests, which may run beside each other. Those are tried whose names have one of these parts, or all."""
 
     def __init__(self, names=()):
         self.names = names
         self.passed = self.failed = 0
+        self.lock = threading.Lock()
 
     def wants(self, name):
         return not self.names or any(it in name for it in self.names)
 
     def passes(self):
-        self.passed += 1
+        with self.lock:
+            self.passed += 1
 
     def fails(self, *lines):
-        self.failed += 1
-        print(*lines, sep="\n", flush=True)
+        with self.lock:
+            self.failed += 1
+            print(*lines, sep="\n", flush=True)
 
     def holds(self, name, found, wanted):
         """Passes where what was found is what is wanted; else each part that differs is told, at the line of the program that asks."""
