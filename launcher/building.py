@@ -47,16 +47,16 @@ def judged_rt():
     return kit.find_rt()
 
 
-def is_current(program, parts):
-    """Whether the program is there, and neither a source nor the kit is newer."""
-    if not os.access(program, os.X_OK):
+def is_current(made, parts, use=os.X_OK):
+    """Whether what was built is there, for this use, and neither a source nor the kit is newer."""
+    if not os.access(made, use):
         return False
     tools = os.path.dirname(os.path.dirname(os.path.realpath(kit.find_rt() or "/")))
     sources = [f"{TOP}/crates.txt", f"{tools}/WHAT"]
     for part in parts:
         for folder, _, names in (it for at in glob.glob(f"{TOP}/crates/*/{part}") for it in os.walk(at)):
             sources += [folder, *(f"{folder}/{name}" for name in names)]
-    built = os.stat(program).st_mtime_ns
+    built = os.stat(made).st_mtime_ns
     return all(os.stat(it).st_mtime_ns <= built for it in sources if os.path.exists(it))
 
 
