@@ -45,6 +45,17 @@ fn a_front_has_threads_and_room(rt: HostRuntime) {
     }
 }
 
+#[test]
+fn a_front_has_up_to_256_threads_and_1048576_entries(rt: HostRuntime) {
+    if is_refusing(&rt) {
+        return;
+    }
+    for (threads, room) in [(1, 1), (256, 4), (1, 1_048_576)] {
+        let refusal = refusal_of(rt.alloc(), threads, room);
+        expect_equal(&rt, refusal, None, "threads and room that a front has");
+    }
+}
+
 /// There is room for the creation and the wait, but not for a set with the grant that it may bring.
 #[test]
 fn room_is_kept_for_each_pending_wait(rt: HostRuntime) -> Result<(), Fail> {
