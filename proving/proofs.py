@@ -33,7 +33,7 @@ class Failed(Exception):
 
 class Proofs:
     """The proofs of a tree's crates, in rooms below a folder. They begin with nothing, or with what another tree's out/ has. In those named in `searched`
-    a check has found no contract that no call can meet, and nothing has changed since: from nothing such a library is proved by its build."""
+    a check of the same sum (tried.py) has found no contract that no call can meet: from nothing such a library is proved by its build."""
 
     def __init__(self, crates, rooms, progress, handles, begin_with=None, searched=()):
         self.crates, self.rooms, self.progress, self.handles, self.begin_with = crates, rooms, progress, handles, begin_with
@@ -99,7 +99,7 @@ class Proofs:
         self.progress.tell(f"{crate.name}: proved, {checked} modules checked, {taken} taken from work that was kept; {times}")
 
     def prove_and_build(self, crate, folder, checks):
-        """Proves the crate where `checks`, and builds it where it is a library that is used. It returns what each command said, by its name."""
+        """Proves the crate if `checks`, and builds it if it is a library that is used. It returns what each command said, by its name."""
         parts, is_built = {}, crate.is_static or crate.name in self.used
         if checks and not (is_built and crate.name in self.searched):
             parts["check"] = prove(crate, folder, self.handles)
