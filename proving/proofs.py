@@ -113,12 +113,12 @@ class Proofs:
                 parts["check"] = prove(crate, folder, self.handles)
         return parts
 
-    def tell_times(self, of_wrong_turns):
-        """Tells the processor seconds of each part of the proofs, of all crates together, and of wrong turns."""
+    def tell_times(self, of_mutants):
+        """Tells the processor seconds of each part of the proofs, of all crates together, and of mutants."""
         used = collections.Counter()
         for part, said in (it for parts in self.parts.values() for it in parts.items()):
             used[part] += said.of_processors
-        used["wrong turns"] = of_wrong_turns
+        used["mutants"] = of_mutants
         self.progress.tell("of processors: " + ", ".join(f"{part} {seconds:.0f} s" for part, seconds in used.items()))
 
 

@@ -13,7 +13,7 @@ import failures
 import kit
 from command import noted, run
 from crates import crates_of, text_of
-from edits import edits_in, edits_of, folder_of
+from edits import edits_in
 from lanes import processors, run_all
 from pictures import rendered
 from proofs import Proofs, handles_of
@@ -74,15 +74,13 @@ def each_file_is_laid_out(top, progress):
 def edits_apply(top, progress):
     """(Each edit is counted where it is tried.)"""
     found, bad = edits_in(top)
-    for crate in crates_of(top).values():
-        bad += [it.removeprefix(f"{top}/") for it in edits_of(crate, f"{crate.folder}/must-fail")[1]]
     for it in bad:
         progress.tell(it)
     return Step(0 if bad else 1, [it.partition(":")[0] for it in bad])
 
 
-def proofs_and_wrong_turns(top, tree, work, tries_each, tries_all, progress):
-    """Proves each crate once, runs tests and programs, and tries wrong turns of each crate over what its proof kept: in lanes that the proofs leave.
+def proofs_and_mutants(top, tree, work, tries_each, tries_all, progress):
+    """Proves each crate once, runs tests and programs, and tries mutants of each crate over what its proof kept: in lanes that the proofs leave.
     What the proofs made stands in the tree."""
     # (what cannot be applied was told, and counted, by a step before)
     found, bad = edits_in(tree)
@@ -90,7 +88,7 @@ def proofs_and_wrong_turns(top, tree, work, tries_each, tries_all, progress):
     many = sum(map(len, chosen.values()))
     # (a crate whose edits are not tried is as it was when all were, and its contracts were searched)
     proofs = Proofs(crates_of(tree), work, progress, handles_of(tree), searched={it.name for it in found if it not in chosen})
-    progress.tell(f"{many} of {sum(map(len, found.values()))} wrong turns are tried")
+    progress.tell(f"{many} of {sum(map(len, found.values()))} mutants are tried")
     trials = [Trial(crate, edits, work, progress, proofs.held) for crate, edits in chosen.items()]
     tasks = proofs.tasks(list(proofs.crates))
     for it in trials:
@@ -99,9 +97,9 @@ def proofs_and_wrong_turns(top, tree, work, tries_each, tries_all, progress):
     run_all(tasks)
     tell_costs(proofs, trials, work, progress)
     failed, left_out = [name for it in trials for name in it.failed], [name for it in trials for name in it.left_out]
-    if tries_all and not proofs.failed:
-        not_tried = {name.split("/")[-2] for name in [*failed, *(it.partition(":")[0] for it in bad)]}
-        sums = {it.name: stands_on(it, folder_of(tree, it.name)) for it in found if it.name not in not_tried}
+    if tries_all and not proofs.failed and not bad:
+        not_tried = {name.split("/")[0] for name in failed}
+        sums = {it.name: stands_on(tree, it) for it in found if it.name not in not_tried}
         note_tried(top, sums, crates_of(tree))
     passed = len(proofs.passed) + many - len(failed) - len(left_out)
     return Step(passed, [*proofs.failed, *failed], is_made=not proofs.failed)
@@ -111,7 +109,7 @@ def tell_costs(proofs, trials, work, progress):
     """Tells what was proved and tried, the processor seconds of each part, and the rate of the machine."""
     refused, left_out = sum(len(it.edits) - len(it.failed) - len(it.left_out) for it in trials), sum(len(it.left_out) for it in trials)
     rest = f"; {left_out} of crates that are not proved were left out" if left_out else ""
-    progress.tell(f"{len(proofs.passed)} crates were proved, and {refused} wrong turns refused{rest}")
+    progress.tell(f"{len(proofs.passed)} crates were proved, and {refused} mutants refused{rest}")
     progress.tell(f"{proofs.checked} modules were checked in this run, and {proofs.taken} taken from work that checks on this machine had kept")
     proofs.tell_times(sum(it.used for it in trials))
     rated = next((it for it in proofs.crates.values() if it.name == RATED and it.name in proofs.passed), None)
@@ -197,8 +195,8 @@ def before_proofs(top):
         ("each file is laid out", functools.partial(each_file_is_laid_out, top), False),
         ("docs/MODEL.md names each definition", command(top, "docs/check_model"), False),
         ("the names of the docs", command(top, "docs/check_names"), False),
-        ("each wrong turn applies", functools.partial(edits_apply, top), False),
-        ("each public function has a wrong turn", command(top, "wrong_turns/run", "--reached"), False),
+        ("each mutant applies", functools.partial(edits_apply, top), False),
+        ("each public function has a mutant", command(top, "mutants/run", "--reached"), False),
     ]
 
 
@@ -212,10 +210,10 @@ def unproved(top):
 
 
 def proved(top, tree, work, tries_each, tries_all):
-    """The steps with proofs: with each wrong turn, or a share; with every case and planted fault of C, or some."""
+    """The steps with proofs: with each mutant, or a share; with every case and planted fault of C, or some."""
     scripts = [os.path.relpath(it, tree) for it in sorted(glob.glob(f"{tree}/examples/*.nts") + glob.glob(f"{tree}/tests/scripts/*/*.nts"))]
     return [
-        ("proofs, tests, programs and wrong turns", functools.partial(proofs_and_wrong_turns, top, tree, work, tries_each, tries_all), True),
+        ("proofs, tests, programs and mutants", functools.partial(proofs_and_mutants, top, tree, work, tries_each, tries_all), True),
         ("the tests, each growth refused", command(tree, "tests/growths/tests"), False),
         ("object numbers and handles", command(tree, "tests/types"), False),
         ("what closed objects leave", command(tree, "tests/memory"), False),
