@@ -1,3 +1,4 @@
+/* SPDX-License-Identifier: MIT OR Apache-2.0 */
 /* Win32's names over the proved dispatcher (nt.h).
  *
  * One lock is held round each call of the dispatcher, and no longer. Each thread has a seat: its number in the dispatcher, and a word

@@ -1,3 +1,4 @@
+/* SPDX-License-Identifier: MIT OR Apache-2.0 */
 /* Win32's waitable objects, waits and APCs for the threads of one process, on POSIX threads. Link with libntwin.
  *
  * A program that includes <windows.h> for these calls compiles unchanged with -I of the folder `win` beside this file. Which waits end,

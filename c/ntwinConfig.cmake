@@ -1,3 +1,4 @@
+# SPDX-License-Identifier: MIT OR Apache-2.0
 # find_package(ntwin) makes two targets: ntwin::ntwin, the shared library, and ntwin::static. ntwin_PROVED says whether their dispatcher is proved.
 set(ntwin_PROVED @IS_PROVED@)
 get_filename_component(_ntwin_prefix "${CMAKE_CURRENT_LIST_DIR}/../../.." ABSOLUTE)

@@ -1,3 +1,4 @@
+/* SPDX-License-Identifier: MIT OR Apache-2.0 */
 /* What the parts of ntwin.c share: a thread's seat, and all that is kept, with what always holds of it. */
 #ifndef NTWIN_INSIDE_H
 #define NTWIN_INSIDE_H

@@ -1,3 +1,4 @@
+/* SPDX-License-Identifier: MIT OR Apache-2.0 */
 /* ---- What a program's ThreadSanitizer is told, where it has one (ntwin.c need not be compiled for it), or its helgrind: that what was done
  * before one thread gave the lock back, or told another of its grant, came before what is done after. */
 

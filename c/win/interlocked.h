@@ -1,3 +1,4 @@
+/* SPDX-License-Identifier: MIT OR Apache-2.0 */
 /* The interlocked calls and memory barriers. Each is one atomic step. It orders all that comes before and after; Acquire, Release and NoFence
  * at the end of a name order as much as they say. Increment, Decrement and Add answer the value after, the others the value before.
  *

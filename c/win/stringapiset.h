@@ -1,3 +1,4 @@
+/* SPDX-License-Identifier: MIT OR Apache-2.0 */
 /* Text in UTF-8 and in WCHAR, which has 32 bits here: a character each, and no surrogates. */
 #ifndef NTWIN_STRINGAPISET_H
 #define NTWIN_STRINGAPISET_H

@@ -1,3 +1,4 @@
+/* SPDX-License-Identifier: MIT OR Apache-2.0 */
 /* The keywords of Microsoft's compilers, and the types that ntwin.h does not need itself. */
 #ifndef NTWIN_WINDEF_H
 #define NTWIN_WINDEF_H

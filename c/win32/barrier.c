@@ -1,3 +1,4 @@
+/* SPDX-License-Identifier: MIT OR Apache-2.0 */
 /* ---- Barriers. Who comes last opens it for those that wait, and for the next round. */
 
 struct barrier {

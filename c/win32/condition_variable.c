@@ -1,3 +1,4 @@
+/* SPDX-License-Identifier: MIT OR Apache-2.0 */
 /* ---- Condition variables. Who sleeps on one is parked at its address before it lets the lock go, so that no wake is missed and each wakes
  * one thread, the first that came. What is kept in the variable is how many threads sleep on it. */
 

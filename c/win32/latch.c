@@ -1,3 +1,4 @@
+/* SPDX-License-Identifier: MIT OR Apache-2.0 */
 /* ---- A latch: a word that is free, taken, or taken and wanted, as the dispatcher's lock is. It is held for a few instructions. */
 
 static inline bool try_latch(_Atomic uint32_t *latch)

@@ -1,3 +1,4 @@
+/* SPDX-License-Identifier: MIT OR Apache-2.0 */
 /* ---- The texts of errors: of those that calls here answer, and that programs name. */
 
 static const struct {

@@ -1,3 +1,4 @@
+/* SPDX-License-Identifier: MIT OR Apache-2.0 */
 /* ---- Modules: the libraries of the system, and one with the calls that are here, by whichever of Windows' names. */
 
 #include <dlfcn.h>

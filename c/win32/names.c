@@ -1,3 +1,4 @@
+/* SPDX-License-Identifier: MIT OR Apache-2.0 */
 /* ---- Names in the process. A name stands for an object, of which a handle with all rights is kept that no program sees. It is gone with the last
  * handle that a program has to the object. */
 

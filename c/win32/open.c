@@ -1,3 +1,4 @@
+/* SPDX-License-Identifier: MIT OR Apache-2.0 */
 /* ---- Handles of objects by their names. */
 
 static HANDLE open_by_name(enum kind kind, struct given_name given, DWORD access)

@@ -1,3 +1,4 @@
+/* SPDX-License-Identifier: MIT OR Apache-2.0 */
 /* ---- A pool of threads. What has callbacks is a task: it counts those that are to come and those that run. Tasks with callbacks to come stand in the
  * pool's queue, and its threads take them from there, one callback at a time. A thread that finds none for a minute ends, but the least that the
  * pool keeps; and so does one that is past the most, once its callback has returned. */

@@ -1,3 +1,4 @@
+/* SPDX-License-Identifier: MIT OR Apache-2.0 */
 /* ---- The pool's calls: pools, environments, work and cleanup groups. */
 
 struct _TP_CLEANUP_GROUP {

@@ -1,3 +1,4 @@
+/* SPDX-License-Identifier: MIT OR Apache-2.0 */
 /* ---- Processors: one group and one node, the first 64 of them in a mask. */
 
 #include <dirent.h>

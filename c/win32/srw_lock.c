@@ -1,3 +1,4 @@
+/* SPDX-License-Identifier: MIT OR Apache-2.0 */
 /* ---- SRW locks: a word of who has it and who wants it, and a word that counts how often a thread was called that wants it alone. While a
  * thread waits that wants it alone, or any that shares, no new thread may share. */
 

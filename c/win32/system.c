@@ -1,3 +1,4 @@
+/* SPDX-License-Identifier: MIT OR Apache-2.0 */
 /* ---- The library, the machine, and the time of day. */
 
 /* (c/kit/unproved defines it, in a dispatcher that it builds without proofs.) */

@@ -1,3 +1,4 @@
+/* SPDX-License-Identifier: MIT OR Apache-2.0 */
 /* ---- Timers with callbacks. They stand in a heap by the moment at which they are due; one thread sleeps to the first. */
 
 struct _TP_TIMER {

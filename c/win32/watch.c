@@ -1,3 +1,4 @@
+/* SPDX-License-Identifier: MIT OR Apache-2.0 */
 /* ---- Objects that are waited for on behalf of callbacks: each by a thread of a pool of its own. */
 
 /* A wait for an object. It is a task of the pool of those that watch, and gone once it has ended. */

@@ -1,3 +1,4 @@
+// SPDX-License-Identifier: MIT OR Apache-2.0
 //! What a command line asks for, and what its commands do.
 //!
 //! A program has words, files and two outputs, and answers one number. Between them nothing may get lost: a script that could not be read to its

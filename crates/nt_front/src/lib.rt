@@ -1,3 +1,4 @@
+// SPDX-License-Identifier: MIT OR Apache-2.0
 //! The dispatcher behind one lock, for the threads of a process.
 //!
 //! Whoever takes the lock finds a lawful dispatcher, and beside it the journal: each call and tick with its answer, and each wait

@@ -1,3 +1,4 @@
+// SPDX-License-Identifier: MIT OR Apache-2.0
 //! Tests of the front and its mail, and of what `ntrun` is made of, by their contracts alone: calls by several threads, parts of
 //! a journal and their replay, scripts, the program's commands, and the plan of threads.
 #![tactic(auto)]
