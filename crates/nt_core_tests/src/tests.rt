@@ -1,20 +1,14 @@
-//! Each file has the scenarios of one subject, as data, and the one test that plays them. Each test passes also where one growth is
-//! refused: `tests/growths/tests` runs them with each in turn.
-mod apcs;
+//! What no script of `tests/scripts` can say: each file has the scenarios of one subject, as data, and the tests that play them. Each
+//! test passes also where one growth is refused: `tests/growths/tests` runs them with each in turn.
 mod callers;
 mod calls;
 mod closing;
 mod copies;
-mod corners;
-mod events;
-mod exits;
 mod free;
-mod handles;
 mod hangs;
 mod lasting;
 mod lives;
 pub mod memory;
-mod mutexes;
 mod openings;
 mod orders;
 mod plain;
@@ -22,11 +16,6 @@ mod play;
 mod renewals;
 mod renewing;
 mod script;
-mod semaphores;
 mod sequences;
-mod serving;
 mod slots;
-mod swaps;
-mod ticks;
-mod timers;
-mod waits;
+mod tested;

@@ -10,30 +10,18 @@ use nt_core::Core;
 use nt_status::Refusal;
 use std::test::Fail;
 
-const SCENARIOS: &[Scenario] = &[
-    Scenario {
-        shows: "a dispatcher may have 1 thread",
-        threads: 1,
-        steps: &[Waiting(&[])],
-    },
-    Scenario {
-        shows: "a dispatcher may have 256 threads",
-        threads: 256,
-        steps: &[Call(255, Event(0), &[], Handle(256), &[]), Waiting(&[])],
-    },
-    Scenario {
-        shows: "one for many may have 4096 threads, and the last waits and is granted as the first",
-        threads: 4096,
-        steps: &[
-            Call(4095, Event(1), &[], Handle(4096), &[]),
-            Call(4095, Any(INFINITE), &[4096], Pended, &[]),
-            Call(0, Any(INFINITE), &[4096], Pended, &[]),
-            Waiting(&[0, 4095]),
-            Call(1, Pulse, &[4096], Done, &[(4095, 0), (0, 0)]),
-            Waiting(&[]),
-        ],
-    },
-];
+const SCENARIOS: &[Scenario] = &[Scenario {
+    shows: "one for many may have 4096 threads, and the last waits and is granted as the first",
+    threads: 4096,
+    steps: &[
+        Call(4095, Event(1), &[], Handle(4096), &[]),
+        Call(4095, Any(INFINITE), &[4096], Pended, &[]),
+        Call(0, Any(INFINITE), &[4096], Pended, &[]),
+        Waiting(&[0, 4095]),
+        Call(1, Pulse, &[4096], Done, &[(4095, 0), (0, 0)]),
+        Waiting(&[]),
+    ],
+}];
 
 /// Numbers of threads that no dispatcher has, and those that none for many has.
 const TOO_FEW_OR_MANY: &[u32] = &[0, 257, u32::MAX];
