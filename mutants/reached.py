@@ -50,7 +50,7 @@ def unreached(top, found):
     given, wrong, many = reasons(top), [], 0
     edits = {crate.name: [it for it in some if not it.is_private] for crate, some in found.items()}
     for crate in crates_of(top).values():
-        if crate.is_program or crate.name.endswith("_tests"):
+        if crate.is_program or crate.has_tests_alone():
             continue
         mutants = mutants_by_function(crate, edits.get(crate.name, []))
         public = [it for it in mutants if is_public(crate, it)]
