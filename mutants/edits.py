@@ -89,29 +89,16 @@ def changed(crate, path, text):
             yield (path, at), new
 
 
-def rounds_of(edits):
-    """Rounds in which no two edits change one function or law, as few as the one with most edits needs. Those of laws come last and into the
-    smallest rounds, since a round that they spoil is tried once more without them."""
+def rounds_of(edits, parts=Edit.changes):
+    """Rounds in which no two edits change one function or law, or another part, as few as that with most edits needs. Edits of laws come last and into
+    the smallest rounds, since a round that they spoil is tried once more without them."""
     rounds = []
     for edit in sorted(edits, key=lambda it: bool(it.laws)):
-        order = reversed(rounds) if edit.laws else rounds
-        this = next((it for it in order if not any(edit.changes() & other.changes() for other in it)), None)
-        if this is None:
-            rounds.append([edit])
+        free = [it for it in rounds if not any(parts(edit) & parts(other) for other in it)]
+        if free:
+            free[-1 if edit.laws else 0].append(edit)
         else:
-            this.append(edit)
-    return rounds
-
-
-def readings_of(edits):
-    """Rounds in which no two edits change one line: fewer than those above, and enough to tell which edits do not compile."""
-    rounds = []
-    for edit in edits:
-        this = next((it for it in rounds if not any(edit.lines.keys() & other.lines.keys() for other in it)), None)
-        if this is None:
             rounds.append([edit])
-        else:
-            this.append(edit)
     return rounds
 
 
