@@ -52,6 +52,8 @@ RUNS = [
     ("--help", ["--help"], b"", 2, "", [USAGE]),
     ("-h", ["-h"], b"", 2, "", [USAGE]),
     ("help", ["help"], b"", 2, "", [USAGE]),
+    ("a word after --version", ["--version", "script"], b"", 2, "", [USAGE]),
+    ("--proved before --version", ["--proved", "--version"], b"", 2, "", [USAGE]),
     ("script alone", ["script"], b"", 2, "", [USAGE]),
     ("help for script", ["script", "--help"], b"", 2, "", [USAGE]),
     ("two files", ["script", "sample.nts", "crlf.nts"], b"", 2, "", [USAGE]),
@@ -192,6 +194,7 @@ SHELLED = [
     ("no standard output", "sh", '"$0" script sample.nts >&-', FAILED),
     ("no standard input", "sh", '"$0" script - <&-', (1, "", ["ntrun: cannot open", "<stdin>: No such file or directory"])),
     ("no standard error", "sh", '"$0" script no_such.nts 2>&-', (1, "", [])),
+    ("no standard output for the version", "sh", '"$0" --version >&-', (1, "", ["ntrun: write failed"])),
     ("FILE is a process's output", "bash", '"$0" script <(cat sample.nts)', (0, TRANSCRIPT, [])),
 ]
 

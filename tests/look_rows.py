@@ -306,6 +306,7 @@ LOOKS = [
     ("a folder", ["why", "."], b"", 1, "", ["ntlook: read failed", ".: Is a directory"]),
     ("no words", [], b"", 2, "", [USAGE]),
     ("help", ["--help"], b"", 2, "", [USAGE]),
+    ("a word after it", ["--version", "why"], b"", 2, "", [USAGE]),
     ("why alone", ["why"], b"", 2, "", [USAGE]),
     ("two files", ["why", "knot.nts", "kinds.nts"], b"", 2, "", [USAGE]),
     ("line 0", ["why", "knot.nts", "--at", "0"], b"", 2, "", [USAGE]),
