@@ -205,6 +205,7 @@ def unproved(top):
         ("the unproved build", functools.partial(unproved_build, top), True),
         ("the examples", functools.partial(examples, top), False),
         ("the launcher, and the worked scripts", command(top, "tests/launcher"), False),
+        ("random scripts and lives, a second way", command(top, "tests/compare"), False),
         ("the library for C programs, unproved", command(top, "make", "--no-print-directory", "-C", "c", "quick"), False),
     ]
 
@@ -222,5 +223,6 @@ def proved(top, tree, work, tries_each, tries_all):
         ("the programs of docs/EMBEDDING.md, each growth refused", command(tree, "tests/growths/example"), False),
         ("the examples", functools.partial(examples, tree), False),
         ("the launcher, and the worked scripts", command(tree, "tests/launcher"), False),
+        ("random scripts and lives, a second way", command(tree, "tests/compare", *["--all"] * tries_all), False),
         ("the library for C programs", command(tree, "make", "--no-print-directory", "-C", "c", "check", "ALL=1" if tries_all else "STRICT=1"), False),
     ]

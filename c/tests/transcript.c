@@ -1,5 +1,8 @@
 /* Reads a script on standard input (docs/SCRIPTS.md), has each call made by a thread of its own, one after another, through nt.h, and
- * writes the transcript. A line that can't be read ends it, with status 2: which fault that is, ntrun alone tells. */
+ * writes the transcript. A line that can't be read ends it, with status 2: which fault that is, ntrun alone tells.
+ *
+ * With the word --lasting the dispatcher gives numbers again. It has lines more: `begin`, `aside N` of the thread N, `copy`, after which a copy goes
+ * on, and `names N`, which object the handle N names. After what each line says comes how many waits pend, and the present moment (tests/compare). */
 #include "script.h"
 
 #include <pthread.h>
@@ -168,9 +171,83 @@ static void give_turn(uint32_t who)
     pthread_mutex_unlock(&LOCK);
 }
 
+/* ---- A dispatcher that gives numbers again. */
+
+static bool LASTING;
+
+static void say(uint32_t refused)
+{
+    if (refused != 0)
+        printf("%lu: error %u\n", NUMBER, refused);
+    else
+        printf("%lu: ok\n", NUMBER);
+}
+
+static void begin(void)
+{
+    struct nt_begun begun;
+    const uint32_t refused = nt_begin(&NT, &begun);
+    if (refused != 0)
+        say(refused);
+    else
+        printf("%lu: thread %u handle %u\n", NUMBER, begun.thread, begun.handle);
+}
+
+/* The copy goes on, and what it was made of is closed. */
+static void go_on_in_a_copy(void)
+{
+    struct nt copy = { aligned_alloc(16, (nt_room() + 15) / 16 * 16), false };
+    if (copy.room == NULL || nt_copy(&NT, &copy) != 0)
+        stop();
+    nt_close(&NT);
+    free(NT.room);
+    NT = copy;
+    say(0);
+}
+
+static void tell_name(void)
+{
+    struct nt_opened opened;
+    const uint32_t refused = nt_opened(&NT, handle(1), &opened);
+    if (refused != 0)
+        say(refused);
+    else
+        printf("%lu: object %u access %u\n", NUMBER, opened.object, opened.access);
+}
+
+/* Whether this is a line that only a dispatcher has which gives numbers again; then it is carried out. */
+static bool is_of_a_life(void)
+{
+    if (!LASTING)
+        return false;
+    if (strcmp(word(0), "begin") == 0)
+        begin();
+    else if (strcmp(word(0), "aside") == 0)
+        say(nt_set_aside(&NT, (uint32_t)number(1)));
+    else if (strcmp(word(0), "copy") == 0)
+        go_on_in_a_copy();
+    else if (strcmp(word(0), "names") == 0)
+        tell_name();
+    else
+        return false;
+    return true;
+}
+
+static void tell_waits(void)
+{
+    size_t waits = 0;
+    uint64_t moment = 0;
+    if (nt_pending(&NT, &waits) != 0 || nt_now(&NT, &moment) != 0)
+        stop();
+    printf("%lu: waits %zu at %llu\n", NUMBER, waits, (unsigned long long)moment);
+    fflush(stdout);
+}
+
 static void carry_out(void)
 {
     const struct nt_reply done = { .kind = NT_DONE };
+    if (is_of_a_life())
+        return;
     if (strcmp(word(0), WORD_TICK) == 0)
         write_answer(nt_tick(&NT, number(1)), &done);
     else if (word(0)[0] == 't' && strtoul(word(0) + 1, NULL, 10) < THREADS)
@@ -183,18 +260,24 @@ static void carry_out(void)
         stop();
 }
 
-int main(void)
+int main(int count, char **words)
 {
     pthread_t threads[NT_MAXIMUM_THREADS];
+    LASTING = count == 2 && strcmp(words[1], "--lasting") == 0;
     NT.room = aligned_alloc(16, (nt_room() + 15) / 16 * 16);
-    if (!read_line() || strcmp(word(0), WORD_THREADS) != 0 || NT.room == NULL || nt_open(&NT, (uint32_t)number(1)) != 0)
+    if (!read_line() || strcmp(word(0), WORD_THREADS) != 0 || NT.room == NULL)
+        stop();
+    if ((LASTING ? nt_open_lasting : nt_open)(&NT, (uint32_t)number(1)) != 0)
         stop();
     THREADS = (uint32_t)number(1);
     for (uint32_t thread = 0; thread < THREADS; thread++)
         if (pthread_create(&threads[thread], NULL, make_calls, (void *)(uintptr_t)thread) != 0)
             abort();
-    while (read_line())
+    while (read_line()) {
         carry_out();
+        if (LASTING)
+            tell_waits();
+    }
     write_end();
     give_turn(EVERYBODY_ENDS);
     for (uint32_t thread = 0; thread < THREADS; thread++)
