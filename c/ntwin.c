@@ -45,6 +45,8 @@
 
 #include "ntwin/process.c"
 
+#include "win32/counts.c"
+
 #include "win32/latch.c"
 
 #include "win32/slist.c"

@@ -284,6 +284,7 @@ void GetSystemTimeAsFileTime(LPFILETIME now);
 }
 #endif
 
+#include "win/counts.h"
 #include "win/interlocked.h"
 
 #endif

@@ -9,6 +9,13 @@
 #include "../win/process.h"
 #include "script_words.h"
 
+/* (The calls themselves, and not what a program makes of them by win/counts.h.) */
+#undef CreateSemaphoreA
+#undef CreateSemaphoreW
+#undef CreateSemaphoreExA
+#undef CreateSemaphoreExW
+#undef ReleaseSemaphore
+
 #include <errno.h>
 #include <fcntl.h>
 #include <limits.h>
