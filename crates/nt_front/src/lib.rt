@@ -67,3 +67,8 @@ pub use nt_mail::{Entry, PackedEntry, ReadEntry};
 pub use polls::Polled;
 pub use receipt::{History, Part, Receipt};
 pub use waits::Waited;
+
+// What lies behind the lock.
+pub use book::Book;
+pub use hold::Hold;
+pub use wake::ToWake;
