@@ -1,3 +1,4 @@
+/* SPDX-License-Identifier: MIT OR Apache-2.0 */
 /* Counts of semaphores. A LONG has 32 bits and a `long` 64, so what a program writes for the greatest LONG may be LONG_MAX: a count of 64 bits is
  * taken as it is, and one that fits in no LONG is the nearest. */
 #ifndef NTWIN_COUNTS_H

@@ -1,3 +1,4 @@
+/* SPDX-License-Identifier: MIT OR Apache-2.0 */
 /* What Microsoft's compilers know with no header: keywords, and on which machine a program will run. A source that uses such a word before it includes
  * a header of Windows is compiled with `-include` of this one. */
 #ifndef NTWIN_KEYWORDS_H
