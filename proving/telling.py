@@ -9,6 +9,7 @@ import time
 
 from command import processor_seconds
 from crates import text_of
+from kept import cache_folder
 from progress import Progress
 
 # A tool that a step runs, and the Debian package that has it.
@@ -39,7 +40,7 @@ class Gate:
         self.last_times, self.times = times_on(self.file_of_times()), {}
 
     def file_of_times(self):
-        return f"{os.environ.get('XDG_CACHE_HOME') or os.path.expanduser('~/.cache')}/kawhopune/gate-times.json"
+        return f"{cache_folder()}/gate-times.json"
 
     def tell(self, text):
         self.progress.tell(text)
@@ -68,6 +69,8 @@ class Gate:
                 found = call(self.progress)
             except (OSError, ValueError, LookupError, subprocess.SubprocessError) as error:
                 found = Step(0, [f"it could not go on: {type(error).__name__}: {error}"])
+        if not found.passed and not found.failed:
+            found = Step(0, ["it counted nothing"])
         took = time.monotonic() - begun
         self.passed, self.many = self.passed + found.passed, self.many + found.many
         self.failed += [f"{name}: {it}" for it in found.failed]
