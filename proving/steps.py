@@ -16,7 +16,6 @@ from crates import crates_of, text_of
 from edits import edits_in
 from kept import Kept
 from lanes import processors, run_all
-from pictures import rendered
 from proofs import Proofs, handles_of
 from rooms import fill_room
 from telling import COUNTED, Step
@@ -172,17 +171,18 @@ def example(top, script, words, ending, statuses):
 
 
 def drawn(top, script, picture):
-    """Whether this picture is what `ntlook timeline` draws of the script, and what is told where it isn't."""
+    """What is told where this picture is not what `ntlook timeline` draws of the script."""
     with tempfile.TemporaryDirectory() as folder:
         words = ["./ntlook", "timeline", script, "--svg", f"{folder}/drawn.svg"]
         ran = subprocess.run(words, cwd=top, check=False, stdin=subprocess.DEVNULL, capture_output=True, errors="backslashreplace")
-        same = not ran.returncode and filecmp.cmp(f"{folder}/drawn.svg", f"{top}/{picture}", shallow=False)
-    return same, [] if same else [f"{picture}: not what ./ntlook timeline {script} --svg {picture} draws", *ran.stderr.splitlines()]
+        if not ran.returncode and filecmp.cmp(f"{folder}/drawn.svg", f"{top}/{picture}", shallow=False):
+            return []
+    return [f"{picture}: not what ./ntlook timeline {script} --svg {picture} draws", *ran.stderr.splitlines()]
 
 
 def examples(top, progress):
-    """What the launchers write of each example is the file beside it. Not each has a file of why its threads wait, a timeline, or orders. A picture of the docs
-    is what `ntlook timeline` draws, and a browser draws it."""
+    """What the launchers write of each example is the file beside it. Not each has a file of why its threads wait, a timeline, or orders. A picture of
+    the docs is what `ntlook timeline` draws."""
     passed, failed = 0, []
     runs = [(script, *how) for script in sorted(glob.glob(f"{top}/examples/*.nts")) for how in ON_EXAMPLES if is_there(script, how[1])]
     with ThreadPoolExecutor(processors()) as pool:
@@ -191,10 +191,10 @@ def examples(top, progress):
                 progress.tell(it.replace(f"{top}/", ""))
             passed, failed = passed + (not told), failed + [os.path.relpath(script, top)] * bool(told)
     for script, picture in PICTURES:
-        for same, told in (drawn(top, script, picture), rendered(f"{top}/{picture}")):
-            for it in told:
-                progress.tell(it.replace(f"{top}/", ""))
-            passed, failed = passed + bool(same), failed + [picture] * (same is False)
+        told = drawn(top, script, picture)
+        for it in told:
+            progress.tell(it)
+        passed, failed = passed + (not told), failed + [picture] * bool(told)
     return Step(passed, failed)
 
 
