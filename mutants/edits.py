@@ -8,29 +8,23 @@ import re
 from crates import PARTS, crates_of, text_of
 from sources import cites, definitions_of, function_at, words_of_head
 
-# With what the lines of a file can begin, and with what the next one can.
-FOLLOWS = {"": ("# ", ""), "# ": ("file: ",), "file: ": ("old: ",), "old: ": ("new:",), "new:": ("old: ", "file: ", "")}
+# A block: its name, and its files, each with the texts that it replaces; and what these have.
+BLOCK = re.compile(r"# (\S+)\n((?:file: .+\n(?:old: .+\nnew:.*\n)*)*)")
+PART = re.compile(r"file: (.+)\n|old: (.+)\nnew: ?(.*)\n")
 
 
 def blocks_of(text):
-    """Yields each block: the number of its first line, its name, and the (file, old, new) that it replaces; or a line's number and what it lacks."""
-    last, start, name, file, old, pairs = "", 0, "", "", "", []
-    for number, line in enumerate([*text.rstrip("\n").split("\n"), ""], 1):
-        first = next((it for it in FOLLOWS.get(last, ("",)) if line.startswith(it) and (it or not line)), None)
-        rest = line[len(first or "") :]
-        if first is None and last in FOLLOWS:
-            yield number, f"wanted here: {' or '.join(f'`{it}`' if it else 'an empty line' for it in FOLLOWS[last])}", None
-        elif first == "" and last == "new:":
-            yield start, name, pairs
-        elif first == "# ":
-            start, name, pairs = number, rest, []
-        elif first == "file: ":
-            file = rest
-        elif first == "old: ":
-            old = rest
-        elif first == "new:":
-            pairs.append((file, old, rest.removeprefix(" ")))
-        last = first
+    """Yields each block: the number of its first line, its name, and the (file, old, new) that it replaces; or the line at which it is malformed."""
+    for block in re.finditer(r"(?:.+\n)+", f"{text}\n"):
+        line, found, file, pairs = text.count("\n", 0, block.start()) + 1, BLOCK.match(block[0]), "", []
+        end = found.end() if found else 0
+        for path, old, new in PART.findall(block[0][:end]):
+            file = path or file
+            pairs += [] if path else [(file, old, new)]
+        if pairs and end == len(block[0]):
+            yield line, found[1], pairs
+        else:
+            yield line + block[0].count("\n", 0, end), "a block is `# NAME`, and then `file:` and pairs of `old:` and `new:`", None
 
 
 def texts_of_edit(crate, pairs):

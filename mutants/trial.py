@@ -38,10 +38,11 @@ def failing_answers(crate, functions):
 
 class Trial:
     """The edits of one crate, and the folder of the rooms in which they are tried. `held` has the crates that, with no edit, were seen to be
-    proved over what their proofs kept."""
+    proved over what their proofs kept. A refusal is noted in `verdicts` under the edit's sum, where these are given."""
 
-    def __init__(self, crate, edits, rooms, progress, held=()):
+    def __init__(self, crate, edits, rooms, progress, held=(), sums=None, verdicts=None):
         self.crate, self.edits, self.rooms, self.progress, self.held = crate, edits, rooms, progress, held
+        self.sums, self.verdicts, self.refused = sums, verdicts, []
         self.kept, self.number, self.used, self.failed, self.left_out = f"{crate.folder}/out", 0, 0, [], []
         self.functions = functions_of(crate)
         for it in edits:
@@ -83,6 +84,11 @@ class Trial:
         self.used += said.of_processors
         return said
 
+    def untold(self):
+        """The edits of which nothing was told, once all ended: they fail."""
+        told = {*self.failed, *self.left_out, *(it.name for it in self.refused)}
+        return [it.name for it in self.edits if it.name not in told]
+
     def fail(self, edits, why):
         """Notes that these edits failed, and says why."""
         self.failed += [it.name for it in edits]
@@ -104,10 +110,13 @@ class Trial:
         return is_held
 
     def end(self):
-        """Tells what the crate's checks took. It fails all where a round has written into a file of what was kept."""
+        """Tells what the crate's checks took, and notes what was refused. It fails all where a round has written into a file of what was kept."""
         self.progress.tell(f"{self.crate.name}: {self.number} checks, {self.used:.0f} s of processors")
         if files_in(f"{self.kept}/{OWN_WORK}") != self.files:
+            self.refused = []
             self.fail(self.edits, f"{self.crate.name}: A ROUND WROTE INTO WHAT WAS KEPT, so no edit tells anything")
+        for it in self.refused if self.verdicts else ():
+            self.verdicts.note_refused(self.sums[it])
 
     def tries(self, edits):
         """Tries these edits together, and then those that this does not tell."""
@@ -118,6 +127,7 @@ class Trial:
         only = sorted(it.path.removeprefix(f"{self.crate.name}::") for it in set().union(*(it.changes() for it in edits)))
         said = self.check({**answers, **texts}, only)
         refused, again = judge_round(said, edits, self.functions, texts, firsts)
+        self.refused += refused
         parts = [[it for it in edits if bool(it.laws) == of_laws] for of_laws in (True, False)]
         alone = [it for it in edits if it not in refused and it not in again]
         apart = not refused and not again and all(parts)
@@ -131,8 +141,7 @@ class Trial:
         said = self.check(edit.texts)
         is_refused, why = judge_alone(said, edit.texts)
         self.progress.tell(f"{edit.name}: {why}, alone, {said.seconds:.0f} s")
-        if not is_refused:
-            self.failed.append(edit.name)
+        (self.refused.append(edit) if is_refused else self.failed.append(edit.name))
 
 
 def uncompiled(trial, edits):
@@ -170,4 +179,4 @@ def try_edits(chosen, rooms, progress, held=(), at_once=None):
         tasks.update(it.tasks())
     progress.total = len(tasks) - len(trials)
     run_all(tasks, at_once)
-    return [name for it in trials for name in it.failed]
+    return [name for it in trials for name in [*it.failed, *it.untold()]]
