@@ -313,6 +313,37 @@ static void pool_timers_and_waits(void)
     ResetEvent(EVENT);
 }
 
+/* ---- A group whose members are closed while another thread submits more. */
+
+static void CALLBACK count_simple(PTP_CALLBACK_INSTANCE instance, PVOID ran)
+{
+    (void)instance;
+    InterlockedIncrement(ran);
+}
+
+static DWORD WINAPI submit_many(LPVOID environment)
+{
+    for (int i = 0; i < 2000; i++)
+        must(TrySubmitThreadpoolCallback(count_simple, &RAN, environment));
+    return 0;
+}
+
+static void closed_while_submitted(void)
+{
+    TP_CALLBACK_ENVIRON environment;
+    PTP_CLEANUP_GROUP group = CreateThreadpoolCleanupGroup();
+    InitializeThreadpoolEnvironment(&environment);
+    SetThreadpoolCallbackCleanupGroup(&environment, group, NULL);
+    RAN = 0;
+    HANDLE thread = CreateThread(NULL, 0, submit_many, &environment, 0, NULL);
+    while (WaitForSingleObject(thread, 0) == WAIT_TIMEOUT)
+        CloseThreadpoolCleanupGroupMembers(group, FALSE, NULL);
+    CloseThreadpoolCleanupGroupMembers(group, FALSE, NULL);
+    IS(ReadAcquire(&RAN), 2000);
+    CloseThreadpoolCleanupGroup(group);
+    CloseHandle(thread);
+}
+
 int main(void)
 {
     must((GO = CreateEvent(NULL, TRUE, FALSE, NULL)) != NULL && (DONE = CreateEvent(NULL, FALSE, FALSE, NULL)) != NULL);
@@ -324,5 +355,6 @@ int main(void)
     left_callbacks();
     canceled_work();
     pool_timers_and_waits();
+    closed_while_submitted();
     return counted();
 }
