@@ -313,6 +313,28 @@ static void pool_timers_and_waits(void)
     ResetEvent(EVENT);
 }
 
+/* ---- Due times that are as far away as can be. */
+
+static void far_times(void)
+{
+    static const LONGLONG far[] = { INT64_MIN, INT64_MIN + 1, INT64_MIN + 1000000, INT64_MAX };
+    LONG ticks = 0;
+    PTP_TIMER timer = CreateThreadpoolTimer(note_timer, &ticks, NULL);
+    PTP_WAIT wait = CreateThreadpoolWait(note_object, NULL, NULL);
+    SIGNALS = TIMEOUTS = 0;
+    ResetEvent(EVENT);
+    for (size_t i = 0; i < ARRAYSIZE(far); i++) {
+        FILETIME due = time_of(far[i]);
+        SetThreadpoolTimer(timer, &due, 1, 0);
+        SetThreadpoolWait(wait, EVENT, &due);
+        IS(later(&ticks), 0);
+        IS(ReadAcquire(&TIMEOUTS), 0);
+        IS(IsThreadpoolTimerSet(timer), TRUE);
+    }
+    CloseThreadpoolTimer(timer);
+    CloseThreadpoolWait(wait);
+}
+
 /* ---- A group whose members are closed while another thread submits more. */
 
 static void CALLBACK count_simple(PTP_CALLBACK_INSTANCE instance, PVOID ran)
@@ -355,6 +377,7 @@ int main(void)
     left_callbacks();
     canceled_work();
     pool_timers_and_waits();
+    far_times();
     closed_while_submitted();
     return counted();
 }

@@ -217,9 +217,11 @@ PTP_WAIT CreateThreadpoolWait(PTP_WAIT_CALLBACK callback, PVOID context, PTP_CAL
 /* The moment of the monotonic clock that such a time means: negative from now on, else in UTC. */
 static uint64_t moment_of_time(const FILETIME *time)
 {
-    const int64_t due = (int64_t)((uint64_t)time->dwHighDateTime << 32 | time->dwLowDateTime), now = (int64_t)monotonic();
-    const int64_t moment = due <= 0 ? now - due : now + (due - universal());
-    return moment > 0 ? (uint64_t)moment : 0;
+    const uint64_t due = (uint64_t)time->dwHighDateTime << 32 | time->dwLowDateTime, now = monotonic();
+    if ((int64_t)due <= 0)
+        return now + (0 - due);
+    const int64_t left = (int64_t)due - universal();
+    return left > 0 ? now + (uint64_t)left : now;
 }
 
 void SetThreadpoolWait(PTP_WAIT wait, HANDLE object, PFILETIME timeout)
