@@ -63,6 +63,13 @@ static void put_timer(PTP_TIMER timer, uint64_t due)
     sift_timer(timer);
 }
 
+/* When a timer with a period that is due by now is due next: after that, however many periods have passed. */
+static uint64_t next_due_of(const struct _TP_TIMER *timer, uint64_t now)
+{
+    const uint64_t period = timer->period * (uint64_t)(MOMENTS_PER_SECOND / 1000);
+    return now + period - (now - timer->due) % period;
+}
+
 /* Calls the callbacks of those that are due, under the latch, which is given back meanwhile. */
 static void call_those_due(void)
 {
@@ -73,7 +80,7 @@ static void call_those_due(void)
         if (timer->is_over)
             drop_timer(timer);
         else
-            put_timer(timer, timer->due + timer->period * (uint64_t)(MOMENTS_PER_SECOND / 1000));
+            put_timer(timer, next_due_of(timer, now));
         call_back(&timer->task, TIMED_OUT, timer->in_thread);
         take_latch(&pools_latch);
     }
