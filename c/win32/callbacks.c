@@ -140,11 +140,23 @@ static void do_what_was_asked(PTP_CALLBACK_INSTANCE instance)
         SetEvent(instance->event);
 }
 
+/* Calls the program's callback. One that ends by ExitThread has ended as one that returns has, and then its thread leaves the pool. */
+static void call_program(struct task *task, PTP_CALLBACK_INSTANCE instance, uint32_t outcome)
+{
+    jmp_buf end, *const before = own.end;
+    own.end = &end;
+    if (_setjmp(end) == 0)
+        task->call(task, instance, outcome);
+    else
+        is_to_exit = true;
+    own.end = before;
+}
+
 /* Runs one callback, which was taken. */
 static void run_callback(struct task *task, uint32_t outcome)
 {
     struct _TP_CALLBACK_INSTANCE instance = { .task = task, .pool = task->pool };
-    task->call(task, &instance, outcome);
+    call_program(task, &instance, outcome);
     do_what_was_asked(&instance);
     if (instance.is_apart)
         return;
@@ -193,10 +205,10 @@ static bool try_to_submit(struct task *task)
     return !is_refused;
 }
 
-/* Whether the caller has to go, under the latch: the pool has had its maximum lowered. */
+/* Whether the caller has to go, under the latch: its callback asked for that, or the pool has had its maximum lowered. */
 static bool is_to_leave(const struct _TP_POOL *pool)
 {
-    return pool->threads > pool->most;
+    return is_to_exit || pool->threads > pool->most;
 }
 
 /* Waits for work, under the latch. Answers whether the thread goes on. */
@@ -216,7 +228,7 @@ static void leave_pool(PTP_POOL pool)
 {
     struct call call = { 0 };
     pool->threads--;
-    const bool is_missed = pool->first != NULL, ends = leave_pools(pool);
+    const bool is_missed = pool->first != NULL || (!pool->is_closed && pool->threads < pool->least), ends = leave_pools(pool);
     if (is_missed)
         call = call_for_thread(pool);
     give_latch(&pools_latch);
@@ -239,7 +251,7 @@ static DWORD WINAPI work_in_pool(LPVOID at)
         }
     } while ((!pool->is_closed || pool->tasks > 0) && !is_to_leave(pool) && wait_for_work(pool));
     leave_pool(pool);
-    return 0;
+    return is_to_exit ? own.seat->exit_code : 0;
 }
 
 /* Waits until the task has no callback, and tries meanwhile to have threads that were refused; first drops callbacks that have not begun, where
