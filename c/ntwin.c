@@ -83,6 +83,8 @@
 
 #include "win32/pool.c"
 
+#include "win32/callbacks.c"
+
 #include "win32/pool_calls.c"
 
 #include "win32/watch.c"

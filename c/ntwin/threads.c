@@ -295,12 +295,27 @@ static void join_those_who_are_gone(struct seat *caller)
     give_lock_for(caller);
 }
 
+/* Joins a thread that is gone by this moment of the monotonic clock. Answers whether it is. (pthread_timedjoin_np goes by a clock that may be set, and
+ * no sanitizer knows pthread_clockjoin_np.) */
+static bool join_until(pthread_t thread, uint64_t moment)
+{
+    _Atomic uint32_t nothing = 0;
+    while (pthread_tryjoin_np(thread, NULL) == EBUSY) {
+        const uint64_t now = monotonic();
+        const struct timespec next = in_timespec(now + MOMENTS_PER_SECOND / 1000);
+        if (now >= moment)
+            return false;
+        sleep_on(&nothing, 0, &next);
+    }
+    return true;
+}
+
 /* At the end of the process, though not in a child that was forked: gives those who have left, and have nothing to do but to be gone, two
  * seconds at the most for it. It takes the lock where it can: who ends the process may have been interrupted while it had it. Threads that
  * still run may still call. */
 __attribute__((destructor)) static void end_process(void)
 {
-    const struct timespec until = { .tv_sec = time(NULL) + 2 };
+    const uint64_t until = monotonic() + 2 * (uint64_t)MOMENTS_PER_SECOND;
     if (process.id != getpid())
         return;
     while (take_lock_at_last()) {
@@ -308,8 +323,9 @@ __attribute__((destructor)) static void end_process(void)
         if (runner != NULL)
             waiting.left = runner->next;
         give_lock();
-        if (runner == NULL || pthread_timedjoin_np(runner->thread, NULL, &until) == ETIMEDOUT)
-            return;
+        const bool is_joined = runner != NULL && join_until(runner->thread, until);
         free(runner);
+        if (!is_joined)
+            return;
     }
 }
