@@ -30,6 +30,8 @@
 #include <stdio.h>
 #include <wchar.h>
 
+#include "win/utf16.h"
+
 #ifdef __cplusplus
 extern "C" {
 #endif
