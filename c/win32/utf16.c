@@ -159,26 +159,10 @@ int ntwin_utf16_WideCharToMultiByte(UINT page, DWORD flags, const uint16_t *utf1
 
 DWORD ntwin_utf16_FormatMessageW(DWORD flags, LPCVOID source, DWORD error, DWORD language, uint16_t *buffer, DWORD size, va_list *arguments)
 {
-    const bool allocates = (flags & FORMAT_MESSAGE_ALLOCATE_BUFFER) != 0;
-    WCHAR *wide = NULL;
-    if (buffer == NULL)
-        return (DWORD)fail(ERROR_INVALID_PARAMETER);
-    const DWORD length =
-        FormatMessageW(flags | FORMAT_MESSAGE_ALLOCATE_BUFFER, source, error, language, (LPWSTR)(void *)&wide, 0, arguments);
-    if (length == 0)
-        return 0;
-    uint16_t *made = buffer;
-    const DWORD room = allocates ? (size > length ? size : length + 1) : size;
-    if (allocates) {
-        made = malloc(room * sizeof *made);
-        memcpy(buffer, &made, sizeof made);
-    }
-    const uint32_t refused = made == NULL ? ERROR_NOT_ENOUGH_MEMORY : room <= length ? ERROR_INSUFFICIENT_BUFFER : 0;
-    /* (The texts are in ASCII.) */
-    if (refused == 0)
-        narrow_to_utf16(made, room, wide, (size_t)length + 1);
-    free(wide);
-    return refused == 0 ? length : (DWORD)fail(refused);
+    (void)source;
+    (void)language;
+    (void)arguments;
+    return format_message(flags, error, buffer, size, sizeof *buffer);
 }
 
 HRESULT ntwin_utf16_SetThreadDescription(HANDLE thread, const uint16_t *description)
