@@ -101,6 +101,8 @@
 
 #include "win32/modules.c"
 
+#include "win32/utf16.c"
+
 #include "ntwin/report.c"
 
 #include "win32/told.c"

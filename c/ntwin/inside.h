@@ -16,6 +16,7 @@
 #undef CreateSemaphoreExW
 #undef ReleaseSemaphore
 
+#include <dlfcn.h>
 #include <errno.h>
 #include <fcntl.h>
 #include <limits.h>

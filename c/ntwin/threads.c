@@ -210,9 +210,24 @@ static void note_fork(void)
     own.rests = false;
 }
 
+/* Where the library is part of a plugin, that stays in memory when it is closed: threads that called have yet to leave. (As it is loaded, since who
+ * loads it has the loader's lock then. Later another thread may have that, and wait for the one that calls here.) */
+static void stay_in_memory(void)
+{
+    static const char here;
+    Dl_info info;
+    void *map = NULL;
+    if (dladdr1(&here, &info, &map, RTLD_DL_LINKMAP) == 0 || map == NULL)
+        return;
+    const char *name = ((const struct link_map *)map)->l_name;
+    if (name[0] != 0)
+        dlopen(name, RTLD_LAZY | RTLD_NOLOAD | RTLD_NODELETE);
+}
+
 /* (Before the program's own constructors, which may fork, and before the thread is there that takes SIGQUIT.) */
 __attribute__((constructor(101))) static void begin_process(void)
 {
+    stay_in_memory();
     process.looks = sysconf(_SC_NPROCESSORS_ONLN) > 1;
     ask_for_barriers();
     pthread_atfork(rest_from_telling, go_on_telling, note_fork);

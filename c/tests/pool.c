@@ -180,7 +180,7 @@ static void stopped_waits(void)
 static void timer_queues(void)
 {
     HANDLE queue, timer = NULL;
-    LONG steps = 0;
+    LONG steps = 0, other_steps = 0;
     TIMEOUTS = SIGNALS = 0;
     ANSWERS((queue = CreateTimerQueue()) != NULL, TRUE, UNTOUCHED);
     const ULONGLONG then = GetTickCount64();
@@ -209,8 +209,11 @@ static void timer_queues(void)
     IS(settled(&TIMEOUTS, 200), 200);
     ANSWERS(DeleteTimerQueueEx(queue, INVALID_HANDLE_VALUE), TRUE, UNTOUCHED);
     IS(SIGNALS, 0);
-    /* A queue that is deleted while a callback runs. */
+    /* A queue, and a timer of another one, that are deleted while a callback runs. */
     ResetEvent(GO);
+    must(CreateTimerQueueTimer(&timer, NULL, stay, &other_steps, 0, 0, WT_EXECUTEDEFAULT));
+    IS(settled(&other_steps, 1), 1);
+    ANSWERS(DeleteTimerQueueTimer(NULL, timer, NULL), FALSE, ERROR_IO_PENDING);
     queue = CreateTimerQueue();
     must(CreateTimerQueueTimer(&timer, queue, stay, &steps, 0, 0, WT_EXECUTEDEFAULT));
     IS(settled(&steps, 1), 1);
@@ -219,6 +222,7 @@ static void timer_queues(void)
     SetEvent(GO);
     IS(WaitForSingleObject(DONE, INFINITE), WAIT_OBJECT_0);
     IS(steps, 2);
+    IS(settled(&other_steps, 2), 2);
     /* The process's own queue. */
     must(CreateTimerQueueTimer(&timer, NULL, note_wait, DONE, 1, 0, WT_EXECUTEONLYONCE));
     IS(WaitForSingleObject(DONE, INFINITE), WAIT_OBJECT_0);
