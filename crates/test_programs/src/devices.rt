@@ -3,12 +3,13 @@
 use std::alloc::Global;
 use std::io::{self, ErrorKind, Read, Write};
 
-/// A reader of these bytes.
+/// A reader of these bytes, which may fail after them.
 #[derive(Clone, Copy)]
 pub struct Given<'a> {
-    left: &'a [u8],
-    at_once: usize,
-    fails: bool,
+    pub left: &'a [u8],
+    /// How many bytes a read gives at the most.
+    pub at_once: usize,
+    pub fails: bool,
 }
 
 impl<'a> Given<'a> {
@@ -17,24 +18,6 @@ impl<'a> Given<'a> {
             left: bytes,
             at_once: usize::MAX,
             fails: false,
-        }
-    }
-
-    /// Gives a byte a read.
-    pub fn one_by_one(bytes: &'a [u8]) -> Given<'a> {
-        Given {
-            left: bytes,
-            at_once: 1,
-            fails: false,
-        }
-    }
-
-    /// Gives so many bytes, and then fails.
-    pub fn failing_after(bytes: &'a [u8], count: usize) -> Given<'a> {
-        Given {
-            left: &bytes[..count.min(bytes.len())],
-            at_once: usize::MAX,
-            fails: true,
         }
     }
 }
@@ -52,50 +35,23 @@ impl<'a> Read for Given<'a> {
     }
 }
 
-/// How much a writer takes.
+/// How many bytes a writer takes before it fails, how many of them at once, and whether it hands them on.
 #[derive(Clone, Copy)]
-pub struct Room {
-    whole: usize,
-    at_once: usize,
-    flushes: bool,
-}
+pub struct Room(pub usize, pub usize, pub bool);
 
 impl Room {
-    /// Whatever is written.
-    pub const ENDLESS: Room = Room {
-        whole: usize::MAX,
-        at_once: usize::MAX,
-        flushes: true,
-    };
+    pub const ENDLESS: Room = Room(usize::MAX, usize::MAX, true);
 
-    /// A byte a write.
-    pub const ONE_BY_ONE: Room = Room {
-        whole: usize::MAX,
-        at_once: 1,
-        flushes: true,
-    };
+    pub const ONE_BY_ONE: Room = Room(usize::MAX, 1, true);
 
     /// Nothing, and the writer says so.
-    pub const NONE: Room = Room {
-        whole: usize::MAX,
-        at_once: 0,
-        flushes: true,
-    };
+    pub const NONE: Room = Room(usize::MAX, 0, true);
 
-    /// All bytes, but the writer fails to hand them on.
-    pub const NEVER_FLUSHED: Room = Room {
-        whole: usize::MAX,
-        at_once: usize::MAX,
-        flushes: false,
-    };
+    pub const NEVER_FLUSHED: Room = Room(usize::MAX, usize::MAX, false);
 
-    /// So many bytes, and then the writer fails.
+    /// Room for n bytes.
     pub fn of(whole: usize) -> Room {
-        Room {
-            whole,
-            at_once: usize::MAX,
-            flushes: true,
-        }
+        Room(whole, usize::MAX, true)
     }
 }
 
@@ -120,20 +76,20 @@ impl Taken {
 
 impl Write for Taken {
     fn write(&mut self, buf: &[u8]) -> io::Result<usize> {
-        if self.room.whole == 0 {
+        if self.room.0 == 0 {
             return Err(io::Error::from(ErrorKind::Interrupted));
         }
-        let count = buf.len().min(self.room.whole).min(self.room.at_once);
+        let count = buf.len().min(self.room.0).min(self.room.1);
         if self.bytes.extend_from_slice(&buf[..count]).is_err() {
             self.is_refused = true;
             return Err(io::Error::from(ErrorKind::OutOfMemory));
         }
-        self.room.whole -= count;
+        self.room.0 -= count;
         Ok(count)
     }
 
     fn flush(&mut self) -> io::Result<()> {
-        if self.room.flushes {
+        if self.room.2 {
             Ok(())
         } else {
             Err(io::Error::from(ErrorKind::BrokenPipe))

@@ -10,7 +10,7 @@ mod devices;
 #[cfg(test)]
 mod expect;
 #[cfg(test)]
-mod long_lines;
+mod ran;
 #[cfg(test)]
 mod refused;
 #[cfg(test)]
