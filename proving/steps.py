@@ -203,6 +203,18 @@ def command(top, *words):
     return functools.partial(counted, list(words), top)
 
 
+def languages(top, tell):
+    """The tests of what is made for other languages, over the library for C as it was built last. One whose language is lacking is told, and left out."""
+    found = []
+    for name, test in (("the package for Python", "python/test"), ("the crates for Rust", "rust/test")):
+        said = run([f"{top}/{test}", "--lacks"], top)
+        if said.status:
+            tell(f"gate: {name}: not tried: {said.text.strip()}")
+        else:
+            found.append((name, command(top, test), False))
+    return found
+
+
 def before_proofs(top):
     return [
         ("no conflict markers", functools.partial(no_conflict_markers, top), False),
