@@ -116,7 +116,7 @@ class Trial:
             self.refused = []
             self.fail(self.edits, f"{self.crate.name}: A ROUND WROTE INTO WHAT WAS KEPT, so no edit tells anything")
         for it in self.refused if self.verdicts else ():
-            self.verdicts.note_refused(self.sums[it])
+            self.verdicts.note_passed(self.sums[it])
 
     def tries(self, edits):
         """Tries these edits together, and then those that this does not tell."""

@@ -1,6 +1,7 @@
 """What earlier runs proved, kept in the user's cache folder under the sum of all that it rests on (docs/GATE.md).
 
-kept/NAME/SUM has a crate's out/, and a file `noted` with the size and the time of each of its files; refused/SUM stands for a wrong turn that was refused.
+kept/NAME/SUM has a crate's out/, and a file `noted` with the size and the time of each of its files. passed/SUM stands for what passed and left nothing: a
+mutant that was refused, or a crate that was only read.
 Each is made under another name and renamed once it is whole. So a run that is killed leaves nothing wrong, and runs side by side do not hurt each other.
 """
 import contextlib
@@ -18,8 +19,8 @@ from crates import files_below
 from rooms import OWN_WORK, copy_folder
 
 TOP = os.path.dirname(os.path.dirname(os.path.realpath(__file__)))
-# The most bytes of kept work, those of the disk that stay free, and the most refused wrong turns.
-MOST, SPARE, MOST_REFUSED = 16_000_000_000, 5_000_000_000, 20_000
+# The most bytes of kept work, those of the disk that stay free, and the most sums of what passed.
+MOST, SPARE, MOST_PASSED = 16_000_000_000, 5_000_000_000, 20_000
 # How old what a killed run left has to be before it goes, in seconds.
 OLD = 6 * 3600
 # What words of the environment that a kit heeds begin with.
@@ -207,20 +208,20 @@ class Kept:
         with contextlib.suppress(OSError), self.made("gone-") as gone:
             os.rename(at, f"{gone}/it")
 
-    def is_refused(self, total):
-        """Whether a wrong turn of this sum was refused."""
+    def has_passed(self, total):
+        """Whether what has this sum passed."""
         with contextlib.suppress(OSError):
             if self.takes:
-                os.utime(f"{self.folder}/refused/{total}")
+                os.utime(f"{self.folder}/passed/{total}")
                 return True
         return False
 
-    def note_refused(self, total):
-        """Keeps that the wrong turn of this sum was refused."""
+    def note_passed(self, total):
+        """Keeps that what has this sum passed."""
         with contextlib.suppress(OSError):
             if self.folder:
-                os.makedirs(f"{self.folder}/refused", mode=0o700, exist_ok=True)
-                os.close(os.open(f"{self.folder}/refused/{total}", os.O_WRONLY | os.O_CREAT, 0o600))
+                os.makedirs(f"{self.folder}/passed", mode=0o700, exist_ok=True)
+                os.close(os.open(f"{self.folder}/passed/{total}", os.O_WRONLY | os.O_CREAT, 0o600))
 
     def bound(self):
         """Removes what was used longest ago, beyond what may be kept, and what killed runs left."""
@@ -229,7 +230,7 @@ class Kept:
         for at in (it for it in newest_first(self.folder) if os.path.basename(it).startswith(("new-", "gone-"))):
             if time.time() - time_of(at) > OLD:
                 shutil.rmtree(at, ignore_errors=True)
-        for at in newest_first(f"{self.folder}/refused")[MOST_REFUSED:]:
+        for at in newest_first(f"{self.folder}/passed")[MOST_PASSED:]:
             with contextlib.suppress(OSError):
                 os.remove(at)
         held = bytes_held([it for name in newest_first(f"{self.folder}/kept") for it in newest_first(name)])

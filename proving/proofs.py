@@ -14,7 +14,7 @@ import tempfile
 
 from command import ONE_JOB, finds_empty_contracts, rt, why_no_proof_of_tests, why_not_proved
 from crates import text_of
-from kept import sum_of_crate
+from kept import sum_of, sum_of_crate
 from lanes import Task, memory_of, run_all
 from rooms import OWN_WORK, fill_room
 
@@ -109,11 +109,17 @@ class Proofs:
 
     def read_in_room(self, crate):
         """Has the crate read, over the libraries below it, and not proved: it fails where it does not compile."""
+        total = sum_of("read", sum_of_crate(crate))
+        if self.kept and self.kept.has_passed(total):
+            self.as_kept.append(crate.name)
+            return
         said = rt(fill_room(f"{self.rooms}/{crate.name}", crate), "check", *ONE_JOB, "--only", "")
         shutil.rmtree(f"{self.rooms}/{crate.name}", ignore_errors=True)
         if said.status or not READ.search(said.text):
             raise Failed(f"it does not compile: status {said.status}", said.text)
         self.progress.tell(f"{crate.name}: it compiles; it is not proved, {said.seconds:.0f} s")
+        if self.kept:
+            self.kept.note_passed(total)
 
     def begun_in(self, crate):
         """The crate in a room of its own, with the work that its proof begins with."""

@@ -26,30 +26,36 @@ PROVED, REFUSED = "logic=proved functions=1\n", "note: src/lib.rt:3:1: it is not
 # Stands for the command rt: it says what lies in src/VERB of the crate where it is called, ends with the status in src/VERB.status, and makes what rt would
 # make. Of a text that has the word `wrong` it says what lies in src/refused. Each call is noted.
 RT = """#!/bin/sh
+say() {
+    while IFS= read -r line; do echo "$line"; done < "$1"
+}
 echo "$*" >> "$CALLED"
-mkdir -p out/incremental
-echo work > out/incremental/work
-case $1 in
-version) echo "$KIT"; exit 0 ;;
-lib) mkdir -p out/rlib; echo built > out/rlib/built ;;
-run) printf '#!/bin/sh\\necho 9\\n' > out/app; chmod +x out/app ;;
-test) printf '#!/bin/sh\\n[ "$1" = --list ] && echo "one: test" && exit; exit "$TEST"\\n' > out/rows_tests; chmod +x out/rows_tests ;;
-esac
+[ -d out/rlib ] || [ "$1" = version ] || mkdir -p out/incremental out/rlib
 verb=$1
-if grep -qs wrong src/lib.rt; then verb=refused; fi
-cat "src/$verb" 2> /dev/null || echo 'logic=proved functions=1'
-exit "$(cat "src/$verb.status" 2> /dev/null || echo 0)"
+case $* in
+version) echo "$KIT"; exit 0 ;;
+*--only*) echo only=0 proved=0; exit "$READS" ;;
+lib*) echo built > out/rlib/built ;;
+run*) printf '#!/bin/sh\\necho 9\\n' > "out/${PWD##*/}"; chmod +x "out/${PWD##*/}" ;;
+test*) printf '#!/bin/sh\\n[ "$1" = --list ] && echo "one: test" && exit; exit "$TEST"\\n' > "out/${PWD##*/}_tests"; chmod +x "out/${PWD##*/}_tests" ;;
+esac
+echo work > out/incremental/work
+[ ! -f src/lib.rt ] || case $(say src/lib.rt) in *wrong*) verb=refused ;; esac
+if [ -f "src/$verb" ]; then say "src/$verb"; else echo 'logic=proved functions=1'; fi
+[ ! -f "src/$verb.status" ] || exit "$(say "src/$verb.status")"
 """
-# The tree of a scene: a library with one mutant, a program over it, and its tests.
+# The tree of a scene: a library with one mutant, a program over it, its tests, and a crate that only measures.
 FILES = {
-    "crates.txt": "low:\napp: low\nrows: low\n",
+    "crates.txt": "low:\napp: low\nrows: low\nlow_bench: low\n",
     "HANDLES": "Handles allowed: none.\n",
     "crates/low/src/lib.rt": "pub fn one() -> usize\n{\n    1\n}\n\npub fn two() -> usize\n{\n    2\n}\n",
     "crates/low/src/lib": f"crate low: modules loaded=100 checked=0\n{PROVED}",
     "crates/low/src/refused": REFUSED,
-    "crates/low/src/refused.status": "1",
+    "crates/low/src/refused.status": "1\n",
     "crates/app/src/main.rt": "fn main() {}\n",
     "crates/app/stdout": "9\n",
+    "crates/low_bench/src/main.rt": "fn main() {}\n",
+    "crates/low_bench/stdout": "9\n",
     "crates/rows/src/lib.rt": "#[cfg(test)]\nmod tests;\n",
     "crates/rows/src/tests.rt": "#[test]\nfn one() {}\n",
     "crates/rows/src/test": f"{PROVED[:-1]} tests=1\n",
@@ -67,7 +73,7 @@ NOT_REFUSED = [(0, PROVED), (0, REFUSED), (1, ""), (2, REFUSED), (3, REFUSED), (
 NO_STEPS = ["echo 3 passed, 0 failed; exit 1", "echo 3 passed, 0 failed; kill -9 $$", "echo 3 passed, 1 failed", "echo 2 passed, 0 failed"]
 NO_STEPS += ["echo 0 passed, 0 failed", "exit 2"]
 # What the gate calls where it runs as a whole, beside the fake rt and Python: other tools are lacking there.
-CALLED = ("sh", "env", "git", "grep", "cat", "mkdir", "chmod")
+CALLED = ("sh", "env", "git", "mkdir", "chmod")
 
 
 def write(path, text, mode=0o644):
@@ -122,40 +128,43 @@ def not_proved(folder):
     """A crate that is not proved fails, with what is above it and what is run of it; and none of that is kept."""
     for _ in range(2):
         passed, failed, *_ = ran(folder, check="logic=not-proved functions=1\n")
-        yield (passed, failed) == (0, ["app", "low", "rows"])
-    yield ran(folder, lib_status="1")[1] == ["app", "low", "rows"]
+        yield (passed, failed) == (0, ["app", "low", "low_bench", "rows"])
+    yield ran(folder, lib_status="1\n")[1] == ["app", "low", "low_bench", "rows"]
     for _ in range(2):
         yield ran(folder, beside={"crates/app/stdout": "8\n"})[1] == ["app"]
-        yield ran(folder, beside={"crates/rows/src/test.status": "1"})[1] == ["rows"]
+        yield ran(folder, beside={"crates/rows/src/test.status": "1\n"})[1] == ["rows"]
+        os.environ["READS"] = "1"
+        yield ran(folder, beside={"crates/low_bench/src/main.rt": "fn main() { gone() }\n"})[1] == ["low_bench"]
+        os.environ["READS"] = "0"
 
 
 def kept(folder):
     """What was kept is taken where nothing changed, and else not."""
     passed, failed, said, checks = ran(folder)
-    yield (passed, failed, checks) == (4, [], 3)
+    yield (passed, failed, checks) == (5, [], 4)
     passed, failed, said, checks = ran(folder)
-    yield (passed, failed, checks) == (4, [], 0) and "3 of 3 crates were taken as earlier runs kept them, and 1 refusals" in said
-    yield ran(folder, is_all=True)[::3] == (4, 3)
-    yield ran(folder, beside={"crates.txt": "low:\napp: low itoa\nrows: low\n"})[::3] == (4, 1)
-    yield ran(folder, beside={"HANDLES": "Handles allowed: Wait.\n"})[::3] == (4, 2)
-    yield ran(folder, lib_rt=f"// One.\n{FILES['crates/low/src/lib.rt']}")[::3] == (4, 3)
+    yield (passed, failed, checks) == (5, [], 0) and "4 of 4 crates were taken as earlier runs kept them, and 1 refusals" in said
+    yield ran(folder, is_all=True)[::3] == (5, 4)
+    yield ran(folder, beside={"crates.txt": FILES["crates.txt"].replace("app: low", "app: low itoa")})[::3] == (5, 1)
+    yield ran(folder, beside={"HANDLES": "Handles allowed: Wait.\n"})[::3] == (5, 3)
+    yield ran(folder, lib_rt=f"// One.\n{FILES['crates/low/src/lib.rt']}")[::3] == (5, 4)
     at = f"{os.environ['XDG_CACHE_HOME']}/kawhopune/kept/low"
     for path, text in (("out/rlib/built", "bui"), ("out/rlib/more", ""), ("noted", '{"held"')):
         for it in os.listdir(at):
             write(f"{at}/{it}/{path}", text)
         passed, failed, said, checks = ran(folder)
-        yield (passed, failed, checks) == (4, [], 1) and "low: what was kept of it was changed or cut short" in said
+        yield (passed, failed, checks) == (5, [], 1) and "low: what was kept of it was changed or cut short" in said
     os.environ["TEST"] = "1"
     yield ran(folder)[1] == ["rows"]
     os.environ["TEST"] = "0"
     # (the mutant is proved from here on)
     for _ in range(2):
-        passed, failed, *_ = ran(folder, refused=PROVED, refused_status="0")
-        yield (passed, failed) == (3, ["low/gives_another"])
-    yield ran(folder, check="logic=not-proved functions=1\n")[1] == ["app", "low", "rows"]
+        passed, failed, *_ = ran(folder, refused=PROVED, refused_status="0\n")
+        yield (passed, failed) == (4, ["low/gives_another"])
+    yield ran(folder, check="logic=not-proved functions=1\n")[1] == ["app", "low", "low_bench", "rows"]
     os.environ["KIT"] = "another kit"
     sum_of_kit_of.cache_clear()
-    yield ran(folder)[::3] == (4, 3)
+    yield ran(folder)[::3] == (5, 4)
 
 
 def told(folder):
@@ -198,7 +207,7 @@ def run(progress):
     for scene in (judged, not_proved, kept, told, as_a_whole):
         with tempfile.TemporaryDirectory() as folder, contextlib.ExitStack() as stack:
             write(f"{folder}/bin/rt", RT, 0o755)
-            stack.enter_context(unittest.mock.patch.dict(os.environ, {"XDG_CACHE_HOME": f"{folder}/cache", "CALLED": f"{folder}/called", "KIT": "a kit of scenes", "TEST": "0"}))
+            stack.enter_context(unittest.mock.patch.dict(os.environ, {"XDG_CACHE_HOME": f"{folder}/cache", "CALLED": f"{folder}/called", "KIT": "a kit of scenes", "TEST": "0", "READS": "0"}))
             stack.enter_context(unittest.mock.patch.object(kit, "find_rt", lambda folder=folder: f"{folder}/bin/rt"))
             for number, holds in enumerate(scene(folder), 1):
                 passed += bool(holds)

@@ -84,7 +84,7 @@ def edits_apply(top, progress):
 def chosen_of(found, kept, tries_all):
     """The mutants that a run tries, by crate, with the sums under which their refusals are kept; and how many are taken as refused."""
     standing = {crate: [(it, sum_of_mutant(it)) for it in edits if tries_all or not it.is_private] for crate, edits in found.items()}
-    left = {crate: {it: total for it, total in edits if not kept.is_refused(total)} for crate, edits in standing.items()}
+    left = {crate: {it: total for it, total in edits if not kept.has_passed(total)} for crate, edits in standing.items()}
     return {crate: edits for crate, edits in left.items() if edits}, sum(map(len, standing.values())) - sum(map(len, left.values()))
 
 
@@ -119,7 +119,7 @@ def tell_costs(proofs, trials, as_refused, progress):
     refused, left_out = sum(len(it.refused) for it in trials), sum(len(it.left_out) for it in trials)
     rest = f"; {left_out} of crates that are not proved were left out" if left_out else ""
     progress.tell(f"{len(proofs.as_kept)} of {len(proofs.crates)} crates were taken as earlier runs kept them, and {as_refused} refusals of mutants")
-    progress.tell(f"{len(proofs.parts)} crates were proved, {len(proofs.only_read)} only read, and {refused} mutants refused{rest}")
+    progress.tell(f"{len(proofs.parts)} crates were proved, and {refused} mutants refused{rest}")
     progress.tell(f"{proofs.checked} modules were checked in this run, and {proofs.taken} taken from work that checks on this machine had kept")
     proofs.tell_times(sum(it.used for it in trials))
 
