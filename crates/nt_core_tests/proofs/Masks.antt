@@ -1,14 +1,11 @@
--- Objects that rise, and who stands in a queue.
-use Rattle.std.proofs.Common.{◌≡◌, ◌≢◌, ◌<◌, ◌≤◌, ◌+◌, ℕ, List, [], ◌∷◌, ◌++◌, length, get_or, Some, true, false, cond, eqb, refl, inl, inr, arith, Contains}
+-- Objects that rise.
+use Rattle.std.proofs.Common.{◌≡◌, ◌≢◌, ◌<◌, ◌≤◌, ◌+◌, ℕ, List, [], ◌∷◌, ◌++◌, length, get_or, false, eqb, refl, inl, inr, arith}
 use Rattle.std.proofs.lemmas.Bool.{cases_eq}
 use Rattle.std.proofs.lemmas.Bool.Decides.{nat_tests}
 use Rattle.std.proofs.lemmas.List.{get_or_push, get_or_append_left, length_push}
 use Rattle.std.proofs.lemmas.Map.Keys.{IsDistinct-from_apart, apart_from_distinct}
-use Rattle.std.proofs.lemmas.Option.{none-some}
-use Rattle.std.specs.Prelude.{nat_eq, slice_get}
+use Rattle.std.specs.Prelude.{nat_eq}
 use Rattle.std.specs.List.{IsDistinct}
-use Rattle.nt_status.proofs.Lists.{contains_later, contains_front}
-use Rattle.nt_waits.specs.Waits.{next_after}
 
 other_test : (a b : ℕ) → a ≢ b → eqb a b ≡ false
 other_test a b e = grind (arith, nat_tests)
@@ -53,11 +50,3 @@ below_pushed objects number b = record {
         rw (get_or_append_left objects (number ∷ []) d j inside, get_or_append_left objects (number ∷ []) d i earlier) (apart_from_distinct nat_eq objects i j d b.distinct before inside)
   ]);
 }
-
--- who is next in a queue stands in it
-pub next_member : (t : ℕ) (queue : List ℕ) (u : ℕ) → next_after t queue ≡ Some u → Contains queue u
-next_member t [] u = λ e. absurd (none-some u e)
-next_member t (first ∷ queue) u = elim (eqb first t) as (λ b. cond b (slice_get queue 0) (next_after t queue) ≡ Some u → Contains (first ∷ queue) u) [
-  | true ↦ λ e. contains_later first queue u (contains_front queue u e)
-  | false ↦ λ e. contains_later first queue u (next_member t queue u e)
-]

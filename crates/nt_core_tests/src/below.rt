@@ -1,12 +1,11 @@
-//! The crates below the dispatcher, and those of devices and lines. Each test passes also where one allocation is refused:
-//! `tests/growths/tests` refuses each in turn.
+//! The crates below the dispatcher, and those of devices and lines: each call that takes memory succeeds if memory is there, which no contract
+//! says, and `tests/growths/tests` refuses it each of its allocations in turn. Also what no run of calls comes to.
 mod alarms;
 mod apcs;
 mod devices;
-mod handles;
 mod lines;
 mod marks;
 mod objects;
-mod owners;
 mod statuses;
+mod tables;
 mod waits;

@@ -140,18 +140,6 @@ fn each_failed_write_and_flush_is_counted(rt: HostRuntime) {
     play_writer(&rt, &mut writer, &steps);
 }
 
-#[test]
-fn a_write_of_no_bytes_is_a_failure_where_there_are_some(rt: HostRuntime) {
-    let mut writer = Counted::new(Failing::new(0, 0));
-    let steps = [
-        Step::Write(b"", Some(0)),
-        Step::Failures(0),
-        Step::Write(b"four", None),
-        Step::Failures(1),
-    ];
-    play_writer(&rt, &mut writer, &steps);
-}
-
 /// One counted call, and whether it succeeded.
 fn call_counted(device: &mut Failing, call: &str) -> bool {
     let mut counted = Counted::new(device);

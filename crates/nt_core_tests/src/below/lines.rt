@@ -1,13 +1,11 @@
-//! Lines, words, numbers and names.
+//! Lines that a slow reader gives.
 
 ghost use Rattle.std.specs.Prelude.{◌≤◌, IfOk, vec_capacity};
 
 use crate::expect::{expect, expect_equal};
 use crate::tests::memory::{Host, tell_refused};
 use nt_devices::Counted;
-use nt_lines::{
-    Ending, Input, MAX_LINE, are_digits, caller_of, first_word, name_of, number_of, put, text_of,
-};
+use nt_lines::{Ending, Input, MAX_LINE, put};
 use std::alloc::AllocError;
 use std::io::{self, Read};
 use std::test::Fail;
@@ -88,56 +86,4 @@ fn lines_end_at_feeds_and_at_the_end_of_input(rt: HostRuntime) -> Result<(), Fai
     let mut line = room_for_a_line(&rt)?;
     check_lines(&rt, &mut input, &mut line);
     Ok(())
-}
-
-/// Texts, their first words, and what comes after those.
-const FIRST_WORDS: &[(&[u8], Option<(&[u8], &[u8])>)] = &[
-    (b" \tset  e", Some((b"set", b"  e"))),
-    (b" \t", None),
-];
-
-/// Lines, and what of them is no comment.
-const TEXTS: &[(&[u8], Option<&[u8]>)] = &[
-    (b"t0 next ; then\r", Some(b"t0 next ")),
-    (b"t0\x7f", None),
-];
-
-/// Fails the test, and tells the text, unless it was read as it is to be.
-fn expect_read(rt: &impl Host, text: &[u8], is_right: bool) {
-    assert!(rt; is_right, "{text:?}");
-}
-
-#[test]
-fn words_are_parted_by_spaces_and_tabs(rt: HostRuntime) {
-    for (text, wanted) in FIRST_WORDS {
-        expect_read(&rt, text, first_word(text) == *wanted);
-    }
-    for (line, wanted) in TEXTS {
-        expect_read(&rt, line, text_of(line) == *wanted);
-    }
-}
-
-/// Words, the most digits that they may have, and their numbers.
-const NUMBERS: &[(&[u8], usize, Option<u64>)] = &[
-    (b"007", 3, Some(7)),
-    (b"0007", 3, None),
-    (b"18446744073709551616", 20, None),
-];
-
-const CALLERS: &[(&[u8], Option<u32>)] = &[(b"t012", Some(12)), (b"t", None)];
-
-const NAMES: &[(&[u8], Option<&str>)] = &[(b"_a1", Some("_a1")), (b"t1", None)];
-
-#[test]
-fn numbers_callers_and_names(rt: HostRuntime) {
-    expect_read(&rt, b"007", are_digits(b"007"));
-    for (word, digits, wanted) in NUMBERS {
-        expect_read(&rt, word, number_of(word, *digits) == *wanted);
-    }
-    for (word, wanted) in CALLERS {
-        expect_read(&rt, word, caller_of(word) == *wanted);
-    }
-    for (word, wanted) in NAMES {
-        expect_read(&rt, word, name_of(word) == *wanted);
-    }
 }

@@ -117,7 +117,7 @@ const ROWS: &[(&str, u32, &[Does])] = &[
 ];
 
 /// Makes the call, and hands the handles of a wait for objects over as a slice.
-pub fn made(life: &mut Lasting, who: u32, call: &Call) -> Result<Reply, Refusal> {
+fn made(life: &mut Lasting, who: u32, call: &Call) -> Result<Reply, Refusal> {
     match call {
         Call::Wait(WaitCall::Objects { handles, all, mode }) => {
             life.wait_objects(who, handles.as_slice(), *all, *mode)
@@ -198,8 +198,8 @@ fn passes(life: &mut Lasting, moment: u64) -> bool {
     }
 }
 
-/// Lets the dispatcher go. Each test of one ends here, so that its drop is proved once.
-pub fn let_go(_life: Lasting) {}
+/// Lets the dispatcher go. Each row ends here, so that its drop is proved once.
+fn let_go(_life: Lasting) {}
 
 /// An equal dispatcher is made, unless memory is refused.
 fn is_copied(life: &Lasting) -> Result<bool, Refusal> {

@@ -36,11 +36,6 @@ pub fn tell_refusal(rt: &impl Host, refusal: Refusal, whose: &str) {
     tell_refused(rt, whose);
 }
 
-/// How often a long test goes round: seldom where growths are refused, since each growth is then one more run.
-pub fn rounds(rt: &impl Host, often: u16, seldom: u16) -> u16 {
-    if is_refusing(rt) { seldom } else { often }
-}
-
 /// A dispatcher with this many threads, opened for many if there are more than a usual one has.
 fn opened(alloc: Global, threads: u32) -> Result<Core, Refusal> {
     if threads <= 256 {

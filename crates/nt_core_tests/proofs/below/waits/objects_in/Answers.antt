@@ -1,6 +1,6 @@
 use Rattle.nt_core_tests.proofs.Masks.{below_none, below_kept, below_pushed}
-use Rattle.nt_core_tests.proofs.below.waits.masks.objects_in.Goals as goal
-use Rattle.nt_core_tests.proofs.below.waits.masks.objects_in.Goals.{then-mask-number-eq1+in_ok-push, else-mask-number-eq1}
+use Rattle.nt_core_tests.proofs.below.waits.objects_in.Goals as goal
+use Rattle.nt_core_tests.proofs.below.waits.objects_in.Goals.{then-mask-number-eq1+in_ok-push, else-mask-number-eq1}
 
 pub loop-number-init : goal.loop-number-init
 loop-number-init c = below_none c.new-objects.result.items c.new-objects.ensures.items
