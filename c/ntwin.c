@@ -90,6 +90,8 @@
 
 #include "win32/ports.c"
 
+#include "win32/forked.c"
+
 #include "win32/text.c"
 
 #include "win32/messages.c"

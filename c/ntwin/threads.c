@@ -186,12 +186,15 @@ static void leave_last(void *round)
         leave(own.seat);
 }
 
+static void forget_other_threads(DWORD caller);
+
 /* A child is forked, and this is its only thread. If others had seats or were in a call, none of them is here to end what it began: the
  * child then has no seat any more, and gets none. */
 static void note_fork(void)
 {
     const bool is_opening = pthread_mutex_trylock(&process.opening) != 0;
     stop_looking();
+    forget_other_threads(own.id);
     own.id = 0;
     process.lost = waiting.left;
     waiting.left = NULL;
@@ -202,6 +205,8 @@ static void note_fork(void)
         return;
     process.is_forked = true;
     own.seat = NULL;
+    own.port = NULL;
+    own.rests = false;
 }
 
 /* (Before the program's own constructors, which may fork, and before the thread is there that takes SIGQUIT.) */

@@ -40,12 +40,19 @@ static inline bool has_sanitizer(void)
 
 /* ---- Words that threads sleep on. */
 
-/* Sleeps while the word is `seen`, to this time of the monotonic clock at the longest where one is given. It may return sooner. */
-static void sleep_on(_Atomic uint32_t *word, uint32_t seen, const struct timespec *until)
+/* Sleeps while the word is `seen`, to this time of the monotonic clock at the longest where one is given, among the sleepers of these bits. It may
+ * return sooner. */
+static void sleep_among(_Atomic uint32_t *word, uint32_t seen, const struct timespec *until, uint32_t bits)
 {
     const int error = errno;
-    syscall(SYS_futex, word, FUTEX_WAIT_BITSET_PRIVATE, seen, until, NULL, FUTEX_BITSET_MATCH_ANY);
+    syscall(SYS_futex, word, FUTEX_WAIT_BITSET_PRIVATE, seen, until, NULL, bits);
     errno = error;
+}
+
+/* The same among all. */
+static void sleep_on(_Atomic uint32_t *word, uint32_t seen, const struct timespec *until)
+{
+    sleep_among(word, seen, until, FUTEX_BITSET_MATCH_ANY);
 }
 
 /* Wakes one thread that sleeps on the word. */

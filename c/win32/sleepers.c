@@ -32,6 +32,7 @@ static void note_sleeper(struct sleeper *it)
     it->later = sleepers.first;
     if (it->later != NULL)
         it->later->earlier = it;
+    atomic_signal_fence(memory_order_release); /* (A child that is forked here reads the list: forked.c.) */
     sleepers.first = it;
     give_latch(&sleepers.latch);
 }
