@@ -154,6 +154,24 @@ static SYNCHRONIZATION_BARRIER BARRIER;
 static LONG COME[ROUNDS], LAST;
 static DWORD HOW;
 
+static void *come_late(void *ms)
+{
+    Sleep((DWORD)(ULONG_PTR)ms);
+    EnterSynchronizationBarrier(&BARRIER, SYNCHRONIZATION_BARRIER_FLAGS_BLOCK_ONLY);
+    return NULL;
+}
+
+/* Who deletes a barrier waits until all have left it. */
+static void deleted_barrier(void)
+{
+    must(InitializeSynchronizationBarrier(&BARRIER, 2, 0));
+    start(come_late, NULL);
+    start(come_late, (void *)20);
+    Sleep(5);
+    ANSWERS(DeleteSynchronizationBarrier(&BARRIER), TRUE, UNTOUCHED);
+    join_all();
+}
+
 static void *come_to_barrier(void *none)
 {
     (void)none;
@@ -194,5 +212,6 @@ int main(void)
     one_time_initialization();
     contexts();
     barriers();
+    deleted_barrier();
     return counted();
 }

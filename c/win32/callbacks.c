@@ -183,7 +183,8 @@ static void call_back(struct task *task, uint32_t outcome, bool in_thread)
 /* Whether a callback in the queue has no thread that could come to it, under the latch. (Each that watches an object needs one to itself.) */
 static bool is_without_thread(const struct _TP_POOL *pool)
 {
-    return pool == &watching_pool ? pool->tasks > pool->threads : pool->threads == 0;
+    const uint32_t threads = pool->threads - pool->starting;
+    return pool == &watching_pool ? pool->tasks > threads : threads == 0;
 }
 
 /* A callback is to come, but not where there is no thread for it and none can be had. Under the latch, which is given back. Answers whether it comes.

@@ -3,13 +3,19 @@
  * pool's queue, and its threads take them from there, one callback at a time. A thread that finds none for a minute ends, but the least that the
  * pool keeps; and so does one that is past the most, once its callback has returned. */
 
-enum { USUAL_MAXIMUM = 64, WATCHES = 160, IDLE_MS = 60000, RETRY_MS = 20, SIGNALED = 0, TIMED_OUT, OUTCOMES };
+/* How long who waits for a thread that was refused lets pass until the next try. A test may set less. */
+#ifndef RETRY_MS
+#define RETRY_MS 20
+#endif
+
+enum { USUAL_MAXIMUM = 64, WATCHES = 160, IDLE_MS = 60000, SIGNALED = 0, TIMED_OUT, OUTCOMES };
 
 struct _TP_POOL {
     struct task *first, *last;   /* the queue */
     uint32_t waiting_callbacks;  /* of all tasks in it */
     uint32_t threads, idle, most, least;
-    uint32_t lacking;            /* how many threads the system refused that it still wants */
+    uint32_t starting;           /* how many of the threads the system may yet refuse */
+    uint32_t lacking;            /* how many it refused that the pool still wants */
     uint32_t tasks;              /* how many are there */
     _Atomic uint32_t calls;      /* how often a thread was called for: the word that idle ones sleep on */
     bool is_closed;
@@ -62,7 +68,7 @@ static uint32_t to_come(const struct task *task)
  * none of all pools any longer. */
 static bool leave_pools(PTP_POOL pool)
 {
-    if (!pool->is_closed || pool->tasks > 0 || pool->threads > 0)
+    if (!pool->is_closed || pool->tasks > 0 || pool->threads > 0 || pool->starting > 0)
         return false;
     PTP_POOL *at = &pools;
     while (*at != pool)
@@ -79,22 +85,32 @@ static bool wants_thread(const struct _TP_POOL *pool)
     return pool->threads < pool->most && (pool->waiting_callbacks > pool->idle || pool->threads < pool->least);
 }
 
-/* Starts a thread that is counted among the pool's. Answers whether that was done; else it is counted no longer, and the last error says why. (The
- * pool may be gone then.) */
+/* A thread more is to be started, under the latch. */
+static void count_new_thread(PTP_POOL pool)
+{
+    pool->threads++;
+    pool->starting++;
+}
+
+/* Starts a thread that was counted. Answers whether that was done; else it is counted no longer, and the last error says why. (The pool may be gone
+ * then.) */
 static bool start_in_pool(PTP_POOL pool)
 {
     HANDLE thread = CreateThread(NULL, 0, work_in_pool, pool, 0, NULL);
-    if (thread != NULL)
-        return CloseHandle(thread);
     take_latch(&pools_latch);
-    pool->threads--;
-    pool->lacking += wants_thread(pool);
+    pool->starting--;
+    if (thread == NULL) {
+        pool->threads--;
+        pool->lacking += wants_thread(pool);
+        atomic_fetch_add_explicit(&keeper_calls, 1, memory_order_relaxed);
+    }
     const bool ends = leave_pools(pool);
-    atomic_fetch_add_explicit(&keeper_calls, 1, memory_order_relaxed);
     give_latch(&pools_latch);
-    WakeByAddressAll((PVOID)&keeper_calls);
     if (ends)
         free(pool);
+    if (thread != NULL)
+        return CloseHandle(thread);
+    WakeByAddressAll((PVOID)&keeper_calls);
     return false;
 }
 
@@ -106,10 +122,12 @@ struct call {
     bool is_new;
 };
 
+/* (Where the system may yet refuse each thread that the pool has, this is one more: that it is too many is seen later.) */
 static struct call call_for_thread(PTP_POOL pool)
 {
-    const struct call call = { pool, (PVOID)&pool->calls, wants_thread(pool) };
-    pool->threads += call.is_new;
+    const struct call call = { pool, (PVOID)&pool->calls, wants_thread(pool) || pool->threads == pool->starting };
+    if (call.is_new)
+        count_new_thread(pool);
     atomic_fetch_add_explicit(&pool->calls, 1, memory_order_relaxed);
     return call;
 }
@@ -130,7 +148,7 @@ static bool bring_lacking(PTP_POOL pool)
         return true;
     }
     pool->lacking--;
-    pool->threads++;
+    count_new_thread(pool);
     give_latch(&pools_latch);
     const bool is_started = start_in_pool(pool);
     take_latch(&pools_latch);

@@ -89,7 +89,8 @@ static bool lacks_thread(PTP_POOL pool)
 {
     take_latch(&pools_latch);
     const bool is_lacking = pool->threads < pool->least;
-    pool->threads += is_lacking;
+    if (is_lacking)
+        count_new_thread(pool);
     give_latch(&pools_latch);
     return is_lacking;
 }
