@@ -1,7 +1,7 @@
 """What earlier runs proved, kept in the user's cache folder under the sum of all that it rests on (docs/GATE.md).
 
-kept/NAME/SUM has a crate's out/, and a file `noted` with the size and the time of each of its files. passed/SUM stands for what passed and left nothing: a
-mutant that was refused, or a crate that was only read.
+kept/NAME/SUM has a crate's out/, and a file `noted` with the size and the time of each of its files. passed/SUM says how many passed of
+what leaves nothing: a mutant that was refused, a crate that was only read, a step that runs tests.
 Each is made under another name and renamed once it is whole. So a run that is killed leaves nothing wrong, and runs side by side do not hurt each other.
 """
 import contextlib
@@ -9,6 +9,7 @@ import functools
 import hashlib
 import json
 import os
+import re
 import shutil
 import tempfile
 import time
@@ -209,19 +210,22 @@ class Kept:
             os.rename(at, f"{gone}/it")
 
     def has_passed(self, total):
-        """Whether what has this sum passed."""
+        """How many passed of what has this sum; 0 where nothing of it is kept."""
+        found = re.fullmatch(rb"(\d+) passed\n", bytes_of(f"{self.folder}/passed/{total}")) if self.takes else None
         with contextlib.suppress(OSError):
-            if self.takes:
+            if found:
                 os.utime(f"{self.folder}/passed/{total}")
-                return True
-        return False
+        return int(found[1]) if found else 0
 
-    def note_passed(self, total):
-        """Keeps that what has this sum passed."""
+    def note_passed(self, total, count=1):
+        """Keeps that so many passed of what has this sum."""
         with contextlib.suppress(OSError):
             if self.folder:
                 os.makedirs(f"{self.folder}/passed", mode=0o700, exist_ok=True)
-                os.close(os.open(f"{self.folder}/passed/{total}", os.O_WRONLY | os.O_CREAT, 0o600))
+                with self.made("new-") as new:
+                    with open(f"{new}/it", "w", encoding="ascii") as file:
+                        file.write(f"{count} passed\n")
+                    os.replace(f"{new}/it", f"{self.folder}/passed/{total}")
 
     def bound(self):
         """Removes what was used longest ago, beyond what may be kept, and what killed runs left."""

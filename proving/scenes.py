@@ -16,9 +16,10 @@ import telling
 from command import Said, why_no_proof_of_tests, why_not_proved
 from crates import crates_of
 from edits import edits_in
-from kept import sum_of_kit_of
+from kept import Kept, bytes_of, sum_of_kit_of
 from judging import judge_alone, judge_round
 from progress import Progress
+from repeats import repeated
 from sources import functions_of
 
 TOP = os.path.dirname(os.path.dirname(os.path.realpath(__file__)))
@@ -167,6 +168,20 @@ def kept(folder):
     yield ran(folder)[::3] == (5, 4)
 
 
+def taken(folder):
+    """A step that passed is taken over the same files, and else run again; one that failed is run again."""
+    kept_before, words = Kept(lambda _: None), ["sh", "-c", "echo x >> ../ran; echo 3 passed, 0 failed; exit $(cat tests/status)"]
+    for held, path, text in ((1, "tests/status", "0\n"), (1, "tests/status", "0\n"), (2, "docs/page.md", "a page\n"), (2, "mutants/low.edits", ""), (2, "bench/a", ""),
+                             (3, "crates/low/src/lib.rt", "// one\n"), (4, "tests/status", "1\n"), (5, "tests/status", "1\n"), (5, "tests/status", "0\n")):
+        if not os.path.isdir(f"{folder}/tree"):
+            write_tree(f"{folder}/tree")
+        write(f"{folder}/tree/{path}", text)
+        step = repeated(f"{folder}/tree", kept_before, ["low"], ["bench"], words, steps.command(f"{folder}/tree", *words))
+        with open(os.devnull, "w", encoding="utf-8") as nowhere:
+            found = step(Progress(out=nowhere))
+        yield len(bytes_of(f"{folder}/ran")) == 2 * held and (found.passed, bool(found.failed)) == (3, text == "1\n")
+
+
 def told(folder):
     """Each step that failed is told as failed, and the gate's status with it; what writes other bytes than its file fails."""
     write(f"{folder}/tree/ntrun", "#!/bin/sh\necho one\nexit $1\n", 0o755)
@@ -204,7 +219,7 @@ def as_a_whole(folder):
 def run(progress):
     """Runs the scenes, each in a folder of its own, with nothing of this machine's kit and of what is kept."""
     passed, failed = 0, []
-    for scene in (judged, not_proved, kept, told, as_a_whole):
+    for scene in (judged, not_proved, kept, taken, told, as_a_whole):
         with tempfile.TemporaryDirectory() as folder, contextlib.ExitStack() as stack:
             write(f"{folder}/bin/rt", RT, 0o755)
             stack.enter_context(unittest.mock.patch.dict(os.environ, {"XDG_CACHE_HOME": f"{folder}/cache", "CALLED": f"{folder}/called", "KIT": "a kit of scenes", "TEST": "0", "READS": "0"}))

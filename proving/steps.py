@@ -17,6 +17,7 @@ from edits import edits_in
 from kept import Kept
 from lanes import processors, run_all
 from proofs import Proofs, handles_of
+from repeats import repeated
 from rooms import fill_room
 from telling import COUNTED, Step
 from trial import Trial
@@ -237,18 +238,24 @@ def unproved(top):
 
 
 def proved(tree, work, is_all):
-    """The steps with proofs: over what earlier runs kept, or from nothing with each mutant, case and planted fault of C."""
+    """The steps with proofs: over what earlier runs kept, or from nothing with each mutant, case and planted fault of C. Those of tests that take long are
+    not run again over the same."""
     scripts = [os.path.relpath(it, tree) for it in sorted(glob.glob(f"{tree}/examples/*.nts") + glob.glob(f"{tree}/tests/scripts/*/*.nts"))]
+    kept, of_tests = Kept(lambda _: None, takes=not is_all), [it.name for it in crates_of(tree).values() if it.has_tests()]
+    # (of c/ a preload may have the kit's compiler)
+    no_growth = ["docs", "bench", *(os.path.relpath(it, tree) for it in glob.glob(f"{tree}/c/*") if not it.endswith("/kit"))]
+    again = lambda names, without, *words: repeated(tree, kept, names, without, words, command(tree, *words))
+    in_c = ["make", "--no-print-directory", "-C", "c", "check", "ALL=1" if is_all else "STRICT=1"]
     return [
         ("proofs, tests, programs and mutants", functools.partial(proofs_and_mutants, tree, work, is_all), True),
-        ("the tests, each growth refused", command(tree, "tests/growths/tests"), False),
+        ("the tests, each growth refused", again(of_tests, no_growth, "tests/growths/tests"), False),
         ("object numbers and handles", command(tree, "tests/types"), False),
         ("what closed objects leave", command(tree, "tests/memory"), False),
         ("the threads of a plan", command(tree, "tests/threads"), False),
-        ("the scripts, each growth refused", command(tree, "tests/growths/scripts", *scripts), False),
+        ("the scripts, each growth refused", again(["ntrun", "ntlook"], no_growth, "tests/growths/scripts", *scripts), False),
         ("the programs of docs/EMBEDDING.md, each growth refused", command(tree, "tests/growths/example"), False),
         ("the examples", functools.partial(examples, tree), False),
         ("the launcher, and the worked scripts", command(tree, "tests/launcher"), False),
         ("random scripts and lives, a second way", command(tree, "tests/compare", *["--all"] * is_all), False),
-        ("the library for C programs", command(tree, "make", "--no-print-directory", "-C", "c", "check", "ALL=1" if is_all else "STRICT=1"), False),
+        ("the library for C programs", again(["nt_c", "ntrun", "ntlook"], ["bench"], *in_c), False),
     ]
